@@ -36,6 +36,14 @@ impl From<AllocError> for TermFault {
     }
 }
 
+impl<T: Drop> From<AllocFailed<T>> for TermFault {
+    ghost from_gives = { λ _ f. f ≡ term_fault.Memory };
+
+    fn from(_error: AllocFailed<T>) -> TermFault {
+        TermFault::Memory
+    }
+}
+
 /// Why a query or an update is refused. Places are bytes from 0, in the text of the request.
 #[derive(Debug, Drop, PartialEq, Eq, Error)]
 pub enum QFault {

@@ -9,12 +9,11 @@ use crate::quad::Quad;
 use crate::term::Term;
 use crate::text::Text;
 use std::alloc::{AllocError, Global};
-use std::test::Fail;
 
 const INTEGER: &str = "http://www.w3.org/2001/XMLSchema#integer";
 
 #[test]
-fn texts_strict(rt: HostRuntime) -> Result<(), Fail> {
+fn texts_strict(rt: HostRuntime) -> Result<(), TermFault> {
     let alloc = rt.alloc();
     let text = Text::new(alloc, "é")?;
     assert_eq!(rt; text.try_clone(alloc)?.as_str(), "é");
@@ -33,7 +32,7 @@ fn texts_tolerant(rt: HostRuntime) {
 }
 
 #[test]
-fn iris_strict(rt: HostRuntime) -> Result<(), Fail> {
+fn iris_strict(rt: HostRuntime) -> Result<(), TermFault> {
     let alloc = rt.alloc();
     let iri = Iri::parse(alloc, "http://e/a")?;
     assert!(rt; iri.try_clone(alloc)?.is_same(&iri));
@@ -72,7 +71,7 @@ fn is_copied(alloc: Global, lit: &Lit) -> Result<bool, AllocError> {
 }
 
 #[test]
-fn literals_strict(rt: HostRuntime) -> Result<(), Fail> {
+fn literals_strict(rt: HostRuntime) -> Result<(), TermFault> {
     let alloc = rt.alloc();
     let lit = Lit::parse(alloc, "1", INTEGER)?;
     assert!(rt; is_copied(alloc, &lit)?);
@@ -80,7 +79,7 @@ fn literals_strict(rt: HostRuntime) -> Result<(), Fail> {
 }
 
 #[test]
-fn tags_strict(rt: HostRuntime) -> Result<(), Fail> {
+fn tags_strict(rt: HostRuntime) -> Result<(), TermFault> {
     let alloc = rt.alloc();
     let lit = Lit::parse_tagged(alloc, "a", "EN")?;
     assert!(rt; is_copied(alloc, &lit)?);
@@ -131,8 +130,8 @@ fn make_quad(alloc: Global) -> Result<Option<Quad>, TermFault> {
 }
 
 #[test]
-fn quads_strict(rt: HostRuntime) -> Result<(), Fail> {
-    let quad = make_quad(rt.alloc())?.ok_or("lawful")?;
+fn quads_strict(rt: HostRuntime) -> Result<(), TermFault> {
+    let quad = make_quad(rt.alloc())?.ok_or(TermFault::BadDatatype)?;
     let copy = quad.try_clone(rt.alloc())?;
     assert!(rt; copy.is_same(&quad));
     Ok(())
@@ -163,8 +162,8 @@ fn count(alloc: Global, quads: &[Quad]) -> Result<(usize, usize), AllocError> {
 }
 
 #[test]
-fn datasets_strict(rt: HostRuntime) -> Result<(), Fail> {
-    let quad = make_quad(rt.alloc())?.ok_or("lawful")?;
+fn datasets_strict(rt: HostRuntime) -> Result<(), TermFault> {
+    let quad = make_quad(rt.alloc())?.ok_or(TermFault::BadDatatype)?;
     let counts = count(rt.alloc(), &[quad])?;
     assert_eq!(rt; counts, (1, 2));
     Ok(())

@@ -127,7 +127,8 @@ impl Quad {
     /// How the quads stand in the total order in which only the same quads are equal: by graph, the default graph
     /// first, then by subject, predicate and object.
     pub fn order(&self, other: &Quad) -> Ordering
-        ensures { (result ≡ Equal) ↔ (self.now ≡ other.now) }
+        ensures equal { (result ≡ Equal) ↔ (self.now ≡ other.now) }
+        ensures order { result ≡ ⟦<Quad as Ord>⟧.cmp self.now other.now }
     {
         self.cmp(other)
     }

@@ -51,7 +51,8 @@ impl Term {
     /// How the terms stand in the total order in which only the same terms are equal: IRIs by their text, then blank
     /// nodes by number, then literals by form, datatype and tag.
     pub fn order(&self, other: &Term) -> Ordering
-        ensures { (result ≡ Equal) ↔ (self.now ≡ other.now) }
+        ensures equal { (result ≡ Equal) ↔ (self.now ≡ other.now) }
+        ensures order { result ≡ ⟦<Term as Ord>⟧.cmp self.now other.now }
     {
         self.cmp(other)
     }

@@ -12,7 +12,6 @@ use std::collections::HashSet;
 use std::hash::RandomState;
 use std::io;
 use std::io::{Read, Write};
-use std::test::Fail;
 
 const INTEGER: &str = "http://www.w3.org/2001/XMLSchema#integer";
 
@@ -21,16 +20,16 @@ const STRING: &str = "http://www.w3.org/2001/XMLSchema#string";
 const LANG_STRING: &str = "http://www.w3.org/1999/02/22-rdf-syntax-ns#langString";
 
 /// What is wrong with the text as an IRI, by each of the ways that make one.
-fn iri_fault(alloc: Global, text: &str) -> Result<Option<TermFault>, Fail> {
+fn iri_fault(alloc: Global, text: &str) -> Result<Option<TermFault>, TermFault> {
     let fault = Iri::new(Text::new(alloc, text)?).err();
     if Iri::parse(alloc, text).err() != fault || Term::iri(alloc, text).err() != fault {
-        return Err("the ways differ".into());
+        return Err(TermFault::BadDatatype);
     }
     Ok(fault)
 }
 
 #[test]
-fn reads_iris(rt: HostRuntime) -> Result<(), Fail> {
+fn reads_iris(rt: HostRuntime) -> Result<(), TermFault> {
     let alloc = rt.alloc();
     for text in ["http://e/a", "urn:x", "a:", "z+1-.:é"] {
         assert_eq!(rt; iri_fault(alloc, text)?, None, "{text}");
@@ -54,7 +53,7 @@ fn reads_iris(rt: HostRuntime) -> Result<(), Fail> {
 }
 
 #[test]
-fn gives_iris_back(rt: HostRuntime) -> Result<(), Fail> {
+fn gives_iris_back(rt: HostRuntime) -> Result<(), TermFault> {
     let alloc = rt.alloc();
     let iri = Iri::new(Text::new(alloc, "http://e/é")?)?;
     assert_eq!(rt; iri.text(), "http://e/é");
@@ -66,7 +65,7 @@ fn gives_iris_back(rt: HostRuntime) -> Result<(), Fail> {
 }
 
 #[test]
-fn reads_literals(rt: HostRuntime) -> Result<(), Fail> {
+fn reads_literals(rt: HostRuntime) -> Result<(), TermFault> {
     let alloc = rt.alloc();
     let one = Lit::parse(alloc, "01", INTEGER)?;
     assert_eq!(rt; one.form(), "01");
@@ -78,7 +77,7 @@ fn reads_literals(rt: HostRuntime) -> Result<(), Fail> {
 }
 
 #[test]
-fn refuses_datatypes(rt: HostRuntime) -> Result<(), Fail> {
+fn refuses_datatypes(rt: HostRuntime) -> Result<(), TermFault> {
     let alloc = rt.alloc();
     for datatype in ["integer", "a b"] {
         let fault = Term::literal(alloc, "x", datatype).err();
@@ -94,7 +93,7 @@ fn refuses_datatypes(rt: HostRuntime) -> Result<(), Fail> {
 }
 
 #[test]
-fn reads_tags(rt: HostRuntime) -> Result<(), Fail> {
+fn reads_tags(rt: HostRuntime) -> Result<(), TermFault> {
     let alloc = rt.alloc();
     for (tag, lower) in [
         ("en", "en"),
@@ -118,7 +117,7 @@ fn reads_tags(rt: HostRuntime) -> Result<(), Fail> {
 }
 
 /// Nine terms, of which no two are the same.
-fn samples(alloc: Global) -> Result<Vec<Term>, Fail> {
+fn samples(alloc: Global) -> Result<Vec<Term>, TermFault> {
     let mut terms = Vec::new(alloc);
     for text in ["http://e/a", "http://e/b"] {
         terms.push(Term::iri(alloc, text)?)?;
@@ -136,7 +135,7 @@ fn samples(alloc: Global) -> Result<Vec<Term>, Fail> {
 }
 
 #[test]
-fn tells_terms_apart(rt: HostRuntime) -> Result<(), Fail> {
+fn tells_terms_apart(rt: HostRuntime) -> Result<(), TermFault> {
     let alloc = rt.alloc();
     let terms = samples(alloc)?;
     for (i, a) in terms.iter().enumerate() {
@@ -151,9 +150,12 @@ fn tells_terms_apart(rt: HostRuntime) -> Result<(), Fail> {
 }
 
 #[test]
-fn hashes_terms(rt: HostRuntime) -> Result<(), Fail> {
+fn hashes_terms(rt: HostRuntime) -> Result<(), TermFault> {
     let alloc = rt.alloc();
-    let mut set = HashSet::with_hasher(alloc, RandomState::new(&rt)?);
+    let Ok(hasher) = RandomState::new(&rt) else {
+        return Err(TermFault::Memory);
+    };
+    let mut set = HashSet::with_hasher(alloc, hasher);
     for term in samples(alloc)? {
         set.insert(term)?;
     }
@@ -164,7 +166,7 @@ fn hashes_terms(rt: HostRuntime) -> Result<(), Fail> {
     Ok(())
 }
 
-fn triple(alloc: Global, graph: Option<Term>, subject: Term) -> Result<Option<Quad>, Fail> {
+fn triple(alloc: Global, graph: Option<Term>, subject: Term) -> Result<Option<Quad>, TermFault> {
     let predicate = Term::iri(alloc, "http://e/p")?;
     let object = Term::tagged(alloc, "o", "en")?;
     if Quad::fits(graph.as_ref(), &subject, &predicate) {
@@ -174,10 +176,12 @@ fn triple(alloc: Global, graph: Option<Term>, subject: Term) -> Result<Option<Qu
 }
 
 #[test]
-fn reads_quads(rt: HostRuntime) -> Result<(), Fail> {
+fn reads_quads(rt: HostRuntime) -> Result<(), TermFault> {
     let alloc = rt.alloc();
     let name = Term::iri(alloc, "http://e/g")?;
-    let quad = triple(alloc, Some(name.try_clone(alloc)?), Term::Blank(7))?.ok_or("lawful")?;
+    let quad = triple(alloc, Some(name.try_clone(alloc)?), Term::Blank(7))?.ok_or(
+        TermFault::BadDatatype,
+    )?;
     assert!(rt; quad.graph().is_some_and(|graph| graph.is_same(&name)));
     assert!(rt; quad.subject().is_same(&Term::Blank(7)));
     assert!(rt; quad.predicate().is_same(&Term::iri(alloc, "http://e/p")?));
@@ -189,7 +193,7 @@ fn reads_quads(rt: HostRuntime) -> Result<(), Fail> {
 }
 
 #[test]
-fn tells_quads_apart(rt: HostRuntime) -> Result<(), Fail> {
+fn tells_quads_apart(rt: HostRuntime) -> Result<(), TermFault> {
     let alloc = rt.alloc();
     let name = Term::iri(alloc, "http://e/g")?;
     let quads = three_quads(alloc, &name)?;
@@ -205,22 +209,23 @@ fn tells_quads_apart(rt: HostRuntime) -> Result<(), Fail> {
 }
 
 #[test]
-fn places_terms(rt: HostRuntime) -> Result<(), Fail> {
-    let alloc = rt.alloc();
-    let literal = Term::tagged(alloc, "x", "en")?;
-    let iri = Term::iri(alloc, "http://e/s")?;
-    let blank = Term::Blank(0);
-    assert!(rt; Quad::fits(Some(&blank), &blank, &iri));
-    assert!(rt; Quad::fits(None, &iri, &iri));
-    assert!(rt; !Quad::fits(None, &literal, &iri));
-    assert!(rt; !Quad::fits(Some(&literal), &iri, &iri));
-    assert!(rt; !Quad::fits(None, &iri, &literal));
-    assert!(rt; !Quad::fits(None, &iri, &blank));
+fn places_terms(rt: HostRuntime) -> Result<(), TermFault> {
+    // two IRIs, two blank nodes, and literals
+    let terms = samples(rt.alloc())?;
+    for (i, node) in terms.iter().enumerate() {
+        for (j, predicate) in terms.iter().enumerate() {
+            assert_eq!(rt; Quad::fits(None, node, predicate), i < 4 && j < 2);
+            assert_eq!(rt;
+                Quad::fits(Some(node), predicate, predicate),
+                i < 4 && j < 2
+            );
+        }
+    }
     Ok(())
 }
 
 /// Two quads of a named graph, and one of the default graph between them.
-fn three_quads(alloc: Global, name: &Term) -> Result<Vec<Quad>, Fail> {
+fn three_quads(alloc: Global, name: &Term) -> Result<Vec<Quad>, TermFault> {
     let mut quads = Vec::new(alloc);
     for (number, is_named) in [(1, true), (2, false), (3, true)] {
         let graph = if is_named {
@@ -228,30 +233,27 @@ fn three_quads(alloc: Global, name: &Term) -> Result<Vec<Quad>, Fail> {
         } else {
             None
         };
-        quads.push(triple(alloc, graph, Term::Blank(number))?.ok_or("lawful")?)?;
+        quads.push(triple(alloc, graph, Term::Blank(number))?.ok_or(TermFault::BadDatatype)?)?;
     }
     Ok(quads)
 }
 
 #[test]
-fn finds_quads(rt: HostRuntime) -> Result<(), Fail> {
-    let alloc = rt.alloc();
-    let name = Term::iri(alloc, "http://e/g")?;
-    let quads = three_quads(alloc, &name)?;
-    let absent = triple(alloc, Some(name), Term::Blank(2))?.ok_or("lawful")?;
-    assert!(rt;
-        quads
-            .iter()
-            .all(|quad| dataset::contains(quads.as_slice(), quad))
-    );
-    assert!(rt; !dataset::contains(quads.as_slice(), &absent));
+fn finds_quads(rt: HostRuntime) -> Result<(), TermFault> {
+    let name = Term::iri(rt.alloc(), "http://e/g")?;
+    let quads = three_quads(rt.alloc(), &name)?;
+    for i in 0..=quads.len() {
+        for (j, quad) in quads.iter().enumerate() {
+            assert_eq!(rt; dataset::contains(&quads.as_slice()[..i], quad), j < i);
+        }
+    }
     assert!(rt; dataset::is_above_blanks(4, quads.as_slice()));
     assert!(rt; !dataset::is_above_blanks(3, quads.as_slice()));
     Ok(())
 }
 
 #[test]
-fn lists_names_and_nodes(rt: HostRuntime) -> Result<(), Fail> {
+fn lists_names_and_nodes(rt: HostRuntime) -> Result<(), TermFault> {
     let alloc = rt.alloc();
     let name = Term::iri(alloc, "http://e/g")?;
     let quads = three_quads(alloc, &name)?;
@@ -311,21 +313,21 @@ fn make_slow(fails_at: u32, takes: usize) -> Counted<Slow> {
 }
 
 #[test]
-fn puts_all(rt: HostRuntime) -> Result<(), Fail> {
+fn puts_all(rt: HostRuntime) -> Result<(), TermFault> {
     let alloc = rt.alloc();
     let mut sink = Counted::new(Vec::new(alloc));
     assert_eq!(rt; put_all(&mut sink, b"abc"), 3);
-    assert_eq!(rt; sink.put(b"de")?, 2);
+    assert_eq!(rt; sink.put(b"de").ok(), Some(2));
     assert_eq!(rt; sink.faults(), 0);
     assert_eq!(rt; sink.into_inner().as_slice(), b"abcde".as_slice());
     Ok(())
 }
 
 #[test]
-fn counts_writes(rt: HostRuntime) -> Result<(), Fail> {
+fn counts_writes(rt: HostRuntime) {
     let mut steady = make_slow(9, 2);
     assert_eq!(rt; put_all(&mut steady, b"abcde"), 5);
-    assert_eq!(rt; steady.put(b"")?, 0);
+    assert_eq!(rt; steady.put(b"").ok(), Some(0));
     assert_eq!(rt;
         steady.faults(),
         0,
@@ -341,28 +343,26 @@ fn counts_writes(rt: HostRuntime) -> Result<(), Fail> {
         1,
         "no byte of a buffer that isn't empty is a fault"
     );
-    Ok(())
 }
 
 #[test]
-fn counts_reads(rt: HostRuntime) -> Result<(), Fail> {
+fn counts_reads(rt: HostRuntime) {
     let mut buf = [0u8; 4];
     let mut ended = make_slow(9, 0);
-    assert_eq!(rt; ended.get(&mut buf)?, 0);
+    assert_eq!(rt; ended.get(&mut buf).ok(), Some(0));
     assert_eq!(rt; ended.faults(), 0, "a read of no bytes is the end");
     let mut broken = make_slow(1, 2);
     assert!(rt; broken.get(&mut buf).is_err() && broken.get(&mut buf).is_err());
     assert_eq!(rt; broken.faults(), 2);
-    Ok(())
 }
 
-fn shows(alloc: Global, fault: &QFault, line: &str) -> Result<bool, Fail> {
+fn shows(alloc: Global, fault: &QFault, line: &str) -> Result<bool, TermFault> {
     let text = format!(in alloc; "{fault}")?;
     Ok(text.as_str() == line)
 }
 
 #[test]
-fn writes_faults_with_places(rt: HostRuntime) -> Result<(), Fail> {
+fn writes_faults_with_places(rt: HostRuntime) -> Result<(), TermFault> {
     let alloc = rt.alloc();
     let word = Text::new(alloc, "1.5")?;
     assert!(rt; shows(alloc, &QFault::Syntax { place: 23 }, "F1 syntax at 23")?);
@@ -385,7 +385,7 @@ fn writes_faults_with_places(rt: HostRuntime) -> Result<(), Fail> {
 }
 
 #[test]
-fn writes_faults(rt: HostRuntime) -> Result<(), Fail> {
+fn writes_faults(rt: HostRuntime) -> Result<(), TermFault> {
     let alloc = rt.alloc();
     assert!(rt; shows(alloc, &QFault::Scope, "F5 scope")?);
     assert!(rt; shows(alloc, &QFault::TooLarge { place: 73 }, "F6 too large at 73")?);
@@ -395,7 +395,7 @@ fn writes_faults(rt: HostRuntime) -> Result<(), Fail> {
 }
 
 #[test]
-fn writes_faults_of_evaluation(rt: HostRuntime) -> Result<(), Fail> {
+fn writes_faults_of_evaluation(rt: HostRuntime) -> Result<(), TermFault> {
     let alloc = rt.alloc();
     assert!(rt; shows(alloc, &QFault::TooManyRows, "F8 too many rows")?);
     assert!(rt; shows(alloc, &QFault::Memory, "F9 out of memory")?);
