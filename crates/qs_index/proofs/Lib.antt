@@ -9,3 +9,6 @@ pub mod Spares
 pub mod FoundPlaces
 pub mod Removals
 pub mod Members
+pub mod Distinct
+pub mod Turned
+pub mod Graphs

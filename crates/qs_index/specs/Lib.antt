@@ -5,3 +5,7 @@ pub mod Entries
 pub mod Place
 pub mod Scan
 pub mod OrderScan
+pub mod Permutation
+pub mod Agreeing
+pub mod Index
+pub mod Graph

@@ -3,8 +3,13 @@
 #![tactic(auto)]
 
 mod entry;
+mod index;
 pub mod order;
 pub mod order_scan;
 pub mod pages;
+pub mod permutation;
+mod scan;
 mod search;
 
+pub use index::Index;
+pub use scan::Scan;
