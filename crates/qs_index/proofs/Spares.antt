@@ -1,9 +1,10 @@
 -- What a split and an insert leave, and that the pages set aside suffice.
 use Rattle.std.proofs.Common.{◌≡◌, ℕ, ◌+◌, ◌-◌, ◌*◌, ◌<◌, ◌≤◌, List, [], ◌∷◌, ◌++◌, length, get_or, take, drop, set, refl, ap, sym, ◌∙◌, arith, suc, zero, append_assoc, length-append, add-one, length-take, length-drop}
-use Rattle.std.specs.List.{insert}
+use Rattle.std.specs.List.{insert, remove}
 use Rattle.std.proofs.lemmas.List.{take_more, length-set, take-append-drop, drop-append-le, drop-drop, drop_at, length-take-le, get_or_at, get_or-drop}
 use Rattle.std.proofs.lemmas.List.Edits.{length-insert}
-use Rattle.qs_index.specs.Layout.{joined, page_at, rest_at, split_at, over, first_page, room_of}
+use Rattle.std.proofs.lemmas.List.Elements.{All-head, All-tail}
+use Rattle.qs_index.specs.Layout.{joined, page_at, rest_at, split_at, over, first_page, room_of, HasPageSizes, IsPageSize}
 use Rattle.qs_index.proofs.Places.{joined-append, joined-at}
 
 abbrev Pages' : Type 0
@@ -103,16 +104,19 @@ room_put pages spare m k x h l =
 pub room_first : (spare less : ℕ) (x : List ℕ) → less + 1 ≡ spare → room_of [] spare ≤ room_of ((x ∷ []) ∷ []) less + 1
 room_first spare less x s = omega arith
 
-pub over_more : (pages : Pages') (i : ℕ) → i < length pages → over (take (i + 1) pages) ≡ over (take i pages) + (length (get_or pages i []) - 128)
-over_more pages i h =
-    let a = over-append (take i pages) (get_or pages i [] ∷ []) in
-    let e = ap over (take_more pages i [] h) in omega arith
-
-pub over_le : (pages : Pages') → over pages ≤ over pages + 0
-over_le pages = omega arith
-
 pub room_kept : (pages : Pages') (spare more : ℕ) → spare ≤ more → room_of pages spare ≤ room_of pages more
 room_kept pages spare more h = omega arith
 
 pub room_made : (pages : Pages') (n wanted spare : ℕ) → over pages + first_page pages + (n + 127) < (wanted + 1) * 128 → wanted ≤ spare → n ≤ room_of pages spare
 room_made pages n wanted spare h l = omega arith
+
+pub over_few : (pages : Pages') → HasPageSizes pages → over pages ≤ 128 * length pages
+over_few [] u = omega arith
+over_few (x ∷ xs) u = let i = over_few xs (All-tail IsPageSize x xs u) in let s : length x ≤ 256 = (All-head IsPageSize x xs u).1 in omega arith
+
+-- a page of one entry has none above its half
+pub over-remove_one : (pages : Pages') (m : ℕ) → m < length pages → length (page_at pages m) ≡ 1 → over (remove pages m) ≡ over pages
+over-remove_one pages m h e =
+    let a = over-at pages m h in
+    let b = over-append (take m pages) (drop (suc m) pages) in
+    let j = ap (λ i. over (drop i pages)) (add-one m) in omega arith

@@ -32,17 +32,19 @@ HasPageSizes pages = All IsPageSize pages
 abbrev pub split_at : List (List (List ℕ)) → ℕ → List (List (List ℕ))
 split_at pages m = take m pages ++ take 128 (page_at pages m) ∷ drop 128 (page_at pages m) ∷ drop (m + 1) pages
 
--- what holds of the pages in use, those set aside, and the room of the two lists: a page that changes sides finds room
-pub record IsInOrder (pages spares : List (List (List ℕ))) (room spare_room : ℕ) : Type 0 where
-  pub sizes : HasPageSizes pages
-  pub empty : All (λ page. page ≡ []) spares
-  pub room_in_use : length pages + length spares ≤ room
-  pub room_aside : length pages + length spares ≤ spare_room
-
 -- how many entries the pages have above their halves
 abbrev pub over : List (List (List ℕ)) → ℕ
 over [] = 0
 over (page ∷ pages) = (length page - 128) + over pages
+
+-- what holds of the pages in use, those set aside, the room of the two lists, and the count of entries above the halves: a page that changes
+-- sides finds room
+pub record IsInOrder (pages spares : List (List (List ℕ))) (room spare_room above_half : ℕ) : Type 0 where
+  pub sizes : HasPageSizes pages
+  pub empty : All (λ page. page ≡ []) spares
+  pub room_in_use : length pages + length spares ≤ room
+  pub room_aside : length pages + length spares ≤ spare_room
+  pub above : above_half ≡ over pages
 
 -- an order with no page yet needs one page more
 abbrev pub first_page : List (List (List ℕ)) → ℕ
