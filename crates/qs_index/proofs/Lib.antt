@@ -12,3 +12,4 @@ pub mod Members
 pub mod Distinct
 pub mod Turned
 pub mod Graphs
+pub mod Unions

@@ -8,7 +8,8 @@ use Rattle.std.proofs.lemmas.List.{length-map}
 use Rattle.std.proofs.lemmas.List.Sorted.{length_permutation}
 use Rattle.qs_index.specs.Agreeing.{agrees, agreeing}
 use Rattle.qs_index.specs.Entry.{begins, beginning, IsAscending, with_entry, without_entry}
-use Rattle.qs_index.specs.Index.{IsEntry, IsOrderOf}
+use Rattle.qs_index.specs.Index.{IsOrderOf}
+use Rattle.qs_index.specs.Entry.{IsEntry}
 use Rattle.qs_index.specs.Permutation.{turned, restored, order_used, prefix_of}
 use Rattle.qs_index.specs.declared.permutation.Permutation.{Permutation}
 use Rattle.qs_index.specs.declared.permutation.Permutation.TheVariants.{Gspo, Gpos, Gosp}
@@ -41,7 +42,7 @@ turned-restored Gosp (a ∷ b ∷ []) = refl
 turned-restored Gosp (a ∷ b ∷ c ∷ []) = refl
 turned-restored Gosp (a ∷ b ∷ c ∷ d ∷ rest) = refl
 
-turned_same : (permutation : Permutation) (x y : List ℕ) → turned permutation x ≡ turned permutation y → x ≡ y
+pub turned_same : (permutation : Permutation) (x y : List ℕ) → turned permutation x ≡ turned permutation y → x ≡ y
 turned_same permutation x y e = sym (restored-turned permutation x) ∙ ap (restored permutation) e ∙ restored-turned permutation y
 
 pub IsOrderOf-nil : (permutation : Permutation) → IsOrderOf permutation [] []

@@ -1,5 +1,10 @@
-use Rattle.std.specs.Prelude.{◌≡◌, ℕ, Bool, true, false, cond, nat_lt, ◌==◌, List, [], ◌∷◌, ◌++◌, drop, ◌≢◌}
-use Rattle.std.specs.List.{filter}
+use Rattle.std.specs.Prelude.{◌≡◌, ℕ, ◌<◌, ◌^◌, Bool, true, false, cond, nat_lt, ◌==◌, List, [], ◌∷◌, ◌++◌, drop, length, ◌≢◌}
+use Rattle.std.specs.List.{All, filter}
+
+-- four numbers of 32 bits: graph, subject, predicate, object
+pub record IsEntry (entry : List ℕ) : Type 0 where
+  pub four : length entry ≡ 4
+  pub fits : All (λ number. number < 2 ^ 32) entry
 
 -- whether `entry` stands before each list that begins with `prefix`; at a `prefix` of full length, whether it is less
 abbrev pub is_before : List ℕ → List ℕ → Bool

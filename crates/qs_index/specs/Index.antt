@@ -1,14 +1,9 @@
-use Rattle.std.specs.Prelude.{◌≡◌, ℕ, ◌<◌, ◌^◌, List, length}
-use Rattle.std.specs.List.{All, Contains}
-use Rattle.qs_index.specs.Entry.{IsAscending}
+use Rattle.std.specs.Prelude.{ℕ, List}
+use Rattle.std.specs.List.{Contains}
+use Rattle.qs_index.specs.Entry.{IsAscending, IsEntry}
 use Rattle.qs_index.specs.Permutation.{turned}
 use Rattle.qs_index.specs.declared.permutation.Permutation.{Permutation}
 use Rattle.qs_index.specs.declared.permutation.Permutation.TheVariants.{Gspo, Gpos, Gosp}
-
--- four numbers of 32 bits: graph, subject, predicate, object
-pub record IsEntry (entry : List ℕ) : Type 0 where
-  pub four : length entry ≡ 4
-  pub fits : All (λ number. number < 2 ^ 32) entry
 
 -- an order has the same entries as the list, turned, in ascending order
 pub record IsOrderOf (permutation : Permutation) (entries order : List (List ℕ)) : Type 0 where

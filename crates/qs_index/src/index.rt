@@ -5,10 +5,10 @@ ghost use Rattle.std.specs.Result.{OnOk};
 ghost use Rattle.std.specs.List.{All, Contains};
 ghost use Rattle.std.specs.List.Sorted.{IsPermutation};
 ghost use Rattle.qs_index.specs.Agreeing.{agreeing};
-ghost use Rattle.qs_index.specs.Entries.{Entries};
-ghost use Rattle.qs_index.specs.Entry.{IsAscending, with_entry, without_entry};
+ghost use Rattle.qs_index.specs.Entries.{Entries, IsUnion};
+ghost use Rattle.qs_index.specs.Entry.{IsEntry, IsAscending, with_entry, without_entry};
 ghost use Rattle.qs_index.specs.Graph.{graph_of, IsNextGraph};
-ghost use Rattle.qs_index.specs.Index.{IsEntry, IsOneSet, IsOrderOf};
+ghost use Rattle.qs_index.specs.Index.{IsOneSet, IsOrderOf};
 ghost use Rattle.qs_index.specs.Permutation.{order_used, turned};
 
 use crate::order::Order;
@@ -16,6 +16,20 @@ use crate::permutation::{Lookup, Permutation};
 use crate::scan::Scan;
 use std::alloc::{AllocError, Global};
 use std::marker::Model;
+
+// Puts entries into an order, turned and sorted.
+fn insert_turned(order: &mut Order, permutation: Permutation, entries: &mut [[u32; 4]])
+    requires { length entries.old ≤ order.old.spare }
+    ensures union { IsUnion order.old.entries (map (turned permutation) entries.old) order.new.entries }
+    ensures entries { All IsEntry (map (turned permutation) entries.old) }
+    ensures spare { order.old.spare ≤ order.new.spare + length entries.old }
+    ensures permutation { IsPermutation entries.old entries.new }
+{
+    permutation.turn_all(entries);
+    entries.sort_unstable();
+    order.insert_all(entries);
+    permutation.restore_all(entries);
+}
 
 /// A set of entries `[graph, subject, predicate, object]`, and how many inserts need no memory. Graph number 0 is the default
 /// graph. Contracts see the set as its ascending list, so equal lists are equal sets.
@@ -62,6 +76,7 @@ impl Index {
     pub fn insert(&mut self, entry: [u32; 4]) -> bool
         requires { 0 < self.old.spare }
         ensures new { IsTrue result ↔ (¬ Contains self.old.entries entry) }
+        ensures stood { OnFalse result (Contains self.old.entries entry) }
         ensures added { OnTrue result (self.new.entries ≡ with_entry entry self.old.entries) }
         ensures members { OnTrue result (IsPermutation (entry ∷ self.old.entries) self.new.entries) }
         ensures kept { OnFalse result (self.new.entries ≡ self.old.entries) }
@@ -74,6 +89,19 @@ impl Index {
         self.gpos.insert(Permutation::Gpos.turn(entry));
         self.gosp.insert(Permutation::Gosp.turn(entry));
         true
+    }
+
+    /// Puts all of `entries` in, and leaves them in some order: they are sorted for each order before they are put there, which makes
+    /// this the fast way to load many. It takes no memory, and asks that there is room.
+    pub fn insert_all(&mut self, entries: &mut [[u32; 4]])
+        requires { length entries.old ≤ self.old.spare }
+        ensures union { IsUnion self.old.entries entries.old self.new.entries }
+        ensures spare { self.old.spare ≤ self.new.spare + length entries.old }
+        ensures permutation { IsPermutation entries.old entries.new }
+    {
+        insert_turned(&mut self.gspo, Permutation::Gspo, entries);
+        insert_turned(&mut self.gpos, Permutation::Gpos, entries);
+        insert_turned(&mut self.gosp, Permutation::Gosp, entries);
     }
 
     /// Takes an entry out, and tells whether it stood there. It takes no memory, and leaves no less room than there was.

@@ -4,7 +4,7 @@ ghost use Rattle.std.specs.Bool.{OnTrue, OnFalse};
 ghost use Rattle.std.specs.Result.{OnOk};
 ghost use Rattle.std.specs.List.{Contains};
 ghost use Rattle.qs_index.specs.Layout.{Layout, joined, page_at, rest_at, room_of};
-ghost use Rattle.qs_index.specs.Entries.{Entries};
+ghost use Rattle.qs_index.specs.Entries.{Entries, IsUnion};
 ghost use Rattle.qs_index.specs.Entry.{IsAscending, skip_before, with_entry, without_entry, beginning};
 
 use crate::order_scan::OrderScan;
@@ -92,6 +92,7 @@ impl Order {
     pub fn insert(&mut self, entry: [u32; 4]) -> bool
         requires { 0 < self.old.spare }
         ensures new { IsTrue result ↔ (¬ Contains self.old.entries entry) }
+        ensures stood { OnFalse result (Contains self.old.entries entry) }
         ensures added { OnTrue result (self.new.entries ≡ with_entry entry self.old.entries) }
         ensures kept { OnFalse result (self.new.entries ≡ self.old.entries) }
         ensures ascending { IsAscending self.new.entries }
@@ -108,6 +109,18 @@ impl Order {
         let free = make_room(&mut self.pages, place);
         put_before(&mut self.pages, free, entry);
         true
+    }
+
+    /// Puts all of `entries` in. Ascending ones are put in fastest.
+    pub fn insert_all(&mut self, entries: &[[u32; 4]])
+        requires { length entries.now ≤ self.old.spare }
+        ensures union { IsUnion self.old.entries entries.now self.new.entries }
+        ensures spare { self.old.spare ≤ self.new.spare + length entries.now }
+    {
+        let _count = self.pages.len();
+        for entry in entries {
+            self.insert(*entry);
+        }
     }
 
     /// Takes an entry out, and tells whether it was there.

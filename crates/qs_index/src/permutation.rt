@@ -1,5 +1,7 @@
 // The orders of the places of an entry, and which of them a scan uses.
-ghost use Rattle.std.specs.Prelude.{◌≡◌, ◌≤◌, take};
+ghost use Rattle.std.specs.Prelude.{◌≡◌, ◌≤◌, take, map};
+ghost use Rattle.std.specs.List.{All};
+ghost use Rattle.qs_index.specs.Entry.{IsEntry};
 ghost use Rattle.qs_index.specs.Permutation.{turned, restored, order_used, prefix_of};
 
 /// An order of the places of an entry: graph, subject, predicate and object, by their first letters.
@@ -14,7 +16,8 @@ impl Permutation {
     /// The entry with its places in this order.
     #[inline]
     pub fn turn(self, entry: [u32; 4]) -> [u32; 4]
-        ensures { result ≡ turned self entry }
+        ensures turned { result ≡ turned self entry }
+        ensures entry { IsEntry result }
     {
         let [g, s, p, o] = entry;
         match self {
@@ -34,6 +37,27 @@ impl Permutation {
             Permutation::Gspo => [g, x, y, z],
             Permutation::Gpos => [g, z, x, y],
             Permutation::Gosp => [g, y, z, x],
+        }
+    }
+}
+
+impl Permutation {
+    /// Turns each entry.
+    pub fn turn_all(self, entries: &mut [[u32; 4]])
+        ensures turned { entries.new ≡ map (turned self) entries.old }
+        ensures entries { All IsEntry entries.new }
+    {
+        for entry in entries.iter_mut() {
+            *entry = self.turn(*entry);
+        }
+    }
+
+    /// Restores each entry that was turned.
+    pub fn restore_all(self, entries: &mut [[u32; 4]])
+        ensures { entries.new ≡ map (restored self) entries.old }
+    {
+        for entry in entries.iter_mut() {
+            *entry = self.restore(*entry);
         }
     }
 }

@@ -19,8 +19,8 @@ invariant_of-self-2 c =
     record {
       entries = λ y m. i.entries y (member_of_without x y old m);
       by_subject = subst (λ r. IsOrderOf Gspo r r) made (IsOrderOf-itself c.remove.new.self.entries c.remove.ensures.ascending);
-      by_predicate = order_removed Gpos x c.turn.result old c.self.inside.gpos.entries c.remove-2.new.self.entries c.remove-2.result c.turn.ensures i.by_subject.ascending stands i.by_predicate c.remove-2.ensures.stood c.remove-2.ensures.taken c.remove-2.ensures.ascending;
-      by_object = order_removed Gosp x c.turn-2.result old c.self.inside.gosp.entries c.remove-3.new.self.entries c.remove-3.result c.turn-2.ensures i.by_subject.ascending stands i.by_object c.remove-3.ensures.stood c.remove-3.ensures.taken c.remove-3.ensures.ascending;
+      by_predicate = order_removed Gpos x c.turn.result old c.self.inside.gpos.entries c.remove-2.new.self.entries c.remove-2.result c.turn.ensures.turned i.by_subject.ascending stands i.by_predicate c.remove-2.ensures.stood c.remove-2.ensures.taken c.remove-2.ensures.ascending;
+      by_object = order_removed Gosp x c.turn-2.result old c.self.inside.gosp.entries c.remove-3.new.self.entries c.remove-3.result c.turn-2.ensures.turned i.by_subject.ascending stands i.by_object c.remove-3.ensures.stood c.remove-3.ensures.taken c.remove-3.ensures.ascending;
     }
 
 pub returns-clause-members : goal.returns-clause-members
