@@ -1,7 +1,7 @@
 -- What a split and an insert leave, and that the pages set aside suffice.
 use Rattle.std.proofs.Common.{◌≡◌, ℕ, ◌+◌, ◌-◌, ◌*◌, ◌<◌, ◌≤◌, List, [], ◌∷◌, ◌++◌, length, get_or, take, drop, set, refl, ap, sym, ◌∙◌, arith, suc, zero, append_assoc, length-append, add-one, length-take, length-drop}
 use Rattle.std.specs.List.{insert, remove}
-use Rattle.std.proofs.lemmas.List.{take_more, length-set, take-append-drop, drop-append-le, drop-drop, drop_at, length-take-le, get_or_at, get_or-drop}
+use Rattle.std.proofs.lemmas.List.{length-set, take-append-drop, drop-append-le, drop-drop, drop_at, length-take-le, get_or_at, get_or-drop}
 use Rattle.std.proofs.lemmas.List.Edits.{length-insert}
 use Rattle.std.proofs.lemmas.List.Elements.{All-head, All-tail}
 use Rattle.qs_index.specs.Layout.{joined, page_at, rest_at, split_at, over, first_page, room_of, HasPageSizes, IsPageSize}

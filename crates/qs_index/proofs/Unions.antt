@@ -1,8 +1,7 @@
 -- Entries put in one after another, and the orders of a union.
-use Rattle.std.proofs.Common.{◌≡◌, ◌⊎◌, ℕ, ◌+◌, ◌<◌, Bool, true, false, List, [], ◌∷◌, ◌++◌, map, length, get_or, take, drop, set, suc, zero, add-one, refl, ap, sym, ◌∙◌, subst, arith, inl, inr, ⊎_elim, IsTrue, ◌↔◌}
+use Rattle.std.proofs.Common.{◌≡◌, ◌⊎◌, ℕ, ◌+◌, ◌<◌, Bool, true, false, List, [], ◌∷◌, ◌++◌, map, length, get_or, take, drop, set, suc, zero, refl, ap, sym, ◌∙◌, subst, arith, inl, inr, ⊎_elim}
 use Rattle.std.specs.List.{Contains}
 use Rattle.std.specs.Bool.{OnTrue, OnFalse}
-use Rattle.std.proofs.lemmas.Bool.{false≢true}
 use Rattle.std.specs.List.Sorted.{IsPermutation}
 use Rattle.std.proofs.lemmas.List.{take_more}
 use Rattle.std.proofs.lemmas.List.Sorted.{Contains-permutation, IsPermutation-sym}
@@ -11,7 +10,7 @@ use Rattle.qs_index.specs.Entries.{IsUnion}
 use Rattle.qs_index.specs.Entry.{IsAscending, with_entry}
 use Rattle.qs_index.specs.Index.{IsOrderOf}
 use Rattle.qs_index.specs.Entry.{IsEntry}
-use Rattle.qs_index.specs.Permutation.{turned, restored}
+use Rattle.qs_index.specs.Permutation.{turned}
 use Rattle.qs_index.specs.declared.permutation.Permutation.{Permutation}
 use Rattle.qs_index.specs.declared.permutation.Permutation.TheVariants.{Gspo}
 use Rattle.qs_index.proofs.Distinct.{nothing_in_nil, map_has, member_of_map}

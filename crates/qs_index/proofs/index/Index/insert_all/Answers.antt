@@ -1,12 +1,11 @@
-use Rattle.std.proofs.Common.{◌≡◌, ◌<◌, ◌^◌, List, ℕ, map, rules, ap, sym, ◌∙◌, subst}
-use Rattle.std.specs.List.{All, Contains}
+use Rattle.std.proofs.Common.{map, subst}
+use Rattle.std.specs.List.{All}
 use Rattle.std.proofs.lemmas.List.Elements.{All-contains}
-use Rattle.std.specs.List.Sorted.{IsPermutation}
 use Rattle.std.proofs.lemmas.List.Sorted.{IsPermutation-map, IsPermutation-trans}
 use Rattle.qs_index.specs.Entries.{IsUnion}
 use Rattle.qs_index.specs.Entry.{IsEntry}
 use Rattle.qs_index.specs.Permutation.{turned}
-use Rattle.qs_index.specs.declared.permutation.Permutation.TheVariants.{Gspo, Gpos, Gosp}
+use Rattle.qs_index.specs.declared.permutation.Permutation.TheVariants.{Gpos, Gosp}
 use Rattle.qs_index.proofs.Turned.{IsOrderOf-itself}
 use Rattle.qs_index.proofs.Unions.{IsUnion-permutation, IsOrderOf-union, turned_by_none, entries_of_union}
 use Rattle.qs_index.proofs.index.Index.insert_all.Goals as goal

@@ -1,4 +1,4 @@
-use Rattle.std.proofs.Common.{◌≡◌, ◌<◌, ◌++◌, subst, [], map, take, drop, set, get_or, length, ap, sym, ◌∙◌, arith, add-one}
+use Rattle.std.proofs.Common.{◌<◌, ◌++◌, subst, [], map, take, drop, set, get_or, length, ap, sym, ◌∙◌, arith, add-one}
 use Rattle.std.specs.List.{All}
 use Rattle.std.proofs.lemmas.List.{take_more_set}
 use Rattle.std.proofs.lemmas.List.Elements.{All-push}
