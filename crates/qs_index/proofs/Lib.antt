@@ -1,0 +1,15 @@
+pub mod CompareSteps
+pub mod Ascending
+pub mod DigitLaws
+pub mod Places
+pub mod Looks
+pub mod PageEdits
+pub mod EntryEdits
+pub mod Spares
+pub mod FoundPlaces
+pub mod Removals
+pub mod Members
+pub mod Distinct
+pub mod Turned
+pub mod Graphs
+pub mod Unions

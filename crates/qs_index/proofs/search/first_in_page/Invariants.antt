@@ -1,0 +1,12 @@
+use Rattle.std.proofs.Common.{◌≡◌, ◌+◌, ◌-◌, ◌<◌, ◌≤◌, length, drop, get_or, false, []}
+use Rattle.qs_index.specs.Digits.{digits}
+use Rattle.qs_index.specs.Layout.{joined, page_at, rest_at}
+use Rattle.qs_index.specs.Entry.{is_before, skip_before}
+use Rattle.qs_index.proofs.search.first_in_page.Given as goal
+
+abbrev pub decreases-loop-low : goal.decreases-loop-low
+decreases-loop-low l = l.high - l.low
+
+abbrev pub invariant-loop-low : goal.invariant-loop-low
+invariant-loop-low l =
+    (l.low ≤ l.high) × (l.high < length (page_at l.pages.pages l.page)) × (skip_before l.prefix (joined (drop l.page l.pages.pages)) ≡ skip_before l.prefix (rest_at l.pages.pages l.page l.low)) × (is_before (get_or (page_at l.pages.pages l.page) l.high []) l.prefix ≡ false) × (l.looked + digits (l.high - l.low) ≤ l.fn.looked + digits (length (page_at l.pages.pages l.page)))

@@ -1,0 +1,19 @@
+use Rattle.std.specs.Prelude.{ℕ, List}
+use Rattle.std.specs.List.{Contains}
+use Rattle.qs_index.specs.Entry.{IsAscending, IsEntry}
+use Rattle.qs_index.specs.Permutation.{turned}
+use Rattle.qs_index.specs.declared.permutation.Permutation.{Permutation}
+use Rattle.qs_index.specs.declared.permutation.Permutation.TheVariants.{Gspo, Gpos, Gosp}
+
+-- an order has the same entries as the list, turned, in ascending order
+pub record IsOrderOf (permutation : Permutation) (entries order : List (List ℕ)) : Type 0 where
+  pub ascending : IsAscending order
+  pub has : (x : List ℕ) → Contains entries x → Contains order (turned permutation x)
+  pub only : (x : List ℕ) → Contains order (turned permutation x) → Contains entries x
+
+-- three orders of one set of entries
+pub record IsOneSet (gspo gpos gosp : List (List ℕ)) : Type 0 where
+  pub entries : (x : List ℕ) → Contains gspo x → IsEntry x
+  pub by_subject : IsOrderOf Gspo gspo gspo
+  pub by_predicate : IsOrderOf Gpos gspo gpos
+  pub by_object : IsOrderOf Gosp gspo gosp

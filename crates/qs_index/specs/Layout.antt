@@ -1,0 +1,56 @@
+use Rattle.std.specs.Prelude.{ℕ, ◌+◌, ◌<◌, ◌≤◌, ◌≡◌, ◌-◌, ◌*◌, List, [], ◌∷◌, ◌++◌, length, drop, take, slice_index_or}
+use Rattle.std.specs.List.{All}
+
+abbrev pub Page : Type 0
+Page = List (List ℕ)
+
+-- an order: its pages, and how many pages are set aside
+pub record Layout : Type 0 where
+  pub pages : List (List (List ℕ))
+  pub spare : ℕ
+
+-- the entries of all pages, one page after another
+abbrev pub joined : List (List (List ℕ)) → List (List ℕ)
+joined [] = []
+joined (page ∷ pages) = page ++ joined pages
+
+abbrev pub page_at : List (List (List ℕ)) → ℕ → List (List ℕ)
+page_at pages page = slice_index_or pages page []
+
+-- the entries from a place on
+abbrev pub rest_at : List (List (List ℕ)) → ℕ → ℕ → List (List ℕ)
+rest_at pages page at = drop at (joined (drop page pages))
+
+abbrev pub IsPageSize : List (List ℕ) → Type 0
+IsPageSize page = (0 < length page) × (length page ≤ 256)
+
+-- each page has 1 to 256 entries
+abbrev pub HasPageSizes : List (List (List ℕ)) → Type 0
+HasPageSizes pages = All IsPageSize pages
+
+-- the pages with page m in two halves
+abbrev pub split_at : List (List (List ℕ)) → ℕ → List (List (List ℕ))
+split_at pages m = take m pages ++ take 128 (page_at pages m) ∷ drop 128 (page_at pages m) ∷ drop (m + 1) pages
+
+-- how many entries the pages have above their halves
+abbrev pub over : List (List (List ℕ)) → ℕ
+over [] = 0
+over (page ∷ pages) = (length page - 128) + over pages
+
+-- what holds of the pages in use, those set aside, the room of the two lists, and the count of entries above the halves: a page that changes
+-- sides finds room
+pub record IsInOrder (pages spares : List (List (List ℕ))) (room spare_room above_half : ℕ) : Type 0 where
+  pub sizes : HasPageSizes pages
+  pub empty : All (λ page. page ≡ []) spares
+  pub room_in_use : length pages + length spares ≤ room
+  pub room_aside : length pages + length spares ≤ spare_room
+  pub above : above_half ≡ over pages
+
+-- an order with no page yet needs one page more
+abbrev pub first_page : List (List (List ℕ)) → ℕ
+first_page [] = 128
+first_page (page ∷ pages) = 0
+
+-- how many inserts the pages set aside suffice for
+abbrev pub room_of : List (List (List ℕ)) → ℕ → ℕ
+room_of pages spare = 128 * spare - (over pages + first_page pages)

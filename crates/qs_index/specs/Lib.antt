@@ -1,0 +1,11 @@
+pub mod Digits
+pub mod Layout
+pub mod Entry
+pub mod Entries
+pub mod Place
+pub mod Scan
+pub mod OrderScan
+pub mod Permutation
+pub mod Agreeing
+pub mod Index
+pub mod Graph

@@ -1,0 +1,37 @@
+use Rattle.std.specs.Prelude.{ℕ, List, [], ◌∷◌, Option, Some, None}
+use Rattle.qs_index.specs.declared.permutation.Permutation.{Permutation}
+use Rattle.qs_index.specs.declared.permutation.Permutation.TheVariants.{Gspo, Gpos, Gosp}
+
+-- an entry with its places in the order of a permutation
+abbrev pub turned : Permutation → List ℕ → List ℕ
+turned Gpos (g ∷ s ∷ p ∷ o ∷ rest) = g ∷ p ∷ o ∷ s ∷ rest
+turned Gosp (g ∷ s ∷ p ∷ o ∷ rest) = g ∷ o ∷ s ∷ p ∷ rest
+turned permutation entry = entry
+
+-- the entry that was turned
+abbrev pub restored : Permutation → List ℕ → List ℕ
+restored Gpos (g ∷ p ∷ o ∷ s ∷ rest) = g ∷ s ∷ p ∷ o ∷ rest
+restored Gosp (g ∷ o ∷ s ∷ p ∷ rest) = g ∷ s ∷ p ∷ o ∷ rest
+restored permutation entry = entry
+
+-- the order that a scan uses, by the subject, predicate and object that it gives
+abbrev pub order_used : Option ℕ → Option ℕ → Option ℕ → Permutation
+order_used None None None = Gspo
+order_used (Some s) None None = Gspo
+order_used (Some s) (Some p) None = Gspo
+order_used (Some s) (Some p) (Some o) = Gspo
+order_used None (Some p) None = Gpos
+order_used None (Some p) (Some o) = Gpos
+order_used None None (Some o) = Gosp
+order_used (Some s) None (Some o) = Gosp
+
+-- the places that a scan gives, in the order that it uses
+abbrev pub prefix_of : ℕ → Option ℕ → Option ℕ → Option ℕ → List ℕ
+prefix_of g None None None = g ∷ []
+prefix_of g (Some s) None None = g ∷ s ∷ []
+prefix_of g (Some s) (Some p) None = g ∷ s ∷ p ∷ []
+prefix_of g (Some s) (Some p) (Some o) = g ∷ s ∷ p ∷ o ∷ []
+prefix_of g None (Some p) None = g ∷ p ∷ []
+prefix_of g None (Some p) (Some o) = g ∷ p ∷ o ∷ []
+prefix_of g None None (Some o) = g ∷ o ∷ []
+prefix_of g (Some s) None (Some o) = g ∷ o ∷ s ∷ []

@@ -1,0 +1,19 @@
+//! A set of numbered quads `[graph, subject, predicate, object]`, kept in three orders of sorted pages. A scan of the set hands out
+//! the entries that agree with the places that are given, in ascending order, and looks at few more entries than it hands out.
+#![tactic(auto)]
+
+mod entry;
+#[cfg(test)]
+mod growth;
+mod index;
+pub mod order;
+pub mod order_scan;
+pub mod pages;
+pub mod permutation;
+mod scan;
+mod search;
+#[cfg(test)]
+mod tests;
+
+pub use index::Index;
+pub use scan::Scan;

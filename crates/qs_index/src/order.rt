@@ -1,0 +1,169 @@
+// One order of the entries: sorted pages seen as one ascending list.
+ghost use Rattle.std.specs.Prelude.{◌≡◌, ℕ, ◌+◌, ◌-◌, ◌<◌, ◌≤◌, List, [], ◌∷◌, length, take, drop, IsTrue, ◌↔◌, MatchOption};
+ghost use Rattle.std.specs.Bool.{OnTrue, OnFalse};
+ghost use Rattle.std.specs.Result.{OnOk};
+ghost use Rattle.std.specs.List.{Contains};
+ghost use Rattle.qs_index.specs.Layout.{Layout, joined, page_at, rest_at, room_of};
+ghost use Rattle.qs_index.specs.Entries.{Entries, IsUnion};
+ghost use Rattle.qs_index.specs.Entry.{IsAscending, skip_before, with_entry, without_entry, beginning};
+
+use crate::order_scan::OrderScan;
+use crate::pages::{HALF, PAGE, Pages, Place};
+use crate::search::{find, locate};
+use std::alloc::{AllocError, Global};
+use std::marker::Model;
+
+// Puts an entry in front of those that aren't before it, in a page that isn't full.
+fn put_before(pages: &mut Pages, place: Place, entry: [u32; 4])
+    requires page { place.page < length pages.old.pages }
+    requires at { place.at ≤ length (page_at pages.old.pages place.page) }
+    requires free { length (page_at pages.old.pages place.page) < 256 }
+    requires before { rest_at pages.old.pages place.page place.at ≡ skip_before entry (joined pages.old.pages) }
+    ensures entries { joined pages.new.pages ≡ with_entry entry (joined pages.old.pages) }
+    ensures room { room_of pages.old.pages pages.old.spare ≤ room_of pages.new.pages pages.new.spare + 1 }
+{
+    pages.put(place, entry);
+}
+
+// Splits the page of a place if it is full, and gives the same place in the new pages.
+fn make_room(pages: &mut Pages, place: Place) -> Place
+    requires page { place.page < length pages.old.pages }
+    requires at { place.at ≤ length (page_at pages.old.pages place.page) }
+    requires room { 0 < room_of pages.old.pages pages.old.spare }
+    ensures page { result.page < length pages.new.pages }
+    ensures at { result.at ≤ length (page_at pages.new.pages result.page) }
+    ensures free { length (page_at pages.new.pages result.page) < 256 }
+    ensures rest { rest_at pages.new.pages result.page result.at ≡ rest_at pages.old.pages place.page place.at }
+    ensures entries { joined pages.new.pages ≡ joined pages.old.pages }
+    ensures room { room_of pages.new.pages pages.new.spare ≡ room_of pages.old.pages pages.old.spare }
+{
+    let _count = pages.len();
+    if pages.page_len(place.page) < PAGE {
+        return place;
+    }
+    pages.split(place.page);
+    if place.at <= HALF {
+        return place;
+    }
+    Place {
+        page: place.page + 1,
+        at: place.at - HALF,
+    }
+}
+
+/// The entries of one order, and how many inserts need no memory.
+#[derive(Drop)]
+pub struct Order {
+    pages: Pages,
+}
+
+impl Model for Order {
+    ghost Value = { Entries };
+
+    ghost view = { λ s. record { entries = joined s.pages.pages; spare = room_of s.pages.pages s.pages.spare } };
+
+    ghost invariant = { λ s. IsAscending (joined s.pages.pages) };
+}
+
+impl Order {
+    /// An order without entries.
+    pub fn new(alloc: Global) -> Order
+        ensures entries { result.entries ≡ [] }
+        ensures spare { result.spare ≡ 0 }
+    {
+        Order {
+            pages: Pages::new(alloc),
+        }
+    }
+
+    /// Makes room for `n` inserts.
+    pub fn reserve(&mut self, n: u64) -> Result<(), AllocError>
+        ensures entries { self.new.entries ≡ self.old.entries }
+        ensures kept { self.old.spare ≤ self.new.spare }
+        ensures ok { OnOk result (n ≤ self.new.spare) }
+    {
+        let due = self.pages.due();
+        let wanted = due.checked_add(n as u128 + 127).ok_or(AllocError)? / 128;
+        let wanted = usize::try_from(wanted).map_err(|_| AllocError)?;
+        self.pages.set_aside(wanted)
+    }
+
+    /// Puts an entry in its place, and tells whether it is new.
+    pub fn insert(&mut self, entry: [u32; 4]) -> bool
+        requires { 0 < self.old.spare }
+        ensures new { IsTrue result ↔ (¬ Contains self.old.entries entry) }
+        ensures stood { OnFalse result (Contains self.old.entries entry) }
+        ensures added { OnTrue result (self.new.entries ≡ with_entry entry self.old.entries) }
+        ensures kept { OnFalse result (self.new.entries ≡ self.old.entries) }
+        ensures ascending { IsAscending self.new.entries }
+        ensures spare { self.old.spare ≤ self.new.spare + 1 }
+    {
+        let count = self.pages.len();
+        if count == 0 {
+            self.pages.put_first(entry);
+            return true;
+        }
+        let Err(place) = locate(&self.pages, &entry) else {
+            return false;
+        };
+        let free = make_room(&mut self.pages, place);
+        put_before(&mut self.pages, free, entry);
+        true
+    }
+
+    /// Puts all of `entries` in. Ascending ones are put in fastest.
+    pub fn insert_all(&mut self, entries: &[[u32; 4]])
+        requires { length entries.now ≤ self.old.spare }
+        ensures union { IsUnion self.old.entries entries.now self.new.entries }
+        ensures spare { self.old.spare ≤ self.new.spare + length entries.now }
+    {
+        let _count = self.pages.len();
+        for entry in entries {
+            self.insert(*entry);
+        }
+    }
+
+    /// Takes an entry out, and tells whether it was there.
+    pub fn remove(&mut self, entry: [u32; 4]) -> bool
+        ensures stood { IsTrue result ↔ Contains self.old.entries entry }
+        ensures taken { OnTrue result (self.new.entries ≡ without_entry entry self.old.entries) }
+        ensures kept { OnFalse result (self.new.entries ≡ self.old.entries) }
+        ensures ascending { IsAscending self.new.entries }
+        ensures spare { self.old.spare ≤ self.new.spare }
+    {
+        let count = self.pages.len();
+        if count == 0 {
+            return false;
+        }
+        let Ok(place) = locate(&self.pages, &entry) else {
+            return false;
+        };
+        self.pages.take_out(place);
+        true
+    }
+
+    /// The first entry that doesn't stand before all entries that begin with `prefix`.
+    pub fn first_from(&self, prefix: &[u32]) -> Option<[u32; 4]>
+        requires { length prefix.now ≤ 4 }
+        ensures { MatchOption result (skip_before prefix.now self.now.entries ≡ []) (λ e. skip_before prefix.now self.now.entries ≡ e ∷ drop 1 (skip_before prefix.now self.now.entries)) }
+    {
+        let count = self.pages.len();
+        let mut looked = 0;
+        let found = find(&self.pages, prefix, &mut looked);
+        if found.page == count {
+            return None;
+        }
+        Some(*self.pages.look(found, &mut looked))
+    }
+
+    /// The entries that begin with the first `given` numbers of `prefix`.
+    pub fn scan(&self, prefix: [u32; 4], given: usize) -> OrderScan<'_>
+        requires { given ≤ 4 }
+        ensures rest { result.rest ≡ beginning (take given prefix) self.now.entries }
+        ensures handed { result.handed ≡ 0 }
+        ensures size { result.size ≡ length self.now.entries }
+        ensures ascending { IsAscending self.now.entries }
+    {
+        OrderScan::new(&self.pages, prefix, given)
+    }
+}

@@ -1,0 +1,101 @@
+// The orders of the places of an entry, and which of them a scan uses.
+ghost use Rattle.std.specs.Prelude.{◌≡◌, ◌≤◌, take, map};
+ghost use Rattle.std.specs.List.{All};
+ghost use Rattle.qs_index.specs.Entry.{IsEntry};
+ghost use Rattle.qs_index.specs.Permutation.{turned, restored, order_used, prefix_of};
+
+/// An order of the places of an entry: graph, subject, predicate and object, by their first letters.
+#[derive(Debug, Clone, Copy)]
+pub enum Permutation {
+    Gspo,
+    Gpos,
+    Gosp,
+}
+
+impl Permutation {
+    /// The entry with its places in this order.
+    #[inline]
+    pub fn turn(self, entry: [u32; 4]) -> [u32; 4]
+        ensures turned { result ≡ turned self entry }
+        ensures entry { IsEntry result }
+    {
+        let [g, s, p, o] = entry;
+        match self {
+            Permutation::Gspo => [g, s, p, o],
+            Permutation::Gpos => [g, p, o, s],
+            Permutation::Gosp => [g, o, s, p],
+        }
+    }
+
+    /// The entry that was turned.
+    #[inline]
+    pub fn restore(self, turned: [u32; 4]) -> [u32; 4]
+        ensures { result ≡ restored self turned }
+    {
+        let [g, x, y, z] = turned;
+        match self {
+            Permutation::Gspo => [g, x, y, z],
+            Permutation::Gpos => [g, z, x, y],
+            Permutation::Gosp => [g, y, z, x],
+        }
+    }
+}
+
+impl Permutation {
+    /// Turns each entry.
+    pub fn turn_all(self, entries: &mut [[u32; 4]])
+        ensures turned { entries.new ≡ map (turned self) entries.old }
+        ensures entries { All IsEntry entries.new }
+    {
+        for entry in entries.iter_mut() {
+            *entry = self.turn(*entry);
+        }
+    }
+
+    /// Restores each entry that was turned.
+    pub fn restore_all(self, entries: &mut [[u32; 4]])
+        ensures { entries.new ≡ map (restored self) entries.old }
+    {
+        for entry in entries.iter_mut() {
+            *entry = self.restore(*entry);
+        }
+    }
+}
+
+/// What a scan looks up: an order, and the numbers that its entries begin with there.
+#[derive(Clone, Copy)]
+pub struct Lookup {
+    pub permutation: Permutation,
+    pub prefix: [u32; 4],
+    pub given: usize,
+}
+
+impl Lookup {
+    /// The order in which the places that are given come first, and these places.
+    pub fn new(
+        graph: u32,
+        subject: Option<u32>,
+        predicate: Option<u32>,
+        object: Option<u32>,
+    ) -> Lookup
+        ensures permutation { result.permutation ≡ order_used subject predicate object }
+        ensures short { result.given ≤ 4 }
+        ensures prefix { take result.given result.prefix ≡ prefix_of graph subject predicate object }
+    {
+        let (permutation, prefix, given) = match (subject, predicate, object) {
+            (None, None, None) => (Permutation::Gspo, [graph, 0, 0, 0], 1),
+            (Some(s), None, None) => (Permutation::Gspo, [graph, s, 0, 0], 2),
+            (Some(s), Some(p), None) => (Permutation::Gspo, [graph, s, p, 0], 3),
+            (Some(s), Some(p), Some(o)) => (Permutation::Gspo, [graph, s, p, o], 4),
+            (None, Some(p), None) => (Permutation::Gpos, [graph, p, 0, 0], 2),
+            (None, Some(p), Some(o)) => (Permutation::Gpos, [graph, p, o, 0], 3),
+            (None, None, Some(o)) => (Permutation::Gosp, [graph, o, 0, 0], 2),
+            (Some(s), None, Some(o)) => (Permutation::Gosp, [graph, o, s, 0], 3),
+        };
+        Lookup {
+            permutation,
+            prefix,
+            given,
+        }
+    }
+}

@@ -1,0 +1,53 @@
+// A scan of the index.
+ghost use Rattle.std.specs.Prelude.{◌≡◌, ℕ, ◌+◌, ◌*◌, ◌≤◌, List, map};
+ghost use Rattle.std.specs.Iterator.{item_count};
+ghost use Rattle.qs_index.specs.Digits.{digits};
+ghost use Rattle.qs_index.specs.Permutation.{restored};
+ghost use Rattle.qs_index.specs.Scan.{ScanState, NextOfScan};
+
+use crate::order_scan::OrderScan;
+use crate::permutation::Permutation;
+use std::marker::Model;
+
+/// The entries of an index that agree with the places that are given, ascending in the order used, each once. It takes no memory.
+#[derive(Drop)]
+pub struct Scan<'a> {
+    inner: OrderScan<'a>,
+    permutation: Permutation,
+}
+
+impl<'a> Model for Scan<'a> {
+    ghost Value = { ScanState };
+
+    ghost view = { λ s. record s.inner { rest = map (restored s.permutation) s.inner.rest } };
+}
+
+impl<'a> Scan<'a> {
+    pub(crate) fn new(inner: OrderScan<'a>, permutation: Permutation) -> Scan<'a>
+        ensures { result ≡ record inner.entry { rest = map (restored permutation) inner.entry.rest } }
+    {
+        Scan { inner, permutation }
+    }
+
+    /// How many entries were looked at since the scan began: compared or handed out. At every moment they are at most those
+    /// handed out, and two for each binary digit of the number of entries, and two.
+    pub fn looked(&self) -> u128
+        ensures count { result ≡ self.now.looked }
+        ensures few { result ≤ self.now.handed + 2 * digits self.now.size + 2 }
+    {
+        self.inner.looked()
+    }
+}
+
+impl<'a> Iterator for Scan<'a> {
+    type Item = [u32; 4];
+
+    ghost next_gives = { NextOfScan };
+
+    ghost remaining = { item_count (λ s. s.rest) };
+
+    fn next(&mut self) -> Option<[u32; 4]> {
+        let entry = self.inner.next()?;
+        Some(self.permutation.restore(entry))
+    }
+}
