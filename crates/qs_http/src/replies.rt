@@ -24,10 +24,13 @@ fn status_text(status: StatusCode) -> &'static str
     requires { IsReplyStatus status }
     ensures { result.now ≡ status_line status (phrase_of status) }
 {
-    match status.as_u16() {
-        200 => "HTTP/1.1 200 OK\r\n",
-        400 => "HTTP/1.1 400 Bad Request\r\n",
-        _ => "HTTP/1.1 500 Internal Server Error\r\n",
+    let code = status.as_u16();
+    if code == 200 {
+        "HTTP/1.1 200 OK\r\n"
+    } else if code == 400 {
+        "HTTP/1.1 400 Bad Request\r\n"
+    } else {
+        "HTTP/1.1 500 Internal Server Error\r\n"
     }
 }
 

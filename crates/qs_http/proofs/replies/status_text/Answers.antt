@@ -1,16 +1,23 @@
-use Rattle.std.proofs.Common.{◌≡◌, ◌∙◌, ap, sym, ⊎_elim, ℕ}
+use Rattle.std.proofs.Common.{◌≡◌, ◌∙◌, ap, sym, ℕ, inl, inr}
 use Rattle.std.specs.Fmt.{digits}
 use Rattle.qs_http.specs.Reply.{status_line, phrase_of}
 use Rattle.qs_http.proofs.replies.status_text.Goals as goal
 
-pub returns-in-200 : goal.returns-in-200
+pub returns-then-code-eq200 : goal.returns-then-code-eq200
 unfolding status_line digits
-returns-in-200 c = ap (λ (n : ℕ). status_line n (phrase_of n)) (sym c.in-200.is ∙ c.as_u16.ensures.value)
+returns-then-code-eq200 c = ap (λ (n : ℕ). status_line n (phrase_of n)) (sym c.if-code-eq200.true ∙ c.as_u16-code.ensures.value)
 
-pub returns-in-400 : goal.returns-in-400
+pub returns-then-code-eq400 : goal.returns-then-code-eq400
 unfolding status_line digits
-returns-in-400 c = ap (λ (n : ℕ). status_line n (phrase_of n)) (sym c.in-400.is ∙ c.as_u16.ensures.value)
+returns-then-code-eq400 c = ap (λ (n : ℕ). status_line n (phrase_of n)) (sym c.if-code-eq400.true ∙ c.as_u16-code.ensures.value)
 
-pub returns-in_default : goal.returns-in_default
+pub returns-else-code-eq400 : goal.returns-else-code-eq400
 unfolding status_line digits
-returns-in_default c = ?
+returns-else-code-eq400 c =
+    elim c.requires [
+      | inl ok ↦ absurd (c.if-code-eq200.false (c.as_u16-code.ensures.value ∙ ok))
+      | inr other ↦ elim other [
+          | inl bad ↦ absurd (c.if-code-eq400.false (c.as_u16-code.ensures.value ∙ bad))
+          | inr error ↦ ap (λ (n : ℕ). status_line n (phrase_of n)) (sym error)
+        ]
+    ]
