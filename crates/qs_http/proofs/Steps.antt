@@ -9,7 +9,8 @@ use Rattle.qs_http.specs.declared.stage.Step.{Step}
 use Rattle.qs_http.specs.declared.stage.Step.TheVariants as step
 use Rattle.qs_http.specs.declared.fixed_reply.Fixed.{Fixed}
 use Rattle.qs_http.specs.declared.fixed_reply.Fixed.TheVariants.{HeadTooLarge, BadRequest, Memory}
-use Rattle.qs_http.specs.Outcome.{Asked, Outcome, More, Ready, Refused}
+use Rattle.qs_http.specs.declared.request.Request.{Request}
+use Rattle.qs_http.specs.Outcome.{Outcome, More, Ready, Refused}
 use Rattle.qs_http.specs.HeadEnd.{later, head_end, head_limit, without_leading, leading}
 use Rattle.qs_http.specs.Place.{place_after, ends_head, end_from, place_from}
 use Rattle.qs_http.specs.Head.{Head, is_get, is_post, at_query, at_update, at_data, body_length}
@@ -293,11 +294,11 @@ ends_more bytes more whole seen is x =
   where
     seen_done : (whole : List ℕ) (outcome : Outcome) → (outcome ≡ More → ⊥) → seen_at whole outcome ≡ Done outcome
     seen_done whole More done = absurd (done refl)
-    seen_done whole (Ready asked) done = refl
+    seen_done whole (Ready request) done = refl
     seen_done whole (Refused fixed) done = refl
 
-pub ends_ready : (bytes : List ℕ) (asked : Asked) → IsRequestOf bytes (Ready asked) → EndsAt bytes (Done (Ready asked))
-ends_ready bytes asked is = inl (Ready asked, is, (λ e. cc), refl)
+pub ends_ready : (bytes : List ℕ) (request : Request) → IsRequestOf bytes (Ready request) → EndsAt bytes (Done (Ready request))
+ends_ready bytes request is = inl (Ready request, is, (λ e. cc), refl)
 
 pub ends_refused : (bytes : List ℕ) (fixed : Fixed) → IsRequestOf bytes (Refused fixed) ⊎ (fixed ≡ Memory) → EndsAt bytes (Done (Refused fixed))
 ends_refused bytes fixed is =
@@ -321,8 +322,8 @@ front_and_rest bytes piece front joined room front_is joined_is =
 stands_on : (bytes piece : List ℕ) (old new : Seen) (outcome : Outcome) → IsRequestOf bytes outcome → old ≡ seen_at bytes outcome
     → Feeds old piece new → StandsAt (bytes ++ piece) new
 stands_on bytes piece old new More is old_is feeds = subst (λ (s : Seen). Feeds s piece new) old_is feeds
-stands_on bytes piece old new (Ready asked) is old_is feeds =
-    inl (Ready asked, request_kept bytes piece (Ready asked) is (λ e. cc), subst (λ (s : Seen). Feeds s piece new) old_is feeds)
+stands_on bytes piece old new (Ready request) is old_is feeds =
+    inl (Ready request, request_kept bytes piece (Ready request) is (λ e. cc), subst (λ (s : Seen). Feeds s piece new) old_is feeds)
 stands_on bytes piece old new (Refused fixed) is old_is feeds =
     inl (Refused fixed, request_kept bytes piece (Refused fixed) is (λ e. cc), subst (λ (s : Seen). Feeds s piece new) old_is feeds)
 

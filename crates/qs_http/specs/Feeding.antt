@@ -11,7 +11,7 @@ pub data Seen : Type 0 where
 
 abbrev pub seen_at : List ℕ → Outcome → Seen
 seen_at bytes More = Reading bytes
-seen_at bytes (Ready asked) = Done (Ready asked)
+seen_at bytes (Ready request) = Done (Ready request)
 seen_at bytes (Refused fixed) = Done (Refused fixed)
 
 -- what the bytes come to, or no memory was found for them

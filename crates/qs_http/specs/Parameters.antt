@@ -5,7 +5,8 @@ use Rattle.std.specs.Str.{bytes_eq}
 use Rattle.std.specs.Str.Lossy.{utf8_lossy}
 use Rattle.form_urlencoded.specs.Form.{raw_pairs, decode}
 use Rattle.qs_http.specs.declared.fixed_reply.Fixed.TheVariants.{BadRequest}
-use Rattle.qs_http.specs.Outcome.{Asked, Outcome, Ready, Refused}
+use Rattle.qs_http.specs.declared.request.Request.{Request}
+use Rattle.qs_http.specs.Outcome.{Outcome, Ready, Refused}
 
 -- a name or a value, decoded; what isn't UTF-8 is read as U+FFFD
 abbrev pub decoded : List ℕ → List ℕ
@@ -46,11 +47,11 @@ unfoldable pub has_graph : List ℕ → Bool
 has_graph text = list_any (λ p. is_graph_name p.0) (pairs_of text)
 
 -- what a text asks, where there is one
-abbrev pub of_text : (List ℕ → Asked) → Option (List ℕ) → Outcome
+abbrev pub of_text : (List ℕ → Request) → Option (List ℕ) → Outcome
 of_text asks None = Refused BadRequest
 of_text asks (Some text) = Ready (asks text)
 
 -- the parameters hold exactly one pair of that name, and no graph is chosen there or in the target
-unfoldable pub of_pairs : List ℕ → (List ℕ → Asked) → List ℕ → List ℕ → Outcome
+unfoldable pub of_pairs : List ℕ → (List ℕ → Request) → List ℕ → List ℕ → Outcome
 of_pairs name asks pairs target =
     if has_graph pairs || has_graph target then Refused BadRequest else of_text asks (only_value name pairs)

@@ -5,7 +5,8 @@ use Rattle.std.specs.Str.{is_utf8}
 use Rattle.httparse.specs.Grammar.{RequestHead, ReadsRequest}
 use Rattle.qs_http.specs.declared.fixed_reply.Fixed.{Fixed}
 use Rattle.qs_http.specs.declared.fixed_reply.Fixed.TheVariants.{BadRequest, HeadTooLarge}
-use Rattle.qs_http.specs.Outcome.{Query, Update, Dump, Outcome, More, Ready, Refused}
+use Rattle.qs_http.specs.declared.request.Request.TheVariants.{Query, Update, Dump}
+use Rattle.qs_http.specs.Outcome.{Outcome, More, Ready, Refused}
 use Rattle.qs_http.specs.HeadEnd.{head_end, head_limit, without_leading}
 use Rattle.qs_http.specs.Head.{Head, plain_head, is_get, at_query, at_data, is_form, body_length, parameters_of}
 use Rattle.qs_http.specs.Checks.{first_due, head_checks}

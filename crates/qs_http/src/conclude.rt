@@ -11,6 +11,7 @@ use crate::parameters::{names_graph, text_of_pairs};
 use crate::request::Request;
 use crate::stage::Step;
 use httparse::spans::{EMPTY_HEADER_SPAN, HeaderSpan};
+use qs_terms::Text;
 use std::alloc::Global;
 
 /// What the bytes come to, whose head ends there.
@@ -104,13 +105,13 @@ fn ask_body(alloc: Global, head: &Head<'_>, body: &[u8]) -> Result<Request, Fixe
 }
 
 /// The bytes as a text.
-fn text_of(alloc: Global, bytes: &[u8]) -> Result<String, Fixed>
+fn text_of(alloc: Global, bytes: &[u8]) -> Result<Text, Fixed>
     ensures { IsUtf8Text bytes.now result }
 {
     let Ok(text) = str::from_utf8(bytes) else {
         return Err(Fixed::BadRequest);
     };
-    match String::from_str(alloc, text) {
+    match Text::new(alloc, text) {
         Ok(text) => Ok(text),
         Err(_) => Err(Fixed::Memory),
     }

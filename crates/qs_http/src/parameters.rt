@@ -1,17 +1,18 @@
-ghost use Rattle.std.specs.Prelude.{◌≡◌, List, ℕ, IfOk, option_map, string_bytes};
+ghost use Rattle.std.specs.Prelude.{◌≡◌, List, ℕ, IfOk};
 ghost use Rattle.std.specs.Str.{bytes_eq};
-ghost use Rattle.qs_http.specs.Outcome.{Asked};
+ghost use Rattle.qs_http.specs.declared.request.Request.{Request};
 ghost use Rattle.qs_http.specs.Parameters.{decoded, is_graph_name, has_graph, only_value, of_pairs};
 ghost use Rattle.qs_http.specs.Stage.{IsText};
 
 use crate::fixed_reply::Fixed;
 use form_urlencoded::{decode, raw_pairs};
+use qs_terms::Text;
 use std::alloc::{AllocError, Global};
 
 /// The text of the one pair of that name, where no graph is chosen there or in the target.
 #[tactic(auto, unfolding(crate::specs::Parameters::of_pairs))]
-pub fn text_of_pairs(alloc: Global, name: &[u8], pairs: &[u8], target: &[u8]) -> Result<String, Fixed>
-    ensures { (asks : List ℕ → Asked) → IsText asks (of_pairs name.now asks pairs.now target.now) result }
+pub fn text_of_pairs(alloc: Global, name: &[u8], pairs: &[u8], target: &[u8]) -> Result<Text, Fixed>
+    ensures { (asks : List ℕ → Request) → IsText asks (of_pairs name.now asks pairs.now target.now) result }
 {
     if names_graph(alloc, pairs)? || names_graph(alloc, target)? {
         return Err(Fixed::BadRequest);
@@ -49,8 +50,8 @@ fn is_graph_name(alloc: Global, name: &[u8]) -> Result<bool, AllocError>
 
 /// The value of the one pair of that name, decoded; None where there isn't exactly one.
 #[tactic(auto, unfolding(crate::specs::Parameters::only_value))]
-fn only_value(alloc: Global, name: &[u8], text: &[u8]) -> Result<Option<String>, AllocError>
-    ensures { IfOk result (λ value. option_map string_bytes value ≡ only_value name.now text.now) }
+fn only_value(alloc: Global, name: &[u8], text: &[u8]) -> Result<Option<Text>, AllocError>
+    ensures { IfOk result (λ value. value ≡ only_value name.now text.now) }
 {
     let mut found: Option<&[u8]> = None;
     for (label, value) in raw_pairs(text) {
@@ -62,7 +63,7 @@ fn only_value(alloc: Global, name: &[u8], text: &[u8]) -> Result<Option<String>,
         }
     }
     match found {
-        Some(value) => Ok(Some(decode(alloc, value)?.into_owned(alloc)?)),
+        Some(value) => Ok(Some(Text::from(decode(alloc, value)?.into_owned(alloc)?))),
         None => Ok(None),
     }
 }

@@ -1,4 +1,5 @@
-ghost use Rattle.std.specs.Prelude.{◌≡◌, [], option_map};
+ghost use Rattle.std.specs.Prelude.{◌≡◌, []};
+ghost use Rattle.std.specs.Option.{option_copied};
 ghost use Rattle.qs_http.specs.Feeding.{Reading, Feeds};
 
 use crate::advance::advance;
@@ -45,7 +46,7 @@ impl Model for Session {
 }
 
 impl Session {
-    ghost use Rattle.qs_http.specs.Stage.{progress_of, request_in, asked};
+    ghost use Rattle.qs_http.specs.Stage.{progress_of, request_in};
 
     /// A session that has read nothing. It takes no memory.
     pub fn new(alloc: Global) -> Self
@@ -83,7 +84,7 @@ impl Session {
 
     /// The request, once it is ready.
     pub fn request(&self) -> Option<&Request>
-        ensures { option_map (λ request. asked request.now) result ≡ request_in self.now }
+        ensures { option_copied result ≡ request_in self.now }
     {
         match &self.stage {
             Stage::Ready(request) => Some(request),

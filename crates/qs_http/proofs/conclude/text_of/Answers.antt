@@ -10,5 +10,5 @@ not_text bytes never false is = is
 pub returns-in_default : goal.returns-in_default
 returns-in_default c = inl (not_text c.args.bytes.now c.in_default.ensures.cases.0 _ refl, refl)
 
-pub returns-in-Ok-from_str : goal.returns-in-Ok-from_str
-returns-in-Ok-from_str c = (is_utf8-from_IsUtf8 _ c.in-Ok.ensures.cases.1, c.in-Ok-from_str.ensures.ok ∙ c.in-Ok.ensures.cases.0)
+pub returns-in-Ok-new : goal.returns-in-Ok-new
+returns-in-Ok-new c = (is_utf8-from_IsUtf8 _ c.in-Ok.ensures.cases.1, c.in-Ok-new.ensures ∙ c.in-Ok.ensures.cases.0)
