@@ -1,5 +1,5 @@
 -- The search for the head's end goes on where it stopped.
-use Rattle.std.proofs.Common.{suc, one-add, take, not, ◌||◌, ◌&&◌, ◌==◌, ◌≡◌, ℕ, ◌+◌, ◌<◌, ◌≤◌, Bool, true, false, List, [], ◌∷◌, ◌++◌, length, get_or, drop, refl, ap, sym, ◌∙◌, add-one, arith, drop-cons, if◌then◌else◌, Option, None, Some}
+use Rattle.std.proofs.Common.{suc, one-add, take, not, ◌||◌, ◌&&◌, ◌==◌, ◌≡◌, ℕ, ◌+◌, ◌<◌, Bool, true, false, List, [], ◌∷◌, ◌++◌, length, get_or, drop, refl, ap, sym, ◌∙◌, arith, if◌then◌else◌, Option, None, Some}
 use Rattle.std.proofs.lemmas.List.{drop_more}
 use Rattle.std.proofs.lemmas.Bool.{cond-true, cond-false, true≢false}
 use Rattle.qs_http.specs.declared.head_end.Place.{Place}
@@ -64,7 +64,7 @@ place_on_at place xs i below =
 -- two pieces
 append_case : (place : Place) (x : ℕ) (xs ys : List ℕ) (ends : Bool) → ends_head place x ≡ ends
     → (end_from (place_after place x) xs ≡ None
-      → end_from (place_after place x) (xs ++ ys) ≡ later (length xs) (end_from (place_from (place_after place x) xs) ys))
+    → end_from (place_after place x) (xs ++ ys) ≡ later (length xs) (end_from (place_from (place_after place x) xs) ys))
     → end_from place (x ∷ xs) ≡ None
     → end_from place (x ∷ (xs ++ ys)) ≡ later (suc (length xs)) (end_from (place_from (place_after place x) xs) ys)
 append_case place x xs ys true is rest none = absurd (Some-None (sym (end_from-found place x xs is) ∙ none))

@@ -1,8 +1,7 @@
 -- The bytes come to one thing, and it stays once it has come.
-use Rattle.std.proofs.Common.{◌≡◌, ◌≢◌, ◌∙◌, ap, sym, refl, ℕ, ◌<◌, ◌≤◌, suc, List, [], ◌++◌, length, take, Option, None, Some, arith}
-use Rattle.httparse.specs.Grammar.{RequestHead, ReadsRequest}
+use Rattle.std.proofs.Common.{◌≡◌, ◌∙◌, ap, sym, refl, ℕ, List, [], take, Option, None, Some, arith}
 use Rattle.httparse.proofs.GrammarLemmas.{request_unique}
-use Rattle.qs_http.specs.Outcome.{Outcome, More, Ready, Refused}
+use Rattle.qs_http.specs.Outcome.{Outcome}
 use Rattle.qs_http.specs.HeadEnd.{head_end, without_leading}
 use Rattle.qs_http.specs.Head.{Head, plain_head}
 use Rattle.qs_http.specs.RequestOf.{IsReading, ReadsHead, outcome_at, IsRequestOf}

@@ -15,7 +15,7 @@ use Rattle.qs_http.specs.HeadEnd.{later, head_end, head_limit, without_leading, 
 use Rattle.qs_http.specs.Place.{place_after, ends_head, end_from, place_from}
 use Rattle.qs_http.specs.Head.{Head, is_get, is_post, at_query, at_update, at_data, body_length}
 use Rattle.qs_http.specs.Checks.{first_due, head_checks, lacks_host, is_elsewhere, misses_query, misses_update, misses_data, lacks_length, has_bad_length, has_long_body}
-use Rattle.qs_http.specs.RequestOf.{IsReading, ReadsHead, outcome_at, of_reading, of_sound_head, of_body, of_get, unless_due, IsRequestOf}
+use Rattle.qs_http.specs.RequestOf.{IsReading, ReadsHead, outcome_at, of_reading, of_sound_head, of_body, unless_due, IsRequestOf}
 use Rattle.qs_http.specs.Stage.{AwaitsBody, EndsAt, IsStep, IsHeadStep}
 use Rattle.qs_http.specs.Feeding.{Seen, Reading, Done, seen_at, StandsAt, Feeds, FeedsAll}
 use Rattle.qs_http.specs.Laws.{joined}
@@ -140,7 +140,7 @@ head_goes_on bytes piece joined front before place found before_is none short pl
     let end_of : Place → Option ℕ = λ p. end_from p (take (head_limit - length bytes) piece) in
     let front_here : front ≡ take (head_limit - length bytes) piece = front_is ∙ ap (λ (k : ℕ). take (head_limit - k) piece) before_is in
     let found_here : end_from (place_from Leading bytes) (take (head_limit - length bytes) piece) ≡ found =
-        ap end_of (sym place_is) ∙ ap (end_from place) (sym front_here) ∙ sym found_is in
+    ap end_of (sym place_is) ∙ ap (end_from place) (sym front_here) ∙ sym found_is in
     ap head_end joined_is ∙ head_end-on bytes piece none short ∙ ap (later (length bytes)) found_here
     ∙ ap (λ (k : ℕ). later k found) (sym before_is)
 
@@ -177,18 +177,23 @@ none_due false fixed rest none = (refl, none)
 from_elsewhere : (h : Head) → is_elsewhere h ≡ false → not (at_query h || at_update h || at_data h) ≡ false
 unfolding is_elsewhere
 from_elsewhere h e = e
+
 from_query : (h : Head) → misses_query h ≡ false → (at_query h && not (is_get h || is_post h)) ≡ false
 unfolding misses_query
 from_query h e = e
+
 from_update : (h : Head) → misses_update h ≡ false → (at_update h && not (is_post h)) ≡ false
 unfolding misses_update
 from_update h e = e
+
 from_data : (h : Head) → misses_data h ≡ false → (at_data h && not (is_get h)) ≡ false
 unfolding misses_data
 from_data h e = e
+
 from_long : (h : Head) → has_long_body h ≡ false → (is_post h && ltb 4194304 (body_length h)) ≡ false
 unfolding has_long_body
 from_long h e = e
+
 no_path : (query update data_path get : Bool) → get ≡ false → not (query || update || data_path) ≡ false
     → (query && not (get || false)) ≡ false → (update && not false) ≡ false → (data_path && not get) ≡ false → ⊥
 no_path true u d false g e q v w = true≢false q
@@ -274,13 +279,13 @@ head_ends bytes piece front last before room found place before_is none short pl
     let cut : take found (take room piece) ≡ take found piece = take-take found room piece few in
     let size : length (take found piece) ≡ found = omega (arith, length-take found piece) in
     let whole : take (head_limit - length bytes) last ≡ take found (take room piece) =
-        ap (take (head_limit - length bytes)) last_is
-        ∙ take_all (head_limit - length bytes) (take found piece) (omega (arith, size)) ∙ sym cut in
+    ap (take (head_limit - length bytes)) last_is
+    ∙ take_all (head_limit - length bytes) (take found piece) (omega (arith, size)) ∙ sym cut in
     let goes : head_end (bytes ++ last) ≡ later (length bytes) (Some found) =
-        head_end-on bytes last none short
-        ∙ ap (λ (p : Place). later (length bytes) (end_from p (take (head_limit - length bytes) last))) (sym place_is)
-        ∙ ap (λ (l : List ℕ). later (length bytes) (end_from place l)) whole
-        ∙ ap (later (length bytes)) (end_from-front place (take room piece) found ends) in
+    head_end-on bytes last none short
+    ∙ ap (λ (p : Place). later (length bytes) (end_from p (take (head_limit - length bytes) last))) (sym place_is)
+    ∙ ap (λ (l : List ℕ). later (length bytes) (end_from place l)) whole
+    ∙ ap (later (length bytes)) (end_from-front place (take room piece) found ends) in
     let last_size : length last ≡ found = ap length last_is ∙ size in
     (goes ∙ ap (λ (k : ℕ). Some k) (omega (arith, length-append bytes last, last_size)), many)
 

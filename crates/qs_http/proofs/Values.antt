@@ -7,7 +7,7 @@ use Rattle.std.specs.Str.Parse.{digits_value_after}
 use Rattle.std.specs.Char.{digit_value}
 use Rattle.httparse.specs.declared.spans.HeaderSpan.{HeaderSpan}
 use Rattle.httparse.specs.Spans.{span_bytes, header_bytes}
-use Rattle.qs_http.specs.Head.{values_in, first_of}
+use Rattle.qs_http.specs.Head.{values_in}
 
 pub values_in-append : (name : List ℕ) (xs ys : List (List ℕ × List ℕ)) → values_in name (xs ++ ys) ≡ values_in name xs ++ values_in name ys
 unfolding values_in
@@ -24,7 +24,7 @@ values_in-one name f = by_case (str_eq_ignore_ascii_case name f.0)
 pub values_more : (name buf : List ℕ) (fields : List HeaderSpan) (i : ℕ) (d : HeaderSpan) → i < length fields
     → values_in name (map (header_bytes buf) (take (i + 1) fields))
     ≡ values_in name (map (header_bytes buf) (take i fields))
-      ++ (if str_eq_ignore_ascii_case name (span_bytes buf (get_or fields i d).name) then span_bytes buf (get_or fields i d).value ∷ [] else [])
+    ++ (if str_eq_ignore_ascii_case name (span_bytes buf (get_or fields i d).name) then span_bytes buf (get_or fields i d).value ∷ [] else [])
 values_more name buf fields i d below =
     ap (λ (l : List HeaderSpan). values_in name (map (header_bytes buf) l)) (take_more fields i d below)
     ∙ ap (values_in name) (map-append (header_bytes buf) (take i fields) (get_or fields i d ∷ []))
@@ -39,7 +39,7 @@ pub values_yes : (name buf : List ℕ) (fields : List HeaderSpan) (i : ℕ) (d :
 values_yes name buf fields i d label value below label_is value_is same =
     values_more name buf fields i d below
     ∙ ap (λ (b : Bool). values_in name (map (header_bytes buf) (take i fields)) ++ (if b then span_bytes buf (get_or fields i d).value ∷ [] else []))
-      (ap (str_eq_ignore_ascii_case name) (sym label_is) ∙ sym same)
+    (ap (str_eq_ignore_ascii_case name) (sym label_is) ∙ sym same)
     ∙ ap (λ (v : List ℕ). values_in name (map (header_bytes buf) (take i fields)) ++ v ∷ []) (sym value_is)
 
 pub values_no : (name buf : List ℕ) (fields : List HeaderSpan) (i : ℕ) (d : HeaderSpan) (label : List ℕ) → i < length fields
@@ -49,7 +49,7 @@ pub values_no : (name buf : List ℕ) (fields : List HeaderSpan) (i : ℕ) (d : 
 values_no name buf fields i d label below label_is other =
     values_more name buf fields i d below
     ∙ ap (λ (b : Bool). values_in name (map (header_bytes buf) (take i fields)) ++ (if b then span_bytes buf (get_or fields i d).value ∷ [] else []))
-      (ap (str_eq_ignore_ascii_case name) (sym label_is) ∙ sym other)
+    (ap (str_eq_ignore_ascii_case name) (sym label_is) ∙ sym other)
     ∙ append-nil _
 
 pub digits_least : (n : ℕ) (digits : List ℕ) → n ≤ digits_value_after 10 n digits

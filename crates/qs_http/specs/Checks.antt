@@ -1,5 +1,5 @@
 -- The checks of a head that was parsed, in their order.
-use Rattle.std.specs.Prelude.{ℕ, Bool, ◌&&◌, ◌||◌, not, ◌==◌, nat_lt, if◌then◌else◌, List, [], ◌∷◌, length, codes, Option, None, Some}
+use Rattle.std.specs.Prelude.{Bool, ◌&&◌, ◌||◌, not, ◌==◌, nat_lt, if◌then◌else◌, List, [], ◌∷◌, length, codes, Option, None, Some}
 use Rattle.qs_http.specs.declared.fixed_reply.Fixed.{Fixed}
 use Rattle.qs_http.specs.declared.fixed_reply.Fixed.TheVariants.{BadRequest, NotFound, QueryMethod, UpdateMethod, DataMethod, NoLength, BodyTooLarge, MediaType}
 use Rattle.qs_http.specs.Head.{Head, values_of, has_one, first_of, is_get, is_post, at_query, at_update, at_data, is_form, is_direct, lengths, is_number, body_length}

@@ -1,5 +1,4 @@
 -- What a connection's bytes can come to.
-use Rattle.std.specs.Prelude.{ℕ}
 use Rattle.qs_http.specs.declared.fixed_reply.Fixed.{Fixed}
 use Rattle.qs_http.specs.declared.request.Request.{Request}
 

@@ -24,7 +24,7 @@ of_body h body =
     if is_form h
     then (if at_query h then of_pairs (codes "query") Query body (parameters_of h) else of_pairs (codes "update") Update body (parameters_of h))
     else (if is_utf8 body && not (has_graph (parameters_of h))
-        then Ready (if at_query h then Query body else Update body) else Refused BadRequest)
+    then Ready (if at_query h then Query body else Update body) else Refused BadRequest)
 
 -- the sixth check on a GET
 unfoldable pub of_get : Head → Outcome

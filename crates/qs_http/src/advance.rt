@@ -87,7 +87,11 @@ fn advance_body(alloc: Global, bytes: Vec<u8>, end: usize, size: usize, piece: &
         return Stage::Refused(Fixed::Memory);
     };
     if piece.len() < room {
-        return Stage::Body { bytes: joined, end, size };
+        return Stage::Body {
+            bytes: joined,
+            end,
+            size,
+        };
     }
     finish(alloc, &joined, end, size)
 }

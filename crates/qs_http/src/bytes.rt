@@ -36,7 +36,11 @@ pub fn place_of(bytes: &[u8], byte: u8) -> usize
 pub fn front_of(bytes: &[u8], room: usize) -> &[u8]
     ensures { result.now ≡ take room bytes.now }
 {
-    if bytes.len() < room { bytes } else { &bytes[..room] }
+    if bytes.len() < room {
+        bytes
+    } else {
+        &bytes[..room]
+    }
 }
 
 /// Whether the bytes are digits, and at least one.

@@ -81,7 +81,9 @@ impl<'b> Head<'b> {
         requires { IsSound self.now }
         ensures { result ≡ lacks_length (plain self.now) }
     {
-        self.is_post() && (self.values(b"transfer-encoding").count != 0 || self.values(b"content-length").count == 0)
+        self.is_post()
+            && (self.values(b"transfer-encoding").count != 0
+                || self.values(b"content-length").count == 0)
     }
 
     #[tactic(auto, unfolding(crate::specs::Checks::has_bad_length))]
@@ -106,6 +108,7 @@ impl<'b> Head<'b> {
         requires { IsSound self.now }
         ensures { result ≡ has_other_media (plain self.now) }
     {
-        self.is_post() && !(self.values(b"content-type").count == 1 && (self.is_form() || self.is_direct()))
+        self.is_post()
+            && !(self.values(b"content-type").count == 1 && (self.is_form() || self.is_direct()))
     }
 }

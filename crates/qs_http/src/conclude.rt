@@ -26,7 +26,11 @@ pub fn conclude(alloc: Global, bytes: &[u8], end: usize) -> Step
     let Some(spans) = read_head(head, &mut fields) else {
         return Step::Refused(Fixed::BadRequest);
     };
-    let head = Head { bytes: head, spans, fields: &fields[..spans.headers] };
+    let head = Head {
+        bytes: head,
+        spans,
+        fields: &fields[..spans.headers],
+    };
     step_of_head(alloc, &head, &bytes[end..])
 }
 
@@ -101,7 +105,11 @@ fn ask_body(alloc: Global, head: &Head<'_>, body: &[u8]) -> Result<Request, Fixe
         Ok(text) => text,
         Err(fixed) => return Err(fixed),
     };
-    if head.at_query() { Ok(Request::Query(text)) } else { Ok(Request::Update(text)) }
+    if head.at_query() {
+        Ok(Request::Query(text))
+    } else {
+        Ok(Request::Update(text))
+    }
 }
 
 /// The bytes as a text.

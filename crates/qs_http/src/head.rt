@@ -97,7 +97,11 @@ impl<'b> Head<'b> {
     {
         let target = self.spans.path.of(self.bytes);
         let mark = place_of(target, b'?');
-        if mark < target.len() { &target[mark + 1..] } else { &[] }
+        if mark < target.len() {
+            &target[mark + 1..]
+        } else {
+            &[]
+        }
     }
 
     #[tactic(auto, unfolding(crate::specs::Head::at_query))]
@@ -129,7 +133,10 @@ impl<'b> Head<'b> {
         requires { IsSound self.now }
         ensures { AreValues result (values_of name.now (plain self.now)) }
     {
-        let mut found = Values { count: 0, first: &[] };
+        let mut found = Values {
+            count: 0,
+            first: &[],
+        };
         for field in self.fields {
             if is_same_word(name, field.name.of(self.bytes)) {
                 found = found.and(field.value.of(self.bytes));

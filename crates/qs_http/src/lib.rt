@@ -10,6 +10,8 @@ mod bytes;
 mod checks;
 mod conclude;
 mod fixed_reply;
+#[cfg(test)]
+mod growth;
 mod head;
 mod head_end;
 mod laws;

@@ -42,10 +42,12 @@ fn is_graph_name(alloc: Global, name: &[u8]) -> Result<bool, AllocError>
 {
     let text = decode(alloc, name)?;
     let text = text.as_bytes();
-    Ok(text == b"default-graph-uri".as_slice()
-        || text == b"named-graph-uri".as_slice()
-        || text == b"using-graph-uri".as_slice()
-        || text == b"using-named-graph-uri".as_slice())
+    Ok(
+        text == b"default-graph-uri".as_slice()
+            || text == b"named-graph-uri".as_slice()
+            || text == b"using-graph-uri".as_slice()
+            || text == b"using-named-graph-uri".as_slice(),
+    )
 }
 
 /// The value of the one pair of that name, decoded; None where there isn't exactly one.

@@ -8,7 +8,12 @@ use http::StatusCode;
 use std::alloc::{AllocError, Global};
 
 /// The whole bytes of a reply with that status, type and body. The one error is want of memory.
-pub fn reply(alloc: Global, status: StatusCode, media: Media, body: &[u8]) -> Result<Vec<u8>, AllocError>
+pub fn reply(
+    alloc: Global,
+    status: StatusCode,
+    media: Media,
+    body: &[u8],
+) -> Result<Vec<u8>, AllocError>
     requires { IsReplyStatus status }
     ensures { IfOk result (λ bytes. bytes.items ≡ reply_of status media body.now) }
 {
@@ -67,15 +72,25 @@ fn fixed_text(fixed: Fixed) -> &'static str
 {
     match fixed {
         Fixed::NoContent => "HTTP/1.1 204 No Content\r\nConnection: close\r\n\r\n",
-        Fixed::BadRequest => "HTTP/1.1 400 Bad Request\r\nConnection: close\r\nContent-Type: text/plain; charset=utf-8\r\nContent-Length: 12\r\n\r\nBad Request\n",
-        Fixed::NotFound => "HTTP/1.1 404 Not Found\r\nConnection: close\r\nContent-Type: text/plain; charset=utf-8\r\nContent-Length: 10\r\n\r\nNot Found\n",
-        Fixed::QueryMethod => "HTTP/1.1 405 Method Not Allowed\r\nConnection: close\r\nAllow: GET, POST\r\nContent-Type: text/plain; charset=utf-8\r\nContent-Length: 19\r\n\r\nMethod Not Allowed\n",
-        Fixed::UpdateMethod => "HTTP/1.1 405 Method Not Allowed\r\nConnection: close\r\nAllow: POST\r\nContent-Type: text/plain; charset=utf-8\r\nContent-Length: 19\r\n\r\nMethod Not Allowed\n",
-        Fixed::DataMethod => "HTTP/1.1 405 Method Not Allowed\r\nConnection: close\r\nAllow: GET\r\nContent-Type: text/plain; charset=utf-8\r\nContent-Length: 19\r\n\r\nMethod Not Allowed\n",
-        Fixed::NoLength => "HTTP/1.1 411 Length Required\r\nConnection: close\r\nContent-Type: text/plain; charset=utf-8\r\nContent-Length: 16\r\n\r\nLength Required\n",
-        Fixed::BodyTooLarge => "HTTP/1.1 413 Payload Too Large\r\nConnection: close\r\nContent-Type: text/plain; charset=utf-8\r\nContent-Length: 18\r\n\r\nPayload Too Large\n",
-        Fixed::MediaType => "HTTP/1.1 415 Unsupported Media Type\r\nConnection: close\r\nContent-Type: text/plain; charset=utf-8\r\nContent-Length: 23\r\n\r\nUnsupported Media Type\n",
-        Fixed::HeadTooLarge => "HTTP/1.1 431 Request Header Fields Too Large\r\nConnection: close\r\nContent-Type: text/plain; charset=utf-8\r\nContent-Length: 32\r\n\r\nRequest Header Fields Too Large\n",
-        Fixed::Memory => "HTTP/1.1 500 Internal Server Error\r\nConnection: close\r\nContent-Type: text/plain; charset=utf-8\r\nContent-Length: 17\r\n\r\nF9 out of memory\n",
+        Fixed::BadRequest =>
+            "HTTP/1.1 400 Bad Request\r\nConnection: close\r\nContent-Type: text/plain; charset=utf-8\r\nContent-Length: 12\r\n\r\nBad Request\n",
+        Fixed::NotFound =>
+            "HTTP/1.1 404 Not Found\r\nConnection: close\r\nContent-Type: text/plain; charset=utf-8\r\nContent-Length: 10\r\n\r\nNot Found\n",
+        Fixed::QueryMethod =>
+            "HTTP/1.1 405 Method Not Allowed\r\nConnection: close\r\nAllow: GET, POST\r\nContent-Type: text/plain; charset=utf-8\r\nContent-Length: 19\r\n\r\nMethod Not Allowed\n",
+        Fixed::UpdateMethod =>
+            "HTTP/1.1 405 Method Not Allowed\r\nConnection: close\r\nAllow: POST\r\nContent-Type: text/plain; charset=utf-8\r\nContent-Length: 19\r\n\r\nMethod Not Allowed\n",
+        Fixed::DataMethod =>
+            "HTTP/1.1 405 Method Not Allowed\r\nConnection: close\r\nAllow: GET\r\nContent-Type: text/plain; charset=utf-8\r\nContent-Length: 19\r\n\r\nMethod Not Allowed\n",
+        Fixed::NoLength =>
+            "HTTP/1.1 411 Length Required\r\nConnection: close\r\nContent-Type: text/plain; charset=utf-8\r\nContent-Length: 16\r\n\r\nLength Required\n",
+        Fixed::BodyTooLarge =>
+            "HTTP/1.1 413 Payload Too Large\r\nConnection: close\r\nContent-Type: text/plain; charset=utf-8\r\nContent-Length: 18\r\n\r\nPayload Too Large\n",
+        Fixed::MediaType =>
+            "HTTP/1.1 415 Unsupported Media Type\r\nConnection: close\r\nContent-Type: text/plain; charset=utf-8\r\nContent-Length: 23\r\n\r\nUnsupported Media Type\n",
+        Fixed::HeadTooLarge =>
+            "HTTP/1.1 431 Request Header Fields Too Large\r\nConnection: close\r\nContent-Type: text/plain; charset=utf-8\r\nContent-Length: 32\r\n\r\nRequest Header Fields Too Large\n",
+        Fixed::Memory =>
+            "HTTP/1.1 500 Internal Server Error\r\nConnection: close\r\nContent-Type: text/plain; charset=utf-8\r\nContent-Length: 17\r\n\r\nF9 out of memory\n",
     }
 }

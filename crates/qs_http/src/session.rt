@@ -54,7 +54,10 @@ impl Session {
     {
         Session {
             alloc,
-            stage: Stage::Head { bytes: Vec::new(alloc), place: Place::Leading },
+            stage: Stage::Head {
+                bytes: Vec::new(alloc),
+                place: Place::Leading,
+            },
         }
     }
 

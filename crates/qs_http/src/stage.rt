@@ -6,9 +6,16 @@ use crate::request::Request;
 #[derive(Drop)]
 pub enum Stage {
     /// The head hasn't ended.
-    Head { bytes: Vec<u8>, place: Place },
+    Head {
+        bytes: Vec<u8>,
+        place: Place,
+    },
     /// The head ends there, and a body of that size is due.
-    Body { bytes: Vec<u8>, end: usize, size: usize },
+    Body {
+        bytes: Vec<u8>,
+        end: usize,
+        size: usize,
+    },
     /// The bytes ask this.
     Ready(Request),
     /// The bytes are refused.

@@ -1,4 +1,4 @@
-use Rattle.std.proofs.Common.{◌≡◌, ◌∙◌, ap, sym, subst, arith, inl, length, take, List, ℕ, ◌<◌, ◌+◌, ◌++◌, ◌-◌, length-append, length-take}
+use Rattle.std.proofs.Common.{◌≡◌, ◌∙◌, ap, sym, subst, arith, inl, length, List, ℕ, ◌<◌, ◌+◌, ◌++◌, ◌-◌, length-append, length-take}
 use Rattle.std.proofs.lemmas.List.{take_all}
 use Rattle.qs_http.specs.Outcome.{More}
 use Rattle.qs_http.specs.Stage.{AwaitsBody}
@@ -19,7 +19,7 @@ returns-then-piece-room-clause-sound c =
     let awaits = awaits-kept c.args.bytes.items c.front_of.result.now c.args.end c.args.size c.requires.0 in
     let all : c.front_of.result.now ≡ c.args.piece.now = c.front_of.ensures ∙ take_all _ c.args.piece.now (omega arith) in
     let sum : length c.in-Ok.joined.items < c.args.end + c.args.size =
-        omega (arith, ap length c.in-Ok.ensures, length-append c.args.bytes.items c.front_of.result.now, ap length all) in
+    omega (arith, ap length c.in-Ok.ensures, length-append c.args.bytes.items c.front_of.result.now, ap length all) in
     (subst (λ (l : List ℕ). AwaitsBody l c.args.end c.args.size) (sym c.in-Ok.ensures) awaits, sum, omega arith, omega arith)
 
 pub finish-requires-clause-awaits : goal.finish-requires-clause-awaits
@@ -29,8 +29,14 @@ finish-requires-clause-awaits c =
 
 pub finish-requires-clause-whole : goal.finish-requires-clause-whole
 finish-requires-clause-whole c =
-    omega (arith, ap length c.deref.ensures.value, ap length c.in-Ok.ensures, length-append c.args.bytes.items c.front_of.result.now, ap length c.front_of.ensures,
-    length-take (c.args.end + c.args.size - c.len.result) c.args.piece.now)
+    omega (
+      arith,
+      ap length c.deref.ensures.value,
+      ap length c.in-Ok.ensures,
+      length-append c.args.bytes.items c.front_of.result.now,
+      ap length c.front_of.ensures,
+      length-take (c.args.end + c.args.size - c.len.result) c.args.piece.now,
+    )
 
 pub returns-clause-step : goal.returns-clause-step
 returns-clause-step c =

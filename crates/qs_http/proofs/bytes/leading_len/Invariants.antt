@@ -1,4 +1,4 @@
-use Rattle.std.proofs.Common.{◌≡◌, ℕ, ◌<◌, get_or, false, ◌==◌}
+use Rattle.std.proofs.Common.{◌≡◌, ℕ, ◌<◌, get_or, false}
 use Rattle.qs_http.specs.HeadEnd.{is_in_line}
 use Rattle.qs_http.proofs.bytes.leading_len.Given as goal
 

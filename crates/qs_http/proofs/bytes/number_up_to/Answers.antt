@@ -1,4 +1,4 @@
-use Rattle.std.proofs.Common.{arith, ◌∙◌, sym, ap, refl, drop, ◌*◌, ◌+◌, ℕ, List}
+use Rattle.std.proofs.Common.{arith, ap, drop, ◌*◌, ◌+◌, ℕ, List}
 use Rattle.std.proofs.lemmas.List.{drop_more}
 use Rattle.std.specs.Str.Parse.{digits_value_after}
 use Rattle.qs_http.proofs.Values.{digits_least}

@@ -1,8 +1,6 @@
-use Rattle.std.proofs.Common.{arith, rules, sym, ◌==◌}
+use Rattle.std.proofs.Common.{arith, sym, ◌==◌}
 use Rattle.std.proofs.lemmas.List.Sums.{position_or_len_is}
-use Rattle.std.proofs.lemmas.Grind.{common_steps}
 use Rattle.std.proofs.lemmas.Bool.Decides.{nat_tests}
-use Rattle.qs_http.specs.HeadEnd.{is_in_line}
 use Rattle.qs_http.proofs.bytes.place_of.Goals as goal
 
 pub returns-then-b-byte : goal.returns-then-b-byte

@@ -1,5 +1,4 @@
 use Rattle.std.proofs.Common.{◌≡◌, ℕ, ◌<◌, get_or, false, ◌==◌}
-use Rattle.qs_http.specs.HeadEnd.{is_in_line}
 use Rattle.qs_http.proofs.bytes.place_of.Given as goal
 
 abbrev pub invariant-loop-i : goal.invariant-loop-i

@@ -1,5 +1,4 @@
-use Rattle.std.proofs.Common.{◌≡◌, inl}
-use Rattle.qs_http.proofs.Steps.{step_from_parts, step_from_no_head}
+use Rattle.qs_http.proofs.Steps.{step_from_parts}
 use Rattle.qs_http.proofs.conclude.conclude.Goals as goal
 
 pub returns : goal.returns

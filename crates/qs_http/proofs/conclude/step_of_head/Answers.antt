@@ -1,4 +1,4 @@
-use Rattle.std.proofs.Common.{arith, ◌∙◌, sym}
+use Rattle.std.proofs.Common.{◌∙◌, sym}
 use Rattle.qs_http.specs.HeadView.{plain}
 use Rattle.qs_http.proofs.Steps.{sound_length}
 use Rattle.qs_http.proofs.conclude.step_of_head.Goals as goal

@@ -1,4 +1,4 @@
-use Rattle.std.proofs.Common.{◌≡◌, ◌∙◌, sym, ap, refl, inl, true, false, Bool, List, ℕ}
+use Rattle.std.proofs.Common.{◌≡◌, ◌∙◌, refl, inl, true, false, Bool, List, ℕ}
 use Rattle.std.specs.Str.{IsUtf8, is_utf8}
 use Rattle.std.proofs.lemmas.Str.{IsUtf8-from_is_utf8, is_utf8-from_IsUtf8}
 use Rattle.qs_http.proofs.conclude.text_of.Goals as goal

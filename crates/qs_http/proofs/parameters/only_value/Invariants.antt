@@ -1,4 +1,4 @@
-use Rattle.std.proofs.Common.{◌≡◌, ◌++◌, map, List, ℕ, Option, option_to_list, option_map}
+use Rattle.std.proofs.Common.{◌≡◌, ◌++◌, map, option_to_list, option_map}
 use Rattle.form_urlencoded.specs.Parse.{raw_pairs_left}
 use Rattle.qs_http.specs.Parameters.{decoded, decoded_pair, only, only_value, values_named}
 use Rattle.qs_http.proofs.parameters.only_value.Given as goal

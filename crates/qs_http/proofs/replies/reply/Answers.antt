@@ -1,5 +1,5 @@
-use Rattle.std.proofs.Common.{◌≡◌, ◌∙◌, ap, sym, ℕ, List, ◌++◌, []}
-use Rattle.qs_http.specs.Reply.{status_line, phrase_of, closing, with_body, reply_of}
+use Rattle.std.proofs.Common.{◌≡◌, ◌∙◌, ap, ℕ, List, ◌++◌, []}
+use Rattle.qs_http.specs.Reply.{status_line, phrase_of, closing, reply_of}
 use Rattle.qs_http.proofs.Parts.{three_parts}
 use Rattle.qs_http.proofs.replies.reply.Goals as goal
 

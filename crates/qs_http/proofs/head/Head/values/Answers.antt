@@ -1,4 +1,4 @@
-use Rattle.std.proofs.Common.{arith, ◌∙◌, sym, ap, refl, rules, map, take}
+use Rattle.std.proofs.Common.{arith, refl, map, take}
 use Rattle.httparse.specs.Spans.{header_bytes}
 use Rattle.qs_http.specs.Head.{values_in}
 use Rattle.qs_http.specs.HeadView.{AreValues}
