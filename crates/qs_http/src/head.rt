@@ -151,7 +151,7 @@ impl<'b> Head<'b> {
         requires { IsSound self.now }
         ensures { SomeIff result (body_length (plain self.now) ≤ 4194304) (body_length (plain self.now)) }
     {
-        number_up_to(self.values(b"content-length").first, 4194304)
+        number_up_to(self.values(b"content-length").first, BODY_LIMIT)
     }
 
     fn media(&self) -> &'b [u8]
