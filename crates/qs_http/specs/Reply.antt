@@ -14,7 +14,7 @@ line text = text ++ 13 ∷ 10 ∷ []
 abbrev pub phrase_of : ℕ → List ℕ
 phrase_of status = if status == 200 then codes "OK" else (if status == 400 then codes "Bad Request" else codes "Internal Server Error")
 
--- SPARQL 1.1 Query Results JSON Format, 5; N-Triples, 8; N-Quads, 8
+-- the media types of SPARQL 1.1 Query Results JSON, N-Triples and N-Quads
 abbrev pub media_text : Media → List ℕ
 media_text Results = codes "application/sparql-results+json"
 media_text NTriples = codes "application/n-triples"
