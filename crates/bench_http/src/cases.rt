@@ -32,7 +32,9 @@ fn media_of(kind: Kind) -> &'static str {
 /// A POST whose head is 16,384 bytes long, and whose body is of that size.
 pub fn request_of(alloc: Global, kind: Kind, size: usize) -> Result<Vec<u8>, AllocError> {
     let media = media_of(kind);
-    let front = format!(in alloc; "POST /query HTTP/1.1\r\nHost: e\r\nContent-Type: {media}\r\nContent-Length: {size}\r\nA: ")?;
+    let front = format!(in alloc;
+        "POST /query HTTP/1.1\r\nHost: e\r\nContent-Type: {media}\r\nContent-Length: {size}\r\nA: "
+    )?;
     let mut bytes = front.into_bytes();
     for _ in bytes.len()..16380 {
         bytes.push(b'a')?;
@@ -53,7 +55,11 @@ fn put_body(bytes: &mut Vec<u8>, front: &[u8], text: &[u8], size: usize) -> Resu
         if left == 0 {
             break;
         }
-        let part = if left < text.len() { &text[..left] } else { text };
+        let part = if left < text.len() {
+            &text[..left]
+        } else {
+            text
+        };
         bytes.extend_from_slice(part)?;
         left -= part.len();
     }
@@ -69,7 +75,11 @@ pub fn feed_all(alloc: Global, bytes: &[u8], piece: usize) -> Progress {
         if rest.is_empty() {
             break;
         }
-        let end = if piece < rest.len() { piece } else { rest.len() };
+        let end = if piece < rest.len() {
+            piece
+        } else {
+            rest.len()
+        };
         let (front, behind) = rest.split_at(end);
         progress = session.feed(front);
         rest = behind;

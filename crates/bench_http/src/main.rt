@@ -8,10 +8,9 @@ mod cases;
 
 use cases::{Kind, feed_all, request_of, write_reply};
 use qs_http::Progress;
-use std::env;
-use std::io;
 use std::rt::{Clock, Env};
 use std::time::Instant;
+use std::{env, io};
 
 const PIECES: [usize; 4] = [1, 64, 4096, 8388608];
 
@@ -38,7 +37,12 @@ fn size_of_args(rt: &(impl Env + AllocGlobal)) -> io::Result<Option<usize>> {
 }
 
 /// Prints a line for one kind of body and one cut.
-fn show(rt: &(impl Print + Clock + AllocGlobal), kind: Kind, size: Option<usize>, piece: usize) -> io::Result<()> {
+fn show(
+    rt: &(impl Print + Clock + AllocGlobal),
+    kind: Kind,
+    size: Option<usize>,
+    piece: usize,
+) -> io::Result<()> {
     let body = size.unwrap_or(4096);
     let bytes = request_of(rt.alloc(), kind, body)?;
     let mut least = u128::MAX;
@@ -50,7 +54,9 @@ fn show(rt: &(impl Print + Clock + AllocGlobal), kind: Kind, size: Option<usize>
     }
     match size {
         None => println!(rt; "{kind} of {body} bytes in pieces of {piece}: ready {ready}"),
-        Some(_) => println!(rt; "{kind} of {body} bytes in pieces of {piece}: ready {ready}, {least} us"),
+        Some(_) => println!(rt;
+            "{kind} of {body} bytes in pieces of {piece}: ready {ready}, {least} us"
+        ),
     }
 }
 
