@@ -1,0 +1,24 @@
+-- The bytes come to one thing, and it stays once it has come.
+use Rattle.std.proofs.Common.{◌≡◌, ◌∙◌, ap, sym, refl, ℕ, List, [], take, Option, None, Some, arith}
+use Rattle.httparse.proofs.GrammarLemmas.{request_unique}
+use Rattle.qs_http.specs.Outcome.{Outcome}
+use Rattle.qs_http.specs.HeadEnd.{head_end, without_leading}
+use Rattle.qs_http.specs.Head.{Head, plain_head}
+use Rattle.qs_http.specs.RequestOf.{IsReading, ReadsHead, outcome_at, IsRequestOf}
+
+pub reading_unique : (bytes : List ℕ) (a b : Option Head) → IsReading bytes a → IsReading bytes b → a ≡ b
+reading_unique bytes None None x y = refl
+reading_unique bytes None (Some b) x y = absurd (omega (arith, x y.0 y.1, y.2))
+reading_unique bytes (Some a) None x y = absurd (omega (arith, y x.0 x.1, x.2))
+reading_unique bytes (Some a) (Some b) x y =
+    let same = request_unique bytes x.0 y.0 [] [] x.1 y.1 in
+    ap (λ (h : Head). Some h) (x.3 ∙ ap plain_head same.0 ∙ sym y.3)
+
+pub head_reading_unique : (bytes : List ℕ) (end : Option ℕ) (a b : Option Head) → ReadsHead bytes end a → ReadsHead bytes end b → a ≡ b
+head_reading_unique bytes None a b x y = x ∙ sym y
+head_reading_unique bytes (Some end) a b x y = reading_unique (without_leading (take end bytes)) a b x y
+
+pub request_of_unique : (bytes : List ℕ) (a b : Outcome) → IsRequestOf bytes a → IsRequestOf bytes b → a ≡ b
+request_of_unique bytes a b x y =
+    x.is ∙ ap (λ (r : Option Head). outcome_at (head_end bytes) r bytes) (head_reading_unique bytes (head_end bytes) x.reading y.reading x.reads y.reads)
+    ∙ sym y.is

@@ -1,0 +1,5 @@
+use Rattle.qs_http.proofs.Steps.{step_from_parts}
+use Rattle.qs_http.proofs.conclude.conclude.Goals as goal
+
+pub returns : goal.returns
+returns c = step_from_parts c.args.bytes.now c.args.end c.leading_len.result _ _ c.requires.ends c.leading_len.ensures.count c.in-Some.ensures.reads c.step_of_head.ensures

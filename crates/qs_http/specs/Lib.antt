@@ -1,0 +1,12 @@
+pub mod HeadEnd
+pub mod Place
+pub mod Outcome
+pub mod Head
+pub mod Checks
+pub mod Parameters
+pub mod RequestOf
+pub mod Feeding
+pub mod HeadView
+pub mod Stage
+pub mod Reply
+pub mod Laws

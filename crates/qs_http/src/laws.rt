@@ -1,0 +1,16 @@
+ghost use Rattle.qs_http.specs.Laws.{RequestsAreUnique, RequestsAreKept, CutsDoNotMatter};
+
+/// Bytes come to one thing at most: a request, a refusal, or more bytes are wanted.
+pub fn requests_are_unique()
+    ensures { RequestsAreUnique }
+{}
+
+/// Once bytes come to a request or a refusal, further bytes don't change it.
+pub fn requests_are_kept()
+    ensures { RequestsAreKept }
+{}
+
+/// However bytes are cut into pieces, a session comes to what they come to joined.
+pub fn cuts_do_not_matter()
+    ensures { CutsDoNotMatter }
+{}

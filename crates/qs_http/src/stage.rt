@@ -1,0 +1,31 @@
+use crate::fixed_reply::Fixed;
+use crate::head_end::Place;
+use crate::request::Request;
+
+/// How far a request has been read.
+#[derive(Drop)]
+pub enum Stage {
+    /// The head hasn't ended.
+    Head {
+        bytes: Vec<u8>,
+        place: Place,
+    },
+    /// The head ends there, and a body of that size is due.
+    Body {
+        bytes: Vec<u8>,
+        end: usize,
+        size: usize,
+    },
+    /// The bytes ask this.
+    Ready(Request),
+    /// The bytes are refused.
+    Refused(Fixed),
+}
+
+/// What the bytes up to the head's end or further come to; where more are wanted, the length of the body.
+#[derive(Drop)]
+pub enum Step {
+    More(usize),
+    Ready(Request),
+    Refused(Fixed),
+}
