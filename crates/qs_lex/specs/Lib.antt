@@ -1,0 +1,12 @@
+pub mod Table
+pub mod Lexes
+pub mod Place
+pub mod Fault
+pub mod Start
+pub mod State
+pub mod IriState
+pub mod MarkState
+pub mod NameState
+pub mod NumberState
+pub mod StringState
+pub mod Prefix
