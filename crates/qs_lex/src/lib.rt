@@ -3,21 +3,26 @@
 #![tactic(auto)]
 
 pub mod fault;
-pub mod gap;
-pub mod iri_state;
+mod gap;
+mod iri_state;
 pub mod laws;
-pub mod letter;
+mod letter;
 pub mod lexer;
-pub mod longest;
-pub mod mark_state;
-pub mod name_state;
-pub mod number_state;
-pub mod quote;
-pub mod run;
-pub mod state;
-pub mod string_state;
+mod longest;
+mod mark_state;
+mod name_state;
+mod number_state;
+mod quote;
+mod run;
+mod state;
+mod string_state;
 pub mod token;
 
 pub use crate::fault::QFault;
 pub use crate::lexer::tokens;
 pub use crate::token::{Class, Token};
+
+#[cfg(test)]
+mod growth;
+#[cfg(test)]
+mod tests;
