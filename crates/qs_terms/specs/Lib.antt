@@ -1,0 +1,10 @@
+pub mod Iri
+pub mod Tag
+pub mod Literal
+pub mod OrMemory
+pub mod Term
+pub mod Statement
+pub mod Bag
+pub mod Dataset
+pub mod OneMore
+pub mod Device

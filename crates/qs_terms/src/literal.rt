@@ -1,0 +1,165 @@
+//! Literals.
+
+ghost use Rattle.std.specs.Prelude.{◌≡◌, ◌↔◌, IfOk, IsTrue, Some, None};
+ghost use Rattle.std.specs.Option.{option_copied};
+ghost use Rattle.std.specs.Str.{bytes_eq};
+ghost use Rattle.qs_terms.specs.Literal.{rdf_lang_string, checked_typed, checked_parts, checked_tagged, is_literal};
+ghost use Rattle.qs_terms.specs.Iri.{checked_iri};
+ghost use Rattle.qs_terms.specs.OrMemory.{OrMemory};
+
+use crate::fault::TermFault;
+use crate::iri::{Iri, check as check_iri};
+use crate::tag::is_tag;
+use crate::text::Text;
+use std::alloc::{AllocError, Global};
+use std::marker::Model;
+
+/// The datatype of the literals with a language tag (RDF 1.1 Concepts, 3.3).
+const RDF_LANG_STRING: &str = "http://www.w3.org/1999/02/22-rdf-syntax-ns#langString";
+
+/// A literal: its lexical form, its datatype and, if it is a language-tagged string, its tag in lower case
+/// (RDF 1.1 Concepts, 3.3). Its datatype is rdf:langString exactly where it has a tag.
+#[derive(Debug, Drop, PartialEq, Eq, PartialOrd, Ord, Hash)]
+pub struct Lit {
+    form: Text,
+    datatype: Text,
+    tag: Option<Text>,
+}
+
+impl Model for Lit {
+    ghost use Rattle.std.specs.Prelude.{IsTrue};
+    ghost use Rattle.qs_terms.specs.Literal.{Literal, fits_tag};
+
+    ghost Value = { Literal };
+
+    ghost view = { λ l. record { form = l.form; datatype = l.datatype; tag = l.tag } };
+
+    ghost invariant = { λ l. IsTrue (fits_tag l.datatype l.tag) };
+
+    ghost inverse = { λ l. record { form = l.form; datatype = l.datatype; tag = l.tag } };
+}
+
+#[tactic(auto, unfolding(crate::specs::Literal::rdf_lang_string))]
+fn is_lang_string(datatype: &str) -> bool
+    ensures { result ≡ bytes_eq datatype.now rdf_lang_string }
+{
+    datatype == RDF_LANG_STRING
+}
+
+#[tactic(auto, unfolding(crate::specs::Literal::rdf_lang_string))]
+fn lang_string(alloc: Global) -> Result<Text, AllocError>
+    ensures { IfOk result (λ t. t ≡ rdf_lang_string) }
+{
+    Text::new(alloc, RDF_LANG_STRING)
+}
+
+impl Lit {
+    /// The literal of a form and a datatype other than rdf:langString, without taking memory.
+    pub fn typed(form: Text, datatype: Iri) -> Result<Lit, TermFault>
+        ensures { result ≡ checked_typed form datatype }
+    {
+        if is_lang_string(datatype.text()) {
+            return Err(TermFault::BadDatatype);
+        }
+        Ok(Lit {
+            form,
+            datatype: datatype.into_text(),
+            tag: None,
+        })
+    }
+
+    /// The language-tagged string of a form and a tag, which is put into lower case.
+    pub fn tagged(alloc: Global, form: Text, tag: Text) -> Result<Lit, TermFault>
+        ensures { OrMemory result (checked_tagged form tag) }
+    {
+        if !is_tag(tag.as_str().as_bytes()) {
+            return Err(TermFault::BadTag);
+        }
+        let datatype = lang_string(alloc)?;
+        let mut tag = tag;
+        tag.make_ascii_lowercase();
+        Ok(Lit {
+            form,
+            datatype,
+            tag: Some(tag),
+        })
+    }
+
+    /// The literal of copies of a form and of a datatype's IRI. A refusal of the texts takes no memory.
+    pub fn parse(alloc: Global, form: &str, datatype: &str) -> Result<Lit, TermFault>
+        ensures { OrMemory result (checked_parts form.now (checked_iri datatype.now)) }
+    {
+        check_iri(datatype.as_bytes())?;
+        if is_lang_string(datatype) {
+            return Err(TermFault::BadDatatype);
+        }
+        let form = Text::new(alloc, form)?;
+        let datatype = Text::new(alloc, datatype)?;
+        Ok(Lit {
+            form,
+            datatype,
+            tag: None,
+        })
+    }
+
+    /// The language-tagged string of copies of a form and a tag. A refusal of the tag takes no memory.
+    pub fn parse_tagged(alloc: Global, form: &str, tag: &str) -> Result<Lit, TermFault>
+        ensures { OrMemory result (checked_tagged form.now tag.now) }
+    {
+        if !is_tag(tag.as_bytes()) {
+            return Err(TermFault::BadTag);
+        }
+        let form = Text::new(alloc, form)?;
+        let tag = Text::new(alloc, tag)?;
+        Lit::tagged(alloc, form, tag)
+    }
+
+    /// The lexical form.
+    pub fn form(&self) -> &str
+        ensures form { result.now ≡ self.now.form }
+        ensures lawful { IsTrue (is_literal self.now) }
+    {
+        self.form.as_str()
+    }
+
+    /// The datatype's IRI.
+    pub fn datatype(&self) -> &str
+        ensures { result.now ≡ self.now.datatype }
+    {
+        self.datatype.as_str()
+    }
+
+    /// The language tag in lower case, without its `@`, if the literal has one.
+    pub fn tag(&self) -> Option<&str>
+        ensures { option_copied result ≡ self.now.tag }
+    {
+        match &self.tag {
+            None => None,
+            Some(tag) => Some(tag.as_str()),
+        }
+    }
+
+    /// Whether both are the same literal: form, datatype and tag are (RDF 1.1 Concepts, 3.3, literal term equality).
+    pub fn is_same(&self, other: &Lit) -> bool
+        ensures { IsTrue result ↔ (self.now ≡ other.now) }
+    {
+        self == other
+    }
+
+    /// An equal literal of its own.
+    pub fn try_clone(&self, alloc: Global) -> Result<Lit, AllocError>
+        ensures { IfOk result (λ l. l ≡ self.now) }
+    {
+        let form = self.form.try_clone(alloc)?;
+        let datatype = self.datatype.try_clone(alloc)?;
+        let tag = match &self.tag {
+            None => None,
+            Some(tag) => Some(tag.try_clone(alloc)?),
+        };
+        Ok(Lit {
+            form,
+            datatype,
+            tag,
+        })
+    }
+}
