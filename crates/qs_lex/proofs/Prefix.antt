@@ -37,10 +37,10 @@ prefix_dead : (c : ℕ) → is_chars c ≡ false → (c == 46) ≡ false → (c 
 prefix_dead c h d e = simp (h, d, e)
 
 inner_chars : (c : ℕ) → is_chars c ≡ true → advance (named inner) c ≡ named (maybe inner)
-inner_chars c h = let d : (c == 58) ≡ false = chars_colon c h in simp (h, d)
+inner_chars c h = simp h
 
-inner_dot : (c : ℕ) → is_chars c ≡ false → (c == 46) ≡ true → (c == 58) ≡ false → advance (named inner) c ≡ named inner
-inner_dot c h d e = simp (h, d, e)
+inner_dot : (c : ℕ) → is_chars c ≡ false → (c == 46) ≡ true → advance (named inner) c ≡ named inner
+inner_dot c h d = simp (h, d)
 
 inner_dead : (c : ℕ) → is_chars c ≡ false → (c == 46) ≡ false → advance (named inner) c ≡ []
 inner_dead c h d = simp (h, d)
@@ -87,7 +87,7 @@ prefix_none-by true c cs false true ha hb h rec =
     best-step (named (maybe inner)) (named inner) c cs (prefix_dot c ha hb (dot_colon c hb)) ∙ ap (λ z. longer c z None) (rec false on)
 prefix_none-by false c cs false true ha hb h rec =
     let on : names false cs ≡ false = rw (ha, hb) at h in
-    best-step (named inner) (named inner) c cs (inner_dot c ha hb (dot_colon c hb)) ∙ ap (λ z. longer c z None) (rec false on)
+    best-step (named inner) (named inner) c cs (inner_dot c ha hb) ∙ ap (λ z. longer c z None) (rec false on)
 prefix_none-by true c cs false false ha hb h rec =
     let on : (c == 58 && true) ≡ false = rw (ha, hb) at h in
     best-step (named (maybe inner)) [] c cs (prefix_dead c ha hb (not-both (c == 58) on)) ∙ ap (λ z. longer c z None) (best-dead Class cs)

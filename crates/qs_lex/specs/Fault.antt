@@ -2,8 +2,8 @@
 use Rattle.std.specs.Prelude.{ℕ, ◌<◌, List, length}
 use Rattle.std.specs.Str.{chars}
 use Rattle.qs_lex.specs.Lexes.{Lexeme, Reads, StopsAt}
-use Rattle.qs_lex.specs.declared.fault.QFault.{QFault}
-use Rattle.qs_lex.specs.declared.fault.QFault.TheVariants.{Syntax, Memory}
+use Rattle.qs_terms.specs.declared.fault.QFault.{QFault}
+use Rattle.qs_terms.specs.declared.fault.QFault.TheVariants.{Syntax, Memory}
 
 -- the text begins with a token, behind white space and comments
 abbrev pub HasToken : List ℕ → Type 0
@@ -13,3 +13,4 @@ HasToken text = (ts : List Lexeme) × (rest : List ℕ) × Reads (length text) (
 abbrev pub IsFaultOf : List ℕ → QFault → Type 0
 IsFaultOf text (Syntax place) = StopsAt text place
 IsFaultOf text Memory = HasToken text
+IsFaultOf text fault = ⊥

@@ -1,8 +1,8 @@
 //! The same work in pairs, for refused allocations: strict wants the whole answer, tolerant takes want of memory too.
 
-use crate::fault::QFault;
 use crate::lexer::tokens;
 use crate::token::{Class, Token};
+use qs_terms::QFault;
 use std::process::Abort;
 use std::test::Fail;
 

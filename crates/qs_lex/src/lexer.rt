@@ -7,11 +7,11 @@ ghost use Rattle.qs_lex.specs.Lexes.{Lexes, lexeme};
 ghost use Rattle.qs_lex.specs.Place.{IsSliceOf, StandsBefore};
 ghost use Rattle.qs_lex.specs.Prefix.{IsBarren, IsNoPrefix};
 
-use crate::fault::QFault;
 use crate::gap::after_gap;
 use crate::longest::longest;
 use crate::run::{Run, has_no_prefix, look};
 use crate::token::Token;
+use qs_terms::QFault;
 use std::alloc::Global;
 
 /// The tokens of a text: at each place, behind white space and comments, the longest token that the table has.
@@ -40,17 +40,13 @@ pub fn tokens(alloc: Global, text: &str) -> Result<Vec<Token<'_>>, QFault>
         let Some((class, len)) = longest(front, has_no_prefix(ahead, front)) else {
             return Err(QFault::Syntax { place });
         };
-        let (token, after) = front.split_at(len);
-        if tokens
-            .push(Token {
-                class,
-                place,
-                text: token,
-            })
-            .is_err()
-        {
-            return Err(QFault::Memory);
-        }
+        let (slice, after) = front.split_at(len);
+        let token = Token {
+            class,
+            place,
+            text: slice,
+        };
+        tokens.push(token)?;
         rest = after;
     }
 }

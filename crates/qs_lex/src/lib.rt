@@ -2,7 +2,6 @@
 //! in `specs/Table.antt`, token lists in `specs/Lexes.antt`.
 #![tactic(auto)]
 
-pub mod fault;
 mod gap;
 mod iri_state;
 pub mod laws;
@@ -18,7 +17,6 @@ mod state;
 mod string_state;
 pub mod token;
 
-pub use crate::fault::QFault;
 pub use crate::lexer::tokens;
 pub use crate::token::{Class, Token};
 

@@ -1,12 +1,12 @@
 //! Token lists and places of faults, worked out by hand from the table.
 
-use crate::fault::QFault;
 use crate::lexer::tokens;
 use crate::token::Class;
 use crate::token::Class::{
     BlankLabel, Decimal, Double, Integer, IriRef, LangTag, Mark, PnameLn, PnameNs, Signed, String,
     Var, Word,
 };
+use qs_terms::QFault;
 use std::alloc::Global;
 use std::process::Abort;
 use std::test::Fail;

@@ -3,7 +3,7 @@ use Rattle.qs_regular.specs.Longest.{best}
 use Rattle.qs_lex.specs.Lexes.{lexeme}
 use Rattle.qs_lex.specs.Table.{table}
 use Rattle.qs_regular.proofs.Longest.{best-none}
-use Rattle.qs_lex.proofs.TokenList.{Front, front_of, nothing_left, something_left, place_is, some_from, pushed_reads, refused_reads}
+use Rattle.qs_lex.proofs.TokenList.{Front, front_of, nothing_left, something_left, place_is, some_from, pushed_reads, refused_reads, memory_due}
 use Rattle.qs_lex.proofs.Places.{placed_whole}
 use Rattle.qs_lex.proofs.Prefix.{barren_behind, barren_front}
 use Rattle.qs_lex.proofs.lexer.tokens.Goals as goal
@@ -50,16 +50,17 @@ tokens-preserved c =
       len = omega (arith, c.split_at.ensures.back_len, c.after_gap-front.ensures.len, c.tokens.invariant.len);
       barren = λ b. rw (c.split_at.ensures.back, f.after) (barren_behind _ f.x f.more _ f.text (c.look-ahead.ensures b));
       reads = rw (c.split_at.ensures.back, f.after)
-          (pushed_reads (length c.args.text.now) (chars c.args.text.now) (chars c.tokens.rest.now) c.tokens.tokens.items c.push.new.self.items _ _ f.x f.more c.push.ensures.items c.if-is_err.ensures.negation c.tokens.invariant.reads
+          (pushed_reads (length c.args.text.now) (chars c.args.text.now) (chars c.tokens.rest.now) c.tokens.tokens.items c.push.new.self.items _ f.x f.more c.in_ok-push.ensures.items c.tokens.invariant.reads
           (sym c.after_gap-front.ensures.chars ∙ f.text) f.longest (c.split_at.ensures.front ∙ f.token)
           (place_is _ _ _ c.after_gap-front.utf8 (omega (arith, c.after_gap-front.ensures.len, c.tokens.invariant.len)) f.text));
     }
 
-pub returns-then-is_err-clause-reading : goal.returns-then-is_err-clause-reading
-returns-then-is_err-clause-reading c =
-    let f = front ((goal.at.returns-then-is_err-clause-reading c).In-Some) in
-    refused_reads _ _ _ c.tokens.tokens.items c.in-Some.class _ f.x f.more c.tokens.invariant.reads (sym c.after_gap-front.ensures.chars ∙ f.text) f.longest
-    (place_is _ _ _ c.after_gap-front.utf8 (omega (arith, c.after_gap-front.ensures.len, c.tokens.invariant.len)) f.text)
+pub returns-in_err-push-clause-reading : goal.returns-in_err-push-clause-reading
+returns-in_err-push-clause-reading c =
+    let f = front ((goal.at.returns-in_err-push-clause-reading c).In-Some) in
+    memory_due _ c.args.text.now c.from_residual.result c.from_residual.ensures.0 c.from_residual.ensures.1
+    (refused_reads _ _ _ c.tokens.tokens.items c.in-Some.class _ f.x f.more c.tokens.invariant.reads (sym c.after_gap-front.ensures.chars ∙ f.text) f.longest
+    (place_is _ _ _ c.after_gap-front.utf8 (omega (arith, c.after_gap-front.ensures.len, c.tokens.invariant.len)) f.text))
 
 pub returns-then-is_empty-clause-slices : goal.returns-then-is_empty-clause-slices
 returns-then-is_empty-clause-slices c = (placed_whole _ c.tokens.tokens.items c.utf8.text (returns-then-is_empty-clause-reading c)).slices
