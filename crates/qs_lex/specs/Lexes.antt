@@ -1,4 +1,4 @@
--- The token list of a text.
+-- The token list of a text (SPARQL 1.1 Query, 19.8: the longest token is taken at each place).
 use Rattle.std.specs.Prelude.{◌≡◌, ◌≤◌, ◌<◌, ℕ, ◌+◌, Bool, true, false, not, cond, ◌||◌, ◌==◌, List, [], ◌∷◌, ◌++◌, length}
 use Rattle.std.specs.Str.{chars, encode_utf8_all}
 use Rattle.qs_lex.specs.Table.{IsToken}
@@ -11,12 +11,15 @@ pub record Lexeme : Type 0 where
   pub place : ℕ
   pub text : List ℕ
 
+-- what contracts see of a token
 abbrev pub lexeme : Token → Lexeme
 lexeme t = record { class = t.class; place = t.place; text = t.text.now }
 
+-- white space (SPARQL 1.1 Query, 19.8, [162]): space, tab, LF, CR
 unfoldable pub is_blank : ℕ → Bool
 is_blank c = c == 32 || c == 9 || c == 10 || c == 13
 
+-- LF or CR, up to which a comment runs (SPARQL 1.1 Query, 19.4)
 unfoldable pub is_line_end : ℕ → Bool
 is_line_end c = c == 10 || c == 13
 

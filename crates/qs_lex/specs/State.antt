@@ -8,6 +8,7 @@ use Rattle.qs_lex.specs.StringState.{left_of_string}
 use Rattle.qs_lex.specs.declared.state.State.{State}
 use Rattle.qs_lex.specs.declared.state.State.TheVariants as state
 
+-- the classes that are still possible, each with what is left of its form
 abbrev pub left : State → Left
 left (state.Iri s) = left_of_iri s
 left (state.Mark s) = left_of_mark s

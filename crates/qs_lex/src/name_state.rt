@@ -1,4 +1,4 @@
-//! Names, words, blank labels, variables and tags, a character at a time.
+//! Names, words, blank node labels, variables and language tags, a character at a time.
 
 ghost use Rattle.std.specs.Prelude.{◌≡◌, MatchOption, []};
 ghost use Rattle.qs_regular.specs.Longest.{advance, here};
@@ -15,28 +15,51 @@ use qs_regular::character::{
 pub enum NameState {
     /// a word, where no prefix goes on to its colon
     Plain,
+    /// a word, which may be a prefix
     Word,
+    /// a prefix that is no word
     Prefix,
+    /// a prefix and dots
     PrefixDot,
+    /// a prefix and its colon
     Colon,
+    /// `%` at the front of a local name
     FirstPercent,
+    /// `%` and a digit at the front of a local name
     FirstHex,
+    /// a backslash at the front of a local name
     FirstBackslash,
+    /// a local name
     Local,
+    /// a local name and dots
     LocalDot,
+    /// `%` in a local name
     Percent,
+    /// `%` and a digit in a local name
     Hex,
+    /// a backslash in a local name
     Backslash,
+    /// `_`
     Underscore,
+    /// `_:`
     UnderscoreColon,
+    /// a blank node label
     Blank,
+    /// a blank node label and dots
     BlankDot,
+    /// `?`
     Question,
+    /// `$`
     Dollar,
+    /// a variable
     Variable,
+    /// `@`
     At,
+    /// the letters of a language tag
     Tag,
+    /// a language tag and `-`
     TagDash,
+    /// letters and digits behind a `-`
     TagPart,
 }
 

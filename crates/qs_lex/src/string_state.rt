@@ -19,7 +19,9 @@ pub enum StringState {
     Two(Quote),
     /// a short string
     Short(Quote),
+    /// a backslash in a short string
     ShortBackslash(Quote),
+    /// digits of an escape in a short string
     ShortHex(Quote, Escape),
     /// a long string
     Long(Quote),
@@ -27,7 +29,9 @@ pub enum StringState {
     LongOne(Quote),
     /// two
     LongTwo(Quote),
+    /// a backslash in a long string
     LongBackslash(Quote),
+    /// digits of an escape in a long string
     LongHex(Quote, Escape),
     /// a whole string
     Done,

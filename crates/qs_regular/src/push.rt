@@ -7,12 +7,15 @@ use crate::escape::Escape;
 /// What a character makes of an escape.
 #[derive(Clone, Copy)]
 pub enum Pushed {
+    /// One digit more, and not the last.
     Digit(Escape),
+    /// The last digit, with the value of them all.
     Whole(u32),
+    /// No digit.
     Other,
 }
 
-/// One more character.
+/// What the next character makes of an escape.
 #[tactic(auto, unfolding(crate::specs::Character::is_hex, crate::specs::Character::hex_value), using(crate::proofs::Escapes::pushed, crate::proofs::Escapes::pushed_fits))]
 pub fn push(escape: Escape, c: char) -> Pushed
     ensures { IsPushed escape c result }
