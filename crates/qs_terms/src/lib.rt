@@ -18,3 +18,8 @@ pub use literal::Lit;
 pub use quad::Quad;
 pub use term::Term;
 pub use text::Text;
+
+#[cfg(test)]
+mod growth;
+#[cfg(test)]
+mod tests;
