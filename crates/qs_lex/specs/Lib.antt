@@ -1,0 +1,16 @@
+pub use Rattle.qs_regular.specs.Character
+pub use Rattle.qs_regular.specs.Form
+pub use Rattle.qs_regular.specs.Derivative
+pub use Rattle.qs_regular.specs.Longest
+pub mod Table
+pub mod Lexes
+pub mod Place
+pub mod Fault
+pub mod Start
+pub mod State
+pub mod IriState
+pub mod MarkState
+pub mod NameState
+pub mod NumberState
+pub mod StringState
+pub mod Prefix

@@ -1,0 +1,61 @@
+//! The longest token at the front of a text.
+
+ghost use Rattle.std.specs.Prelude.{◌≡◌, ◌⊎◌, MatchOption, [], true};
+ghost use Rattle.std.specs.Str.{chars};
+ghost use Rattle.qs_regular.specs.Longest.{best, here};
+ghost use Rattle.qs_regular.specs.Scan.{hold};
+ghost use Rattle.qs_regular.specs.Character.{is_letter};
+ghost use Rattle.qs_lex.specs.Table.{table};
+ghost use Rattle.qs_lex.specs.State.{left};
+ghost use Rattle.qs_lex.specs.Start.{begun};
+ghost use Rattle.qs_lex.specs.Prefix.{IsNoPrefix, plain};
+
+use crate::name_state::NameState;
+use crate::state::State;
+use crate::token::Class;
+use qs_regular::character::is_letter;
+
+fn kept(found: Option<(Class, usize)>, state: State, len: usize) -> Option<(Class, usize)>
+    ensures { result ≡ hold (here (left state)) len found }
+{
+    match state.class() {
+        Some(class) => Some((class, len)),
+        None => found,
+    }
+}
+
+/// The state behind the first character of a token, where a letter begins a prefix or not.
+fn begin(c: char, no_prefix: bool) -> Option<State>
+    ensures { MatchOption result (begun c ≡ []) (λ next. (begun c ≡ left next) ⊎ ((no_prefix ≡ true) × (is_letter c ≡ true) × (left next ≡ plain))) }
+{
+    if no_prefix && is_letter(c) {
+        return Some(State::Name(NameState::Plain));
+    }
+    State::start(c)
+}
+
+/// The class and the length of the longest token at the front.
+pub fn longest(text: &str, no_prefix: bool) -> Option<(Class, usize)>
+    requires { no_prefix ≡ true → IsNoPrefix (chars text.now) }
+    ensures { result ≡ best table (chars text.now) }
+{
+    let mut rest = text.chars();
+    let Some(first) = rest.next() else {
+        return None;
+    };
+    let Some(begun) = begin(first, no_prefix) else {
+        return None;
+    };
+    let mut state = begun;
+    let mut len = first.len_utf8();
+    let mut found = None;
+    'chars: while let Some(c) = rest.next() {
+        found = kept(found, state, len);
+        let Some(next) = state.step(c) else {
+            return found;
+        };
+        state = next;
+        len += c.len_utf8();
+    }
+    kept(found, state, len)
+}

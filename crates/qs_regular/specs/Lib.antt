@@ -1,0 +1,6 @@
+pub mod Character
+pub mod Form
+pub mod Derivative
+pub mod Longest
+pub mod Scan
+pub mod Escape
