@@ -1,0 +1,108 @@
+//! A dictionary of terms.
+
+ghost use Rattle.std.specs.Prelude.{◌≡◌, ◌↔◌, ◌≤◌, ℕ, None, Some, Ok, Err, [], length, take, IfOk, OnOk, OnErr};
+ghost use Rattle.qs_terms.specs.Bag.{with_new};
+ghost use Rattle.qs_terms.specs.Term.{same_term};
+ghost use Rattle.qs_dict.specs.declared.fault.DictFault.TheVariants.{Full};
+ghost use Rattle.qs_dict.specs.Dict.{IsDictionary, IsInUse, KeepsNumbers, term_at, number_of};
+
+use crate::fault::DictFault;
+use indexmap::IndexSet;
+use qs_terms::Term;
+use std::alloc::Global;
+use std::hash::RandomState;
+use std::marker::Model;
+
+/// Distinct terms, each with its place from 1 as its number. A term keeps its number until it is cut off.
+#[derive(Drop)]
+pub struct Dict {
+    alloc: Global,
+    terms: IndexSet<Term, RandomState>,
+    limit: u32,
+}
+
+impl Model for Dict {
+    ghost use Rattle.qs_dict.specs.Dict.{Dictionary, IsDictionary};
+
+    ghost Value = { Dictionary };
+
+    ghost view = { λ d. record { terms = d.terms.keys; limit = d.limit } };
+
+    ghost invariant = { λ d. IsDictionary (record { terms = d.terms.keys; limit = d.limit }) };
+}
+
+impl Dict {
+    /// A dictionary of no terms, which will take as many as the limit allows. The terms are hashed by `hasher`, since
+    /// strangers choose them.
+    pub fn new(alloc: Global, limit: u32, hasher: RandomState) -> Dict
+        ensures terms { result.terms ≡ [] }
+        ensures limit { result.limit ≡ limit }
+        ensures lawful { IsDictionary result }
+    {
+        Dict {
+            alloc,
+            terms: IndexSet::with_hasher(alloc, hasher),
+            limit,
+        }
+    }
+
+    /// How many terms there are: the numbers in use are those from 1 to it.
+    pub fn len(&self) -> u32
+        ensures count { result ≡ length self.now.terms }
+        ensures lawful { IsDictionary self.now }
+    {
+        self.terms.len() as u32
+    }
+
+    /// The number of the term, where it is there.
+    pub fn find(&self, term: &Term) -> Option<u32>
+        ensures place { result ≡ number_of self.now.terms term.now }
+        ensures exact { (n : ℕ) → (result ≡ Some n) ↔ (term_at self.now.terms n ≡ Some term.now) }
+    {
+        let place = self.terms.get_index_of(term)?;
+        Some(place as u32 + 1)
+    }
+
+    /// The term with the number, which is in use.
+    pub fn term(&self, number: u32) -> &Term
+        requires { IsInUse self.now.terms number }
+        ensures term { term_at self.now.terms number ≡ Some result.now }
+        ensures found { number_of self.now.terms result.now ≡ Some number }
+    {
+        &self.terms.as_slice()[number as usize - 1]
+    }
+
+    /// The number of the term, which is put last where it is new. Only a new term takes memory.
+    pub fn number(&mut self, term: &Term) -> Result<u32, DictFault>
+        ensures number { IfOk result (λ n. number_of self.new.terms term.now ≡ Some n) }
+        ensures terms { OnOk result (self.new.terms ≡ with_new same_term self.old.terms term.now) }
+        ensures limit { self.new.limit ≡ self.old.limit }
+        ensures lawful { IsDictionary self.new }
+        ensures refused { OnErr result (self.new ≡ self.old) }
+
+        // A term that is there is never refused, and a new one for want of room exactly where the limit is reached.
+        ensures present { (n : ℕ) → number_of self.old.terms term.now ≡ Some n → (result ≡ Ok n) × (self.new ≡ self.old) }
+        ensures full { (result ≡ Err Full) ↔ ((number_of self.old.terms term.now ≡ None) × (length self.old.terms ≡ self.old.limit)) }
+        ensures kept { KeepsNumbers (length self.old.terms) self.old.terms self.new.terms }
+    {
+        if let Some(number) = self.find(term) {
+            return Ok(number);
+        }
+        if self.len() == self.limit {
+            return Err(DictFault::Full);
+        }
+        let own = term.try_clone(self.alloc)?;
+        let (place, _) = self.terms.insert_full(own)?;
+        Ok(place as u32 + 1)
+    }
+
+    /// Takes the last terms out, so that `len` are left, or all where there are no more.
+    pub fn cut(&mut self, len: u32)
+        ensures terms { self.new.terms ≡ take len self.old.terms }
+        ensures limit { self.new.limit ≡ self.old.limit }
+        ensures lawful { IsDictionary self.new }
+        ensures kept { KeepsNumbers len self.old.terms self.new.terms }
+    {
+        self.terms.truncate(len as usize);
+    }
+}

@@ -1,0 +1,12 @@
+//! A dictionary of RDF terms: distinct terms, in which number and term agree for good.
+#![tactic(auto)]
+
+mod dict;
+mod fault;
+#[cfg(test)]
+mod growth;
+#[cfg(test)]
+mod tests;
+
+pub use dict::Dict;
+pub use fault::DictFault;
