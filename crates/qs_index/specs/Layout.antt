@@ -24,6 +24,16 @@ rest_at pages page at = drop at (joined (drop page pages))
 abbrev pub IsPageSize : List (List ℕ) → Type 0
 IsPageSize page = (0 < length page) × (length page ≤ 256)
 
+-- the entry is the last of the list, where it has one
+abbrev pub IsLastOf : List (List ℕ) → List ℕ → Type 0
+IsLastOf entries last = 0 < length entries → last ≡ slice_index_or entries (length entries - 1) []
+
+-- what holds of the list of a page, its room, and the last entry that is kept beside it
+pub record IsPage (entries : List (List ℕ)) (capacity : ℕ) (end : List ℕ) : Type 0 where
+  pub most : length entries ≤ 256
+  pub room : 256 ≤ capacity
+  pub last : IsLastOf entries end
+
 -- each page has 1 to 256 entries
 abbrev pub HasPageSizes : List (List (List ℕ)) → Type 0
 HasPageSizes pages = All IsPageSize pages
