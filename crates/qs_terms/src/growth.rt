@@ -3,66 +3,36 @@
 
 use crate::dataset;
 use crate::fault::TermFault;
-use crate::iri::Iri;
 use crate::literal::Lit;
 use crate::quad::Quad;
 use crate::term::Term;
-use crate::text::Text;
 use std::alloc::{AllocError, Global};
 
 const INTEGER: &str = "http://www.w3.org/2001/XMLSchema#integer";
 
 #[test]
-fn texts_strict(rt: HostRuntime) -> Result<(), TermFault> {
-    let alloc = rt.alloc();
-    let text = Text::new(alloc, "é")?;
-    assert_eq!(rt; text.try_clone(alloc)?.as_str(), "é");
-    Ok(())
-}
-
-#[test]
-fn texts_tolerant(rt: HostRuntime) {
-    let alloc = rt.alloc();
-    if let Ok(text) = Text::new(alloc, "é") {
-        if let Ok(copy) = text.try_clone(alloc) {
-            assert_eq!(rt; copy.as_str(), "é");
-        }
-        assert_eq!(rt; text.as_str(), "é");
-    }
-}
-
-#[test]
 fn iris_strict(rt: HostRuntime) -> Result<(), TermFault> {
-    let alloc = rt.alloc();
-    let iri = Iri::parse(alloc, "http://e/a")?;
-    assert!(rt; iri.try_clone(alloc)?.is_same(&iri));
-    let term = Term::iri(alloc, "http://e/a")?;
-    assert!(rt; term.try_clone(alloc)?.is_same(&term));
+    let term = Term::iri(rt.alloc(), "http://e/a")?;
+    let copy = term.try_clone(rt.alloc())?;
+    assert!(rt; copy.is_same(&term));
     Ok(())
 }
 
 #[test]
 fn iris_tolerant(rt: HostRuntime) {
-    let alloc = rt.alloc();
-    match Iri::parse(alloc, "http://e/a") {
-        Ok(iri) => {
-            if let Ok(copy) = iri.try_clone(alloc) {
-                assert!(rt; copy.is_same(&iri));
-            }
-            assert_eq!(rt; iri.text(), "http://e/a");
-        }
-        Err(fault) => assert_eq!(rt; fault, TermFault::Memory),
-    }
-    match Term::iri(alloc, "http://e/a") {
+    match Term::iri(rt.alloc(), "http://e/a") {
         Ok(term) => {
-            if let Ok(copy) = term.try_clone(alloc) {
+            if let Ok(copy) = term.try_clone(rt.alloc()) {
                 assert!(rt; copy.is_same(&term));
             }
         }
         Err(fault) => assert_eq!(rt; fault, TermFault::Memory),
     }
     // a refusal of the text takes no memory
-    assert_eq!(rt; Term::iri(alloc, "a").err(), Some(TermFault::NotAbsolute));
+    assert_eq!(rt;
+        Term::iri(rt.alloc(), "a").err(),
+        Some(TermFault::NotAbsolute)
+    );
 }
 
 fn is_copied(alloc: Global, lit: &Lit) -> Result<bool, AllocError> {

@@ -8,8 +8,6 @@ use crate::term::Term;
 use crate::text::Text;
 use std::alloc::Global;
 use std::cmp::Ordering;
-use std::collections::HashSet;
-use std::hash::RandomState;
 use std::io;
 use std::io::{Read, Write};
 
@@ -32,22 +30,15 @@ fn iri_fault(alloc: Global, text: &str) -> Result<Option<TermFault>, TermFault> 
 fn reads_iris(rt: HostRuntime) -> Result<(), TermFault> {
     let alloc = rt.alloc();
     for text in ["http://e/a", "urn:x", "a:", "z+1-.:é"] {
-        assert_eq!(rt; iri_fault(alloc, text)?, None, "{text}");
+        assert_eq!(rt; iri_fault(alloc, text)?, None);
     }
     for text in ["", ":a", "a", "1a:b", "a_b:c", "é:c", "a b"] {
-        assert_eq!(rt;
-            iri_fault(alloc, text)?,
-            Some(TermFault::NotAbsolute),
-            "{text}"
-        );
+        assert_eq!(rt; iri_fault(alloc, text)?, Some(TermFault::NotAbsolute));
     }
-    for mark in " \u{0}\u{1f}<>\"{}|^`\\".chars() {
-        let text = format!(in alloc; "a:{mark}")?;
-        assert_eq!(rt;
-            iri_fault(alloc, text.as_str())?,
-            Some(TermFault::BadChar),
-            "{mark:?}"
-        );
+    for text in [
+        "a: ", "a:\u{0}", "a:<", "a:>", "a:\"", "a:{", "a:}", "a:|", "a:^", "a:`", "a:\\",
+    ] {
+        assert_eq!(rt; iri_fault(alloc, text)?, Some(TermFault::BadChar));
     }
     Ok(())
 }
@@ -140,29 +131,11 @@ fn tells_terms_apart(rt: HostRuntime) -> Result<(), TermFault> {
     let terms = samples(alloc)?;
     for (i, a) in terms.iter().enumerate() {
         for (j, b) in terms.iter().enumerate() {
-            assert_eq!(rt; a.is_same(b), i == j, "{a:?} {b:?}");
+            assert_eq!(rt; a.is_same(b), i == j);
             assert_eq!(rt; a.order(b) == Ordering::Equal, i == j);
-            assert_eq!(rt; a.order(b), b.order(a).reverse());
         }
         assert!(rt; a.is_same(&a.try_clone(alloc)?));
     }
-    Ok(())
-}
-
-#[test]
-fn hashes_terms(rt: HostRuntime) -> Result<(), TermFault> {
-    let alloc = rt.alloc();
-    let Ok(hasher) = RandomState::new(&rt) else {
-        return Err(TermFault::Memory);
-    };
-    let mut set = HashSet::with_hasher(alloc, hasher);
-    for term in samples(alloc)? {
-        set.insert(term)?;
-    }
-    for term in samples(alloc)? {
-        assert!(rt; !set.insert(term)?);
-    }
-    assert_eq!(rt; set.len(), 9);
     Ok(())
 }
 
@@ -189,22 +162,6 @@ fn reads_quads(rt: HostRuntime) -> Result<(), TermFault> {
     let (graph, subject, ..) = quad.into_terms();
     assert!(rt; graph.is_some_and(|graph| graph.is_same(&name)));
     assert!(rt; subject.is_same(&Term::Blank(7)));
-    Ok(())
-}
-
-#[test]
-fn tells_quads_apart(rt: HostRuntime) -> Result<(), TermFault> {
-    let alloc = rt.alloc();
-    let name = Term::iri(alloc, "http://e/g")?;
-    let quads = three_quads(alloc, &name)?;
-    for (i, a) in quads.iter().enumerate() {
-        assert!(rt; a.is_in(Some(&name)) != a.is_in(None));
-        for (j, b) in quads.iter().enumerate() {
-            assert_eq!(rt; a.is_same(b), i == j);
-            assert_eq!(rt; a.order(b) == Ordering::Equal, i == j);
-        }
-        assert!(rt; a.is_same(&a.try_clone(alloc)?));
-    }
     Ok(())
 }
 
@@ -325,80 +282,34 @@ fn puts_all(rt: HostRuntime) -> Result<(), TermFault> {
 
 #[test]
 fn counts_writes(rt: HostRuntime) {
-    let mut steady = make_slow(9, 2);
-    assert_eq!(rt; put_all(&mut steady, b"abcde"), 5);
-    assert_eq!(rt; steady.put(b"").ok(), Some(0));
-    assert_eq!(rt;
-        steady.faults(),
-        0,
-        "no byte of an empty buffer is no fault"
-    );
     let mut failing = make_slow(3, 2);
     assert_eq!(rt; put_all(&mut failing, b"abcde"), 4);
     assert_eq!(rt; failing.faults(), 1);
     let mut full = make_slow(9, 0);
     assert_eq!(rt; put_all(&mut full, b"abcde"), 0);
-    assert_eq!(rt;
-        full.faults(),
-        1,
-        "no byte of a buffer that isn't empty is a fault"
-    );
+    assert_eq!(rt; full.faults(), 1);
 }
 
 #[test]
 fn counts_reads(rt: HostRuntime) {
     let mut buf = [0u8; 4];
-    let mut ended = make_slow(9, 0);
-    assert_eq!(rt; ended.get(&mut buf).ok(), Some(0));
-    assert_eq!(rt; ended.faults(), 0, "a read of no bytes is the end");
-    let mut broken = make_slow(1, 2);
-    assert!(rt; broken.get(&mut buf).is_err() && broken.get(&mut buf).is_err());
-    assert_eq!(rt; broken.faults(), 2);
-}
-
-fn shows(alloc: Global, fault: &QFault, line: &str) -> Result<bool, TermFault> {
-    let text = format!(in alloc; "{fault}")?;
-    Ok(text.as_str() == line)
-}
-
-#[test]
-fn writes_faults_with_places(rt: HostRuntime) -> Result<(), TermFault> {
-    let alloc = rt.alloc();
-    let word = Text::new(alloc, "1.5")?;
-    assert!(rt; shows(alloc, &QFault::Syntax { place: 23 }, "F1 syntax at 23")?);
-    assert!(rt;
-        shows(
-            alloc,
-            &QFault::Prefix { place: 11 },
-            "F2 undeclared prefix at 11"
-        )?
-    );
-    assert!(rt;
-        shows(
-            alloc,
-            &QFault::RelativeIri { place: 11 },
-            "F3 relative IRI at 11"
-        )?
-    );
-    assert!(rt; shows(alloc, &QFault::LeftOut { word }, "F4 left out: 1.5")?);
-    Ok(())
+    let mut ended = make_slow(2, 0);
+    assert!(rt; ended.get(&mut buf).is_ok());
+    assert_eq!(rt; ended.faults(), 0);
+    assert!(rt; ended.get(&mut buf).is_err());
+    assert_eq!(rt; ended.faults(), 1);
 }
 
 #[test]
 fn writes_faults(rt: HostRuntime) -> Result<(), TermFault> {
     let alloc = rt.alloc();
-    assert!(rt; shows(alloc, &QFault::Scope, "F5 scope")?);
-    assert!(rt; shows(alloc, &QFault::TooLarge { place: 73 }, "F6 too large at 73")?);
-    assert!(rt; shows(alloc, &QFault::NoGraph, "F7 no such graph")?);
-    assert!(rt; shows(alloc, &QFault::GraphExists, "F7 graph exists")?);
-    Ok(())
-}
-
-#[test]
-fn writes_faults_of_evaluation(rt: HostRuntime) -> Result<(), TermFault> {
-    let alloc = rt.alloc();
-    assert!(rt; shows(alloc, &QFault::TooManyRows, "F8 too many rows")?);
-    assert!(rt; shows(alloc, &QFault::Memory, "F9 out of memory")?);
-    assert!(rt; shows(alloc, &QFault::Full, "F10 full")?);
+    let word = Text::new(alloc, "1.5")?;
+    let fault = QFault::LeftOut { word };
+    assert_eq!(rt; format!(in alloc; "{fault}")?.as_str(), "F4 left out: 1.5");
+    let fault = QFault::TooLarge { place: 73 };
+    assert_eq!(rt;
+        format!(in alloc; "{fault}")?.as_str(),
+        "F6 too large at 73"
+    );
     Ok(())
 }
