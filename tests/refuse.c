@@ -1,10 +1,13 @@
 // A library to be preloaded under a test: it refuses the allocation whose number stands in REFUSE_AT, and counts them.
-// At the end it writes the line `refused` or `met none` to the file that REFUSE_LOG names.
+// The file that REFUSE_LOG names gets the line `refused` when that comes, since a failed test ends at once, or at the end
+// `met none`.
 #define _GNU_SOURCE
 #include <dlfcn.h>
 #include <errno.h>
-#include <stdio.h>
+#include <fcntl.h>
 #include <stdlib.h>
+#include <string.h>
+#include <unistd.h>
 
 static long at = -2, calls = 0;
 static int met = 0;
@@ -13,6 +16,15 @@ static void *(*next_realloc)(void *, size_t);
 static void *(*next_aligned_alloc)(size_t, size_t);
 static int (*next_posix_memalign)(void **, size_t, size_t);
 
+// (by calls that take no memory)
+static void tell(const char *line) {
+    char *log = getenv("REFUSE_LOG");
+    int file = log ? open(log, O_WRONLY | O_CREAT | O_TRUNC, 0644) : -1;
+    if (file < 0) return;
+    if (write(file, line, strlen(line)) < 0) abort();
+    close(file);
+}
+
 static int refuse(void) {
     if (at == -2) {
         char *text = getenv("REFUSE_AT");
@@ -20,6 +32,7 @@ static int refuse(void) {
     }
     if (++calls != at) return 0;
     met = 1;
+    tell("refused\n");
     errno = ENOMEM;
     return 1;
 }
@@ -45,11 +58,5 @@ int posix_memalign(void **to, size_t align, size_t size) {
 }
 
 __attribute__((destructor)) static void end(void) {
-    char *log = getenv("REFUSE_LOG");
-    if (!log) return;
-    at = -1;
-    FILE *file = fopen(log, "w");
-    if (!file) return;
-    fputs(met ? "refused\n" : "met none\n", file);
-    fclose(file);
+    if (!met) tell("met none\n");
 }
