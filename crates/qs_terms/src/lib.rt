@@ -1,4 +1,11 @@
-//! RDF terms.
+//! RDF terms and quads: each that is made is lawful, and equal is the same (RDF 1.1 Concepts, 3 and 4).
+//!
+//! A term is an IRI, a blank node or a literal, and a quad is a triple with the name of its graph. `dataset` reads lists of
+//! quads as sets. Texts are seen as their bytes. `fault` has why a term or a request is refused, and `device` the devices that
+//! take and give bytes and count their faults.
+//!
+//! The definitions stand in `specs/`: lawful texts in `Iri.antt`, `Tag.antt` and `Literal.antt`, terms in `Term.antt`, quads in
+//! `Statement.antt`, bags in `Bag.antt`, names and nodes in `Dataset.antt`, devices in `Device.antt`.
 #![tactic(auto)]
 
 pub mod dataset;
