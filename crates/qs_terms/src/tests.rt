@@ -1,6 +1,6 @@
 //! What no clause says: each public call once where it succeeds, at values worked out by hand, and the printed faults.
-//! What a test makes is held by a small function of its own that answers whether it is right: a proof grows with what
-//! is alive where a call may fail, and so the tests themselves hold nothing.
+//! What is made is held by a small function of its own and let go by `drop`, and the tests themselves hold nothing: a
+//! proof grows with what is alive where a call may fail or a branch ends.
 
 use crate::dataset;
 use crate::device::{Counted, Sink, Stream, put_all};
@@ -29,97 +29,104 @@ fn make_iri(alloc: Global, text: &str) -> Result<Iri, TermFault> {
     Iri::new(text)
 }
 
-/// What is wrong with the text as an IRI, by each of the ways that make one.
-fn iri_faults(alloc: Global, text: &str) -> [Option<TermFault>; 3] {
-    [
-        make_iri(alloc, text).err(),
-        Iri::parse(alloc, text).err(),
-        Term::iri(alloc, text).err(),
-    ]
+/// Asserts what is wrong with the texts as IRIs, by each of the ways that make one.
+fn have_fault(rt: &impl Abort, alloc: Global, texts: &[&str], fault: Option<TermFault>) {
+    for text in texts {
+        assert!(rt; make_iri(alloc, text).err() == fault, "{text}");
+        assert!(rt; Iri::parse(alloc, text).err() == fault);
+        assert!(rt; Term::iri(alloc, text).err() == fault);
+    }
 }
 
 #[test]
 fn reads_iris(rt: HostRuntime) {
-    for text in ["http://e/a", "urn:x", "a:", "z+1-.:é"] {
-        assert_eq!(rt; iri_faults(rt.alloc(), text), [None; 3]);
-    }
+    let alloc = rt.alloc();
+    have_fault(&rt, alloc, &["http://e/a", "urn:x", "a:", "z+1-.:é"], None);
+    have_fault(
+        &rt,
+        alloc,
+        &["", ":a", "a", "1a:b", "a_b:c", "é:c", "a b"],
+        Some(TermFault::NotAbsolute),
+    );
+    have_fault(
+        &rt,
+        alloc,
+        &[
+            "a: ", "a:\u{0}", "a:<", "a:>", "a:\"", "a:{", "a:}", "a:|", "a:^", "a:`", "a:\\",
+        ],
+        Some(TermFault::BadChar),
+    );
 }
 
-#[test]
-fn refuses_relative_iris(rt: HostRuntime) {
-    for text in ["", ":a", "a", "1a:b", "a_b:c", "é:c", "a b"] {
-        assert_eq!(rt;
-            iri_faults(rt.alloc(), text),
-            [Some(TermFault::NotAbsolute); 3]
-        );
-    }
-}
-
-#[test]
-fn refuses_excluded_characters(rt: HostRuntime) {
-    for text in [
-        "a: ", "a:\u{0}", "a:<", "a:>", "a:\"", "a:{", "a:}", "a:|", "a:^", "a:`", "a:\\",
-    ] {
-        assert_eq!(rt; iri_faults(rt.alloc(), text), [Some(TermFault::BadChar); 3]);
-    }
-}
-
-fn is_copied(alloc: Global, iri: &Iri) -> Result<bool, TermFault> {
+fn copies_iri(alloc: Global, iri: &Iri) -> Result<bool, TermFault> {
     let copy = iri.try_clone(alloc)?;
-    Ok(copy.is_same(iri) && copy.text() == "http://e/é")
+    let is_same = copy.is_same(iri) && copy.text() == "http://e/é";
+    drop(copy);
+    Ok(is_same)
 }
 
-fn copies_iri(alloc: Global) -> Result<bool, TermFault> {
-    let iri = make_iri(alloc, "http://e/é")?;
-    is_copied(alloc, &iri)
-}
-
-fn gives_iri_back(alloc: Global) -> Result<bool, TermFault> {
-    let text = make_iri(alloc, "http://e/é")?.into_text();
+fn gives_back(iri: Iri) -> bool {
+    let text = iri.into_text();
     let is_kept = text.as_str() == "http://e/é";
     let given = Text::from(text.into_string());
-    Ok(is_kept && given.as_str() == "http://e/é")
+    let is_given = given.as_str() == "http://e/é";
+    drop(given);
+    is_kept && is_given
+}
+
+fn keeps_iri(alloc: Global) -> Result<bool, TermFault> {
+    let iri = make_iri(alloc, "http://e/é")?;
+    let is_copied = copies_iri(alloc, &iri);
+    let is_given = gives_back(iri);
+    Ok(is_copied? && is_given)
 }
 
 #[test]
-fn copies_iris(rt: HostRuntime) {
-    assert_eq!(rt; copies_iri(rt.alloc()), Ok(true));
-    assert_eq!(rt; gives_iri_back(rt.alloc()), Ok(true));
+fn keeps_iris(rt: HostRuntime) {
+    assert!(rt; matches!(keeps_iri(rt.alloc()), Ok(true)));
 }
 
 /// Whether what was made is a literal of these parts.
 fn is_literal(made: Result<Lit, TermFault>, form: &str, datatype: &str, tag: Option<&str>) -> bool {
-    match made {
+    let is_it = match &made {
         Ok(lit) => lit.form() == form && lit.datatype() == datatype && lit.tag() == tag,
         Err(_) => false,
-    }
+    };
+    drop(made);
+    is_it
 }
 
 fn make_typed(alloc: Global, datatype: &str) -> Result<Lit, TermFault> {
-    let datatype = Iri::parse(alloc, datatype)?;
     let form = Text::new(alloc, "01")?;
+    let datatype = Iri::parse(alloc, datatype)?;
     Lit::typed(form, datatype)
 }
 
 #[test]
 fn reads_literals(rt: HostRuntime) {
-    let parsed = Lit::parse(rt.alloc(), "01", INTEGER);
-    assert!(rt; is_literal(parsed, "01", INTEGER, None));
-    let typed = make_typed(rt.alloc(), INTEGER);
-    assert!(rt; is_literal(typed, "01", INTEGER, None));
+    let alloc = rt.alloc();
+    assert!(rt; is_literal(Lit::parse(alloc, "01", INTEGER), "01", INTEGER, None));
+    assert!(rt; is_literal(make_typed(alloc, INTEGER), "01", INTEGER, None));
+}
+
+fn refuses_datatype(rt: &impl Abort, alloc: Global, datatype: &str, fault: TermFault) {
+    assert!(rt;
+        Term::literal(alloc, "x", datatype).err() == Some(fault),
+        "{datatype}"
+    );
+    assert!(rt;
+        make_typed(alloc, datatype).err() == Some(fault),
+        "{datatype}"
+    );
 }
 
 #[test]
 fn refuses_datatypes(rt: HostRuntime) {
-    for (datatype, fault) in [
-        ("integer", TermFault::NotAbsolute),
-        ("a b", TermFault::NotAbsolute),
-        ("http://e/a b", TermFault::BadChar),
-        (LANG_STRING, TermFault::BadDatatype),
-    ] {
-        assert_eq!(rt; Term::literal(rt.alloc(), "x", datatype).err(), Some(fault));
-        assert_eq!(rt; make_typed(rt.alloc(), datatype).err(), Some(fault));
-    }
+    let alloc = rt.alloc();
+    refuses_datatype(&rt, alloc, "integer", TermFault::NotAbsolute);
+    refuses_datatype(&rt, alloc, "a b", TermFault::NotAbsolute);
+    refuses_datatype(&rt, alloc, "http://e/a b", TermFault::BadChar);
+    refuses_datatype(&rt, alloc, LANG_STRING, TermFault::BadDatatype);
 }
 
 fn make_tagged(alloc: Global, tag: &str) -> Result<Lit, TermFault> {
@@ -128,28 +135,28 @@ fn make_tagged(alloc: Global, tag: &str) -> Result<Lit, TermFault> {
     Lit::tagged(alloc, form, tag)
 }
 
+fn reads_tag(rt: &impl Abort, alloc: Global, tag: &str, lower: &str) {
+    let parsed = Lit::parse_tagged(alloc, "a", tag);
+    assert!(rt; is_literal(parsed, "a", LANG_STRING, Some(lower)), "{tag}");
+    let tagged = make_tagged(alloc, tag);
+    assert!(rt; is_literal(tagged, "a", LANG_STRING, Some(lower)), "{tag}");
+}
+
 #[test]
 fn reads_tags(rt: HostRuntime) {
-    for (tag, lower) in [
-        ("en", "en"),
-        ("EN-us", "en-us"),
-        ("de-CH-1996", "de-ch-1996"),
-    ] {
-        let parsed = Lit::parse_tagged(rt.alloc(), "a", tag);
-        assert!(rt; is_literal(parsed, "a", LANG_STRING, Some(lower)));
-        let tagged = make_tagged(rt.alloc(), tag);
-        assert!(rt; is_literal(tagged, "a", LANG_STRING, Some(lower)));
-    }
+    let alloc = rt.alloc();
+    reads_tag(&rt, alloc, "en", "en");
+    reads_tag(&rt, alloc, "EN-us", "en-us");
+    reads_tag(&rt, alloc, "de-CH-1996", "de-ch-1996");
 }
 
 #[test]
 fn refuses_tags(rt: HostRuntime) {
     for tag in ["", "-", "en-", "-en", "en--us", "e1", "en_us", "é"] {
-        assert_eq!(rt;
-            Term::tagged(rt.alloc(), "a", tag).err(),
-            Some(TermFault::BadTag)
+        assert!(rt;
+            Term::tagged(rt.alloc(), "a", tag).err() == Some(TermFault::BadTag),
+            "{tag}"
         );
-        assert_eq!(rt; make_tagged(rt.alloc(), tag).err(), Some(TermFault::BadTag));
     }
 }
 
@@ -182,32 +189,45 @@ fn hash_of(term: &Term) -> u64 {
     state.finish()
 }
 
-/// Asserts that the term is the one of that number alone, and hashes like it.
-fn tells_apart(rt: &impl Abort, terms: &[Term], number: usize, term: &Term) {
-    for (i, other) in terms.iter().enumerate() {
-        let is_it = i == number;
-        assert_eq!(rt; term.is_same(other), is_it);
-        assert_eq!(rt; term.order(other) == Ordering::Equal, is_it);
-        assert_eq!(rt; hash_of(term) == hash_of(other), is_it);
+/// Asserts whether the terms are the same, and that the same terms alone hash alike.
+fn compares(rt: &impl Abort, a: &Term, b: &Term, are_same: bool) {
+    assert!(rt; a.is_same(b) == are_same, "{a:?} {b:?}");
+    assert!(rt; (a.order(b) == Ordering::Equal) == are_same);
+    assert!(rt; (hash_of(a) == hash_of(b)) == are_same);
+}
+
+/// Asserts whether the terms may be a subject, or a graph, and a predicate.
+fn places(rt: &impl Abort, node: &Term, predicate: &Term, fit: bool) {
+    assert!(rt;
+        Quad::fits(None, node, predicate) == fit,
+        "{node:?} {predicate:?}"
+    );
+    assert!(rt; Quad::fits(Some(node), predicate, predicate) == fit);
+}
+
+fn compares_all(rt: &impl Abort, terms: &[Term], i: usize, others: &[Term]) {
+    if let Some(term) = terms.get(i) {
+        for (j, other) in others.iter().enumerate() {
+            compares(rt, term, other, i == j);
+            places(rt, term, other, i < 4 && j < 2);
+        }
     }
 }
 
 #[test]
 fn tells_terms_apart(rt: HostRuntime) -> Result<(), TermFault> {
     let terms = samples(rt.alloc())?;
-    for (number, term) in terms.iter().enumerate() {
-        tells_apart(&rt, terms.as_slice(), number, term);
+    let others = samples(rt.alloc())?;
+    for i in 0..9 {
+        compares_all(&rt, terms.as_slice(), i, others.as_slice());
     }
     Ok(())
 }
 
-/// The quad of the terms, if they fit.
-fn fitting(graph: Option<Term>, subject: Term, predicate: Term, object: Term) -> Option<Quad> {
-    if Quad::fits(graph.as_ref(), &subject, &predicate) {
-        Some(Quad::new(graph, subject, predicate, object))
-    } else {
-        None
-    }
+fn make_ends(alloc: Global) -> Result<(Term, Term), TermFault> {
+    let predicate = Term::iri(alloc, "http://e/p")?;
+    let object = Term::tagged(alloc, "o", "en")?;
+    Ok((predicate, object))
 }
 
 /// The quads of odd numbers stand in a named graph, the others in the default graph.
@@ -220,11 +240,12 @@ fn graph_of(alloc: Global, number: u64) -> Result<Option<Term>, TermFault> {
 }
 
 /// The quad whose subject is the blank node of the number.
-fn quad(alloc: Global, number: u64) -> Result<Quad, TermFault> {
+pub fn make_quad(rt: &impl Abort, alloc: Global, number: u64) -> Result<Quad, TermFault> {
+    let (predicate, object) = make_ends(alloc)?;
     let graph = graph_of(alloc, number)?;
-    let predicate = Term::iri(alloc, "http://e/p")?;
-    let object = Term::tagged(alloc, "o", "en")?;
-    fitting(graph, Term::Blank(number), predicate, object).ok_or(TermFault::BadDatatype)
+    let subject = Term::Blank(number);
+    assert!(rt; Quad::fits(graph.as_ref(), &subject, &predicate));
+    Ok(Quad::new(graph, subject, predicate, object))
 }
 
 fn is_iri(term: &Term, text: &str) -> bool {
@@ -233,64 +254,40 @@ fn is_iri(term: &Term, text: &str) -> bool {
 
 /// Whether these are the terms of quad 7.
 fn are_sevenths(graph: Option<&Term>, subject: &Term, predicate: &Term, object: &Term) -> bool {
-    let is_named = match graph {
-        None => false,
-        Some(name) => is_iri(name, "http://e/g"),
-    };
-    is_named
+    matches!(graph, Some(name) if is_iri(name, "http://e/g"))
         && matches!(subject, Term::Blank(7))
         && is_iri(predicate, "http://e/p")
         && matches!(object, Term::Literal(lit) if lit.tag() == Some("en"))
 }
 
-fn reads_seventh(quad: &Quad) -> bool {
-    are_sevenths(
+fn takes_apart(quad: Quad) -> bool {
+    let terms = quad.into_terms();
+    let are_they = are_sevenths(terms.0.as_ref(), &terms.1, &terms.2, &terms.3);
+    drop(terms);
+    are_they
+}
+
+fn reads_quad(rt: &impl Abort, alloc: Global) -> Result<bool, TermFault> {
+    let quad = make_quad(rt, alloc, 7)?;
+    let is_read = are_sevenths(
         quad.graph(),
         quad.subject(),
         quad.predicate(),
         quad.object(),
-    )
-}
-
-fn takes_seventh_apart(quad: Quad) -> bool {
-    let (graph, subject, predicate, object) = quad.into_terms();
-    are_sevenths(graph.as_ref(), &subject, &predicate, &object)
-}
-
-fn reads_quad(alloc: Global) -> Result<bool, TermFault> {
-    let quad = quad(alloc, 7)?;
-    let is_read = reads_seventh(&quad);
-    Ok(takes_seventh_apart(quad) && is_read)
+    );
+    Ok(takes_apart(quad) && is_read)
 }
 
 #[test]
 fn reads_quads(rt: HostRuntime) {
-    assert_eq!(rt; reads_quad(rt.alloc()), Ok(true));
-}
-
-/// Asserts that the first two samples may be predicates, and the first four subjects and graphs.
-fn places_term(rt: &impl Abort, terms: &[Term], i: usize, node: &Term) {
-    for (j, predicate) in terms.iter().enumerate() {
-        let fits = i < 4 && j < 2;
-        assert_eq!(rt; Quad::fits(None, node, predicate), fits);
-        assert_eq!(rt; Quad::fits(Some(node), predicate, predicate), fits);
-    }
-}
-
-#[test]
-fn places_terms(rt: HostRuntime) -> Result<(), TermFault> {
-    let terms = samples(rt.alloc())?;
-    for (i, node) in terms.iter().enumerate() {
-        places_term(&rt, terms.as_slice(), i, node);
-    }
-    Ok(())
+    assert!(rt; matches!(reads_quad(&rt, rt.alloc()), Ok(true)));
 }
 
 /// Quads 1 to 3.
-fn three_quads(alloc: Global) -> Result<Vec<Quad>, TermFault> {
+fn three_quads(rt: &impl Abort, alloc: Global) -> Result<Vec<Quad>, TermFault> {
     let mut quads = Vec::new(alloc);
     for number in 1..4 {
-        let quad = quad(alloc, number)?;
+        let quad = make_quad(rt, alloc, number)?;
         quads.push(quad)?;
     }
     Ok(quads)
@@ -299,61 +296,59 @@ fn three_quads(alloc: Global) -> Result<Vec<Quad>, TermFault> {
 /// Asserts that the quad is the one at this place alone, and is found behind that place alone.
 fn finds_quad(rt: &impl Abort, quads: &[Quad], place: usize, quad: &Quad) {
     for (i, other) in quads.iter().enumerate() {
-        assert_eq!(rt; quad.is_same(other), i == place);
-        assert_eq!(rt; quad.order(other) == Ordering::Equal, i == place);
-        assert_eq!(rt; dataset::contains(&quads[..i], quad), i > place);
+        assert!(rt; quad.is_same(other) == (i == place));
+        assert!(rt; (quad.order(other) == Ordering::Equal) == (i == place));
+        assert!(rt; dataset::contains(&quads[..i], quad) == (i > place));
     }
     // quads 1 and 3 have a name
-    assert_eq!(rt; quad.is_in(None), place == 1);
+    assert!(rt; quad.is_in(None) == (place == 1));
 }
 
 #[test]
 fn finds_quads(rt: HostRuntime) -> Result<(), TermFault> {
-    let quads = three_quads(rt.alloc())?;
+    let quads = three_quads(&rt, rt.alloc())?;
     for (place, quad) in quads.iter().enumerate() {
         finds_quad(&rt, quads.as_slice(), place, quad);
     }
+    assert!(rt; dataset::is_above_blanks(4, quads.as_slice()));
+    assert!(rt; !dataset::is_above_blanks(3, quads.as_slice()));
     Ok(())
-}
-
-fn lies_above_blanks(quads: &[Quad]) -> bool {
-    dataset::is_above_blanks(4, quads) && !dataset::is_above_blanks(3, quads)
-}
-
-/// Whether the quads have one name.
-fn lists_name(alloc: Global, quads: &[Quad]) -> Result<bool, TermFault> {
-    let names = dataset::names(alloc, quads)?;
-    Ok(names.len() == 1 && names.iter().all(|name| is_iri(name, "http://e/g")))
 }
 
 /// Whether the default graph has two nodes, a blank node and a literal.
 fn lists_nodes(alloc: Global, quads: &[Quad]) -> Result<bool, TermFault> {
     let nodes = dataset::nodes(alloc, quads, None)?;
-    Ok(nodes.len() == 2 && nodes.iter().any(|node| matches!(node, Term::Blank(2))))
+    Ok(matches!(nodes.as_slice(), [Term::Blank(2), Term::Literal(_)]))
 }
 
-/// Whether the named graph has three nodes: two blank nodes, and the object that they share.
-fn lists_named_nodes(alloc: Global, quads: &[Quad]) -> Result<bool, TermFault> {
-    let name = Term::iri(alloc, "http://e/g")?;
-    let nodes = dataset::nodes(alloc, quads, Some(&name))?;
-    Ok(nodes.len() == 3)
+/// Whether the graph of the name has three nodes, two blank nodes and the literal that is the object of both.
+fn lists_nodes_of(alloc: Global, quads: &[Quad], name: &Term) -> Result<bool, TermFault> {
+    let nodes = dataset::nodes(alloc, quads, Some(name))?;
+    Ok(matches!(
+        nodes.as_slice(),
+        [Term::Blank(1), Term::Literal(_), Term::Blank(3)]
+    ))
 }
 
-fn lists(alloc: Global, quads: &[Quad]) -> Result<[bool; 4], TermFault> {
-    let is_name = lists_name(alloc, quads)?;
-    let are_nodes = lists_nodes(alloc, quads)?;
-    let are_named = lists_named_nodes(alloc, quads)?;
-    Ok([lies_above_blanks(quads), is_name, are_nodes, are_named])
+/// Whether there is one name.
+fn lists_names(alloc: Global, quads: &[Quad]) -> Result<bool, TermFault> {
+    let names = dataset::names(alloc, quads)?;
+    match names.as_slice() {
+        [name] if is_iri(name, "http://e/g") => lists_nodes_of(alloc, quads, name),
+        _ => Ok(false),
+    }
 }
 
-fn lists_terms(alloc: Global) -> Result<[bool; 4], TermFault> {
-    let quads = three_quads(alloc)?;
-    lists(alloc, quads.as_slice())
+pub fn lists_quads(rt: &impl Abort, alloc: Global) -> Result<bool, TermFault> {
+    let quads = three_quads(rt, alloc)?;
+    let are_nodes = lists_nodes(alloc, quads.as_slice())?;
+    let are_names = lists_names(alloc, quads.as_slice())?;
+    Ok(are_nodes && are_names)
 }
 
 #[test]
 fn lists_names_and_nodes(rt: HostRuntime) {
-    assert_eq!(rt; lists_terms(rt.alloc()), Ok([true; 4]));
+    assert!(rt; matches!(lists_quads(&rt, rt.alloc()), Ok(true)));
     dataset::same_bag_by_counts();
 }
 
@@ -397,109 +392,112 @@ fn make_slow(fails_at: u32, takes: usize) -> Counted<Slow> {
     })
 }
 
-/// Whether the sink takes five bytes in two calls.
-fn takes_bytes(sink: &mut Counted<Vec<u8>>) -> bool {
-    put_all(sink, b"abc") == 3 && sink.put(b"de").ok() == Some(2) && sink.faults() == 0
+fn puts_twice(sink: &mut Counted<Vec<u8>>) -> bool {
+    put_all(sink, b"abc") == 3 && matches!(sink.put(b"de"), Ok(2)) && sink.faults() == 0
 }
 
 #[test]
 fn puts_all(rt: HostRuntime) {
     let mut sink = Counted::new(Vec::new(rt.alloc()));
-    let is_taken = takes_bytes(&mut sink);
+    assert!(rt; puts_twice(&mut sink));
     let bytes = sink.into_inner();
-    assert!(rt; is_taken && bytes.as_slice() == b"abcde".as_slice());
+    assert!(rt; bytes.as_slice() == b"abcde".as_slice());
+}
+
+/// How many bytes go out, and the faults.
+fn puts_slowly(fails_at: u32, takes: usize) -> (usize, u64) {
+    let mut slow = make_slow(fails_at, takes);
+    let put = put_all(&mut slow, b"abcde");
+    (put, slow.faults())
 }
 
 #[test]
 fn counts_writes(rt: HostRuntime) {
-    let mut failing = make_slow(3, 2);
-    assert_eq!(rt; put_all(&mut failing, b"abcde"), 4);
-    assert_eq!(rt; failing.faults(), 1);
-    let mut full = make_slow(9, 0);
-    assert_eq!(rt; put_all(&mut full, b"abcde"), 0);
-    assert_eq!(rt; full.faults(), 1);
+    assert!(rt; puts_slowly(3, 2) == (4, 1));
+    assert!(rt; puts_slowly(9, 0) == (0, 1));
+}
+
+/// Whether a read of no bytes is no fault, and a failed one is.
+fn gets_twice(slow: &mut Counted<Slow>) -> bool {
+    let mut buf = [0u8; 4];
+    matches!(slow.get(&mut buf), Ok(0))
+        && slow.faults() == 0
+        && slow.get(&mut buf).is_err()
+        && slow.faults() == 1
 }
 
 #[test]
 fn counts_reads(rt: HostRuntime) {
-    let mut buf = [0u8; 4];
-    let mut ended = make_slow(2, 0);
-    assert!(rt; ended.get(&mut buf).is_ok());
-    assert_eq!(rt; ended.faults(), 0);
-    assert!(rt; ended.get(&mut buf).is_err());
-    assert_eq!(rt; ended.faults(), 1);
+    let mut slow = make_slow(2, 0);
+    assert!(rt; gets_twice(&mut slow));
 }
 
-/// Whether the fault is printed as the line.
-fn prints(alloc: Global, fault: &impl Display, line: &str) -> bool {
+fn is_printed(alloc: Global, fault: &impl Display, line: &str) -> bool {
     match format!(in alloc; "{fault}") {
         Ok(text) => text.as_str() == line,
         Err(_) => false,
     }
 }
 
+fn prints<F: Display + Drop>(rt: &impl Abort, alloc: Global, fault: F, line: &str) {
+    assert!(rt; is_printed(alloc, &fault, line), "{line}");
+}
+
 #[test]
 fn prints_term_faults(rt: HostRuntime) {
-    for (fault, line) in [
-        (TermFault::NotAbsolute, "the IRI has no scheme"),
-        (
-            TermFault::BadChar,
-            "the IRI has a character that IRIs exclude",
-        ),
-        (TermFault::BadTag, "the language tag has another form"),
-        (
-            TermFault::BadDatatype,
-            "a literal without a language tag can't be an rdf:langString",
-        ),
-        (TermFault::Memory, "out of memory"),
-    ] {
-        assert!(rt; prints(rt.alloc(), &fault, line), "{fault:?}");
-    }
-}
-
-fn prints_fault(rt: &impl Abort, alloc: Global, fault: QFault, line: &str) {
-    assert!(rt; prints(alloc, &fault, line), "{line}");
-}
-
-#[test]
-fn prints_places(rt: HostRuntime) {
     let alloc = rt.alloc();
-    prints_fault(&rt, alloc, QFault::Syntax { place: 23 }, "F1 syntax at 23");
-    prints_fault(
+    prints(&rt, alloc, TermFault::NotAbsolute, "the IRI has no scheme");
+    prints(
         &rt,
         alloc,
-        QFault::Prefix { place: 11 },
-        "F2 undeclared prefix at 11",
+        TermFault::BadChar,
+        "the IRI has a character that IRIs exclude",
     );
-    prints_fault(
+    prints(
         &rt,
         alloc,
-        QFault::RelativeIri { place: 0 },
-        "F3 relative IRI at 0",
+        TermFault::BadTag,
+        "the language tag has another form",
     );
-    prints_fault(
-        &rt,
-        alloc,
-        QFault::TooLarge { place: 73 },
-        "F6 too large at 73",
-    );
+    let line = "a literal without a language tag can't be an rdf:langString";
+    prints(&rt, alloc, TermFault::BadDatatype, line);
+    prints(&rt, alloc, TermFault::Memory, "out of memory");
 }
 
 #[test]
 fn prints_faults(rt: HostRuntime) {
     let alloc = rt.alloc();
-    prints_fault(&rt, alloc, QFault::Scope, "F5 scope");
-    prints_fault(&rt, alloc, QFault::NoGraph, "F7 no such graph");
-    prints_fault(&rt, alloc, QFault::GraphExists, "F7 graph exists");
-    prints_fault(&rt, alloc, QFault::TooManyRows, "F8 too many rows");
-    prints_fault(&rt, alloc, QFault::Memory, "F9 out of memory");
-    prints_fault(&rt, alloc, QFault::Full, "F10 full");
+    prints(&rt, alloc, QFault::Syntax { place: 23 }, "F1 syntax at 23");
+    prints(
+        &rt,
+        alloc,
+        QFault::Prefix { place: 11 },
+        "F2 undeclared prefix at 11",
+    );
+    prints(
+        &rt,
+        alloc,
+        QFault::RelativeIri { place: 0 },
+        "F3 relative IRI at 0",
+    );
+    prints(&rt, alloc, QFault::Scope, "F5 scope");
+    prints(
+        &rt,
+        alloc,
+        QFault::TooLarge { place: 73 },
+        "F6 too large at 73",
+    );
+    prints(&rt, alloc, QFault::NoGraph, "F7 no such graph");
+    prints(&rt, alloc, QFault::GraphExists, "F7 graph exists");
+    prints(&rt, alloc, QFault::TooManyRows, "F8 too many rows");
+    prints(&rt, alloc, QFault::Memory, "F9 out of memory");
+    prints(&rt, alloc, QFault::Full, "F10 full");
 }
 
 #[test]
 fn prints_words(rt: HostRuntime) -> Result<(), TermFault> {
     let word = Text::new(rt.alloc(), "1.5")?;
-    prints_fault(
+    prints(
         &rt,
         rt.alloc(),
         QFault::LeftOut { word },
