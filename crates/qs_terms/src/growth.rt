@@ -23,7 +23,8 @@ fn copies_term(alloc: Global, made: Result<Term, TermFault>) -> Result<bool, Ter
     let term = made?;
     let copy = term.try_clone(alloc)?;
     let is_same = copy.is_same(&term);
-    drop((term, copy));
+    drop(copy);
+    drop(term);
     Ok(is_same)
 }
 
@@ -53,12 +54,18 @@ fn literals_tolerant(rt: HostRuntime) {
     assert!(rt; is_tolerable(copies_term(alloc, Term::literal(alloc, "1", INTEGER))));
 }
 
+fn copies_lit(alloc: Global, lit: &Lit) -> Result<bool, TermFault> {
+    let copy = lit.try_clone(alloc)?;
+    let is_same = copy.is_same(lit) && copy.tag() == Some("en");
+    drop(copy);
+    Ok(is_same)
+}
+
 fn copies_tagged(alloc: Global, made: Result<Lit, TermFault>) -> Result<bool, TermFault> {
     let lit = made?;
-    let copy = lit.try_clone(alloc)?;
-    let is_same = copy.is_same(&lit) && copy.tag() == Some("en");
-    drop((lit, copy));
-    Ok(is_same)
+    let is_same = copies_lit(alloc, &lit);
+    drop(lit);
+    is_same
 }
 
 #[test]

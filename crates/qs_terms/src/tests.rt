@@ -32,9 +32,10 @@ fn make_iri(alloc: Global, text: &str) -> Result<Iri, TermFault> {
 /// Asserts what is wrong with the texts as IRIs, by each of the ways that make one.
 fn have_fault(rt: &impl Abort, alloc: Global, texts: &[&str], fault: Option<TermFault>) {
     for text in texts {
-        assert!(rt; make_iri(alloc, text).err() == fault, "{text}");
-        assert!(rt; Iri::parse(alloc, text).err() == fault);
-        assert!(rt; Term::iri(alloc, text).err() == fault);
+        let is_it = make_iri(alloc, text).err() == fault
+            && Iri::parse(alloc, text).err() == fault
+            && Term::iri(alloc, text).err() == fault;
+        assert!(rt; is_it, "{text}");
     }
 }
 
@@ -110,14 +111,9 @@ fn reads_literals(rt: HostRuntime) {
 }
 
 fn refuses_datatype(rt: &impl Abort, alloc: Global, datatype: &str, fault: TermFault) {
-    assert!(rt;
-        Term::literal(alloc, "x", datatype).err() == Some(fault),
-        "{datatype}"
-    );
-    assert!(rt;
-        make_typed(alloc, datatype).err() == Some(fault),
-        "{datatype}"
-    );
+    let is_refused = Term::literal(alloc, "x", datatype).err() == Some(fault)
+        && make_typed(alloc, datatype).err() == Some(fault);
+    assert!(rt; is_refused, "{datatype}");
 }
 
 #[test]
@@ -137,9 +133,10 @@ fn make_tagged(alloc: Global, tag: &str) -> Result<Lit, TermFault> {
 
 fn reads_tag(rt: &impl Abort, alloc: Global, tag: &str, lower: &str) {
     let parsed = Lit::parse_tagged(alloc, "a", tag);
-    assert!(rt; is_literal(parsed, "a", LANG_STRING, Some(lower)), "{tag}");
     let tagged = make_tagged(alloc, tag);
-    assert!(rt; is_literal(tagged, "a", LANG_STRING, Some(lower)), "{tag}");
+    let is_parsed = is_literal(parsed, "a", LANG_STRING, Some(lower));
+    let is_tagged = is_literal(tagged, "a", LANG_STRING, Some(lower));
+    assert!(rt; is_parsed && is_tagged, "{tag}");
 }
 
 #[test]
@@ -189,27 +186,23 @@ fn hash_of(term: &Term) -> u64 {
     state.finish()
 }
 
-/// Asserts whether the terms are the same, and that the same terms alone hash alike.
-fn compares(rt: &impl Abort, a: &Term, b: &Term, are_same: bool) {
-    assert!(rt; a.is_same(b) == are_same, "{a:?} {b:?}");
-    assert!(rt; (a.order(b) == Ordering::Equal) == are_same);
-    assert!(rt; (hash_of(a) == hash_of(b)) == are_same);
+/// Whether the terms are the same as they ought to be, where the same terms alone hash alike.
+fn compares(a: &Term, b: &Term, are_same: bool) -> bool {
+    a.is_same(b) == are_same
+        && (a.order(b) == Ordering::Equal) == are_same
+        && (hash_of(a) == hash_of(b)) == are_same
 }
 
-/// Asserts whether the terms may be a subject, or a graph, and a predicate.
-fn places(rt: &impl Abort, node: &Term, predicate: &Term, fit: bool) {
-    assert!(rt;
-        Quad::fits(None, node, predicate) == fit,
-        "{node:?} {predicate:?}"
-    );
-    assert!(rt; Quad::fits(Some(node), predicate, predicate) == fit);
+/// Whether the terms fit as a subject, or a graph, and a predicate as they ought to.
+fn places(node: &Term, predicate: &Term, fit: bool) -> bool {
+    Quad::fits(None, node, predicate) == fit && Quad::fits(Some(node), predicate, predicate) == fit
 }
 
-fn compares_all(rt: &impl Abort, terms: &[Term], i: usize, others: &[Term]) {
-    if let Some(term) = terms.get(i) {
+fn compares_all(rt: &impl Abort, terms: &[Term], others: &[Term]) {
+    for (i, term) in terms.iter().enumerate() {
         for (j, other) in others.iter().enumerate() {
-            compares(rt, term, other, i == j);
-            places(rt, term, other, i < 4 && j < 2);
+            assert!(rt; compares(term, other, i == j), "{i} {j}");
+            assert!(rt; places(term, other, i < 4 && j < 2), "{i} {j}");
         }
     }
 }
@@ -218,9 +211,7 @@ fn compares_all(rt: &impl Abort, terms: &[Term], i: usize, others: &[Term]) {
 fn tells_terms_apart(rt: HostRuntime) -> Result<(), TermFault> {
     let terms = samples(rt.alloc())?;
     let others = samples(rt.alloc())?;
-    for i in 0..9 {
-        compares_all(&rt, terms.as_slice(), i, others.as_slice());
-    }
+    compares_all(&rt, terms.as_slice(), others.as_slice());
     Ok(())
 }
 
@@ -241,8 +232,8 @@ fn graph_of(alloc: Global, number: u64) -> Result<Option<Term>, TermFault> {
 
 /// The quad whose subject is the blank node of the number.
 pub fn make_quad(rt: &impl Abort, alloc: Global, number: u64) -> Result<Quad, TermFault> {
-    let (predicate, object) = make_ends(alloc)?;
     let graph = graph_of(alloc, number)?;
+    let (predicate, object) = make_ends(alloc)?;
     let subject = Term::Blank(number);
     assert!(rt; Quad::fits(graph.as_ref(), &subject, &predicate));
     Ok(Quad::new(graph, subject, predicate, object))
@@ -296,12 +287,12 @@ fn three_quads(rt: &impl Abort, alloc: Global) -> Result<Vec<Quad>, TermFault> {
 /// Asserts that the quad is the one at this place alone, and is found behind that place alone.
 fn finds_quad(rt: &impl Abort, quads: &[Quad], place: usize, quad: &Quad) {
     for (i, other) in quads.iter().enumerate() {
-        assert!(rt; quad.is_same(other) == (i == place));
-        assert!(rt; (quad.order(other) == Ordering::Equal) == (i == place));
-        assert!(rt; dataset::contains(&quads[..i], quad) == (i > place));
+        let is_it = i == place;
+        let is_found = quad.is_same(other) == is_it
+            && (quad.order(other) == Ordering::Equal) == is_it
+            && dataset::contains(&quads[..i], quad) == (i > place);
+        assert!(rt; is_found, "{i} {place}");
     }
-    // quads 1 and 3 have a name
-    assert!(rt; quad.is_in(None) == (place == 1));
 }
 
 #[test]
@@ -310,40 +301,48 @@ fn finds_quads(rt: HostRuntime) -> Result<(), TermFault> {
     for (place, quad) in quads.iter().enumerate() {
         finds_quad(&rt, quads.as_slice(), place, quad);
     }
-    assert!(rt; dataset::is_above_blanks(4, quads.as_slice()));
-    assert!(rt; !dataset::is_above_blanks(3, quads.as_slice()));
     Ok(())
 }
 
-/// Whether the default graph has two nodes, a blank node and a literal.
-fn lists_nodes(alloc: Global, quads: &[Quad]) -> Result<bool, TermFault> {
-    let nodes = dataset::nodes(alloc, quads, None)?;
-    Ok(matches!(nodes.as_slice(), [Term::Blank(2), Term::Literal(_)]))
+/// Whether quads 1 and 3 alone have a name, and blank node 3 is the last.
+fn tests_quads(quads: &[Quad]) -> bool {
+    matches!(quads, [a, b, c] if !a.is_in(None) && b.is_in(None) && !c.is_in(None))
+        && dataset::is_above_blanks(4, quads)
+        && !dataset::is_above_blanks(3, quads)
 }
 
-/// Whether the graph of the name has three nodes, two blank nodes and the literal that is the object of both.
-fn lists_nodes_of(alloc: Global, quads: &[Quad], name: &Term) -> Result<bool, TermFault> {
-    let nodes = dataset::nodes(alloc, quads, Some(name))?;
-    Ok(matches!(
-        nodes.as_slice(),
-        [Term::Blank(1), Term::Literal(_), Term::Blank(3)]
-    ))
+/// Whether the graph has so many nodes, of which the first is a blank node of this number.
+fn has_nodes(
+    alloc: Global,
+    quads: &[Quad],
+    graph: Option<&Term>,
+    count: usize,
+    first: u64,
+) -> Result<bool, TermFault> {
+    let nodes = dataset::nodes(alloc, quads, graph)?;
+    let is_first = matches!(nodes.first(), Some(Term::Blank(number)) if *number == first);
+    Ok(nodes.len() == count && is_first)
 }
 
-/// Whether there is one name.
-fn lists_names(alloc: Global, quads: &[Quad]) -> Result<bool, TermFault> {
+/// Whether there is one name, in whose graph are two blank nodes and the literal that is the object of both.
+fn has_name(alloc: Global, quads: &[Quad]) -> Result<bool, TermFault> {
     let names = dataset::names(alloc, quads)?;
     match names.as_slice() {
-        [name] if is_iri(name, "http://e/g") => lists_nodes_of(alloc, quads, name),
+        [name] if is_iri(name, "http://e/g") => has_nodes(alloc, quads, Some(name), 3, 1),
         _ => Ok(false),
     }
 }
 
+fn lists(alloc: Global, quads: &[Quad]) -> Result<bool, TermFault> {
+    // a blank node and a literal
+    let are_nodes = has_nodes(alloc, quads, None, 2, 2)?;
+    let is_name = has_name(alloc, quads)?;
+    Ok(are_nodes && is_name && tests_quads(quads))
+}
+
 pub fn lists_quads(rt: &impl Abort, alloc: Global) -> Result<bool, TermFault> {
     let quads = three_quads(rt, alloc)?;
-    let are_nodes = lists_nodes(alloc, quads.as_slice())?;
-    let are_names = lists_names(alloc, quads.as_slice())?;
-    Ok(are_nodes && are_names)
+    lists(alloc, quads.as_slice())
 }
 
 #[test]
@@ -392,16 +391,19 @@ fn make_slow(fails_at: u32, takes: usize) -> Counted<Slow> {
     })
 }
 
-fn puts_twice(sink: &mut Counted<Vec<u8>>) -> bool {
-    put_all(sink, b"abc") == 3 && matches!(sink.put(b"de"), Ok(2)) && sink.faults() == 0
+fn puts_twice(alloc: Global) -> bool {
+    let mut sink = Counted::new(Vec::new(alloc));
+    let is_put = put_all(&mut sink, b"abc") == 3 && matches!(sink.put(b"de"), Ok(2));
+    let is_unfailed = sink.faults() == 0;
+    let bytes = sink.into_inner();
+    let is_kept = bytes.as_slice() == b"abcde".as_slice();
+    drop(bytes);
+    is_put && is_unfailed && is_kept
 }
 
 #[test]
 fn puts_all(rt: HostRuntime) {
-    let mut sink = Counted::new(Vec::new(rt.alloc()));
-    assert!(rt; puts_twice(&mut sink));
-    let bytes = sink.into_inner();
-    assert!(rt; bytes.as_slice() == b"abcde".as_slice());
+    assert!(rt; puts_twice(rt.alloc()));
 }
 
 /// How many bytes go out, and the faults.
