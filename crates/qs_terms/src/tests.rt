@@ -32,10 +32,10 @@ fn make_iri(alloc: Global, text: &str) -> Result<Iri, TermFault> {
 /// Asserts what is wrong with the texts as IRIs, by each of the ways that make one.
 fn have_fault(rt: &impl Abort, alloc: Global, texts: &[&str], fault: Option<TermFault>) {
     for text in texts {
-        let is_it = make_iri(alloc, text).err() == fault
-            && Iri::parse(alloc, text).err() == fault
-            && Term::iri(alloc, text).err() == fault;
-        assert!(rt; is_it, "{text}");
+        let made = make_iri(alloc, text).err();
+        let parsed = Iri::parse(alloc, text).err();
+        let term = Term::iri(alloc, text).err();
+        assert!(rt; made == fault && parsed == fault && term == fault, "{text}");
     }
 }
 
@@ -111,9 +111,12 @@ fn reads_literals(rt: HostRuntime) {
 }
 
 fn refuses_datatype(rt: &impl Abort, alloc: Global, datatype: &str, fault: TermFault) {
-    let is_refused = Term::literal(alloc, "x", datatype).err() == Some(fault)
-        && make_typed(alloc, datatype).err() == Some(fault);
-    assert!(rt; is_refused, "{datatype}");
+    let literal = Term::literal(alloc, "x", datatype).err();
+    let typed = make_typed(alloc, datatype).err();
+    assert!(rt;
+        literal == Some(fault) && typed == Some(fault),
+        "{datatype}"
+    );
 }
 
 #[test]
@@ -201,8 +204,9 @@ fn places(node: &Term, predicate: &Term, fit: bool) -> bool {
 fn compares_all(rt: &impl Abort, terms: &[Term], others: &[Term]) {
     for (i, term) in terms.iter().enumerate() {
         for (j, other) in others.iter().enumerate() {
-            assert!(rt; compares(term, other, i == j), "{i} {j}");
-            assert!(rt; places(term, other, i < 4 && j < 2), "{i} {j}");
+            let is_compared = compares(term, other, i == j);
+            let is_placed = places(term, other, i < 4 && j < 2);
+            assert!(rt; is_compared && is_placed, "{i} {j}");
         }
     }
 }
@@ -287,11 +291,14 @@ fn three_quads(rt: &impl Abort, alloc: Global) -> Result<Vec<Quad>, TermFault> {
 /// Asserts that the quad is the one at this place alone, and is found behind that place alone.
 fn finds_quad(rt: &impl Abort, quads: &[Quad], place: usize, quad: &Quad) {
     for (i, other) in quads.iter().enumerate() {
+        let is_same = quad.is_same(other);
+        let is_equal = quad.order(other) == Ordering::Equal;
+        let is_found = dataset::contains(&quads[..i], quad);
         let is_it = i == place;
-        let is_found = quad.is_same(other) == is_it
-            && (quad.order(other) == Ordering::Equal) == is_it
-            && dataset::contains(&quads[..i], quad) == (i > place);
-        assert!(rt; is_found, "{i} {place}");
+        assert!(rt;
+            is_same == is_it && is_equal == is_it && is_found == (i > place),
+            "{i} {place}"
+        );
     }
 }
 
@@ -321,7 +328,9 @@ fn has_nodes(
 ) -> Result<bool, TermFault> {
     let nodes = dataset::nodes(alloc, quads, graph)?;
     let is_first = matches!(nodes.first(), Some(Term::Blank(number)) if *number == first);
-    Ok(nodes.len() == count && is_first)
+    let len = nodes.len();
+    drop(nodes);
+    Ok(is_first && len == count)
 }
 
 /// Whether there is one name, in whose graph are two blank nodes and the literal that is the object of both.
@@ -393,12 +402,13 @@ fn make_slow(fails_at: u32, takes: usize) -> Counted<Slow> {
 
 fn puts_twice(alloc: Global) -> bool {
     let mut sink = Counted::new(Vec::new(alloc));
-    let is_put = put_all(&mut sink, b"abc") == 3 && matches!(sink.put(b"de"), Ok(2));
-    let is_unfailed = sink.faults() == 0;
+    let put = put_all(&mut sink, b"abc");
+    let more = sink.put(b"de").ok();
+    let faults = sink.faults();
     let bytes = sink.into_inner();
     let is_kept = bytes.as_slice() == b"abcde".as_slice();
     drop(bytes);
-    is_put && is_unfailed && is_kept
+    put == 3 && more == Some(2) && faults == 0 && is_kept
 }
 
 #[test]
