@@ -29,13 +29,18 @@ fn make_iri(alloc: Global, text: &str) -> Result<Iri, TermFault> {
     Iri::new(text)
 }
 
-/// Asserts what is wrong with the texts as IRIs, by each of the ways that make one.
+/// What is wrong with the text as an IRI, by each of the ways that make one.
+fn iri_faults(alloc: Global, text: &str) -> [Option<TermFault>; 3] {
+    [
+        make_iri(alloc, text).err(),
+        Iri::parse(alloc, text).err(),
+        Term::iri(alloc, text).err(),
+    ]
+}
+
 fn have_fault(rt: &impl Abort, alloc: Global, texts: &[&str], fault: Option<TermFault>) {
     for text in texts {
-        let made = make_iri(alloc, text).err();
-        let parsed = Iri::parse(alloc, text).err();
-        let term = Term::iri(alloc, text).err();
-        assert!(rt; made == fault && parsed == fault && term == fault, "{text}");
+        assert!(rt; iri_faults(alloc, text) == [fault; 3], "{text}");
     }
 }
 
@@ -248,7 +253,7 @@ fn is_iri(term: &Term, text: &str) -> bool {
 }
 
 /// Whether these are the terms of quad 7.
-fn are_sevenths(graph: Option<&Term>, subject: &Term, predicate: &Term, object: &Term) -> bool {
+fn are_of_quad_7(graph: Option<&Term>, subject: &Term, predicate: &Term, object: &Term) -> bool {
     matches!(graph, Some(name) if is_iri(name, "http://e/g"))
         && matches!(subject, Term::Blank(7))
         && is_iri(predicate, "http://e/p")
@@ -257,14 +262,14 @@ fn are_sevenths(graph: Option<&Term>, subject: &Term, predicate: &Term, object: 
 
 fn takes_apart(quad: Quad) -> bool {
     let terms = quad.into_terms();
-    let are_they = are_sevenths(terms.0.as_ref(), &terms.1, &terms.2, &terms.3);
+    let are_they = are_of_quad_7(terms.0.as_ref(), &terms.1, &terms.2, &terms.3);
     drop(terms);
     are_they
 }
 
 fn reads_quad(rt: &impl Abort, alloc: Global) -> Result<bool, TermFault> {
     let quad = make_quad(rt, alloc, 7)?;
-    let is_read = are_sevenths(
+    let is_read = are_of_quad_7(
         quad.graph(),
         quad.subject(),
         quad.predicate(),
@@ -288,31 +293,31 @@ fn three_quads(rt: &impl Abort, alloc: Global) -> Result<Vec<Quad>, TermFault> {
     Ok(quads)
 }
 
-/// Asserts that the quad is the one at this place alone, and is found behind that place alone.
-fn finds_quad(rt: &impl Abort, quads: &[Quad], place: usize, quad: &Quad) {
-    for (i, other) in quads.iter().enumerate() {
-        let is_same = quad.is_same(other);
-        let is_equal = quad.order(other) == Ordering::Equal;
-        let is_found = dataset::contains(&quads[..i], quad);
-        let is_it = i == place;
-        assert!(rt;
-            is_same == is_it && is_equal == is_it && is_found == (i > place),
-            "{i} {place}"
-        );
+/// Whether the quads are the same as they ought to be.
+fn compares_quads(a: &Quad, b: &Quad, are_same: bool) -> bool {
+    a.is_same(b) == are_same && (a.order(b) == Ordering::Equal) == are_same
+}
+
+/// Asserts that no two of the quads are the same, and that each is found behind its place alone.
+fn finds_all(rt: &impl Abort, quads: &[Quad]) {
+    for (i, quad) in quads.iter().enumerate() {
+        for (j, other) in quads.iter().enumerate() {
+            let is_compared = compares_quads(quad, other, i == j);
+            let is_found = dataset::contains(&quads[..j], quad);
+            assert!(rt; is_compared && is_found == (i < j), "{i} {j}");
+        }
     }
 }
 
 #[test]
 fn finds_quads(rt: HostRuntime) -> Result<(), TermFault> {
     let quads = three_quads(&rt, rt.alloc())?;
-    for (place, quad) in quads.iter().enumerate() {
-        finds_quad(&rt, quads.as_slice(), place, quad);
-    }
+    finds_all(&rt, quads.as_slice());
     Ok(())
 }
 
 /// Whether quads 1 and 3 alone have a name, and blank node 3 is the last.
-fn tests_quads(quads: &[Quad]) -> bool {
+fn has_named_and_last(quads: &[Quad]) -> bool {
     matches!(quads, [a, b, c] if !a.is_in(None) && b.is_in(None) && !c.is_in(None))
         && dataset::is_above_blanks(4, quads)
         && !dataset::is_above_blanks(3, quads)
@@ -346,7 +351,7 @@ fn lists(alloc: Global, quads: &[Quad]) -> Result<bool, TermFault> {
     // a blank node and a literal
     let are_nodes = has_nodes(alloc, quads, None, 2, 2)?;
     let is_name = has_name(alloc, quads)?;
-    Ok(are_nodes && is_name && tests_quads(quads))
+    Ok(are_nodes && is_name && has_named_and_last(quads))
 }
 
 pub fn lists_quads(rt: &impl Abort, alloc: Global) -> Result<bool, TermFault> {
