@@ -1,0 +1,3 @@
+pub mod FirstKinds
+pub mod TriplesLoop
+pub mod StepsLoop

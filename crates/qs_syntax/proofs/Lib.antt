@@ -1,0 +1,2 @@
+pub mod TreeOfText
+pub mod Slices

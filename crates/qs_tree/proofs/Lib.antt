@@ -1,0 +1,4 @@
+pub mod Sure
+pub mod Unambiguous
+pub mod WordRows
+pub mod TreeRows
