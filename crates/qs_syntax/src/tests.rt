@@ -168,31 +168,51 @@ fn update_faults(rt: HostRuntime) {
     assert_eq!(rt; update_place(alloc, "DELETE {} WHERE"), Some(15));
 }
 
-// every front of a text has a tree or a fault, and a fault stands within the front or at its end
-#[test]
-fn query_fronts(rt: HostRuntime) {
-    for end in 0..TERMS.len() {
-        if let Some(front) = TERMS.get(..end) {
-            if let Some(place) = query_place(rt.alloc(), front) {
-                assert!(rt; place <= end, "{place} of {front}");
-            } else {
-                assert!(rt; false, "no tree of {front}");
+/// Every front of the text has a tree, or a fault within the front or at its end.
+fn query_fronts_answer(rt: &impl Abort, alloc: Global, text: &str) {
+    for end in 0..text.len() {
+        if let Some(front) = text.get(..end) {
+            if query_tree(alloc, front).is_err() {
+                let place = query_place(alloc, front);
+                assert!(rt; place.is_some(), "no answer to {front}");
+                assert!(rt; place <= Some(end), "a place behind {front}");
             }
         }
     }
 }
 
-#[test]
-fn update_fronts(rt: HostRuntime) {
-    let alloc = rt.alloc();
-    for end in 0..QUADS.len() {
-        if let Some(front) = QUADS.get(..end) {
+fn update_fronts_answer(rt: &impl Abort, alloc: Global, text: &str) {
+    for end in 0..text.len() {
+        if let Some(front) = text.get(..end) {
             if update_tree(alloc, front).is_err() {
                 let place = update_place(alloc, front);
                 assert!(rt; place.is_some(), "no answer to {front}");
                 assert!(rt; place <= Some(end), "a place behind {front}");
             }
         }
+    }
+}
+
+#[test]
+fn query_fronts(rt: HostRuntime) {
+    let alloc = rt.alloc();
+    for text in [
+        TERMS,
+        SELECT,
+        GROUPS,
+        EXPRESSIONS,
+        CONSTRUCT,
+        SHORT_CONSTRUCT,
+    ] {
+        query_fronts_answer(&rt, alloc, text);
+    }
+}
+
+#[test]
+fn update_fronts(rt: HostRuntime) {
+    let alloc = rt.alloc();
+    for text in [QUADS, GRAPHS] {
+        update_fronts_answer(&rt, alloc, text);
     }
 }
 
