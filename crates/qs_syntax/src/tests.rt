@@ -138,6 +138,8 @@ fn graphs(rt: HostRuntime) {
 #[test]
 fn query_faults(rt: HostRuntime) {
     let alloc = rt.alloc();
+    // an object is due
+    assert_eq!(rt; query_place(alloc, "SELECT * WHERE { ?s ?p }"), Some(23));
     // an unclosed string is no token
     assert_eq!(rt; query_place(alloc, "SELECT * { ?s ?p \"a }"), Some(17));
     // the longest token: an IRI begins at the `<`
