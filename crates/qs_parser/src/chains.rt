@@ -1,4 +1,4 @@
-//! Trees of chains: the operand alone where there is one, else the chain.
+//! Trees made of the trees of their parts: chains (the operand alone where there is one), calls, comparisons, tables, lists.
 
 ghost use Rattle.std.specs.Prelude.{◌≡◌, [], ◌∷◌, IfOk, OnOk};
 ghost use Rattle.qs_grammar.specs.Repeated.{keep};

@@ -1,4 +1,5 @@
-//! The trees of queries and updates, and the grammar that they are read by.
+//! The trees of queries and updates as they are written, and the grammar that they are read by. The trees and the kinds of tokens
+//! stand here; `specs/Rules.antt` has the grammar line by line, `specs/Words.antt` the tables of words and marks.
 #![tactic(auto)]
 
 pub mod expression;

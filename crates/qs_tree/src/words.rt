@@ -137,8 +137,8 @@ fn find_mark(mut table: &[(&str, Kind)], mark: &str) -> Kind
     Kind::Word
 }
 
-#[tactic(auto, unfolding(crate::specs::Words::word_kind))]
 /// The kind of a word (SPARQL 1.1 Query, 19.8: keywords are matched without regard to case, `a` as it is written).
+#[tactic(auto, unfolding(crate::specs::Words::word_kind))]
 pub fn word_kind(word: &str) -> Kind
     ensures { result ≡ spec.word_kind word.now }
 {
@@ -148,8 +148,8 @@ pub fn word_kind(word: &str) -> Kind
     find_keyword(&KEYWORDS, word)
 }
 
-#[tactic(auto, unfolding(crate::specs::Words::mark_kind))]
 /// The kind of a mark.
+#[tactic(auto, unfolding(crate::specs::Words::mark_kind))]
 pub fn mark_kind(mark: &str) -> Kind
     ensures { result ≡ spec.mark_kind mark.now }
 {
