@@ -1,4 +1,4 @@
-use std::alloc::{AllocError, AllocFailed};
+use std::alloc::AllocError;
 
 /// Why no tree was read.
 #[derive(Clone, Copy, Debug, PartialEq, Eq)]

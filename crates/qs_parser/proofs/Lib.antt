@@ -1,3 +1,2 @@
 pub mod FirstKinds
-pub mod TriplesLoop
 pub mod StepsLoop

@@ -6,8 +6,9 @@ ghost use Rattle.qs_grammar.specs.Grammar.{Spells};
 ghost use Rattle.qs_tree.specs.Rules as rules;
 ghost use Rattle.qs_tree.specs.Table.{grammar};
 
-use crate::parser::Parser;
-use crate::tokens::Tokens;
+use crate::{queries, updates};
+use qs_cursor::parser::Parser;
+use qs_cursor::tokens::Tokens;
 use qs_grammar::fault::{Fault, ParseFault};
 use qs_tree::query::Query;
 use qs_tree::token::Token;
@@ -19,7 +20,7 @@ fn read_query(alloc: Global, tokens: &[Token]) -> Result<Query, Fault>
 {
     let depth = tokens.len();
     let mut left = Tokens::new(tokens);
-    let tree = Parser { alloc, depth }.query(&mut left)?;
+    let tree = queries::query(Parser { alloc, depth }, &mut left)?;
     if left.left() > 0 {
         return Err(left.refuse());
     }
@@ -31,7 +32,7 @@ fn read_update(alloc: Global, tokens: &[Token]) -> Result<Update, Fault>
 {
     let depth = tokens.len();
     let mut left = Tokens::new(tokens);
-    let tree = Parser { alloc, depth }.update(&mut left)?;
+    let tree = updates::update(Parser { alloc, depth }, &mut left)?;
     if left.left() != 0 {
         return Err(left.refuse());
     }

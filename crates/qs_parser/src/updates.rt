@@ -8,10 +8,13 @@ ghost use Rattle.qs_grammar.specs.Reading.{Reads};
 ghost use Rattle.qs_tree.specs.Rules as rules;
 ghost use Rattle.qs_tree.specs.Table.{grammar};
 
-use crate::kinds::OPERATIONS;
-use crate::parser::Parser;
-use crate::tokens::Tokens;
+use crate::quads::quads;
+use crate::queries;
+use qs_cursor::kinds::OPERATIONS;
+use qs_cursor::parser::Parser;
+use qs_cursor::tokens::Tokens;
 use qs_grammar::fault::Fault;
+use qs_parse_patterns::groups::group;
 use qs_tree::kind::Kind;
 use qs_tree::pattern::Group;
 use qs_tree::query::PrefixDeclaration;
@@ -22,266 +25,265 @@ use qs_tree::update::{
 };
 use sqlite_items::Items;
 
-impl Parser {
-    #[tactic(auto, unfolding(qs_tree::specs::Rules::where_group))]
-    fn where_group(&self, tokens: &mut Tokens<'_>) -> Result<Group, Fault>
-        ensures { Reads (read grammar self.now.depth rules.where_group tokens.old) result tokens.new }
-    {
+#[tactic(auto, unfolding(qs_tree::specs::Rules::where_group))]
+fn where_group(parser: Parser, tokens: &mut Tokens<'_>) -> Result<Group, Fault>
+    ensures { Reads (read grammar parser.depth rules.where_group tokens.old) result tokens.new }
+{
+    tokens.expect(Kind::Where)?;
+    group(parser, tokens)
+}
+
+#[tactic(auto, unfolding(qs_tree::specs::Rules::insert_clause))]
+fn insert_clause(parser: Parser, tokens: &mut Tokens<'_>) -> Result<Option<QuadPattern>, Fault>
+    ensures { Reads (read grammar parser.depth rules.insert_clause tokens.old) result tokens.new }
+{
+    if tokens.begins(&[Kind::Insert]) {
+        tokens.expect(Kind::Insert)?;
+        return Ok(Some(quads(parser, tokens)?));
+    }
+    Ok(None)
+}
+
+#[tactic(auto, unfolding(qs_tree::specs::Rules::insert))]
+fn insert(parser: Parser, tokens: &mut Tokens<'_>) -> Result<Operation, Fault>
+    ensures { Reads (read grammar parser.depth rules.insert tokens.old) result tokens.new }
+{
+    tokens.expect(Kind::Insert)?;
+    if tokens.begins(&[Kind::Data]) {
+        tokens.expect(Kind::Data)?;
+        return Ok(Operation::InsertData(quads(parser, tokens)?));
+    }
+    let insert = Some(quads(parser, tokens)?);
+    let pattern = where_group(parser, tokens)?;
+    Ok(Operation::Modify(Modify {
+        with: None,
+        delete: None,
+        insert,
+        pattern,
+    }))
+}
+
+#[tactic(auto, unfolding(qs_tree::specs::Rules::delete))]
+fn delete(parser: Parser, tokens: &mut Tokens<'_>) -> Result<Operation, Fault>
+    ensures { Reads (read grammar parser.depth rules.delete tokens.old) result tokens.new }
+{
+    tokens.expect(Kind::Delete)?;
+    if tokens.begins(&[Kind::Data]) {
+        tokens.expect(Kind::Data)?;
+        return Ok(Operation::DeleteData(quads(parser, tokens)?));
+    }
+    if tokens.begins(&[Kind::Where]) {
         tokens.expect(Kind::Where)?;
-        self.group(tokens)
+        return Ok(Operation::DeleteWhere(quads(parser, tokens)?));
     }
+    let delete = Some(quads(parser, tokens)?);
+    let insert = insert_clause(parser, tokens)?;
+    let pattern = where_group(parser, tokens)?;
+    Ok(Operation::Modify(Modify {
+        with: None,
+        delete,
+        insert,
+        pattern,
+    }))
+}
 
-    #[tactic(auto, unfolding(qs_tree::specs::Rules::insert_clause))]
-    fn insert_clause(&self, tokens: &mut Tokens<'_>) -> Result<Option<QuadPattern>, Fault>
-        ensures { Reads (read grammar self.now.depth rules.insert_clause tokens.old) result tokens.new }
-    {
-        if tokens.begins(&[Kind::Insert]) {
-            tokens.expect(Kind::Insert)?;
-            return Ok(Some(self.quads(tokens)?));
-        }
-        Ok(None)
-    }
-
-    #[tactic(auto, unfolding(qs_tree::specs::Rules::insert))]
-    fn insert(&self, tokens: &mut Tokens<'_>) -> Result<Operation, Fault>
-        ensures { Reads (read grammar self.now.depth rules.insert tokens.old) result tokens.new }
-    {
-        tokens.expect(Kind::Insert)?;
-        if tokens.begins(&[Kind::Data]) {
-            tokens.expect(Kind::Data)?;
-            return Ok(Operation::InsertData(self.quads(tokens)?));
-        }
-        let insert = Some(self.quads(tokens)?);
-        let pattern = self.where_group(tokens)?;
-        Ok(Operation::Modify(Modify {
-            with: None,
-            delete: None,
-            insert,
-            pattern,
-        }))
-    }
-
-    #[tactic(auto, unfolding(qs_tree::specs::Rules::delete))]
-    fn delete(&self, tokens: &mut Tokens<'_>) -> Result<Operation, Fault>
-        ensures { Reads (read grammar self.now.depth rules.delete tokens.old) result tokens.new }
-    {
+#[tactic(auto, unfolding(qs_tree::specs::Rules::changes))]
+fn changes(
+    parser: Parser,
+    tokens: &mut Tokens<'_>,
+) -> Result<(Option<QuadPattern>, Option<QuadPattern>), Fault>
+    ensures { Reads (read grammar parser.depth rules.changes tokens.old) result tokens.new }
+{
+    if tokens.begins(&[Kind::Delete]) {
         tokens.expect(Kind::Delete)?;
-        if tokens.begins(&[Kind::Data]) {
-            tokens.expect(Kind::Data)?;
-            return Ok(Operation::DeleteData(self.quads(tokens)?));
-        }
-        if tokens.begins(&[Kind::Where]) {
-            tokens.expect(Kind::Where)?;
-            return Ok(Operation::DeleteWhere(self.quads(tokens)?));
-        }
-        let delete = Some(self.quads(tokens)?);
-        let insert = self.insert_clause(tokens)?;
-        let pattern = self.where_group(tokens)?;
-        Ok(Operation::Modify(Modify {
-            with: None,
-            delete,
-            insert,
-            pattern,
-        }))
+        let delete = Some(quads(parser, tokens)?);
+        return Ok((delete, insert_clause(parser, tokens)?));
     }
+    tokens.expect(Kind::Insert)?;
+    Ok((None, Some(quads(parser, tokens)?)))
+}
 
-    #[tactic(auto, unfolding(qs_tree::specs::Rules::changes))]
-    fn changes(
-        &self,
-        tokens: &mut Tokens<'_>,
-    ) -> Result<(Option<QuadPattern>, Option<QuadPattern>), Fault>
-        ensures { Reads (read grammar self.now.depth rules.changes tokens.old) result tokens.new }
-    {
-        if tokens.begins(&[Kind::Delete]) {
-            tokens.expect(Kind::Delete)?;
-            let delete = Some(self.quads(tokens)?);
-            return Ok((delete, self.insert_clause(tokens)?));
-        }
-        tokens.expect(Kind::Insert)?;
-        Ok((None, Some(self.quads(tokens)?)))
+#[tactic(auto, unfolding(qs_tree::specs::Rules::with_clause))]
+fn with_clause(parser: Parser, tokens: &mut Tokens<'_>) -> Result<Iri, Fault>
+    ensures { Reads (read grammar parser.depth rules.with_clause tokens.old) result tokens.new }
+{
+    tokens.expect(Kind::With)?;
+    parser.iri(tokens)
+}
+
+#[tactic(auto, unfolding(qs_tree::specs::Rules::with_graph))]
+fn with_graph(parser: Parser, tokens: &mut Tokens<'_>) -> Result<Operation, Fault>
+    ensures { Reads (read grammar parser.depth rules.with_graph tokens.old) result tokens.new }
+{
+    let with = Some(with_clause(parser, tokens)?);
+    let (delete, insert) = changes(parser, tokens)?;
+    let pattern = where_group(parser, tokens)?;
+    Ok(Operation::Modify(Modify {
+        with,
+        delete,
+        insert,
+        pattern,
+    }))
+}
+
+#[tactic(auto, unfolding(qs_tree::specs::Rules::silent))]
+fn silent(parser: Parser, tokens: &mut Tokens<'_>) -> Result<OnMissing, Fault>
+    ensures { Reads (read grammar parser.depth rules.silent tokens.old) result tokens.new }
+{
+    if tokens.begins(&[Kind::Silent]) {
+        tokens.expect(Kind::Silent)?;
+        return Ok(OnMissing::Silent);
     }
+    Ok(OnMissing::Fault)
+}
 
-    #[tactic(auto, unfolding(qs_tree::specs::Rules::with_clause))]
-    fn with_clause(&self, tokens: &mut Tokens<'_>) -> Result<Iri, Fault>
-        ensures { Reads (read grammar self.now.depth rules.with_clause tokens.old) result tokens.new }
-    {
-        tokens.expect(Kind::With)?;
-        self.iri(tokens)
+#[tactic(auto, unfolding(qs_tree::specs::Rules::target))]
+fn target(parser: Parser, tokens: &mut Tokens<'_>) -> Result<GraphTarget, Fault>
+    ensures { Reads (read grammar parser.depth rules.target tokens.old) result tokens.new }
+{
+    if tokens.begins(&[Kind::Graph]) {
+        tokens.expect(Kind::Graph)?;
+        return Ok(GraphTarget::Graph(parser.iri(tokens)?));
     }
-
-    #[tactic(auto, unfolding(qs_tree::specs::Rules::with_graph))]
-    fn with_graph(&self, tokens: &mut Tokens<'_>) -> Result<Operation, Fault>
-        ensures { Reads (read grammar self.now.depth rules.with_graph tokens.old) result tokens.new }
-    {
-        let with = Some(self.with_clause(tokens)?);
-        let (delete, insert) = self.changes(tokens)?;
-        let pattern = self.where_group(tokens)?;
-        Ok(Operation::Modify(Modify {
-            with,
-            delete,
-            insert,
-            pattern,
-        }))
+    if tokens.begins(&[Kind::Default]) {
+        tokens.expect(Kind::Default)?;
+        return Ok(GraphTarget::Default);
     }
-
-    #[tactic(auto, unfolding(qs_tree::specs::Rules::silent))]
-    fn silent(&self, tokens: &mut Tokens<'_>) -> Result<OnMissing, Fault>
-        ensures { Reads (read grammar self.now.depth rules.silent tokens.old) result tokens.new }
-    {
-        if tokens.begins(&[Kind::Silent]) {
-            tokens.expect(Kind::Silent)?;
-            return Ok(OnMissing::Silent);
-        }
-        Ok(OnMissing::Fault)
+    if tokens.begins(&[Kind::Named]) {
+        tokens.expect(Kind::Named)?;
+        return Ok(GraphTarget::Named);
     }
+    tokens.expect(Kind::All)?;
+    Ok(GraphTarget::All)
+}
 
-    #[tactic(auto, unfolding(qs_tree::specs::Rules::target))]
-    fn target(&self, tokens: &mut Tokens<'_>) -> Result<GraphTarget, Fault>
-        ensures { Reads (read grammar self.now.depth rules.target tokens.old) result tokens.new }
-    {
-        if tokens.begins(&[Kind::Graph]) {
-            tokens.expect(Kind::Graph)?;
-            return Ok(GraphTarget::Graph(self.iri(tokens)?));
-        }
-        if tokens.begins(&[Kind::Default]) {
-            tokens.expect(Kind::Default)?;
-            return Ok(GraphTarget::Default);
-        }
-        if tokens.begins(&[Kind::Named]) {
-            tokens.expect(Kind::Named)?;
-            return Ok(GraphTarget::Named);
-        }
-        tokens.expect(Kind::All)?;
-        Ok(GraphTarget::All)
+#[tactic(auto, unfolding(qs_tree::specs::Rules::graph_or_default))]
+fn graph_or_default(parser: Parser, tokens: &mut Tokens<'_>) -> Result<GraphOrDefault, Fault>
+    ensures { Reads (read grammar parser.depth rules.graph_or_default tokens.old) result tokens.new }
+{
+    if tokens.begins(&[Kind::Default]) {
+        tokens.expect(Kind::Default)?;
+        return Ok(GraphOrDefault::Default);
     }
-
-    #[tactic(auto, unfolding(qs_tree::specs::Rules::graph_or_default))]
-    fn graph_or_default(&self, tokens: &mut Tokens<'_>) -> Result<GraphOrDefault, Fault>
-        ensures { Reads (read grammar self.now.depth rules.graph_or_default tokens.old) result tokens.new }
-    {
-        if tokens.begins(&[Kind::Default]) {
-            tokens.expect(Kind::Default)?;
-            return Ok(GraphOrDefault::Default);
-        }
-        if tokens.begins(&[Kind::Graph]) {
-            tokens.expect(Kind::Graph)?;
-        }
-        Ok(GraphOrDefault::Graph(self.iri(tokens)?))
+    if tokens.begins(&[Kind::Graph]) {
+        tokens.expect(Kind::Graph)?;
     }
+    Ok(GraphOrDefault::Graph(parser.iri(tokens)?))
+}
 
-    #[tactic(auto, unfolding(qs_tree::specs::Rules::transfer))]
-    fn transfer(&self, tokens: &mut Tokens<'_>) -> Result<Transfer, Fault>
-        ensures { Reads (read grammar self.now.depth rules.transfer tokens.old) result tokens.new }
-    {
-        let on_missing = self.silent(tokens)?;
-        let from = self.graph_or_default(tokens)?;
-        tokens.expect(Kind::To)?;
-        let to = self.graph_or_default(tokens)?;
-        Ok(Transfer {
-            on_missing,
-            from,
-            to,
-        })
+#[tactic(auto, unfolding(qs_tree::specs::Rules::transfer))]
+fn transfer(parser: Parser, tokens: &mut Tokens<'_>) -> Result<Transfer, Fault>
+    ensures { Reads (read grammar parser.depth rules.transfer tokens.old) result tokens.new }
+{
+    let on_missing = silent(parser, tokens)?;
+    let from = graph_or_default(parser, tokens)?;
+    tokens.expect(Kind::To)?;
+    let to = graph_or_default(parser, tokens)?;
+    Ok(Transfer {
+        on_missing,
+        from,
+        to,
+    })
+}
+
+#[tactic(auto, unfolding(qs_tree::specs::Rules::graph_operation))]
+fn graph_operation(parser: Parser, tokens: &mut Tokens<'_>) -> Result<Operation, Fault>
+    ensures { Reads (read grammar parser.depth rules.graph_operation tokens.old) result tokens.new }
+{
+    if tokens.begins(&[Kind::Clear]) {
+        tokens.expect(Kind::Clear)?;
+        let silent = silent(parser, tokens)?;
+        return Ok(Operation::Clear(silent, target(parser, tokens)?));
     }
-
-    #[tactic(auto, unfolding(qs_tree::specs::Rules::graph_operation))]
-    fn graph_operation(&self, tokens: &mut Tokens<'_>) -> Result<Operation, Fault>
-        ensures { Reads (read grammar self.now.depth rules.graph_operation tokens.old) result tokens.new }
-    {
-        if tokens.begins(&[Kind::Clear]) {
-            tokens.expect(Kind::Clear)?;
-            let silent = self.silent(tokens)?;
-            return Ok(Operation::Clear(silent, self.target(tokens)?));
-        }
-        if tokens.begins(&[Kind::Drop]) {
-            tokens.expect(Kind::Drop)?;
-            let silent = self.silent(tokens)?;
-            return Ok(Operation::Drop(silent, self.target(tokens)?));
-        }
-        if tokens.begins(&[Kind::Create]) {
-            tokens.expect(Kind::Create)?;
-            let silent = self.silent(tokens)?;
-            tokens.expect(Kind::Graph)?;
-            return Ok(Operation::Create(silent, self.iri(tokens)?));
-        }
-        if tokens.begins(&[Kind::Add]) {
-            tokens.expect(Kind::Add)?;
-            return Ok(Operation::Add(self.transfer(tokens)?));
-        }
-        if tokens.begins(&[Kind::Move]) {
-            tokens.expect(Kind::Move)?;
-            return Ok(Operation::Move(self.transfer(tokens)?));
-        }
-        tokens.expect(Kind::Copy)?;
-        Ok(Operation::Copy(self.transfer(tokens)?))
+    if tokens.begins(&[Kind::Drop]) {
+        tokens.expect(Kind::Drop)?;
+        let silent = silent(parser, tokens)?;
+        return Ok(Operation::Drop(silent, target(parser, tokens)?));
     }
-
-    #[tactic(auto, using(crate::proofs::FirstKinds::first_insert, crate::proofs::FirstKinds::first_delete, crate::proofs::FirstKinds::first_with_graph), unfolding(qs_tree::specs::Rules::operation))]
-    fn operation(&self, tokens: &mut Tokens<'_>) -> Result<Operation, Fault>
-        ensures { Reads (read grammar self.now.depth rules.operation tokens.old) result tokens.new }
-    {
-        if tokens.begins(&[Kind::Insert]) {
-            return self.insert(tokens);
-        }
-        if tokens.begins(&[Kind::Delete]) {
-            return self.delete(tokens);
-        }
-        if tokens.begins(&[Kind::With]) {
-            return self.with_graph(tokens);
-        }
-        self.graph_operation(tokens)
+    if tokens.begins(&[Kind::Create]) {
+        tokens.expect(Kind::Create)?;
+        let silent = silent(parser, tokens)?;
+        tokens.expect(Kind::Graph)?;
+        return Ok(Operation::Create(silent, parser.iri(tokens)?));
     }
-
-    // the steps from this one on, whose prologue was read and whose operation begins here
-    fn steps(
-        &self,
-        prologue: Items<PrefixDeclaration>,
-        tokens: &mut Tokens<'_>,
-    ) -> Result<Items<UpdateStep>, Fault>
-        ensures { Reads (and_then (read grammar self.now.depth rules.operations_rule tokens.old) (λ x s. Ok (steps_of (prologue, Some x), s))) result tokens.new }
-    {
-        let mut found = Items::new(self.alloc);
-        let mut parser = *self;
-        let mut prologue = prologue;
-        'steps: loop {
-            let operation = Some(parser.operation(tokens)?);
-            found.push(UpdateStep {
-                prologue,
-                operation,
-            })?;
-            if !tokens.begins(&[Kind::Semicolon]) {
-                return Ok(found);
-            }
-            tokens.expect(Kind::Semicolon)?;
-            prologue = parser.prologue(tokens)?;
-            if !tokens.begins(&OPERATIONS) {
-                found.push(UpdateStep {
-                    prologue,
-                    operation: None,
-                })?;
-                return Ok(found);
-            }
-            if parser.depth == 0 {
-                return Err(Fault::Deep);
-            }
-            parser = parser.deeper();
-        }
+    if tokens.begins(&[Kind::Add]) {
+        tokens.expect(Kind::Add)?;
+        return Ok(Operation::Add(transfer(parser, tokens)?));
     }
+    if tokens.begins(&[Kind::Move]) {
+        tokens.expect(Kind::Move)?;
+        return Ok(Operation::Move(transfer(parser, tokens)?));
+    }
+    tokens.expect(Kind::Copy)?;
+    Ok(Operation::Copy(transfer(parser, tokens)?))
+}
 
-    #[tactic(auto, using(crate::proofs::FirstKinds::first_operations_rule), unfolding(qs_tree::specs::Rules::update))]
-    pub fn update(&self, tokens: &mut Tokens<'_>) -> Result<Update, Fault>
-        ensures { Reads (read grammar self.now.depth rules.update tokens.old) result tokens.new }
-    {
-        let prologue = self.prologue(tokens)?;
-        let mut steps = Items::new(self.alloc);
+#[tactic(auto, using(crate::proofs::FirstKinds::first_insert, crate::proofs::FirstKinds::first_delete, crate::proofs::FirstKinds::first_with_graph), unfolding(qs_tree::specs::Rules::operation))]
+fn operation(parser: Parser, tokens: &mut Tokens<'_>) -> Result<Operation, Fault>
+    ensures { Reads (read grammar parser.depth rules.operation tokens.old) result tokens.new }
+{
+    if tokens.begins(&[Kind::Insert]) {
+        return insert(parser, tokens);
+    }
+    if tokens.begins(&[Kind::Delete]) {
+        return delete(parser, tokens);
+    }
+    if tokens.begins(&[Kind::With]) {
+        return with_graph(parser, tokens);
+    }
+    graph_operation(parser, tokens)
+}
+
+// the steps from this one on, whose prologue was read and whose operation begins here
+fn steps_from(
+    parser: Parser,
+    prologue: Items<PrefixDeclaration>,
+    tokens: &mut Tokens<'_>,
+) -> Result<Items<UpdateStep>, Fault>
+    ensures { Reads (and_then (read grammar parser.depth rules.operations_rule tokens.old) (λ x s. Ok (steps_of (prologue, Some x), s))) result tokens.new }
+{
+    let mut found = Items::new(parser.alloc);
+    let mut inner = parser;
+    let mut prologue = prologue;
+    'steps: loop {
+        let operation = Some(operation(inner, tokens)?);
+        found.push(UpdateStep {
+            prologue,
+            operation,
+        })?;
+        if !tokens.begins(&[Kind::Semicolon]) {
+            return Ok(found);
+        }
+        tokens.expect(Kind::Semicolon)?;
+        prologue = queries::prologue(inner, tokens)?;
         if !tokens.begins(&OPERATIONS) {
-            steps.push(UpdateStep {
+            found.push(UpdateStep {
                 prologue,
                 operation: None,
             })?;
-            return Ok(Update { steps });
+            return Ok(found);
         }
-        steps = self.steps(prologue, tokens)?;
-        Ok(Update { steps })
+        if inner.depth == 0 {
+            return Err(Fault::Deep);
+        }
+        inner = inner.deeper();
     }
+}
+
+/// An update ([29]).
+#[tactic(auto, using(crate::proofs::FirstKinds::first_operations_rule), unfolding(qs_tree::specs::Rules::update))]
+pub fn update(parser: Parser, tokens: &mut Tokens<'_>) -> Result<Update, Fault>
+    ensures { Reads (read grammar parser.depth rules.update tokens.old) result tokens.new }
+{
+    let prologue = queries::prologue(parser, tokens)?;
+    let mut steps = Items::new(parser.alloc);
+    if !tokens.begins(&OPERATIONS) {
+        steps.push(UpdateStep {
+            prologue,
+            operation: None,
+        })?;
+        return Ok(Update { steps });
+    }
+    steps = steps_from(parser, prologue, tokens)?;
+    Ok(Update { steps })
 }

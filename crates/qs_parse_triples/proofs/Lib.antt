@@ -1,0 +1,2 @@
+pub mod FirstKinds
+pub mod TriplesLoop
