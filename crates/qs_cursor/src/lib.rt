@@ -1,5 +1,5 @@
 //! What all procedures of the parser share: the tokens that are left, what some rules begin with, the trees made of the trees of
-//! their parts, and the procedures of terms and of the words of functions.
+//! their parts; and the procedures of terms and of the words of functions.
 #![tactic(auto)]
 
 pub mod functions;

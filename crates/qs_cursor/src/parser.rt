@@ -1,10 +1,15 @@
-//! What procedures share.
+//! What is handed to each procedure. A procedure reads by one rule of the grammar, and answers what the grammar's reading function
+//! answers at this depth, or want of memory.
 
 ghost use Rattle.std.specs.Prelude.{◌≡◌, ◌<◌, ◌-◌};
 
 use std::alloc::Global;
 
 /// What procedures share.
+///
+/// # Errors
+/// A procedure answers `Fault::Syntax` with the number of tokens from the one that is to blame, `Fault::Deep` where named rules
+/// hold one another deeper than `depth`, and `Fault::Memory` for want of memory.
 #[derive(Clone, Copy)]
 pub struct Parser {
     /// Where trees are kept.

@@ -1,5 +1,5 @@
-//! The procedures of group graph patterns, of tables of values and of solution modifiers (SPARQL 1.1 Query, 19.8, [18] to [27], [53]
-//! to [69]), one for each rule of the grammar of `qs_tree`. What each of them reads is what the grammar's reading function reads.
+//! The procedures of group graph patterns, of tables of values and of solution modifiers (SPARQL 1.1 Query, 19.8, [18] to [27] and
+//! [53] to [69]), one for each rule of the grammar of `qs_tree`. `qs_cursor::parser` says what they answer.
 #![tactic(auto)]
 
 pub mod data;

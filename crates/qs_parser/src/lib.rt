@@ -1,6 +1,6 @@
 //! The parser: from a list of tokens to the one tree that it spells, or to the first token that is to blame. The procedures of
-//! queries and updates stand here, on those of `qs_parse_patterns`, `qs_parse_triples` and `qs_parse_expressions`: one for each
-//! rule of the grammar of `qs_tree`. What each of them reads is what the grammar's reading function reads.
+//! queries and updates stand here, one for each rule of the grammar of `qs_tree`, over those of expressions, triples and patterns
+//! in the crates below. `qs_cursor::parser` says what they answer.
 #![tactic(auto)]
 
 pub mod parse;
