@@ -13,6 +13,7 @@ pub struct Escape {
     pub length: usize,
 }
 
+#[tactic(auto, using(crate::proofs::HexNumbers::digit, crate::proofs::HexNumbers::whole, crate::proofs::HexNumbers::other, crate::proofs::HexNumbers::past))]
 fn hex_number(digits: Digits, bytes: &[u8]) -> Option<u32>
     ensures { result ≡ hex_number (digits.after + 1) digits.value bytes.now }
 {
@@ -27,6 +28,7 @@ fn hex_number(digits: Digits, bytes: &[u8]) -> Option<u32>
     None
 }
 
+#[tactic(auto, using(crate::proofs::Characters::named, crate::proofs::Characters::unnamed))]
 fn escape_of(length: usize, code: Option<u32>) -> Option<Escape>
     ensures { result ≡ Rattle.qs_names.specs.Escape.escape_of length code }
 {

@@ -1,0 +1,4 @@
+pub mod Pieces
+pub mod Characters
+pub mod HexNumbers
+pub mod Decimals
