@@ -2,3 +2,5 @@ pub mod Pieces
 pub mod Characters
 pub mod HexNumbers
 pub mod Decimals
+pub mod Backslashes
+pub mod EscapeEnds

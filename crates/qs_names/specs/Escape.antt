@@ -4,6 +4,8 @@ use Rattle.std.specs.Option.{option_map}
 use Rattle.std.specs.Map.{lookup}
 use Rattle.qs_regular.specs.Character.{is_hex, hex_value, is_scalar}
 use Rattle.qs_names.specs.declared.escape.Escape.{Escape}
+use Rattle.qs_names.specs.declared.escape.Escapes.{Escapes}
+use Rattle.qs_names.specs.declared.escape.Escapes.TheVariants.{Codepoints, Strings}
 
 -- n more hexadecimal digits behind digits of this value: the value of them all
 unfoldable pub hex_number : ℕ → ℕ → List ℕ → Option ℕ
@@ -33,3 +35,7 @@ echar_or (Some c) other = Some (record { character = c; length = 1 })
 abbrev pub string_escape : List ℕ → Option Escape
 string_escape [] = None
 string_escape (c ∷ cs) = echar_or (echar_of c) (uchar (c ∷ cs))
+
+abbrev pub escape : Escapes → List ℕ → Option Escape
+escape Codepoints = uchar
+escape Strings = string_escape

@@ -1,7 +1,7 @@
 //! Escapes, as they stand behind their backslash.
 
 ghost use Rattle.std.specs.Prelude.{◌≡◌, ◌<◌, ◌≤◌, ◌+◌, ◌-◌, IfSome, List, ℕ, length, slice_index};
-ghost use Rattle.qs_names.specs.Escape.{hex_number, uchar, echar_of, string_escape};
+ghost use Rattle.qs_names.specs.Escape.{hex_number, uchar, echar_of, string_escape, escape};
 
 use qs_regular::escape::Escape as Digits;
 use qs_regular::push::{Pushed, push};
@@ -11,6 +11,15 @@ use qs_regular::push::{Pushed, push};
 pub struct Escape {
     pub character: char,
     pub length: usize,
+}
+
+/// Which escapes a text may have.
+#[derive(Clone, Copy)]
+pub enum Escapes {
+    /// Codepoint escapes, as in an IRI.
+    Codepoints,
+    /// These and the escapes of strings.
+    Strings,
 }
 
 #[tactic(auto, using(crate::proofs::HexNumbers::digit, crate::proofs::HexNumbers::whole, crate::proofs::HexNumbers::other, crate::proofs::HexNumbers::past))]
@@ -36,8 +45,8 @@ fn escape_of(length: usize, code: Option<u32>) -> Option<Escape>
     Some(Escape { character, length })
 }
 
-/// The codepoint escape that the bytes begin with.
-pub(crate) fn uchar(bytes: &[u8]) -> Option<Escape>
+// The codepoint escape that the bytes begin with.
+fn uchar(bytes: &[u8]) -> Option<Escape>
     ensures { result ≡ uchar bytes.now }
 {
     let (first, rest) = bytes.split_first()?;
@@ -62,8 +71,8 @@ fn echar_of(byte: u8) -> Option<char>
     }
 }
 
-/// The escape of a string that the bytes begin with.
-pub(crate) fn string_escape(bytes: &[u8]) -> Option<Escape>
+// The escape of a string that the bytes begin with.
+fn string_escape(bytes: &[u8]) -> Option<Escape>
     ensures { result ≡ string_escape bytes.now }
 {
     let first = bytes.first()?;
@@ -73,5 +82,15 @@ pub(crate) fn string_escape(bytes: &[u8]) -> Option<Escape>
             length: 1,
         }),
         None => uchar(bytes),
+    }
+}
+
+/// The escape that the bytes begin with.
+pub(crate) fn first_escape(kind: Escapes, bytes: &[u8]) -> Option<Escape>
+    ensures { result ≡ escape kind bytes.now }
+{
+    match kind {
+        Escapes::Codepoints => uchar(bytes),
+        Escapes::Strings => string_escape(bytes),
     }
 }

@@ -6,7 +6,8 @@ ghost use Rattle.qs_terms.specs.Iri.{checked_iri};
 ghost use Rattle.qs_names.specs.Gives.{Gives};
 ghost use Rattle.qs_names.specs.Names.{full, is_colon};
 
-use crate::decoded::decoded_iri;
+use crate::decoded::decoded;
+use crate::escape::Escapes;
 use crate::piece::piece;
 use qs_terms::{Iri, QFault, Text};
 use qs_tree::token::Span;
@@ -29,8 +30,8 @@ pub(crate) fn full_iri(alloc: Global, text: &str, span: Span) -> Result<Iri, QFa
     ensures { Gives (full text.now span) result }
 {
     let inside = piece(text, span.start.saturating_add(1), span.end.saturating_sub(1));
-    let decoded = decoded_iri(alloc, inside)?;
-    absolute(span.start, decoded)
+    let text = decoded(alloc, inside, Escapes::Codepoints)?;
+    absolute(span.start, text)
 }
 
 /// The parts before and behind the first colon.

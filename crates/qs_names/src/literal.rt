@@ -6,7 +6,8 @@ ghost use Rattle.qs_terms.specs.Literal.{typed, checked_tagged};
 ghost use Rattle.qs_names.specs.Gives.{Gives};
 ghost use Rattle.qs_names.specs.Names.{marks, xsd_string, xsd_integer, xsd_boolean};
 
-use crate::decoded::decoded_string;
+use crate::decoded::decoded;
+use crate::escape::Escapes;
 use crate::piece::piece;
 use qs_terms::{Iri, Lit, QFault, TermFault, Text};
 use qs_tree::token::Span;
@@ -34,7 +35,7 @@ pub(crate) fn string(alloc: Global, text: &str, span: Span) -> Result<Text, Allo
 {
     let marks = marks(piece(text, span.start, span.end));
     let inside = piece(text, span.start.saturating_add(marks), span.end.saturating_sub(marks));
-    decoded_string(alloc, inside)
+    decoded(alloc, inside, Escapes::Strings)
 }
 
 // A literal that is lawful, or a fault of memory.
