@@ -1,10 +1,11 @@
 -- What `get` finds of a text is the piece.
-use Rattle.std.proofs.Common.{◌≡◌, ℕ, ◌+◌, ◌-◌, ◌<◌, ◌≤◌, ◌⊎◌, inl, inr, true, false, List, [], length, take, drop, slice_index, slice_range, refl, ◌∙◌, sym, ap, subst, arith, length-drop}
-use Rattle.std.proofs.Math.Nat.{eq-or-lt_of_le, add-zero}
+use Rattle.std.proofs.Common.{◌≡◌, ℕ, ◌+◌, ◌-◌, ◌<◌, ◌≤◌, ◌⊎◌, inl, inr, true, false, List, [], length, take, drop, slice_index, slice_range, min, refl, ◌∙◌, sym, ap, subst, arith, length-drop}
+use Rattle.std.proofs.Math.Nat.{eq-or-lt_of_le, add-zero, min-eq_left, min-eq_right}
 use Rattle.std.proofs.lemmas.List.{get_or_past, get_or-take, get_or-drop}
 use Rattle.std.proofs.lemmas.Bool.Decides.{nat_tests}
 use Rattle.std.proofs.lemmas.Str.{IsCharBoundary-start, IsUtf8-drop, IsCharBoundary-from_take, IsCharBoundary-from_rest}
 use Rattle.std.specs.Str.{IsUtf8, IsCharBoundary}
+use Rattle.qs_names.proofs.Either.{either}
 use Rattle.qs_names.specs.Piece.{is_boundary, piece}
 
 boundary-true : (text : List ℕ) (p : ℕ) → IsCharBoundary text p → is_boundary text p ≡ true
@@ -43,3 +44,16 @@ unfolding piece
 none text i j h =
     let no : i ≤ j → is_boundary text i ≡ true → is_boundary text j ≡ true → ⊥ = λ l b c. h l (boundary_from_true text i b) (boundary_from_true text j c) in
     grind (arith, nat_tests)
+
+-- nothing is from a place to one before it
+empty : (text : List ℕ) (i j : ℕ) → j ≤ i → piece text i j ≡ []
+unfolding piece
+empty text i j h = let n : j - i ≡ 0 = omega arith in rw n grind (arith, nat_tests)
+
+by_bound : (text : List ℕ) (i j bound : ℕ) → j ≤ bound → (i ≤ bound) ⊎ (bound ≤ i) → piece text (min i bound) j ≡ piece text i j
+by_bound text i j bound h (inl l) = rw (min-eq_left l)
+by_bound text i j bound h (inr l) = rw (min-eq_right l, empty text bound j h) (sym (empty text i j (omega arith)))
+
+-- a start beyond the greatest number is as good as the greatest number
+pub bounded : (text : List ℕ) (i j bound : ℕ) → j ≤ bound → piece text (min i bound) j ≡ piece text i j
+bounded text i j bound h = by_bound text i j bound h (either i bound)

@@ -11,7 +11,11 @@ use qs_terms::Text;
 use std::alloc::{AllocError, Global};
 
 // Puts what an escape stands for behind `out`, and hands out what is behind the escape.
-fn push_escape<'t>(out: &mut String, behind: &'t str, found: Option<Escape>) -> Result<&'t str, AllocError>
+fn push_escape<'t>(
+    out: &mut String,
+    behind: &'t str,
+    found: Option<Escape>,
+) -> Result<&'t str, AllocError>
     requires { ForSome found (λ e. IsCharBoundary behind.now e.length) }
     ensures written { OnOk result (string_bytes out.new ≡ string_bytes out.old ++ stands_for found) }
     ensures rest { IfOk result (λ rest. rest.now ≡ drop (length_of found) behind.now) }

@@ -8,7 +8,7 @@ ghost use Rattle.qs_names.specs.Names.{full, is_colon};
 
 use crate::decoded::decoded;
 use crate::escape::Escapes;
-use crate::piece::piece;
+use crate::piece::inside;
 use qs_terms::{Iri, QFault, Text};
 use qs_tree::token::Span;
 use std::alloc::Global;
@@ -26,11 +26,11 @@ pub(crate) fn absolute(place: usize, text: Text) -> Result<Iri, QFault>
 }
 
 /// The IRI that is written as `<..>`.
+#[tactic(auto, unfolding(crate::specs::Names::full))]
 pub(crate) fn full_iri(alloc: Global, text: &str, span: Span) -> Result<Iri, QFault>
     ensures { Gives (full text.now span) result }
 {
-    let inside = piece(text, span.start.saturating_add(1), span.end.saturating_sub(1));
-    let text = decoded(alloc, inside, Escapes::Codepoints)?;
+    let text = decoded(alloc, inside(text, span, 1), Escapes::Codepoints)?;
     absolute(span.start, text)
 }
 
@@ -46,6 +46,7 @@ pub(crate) fn parted(name: &str) -> (&str, &str)
 }
 
 /// The IRI rdf:type.
+#[tactic(auto, unfolding(crate::specs::Names::rdf_type))]
 pub(crate) fn rdf_type(alloc: Global) -> Result<Iri, QFault>
     ensures { Gives (Ok Rattle.qs_names.specs.Names.rdf_type) result }
 {

@@ -7,7 +7,7 @@ use crate::decoded::joined;
 use crate::iri::{absolute, full_iri, parted, rdf_type};
 use crate::literal::{boolean, integer, plain, string, tagged};
 use crate::number::decimal;
-use crate::piece::piece;
+use crate::piece::{before_end, behind, whole};
 use qs_ast::term::Variable;
 use qs_terms::{Iri, Lit, QFault, Text};
 use qs_tree::path::Predicate;
@@ -57,25 +57,26 @@ impl<'a> Names<'a> {
         ensures refused { OnErr result (self.new ≡ self.old) }
     {
         let iri = full_iri(self.alloc, self.text, declaration.iri)?;
-        let span = declaration.prefix;
-        let prefix = piece(self.text, span.start, span.end.saturating_sub(1));
+        let prefix = before_end(self.text, declaration.prefix, 1);
         self.prefixes.insert(prefix, iri)?;
         Ok(())
     }
 
     /// The variable, by its name without the `?` or `$`.
+    #[tactic(auto, unfolding(crate::specs::Names::variable))]
     pub fn variable(&self, span: Span) -> Result<Variable, AllocError>
         ensures { IfOk result (λ v. v ≡ record { name = variable self.now span }) }
     {
-        let name = Text::new(self.alloc, piece(self.text, span.start.saturating_add(1), span.end))?;
+        let name = Text::new(self.alloc, behind(self.text, span, 1))?;
         Ok(Variable { name })
     }
 
     /// The label of a blank node, without the `_:`.
+    #[tactic(auto, unfolding(crate::specs::Names::label))]
     pub fn label(&self, span: Span) -> Result<Text, AllocError>
         ensures { IfOk result (λ t. t ≡ label self.now span) }
     {
-        Text::new(self.alloc, piece(self.text, span.start.saturating_add(2), span.end))
+        Text::new(self.alloc, behind(self.text, span, 2))
     }
 
     /// The IRI that is written as `<..>` or with a prefix (SPARQL 1.1 Query, 4.1.1).
@@ -117,24 +118,24 @@ impl<'a> Names<'a> {
                 let form = string(self.alloc, self.text, span)?;
                 self.annotated(form, annotation)
             }
-            Literal::Integer(span) => {
-                integer(self.alloc, piece(self.text, span.start, span.end))
-            }
+            Literal::Integer(span) => { integer(self.alloc, whole(self.text, span)) }
             Literal::Boolean(value) => boolean(self.alloc, value),
         }
     }
 
     /// The number of a LIMIT or an OFFSET (SPARQL 1.1 Query, 15.4 and 15.5), or the greatest of 64 bits where it is greater.
+    #[tactic(auto, unfolding(crate::specs::Names::count))]
     pub fn count(&self, span: Span) -> u64
         ensures { result ≡ count self.now span }
     {
-        decimal(piece(self.text, span.start, span.end).as_bytes())
+        decimal(whole(self.text, span).as_bytes())
     }
 
+    #[tactic(auto, unfolding(crate::specs::Names::prefixed))]
     fn prefixed(&self, span: Span) -> Result<Iri, QFault>
         ensures { Gives (Rattle.qs_names.specs.Names.prefixed self.now span) result }
     {
-        let (prefix, local) = parted(piece(self.text, span.start, span.end));
+        let (prefix, local) = parted(whole(self.text, span));
         let Some(start) = self.prefixes.get(prefix) else {
             return Err(QFault::Prefix { place: span.start });
         };
@@ -147,9 +148,7 @@ impl<'a> Names<'a> {
     {
         match annotation {
             None => plain(self.alloc, form),
-            Some(Annotation::Tag(span)) => {
-                tagged(self.alloc, form, piece(self.text, span.start.saturating_add(1), span.end))
-            }
+            Some(Annotation::Tag(span)) => { tagged(self.alloc, form, behind(self.text, span, 1)) }
             Some(Annotation::Datatype(iri)) => {
                 let datatype = self.iri(iri)?;
                 Ok(Lit::typed(form, datatype).ok())
