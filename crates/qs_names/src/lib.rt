@@ -14,3 +14,8 @@ mod number;
 mod piece;
 
 pub use names::Names;
+
+#[cfg(test)]
+mod growth;
+#[cfg(test)]
+mod tests;

@@ -14,7 +14,7 @@ returns-in_default c = λ _.
 pub returns : goal.returns
 returns c =
     let found : lookup (bytes_eq c.parted.result.0.now) (declared c.self.inside.prefixes.entries) ≡ Some c.text.result.now =
-          sym (looked_up c.parted.result.0.now c.self.inside.prefixes.entries) ∙ sym c.in-Some.ensures.value ∙ ap (λ x. Some x) (sym c.text.ensures.text) in
+    sym (looked_up c.parted.result.0.now c.self.inside.prefixes.entries) ∙ sym c.in-Some.ensures.value ∙ ap (λ x. Some x) (sym c.text.ensures.text) in
     rw (← c.self.view_is) (
-      same _ c.absolute.result (
-        expanded_to _ c.args.span c.whole.result.now c.parted.result.0.now c.parted.result.1.now c.text.result.now c.in_ok-text.text c.whole.ensures c.parted.ensures.prefix found c.parted.ensures.local c.in_ok-text.ensures ∙ sym c.absolute.ensures))
+    same _ c.absolute.result (
+    expanded_to _ c.args.span c.whole.result.now c.parted.result.0.now c.parted.result.1.now c.text.result.now c.in_ok-text.text c.whole.ensures c.parted.ensures.prefix found c.parted.ensures.local c.in_ok-text.ensures ∙ sym c.absolute.ensures))
