@@ -1,0 +1,53 @@
+//! Group graph patterns (SPARQL 1.1 Query, 5).
+
+use crate::expression::Expression;
+use crate::path::Path;
+use crate::term::{TermPattern, VarOrIri, Variable};
+use qs_terms::{Iri, Term};
+use sqlite_items::Items;
+
+/// What stands between a subject and an object.
+#[derive(Debug, Drop)]
+pub enum Verb {
+    Variable(Variable),
+    Iri(Iri),
+    /// More than one IRI. It stands in no template.
+    Path(Path),
+}
+
+#[derive(Debug, Drop)]
+pub struct Triple {
+    pub subject: TermPattern,
+    pub verb: Verb,
+    pub object: TermPattern,
+}
+
+/// `{ .. }`: its patterns in the order of the text, and its filters, which apply to the whole group.
+#[cycle(group)]
+#[derive(Debug, Drop)]
+pub struct Group {
+    pub patterns: Items<GraphPattern>,
+    pub filters: Items<Expression>,
+}
+
+#[cycle(group)]
+#[derive(Debug, Drop)]
+pub enum GraphPattern {
+    /// The triples of a group that have nothing but filters between them, in the order of the text.
+    Triples(Items<Triple>),
+    /// One group, or the operands of UNION.
+    Union(Items<Group>),
+    Optional(Group),
+    Minus(Group),
+    Graph(VarOrIri, Group),
+    Bind(Expression, Variable),
+    Values(InlineData),
+}
+
+/// The table of VALUES.
+#[derive(Debug, Drop)]
+pub struct InlineData {
+    pub variables: Items<Variable>,
+    /// None is UNDEF.
+    pub rows: Items<Items<Option<Term>>>,
+}

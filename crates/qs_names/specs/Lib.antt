@@ -1,0 +1,5 @@
+pub mod Gives
+pub mod Escape
+pub mod Decoded
+pub mod Piece
+pub mod Names

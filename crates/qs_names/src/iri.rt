@@ -1,0 +1,55 @@
+//! IRIs as they are written.
+
+ghost use Rattle.std.specs.Prelude.{◌≡◌, Ok};
+ghost use Rattle.std.specs.List.{before_first, after_first};
+ghost use Rattle.qs_terms.specs.Iri.{checked_iri};
+ghost use Rattle.qs_names.specs.Gives.{Gives};
+ghost use Rattle.qs_names.specs.Names.{full, is_colon};
+
+use crate::decoded::decoded;
+use crate::escape::Escapes;
+use crate::piece::inside;
+use qs_terms::{Iri, QFault, Text};
+use qs_tree::token::Span;
+use std::alloc::Global;
+
+const RDF_TYPE: &str = "http://www.w3.org/1999/02/22-rdf-syntax-ns#type";
+
+/// The IRI of the text, without taking memory.
+pub(crate) fn absolute(place: usize, text: Text) -> Result<Iri, QFault>
+    ensures { result ≡ Rattle.qs_names.specs.Names.absolute place (checked_iri text) }
+{
+    match Iri::new(text) {
+        Ok(iri) => Ok(iri),
+        Err(_) => Err(QFault::RelativeIri { place }),
+    }
+}
+
+/// The IRI that is written as `<..>`.
+#[tactic(auto, unfolding(crate::specs::Names::full))]
+pub(crate) fn full_iri(alloc: Global, text: &str, span: Span) -> Result<Iri, QFault>
+    ensures { Gives (full text.now span) result }
+{
+    let text = decoded(alloc, inside(text, span, 1), Escapes::Codepoints)?;
+    absolute(span.start, text)
+}
+
+/// The parts before and behind the first colon.
+pub(crate) fn parted(name: &str) -> (&str, &str)
+    ensures prefix { result.0.now ≡ before_first is_colon name.now }
+    ensures local { result.1.now ≡ after_first is_colon name.now }
+{
+    match name.split_once(':') {
+        Some(parts) => parts,
+        None => (name, ""),
+    }
+}
+
+/// The IRI rdf:type.
+#[tactic(auto, unfolding(crate::specs::Names::rdf_type))]
+pub(crate) fn rdf_type(alloc: Global) -> Result<Iri, QFault>
+    ensures { Gives (Ok Rattle.qs_names.specs.Names.rdf_type) result }
+{
+    let text = Text::new(alloc, RDF_TYPE)?;
+    absolute(0, text)
+}

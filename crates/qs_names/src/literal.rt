@@ -1,0 +1,89 @@
+//! Literals as they are written.
+
+ghost use Rattle.std.specs.Prelude.{◌≡◌, IfOk, Ok, Some};
+ghost use Rattle.std.specs.Result.{result_ok};
+ghost use Rattle.qs_terms.specs.Literal.{typed, checked_tagged};
+ghost use Rattle.qs_names.specs.Gives.{Gives, unless_refused};
+ghost use Rattle.qs_names.specs.Names.{marks, xsd_string, xsd_integer, xsd_boolean};
+
+use crate::decoded::decoded;
+use crate::escape::Escapes;
+use crate::piece::{inside, whole};
+use qs_terms::{Iri, Lit, QFault, TermFault, Text};
+use qs_tree::token::Span;
+use std::alloc::{AllocError, Global};
+
+const XSD_STRING: &str = "http://www.w3.org/2001/XMLSchema#string";
+
+const XSD_INTEGER: &str = "http://www.w3.org/2001/XMLSchema#integer";
+
+const XSD_BOOLEAN: &str = "http://www.w3.org/2001/XMLSchema#boolean";
+
+fn marks(written: &str) -> usize
+    ensures { result ≡ marks written.now }
+{
+    if written.starts_with("\"\"\"") || written.starts_with("'''") {
+        3
+    } else {
+        1
+    }
+}
+
+/// A string without its quotation marks, and with its escapes decoded.
+#[tactic(auto, unfolding(crate::specs::Names::string))]
+pub(crate) fn string(alloc: Global, text: &str, span: Span) -> Result<Text, AllocError>
+    ensures { IfOk result (λ t. t ≡ Rattle.qs_names.specs.Names.string text.now span) }
+{
+    let marks = marks(whole(text, span));
+    decoded(alloc, inside(text, span, marks), Escapes::Strings)
+}
+
+// A literal, or none where its parts make none.
+fn unless_refused(literal: Result<Lit, TermFault>) -> Result<Option<Lit>, QFault>
+    ensures { result ≡ unless_refused literal }
+{
+    match literal {
+        Ok(literal) => Ok(Some(literal)),
+        Err(TermFault::Memory) => Err(QFault::Memory),
+        Err(_) => Ok(None),
+    }
+}
+
+/// The string of the form.
+pub(crate) fn plain(alloc: Global, form: Text) -> Result<Option<Lit>, QFault>
+    ensures { Gives (Ok (Some (typed form xsd_string))) result }
+{
+    match Iri::parse(alloc, XSD_STRING) {
+        Ok(datatype) => unless_refused(Lit::typed(form, datatype)),
+        Err(_) => Err(QFault::Memory),
+    }
+}
+
+/// The integer of the form.
+pub(crate) fn integer(alloc: Global, form: &str) -> Result<Option<Lit>, QFault>
+    ensures { Gives (Ok (Some (typed form.now xsd_integer))) result }
+{
+    unless_refused(Lit::parse(alloc, form, XSD_INTEGER))
+}
+
+fn boolean_form(value: bool) -> &'static str
+    ensures { result.now ≡ Rattle.qs_names.specs.Names.boolean value }
+{
+    if value { "true" } else { "false" }
+}
+
+/// The boolean.
+pub(crate) fn boolean(alloc: Global, value: bool) -> Result<Option<Lit>, QFault>
+    ensures { Gives (Ok (Some (typed (Rattle.qs_names.specs.Names.boolean value) xsd_boolean))) result }
+{
+    unless_refused(Lit::parse(alloc, boolean_form(value), XSD_BOOLEAN))
+}
+
+/// The language-tagged string of the form, if the tag is one.
+#[tactic(auto, using(crate::proofs::Literals::made))]
+pub(crate) fn tagged(alloc: Global, form: Text, tag: &str) -> Result<Option<Lit>, QFault>
+    ensures { Gives (Ok (result_ok (checked_tagged form tag.now))) result }
+{
+    let tag = Text::new(alloc, tag)?;
+    unless_refused(Lit::tagged(alloc, form, tag))
+}
