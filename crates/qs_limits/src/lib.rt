@@ -1,0 +1,4 @@
+//! Limits.
+#![tactic(auto)]
+
+pub mod path;
