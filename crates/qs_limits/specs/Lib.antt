@@ -1,1 +1,3 @@
-pub mod Limits
+pub mod Brackets
+pub mod Large
+pub mod LeftOut

@@ -1,37 +1,32 @@
-ghost use Rattle.std.specs.Prelude.{◌≡◌};
-ghost use Rattle.qs_limits.specs.Limits as spec;
+//! Property paths.
 
+ghost use Rattle.std.specs.Prelude.{◌≡◌, map};
+ghost use Rattle.qs_limits.specs.Large as spec;
+
+use crate::place::{excess, first};
 use qs_tree::path::{Path, PathOperand};
 
-fn first(a: Option<usize>, b: Option<usize>) -> Option<usize>
-    ensures { result ≡ spec.first a b }
-{
-    match (a, b) {
-        (None, b) => b,
-        (Some(a), None) => Some(a),
-        (Some(a), Some(b)) => Some(a.min(b)),
-    }
-}
-
+/// The first place in a path at which a chain has too many operands.
 #[cycle(path)]
-pub fn path(path: &Path) -> Option<usize>
-    ensures { result ≡ spec.path path.now }
+pub fn in_path(tree: &Path) -> Option<usize>
+    ensures { result ≡ spec.path tree.now }
 {
-    match path {
+    match tree {
         Path::Predicate(_) => None,
-        Path::NegatedSet(_members) => None,
-        Path::Alternative(all) | Path::Sequence(all) => operands(all.as_slice()),
-        Path::Inverse(inner) | Path::Repeated(inner, _) => crate::path::path(inner.get()),
+        Path::NegatedSet(members) => excess(members.as_slice()),
+        Path::Alternative(all) | Path::Sequence(all) => in_operands(all.as_slice()),
+        Path::Inverse(inner) | Path::Repeated(inner, _) => in_path(inner.get()),
     }
 }
 
 #[cycle(path)]
-fn operands(all: &[PathOperand]) -> Option<usize>
-    ensures { result ≡ spec.operands all.now }
+#[tactic(auto, unfolding(crate::specs::Large::row))]
+fn in_operands(all: &[PathOperand]) -> Option<usize>
+    ensures { result ≡ spec.row (map spec.path_operand all.now) }
 {
-    let mut found = None;
+    let mut found = excess(all);
     for operand in all {
-        found = first(found, path(&operand.path));
+        found = first(found, in_path(&operand.path));
     }
     found
 }
