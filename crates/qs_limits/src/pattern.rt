@@ -35,9 +35,9 @@ fn in_graph_pattern(pattern: &GraphPattern) -> Option<usize>
     match pattern {
         GraphPattern::Triples(triples) => in_triples(triples.as_slice()),
         GraphPattern::Union(groups) => in_union(groups.as_slice()),
-        GraphPattern::Optional(group) | GraphPattern::Minus(group) | GraphPattern::Graph(_, group) => {
-            in_group(group)
-        }
+        GraphPattern::Optional(group)
+        | GraphPattern::Minus(group)
+        | GraphPattern::Graph(_, group) => { in_group(group) }
         GraphPattern::Filter(tree) | GraphPattern::Bind(tree, _) => in_expression(tree),
         GraphPattern::Values(_) => None,
     }

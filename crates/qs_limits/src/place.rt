@@ -13,7 +13,7 @@ use qs_tree::update::QuadElement;
 pub const LIMIT: usize = 256;
 
 /// An element of a group or an operand of a chain.
-#[derive(Clone, Copy, Debug)]
+#[derive(Clone, Copy)]
 pub struct Part {
     /// Where it begins.
     pub place: usize,

@@ -8,7 +8,9 @@ use crate::pattern::in_group;
 use crate::place::first;
 use crate::triples::in_triples;
 use qs_tree::pattern::Group;
-use qs_tree::query::{Ask, Construct, OrderCondition, Projection, Query, QueryForm, Select, SelectItem};
+use qs_tree::query::{
+    Ask, Construct, OrderCondition, Projection, Query, QueryForm, Select, SelectItem,
+};
 
 fn in_select_item(item: &SelectItem) -> Option<usize>
     ensures { result ≡ spec.select_item item.now }
@@ -70,13 +72,19 @@ fn in_construct(construct: &Construct) -> Option<usize>
 {
     let pattern = in_pattern(&construct.pattern);
     let order = in_order(construct.modifiers.order.as_slice());
-    first(in_triples(construct.template.as_slice()), first(pattern, order))
+    first(
+        in_triples(construct.template.as_slice()),
+        first(pattern, order),
+    )
 }
 
 fn in_ask(ask: &Ask) -> Option<usize>
     ensures { result ≡ spec.ask ask.now }
 {
-    first(in_group(&ask.pattern), in_order(ask.modifiers.order.as_slice()))
+    first(
+        in_group(&ask.pattern),
+        in_order(ask.modifiers.order.as_slice()),
+    )
 }
 
 /// The place at which a query has a 257th element in a group, or a 257th operand in a chain; of several the least, and None where

@@ -42,7 +42,10 @@ fn in_graph_nodes(all: &[GraphNode]) -> Option<usize>
 fn in_property(property: &Property) -> Option<usize>
     ensures { result ≡ spec.property property.now }
 {
-    first(in_verb(&property.verb), in_graph_nodes(property.objects.as_slice()))
+    first(
+        in_verb(&property.verb),
+        in_graph_nodes(property.objects.as_slice()),
+    )
 }
 
 #[cycle(triples)]
@@ -59,7 +62,10 @@ fn in_properties(all: &[Property]) -> Option<usize>
 fn in_same_subject(triples: &TriplesSameSubject) -> Option<usize>
     ensures { result ≡ spec.same_subject triples.now }
 {
-    first(in_graph_node(&triples.subject), in_properties(triples.properties.as_slice()))
+    first(
+        in_graph_node(&triples.subject),
+        in_properties(triples.properties.as_slice()),
+    )
 }
 
 /// The first place in triples at which a path has too many operands.

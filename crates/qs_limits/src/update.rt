@@ -53,7 +53,10 @@ fn in_modify(modify: &Modify) -> Option<usize>
     ensures { result ≡ spec.modify modify.now }
 {
     let insert = in_template(&modify.insert);
-    first(in_template(&modify.delete), first(insert, in_group(&modify.pattern)))
+    first(
+        in_template(&modify.delete),
+        first(insert, in_group(&modify.pattern)),
+    )
 }
 
 fn in_operation(operation: &Operation) -> Option<usize>
