@@ -143,7 +143,7 @@ addend a = operand a.operand
 abbrev pub call : Call → Option ℕ
 call = fold-Call (Option ℕ) (Option ℕ) Part Part call_level expression_level addend_level operand_level
 
--- ---- triples (19.8, [52], [75] to [107]): paths stand in their verbs, and what is in brackets is walked too
+-- ---- triples (19.8, [75] to [87], [98] to [107]): paths stand in their verbs, and what is in brackets is walked too
 
 abbrev pub verb : Verb → Option ℕ
 verb (v.Var name) = None
@@ -232,7 +232,7 @@ query_form (form.Ask a) = ask a
 unfoldable pub query : Query → Option ℕ
 query q = query_form q.form
 
--- ---- updates (19.8, [29] to [54]); of the braces of quads those of DELETE WHERE are a group
+-- ---- updates (19.8, [29] to [52]); of the braces of quads those of DELETE WHERE are a group
 
 abbrev pub quads : Quads → Option ℕ
 quads (quad.Triples ts) = triples ts
