@@ -1,0 +1,3 @@
+pub mod Brackets
+pub mod Large
+pub mod LeftOut
