@@ -1,8 +1,7 @@
 -- A run of labels, one label after another.
-use Rattle.std.proofs.Common.{◌≡◌, ℕ, ◌+◌, ◌<◌, ◌≤◌, get_or, Bool, true, false, ◌&&◌, ◌||◌, not, List, [], ◌∷◌, ◌++◌, length, take, refl, sym, ap, ◌∙◌, arith, length-append, append_assoc}
-use Rattle.std.proofs.lemmas.List.{take-append-le, append-nil, take_more, flat_map_more}
-use Rattle.std.proofs.lemmas.List.Sums.{fold-append}
-use Rattle.std.specs.List.{list_any, fold, flat_map}
+use Rattle.std.proofs.Common.{◌≡◌, ℕ, ◌≤◌, Bool, true, false, ◌&&◌, ◌||◌, not, List, [], ◌∷◌, ◌++◌, length, take, refl, sym, ap, ◌∙◌, arith, length-append, append_assoc}
+use Rattle.std.proofs.lemmas.List.{take-append-le, append-nil}
+use Rattle.std.specs.List.{list_any, fold}
 use Rattle.qs_scope.specs.Names.{Name, contains}
 use Rattle.qs_scope.specs.Met.{add_label, add_run}
 use Rattle.qs_scope.specs.declared.met.Met.{Met}
@@ -36,16 +35,3 @@ take_all (x ∷ xs) = ap (λ ys. x ∷ ys) (take_all xs)
 -- the labels of a run, one after another, are the run
 pub labels_are_run : (m : Met) (labels : List Name) → fold (add_label (length m.names)) m labels ≡ add_run m labels
 labels_are_run m labels = labels_from (length m.names) m.names m labels (omega arith) (take_all m.names)
-
--- labels are only added
-pub names_grow : (start : ℕ) (m : Met) (labels : List Name) → start ≤ length m.names → start ≤ length (fold (add_label start) m labels).names
-names_grow start m [] h = h
-names_grow start m (x ∷ xs) h = names_grow start (add_label start m x) xs (omega (arith, length-append m.names (x ∷ [])))
-
--- the labels of one more of several
-pub labels_more : {X : Type 0} (f : X → List Name) (step : Met → Name → Met) (m : Met) (xs : List X) (i : ℕ) (d : X) → i < length xs →
-    fold step m (flat_map f (take (i + 1) xs)) ≡ fold step (fold step m (flat_map f (take i xs))) (f (get_or xs i d))
-labels_more f step m xs i d h =
-    ap (λ ys. fold step m (flat_map f ys)) (take_more xs i d h)
-    ∙ ap (fold step m) (sym (flat_map_more f [] (take i xs) (get_or xs i d)))
-    ∙ fold-append step m (flat_map f (take i xs)) (f (get_or xs i d))

@@ -1,1 +1,2 @@
 pub mod AddedLabels
+pub mod PlacesKept

@@ -1,16 +1,15 @@
 -- The rules that a query or an update keeps beyond the grammar (SPARQL 1.1 Query, the notes after the grammar of 19.8).
-use Rattle.std.specs.Prelude.{Bool, true, ◌&&◌, ◌||◌, not, List, [], ◌∷◌, ◌++◌, map, Option, Some, None, is_some}
+use Rattle.std.specs.Prelude.{Bool, true, ◌&&◌, not, List, [], ◌++◌, map, Option, Some, None}
 use Rattle.std.specs.List.{list_all, list_any, flat_map}
 use Rattle.qs_scope.specs.Names.{Name}
 use Rattle.qs_scope.specs.Met.{are_apart}
 use Rattle.qs_scope.specs.Variables.{column_names, block_has_variable}
-use Rattle.qs_scope.specs.Labels.{triple_labels, block_labels, block_has_blank}
+use Rattle.qs_scope.specs.Labels.{block_labels, block_has_blank}
 use Rattle.qs_scope.specs.Scope.{in_scope, binds_are_new}
 use Rattle.qs_scope.specs.Runs.{runs}
 use Rattle.qs_scope.specs.Tables.{is_table, values_are_tables}
 use Rattle.qs_scope.specs.Selected.{selected_are_new}
 use Rattle.qs_ast.specs.declared.pattern.Group.{Group}
-use Rattle.qs_ast.specs.declared.pattern.Triple.{Triple}
 use Rattle.qs_ast.specs.declared.pattern.InlineData.{InlineData}
 use Rattle.qs_ast.specs.declared.query.Query.{Query}
 use Rattle.qs_ast.specs.declared.query.QueryForm.{QueryForm}
@@ -18,7 +17,6 @@ use Rattle.qs_ast.specs.declared.query.QueryForm.TheVariants.{Select, Construct,
 use Rattle.qs_ast.specs.declared.update.Update.{Update}
 use Rattle.qs_ast.specs.declared.update.Operation.{Operation}
 use Rattle.qs_ast.specs.declared.update.Operation.TheVariants as op
-use Rattle.qs_ast.specs.declared.update.QuadBlock.{QuadBlock}
 
 -- a WHERE by itself: BIND, the tables of VALUES, and the labels of its runs
 abbrev pub pattern_keeps : Group → Bool

@@ -1,6 +1,6 @@
 -- The variables of triple patterns (SPARQL 1.1 Query, 4.2 and 9). A path has none, and a blank node is none.
 use Rattle.std.specs.Prelude.{Bool, true, false, ◌||◌, List, [], ◌∷◌, ◌++◌, map, Option, Some, None}
-use Rattle.std.specs.List.{list_any, flat_map}
+use Rattle.std.specs.List.{list_any}
 use Rattle.qs_scope.specs.Names.{Name}
 use Rattle.qs_ast.specs.declared.term.Variable.{Variable}
 use Rattle.qs_ast.specs.declared.term.TermPattern.{TermPattern}

@@ -1,6 +1,6 @@
 //! The labels of blank nodes in triples.
 
-ghost use Rattle.std.specs.Prelude.{◌≡◌, ◌≤◌, length, OnOk};
+ghost use Rattle.std.specs.Prelude.{◌≡◌, OnOk};
 ghost use Rattle.std.specs.List.{fold, flat_map};
 ghost use Rattle.qs_scope.specs.Labels as spec;
 ghost use Rattle.qs_scope.specs.Met.{add_label, add_run};
@@ -12,7 +12,6 @@ use qs_ast::update::QuadBlock;
 use std::alloc::AllocError;
 
 fn add_term<'a>(met: &mut Met<'a>, start: usize, term: &'a TermPattern) -> Result<(), AllocError>
-    requires { start ≤ length met.old.names }
     ensures { OnOk result (met.new ≡ fold (add_label start) met.old (spec.term_labels term.now)) }
 {
     match term {
@@ -22,7 +21,6 @@ fn add_term<'a>(met: &mut Met<'a>, start: usize, term: &'a TermPattern) -> Resul
 }
 
 fn add_triple<'a>(met: &mut Met<'a>, start: usize, triple: &'a Triple) -> Result<(), AllocError>
-    requires { start ≤ length met.old.names }
     ensures { OnOk result (met.new ≡ fold (add_label start) met.old (spec.triple_labels triple.now)) }
 {
     add_term(met, start, &triple.subject)?;
@@ -31,7 +29,6 @@ fn add_triple<'a>(met: &mut Met<'a>, start: usize, triple: &'a Triple) -> Result
 
 /// The labels of triples, in the run that began at the place.
 fn add_triples<'a>(met: &mut Met<'a>, start: usize, triples: &'a [Triple]) -> Result<(), AllocError>
-    requires { start ≤ length met.old.names }
     ensures { OnOk result (met.new ≡ fold (add_label start) met.old (flat_map spec.triple_labels triples.now)) }
 {
     for triple in triples {
@@ -50,7 +47,6 @@ pub fn add_run<'a>(met: &mut Met<'a>, triples: &'a [Triple]) -> Result<(), Alloc
 }
 
 fn add_block<'a>(met: &mut Met<'a>, start: usize, block: &'a QuadBlock) -> Result<(), AllocError>
-    requires { start ≤ length met.old.names }
     ensures { OnOk result (met.new ≡ fold (add_label start) met.old (spec.block_labels block.now)) }
 {
     add_triples(met, start, block.triples.as_slice())
@@ -61,7 +57,6 @@ fn add_each_block<'a>(
     start: usize,
     blocks: &'a [QuadBlock],
 ) -> Result<(), AllocError>
-    requires { start ≤ length met.old.names }
     ensures { OnOk result (met.new ≡ fold (add_label start) met.old (flat_map spec.block_labels blocks.now)) }
 {
     for block in blocks {

@@ -1,7 +1,6 @@
 //! Names that come one after another, of which some must be new.
 
-ghost use Rattle.std.specs.Prelude.{◌≡◌, ◌≤◌, ◌∷◌, [], ◌++◌, ◌&&◌, length, take, not, true, OnOk};
-ghost use Rattle.qs_scope.specs.Names.{contains};
+ghost use Rattle.std.specs.Prelude.{◌≡◌, ◌∷◌, [], ◌++◌, OnOk};
 ghost use Rattle.qs_scope.specs.Met as spec;
 
 use crate::seen::Seen;
@@ -42,7 +41,6 @@ impl<'a> Met<'a> {
 
     /// One more label of the run that began at the place.
     pub fn add_label(&mut self, start: usize, label: &'a Text) -> Result<(), AllocError>
-        requires { start ≤ length self.old.names }
         ensures { OnOk result (self.new ≡ spec.add_label start self.old label.now) }
     {
         if self.names.is_before(start, label) {

@@ -1,6 +1,6 @@
 //! The variables in scope of a group, and the rule that BIND keeps.
 
-ghost use Rattle.std.specs.Prelude.{◌≡◌, ◌≤◌, ◌++◌, [], ◌∷◌, length, drop, OnOk, IfOk};
+ghost use Rattle.std.specs.Prelude.{◌≡◌, ◌++◌, [], ◌∷◌, drop, OnOk, IfOk};
 ghost use Rattle.std.specs.List.{fold, flat_map};
 ghost use Rattle.qs_scope.specs.Met.{after};
 ghost use Rattle.qs_scope.specs.Scope as spec;
@@ -106,7 +106,6 @@ fn pattern<'a>(
     start: usize,
     pattern: &'a GraphPattern,
 ) -> Result<bool, AllocError>
-    requires { start ≤ length names.old }
     ensures names { OnOk result (names.new ≡ names.old ++ (spec.part pattern.now).names) }
     ensures keeps { IfOk result (λ b. b ≡ spec.fits (drop start names.old) (spec.part pattern.now)) }
 {
