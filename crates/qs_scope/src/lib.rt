@@ -4,6 +4,8 @@
 
 mod blocks;
 mod labels;
+#[cfg(test)]
+mod made;
 mod met;
 mod name;
 mod query;
@@ -12,6 +14,8 @@ mod scope;
 mod seen;
 mod selected;
 mod tables;
+#[cfg(test)]
+mod tests;
 mod update;
 
 pub use query::query_keeps_scope;
