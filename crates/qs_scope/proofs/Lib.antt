@@ -1,0 +1,2 @@
+pub mod AddedLabels
+pub mod PlacesKept

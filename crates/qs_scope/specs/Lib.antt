@@ -1,0 +1,10 @@
+pub mod Names
+pub mod Places
+pub mod Met
+pub mod Variables
+pub mod Labels
+pub mod Scope
+pub mod Runs
+pub mod Tables
+pub mod Selected
+pub mod KeepsScope

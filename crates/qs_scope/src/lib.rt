@@ -1,0 +1,22 @@
+//! The rules that a query or an update keeps beyond the grammar (SPARQL 1.1 Query, 18.2.1 and the notes after the grammar of 19.8;
+//! 19.6 for the labels of blank nodes).
+#![tactic(auto)]
+
+mod blocks;
+mod labels;
+#[cfg(test)]
+mod made;
+mod met;
+mod name;
+mod query;
+mod runs;
+mod scope;
+mod seen;
+mod selected;
+mod tables;
+#[cfg(test)]
+mod tests;
+mod update;
+
+pub use query::query_keeps_scope;
+pub use update::update_keeps_scope;

@@ -1,0 +1,105 @@
+//! The names that were met so far.
+
+ghost use Rattle.std.specs.Prelude.{◌≡◌, ◌≤◌, [], ◌∷◌, ◌++◌, length, take, drop, OnOk};
+ghost use Rattle.std.specs.Ordering.{nat_cmp};
+ghost use Rattle.std.specs.Cmp.Lexicographic.{slice_cmp};
+ghost use Rattle.std.specs.BTreeMap.{get};
+ghost use Rattle.qs_scope.specs.Names.{contains};
+ghost use Rattle.qs_scope.specs.Places.{first_with};
+
+use crate::name::Name;
+use qs_terms::Text;
+use std::alloc::{AllocError, Global};
+use std::collections::BTreeMap;
+use std::marker::Model;
+
+/// The first place and the last at which a name was met.
+#[derive(Clone, Copy)]
+struct Places {
+    first: usize,
+    last: usize,
+}
+
+/// Names in the order in which they were met, with an index of their places.
+#[derive(Drop)]
+pub struct Seen<'a> {
+    names: Vec<Name<'a>>,
+    index: BTreeMap<Name<'a>, Places>,
+}
+
+impl<'a> Model for Seen<'a> {
+    ghost use Rattle.std.specs.Prelude.{List, ℕ};
+    ghost use Rattle.std.specs.Ordering.{nat_cmp};
+    ghost use Rattle.std.specs.Cmp.Lexicographic.{slice_cmp};
+    ghost use Rattle.std.specs.BTreeMap.{get};
+
+    ghost Value = { List (List ℕ) };
+
+    ghost use Rattle.qs_scope.specs.Places.{IsIndex};
+
+    ghost view = { λ s. s.names.items };
+
+    ghost invariant = { λ s. IsIndex s.names.items (get (slice_cmp nat_cmp) s.index) };
+}
+
+// The first place of the name, or the one that is given where it has none.
+fn first_place<'a>(index: &BTreeMap<Name<'a>, Places>, name: &Name<'a>, last: usize) -> usize
+    ensures { result ≡ first_with last (get (slice_cmp nat_cmp) index.now name.now) }
+{
+    match index.get(name) {
+        Some(places) => places.first,
+        None => last,
+    }
+}
+
+impl<'a> Seen<'a> {
+    pub fn new(alloc: Global) -> Seen<'a>
+        ensures { result ≡ [] }
+    {
+        Seen {
+            names: Vec::new(alloc),
+            index: BTreeMap::new(alloc),
+        }
+    }
+
+    pub fn len(&self) -> usize
+        ensures { result ≡ length self.now }
+    {
+        self.names.len()
+    }
+
+    pub fn push(&mut self, name: &'a Text) -> Result<(), AllocError>
+        ensures { OnOk result (self.new ≡ self.old ++ name.now ∷ []) }
+    {
+        let last = self.names.len();
+        let first = first_place(&self.index, &Name::new(name), last);
+        self.names.push(Name::new(name))?;
+        match self.index.insert(Name::new(name), Places { first, last }) {
+            Ok(_) => Ok(()),
+            Err(_) => {
+                self.names.pop();
+                Err(AllocError)
+            }
+        }
+    }
+
+    /// Whether the name was met before the place.
+    pub fn is_before(&self, place: usize, name: &'a Text) -> bool
+        ensures { result ≡ contains (take place self.now) name.now }
+    {
+        match self.index.get(&Name::new(name)) {
+            Some(places) => places.first < place,
+            None => false,
+        }
+    }
+
+    /// Whether the name was met at the place or later.
+    pub fn is_from(&self, place: usize, name: &'a Text) -> bool
+        ensures { result ≡ contains (drop place self.now) name.now }
+    {
+        match self.index.get(&Name::new(name)) {
+            Some(places) => place <= places.last,
+            None => false,
+        }
+    }
+}
