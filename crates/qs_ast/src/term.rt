@@ -1,6 +1,9 @@
 //! Terms of patterns and templates.
 
+ghost use Rattle.std.specs.Prelude.{◌≡◌, IfOk};
+
 use qs_terms::{Iri, Lit, Text};
+use std::alloc::{AllocError, Global};
 
 /// A variable, by its name without the `?` or `$`.
 #[derive(Debug, Drop)]
@@ -17,6 +20,18 @@ pub enum BlankNode {
     Anonymous(usize),
 }
 
+impl BlankNode {
+    /// An equal blank node of its own.
+    pub fn try_clone(&self, alloc: Global) -> Result<BlankNode, AllocError>
+        ensures { IfOk result (λ b. b ≡ self.now) }
+    {
+        match self {
+            BlankNode::Label(label) => Ok(BlankNode::Label(label.try_clone(alloc)?)),
+            BlankNode::Anonymous(number) => Ok(BlankNode::Anonymous(*number)),
+        }
+    }
+}
+
 /// A subject or an object.
 #[derive(Debug, Drop)]
 pub enum TermPattern {
@@ -24,6 +39,22 @@ pub enum TermPattern {
     Iri(Iri),
     Literal(Lit),
     Blank(BlankNode),
+}
+
+impl TermPattern {
+    /// An equal term of its own.
+    pub fn try_clone(&self, alloc: Global) -> Result<TermPattern, AllocError>
+        ensures { IfOk result (λ t. t ≡ self.now) }
+    {
+        match self {
+            TermPattern::Variable(variable) => Ok(TermPattern::Variable(Variable {
+                name: variable.name.try_clone(alloc)?,
+            })),
+            TermPattern::Iri(iri) => Ok(TermPattern::Iri(iri.try_clone(alloc)?)),
+            TermPattern::Literal(literal) => Ok(TermPattern::Literal(literal.try_clone(alloc)?)),
+            TermPattern::Blank(blank) => Ok(TermPattern::Blank(blank.try_clone(alloc)?)),
+        }
+    }
 }
 
 /// The name of a graph.

@@ -1,0 +1,10 @@
+pub mod Resolving
+pub mod Leaves
+pub mod Path
+pub mod Expression
+pub mod Triples
+pub mod Data
+pub mod Pattern
+pub mod Query
+pub mod Update
+pub mod Resolved

@@ -1,0 +1,59 @@
+//! Whole queries and updates.
+
+ghost use Rattle.qs_names.specs.Gives.{Gives};
+ghost use Rattle.qs_resolve.specs.Resolved as spec;
+
+use crate::resolver::Resolver;
+use qs_ast::query::Query;
+use qs_ast::term::Variable;
+use qs_ast::update::Update;
+use qs_names::Names;
+use qs_terms::QFault;
+use qs_tree::query::Query as WrittenQuery;
+use qs_tree::update::Update as WrittenUpdate;
+use sqlite_items::Items;
+use std::alloc::Global;
+
+/// The query of a text with its names resolved, with the variables that are given for it; `None` where a literal of it isn't lawful,
+/// since its datatype is rdf:langString and it has no tag (RDF 1.1 Concepts, 3.3). Anonymous blank nodes are numbered from 0.
+///
+/// # Errors
+/// The first that the text has of: `QFault::Prefix` with the place of a name whose prefix isn't declared, `QFault::RelativeIri` with
+/// that of an IRI without a scheme. `QFault::Memory` for want of memory.
+#[tactic(auto, unfolding(crate::specs::Resolved::resolved_query))]
+pub fn resolve_query(
+    alloc: Global,
+    text: &str,
+    variables: Items<Variable>,
+    query: &WrittenQuery,
+) -> Result<Option<Query>, QFault>
+    ensures { Gives (spec.resolved_query text.now variables query.now) result }
+{
+    let mut resolver = Resolver::new(Names::new(alloc, text));
+    let query = resolver.query(alloc, variables, query)?;
+    if !resolver.lawful {
+        return Ok(None);
+    }
+    Ok(Some(query))
+}
+
+/// The update of a text with its names resolved, in the same way. Prefixes of a later prologue are added to the earlier ones, and a
+/// later declaration of a prefix replaces the earlier from there on.
+///
+/// # Errors
+/// As of `resolve_query`.
+#[tactic(auto, unfolding(crate::specs::Resolved::resolved_update))]
+pub fn resolve_update(
+    alloc: Global,
+    text: &str,
+    update: &WrittenUpdate,
+) -> Result<Option<Update>, QFault>
+    ensures { Gives (spec.resolved_update text.now update.now) result }
+{
+    let mut resolver = Resolver::new(Names::new(alloc, text));
+    let update = resolver.update(alloc, update)?;
+    if !resolver.lawful {
+        return Ok(None);
+    }
+    Ok(Some(update))
+}
