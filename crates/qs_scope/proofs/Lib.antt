@@ -1,2 +1,3 @@
 pub mod AddedLabels
 pub mod PlacesKept
+pub mod FirstsKept

@@ -3,6 +3,7 @@
 #![tactic(auto)]
 
 mod blocks;
+mod first;
 mod labels;
 #[cfg(test)]
 mod made;
@@ -18,5 +19,6 @@ mod tables;
 mod tests;
 mod update;
 
+pub use first::first_variables;
 pub use query::query_keeps_scope;
 pub use update::update_keeps_scope;
