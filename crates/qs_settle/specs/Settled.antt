@@ -1,0 +1,91 @@
+-- What tokens and trees come to: a query or an update with its names resolved, or the one fault that is due.
+use Rattle.std.specs.Prelude.{ℕ, Bool, true, false, nat_lt, List, [], ◌∷◌, ◌++◌, Option, Some, None, Result, Ok, Err, if◌then◌else◌}
+use Rattle.qs_terms.specs.declared.fault.QFault.{QFault}
+use Rattle.qs_terms.specs.declared.fault.QFault.TheVariants as fault
+use Rattle.qs_tree.specs.declared.kind.Kind.TheVariants as kind
+use Rattle.qs_tree.specs.declared.query.Query.{Query as WrittenQuery}
+use Rattle.qs_tree.specs.declared.token.Token.{Token}
+use Rattle.qs_tree.specs.declared.update.Update.{Update as WrittenUpdate}
+use Rattle.qs_tree.specs.declared.kind.Kind.{Kind}
+use Rattle.qs_ast.specs.declared.query.Query.{Query}
+use Rattle.qs_ast.specs.declared.term.Variable.{Variable}
+use Rattle.qs_ast.specs.declared.update.Update.{Update}
+use Rattle.qs_limits.specs.Brackets.{brackets}
+use Rattle.qs_limits.specs.Large as large
+use Rattle.qs_limits.specs.LeftOut.{left_out}
+use Rattle.qs_names.specs.Names.{Names, variable, nothing_declared}
+use Rattle.std.specs.List.{fold}
+use Rattle.qs_resolve.specs.Resolved.{resolved_query, resolved_update}
+use Rattle.qs_scope.specs.Firsts.{firsts}
+use Rattle.qs_scope.specs.KeepsScope.{query_keeps_scope, update_keeps_scope}
+
+abbrev pub Outcome : Type 0 → Type 0
+Outcome A = Result A QFault
+
+abbrev pub and_then : {A B : Type 0} → Outcome A → (A → Outcome B) → Outcome B
+and_then (Ok a) f = f a
+and_then (Err e) f = Err e
+
+-- ---- over the tokens: the first word that is left out, and then the first bracket that is too much
+
+abbrev pub bracketed : Option ℕ → Outcome (Unit {0})
+bracketed None = Ok tt
+bracketed (Some place) = Err (fault.TooLarge place)
+
+abbrev pub unless_left_out : Option (List ℕ) → Option ℕ → Outcome (Unit {0})
+unless_left_out None place = bracketed place
+unless_left_out (Some word) place = Err (fault.LeftOut word)
+
+unfoldable pub screened : List ℕ → List Token → Outcome (Unit {0})
+screened text tokens = unless_left_out (left_out text tokens) (brackets tokens)
+
+-- ---- over the tree: whichever of a name's fault and of a limit's has the first place, and at one place the name's; then a literal
+-- ---- that isn't lawful is a fault of scope
+
+abbrev pub nearer : QFault → ℕ → Option ℕ → QFault
+nearer f at None = f
+nearer f at (Some place) = if nat_lt place at then fault.TooLarge place else f
+
+abbrev pub earlier : QFault → Option ℕ → QFault
+earlier (fault.Prefix at) large = nearer (fault.Prefix at) at large
+earlier (fault.RelativeIri at) large = nearer (fault.RelativeIri at) at large
+earlier other large = other
+
+abbrev pub lawful : {A : Type 0} → Option A → Outcome A
+lawful None = Err fault.Scope
+lawful (Some a) = Ok a
+
+abbrev pub within : {A : Type 0} → Option A → Option ℕ → Outcome A
+within found None = lawful found
+within found (Some place) = Err (fault.TooLarge place)
+
+abbrev pub by_place : {A : Type 0} → Outcome (Option A) → Option ℕ → Outcome A
+by_place (Ok found) place = within found place
+by_place (Err f) place = Err (earlier f place)
+
+-- ---- and last the rules of scope
+
+abbrev pub in_scope : {A : Type 0} → (A → Bool) → A → Outcome A
+in_scope keeps a = if keeps a then Ok a else Err fault.Scope
+
+-- the variables of the text, as often as they stand in it
+abbrev pub is_variable : Kind → Bool
+is_variable kind.Var = true
+is_variable other = false
+
+unfoldable pub with_variable : Names → List Variable → Token → List Variable
+with_variable names found t = if is_variable t.kind then found ++ record { name = variable names t.span } ∷ [] else found
+
+abbrev pub named : Names → List Token → List Variable
+named names tokens = fold (with_variable names) [] tokens
+
+-- each once, in the order in which they first appear
+abbrev pub variables_of : List ℕ → List Token → List Variable
+variables_of text tokens = firsts (named (nothing_declared text) tokens)
+
+unfoldable pub query_outcome : List ℕ → List Token → WrittenQuery → Outcome Query
+query_outcome text tokens q =
+    and_then (by_place (resolved_query text (variables_of text tokens) q) (large.query q)) (in_scope query_keeps_scope)
+
+unfoldable pub update_outcome : List ℕ → WrittenUpdate → Outcome Update
+update_outcome text u = and_then (by_place (resolved_update text u) (large.update u)) (in_scope update_keeps_scope)

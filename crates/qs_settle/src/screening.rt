@@ -1,0 +1,24 @@
+//! Faults of the tokens by themselves.
+
+ghost use Rattle.qs_names.specs.Gives.{Gives};
+ghost use Rattle.qs_settle.specs.Settled as spec;
+
+use qs_limits::{brackets, left_out};
+use qs_terms::{QFault, Text};
+use qs_tree::token::Token;
+use std::alloc::Global;
+
+/// Refuses the first word, decimal or double that is left out, and then the first bracket with which too many are open.
+#[tactic(auto, unfolding(crate::specs::Settled::screened))]
+pub fn screen(alloc: Global, text: &str, tokens: &[Token]) -> Result<(), QFault>
+    ensures { Gives (spec.screened text.now tokens.now) result }
+{
+    if let Some(word) = left_out(text, tokens) {
+        let word = Text::new(alloc, word)?;
+        return Err(QFault::LeftOut { word });
+    }
+    match brackets(tokens) {
+        Some(place) => Err(QFault::TooLarge { place }),
+        None => Ok(()),
+    }
+}

@@ -1,0 +1,150 @@
+//! Faults of the tree.
+
+ghost use Rattle.std.specs.Prelude.{◌≡◌, IfOk, OnOk};
+ghost use Rattle.qs_scope.specs.KeepsScope as rule;
+ghost use Rattle.qs_names.specs.Gives.{Gives};
+ghost use Rattle.qs_settle.specs.Settled as spec;
+
+use qs_ast::query::Query;
+use qs_ast::term::Variable;
+use qs_ast::update::Update;
+use qs_limits::{large_query, large_update};
+use qs_names::Names;
+use qs_resolve::{resolve_query, resolve_update};
+use qs_scope::{first_variables, query_keeps_scope, update_keeps_scope};
+use qs_terms::QFault;
+use qs_tree::kind::Kind;
+use qs_tree::query::Query as WrittenQuery;
+use qs_tree::token::Token;
+use qs_tree::update::Update as WrittenUpdate;
+use sqlite_items::Items;
+use std::alloc::{AllocError, Global};
+
+fn nearer(fault: QFault, at: usize, large: Option<usize>) -> QFault
+    ensures { result ≡ spec.nearer fault at large }
+{
+    match large {
+        None => fault,
+        Some(place) => {
+            if place < at {
+                return QFault::TooLarge { place };
+            }
+            fault
+        }
+    }
+}
+
+fn earlier(fault: QFault, large: Option<usize>) -> QFault
+    ensures { result ≡ spec.earlier fault large }
+{
+    match fault {
+        QFault::Prefix { place } => nearer(QFault::Prefix { place }, place, large),
+        QFault::RelativeIri { place } => nearer(QFault::RelativeIri { place }, place, large),
+        other => other,
+    }
+}
+
+fn by_place<T: Drop>(resolved: Result<Option<T>, QFault>, large: Option<usize>) -> Result<T, QFault>
+    ensures { result ≡ spec.by_place resolved large }
+{
+    match (resolved, large) {
+        (Err(fault), large) => Err(earlier(fault, large)),
+        (Ok(_found), Some(place)) => Err(QFault::TooLarge { place }),
+        (Ok(None), None) => Err(QFault::Scope),
+        (Ok(Some(tree)), None) => Ok(tree),
+    }
+}
+
+fn is_variable(kind: Kind) -> bool
+    ensures { result ≡ spec.is_variable kind }
+{
+    match kind {
+        Kind::Var => true,
+        _ => false,
+    }
+}
+
+#[tactic(auto, unfolding(crate::specs::Settled::with_variable))]
+fn keep_variable(
+    names: &Names<'_>,
+    found: &mut Items<Variable>,
+    token: &Token,
+) -> Result<(), AllocError>
+    ensures { OnOk result (found.new ≡ spec.with_variable names.now found.old token.now) }
+{
+    if !is_variable(token.kind) {
+        return Ok(());
+    }
+    let variable = names.variable(token.span)?;
+    found.push(variable)
+}
+
+fn named(
+    alloc: Global,
+    names: &Names<'_>,
+    tokens: &[Token],
+) -> Result<Items<Variable>, AllocError>
+    ensures { IfOk result (λ v. v ≡ spec.named names.now tokens.now) }
+{
+    let mut found = Items::new(alloc);
+    for token in tokens {
+        keep_variable(names, &mut found, token)?;
+    }
+    Ok(found)
+}
+
+fn variables(alloc: Global, text: &str, tokens: &[Token]) -> Result<Items<Variable>, AllocError>
+    ensures { IfOk result (λ v. v ≡ spec.variables_of text.now tokens.now) }
+{
+    let names = Names::new(alloc, text);
+    let all = named(alloc, &names, tokens)?;
+    first_variables(alloc, all.as_slice())
+}
+
+fn scoped_query(alloc: Global, query: Query) -> Result<Query, QFault>
+    ensures { Gives (spec.in_scope rule.query_keeps_scope query) result }
+{
+    if query_keeps_scope(alloc, &query)? {
+        return Ok(query);
+    }
+    Err(QFault::Scope)
+}
+
+fn scoped_update(alloc: Global, update: Update) -> Result<Update, QFault>
+    ensures { Gives (spec.in_scope rule.update_keeps_scope update) result }
+{
+    if update_keeps_scope(alloc, &update)? {
+        return Ok(update);
+    }
+    Err(QFault::Scope)
+}
+
+/// The query of a tree that the text's tokens spell.
+#[tactic(auto, using(crate::proofs::Places::placed), unfolding(crate::specs::Settled::query_outcome))]
+pub fn settle_query(
+    alloc: Global,
+    text: &str,
+    tokens: &[Token],
+    tree: &WrittenQuery,
+) -> Result<Query, QFault>
+    ensures { Gives (spec.query_outcome text.now tokens.now tree.now) result }
+{
+    let variables = variables(alloc, text, tokens)?;
+    let resolved = resolve_query(alloc, text, variables, tree);
+    let query = by_place(resolved, large_query(tree))?;
+    scoped_query(alloc, query)
+}
+
+/// The update of a tree that the text's tokens spell.
+#[tactic(auto, using(crate::proofs::Places::placed), unfolding(crate::specs::Settled::update_outcome))]
+pub fn settle_update(
+    alloc: Global,
+    text: &str,
+    tree: &WrittenUpdate,
+) -> Result<Update, QFault>
+    ensures { Gives (spec.update_outcome text.now tree.now) result }
+{
+    let resolved = resolve_update(alloc, text, tree);
+    let update = by_place(resolved, large_update(tree))?;
+    scoped_update(alloc, update)
+}

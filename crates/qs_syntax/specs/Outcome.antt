@@ -1,0 +1,48 @@
+-- What a text comes to: its query or its update, or the one fault that is due.
+use Rattle.std.specs.Prelude.{◌≡◌, ◌⊎◌, ℕ, List, length, Ok, Err}
+use Rattle.qs_grammar.specs.Grammar.{Spells, IsDue}
+use Rattle.qs_lex.specs.Lexes.{StopsAt}
+use Rattle.qs_terms.specs.declared.fault.QFault.TheVariants as fault
+use Rattle.qs_tree.specs.declared.token.Token.{Token}
+use Rattle.qs_tree.specs.Rules as rules
+use Rattle.qs_tree.specs.Sparql.{Rule}
+use Rattle.qs_tree.specs.Table.{grammar}
+use Rattle.qs_ast.specs.declared.query.Query.{Query}
+use Rattle.qs_ast.specs.declared.update.Update.{Update}
+use Rattle.qs_syntax.specs.Text.{AreTokensOf, place_of_number}
+use Rattle.qs_settle.specs.Settled.{Outcome, screened, query_outcome, update_outcome}
+
+-- ---- the whole, in the order in which faults are due
+
+-- no tree is spelt, and this is the place of the first token that no tokens that spell one begin with, or the text's end
+abbrev pub HasNoTree : {A B : Type 0} → Rule A → List ℕ → List Token → Outcome B → Type 0
+HasNoTree {A} start text tokens outcome =
+    ((tree : A) → Spells grammar start tokens tree → ⊥)
+    × (n : ℕ) × IsDue grammar start tokens n × (outcome ≡ Err (fault.Syntax (place_of_number (length text) n tokens)))
+
+-- where no token stands in the way: the tree that is spelt decides, or its want
+abbrev pub AfterScreen : {A B : Type 0} → Rule A → (A → Outcome B) → List ℕ → List Token → Outcome (Unit {0}) → Outcome B → Type 0
+AfterScreen start settle text tokens (Err f) outcome = outcome ≡ Err f
+AfterScreen {A} start settle text tokens (Ok done) outcome =
+    ((tree : A) × Spells grammar start tokens tree × (outcome ≡ settle tree)) ⊎ HasNoTree start text tokens outcome
+
+abbrev pub IsOutcomeOfTokens : {A B : Type 0} → Rule A → (A → Outcome B) → List ℕ → List Token → Outcome B → Type 0
+IsOutcomeOfTokens start settle text tokens outcome = AfterScreen start settle text tokens (screened text tokens) outcome
+
+-- the text is no list of tokens, or its tokens decide
+abbrev pub IsOutcome : {A B : Type 0} → Rule A → (List Token → A → Outcome B) → List ℕ → Outcome B → Type 0
+IsOutcome start settle text outcome =
+    ((place : ℕ) × StopsAt text place × (outcome ≡ Err (fault.Syntax place)))
+    ⊎ ((tokens : List Token) × AreTokensOf text tokens × IsOutcomeOfTokens start (settle tokens) text tokens outcome)
+
+abbrev pub IsQueryOutcome : List ℕ → Outcome Query → Type 0
+IsQueryOutcome text outcome = IsOutcome rules.query (query_outcome text) text outcome
+
+abbrev pub IsUpdateOutcome : List ℕ → Outcome Update → Type 0
+IsUpdateOutcome text outcome = IsOutcome rules.update (λ tokens. update_outcome text) text outcome
+
+-- what is answered is due, unless it is want of memory
+abbrev pub Answers : {A : Type 0} → (Outcome A → Type 0) → Outcome A → Type 0
+Answers Due (Ok a) = Due (Ok a)
+Answers Due (Err fault.Memory) = Unit {0}
+Answers Due (Err f) = Due (Err f)
