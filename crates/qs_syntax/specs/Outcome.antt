@@ -2,6 +2,7 @@
 use Rattle.std.specs.Prelude.{◌≡◌, ◌⊎◌, ℕ, List, length, Ok, Err}
 use Rattle.qs_grammar.specs.Grammar.{Spells, IsDue}
 use Rattle.qs_lex.specs.Lexes.{StopsAt}
+use Rattle.qs_terms.specs.declared.fault.QFault.{QFault}
 use Rattle.qs_terms.specs.declared.fault.QFault.TheVariants as fault
 use Rattle.qs_tree.specs.declared.token.Token.{Token}
 use Rattle.qs_tree.specs.Rules as rules
@@ -19,6 +20,13 @@ abbrev pub HasNoTree : {A B : Type 0} → Rule A → List ℕ → List Token →
 HasNoTree {A} start text tokens outcome =
     ((tree : A) → Spells grammar start tokens tree → ⊥)
     × (n : ℕ) × IsDue grammar start tokens n × (outcome ≡ Err (fault.Syntax (place_of_number (length text) n tokens)))
+
+-- the fault of tokens without a tree
+abbrev pub IsTreeFault : {A : Type 0} → Rule A → ℕ → List Token → QFault → Type 0
+IsTreeFault {A} start end tokens (fault.Syntax place) =
+    ((tree : A) → Spells grammar start tokens tree → ⊥) × (n : ℕ) × IsDue grammar start tokens n × (place ≡ place_of_number end n tokens)
+IsTreeFault start end tokens fault.Memory = Unit {0}
+IsTreeFault start end tokens other = ⊥
 
 -- where no token stands in the way: the tree that is spelt decides, or its want
 abbrev pub AfterScreen : {A B : Type 0} → Rule A → (A → Outcome B) → List ℕ → List Token → Outcome (Unit {0}) → Outcome B → Type 0

@@ -2,9 +2,11 @@
 //! blame. `specs/Text.antt` says what is answered.
 #![tactic(auto)]
 
+pub mod parse;
 pub mod token;
 pub mod tree;
 
+pub use crate::parse::{parse_query, parse_update};
 pub use crate::token::tokens;
 pub use crate::tree::{query_tree, update_tree};
 

@@ -2,7 +2,10 @@
 
 ghost use Rattle.std.specs.Prelude.{◌≡◌, IfOk, IfErr};
 ghost use Rattle.qs_syntax.specs.Text.{IsTreeOf, IsOnlyTreeOf, IsFaultOfText, place_of_number};
+ghost use Rattle.qs_grammar.specs.Grammar.{Spells};
+ghost use Rattle.qs_syntax.specs.Outcome.{IsTreeFault};
 ghost use Rattle.qs_tree.specs.Rules as rules;
+ghost use Rattle.qs_tree.specs.Table.{grammar};
 
 use crate::token::tokens;
 use qs_grammar::fault::ParseFault;
@@ -20,6 +23,34 @@ fn place_of_number(end: usize, number: usize, tokens: &[Token]) -> usize
     match tokens.get(number) {
         Some(token) => token.span.start,
         None => end,
+    }
+}
+
+/// The tree that the tokens of a query spell; the text ends at `end`.
+pub fn query_of_tokens(alloc: Global, end: usize, tokens: &[Token]) -> Result<Query, QFault>
+    ensures found { IfOk result (λ tree. Spells grammar rules.query tokens.now tree) }
+    ensures fault { IfErr result (λ e. IsTreeFault rules.query end tokens.now e) }
+{
+    match qs_parser::query(alloc, tokens) {
+        Ok(tree) => Ok(tree),
+        Err(ParseFault::Memory) => Err(QFault::Memory),
+        Err(ParseFault::Syntax(number)) => Err(QFault::Syntax {
+            place: place_of_number(end, number, tokens),
+        }),
+    }
+}
+
+/// The tree that the tokens of an update spell; the text ends at `end`.
+pub fn update_of_tokens(alloc: Global, end: usize, tokens: &[Token]) -> Result<Update, QFault>
+    ensures found { IfOk result (λ tree. Spells grammar rules.update tokens.now tree) }
+    ensures fault { IfErr result (λ e. IsTreeFault rules.update end tokens.now e) }
+{
+    match qs_parser::update(alloc, tokens) {
+        Ok(tree) => Ok(tree),
+        Err(ParseFault::Memory) => Err(QFault::Memory),
+        Err(ParseFault::Syntax(number)) => Err(QFault::Syntax {
+            place: place_of_number(end, number, tokens),
+        }),
     }
 }
 

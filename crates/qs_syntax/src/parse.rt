@@ -1,0 +1,61 @@
+//! Queries and updates of texts.
+
+ghost use Rattle.std.specs.Prelude.{◌≡◌, IfOk, IfErr, length};
+ghost use Rattle.qs_grammar.specs.Grammar.{Spells};
+ghost use Rattle.qs_tree.specs.Rules as rules;
+ghost use Rattle.qs_tree.specs.Table.{grammar};
+ghost use Rattle.qs_settle.specs.Settled.{query_outcome, update_outcome};
+ghost use Rattle.qs_syntax.specs.Outcome.{Answers, IsTreeFault, IsOutcomeOfTokens, IsQueryOutcome, IsUpdateOutcome};
+
+use crate::token::tokens;
+use crate::tree::{query_of_tokens, update_of_tokens};
+use qs_ast::query::Query;
+use qs_ast::update::Update;
+use qs_settle::{screen, settle_query, settle_update};
+use qs_terms::QFault;
+use qs_tree::token::Token;
+use std::alloc::Global;
+
+fn query_of(alloc: Global, text: &str, tokens: &[Token]) -> Result<Query, QFault>
+    ensures { Answers (IsOutcomeOfTokens rules.query (query_outcome text.now tokens.now) text.now tokens.now) result }
+{
+    screen(alloc, text, tokens)?;
+    let tree = query_of_tokens(alloc, text.len(), tokens)?;
+    settle_query(alloc, text, tokens, &tree)
+}
+
+fn update_of(alloc: Global, text: &str, tokens: &[Token]) -> Result<Update, QFault>
+    ensures { Answers (IsOutcomeOfTokens rules.update (update_outcome text.now) text.now tokens.now) result }
+{
+    screen(alloc, text, tokens)?;
+    let tree = update_of_tokens(alloc, text.len(), tokens)?;
+    settle_update(alloc, text, &tree)
+}
+
+/// The query of a text, with its names resolved (SPARQL 1.1 Query, 19.8, [1]).
+///
+/// # Errors
+/// The one that is due, in this order; places are bytes from 0. `QFault::Syntax` where no token begins. `QFault::LeftOut` with the
+/// first decimal, double or word that is left out. `QFault::TooLarge` at the first bracket with which 65 are open. `QFault::Syntax`
+/// at the first token such that no tokens that spell a query begin with the tokens up to it and with it, or at the text's end.
+/// Whichever has the first place of `QFault::Prefix` at a name whose prefix isn't declared, `QFault::RelativeIri` at an IRI without a
+/// scheme, and `QFault::TooLarge` at the 257th element of a group or operand of a chain; at one place in this order.
+/// `QFault::Scope` where a rule of scope is broken (SPARQL 1.1 Query, the notes in 19.8). `QFault::Memory` for want of memory, at
+/// any time.
+pub fn parse_query(alloc: Global, text: &str) -> Result<Query, QFault>
+    ensures { Answers (IsQueryOutcome text.now) result }
+{
+    let tokens = tokens(alloc, text)?;
+    query_of(alloc, text, &tokens)
+}
+
+/// The update of a text, with its names resolved (SPARQL 1.1 Query, 19.8, [3]).
+///
+/// # Errors
+/// As of `parse_query`.
+pub fn parse_update(alloc: Global, text: &str) -> Result<Update, QFault>
+    ensures { Answers (IsUpdateOutcome text.now) result }
+{
+    let tokens = tokens(alloc, text)?;
+    update_of(alloc, text, &tokens)
+}
