@@ -13,4 +13,6 @@ pub use crate::tree::{query_tree, update_tree};
 #[cfg(test)]
 mod growth;
 #[cfg(test)]
+mod parsed;
+#[cfg(test)]
 mod tests;
