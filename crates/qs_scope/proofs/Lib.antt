@@ -1,2 +1,4 @@
 pub mod AddedLabels
+pub mod Brought
+pub mod Reading
 pub mod PlacesKept

@@ -8,3 +8,4 @@ pub mod Runs
 pub mod Tables
 pub mod Selected
 pub mod KeepsScope
+pub mod Laws
