@@ -3,6 +3,8 @@
 #![tactic(auto)]
 
 mod blocks;
+#[cfg(test)]
+mod growth;
 mod labels;
 pub mod laws;
 #[cfg(test)]
