@@ -1,3 +1,5 @@
 pub mod AddedLabels
+pub mod Brought
+pub mod Reading
 pub mod PlacesKept
 pub mod FirstsKept

@@ -1,4 +1,4 @@
--- The rules that a query or an update keeps beyond the grammar (SPARQL 1.1 Query, the notes after the grammar of 19.8).
+-- The rules that a query or an update keeps beyond the grammar (SPARQL 1.1 Query, the notes on the grammar in 19.8).
 use Rattle.std.specs.Prelude.{Bool, true, ◌&&◌, not, List, [], ◌++◌, map, Option, Some, None}
 use Rattle.std.specs.List.{list_all, list_any, flat_map}
 use Rattle.qs_scope.specs.Names.{Name}
@@ -49,13 +49,13 @@ query_keeps_scope query = trailing_is_table query.values && form_keeps (trailing
 
 -- ---- updates
 
--- no variable in INSERT DATA and DELETE DATA
+-- no variable in INSERT DATA and DELETE DATA (19.8, note 7)
 abbrev pub data_names_no_variable : Operation → Bool
 data_names_no_variable (op.InsertData blocks) = not (list_any block_has_variable blocks)
 data_names_no_variable (op.DeleteData blocks) = not (list_any block_has_variable blocks)
 data_names_no_variable _ = true
 
--- no blank node in DELETE DATA, DELETE WHERE and the template of DELETE
+-- no blank node in DELETE DATA, DELETE WHERE and the template of DELETE (19.8, note 8)
 abbrev pub deletes_no_blank : Operation → Bool
 deletes_no_blank (op.DeleteData blocks) = not (list_any block_has_blank blocks)
 deletes_no_blank (op.DeleteWhere blocks) = not (list_any block_has_blank blocks)

@@ -9,3 +9,4 @@ pub mod Tables
 pub mod Selected
 pub mod KeepsScope
 pub mod Firsts
+pub mod Laws

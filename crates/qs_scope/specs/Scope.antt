@@ -1,4 +1,4 @@
--- The variables in scope of a group (SPARQL 1.1 Query, 18.2.1), and the rule that BIND keeps (19.8, note 12).
+-- The variables in scope of a group (SPARQL 1.1 Query, 18.2.1), and the rule of BIND (10.1, and 19.8, note 12).
 use Rattle.std.specs.Prelude.{Bool, true, ◌&&◌, not, List, [], ◌∷◌, ◌++◌, map}
 use Rattle.std.specs.List.{list_any, flat_map, fold}
 use Rattle.qs_scope.specs.Names.{Name, contains}

@@ -1,4 +1,4 @@
--- The items of SELECT (SPARQL 1.1 Query, 18.2.4.4 and 19.8, note 13).
+-- The items of SELECT (SPARQL 1.1 Query, 18.2.4.4, and 19.8, note 11).
 use Rattle.std.specs.Prelude.{Bool, true, List, [], ◌∷◌, ◌++◌}
 use Rattle.std.specs.List.{fold}
 use Rattle.qs_scope.specs.Names.{Name}

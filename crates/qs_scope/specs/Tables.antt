@@ -1,4 +1,4 @@
--- The tables of VALUES (SPARQL 1.1 Query, 10.2 and 19.8, the note on InlineDataFull).
+-- The tables of VALUES (SPARQL 1.1 Query, 10.2, and 19.8, note 10).
 use Rattle.std.specs.Prelude.{Bool, true, ◌&&◌, ◌==◌, List, length, map}
 use Rattle.std.specs.List.{list_all}
 use Rattle.qs_scope.specs.Met.{are_distinct}

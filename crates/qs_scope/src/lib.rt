@@ -1,10 +1,13 @@
-//! The rules that a query or an update keeps beyond the grammar (SPARQL 1.1 Query, 18.2.1 and the notes after the grammar of 19.8;
+//! The rules that a query or an update keeps beyond the grammar (SPARQL 1.1 Query, 18.2.1 and the notes on the grammar in 19.8;
 //! 19.6 for the labels of blank nodes).
 #![tactic(auto)]
 
 mod blocks;
 mod first;
+#[cfg(test)]
+mod growth;
 mod labels;
+pub mod laws;
 #[cfg(test)]
 mod made;
 mod met;

@@ -108,7 +108,7 @@ fn inserted_are_apart(alloc: Global, operations: &[Operation]) -> Result<bool, A
     Ok(met.keeps)
 }
 
-/// Whether the update keeps the rules of scope beyond the grammar (SPARQL 1.1 Query, the notes after the grammar of 19.8): those of
+/// Whether the update keeps the rules of scope beyond the grammar (SPARQL 1.1 Query, the notes on the grammar in 19.8): those of
 /// queries in its WHERE clauses, no variable in data, no blank node in what it deletes, and labels of blank nodes in one run and in
 /// one INSERT DATA. The only error is want of memory.
 pub fn update_keeps_scope(alloc: Global, update: &Update) -> Result<bool, AllocError>

@@ -1,0 +1,46 @@
+//! What the rules say, in words that ask for no order.
+
+ghost use Rattle.std.specs.Prelude.{◌↔◌, ◌≡◌, List, [], ◌∷◌, ◌++◌, IsTrue, false};
+ghost use Rattle.std.specs.List.{flat_map};
+ghost use Rattle.qs_scope.specs.Names.{Name, contains};
+ghost use Rattle.qs_scope.specs.Met.{are_distinct, are_apart};
+ghost use Rattle.qs_scope.specs.Scope.{scope, in_scope, part, parts, fits};
+ghost use Rattle.qs_scope.specs.Variables.{triple_variables, graph_variables, column_names};
+ghost use Rattle.qs_scope.specs.Laws.{EachStandsOnce, EachStandsInOne, EachFits};
+ghost use Rattle.qs_ast.specs.declared.pattern.Group.{Group, out-Group};
+ghost use Rattle.qs_ast.specs.declared.pattern.GraphPattern.{GraphPattern};
+ghost use Rattle.qs_ast.specs.declared.pattern.GraphPattern.TheVariants.{Triples, Union, Optional, Minus, Graph, Bind, Values};
+ghost use Rattle.qs_ast.specs.declared.pattern.Triple.{Triple};
+ghost use Rattle.qs_ast.specs.declared.pattern.InlineData.{InlineData};
+ghost use Rattle.qs_ast.specs.declared.term.VarOrIri.{VarOrIri};
+ghost use Rattle.qs_ast.specs.declared.expression.Expression.{Expression};
+ghost use Rattle.qs_ast.specs.declared.term.Variable.{Variable};
+
+/// Names are distinct exactly where each stands once.
+pub fn distinct_names_stand_once()
+    ensures { (names : List Name) → IsTrue (are_distinct names) ↔ EachStandsOnce names }
+{}
+
+/// Runs are apart exactly where each label stands in one.
+pub fn labels_of_runs_apart_stand_in_one()
+    ensures { (runs : List (List Name)) → IsTrue (are_apart runs) ↔ EachStandsInOne runs }
+{}
+
+/// The patterns of a group keep the rule of BIND exactly where each fits behind those before it, and a BIND fits exactly where its
+/// variable is not in their scope.
+pub fn patterns_fit_one_by_one()
+    ensures group { (group : Group) → scope group ≡ parts (out-Group group).patterns }
+    ensures patterns { (patterns : List GraphPattern) → IsTrue (parts patterns).keeps ↔ EachFits patterns }
+    ensures bind { (before : List Name) (value : Expression) (variable : Variable) → IsTrue (fits before (part (Bind value variable))) ↔ (contains before variable.name ≡ false) }
+{}
+
+/// The variables that each kind of pattern brings into scope (SPARQL 1.1 Query, 18.2.1).
+pub fn patterns_bring_into_scope()
+    ensures triples { (all : List Triple) → (part (Triples all)).names ≡ flat_map triple_variables all }
+    ensures union { (groups : List Group) → (part (Union groups)).names ≡ flat_map in_scope groups }
+    ensures optional { (group : Group) → (part (Optional group)).names ≡ in_scope group }
+    ensures minus { (group : Group) → (part (Minus group)).names ≡ [] }
+    ensures graph { (name : VarOrIri) (group : Group) → (part (Graph name group)).names ≡ graph_variables name ++ in_scope group }
+    ensures bind { (value : Expression) (variable : Variable) → (part (Bind value variable)).names ≡ variable.name ∷ [] }
+    ensures values { (table : InlineData) → (part (Values table)).names ≡ column_names table }
+{}
