@@ -64,14 +64,14 @@ full text span = absolute span.start (checked_iri (decoded uchar (piece text (sp
 -- the IRI that the prefix stands for, and the local name behind it
 abbrev pub joined : ℕ → Option (List ℕ) → List ℕ → Result (List ℕ) QFault
 joined place None local = Err (fault.Prefix place)
-joined place (Some i) local = absolute place (checked_iri (i ++ local))
+joined place (Some i) local = absolute place (checked_iri (i ++ unescaped local))
 
 abbrev pub is_colon : ℕ → Bool
 is_colon c = c == 58
 
 -- the parts before and behind the first colon
 abbrev pub expanded : List (List ℕ × List ℕ) → ℕ → List ℕ → Result (List ℕ) QFault
-expanded prefixes place name = joined place (lookup (bytes_eq (before_first is_colon name)) prefixes) (unescaped (after_first is_colon name))
+expanded prefixes place name = joined place (lookup (bytes_eq (before_first is_colon name)) prefixes) (after_first is_colon name)
 
 -- `prefix:local`
 unfoldable pub prefixed : Names → Span → Result (List ℕ) QFault
