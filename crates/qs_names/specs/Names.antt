@@ -134,7 +134,7 @@ with_prefix names prefix (Ok i) = Ok (record names { prefixes = insert_entry (sl
 with_prefix names prefix (Err e) = Err e
 
 -- the prefix, without its `:`, stands for the IRI from here on
-abbrev pub declare : Names → PrefixDeclaration → Result Names QFault
+unfoldable pub declare : Names → PrefixDeclaration → Result Names QFault
 declare names d = with_prefix names (piece names.text d.prefix.start (d.prefix.end - 1)) (full names.text d.iri)
 
 -- ---- numbers (SPARQL 1.1 Query, 15.4 and 15.5)

@@ -54,7 +54,7 @@ impl<'a> Names<'a> {
     ///
     /// # Errors
     /// `QFault::RelativeIri` with the place of an IRI that has no scheme, and `QFault::Memory`. The names are then as before.
-    #[tactic(auto, using(crate::proofs::Prefixes::put))]
+    #[tactic(auto, using(crate::proofs::Prefixes::put), unfolding(crate::specs::Names::declare))]
     pub fn declare(&mut self, declaration: &PrefixDeclaration) -> Result<(), QFault>
         ensures answer { Becomes (declare self.old declaration.now) result self.new }
         ensures refused { OnErr result (self.new ≡ self.old) }
