@@ -1,8 +1,8 @@
 -- Escapes that name a character.
-use Rattle.std.proofs.Common.{◌≡◌, ℕ, ◌<◌, ◌≤◌, true, false, Some, None, refl, arith, Option}
+use Rattle.std.proofs.Common.{◌≡◌, ℕ, true, false, Some, None, arith}
 use Rattle.std.proofs.lemmas.Bool.Decides.{nat_tests}
 use Rattle.std.specs.Char.{InScalarRange, OutOfScalarRange}
-use Rattle.qs_regular.specs.Character.{is_scalar, within}
+use Rattle.qs_regular.specs.Character.{is_scalar}
 use Rattle.qs_names.specs.Escape.{escape_of}
 
 scalar : (code : ℕ) → InScalarRange code → is_scalar code ≡ true

@@ -1,9 +1,8 @@
 -- Literals of known datatypes are lawful.
-use Rattle.std.proofs.Common.{◌≡◌, List, ℕ, Option, Some, None, Result, Ok, Err, refl, ◌∙◌, sym, ap, subst}
+use Rattle.std.proofs.Common.{◌≡◌, List, ℕ, Some, Result, Ok, Err, refl, ◌∙◌, sym, ap, subst}
 use Rattle.std.specs.Result.{result_ok}
 use Rattle.qs_terms.specs.declared.fault.TermFault.{TermFault}
 use Rattle.qs_terms.specs.declared.fault.TermFault.TheVariants.{NotAbsolute, BadChar, BadTag, BadDatatype, Memory}
-use Rattle.qs_terms.specs.declared.fault.QFault.{QFault}
 use Rattle.qs_terms.specs.Iri.{checked_iri}
 use Rattle.qs_terms.specs.Literal.{Literal, rdf_lang_string, typed, checked_typed, checked_parts}
 use Rattle.qs_terms.specs.OrMemory.{OrMemory}

@@ -1,5 +1,5 @@
 -- What `get` finds of a text is the piece.
-use Rattle.std.proofs.Common.{◌≡◌, ℕ, ◌+◌, ◌-◌, ◌<◌, ◌≤◌, ◌⊎◌, inl, inr, true, false, List, [], length, take, drop, slice_index, slice_range, min, refl, ◌∙◌, sym, ap, subst, arith, length-drop}
+use Rattle.std.proofs.Common.{◌≡◌, ℕ, ◌+◌, ◌-◌, ◌<◌, ◌≤◌, ◌⊎◌, inl, inr, true, List, [], length, take, drop, slice_index, slice_range, min, ◌∙◌, sym, ap, subst, arith, length-drop}
 use Rattle.std.proofs.Math.Nat.{eq-or-lt_of_le, add-zero, min-eq_left, min-eq_right}
 use Rattle.std.proofs.lemmas.List.{get_or_past, get_or-take, get_or-drop}
 use Rattle.std.proofs.lemmas.Bool.Decides.{nat_tests}

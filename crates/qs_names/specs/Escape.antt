@@ -1,6 +1,5 @@
 -- Escapes, as they stand behind their backslash (SPARQL 1.1 Query, 19.2 and 19.8).
 use Rattle.std.specs.Prelude.{ℕ, zero, suc, ◌+◌, ◌*◌, ◌==◌, List, [], ◌∷◌, Option, Some, None, if◌then◌else◌}
-use Rattle.std.specs.Option.{option_map}
 use Rattle.std.specs.Map.{lookup}
 use Rattle.qs_regular.specs.Character.{is_hex, hex_value, is_scalar}
 use Rattle.qs_names.specs.declared.escape.Escape.{Escape}

@@ -64,14 +64,14 @@ full text span = absolute span.start (checked_iri (decoded uchar (piece text (sp
 -- the IRI that the prefix stands for, and the local name behind it
 abbrev pub joined : ℕ → Option (List ℕ) → List ℕ → Result (List ℕ) QFault
 joined place None local = Err (fault.Prefix place)
-joined place (Some i) local = absolute place (checked_iri (i ++ local))
+joined place (Some i) local = absolute place (checked_iri (i ++ unescaped local))
 
 abbrev pub is_colon : ℕ → Bool
 is_colon c = c == 58
 
 -- the parts before and behind the first colon
 abbrev pub expanded : List (List ℕ × List ℕ) → ℕ → List ℕ → Result (List ℕ) QFault
-expanded prefixes place name = joined place (lookup (bytes_eq (before_first is_colon name)) prefixes) (unescaped (after_first is_colon name))
+expanded prefixes place name = joined place (lookup (bytes_eq (before_first is_colon name)) prefixes) (after_first is_colon name)
 
 -- `prefix:local`
 unfoldable pub prefixed : Names → Span → Result (List ℕ) QFault
@@ -134,7 +134,7 @@ with_prefix names prefix (Ok i) = Ok (record names { prefixes = insert_entry (sl
 with_prefix names prefix (Err e) = Err e
 
 -- the prefix, without its `:`, stands for the IRI from here on
-abbrev pub declare : Names → PrefixDeclaration → Result Names QFault
+unfoldable pub declare : Names → PrefixDeclaration → Result Names QFault
 declare names d = with_prefix names (piece names.text d.prefix.start (d.prefix.end - 1)) (full names.text d.iri)
 
 -- ---- numbers (SPARQL 1.1 Query, 15.4 and 15.5)

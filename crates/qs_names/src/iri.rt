@@ -1,12 +1,12 @@
 //! IRIs as they are written.
 
-ghost use Rattle.std.specs.Prelude.{◌≡◌, Ok};
+ghost use Rattle.std.specs.Prelude.{◌≡◌, Some, Ok};
 ghost use Rattle.std.specs.List.{before_first, after_first};
 ghost use Rattle.qs_terms.specs.Iri.{checked_iri};
 ghost use Rattle.qs_names.specs.Gives.{Gives};
 ghost use Rattle.qs_names.specs.Names.{full, is_colon};
 
-use crate::decoded::decoded;
+use crate::decoded::{decoded, joined};
 use crate::escape::Escapes;
 use crate::piece::inside;
 use qs_terms::{Iri, QFault, Text};
@@ -32,6 +32,14 @@ pub(crate) fn full_iri(alloc: Global, text: &str, span: Span) -> Result<Iri, QFa
 {
     let text = decoded(alloc, inside(text, span, 1), Escapes::Codepoints)?;
     absolute(span.start, text)
+}
+
+/// The IRI that a prefix stands for, and a local name behind it.
+pub(crate) fn expanded(alloc: Global, place: usize, start: &str, local: &str) -> Result<Iri, QFault>
+    ensures { Gives (Rattle.qs_names.specs.Names.joined place (Some start.now) local.now) result }
+{
+    let text = joined(alloc, start, local)?;
+    absolute(place, text)
 }
 
 /// The parts before and behind the first colon.

@@ -1,10 +1,12 @@
 //! The names of a text.
 
 ghost use Rattle.std.specs.Prelude.{◌≡◌, IfOk, OnErr};
+ghost use Rattle.std.specs.Map.{lookup};
+ghost use Rattle.std.specs.Option.{option_copied};
+ghost use Rattle.std.specs.Str.{bytes_eq};
 ghost use Rattle.qs_names.specs.Gives.{Gives, Becomes};
 
-use crate::decoded::joined;
-use crate::iri::{absolute, full_iri, parted, rdf_type};
+use crate::iri::{expanded, full_iri, parted, rdf_type};
 use crate::literal::{boolean, integer, plain, string, tagged};
 use crate::number::decimal;
 use crate::piece::{before_end, behind, whole};
@@ -52,6 +54,7 @@ impl<'a> Names<'a> {
     ///
     /// # Errors
     /// `QFault::RelativeIri` with the place of an IRI that has no scheme, and `QFault::Memory`. The names are then as before.
+    #[tactic(auto, using(crate::proofs::Prefixes::put), unfolding(crate::specs::Names::declare))]
     pub fn declare(&mut self, declaration: &PrefixDeclaration) -> Result<(), QFault>
         ensures answer { Becomes (declare self.old declaration.now) result self.new }
         ensures refused { OnErr result (self.new ≡ self.old) }
@@ -131,16 +134,22 @@ impl<'a> Names<'a> {
         decimal(whole(self.text, span).as_bytes())
     }
 
+    // The IRI that a prefix stands for.
+    fn declared(&self, prefix: &str) -> Option<&Iri>
+        ensures { option_copied result ≡ lookup (bytes_eq prefix.now) self.now.prefixes }
+    {
+        self.prefixes.get(prefix)
+    }
+
     #[tactic(auto, unfolding(crate::specs::Names::prefixed))]
     fn prefixed(&self, span: Span) -> Result<Iri, QFault>
         ensures { Gives (Rattle.qs_names.specs.Names.prefixed self.now span) result }
     {
         let (prefix, local) = parted(whole(self.text, span));
-        let Some(start) = self.prefixes.get(prefix) else {
+        let Some(start) = self.declared(prefix) else {
             return Err(QFault::Prefix { place: span.start });
         };
-        let text = joined(self.alloc, start.text(), local)?;
-        absolute(span.start, text)
+        expanded(self.alloc, span.start, start.text(), local)
     }
 
     fn annotated(&self, form: Text, annotation: Option<Annotation>) -> Result<Option<Lit>, QFault>
