@@ -2,7 +2,10 @@
 
 ghost use Rattle.std.specs.Prelude.{◌≡◌, ◌+◌, length};
 ghost use Rattle.qs_grammar.specs.Reading.{Reads, starts, take_kind, has};
-ghost use Rattle.qs_grammar.specs.Rule.{place_of};
+ghost use Rattle.qs_grammar.specs.Grammar.{read};
+ghost use Rattle.qs_grammar.specs.Notation.{◌<<◌};
+ghost use Rattle.qs_grammar.specs.Rule.{empty, place_of, token};
+ghost use Rattle.qs_tree.specs.Table.{grammar};
 ghost use Rattle.qs_tree.specs.Sparql.{sparql};
 ghost use Rattle.qs_tree.specs.Sparql as spec;
 ghost use Rattle.qs_grammar.specs.declared.fault.Fault.TheVariants as Fault;
@@ -103,5 +106,13 @@ impl<'a> Tokens<'a> {
             }
             _ => Err(self.refuse()),
         }
+    }
+
+    /// The value, behind which the next token must be of the kind. A procedure that ends so drops no tree by itself.
+    pub fn closing<T: Drop>(&mut self, value: T, kind: Kind) -> Result<T, Fault>
+        ensures { Reads (read grammar 0 (empty value << token kind) self.old) result self.new }
+    {
+        self.expect(kind)?;
+        Ok(value)
     }
 }

@@ -44,8 +44,7 @@ impl<F: Fn(Parser, &mut Tokens<'_>) -> Result<Expression, Fault>> Operators<F> {
     {
         tokens.expect(Kind::LeftParen)?;
         let inner = self.expression(tokens)?;
-        tokens.expect(Kind::RightParen)?;
-        Ok(inner)
+        tokens.closing(inner, Kind::RightParen)
     }
 
     #[tactic(auto, unfolding(qs_tree::specs::Rules::next_argument))]
@@ -85,8 +84,7 @@ impl<F: Fn(Parser, &mut Tokens<'_>) -> Result<Expression, Fault>> Operators<F> {
     {
         tokens.expect(Kind::LeftParen)?;
         let two = self.two_expressions(tokens)?;
-        tokens.expect(Kind::RightParen)?;
-        Ok(two)
+        tokens.closing(two, Kind::RightParen)
     }
 
     #[tactic(auto, unfolding(qs_tree::specs::Rules::three_arguments))]
@@ -99,8 +97,7 @@ impl<F: Fn(Parser, &mut Tokens<'_>) -> Result<Expression, Fault>> Operators<F> {
     {
         tokens.expect(Kind::LeftParen)?;
         let three = self.three_expressions(tokens)?;
-        tokens.expect(Kind::RightParen)?;
-        Ok(three)
+        tokens.closing(three, Kind::RightParen)
     }
 
     fn more_expressions(&self, tokens: &mut Tokens<'_>) -> Result<Items<Expression>, Fault>
@@ -130,8 +127,7 @@ impl<F: Fn(Parser, &mut Tokens<'_>) -> Result<Expression, Fault>> Operators<F> {
             let others = self.more_expressions(tokens)?;
             found = all_of(self.parser.alloc, first, others)?;
         }
-        tokens.expect(Kind::RightParen)?;
-        Ok(found)
+        tokens.closing(found, Kind::RightParen)
     }
 
     #[tactic(auto, using(crate::proofs::FirstKinds::first_unary_function, crate::proofs::FirstKinds::nullable_unary_function), unfolding(qs_tree::specs::Rules::call))]

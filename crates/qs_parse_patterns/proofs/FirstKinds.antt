@@ -3,11 +3,7 @@ use Rattle.std.proofs.Common.{◌≡◌, false, [], ◌∷◌, refl}
 use Rattle.qs_grammar.specs.Reading.{first, nullable}
 use Rattle.qs_tree.specs.declared.kind.Kind.TheVariants as k
 use Rattle.qs_tree.specs.Table.{firsts}
-use Rattle.qs_tree.specs.Rules.{binary_function, call, column, constraint, groups, limit, offset, parenthesized, unary_function}
-
-pub first_column : first firsts column ≡ k.Var ∷ []
-unfolding column
-first_column = refl
+use Rattle.qs_tree.specs.Rules.{binary_function, call, constraint, groups, limit, offset, parenthesized, unary_function}
 
 pub first_groups : first firsts groups ≡ k.LeftBrace ∷ []
 unfolding groups

@@ -7,14 +7,14 @@ ghost use Rattle.qs_tree.specs.Rules as rules;
 ghost use Rattle.qs_tree.specs.Sparql as name;
 ghost use Rattle.qs_tree.specs.Table.{grammar};
 
-use crate::data::values;
 use qs_cursor::kinds::{ELEMENTS, NODES};
 use qs_cursor::parser::Parser;
 use qs_cursor::tokens::Tokens;
 use qs_cursor::trees::all_of;
 use qs_grammar::fault::Fault;
+use qs_parse_data::data::values;
+use qs_parse_data::triples::triples;
 use qs_parse_expressions::expressions::{call, expression, parenthesized};
-use qs_parse_triples::triples::triples;
 use qs_tree::expression::Expression;
 use qs_tree::kind::Kind;
 use qs_tree::pattern::{Element, GraphPattern, Group};
@@ -52,8 +52,7 @@ pub fn named_expression(
 {
     tokens.expect(Kind::LeftParen)?;
     let named = expression_as_var(parser, tokens)?;
-    tokens.expect(Kind::RightParen)?;
-    Ok(named)
+    tokens.closing(named, Kind::RightParen)
 }
 
 #[tactic(auto, unfolding(qs_tree::specs::Rules::block))]

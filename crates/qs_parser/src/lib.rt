@@ -1,10 +1,9 @@
 //! The parser: from a list of tokens to the one tree that it spells, or to the first token that is to blame. The procedures of
-//! queries and updates stand here, one for each rule of the grammar of `qs_tree`, over those of expressions, triples and patterns
-//! in the crates below. `qs_cursor::parser` says what they answer.
+//! queries and updates stand here, one for each rule of the grammar of `qs_tree`, over those of expressions, data and patterns in
+//! the crates below. `qs_cursor::parser` says what they answer.
 #![tactic(auto)]
 
 pub mod parse;
-mod quads;
 mod queries;
 mod updates;
 

@@ -5,22 +5,20 @@ ghost use Rattle.qs_grammar.specs.Reading.{Reads};
 ghost use Rattle.qs_tree.specs.Rules as rules;
 ghost use Rattle.qs_tree.specs.Table.{grammar};
 
-use qs_cursor::kinds::NODES;
 use qs_cursor::parser::Parser;
 use qs_cursor::tokens::Tokens;
 use qs_cursor::trees::all_of;
 use qs_grammar::fault::Fault;
-use qs_parse_patterns::data;
+use qs_parse_data::data;
+use qs_parse_data::triples::template_braces;
 use qs_parse_patterns::groups::{group, named_expression};
 use qs_parse_patterns::modifiers::modifiers;
-use qs_parse_triples::triples::triples;
 use qs_tree::kind::Kind;
 use qs_tree::pattern::Group;
 use qs_tree::query::{
     Ask, Construct, Duplicates, PrefixDeclaration, Projection, Query, QueryForm, Select,
     SelectItem, SolutionModifiers,
 };
-use qs_tree::triples::{Form, TriplesSameSubject};
 use sqlite_items::Items;
 
 #[tactic(auto, unfolding(qs_tree::specs::Rules::prefix_declaration))]
@@ -143,23 +141,6 @@ fn select(parser: Parser, tokens: &mut Tokens<'_>) -> Result<Select, Fault>
         pattern,
         modifiers,
     })
-}
-
-/// Triples of a template in braces ([73]).
-#[tactic(auto, unfolding(qs_tree::specs::Rules::template_braces))]
-pub fn template_braces(
-    parser: Parser,
-    tokens: &mut Tokens<'_>,
-) -> Result<Items<TriplesSameSubject>, Fault>
-    ensures { Reads (read grammar parser.depth rules.template_braces tokens.old) result tokens.new }
-{
-    tokens.expect(Kind::LeftBrace)?;
-    let mut found = Items::new(parser.alloc);
-    if tokens.begins(&NODES) {
-        found = triples(parser, Form::Template, tokens)?;
-    }
-    tokens.expect(Kind::RightBrace)?;
-    Ok(found)
 }
 
 #[tactic(auto, unfolding(qs_tree::specs::Rules::long_construct))]

@@ -8,12 +8,12 @@ ghost use Rattle.qs_grammar.specs.Reading.{Reads};
 ghost use Rattle.qs_tree.specs.Rules as rules;
 ghost use Rattle.qs_tree.specs.Table.{grammar};
 
-use crate::quads::quads;
 use crate::queries;
 use qs_cursor::kinds::OPERATIONS;
 use qs_cursor::parser::Parser;
 use qs_cursor::tokens::Tokens;
 use qs_grammar::fault::Fault;
+use qs_parse_data::quads::quads;
 use qs_parse_patterns::groups::group;
 use qs_tree::kind::Kind;
 use qs_tree::pattern::Group;

@@ -1,0 +1,103 @@
+//! Quads of updates (SPARQL 1.1 Query, 19.8, [48] to [52]).
+
+ghost use Rattle.qs_grammar.specs.Grammar.{read};
+ghost use Rattle.qs_grammar.specs.Reading.{Reads};
+ghost use Rattle.qs_tree.specs.Rules as rules;
+ghost use Rattle.qs_tree.specs.Table.{grammar};
+
+use crate::triples::{template_braces, triples};
+use qs_cursor::kinds::NODES;
+use qs_cursor::parser::Parser;
+use qs_cursor::tokens::Tokens;
+use qs_cursor::trees::all_of;
+use qs_grammar::fault::Fault;
+use qs_tree::kind::Kind;
+use qs_tree::triples::Form;
+use qs_tree::update::{QuadElement, QuadPattern, Quads};
+use sqlite_items::Items;
+
+#[tactic(auto, unfolding(qs_tree::specs::Rules::quads_block))]
+fn quads_block(parser: Parser, tokens: &mut Tokens<'_>) -> Result<Items<QuadElement>, Fault>
+    ensures { Reads (read grammar parser.depth rules.quads_block tokens.old) result tokens.new }
+{
+    let mut found = Items::new(parser.alloc);
+    if !tokens.begins(&NODES) {
+        return Ok(found);
+    }
+    let place = tokens.place();
+    let triples = triples(parser, Form::Template, tokens)?;
+    found.push(QuadElement {
+        place,
+        quads: Quads::Triples(triples),
+    })?;
+    Ok(found)
+}
+
+#[tactic(auto, unfolding(qs_tree::specs::Rules::quads_graph))]
+fn quads_graph(parser: Parser, tokens: &mut Tokens<'_>) -> Result<QuadElement, Fault>
+    ensures { Reads (read grammar parser.depth rules.quads_graph tokens.old) result tokens.new }
+{
+    let place = tokens.place();
+    tokens.expect(Kind::Graph)?;
+    let name = parser.var_or_iri(tokens)?;
+    let triples = template_braces(parser, tokens)?;
+    Ok(QuadElement {
+        place,
+        quads: Quads::Graph(name, triples),
+    })
+}
+
+#[tactic(auto, unfolding(qs_tree::specs::Rules::dotted_graph))]
+fn dotted_graph(parser: Parser, tokens: &mut Tokens<'_>) -> Result<QuadElement, Fault>
+    ensures { Reads (read grammar parser.depth rules.dotted_graph tokens.old) result tokens.new }
+{
+    let element = quads_graph(parser, tokens)?;
+    if tokens.begins(&[Kind::Dot]) {
+        tokens.expect(Kind::Dot)?;
+    }
+    Ok(element)
+}
+
+#[tactic(auto, unfolding(qs_tree::specs::Rules::quads_step))]
+fn quads_step(parser: Parser, tokens: &mut Tokens<'_>) -> Result<Items<QuadElement>, Fault>
+    ensures { Reads (read grammar parser.depth rules.quads_step tokens.old) result tokens.new }
+{
+    let first = dotted_graph(parser, tokens)?;
+    let block = quads_block(parser, tokens)?;
+    Ok(all_of(parser.alloc, first, block)?)
+}
+
+fn quads_steps(parser: Parser, tokens: &mut Tokens<'_>) -> Result<Items<QuadElement>, Fault>
+    ensures { Reads (read grammar parser.depth rules.quads_steps tokens.old) result tokens.new }
+{
+    let mut found = Items::new(parser.alloc);
+    for _turn in 0..tokens.turns() {
+        if !tokens.begins(&[Kind::Graph]) {
+            return Ok(found);
+        }
+        let next = quads_step(parser, tokens)?;
+        found.append(next)?;
+    }
+    Err(Fault::Deep)
+}
+
+#[tactic(auto, unfolding(qs_tree::specs::Rules::quads_elements))]
+fn quads_elements(parser: Parser, tokens: &mut Tokens<'_>) -> Result<Items<QuadElement>, Fault>
+    ensures { Reads (read grammar parser.depth rules.quads_elements tokens.old) result tokens.new }
+{
+    let mut found = quads_block(parser, tokens)?;
+    let others = quads_steps(parser, tokens)?;
+    found.append(others)?;
+    Ok(found)
+}
+
+/// Quads in braces ([48] to [50]).
+#[tactic(auto, unfolding(qs_tree::specs::Rules::quads))]
+pub fn quads(parser: Parser, tokens: &mut Tokens<'_>) -> Result<QuadPattern, Fault>
+    ensures { Reads (read grammar parser.depth rules.quads tokens.old) result tokens.new }
+{
+    tokens.expect(Kind::LeftBrace)?;
+    let elements = quads_elements(parser, tokens)?;
+    tokens.expect(Kind::RightBrace)?;
+    Ok(QuadPattern { elements })
+}
