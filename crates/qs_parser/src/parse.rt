@@ -1,6 +1,6 @@
 //! The tree of a list of tokens.
 
-ghost use Rattle.std.specs.Prelude.{◌≡◌, IfOk, IfErr, length};
+ghost use Rattle.std.specs.Prelude.{IfErr, IfOk};
 ghost use Rattle.qs_grammar.specs.Contract.{ReadsAll, IsOnlyTree, IsRightFault};
 ghost use Rattle.qs_grammar.specs.Grammar.{Spells};
 ghost use Rattle.qs_tree.specs.Rules as rules;
