@@ -1,6 +1,6 @@
 -- The equations of the walks at lists of parts.
 use Rattle.std.proofs.Common.{rules, ◌≡◌, List, Ok, ap, ◌∙◌}
-use Rattle.qs_tree.specs.declared.path.Path.{fold-roll-Path, the_lemmas}
+use Rattle.qs_tree.specs.declared.path.Path.{the_lemmas}
 use Rattle.qs_tree.specs.declared.path.PathOperand.{PathOperand}
 use Rattle.qs_tree.specs.declared.path.Path.TheVariants as written
 use Rattle.qs_ast.specs.declared.path.Path.TheVariants as path

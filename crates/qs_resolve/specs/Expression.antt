@@ -1,5 +1,5 @@
 -- Expressions with their names resolved.
-use Rattle.std.specs.Prelude.{ℕ, List, [], ◌∷◌, map}
+use Rattle.std.specs.Prelude.{List, map}
 use Rattle.qs_tree.specs.declared.expression.Expression.{Expression as WrittenExpression, fold-Expression}
 use Rattle.qs_tree.specs.declared.expression.Call.{Call as WrittenCall, fold-Call}
 use Rattle.qs_tree.specs.declared.expression.Operand.{Operand, fold-Operand}

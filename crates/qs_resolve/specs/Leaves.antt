@@ -1,5 +1,5 @@
 -- Terms with their names resolved.
-use Rattle.std.specs.Prelude.{ℕ, ◌+◌, true, false, List, [], Option, Some, None, codes, Result, Ok, Err}
+use Rattle.std.specs.Prelude.{ℕ, ◌+◌, false, List, [], Option, Some, None, codes, Ok}
 use Rattle.qs_tree.specs.declared.token.Span.{Span}
 use Rattle.qs_tree.specs.declared.term.Iri.{Iri}
 use Rattle.qs_tree.specs.declared.term.Literal.{Literal as WrittenLiteral}
@@ -17,7 +17,7 @@ use Rattle.qs_ast.specs.declared.term.VarOrIri.TheVariants as name
 use Rattle.qs_terms.specs.Literal.{Literal, typed}
 use Rattle.qs_names.specs.Names as of
 use Rattle.qs_resolve.specs.declared.resolver.Resolver.{Resolver}
-use Rattle.qs_resolve.specs.Resolving.{Outcome, Resolving, ◌>>=◌, ◌<$>◌, pure, and_then}
+use Rattle.qs_resolve.specs.Resolving.{Outcome, Resolving, ◌<$>◌, and_then}
 
 abbrev pub variable : Span → Resolving Variable
 variable span = λ s. Ok (record { name = of.variable s.names span }, s)

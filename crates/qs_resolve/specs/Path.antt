@@ -1,6 +1,5 @@
 -- Property paths with their names resolved.
-use Rattle.std.specs.Prelude.{ℕ, List, [], ◌∷◌, map, Result, Ok, Err}
-use Rattle.qs_terms.specs.declared.fault.QFault.{QFault}
+use Rattle.std.specs.Prelude.{ℕ, List, map, Ok}
 use Rattle.qs_tree.specs.declared.path.Path.{Path as WrittenPath, fold-Path}
 use Rattle.qs_tree.specs.declared.path.PathOperand.{PathOperand}
 use Rattle.qs_tree.specs.declared.path.NegatedPredicate.{NegatedPredicate}

@@ -17,7 +17,7 @@ use Rattle.qs_resolve.specs.declared.open_group.OpenGroup.{OpenGroup}
 use Rattle.qs_resolve.specs.Data.{inline_data}
 use Rattle.qs_resolve.specs.Expression.{expression_of}
 use Rattle.qs_resolve.specs.Leaves.{variable, var_or_iri}
-use Rattle.qs_resolve.specs.Resolving.{Resolving, ◌>>=◌, ◌<$>◌, pure, all}
+use Rattle.qs_resolve.specs.Resolving.{Resolving, ◌>>=◌, pure, all}
 use Rattle.qs_resolve.specs.Triples.{triples_behind}
 
 -- the patterns, with the triples that no other pattern follows yet

@@ -1,5 +1,5 @@
 -- Whole queries and updates with their names resolved.
-use Rattle.std.specs.Prelude.{ℕ, true, List, Option, Some, None, if◌then◌else◌, Result, Ok, Err}
+use Rattle.std.specs.Prelude.{ℕ, true, List, Option, Some, None, if◌then◌else◌, Ok}
 use Rattle.qs_tree.specs.declared.query.Query.{Query as WrittenQuery}
 use Rattle.qs_tree.specs.declared.update.Update.{Update as WrittenUpdate}
 use Rattle.qs_ast.specs.declared.query.Query.{Query}

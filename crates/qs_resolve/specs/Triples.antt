@@ -1,7 +1,5 @@
 -- Triples written out, with their names resolved (SPARQL 1.1 Query, 4.2).
 use Rattle.std.specs.Prelude.{List, [], ◌∷◌, ◌++◌, map}
-use Rattle.qs_tree.specs.declared.path.Path.{Path as WrittenPath}
-use Rattle.qs_tree.specs.declared.path.Path.TheOpen.{Path-F}
 use Rattle.qs_tree.specs.declared.path.Verb.{Verb as WrittenVerb}
 use Rattle.qs_tree.specs.declared.path.Verb.TheVariants as written
 use Rattle.qs_tree.specs.declared.term.Term.{Term}

@@ -1,7 +1,6 @@
 -- Updates with their names resolved (SPARQL 1.1 Update, 3).
 use Rattle.std.specs.Prelude.{ℕ, List, [], ◌∷◌, ◌++◌, Option, Some, None, map}
 use Rattle.qs_tree.specs.declared.term.Iri.{Iri}
-use Rattle.qs_tree.specs.declared.triples.TriplesSameSubject.{TriplesSameSubject}
 use Rattle.qs_tree.specs.declared.update.GraphOrDefault.{GraphOrDefault as WrittenEnd}
 use Rattle.qs_tree.specs.declared.update.GraphOrDefault.TheVariants as written_end
 use Rattle.qs_tree.specs.declared.update.GraphTarget.{GraphTarget as WrittenTarget}
@@ -16,7 +15,6 @@ use Rattle.qs_tree.specs.declared.update.Quads.TheVariants as written_quads
 use Rattle.qs_tree.specs.declared.update.Transfer.{Transfer as WrittenTransfer}
 use Rattle.qs_tree.specs.declared.update.Update.{Update as WrittenUpdate}
 use Rattle.qs_tree.specs.declared.update.UpdateStep.{UpdateStep}
-use Rattle.qs_ast.specs.declared.pattern.Triple.{Triple}
 use Rattle.qs_ast.specs.declared.update.GraphOrDefault.{GraphOrDefault}
 use Rattle.qs_ast.specs.declared.update.GraphOrDefault.TheVariants as end
 use Rattle.qs_ast.specs.declared.update.GraphTarget.{GraphTarget}

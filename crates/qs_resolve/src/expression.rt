@@ -70,9 +70,9 @@ impl<'a> Resolver<'a> {
         match expression {
             WrittenExpression::Var(span) => Ok(Expression::Variable(self.variable(*span)?)),
             WrittenExpression::Iri(iri) => Ok(Expression::Iri(self.iri(*iri)?)),
-            WrittenExpression::Literal(literal) => Ok(Expression::Literal(
-                self.literal(alloc, *literal)?,
-            )),
+            WrittenExpression::Literal(literal) => Ok(Expression::Literal(self.literal(
+                alloc, *literal,
+            )?)),
             WrittenExpression::Call(call) => self.call(alloc, call),
             WrittenExpression::Or(operands) => {
                 let operands = self.expression_operands(alloc, operands.as_slice())?;
@@ -166,7 +166,11 @@ impl<'a> Resolver<'a> {
     }
 
     #[cycle(expression)]
-    fn list(&mut self, alloc: Global, all: &[WrittenExpression]) -> Result<Items<Expression>, QFault>
+    fn list(
+        &mut self,
+        alloc: Global,
+        all: &[WrittenExpression],
+    ) -> Result<Items<Expression>, QFault>
         ensures { Resolves (spec.list all.now self.old) result self.new }
     {
         let mut found = Items::new(alloc);

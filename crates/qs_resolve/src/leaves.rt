@@ -93,7 +93,9 @@ impl<'a> Resolver<'a> {
         match term {
             WrittenTerm::Var(span) => Ok(TermPattern::Variable(self.variable(span)?)),
             WrittenTerm::Iri(iri) => Ok(TermPattern::Iri(self.iri(iri)?)),
-            WrittenTerm::Literal(literal) => Ok(TermPattern::Literal(self.literal(alloc, literal)?)),
+            WrittenTerm::Literal(literal) => Ok(TermPattern::Literal(self.literal(
+                alloc, literal,
+            )?)),
             WrittenTerm::Blank(span) => Ok(TermPattern::Blank(self.label(span)?)),
             WrittenTerm::Anonymous => Ok(TermPattern::Blank(self.anonymous()?)),
         }

@@ -50,9 +50,10 @@ impl<'a> Resolver<'a> {
     {
         match path {
             WrittenPath::Predicate(p) => Ok(Path::Iri(self.predicate(*p)?)),
-            WrittenPath::NegatedSet(members) => Ok(Path::NegatedSet(
-                self.negated_set(alloc, members.as_slice())?,
-            )),
+            WrittenPath::NegatedSet(members) => Ok(Path::NegatedSet(self.negated_set(
+                alloc,
+                members.as_slice(),
+            )?)),
             WrittenPath::Alternative(all) => {
                 let all = self.operands(alloc, all.as_slice())?;
                 Ok(Path::Alternative(all))

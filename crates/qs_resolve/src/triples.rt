@@ -128,7 +128,13 @@ impl<'a> Resolver<'a> {
     ) -> Result<(), QFault>
         ensures { Collects (spec.property_of property.now subject.now found.old self.old) result found.new self.new }
     {
-        self.objects(alloc, subject, &property.verb, found, property.objects.as_slice())
+        self.objects(
+            alloc,
+            subject,
+            &property.verb,
+            found,
+            property.objects.as_slice(),
+        )
     }
 
     #[cycle(triples)]

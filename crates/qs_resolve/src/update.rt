@@ -4,9 +4,7 @@ ghost use Rattle.qs_resolve.specs.Resolving.{Resolves, Collects};
 ghost use Rattle.qs_resolve.specs.Update as spec;
 
 use crate::resolver::Resolver;
-use qs_ast::update::{
-    GraphOrDefault, GraphTarget, Modify, Operation, QuadBlock, Transfer, Update,
-};
+use qs_ast::update::{GraphOrDefault, GraphTarget, Modify, Operation, QuadBlock, Transfer, Update};
 use qs_terms::{Iri, QFault};
 use qs_tree::term::Iri as WrittenIri;
 use qs_tree::update::{
@@ -123,7 +121,11 @@ impl<'a> Resolver<'a> {
     }
 
     #[tactic(auto, unfolding(crate::specs::Update::operation_of))]
-    fn operation(&mut self, alloc: Global, operation: &WrittenOperation) -> Result<Operation, QFault>
+    fn operation(
+        &mut self,
+        alloc: Global,
+        operation: &WrittenOperation,
+    ) -> Result<Operation, QFault>
         ensures { Resolves (spec.operation_of operation.now self.old) result self.new }
     {
         match operation {

@@ -1,7 +1,6 @@
 -- Want of memory stays what it is beside a place.
-use Rattle.std.proofs.Common.{◌≡◌, ◌≢◌, ℕ, Option, Some, None, Result, Ok, Err, ap, refl}
+use Rattle.std.proofs.Common.{ℕ, Option, Some, None, Ok, Err, ap, refl}
 use Rattle.qs_names.specs.Gives.{Gives}
-use Rattle.qs_terms.specs.declared.fault.QFault.{QFault}
 use Rattle.qs_terms.specs.declared.fault.QFault.TheVariants as fault
 use Rattle.qs_settle.specs.Settled.{Outcome, by_place}
 

@@ -79,11 +79,7 @@ fn keep_variable(
     found.push(variable)
 }
 
-fn named(
-    alloc: Global,
-    names: &Names<'_>,
-    tokens: &[Token],
-) -> Result<Items<Variable>, AllocError>
+fn named(alloc: Global, names: &Names<'_>, tokens: &[Token]) -> Result<Items<Variable>, AllocError>
     ensures { IfOk result (λ v. v ≡ spec.named names.now tokens.now) }
 {
     let mut found = Items::new(alloc);
@@ -137,11 +133,7 @@ pub fn settle_query(
 
 /// The update of a tree that the text's tokens spell.
 #[tactic(auto, using(crate::proofs::Places::placed), unfolding(crate::specs::Settled::update_outcome))]
-pub fn settle_update(
-    alloc: Global,
-    text: &str,
-    tree: &WrittenUpdate,
-) -> Result<Update, QFault>
+pub fn settle_update(alloc: Global, text: &str, tree: &WrittenUpdate) -> Result<Update, QFault>
     ensures { Gives (spec.update_outcome text.now tree.now) result }
 {
     let resolved = resolve_update(alloc, text, tree);

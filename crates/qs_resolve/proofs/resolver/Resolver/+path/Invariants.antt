@@ -1,6 +1,6 @@
 use Rattle.std.proofs.Common.{◌≡◌, map, drop}
 use Rattle.qs_resolve.specs.Path.{path_of, operands}
-use Rattle.qs_resolve.specs.Resolving.{all, all_behind}
+use Rattle.qs_resolve.specs.Resolving.{all_behind}
 use Rattle.qs_resolve.proofs.resolver.Resolver.+path.Given as goal
 
 abbrev pub invariant-operands-loop-operand : goal.invariant-operands-loop-operand
