@@ -1,5 +1,5 @@
 -- Names that are kept beside variables.
-use Rattle.std.proofs.Common.{◌≡◌, ℕ, List, [], ◌∷◌, ◌++◌, length, take, map, refl, ap}
+use Rattle.std.proofs.Common.{◌≡◌, List, [], ◌∷◌, ◌++◌, length, take, refl, ap}
 use Rattle.qs_scope.specs.Firsts.{names_of}
 use Rattle.qs_scope.specs.Names.{Name}
 use Rattle.qs_ast.specs.declared.term.Variable.{Variable}

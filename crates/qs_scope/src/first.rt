@@ -49,10 +49,7 @@ impl<'a> Firsts<'a> {
 }
 
 /// The variables, each once, in the order in which they first appear (SPARQL 1.1 Query, 16.1: what `SELECT *` lists).
-pub fn first_variables(
-    alloc: Global,
-    variables: &[Variable],
-) -> Result<Items<Variable>, AllocError>
+pub fn first_variables(alloc: Global, variables: &[Variable]) -> Result<Items<Variable>, AllocError>
     ensures { IfOk result (λ found. found ≡ firsts variables.now) }
 {
     let mut firsts = Firsts {
