@@ -1,2 +1,3 @@
 pub mod TreeOfText
 pub mod Slices
+pub mod OneOutcome

@@ -1,7 +1,9 @@
-//! From a text to its tree: the tokens of queries and updates by kind, and the one tree that they spell, or the place that is to
-//! blame. `specs/Text.antt` says what is answered.
+//! From a text to its query or its update, with the names resolved, or to the one fault that is due. `specs/Outcome.antt` says what a
+//! text comes to, fault by fault in their order. Below that stand the tokens of a text by kind (`specs/Kinds.antt`) and the one tree
+//! that they spell (`specs/Text.antt`).
 #![tactic(auto)]
 
+pub mod laws;
 pub mod parse;
 pub mod token;
 pub mod tree;
