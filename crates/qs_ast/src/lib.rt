@@ -6,5 +6,6 @@ pub mod expression;
 pub mod path;
 pub mod pattern;
 pub mod query;
+pub mod shared;
 pub mod term;
 pub mod update;

@@ -2,6 +2,7 @@
 
 use crate::expression::Expression;
 use crate::path::Path;
+use crate::shared::Shared;
 use crate::term::{TermPattern, VarOrIri, Variable};
 use qs_terms::{Iri, Term};
 use sqlite_items::Items;
@@ -15,10 +16,11 @@ pub enum Verb {
     Path(Path),
 }
 
+/// A triple. Those that are written with one subject, or with one verb, have it in common.
 #[derive(Debug, Drop)]
 pub struct Triple {
-    pub subject: TermPattern,
-    pub verb: Verb,
+    pub subject: Shared<TermPattern>,
+    pub verb: Shared<Verb>,
     pub object: TermPattern,
 }
 

@@ -1,7 +1,6 @@
 -- The equations of the walks over triples.
-use Rattle.std.proofs.Common.{rules, ◌≡◌, List, [], ◌∷◌, ◌++◌, Ok, Err, ap, ◌∙◌, refl}
+use Rattle.std.proofs.Common.{rules, ◌≡◌, List, [], ◌∷◌, ◌++◌, ap}
 use Rattle.qs_tree.specs.declared.term.Term.{Term}
-use Rattle.qs_tree.specs.declared.path.Verb.{Verb as WrittenVerb}
 use Rattle.qs_tree.specs.declared.triples.GraphNode.{the_lemmas as node_lemmas}
 use Rattle.qs_tree.specs.declared.triples.GraphNode.TheVariants as written_node
 use Rattle.qs_tree.specs.declared.triples.Property.{Property, the_lemmas as property_lemmas}
@@ -10,33 +9,28 @@ use Rattle.qs_ast.specs.declared.term.TermPattern.TheVariants.{Blank}
 use Rattle.qs_ast.specs.declared.pattern.Triple.{Triple}
 use Rattle.qs_ast.specs.declared.pattern.Verb.{Verb}
 use Rattle.qs_resolve.specs.Leaves.{anonymous}
-use Rattle.qs_resolve.specs.Triples.{OfObject, OfSubject, object_of, property_of, objects, properties, simple_object, bracketed_object, verb_of, triple, opened}
-use Rattle.qs_resolve.specs.Resolving.{Outcome, ◌>>=◌, pure, and_then}
+use Rattle.qs_resolve.specs.Triples.{OfObject, OfSubject, object_of, property_of, objects, properties, simple_object, bracketed_object, verb_of, triple}
+use Rattle.qs_resolve.specs.Resolving.{◌>>=◌, and_then}
 use Rattle.qs_resolve.specs.declared.resolver.Resolver.{Resolver}
 
 simple_bound : (t : Term) → object_of (written_node.Term t) ≡ (λ subject v found. simple_object subject v found t)
 unfolding object_of
 simple_bound t = search (rules, node_lemmas)
 
-pub simple_object_is : (t : Term) (subject : TermPattern) (v : WrittenVerb) (found : List Triple) (s : Resolver) → object_of (written_node.Term t) subject v found s ≡ simple_object subject v found t s
+pub simple_object_is : (t : Term) (subject : TermPattern) (v : Verb) (found : List Triple) (s : Resolver) → object_of (written_node.Term t) subject v found s ≡ simple_object subject v found t s
 simple_object_is t subject v found s = ap (λ (f : OfObject). f subject v found s) (simple_bound t)
 
-bracketed_bound : (ps : List Property) → object_of (written_node.BlankNodePropertyList ps) ≡ (λ subject v found. verb_of v >>= (λ y. anonymous >>= (λ b. properties (Blank b) (found ++ triple subject y (Blank b) ∷ []) ps)))
+bracketed_bound : (ps : List Property) → object_of (written_node.BlankNodePropertyList ps) ≡ (λ subject v found. anonymous >>= (λ b. properties (Blank b) (found ++ triple subject v (Blank b) ∷ []) ps))
 unfolding object_of property_of
 bracketed_bound ps = search (rules, node_lemmas)
 
-pub bracketed_object_is : (ps : List Property) (subject : TermPattern) (v : WrittenVerb) (found : List Triple) (s : Resolver) → object_of (written_node.BlankNodePropertyList ps) subject v found s ≡ bracketed_object subject v found ps s
+pub bracketed_object_is : (ps : List Property) (subject : TermPattern) (v : Verb) (found : List Triple) (s : Resolver) → object_of (written_node.BlankNodePropertyList ps) subject v found s ≡ bracketed_object subject v found ps s
 unfolding anonymous
-bracketed_object_is ps subject v found s = ap (λ (f : OfObject). f subject v found s) (bracketed_bound ps) ∙ by_verb (verb_of v s)
-  where
-    by_verb : (r : Outcome (Verb × Resolver)) → and_then r (λ q. (anonymous >>= (λ b. properties (Blank b) (found ++ triple subject q.0 (Blank b) ∷ []) ps)) q.1)
-        ≡ and_then (and_then r (λ q. (anonymous >>= (λ b. pure (opened subject q.0 found b))) q.1)) (λ q. properties q.0.0 q.0.1 ps q.1)
-    by_verb (Ok q) = refl
-    by_verb (Err e) = refl
+bracketed_object_is ps subject v found s = ap (λ (f : OfObject). f subject v found s) (bracketed_bound ps)
 
-property_bound : (p : Property) → property_of p ≡ (λ subject found. objects subject p.verb found p.objects)
+property_bound : (p : Property) → property_of p ≡ (λ subject found. verb_of p.verb >>= (λ v. objects subject v found p.objects))
 unfolding property_of object_of
 property_bound p = search (rules, property_lemmas)
 
-pub property_is : (p : Property) (subject : TermPattern) (found : List Triple) (s : Resolver) → property_of p subject found s ≡ objects subject p.verb found p.objects s
+pub property_is : (p : Property) (subject : TermPattern) (found : List Triple) (s : Resolver) → property_of p subject found s ≡ and_then (verb_of p.verb s) (λ r. objects subject r.0 found p.objects r.1)
 property_is p subject found s = ap (λ (f : OfSubject). f subject found s) (property_bound p)

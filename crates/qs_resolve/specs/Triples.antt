@@ -34,9 +34,9 @@ OfSubject = TermPattern → List Triple → Resolving (List Triple)
 
 -- the triples of an object of a subject and a verb
 abbrev pub OfObject : Type 0
-OfObject = TermPattern → WrittenVerb → List Triple → Resolving (List Triple)
+OfObject = TermPattern → Verb → List Triple → Resolving (List Triple)
 
-abbrev pub each_object : TermPattern → WrittenVerb → List Triple → List OfObject → Resolving (List Triple)
+abbrev pub each_object : TermPattern → Verb → List Triple → List OfObject → Resolving (List Triple)
 each_object subject v found [] = pure found
 each_object subject v found (o ∷ os) = o subject v found >>= (λ more. each_object subject v more os)
 
@@ -48,13 +48,13 @@ abbrev pub triple : TermPattern → Verb → TermPattern → Triple
 triple s v o = record { subject = s; verb = v; object = o }
 
 abbrev pub property_level : Property-F OfObject OfSubject → OfSubject
-property_level p = λ subject found. each_object subject p.verb found p.objects
+property_level p = λ subject found. verb_of p.verb >>= (λ v. each_object subject v found p.objects)
 
 -- `[ .. ]` is a fresh blank node: its triple stands before those of its own properties
 abbrev pub node_level : GraphNode-F OfObject OfSubject → OfObject
-node_level (GraphNode-F.Term t) = λ subject v found. verb_of v >>= (λ y. term_of t >>= (λ o. pure (found ++ triple subject y o ∷ [])))
+node_level (GraphNode-F.Term t) = λ subject v found. term_of t >>= (λ o. pure (found ++ triple subject v o ∷ []))
 node_level (GraphNode-F.BlankNodePropertyList ps) =
-    λ subject v found. verb_of v >>= (λ y. anonymous >>= (λ b. each_property (Blank b) (found ++ triple subject y (Blank b) ∷ []) ps))
+    λ subject v found. anonymous >>= (λ b. each_property (Blank b) (found ++ triple subject v (Blank b) ∷ []) ps)
 
 unfoldable pub object_of : GraphNode → OfObject
 object_of = fold-GraphNode OfObject OfSubject node_level property_level
@@ -62,7 +62,7 @@ object_of = fold-GraphNode OfObject OfSubject node_level property_level
 unfoldable pub property_of : Property → OfSubject
 property_of = fold-Property OfObject OfSubject node_level property_level
 
-abbrev pub objects : TermPattern → WrittenVerb → List Triple → List GraphNode → Resolving (List Triple)
+abbrev pub objects : TermPattern → Verb → List Triple → List GraphNode → Resolving (List Triple)
 objects subject v found os = each_object subject v found (map object_of os)
 
 abbrev pub properties : TermPattern → List Triple → List Property → Resolving (List Triple)
@@ -83,17 +83,20 @@ triples_behind found (t ∷ ts) = same_subject found t >>= (λ more. triples_beh
 
 -- ---- the parts of the above
 
-abbrev pub simple_object : TermPattern → WrittenVerb → List Triple → Term → Resolving (List Triple)
-simple_object subject v found t = verb_of v >>= (λ y. term_of t >>= (λ o. pure (found ++ triple subject y o ∷ [])))
+abbrev pub simple_object : TermPattern → Verb → List Triple → Term → Resolving (List Triple)
+simple_object subject v found t = term_of t >>= (λ o. pure (found ++ triple subject v o ∷ []))
 
 abbrev pub opened : TermPattern → Verb → List Triple → BlankNode → TermPattern × List Triple
 opened subject y found b = (Blank b, found ++ triple subject y (Blank b) ∷ [])
 
-abbrev pub blank_object : TermPattern → WrittenVerb → List Triple → Resolving (TermPattern × List Triple)
-blank_object subject v found = verb_of v >>= (λ y. anonymous >>= (λ b. pure (opened subject y found b)))
+abbrev pub blank_object : TermPattern → Verb → List Triple → Resolving (TermPattern × List Triple)
+blank_object subject v found = anonymous >>= (λ b. pure (opened subject v found b))
 
-abbrev pub bracketed_object : TermPattern → WrittenVerb → List Triple → List Property → Resolving (List Triple)
+abbrev pub bracketed_object : TermPattern → Verb → List Triple → List Property → Resolving (List Triple)
 bracketed_object subject v found ps = blank_object subject v found >>= (λ r. properties r.0 r.1 ps)
+
+abbrev pub blank : Resolving TermPattern
+blank = Blank <$> anonymous
 
 abbrev pub bracketed_subject : List Triple → List Property → List Property → Resolving (List Triple)
 bracketed_subject found own ps = anonymous >>= (λ b. properties (Blank b) found own >>= (λ more. properties (Blank b) more ps))

@@ -1,12 +1,14 @@
 //! Triples.
 
 ghost use Rattle.std.specs.Prelude.{◌≡◌};
+ghost use Rattle.qs_resolve.specs.Leaves.{term_of};
 ghost use Rattle.qs_resolve.specs.Triples as spec;
 ghost use Rattle.qs_resolve.specs.Resolving.{Resolves, Collects, Opens};
 
 use crate::resolver::Resolver;
 use qs_ast::path::Path;
 use qs_ast::pattern::{Triple, Verb};
+use qs_ast::shared::Shared;
 use qs_ast::term::TermPattern;
 use qs_terms::QFault;
 use qs_tree::path::Verb as WrittenVerb;
@@ -37,19 +39,44 @@ impl<'a> Resolver<'a> {
         }
     }
 
+    fn shared_verb(&mut self, alloc: Global, verb: &WrittenVerb) -> Result<Shared<Verb>, QFault>
+        ensures { Resolves (spec.verb_of verb.now self.old) result self.new }
+    {
+        let verb = self.verb(alloc, verb)?;
+        Ok(Shared::new(alloc, verb)?)
+    }
+
+    fn shared_term(
+        &mut self,
+        alloc: Global,
+        term: WrittenTerm,
+    ) -> Result<Shared<TermPattern>, QFault>
+        ensures { Resolves (term_of term self.old) result self.new }
+    {
+        let term = self.term(alloc, term)?;
+        Ok(Shared::new(alloc, term)?)
+    }
+
+    fn shared_blank(&mut self, alloc: Global) -> Result<Shared<TermPattern>, QFault>
+        ensures { Resolves (spec.blank self.old) result self.new }
+    {
+        let blank = TermPattern::Blank(self.anonymous()?);
+        Ok(Shared::new(alloc, blank)?)
+    }
+
     fn simple_object(
         &mut self,
         alloc: Global,
-        subject: &TermPattern,
-        verb: &WrittenVerb,
+        subject: &Shared<TermPattern>,
+        verb: &Shared<Verb>,
         found: &mut Items<Triple>,
         object: WrittenTerm,
     ) -> Result<(), QFault>
         ensures { Collects (spec.simple_object subject.now verb.now found.old object self.old) result found.new self.new }
     {
-        let verb = self.verb(alloc, verb)?;
         let object = self.term(alloc, object)?;
-        let subject = subject.try_clone(alloc)?;
+        let subject = subject.share()?;
+        let verb = verb.share()?;
         found.push(Triple {
             subject,
             verb,
@@ -61,16 +88,16 @@ impl<'a> Resolver<'a> {
     fn blank_object(
         &mut self,
         alloc: Global,
-        subject: &TermPattern,
-        verb: &WrittenVerb,
+        subject: &Shared<TermPattern>,
+        verb: &Shared<Verb>,
         found: &mut Items<Triple>,
-    ) -> Result<TermPattern, QFault>
+    ) -> Result<Shared<TermPattern>, QFault>
         ensures { Opens (spec.blank_object subject.now verb.now found.old self.old) result found.new self.new }
     {
-        let verb = self.verb(alloc, verb)?;
         let object = TermPattern::Blank(self.anonymous()?);
-        let inner = object.try_clone(alloc)?;
-        let subject = subject.try_clone(alloc)?;
+        let inner = Shared::new(alloc, object.try_clone(alloc)?)?;
+        let subject = subject.share()?;
+        let verb = verb.share()?;
         found.push(Triple {
             subject,
             verb,
@@ -84,8 +111,8 @@ impl<'a> Resolver<'a> {
     fn object(
         &mut self,
         alloc: Global,
-        subject: &TermPattern,
-        verb: &WrittenVerb,
+        subject: &Shared<TermPattern>,
+        verb: &Shared<Verb>,
         found: &mut Items<Triple>,
         node: &GraphNode,
     ) -> Result<(), QFault>
@@ -104,8 +131,8 @@ impl<'a> Resolver<'a> {
     fn objects(
         &mut self,
         alloc: Global,
-        subject: &TermPattern,
-        verb: &WrittenVerb,
+        subject: &Shared<TermPattern>,
+        verb: &Shared<Verb>,
         found: &mut Items<Triple>,
         all: &[GraphNode],
     ) -> Result<(), QFault>
@@ -122,26 +149,21 @@ impl<'a> Resolver<'a> {
     fn property(
         &mut self,
         alloc: Global,
-        subject: &TermPattern,
+        subject: &Shared<TermPattern>,
         found: &mut Items<Triple>,
         property: &Property,
     ) -> Result<(), QFault>
         ensures { Collects (spec.property_of property.now subject.now found.old self.old) result found.new self.new }
     {
-        self.objects(
-            alloc,
-            subject,
-            &property.verb,
-            found,
-            property.objects.as_slice(),
-        )
+        let verb = self.shared_verb(alloc, &property.verb)?;
+        self.objects(alloc, subject, &verb, found, property.objects.as_slice())
     }
 
     #[cycle(triples)]
     fn properties(
         &mut self,
         alloc: Global,
-        subject: &TermPattern,
+        subject: &Shared<TermPattern>,
         found: &mut Items<Triple>,
         all: &[Property],
     ) -> Result<(), QFault>
@@ -162,7 +184,7 @@ impl<'a> Resolver<'a> {
     ) -> Result<(), QFault>
         ensures { Collects (spec.bracketed_subject found.old own.now others.now self.old) result found.new self.new }
     {
-        let subject = TermPattern::Blank(self.anonymous()?);
+        let subject = self.shared_blank(alloc)?;
         self.properties(alloc, &subject, found, own)?;
         self.properties(alloc, &subject, found, others)
     }
@@ -178,7 +200,7 @@ impl<'a> Resolver<'a> {
     {
         match &triples.subject {
             GraphNode::Term(term) => {
-                let subject = self.term(alloc, *term)?;
+                let subject = self.shared_term(alloc, *term)?;
                 self.properties(alloc, &subject, found, triples.properties.as_slice())
             }
             GraphNode::BlankNodePropertyList(own) => self.bracketed_subject(

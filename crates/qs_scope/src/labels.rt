@@ -23,7 +23,7 @@ fn add_term<'a>(met: &mut Met<'a>, start: usize, term: &'a TermPattern) -> Resul
 fn add_triple<'a>(met: &mut Met<'a>, start: usize, triple: &'a Triple) -> Result<(), AllocError>
     ensures { OnOk result (met.new ≡ fold (add_label start) met.old (spec.triple_labels triple.now)) }
 {
-    add_term(met, start, &triple.subject)?;
+    add_term(met, start, triple.subject.get())?;
     add_term(met, start, &triple.object)
 }
 

@@ -10,6 +10,7 @@ use qs_ast::pattern::{GraphPattern, Group, InlineData, Triple, Verb};
 use qs_ast::query::{
     Ask, Construct, Projection, Query, QueryForm, Select, SelectItem, SolutionModifiers,
 };
+use qs_ast::shared::Shared;
 use qs_ast::term::{BlankNode, TermPattern, VarOrIri, Variable};
 use qs_ast::update::{Modify, Operation, QuadBlock, Update};
 use qs_terms::{Iri, Term, TermFault, Text};
@@ -82,8 +83,8 @@ fn verb(alloc: Global, word: &str) -> Result<Verb, NotMade> {
 fn triple(alloc: Global, word: &str) -> Result<Triple, NotMade> {
     let (first, later) = word.split_once("/").ok_or(NotMade::Form)?;
     let (second, third) = later.split_once("/").ok_or(NotMade::Form)?;
-    let subject = term(alloc, first)?;
-    let verb = verb(alloc, second)?;
+    let subject = Shared::new(alloc, term(alloc, first)?)?;
+    let verb = Shared::new(alloc, verb(alloc, second)?)?;
     let object = term(alloc, third)?;
     Ok(Triple {
         subject,

@@ -47,8 +47,8 @@ fn push_graph<'a>(names: &mut Seen<'a>, graph: &'a VarOrIri) -> Result<(), Alloc
 fn push_triple<'a>(names: &mut Seen<'a>, triple: &'a Triple) -> Result<(), AllocError>
     ensures { OnOk result (names.new ≡ names.old ++ variables.triple_variables triple.now) }
 {
-    push_term(names, &triple.subject)?;
-    push_verb(names, &triple.verb)?;
+    push_term(names, triple.subject.get())?;
+    push_verb(names, triple.verb.get())?;
     push_term(names, &triple.object)
 }
 
