@@ -1,5 +1,5 @@
 //! Queries and updates with their names resolved: IRIs are absolute, literals are terms, escapes are decoded, `a` is rdf:type, and
-//! the lists of properties and objects are written out as triples. `SELECT *`, and what is in scope, are still to be worked out.
+//! the lists of properties and objects are written out as triples. What `SELECT *` lists is still to be worked out.
 #![tactic(auto)]
 
 pub mod expression;
