@@ -12,22 +12,22 @@ pub struct Sample {
     pub end: &'static str,
 }
 
-/// Groups of a query: triples, paths, OPTIONAL and VALUES.
-pub const PATTERNS: Sample = Sample {
-    name: "query, patterns",
+/// A block of triples, with property lists and paths. It is one element of its group.
+pub const TRIPLES: Sample = Sample {
+    name: "query, triples",
     is_update: false,
     front: "PREFIX : <http://example.org/> SELECT ?item ?name {\n",
-    unit: "  ?item :name ?name ; :part/:made+ [ :by \"someone\"@en ] .\n  OPTIONAL { ?item ^:uses ?user VALUES ?user { :a :b 17 } }\n",
+    unit: "  ?item :name ?name ; :part/:made+ [ :by \"someone\"@en ] .\n  ?item ^:uses ?user , <http://example.org/user/12345> .\n",
     end: "}\n",
 };
 
-/// Filters of a query.
+/// A filter with a list of expressions.
 pub const EXPRESSIONS: Sample = Sample {
     name: "query, expressions",
     is_update: false,
-    front: "PREFIX : <http://example.org/> ASK {\n",
-    unit: "  FILTER(?price * 2 -1 >= ?least && (STR(?name) = \"a\" || !BOUND(?other)) && ?kind IN (:a, :b, <http://example.org/c>))\n",
-    end: "}\n",
+    front: "PREFIX : <http://example.org/> ASK { FILTER(?kind IN (\n",
+    unit: "  ?price * 2 -1 >= ?least && (STR(?name) = \"a\" || !BOUND(?other)), <http://example.org/c>, :a,\n",
+    end: "  17)) }\n",
 };
 
 /// Data that is put in.
@@ -37,6 +37,15 @@ pub const DATA: Sample = Sample {
     front: "PREFIX : <http://example.org/>\nINSERT DATA {\n",
     unit: "  <http://example.org/item/12345> :name \"a name of some length\"@en , \"17\"^^<http://www.w3.org/2001/XMLSchema#integer> ; :part _:b1 .\n",
     end: "}\n",
+};
+
+/// Operations with groups: triples, OPTIONAL and VALUES.
+pub const OPERATIONS: Sample = Sample {
+    name: "update, operations",
+    is_update: true,
+    front: "PREFIX : <http://example.org/>\n",
+    unit: "INSERT { ?item :seen true } WHERE { ?item :name ?name OPTIONAL { ?item ^:uses ?user VALUES ?user { :a :b 17 } } } ;\n",
+    end: "",
 };
 
 /// The text of so many units.

@@ -1,7 +1,8 @@
 //! A cursor over tokens.
 
 ghost use Rattle.std.specs.Prelude.{◌≡◌, ◌+◌, length};
-ghost use Rattle.qs_grammar.specs.Reading.{Reads, starts, take_kind, has};
+ghost use Rattle.qs_grammar.specs.Reading.{starts, take_kind, has};
+ghost use Rattle.qs_cursor.specs.Exactly.{ReadsExactly};
 ghost use Rattle.qs_grammar.specs.Grammar.{read};
 ghost use Rattle.qs_grammar.specs.Notation.{◌<<◌};
 ghost use Rattle.qs_grammar.specs.Rule.{empty, place_of, token};
@@ -96,7 +97,7 @@ impl<'a> Tokens<'a> {
 
     /// Takes the next token, which must be of the kind.
     pub fn expect(&mut self, kind: Kind) -> Result<Token, Fault>
-        ensures { Reads (take_kind sparql kind self.old) result self.new }
+        ensures { ReadsExactly (take_kind sparql kind self.old) result self.new }
     {
         match self.rest {
             [first, rest @ ..] if is_among(first.kind, &[kind]) => {
@@ -110,7 +111,7 @@ impl<'a> Tokens<'a> {
 
     /// The value, behind which the next token must be of the kind. A procedure that ends so drops no tree by itself.
     pub fn closing<T: Drop>(&mut self, value: T, kind: Kind) -> Result<T, Fault>
-        ensures { Reads (read grammar 0 (empty value << token kind) self.old) result self.new }
+        ensures { ReadsExactly (read grammar 0 (empty value << token kind) self.old) result self.new }
     {
         self.expect(kind)?;
         Ok(value)

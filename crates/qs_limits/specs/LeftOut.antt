@@ -1,10 +1,10 @@
 -- The first token of a text that the grammar leaves out.
-use Rattle.std.specs.Prelude.{ℕ, Bool, true, false, ◌&&◌, ◌||◌, List, [], ◌∷◌, codes, length, Option, option_map, nat_le, nat_lt, find, slice_index, slice_range, if◌then◌else◌}
+use Rattle.std.specs.Prelude.{ℕ, Bool, true, false, List, [], ◌∷◌, codes, Option, option_map, find}
 use Rattle.std.specs.List.{list_any}
 use Rattle.std.specs.Str.{str_eq_ignore_ascii_case}
 use Rattle.qs_tree.specs.declared.kind.Kind.{Kind}
 use Rattle.qs_tree.specs.declared.kind.Kind.TheVariants.{Decimal, Double, Word}
-use Rattle.qs_tree.specs.declared.token.Span.{Span}
+use Rattle.qs_escapes.specs.Piece.{piece}
 use Rattle.qs_tree.specs.declared.token.Token.{Token}
 
 -- Keywords and names of functions of SPARQL 1.1 (Query, 19.8; Update, 19.8) that the grammar doesn't have (profile).
@@ -67,20 +67,6 @@ words =
 unfoldable pub is_left_out_word : List ℕ → Bool
 is_left_out_word word = list_any (str_eq_ignore_ascii_case word) words
 
--- ---- pieces of texts
-
--- a character of the text begins at the place, or the text ends there
-abbrev pub is_boundary : List ℕ → ℕ → Bool
-is_boundary text place = nat_le place (length text) && (nat_le (length text) place || nat_lt (slice_index text place) 128 || nat_le 192 (slice_index text place))
-
--- the span begins and ends between characters, and doesn't end before it begins
-abbrev pub is_piece : List ℕ → Span → Bool
-is_piece text span = nat_le span.start span.end && is_boundary text span.start && is_boundary text span.end
-
--- what the text has there; nothing where the span is no piece of it
-unfoldable pub piece : List ℕ → Span → List ℕ
-piece text span = if is_piece text span then slice_range text span.start span.end else []
-
 -- ---- the first token
 
 -- decimals and doubles have no terms here
@@ -91,8 +77,8 @@ is_left_out_kind Word written = is_left_out_word written
 is_left_out_kind other written = false
 
 abbrev pub is_left_out : List ℕ → Token → Bool
-is_left_out text token = is_left_out_kind token.kind (piece text token.span)
+is_left_out text token = is_left_out_kind token.kind (piece text token.span.start token.span.end)
 
 -- as it is written in the text
 abbrev pub left_out : List ℕ → List Token → Option (List ℕ)
-left_out text tokens = option_map (λ token. piece text token.span) (find (is_left_out text) tokens)
+left_out text tokens = option_map (λ token. piece text token.span.start token.span.end) (find (is_left_out text) tokens)

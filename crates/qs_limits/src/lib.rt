@@ -15,7 +15,7 @@ pub mod update;
 mod words;
 
 pub use crate::bracket::brackets;
-pub use crate::omitted::{left_out, piece};
+pub use crate::omitted::left_out;
 pub use crate::query::large_query;
 pub use crate::update::large_update;
 

@@ -13,7 +13,7 @@ use Rattle.std.specs.List.{before_first, after_first}
 use Rattle.qs_terms.specs.declared.fault.QFault.{QFault}
 use Rattle.qs_tree.specs.declared.token.Span.{Span}
 use Rattle.qs_names.specs.Gives.{Gives}
-use Rattle.qs_names.specs.Piece.{piece}
+use Rattle.qs_escapes.specs.Piece.{piece}
 use Rattle.qs_names.specs.Names.{Names, declared, prefixed, is_colon, joined}
 
 -- the order of the keys: that of their bytes

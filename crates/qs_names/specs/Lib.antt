@@ -1,5 +1,2 @@
 pub mod Gives
-pub mod Escape
-pub mod Decoded
-pub mod Piece
 pub mod Names

@@ -23,9 +23,9 @@ use Rattle.qs_tree.specs.declared.term.Literal.TheVariants.{String, Integer, Boo
 use Rattle.qs_tree.specs.declared.path.Predicate.{Predicate}
 use Rattle.qs_tree.specs.declared.path.Predicate.TheVariants as written
 use Rattle.qs_tree.specs.declared.query.PrefixDeclaration.{PrefixDeclaration}
-use Rattle.qs_names.specs.Escape.{uchar, string_escape}
-use Rattle.qs_names.specs.Decoded.{decoded, unescaped}
-use Rattle.qs_names.specs.Piece.{piece}
+use Rattle.qs_escapes.specs.Escape.{uchar, string_escape}
+use Rattle.qs_escapes.specs.Decoded.{decoded, unescaped}
+use Rattle.qs_escapes.specs.Piece.{piece}
 
 -- the text, and the declared prefixes with the IRIs that they stand for: each once, in ascending order
 pub record Names : Type 0 where

@@ -6,9 +6,9 @@ ghost use Rattle.qs_terms.specs.Iri.{checked_iri};
 ghost use Rattle.qs_names.specs.Gives.{Gives};
 ghost use Rattle.qs_names.specs.Names.{full, is_colon};
 
-use crate::decoded::{decoded, joined};
-use crate::escape::Escapes;
 use crate::piece::inside;
+use qs_escapes::Escapes;
+use qs_escapes::decoded::{decoded, joined};
 use qs_terms::{Iri, QFault, Text};
 use qs_tree::token::Span;
 use std::alloc::Global;

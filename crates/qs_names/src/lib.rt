@@ -1,12 +1,10 @@
 //! What the names, strings and numbers of a text stand for: variables, labels, IRIs, literals and counts, given the text and the
 //! prefixes that are declared so far (SPARQL 1.1 Query, 4.1).
 //!
-//! The definitions stand in `specs/`: `Names.antt` has them form by form, `Escape.antt` and `Decoded.antt` have the escapes, and
-//! `Piece.antt` what a span is of a text. `Gives.antt` says how want of memory is an answer.
+//! The definitions stand in `specs/`: `Names.antt` has them form by form, over the escapes and the pieces of texts of `qs_escapes`.
+//! `Gives.antt` says how want of memory is an answer.
 #![tactic(auto)]
 
-mod decoded;
-mod escape;
 mod iri;
 mod literal;
 mod names;

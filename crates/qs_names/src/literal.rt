@@ -6,9 +6,9 @@ ghost use Rattle.qs_terms.specs.Literal.{typed, checked_tagged};
 ghost use Rattle.qs_names.specs.Gives.{Gives, unless_refused};
 ghost use Rattle.qs_names.specs.Names.{marks, xsd_string, xsd_integer, xsd_boolean};
 
-use crate::decoded::decoded;
-use crate::escape::Escapes;
 use crate::piece::{inside, whole};
+use qs_escapes::Escapes;
+use qs_escapes::decoded::decoded;
 use qs_terms::{Iri, Lit, QFault, TermFault, Text};
 use qs_tree::token::Span;
 use std::alloc::{AllocError, Global};

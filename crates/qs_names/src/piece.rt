@@ -1,20 +1,10 @@
-//! Pieces of a text.
+//! Pieces of a text, by their spans.
 
 ghost use Rattle.std.specs.Prelude.{◌≡◌, ◌+◌, ◌-◌};
-ghost use Rattle.qs_names.specs.Piece.{piece};
+ghost use Rattle.qs_escapes.specs.Piece.{piece};
 
+use qs_escapes::piece::piece;
 use qs_tree::token::Span;
-
-/// The bytes from `start` to `end`, or none where these are no piece of the text.
-#[tactic(auto, using(crate::proofs::Pieces::some, crate::proofs::Pieces::none))]
-pub(crate) fn piece(text: &str, start: usize, end: usize) -> &str
-    ensures { result.now ≡ piece text.now start end }
-{
-    match text.get(start..end) {
-        Some(found) => found,
-        None => "",
-    }
-}
 
 /// The piece of a span without so many bytes at each end.
 #[tactic(auto, using(crate::proofs::Pieces::bounded))]

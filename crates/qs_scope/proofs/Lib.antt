@@ -3,3 +3,4 @@ pub mod Brought
 pub mod Reading
 pub mod PlacesKept
 pub mod FirstsKept
+pub mod FirstPlace

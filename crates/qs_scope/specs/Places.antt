@@ -1,5 +1,6 @@
 -- Where names stand in a list, by the first place and the last.
-use Rattle.std.specs.Prelude.{◌≡◌, ℕ, ◌≤◌, Bool, false, nat_lt, nat_le, List, length, take, drop, Option, Some, None}
+use Rattle.std.specs.Prelude.{◌≡◌, ℕ, zero, suc, ◌≤◌, Bool, false, nat_eq, nat_lt, nat_le, List, [], ◌∷◌, length, take, drop, Option, Some, None, if◌then◌else◌}
+use Rattle.std.specs.Cmp.Lexicographic.{pointwise}
 use Rattle.qs_scope.specs.Names.{Name, contains}
 use Rattle.qs_scope.specs.declared.seen.Places.{Places}
 
@@ -27,3 +28,8 @@ pub record IsIndex (names : List Name) (places : Name → Option Places) : Type 
 abbrev pub first_with : ℕ → Option Places → ℕ
 first_with len None = len
 first_with len (Some places) = places.first
+
+-- the place at which the name first stands, or the list's length where it doesn't
+abbrev pub place_of : List Name → Name → ℕ
+place_of [] name = zero
+place_of (x ∷ xs) name = if pointwise nat_eq x name then zero else suc (place_of xs name)

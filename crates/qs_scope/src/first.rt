@@ -2,11 +2,9 @@
 
 ghost use Rattle.std.specs.Prelude.{◌≡◌, ◌∷◌, [], ◌++◌, IfOk, OnOk};
 ghost use Rattle.qs_scope.specs.Firsts.{names_of, add_first, firsts};
-ghost use Rattle.qs_scope.specs.Names.{contains};
 
 use crate::seen::Seen;
 use qs_ast::term::Variable;
-use qs_terms::Text;
 use sqlite_items::Items;
 use std::alloc::{AllocError, Global};
 
@@ -15,14 +13,6 @@ use std::alloc::{AllocError, Global};
 struct Firsts<'a> {
     seen: Seen<'a>,
     found: Items<Variable>,
-}
-
-// whether the name is among those that were met
-#[tactic(auto, using(crate::proofs::FirstsKept::whole))]
-fn is_known<'a>(seen: &Seen<'a>, name: &'a Text) -> bool
-    ensures { result ≡ contains seen.now name.now }
-{
-    seen.is_before(seen.len(), name)
 }
 
 fn copy(alloc: Global, variable: &Variable) -> Result<Variable, AllocError>
@@ -39,7 +29,7 @@ impl<'a> Firsts<'a> {
         ensures found { OnOk result (self.new.found ≡ add_first self.old.found variable.now) }
         ensures seen { OnOk result (self.new.seen ≡ names_of self.new.found) }
     {
-        if is_known(&self.seen, &variable.name) {
+        if self.seen.contains(&variable.name) {
             return Ok(());
         }
         let own = copy(alloc, variable)?;

@@ -24,4 +24,6 @@ mod update;
 
 pub use first::first_variables;
 pub use query::query_keeps_scope;
+pub use scope::in_scope;
+pub use seen::Seen;
 pub use update::update_keeps_scope;

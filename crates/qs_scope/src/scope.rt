@@ -71,6 +71,15 @@ pub fn push_columns<'a>(names: &mut Seen<'a>, table: &'a InlineData) -> Result<(
     Ok(())
 }
 
+/// The variables in scope of the group (SPARQL 1.1 Query, 18.2.1). One that several of its patterns bring stands several times.
+pub fn in_scope<'a>(alloc: Global, group: &'a Group) -> Result<Seen<'a>, AllocError>
+    ensures { IfOk result (λ names. names ≡ spec.in_scope group.now) }
+{
+    let mut names = Seen::new(alloc);
+    self::group(alloc, &mut names, group)?;
+    Ok(names)
+}
+
 /// Adds the variables in scope of the group, and says whether every BIND in it keeps the rule.
 #[cycle(scope)]
 pub fn group<'a>(alloc: Global, names: &mut Seen<'a>, group: &'a Group) -> Result<bool, AllocError>

@@ -5,7 +5,7 @@ ghost use Rattle.std.specs.Ordering.{nat_cmp};
 ghost use Rattle.std.specs.Cmp.Lexicographic.{slice_cmp};
 ghost use Rattle.std.specs.BTreeMap.{get};
 ghost use Rattle.qs_scope.specs.Names.{contains};
-ghost use Rattle.qs_scope.specs.Places.{first_with};
+ghost use Rattle.qs_scope.specs.Places.{first_with, place_of};
 
 use crate::name::Name;
 use qs_terms::Text;
@@ -81,6 +81,22 @@ impl<'a> Seen<'a> {
                 Err(AllocError)
             }
         }
+    }
+
+    /// The place at which the name was first met; the count of all where it wasn't.
+    pub fn place(&self, name: &'a Text) -> usize
+        ensures { result ≡ place_of self.now name.now }
+    {
+        let last = self.names.len();
+        first_place(&self.index, &Name::new(name), last)
+    }
+
+    /// Whether the name was met.
+    #[tactic(auto, using(crate::proofs::FirstsKept::whole))]
+    pub fn contains(&self, name: &'a Text) -> bool
+        ensures { result ≡ Rattle.qs_scope.specs.Names.contains self.now name.now }
+    {
+        self.is_before(self.len(), name)
     }
 
     /// Whether the name was met before the place.

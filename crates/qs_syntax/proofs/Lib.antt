@@ -1,3 +1,2 @@
-pub mod TreeOfText
 pub mod Slices
 pub mod OneOutcome

@@ -10,8 +10,8 @@ use Rattle.qs_tree.specs.Sparql.{Rule}
 use Rattle.qs_tree.specs.Table.{grammar, IsUnambiguous}
 use Rattle.qs_settle.specs.Settled.{Outcome, screened}
 use Rattle.qs_syntax.specs.Kinds.{token_of}
-use Rattle.qs_syntax.specs.Outcome.{HasNoTree, AfterScreen, IsOutcome}
-use Rattle.qs_syntax.specs.Text.{place_of_number}
+use Rattle.qs_syntax.specs.Outcome.{AfterScreen, IsOutcome}
+use Rattle.qs_syntax.specs.Text.{IsBlamed, place_of_number}
 
 module _ {A : Type 0} (start : Rule A) where
   -- what begins a text that has a tree begins one with fewer tokens too
@@ -35,16 +35,16 @@ module _ {A : Type 0} (start : Rule A) where
       (λ (h : n ≤ m). ⊎_elim (λ (l : n < m). absurd (not_before tokens n m b a l)) (λ (k : m ≤ n). omega (arith, h, k)) (cases_lt n m))
       (cases_lt m n)
 
-  module _ {B : Type 0} (unambiguous : IsUnambiguous start) (text : List ℕ) (tokens : List Token) (settle : A → Outcome B) where
-    no_tree : (a b : Outcome B) → HasNoTree start text tokens a → HasNoTree start text tokens b → a ≡ b
-    no_tree a b h k = h.3 ∙ ap (λ n. Err (fault.Syntax (place_of_number (length text) n tokens))) (one_due tokens h.1 k.1 h.2 k.2) ∙ sym k.3
+  one_place : (end : ℕ) (tokens : List Token) (place other : ℕ) → IsBlamed start end tokens place → IsBlamed start end tokens other → place ≡ other
+  one_place end tokens place other h k = h.3 ∙ ap (λ n. place_of_number end n tokens) (one_due tokens h.1 k.1 h.2 k.2) ∙ sym k.3
 
+  module _ {B : Type 0} (unambiguous : IsUnambiguous start) (text : List ℕ) (tokens : List Token) (settle : A → Outcome B) where
     after_screen : (s : Outcome (Unit {0})) (a b : Outcome B) → AfterScreen start settle text tokens s a → AfterScreen start settle text tokens s b → a ≡ b
     after_screen (Err f) a b h k = h ∙ sym k
     after_screen (Ok done) a b (inl h) (inl k) = h.2 ∙ ap settle (unambiguous tokens h.0 k.0 h.1 k.1) ∙ sym k.2
-    after_screen (Ok done) a b (inl h) (inr k) = absurd (k.0 h.0 h.1)
-    after_screen (Ok done) a b (inr h) (inl k) = absurd (h.0 k.0 k.1)
-    after_screen (Ok done) a b (inr h) (inr k) = no_tree a b h k
+    after_screen (Ok done) a b (inl h) (inr k) = absurd (k.1.0 h.0 h.1)
+    after_screen (Ok done) a b (inr h) (inl k) = absurd (h.1.0 k.0 k.1)
+    after_screen (Ok done) a b (inr h) (inr k) = h.2 ∙ ap (λ p. Err (fault.Syntax p)) (one_place (length text) tokens h.0 k.0 h.1 k.1) ∙ sym k.2
 
   pub one_outcome : {B : Type 0} → IsUnambiguous start
       → ((text : List ℕ) (ts us : List Lexeme) → Lexes text ts → Lexes text us → ts ≡ us)

@@ -1,8 +1,7 @@
 -- What a text comes to: its query or its update, or the one fault that is due.
 use Rattle.std.specs.Prelude.{◌≡◌, ◌⊎◌, ℕ, List, length, Ok, Err}
-use Rattle.qs_grammar.specs.Grammar.{Spells, IsDue}
+use Rattle.qs_grammar.specs.Grammar.{Spells}
 use Rattle.qs_lex.specs.Lexes.{StopsAt}
-use Rattle.qs_terms.specs.declared.fault.QFault.{QFault}
 use Rattle.qs_terms.specs.declared.fault.QFault.TheVariants as fault
 use Rattle.qs_tree.specs.declared.token.Token.{Token}
 use Rattle.qs_tree.specs.Rules as rules
@@ -10,29 +9,17 @@ use Rattle.qs_tree.specs.Sparql.{Rule}
 use Rattle.qs_tree.specs.Table.{grammar}
 use Rattle.qs_ast.specs.declared.query.Query.{Query}
 use Rattle.qs_ast.specs.declared.update.Update.{Update}
-use Rattle.qs_syntax.specs.Text.{AreTokensOf, place_of_number}
+use Rattle.qs_syntax.specs.Text.{AreTokensOf, IsBlamed}
 use Rattle.qs_settle.specs.Settled.{Outcome, screened, query_outcome, update_outcome}
 
 -- ---- the whole, in the order in which faults are due
-
--- no tree is spelt, and this is the place of the first token that no tokens that spell one begin with, or the text's end
-abbrev pub HasNoTree : {A B : Type 0} → Rule A → List ℕ → List Token → Outcome B → Type 0
-HasNoTree {A} start text tokens outcome =
-    ((tree : A) → Spells grammar start tokens tree → ⊥)
-    × (n : ℕ) × IsDue grammar start tokens n × (outcome ≡ Err (fault.Syntax (place_of_number (length text) n tokens)))
-
--- the fault of tokens without a tree
-abbrev pub IsTreeFault : {A : Type 0} → Rule A → ℕ → List Token → QFault → Type 0
-IsTreeFault {A} start end tokens (fault.Syntax place) =
-    ((tree : A) → Spells grammar start tokens tree → ⊥) × (n : ℕ) × IsDue grammar start tokens n × (place ≡ place_of_number end n tokens)
-IsTreeFault start end tokens fault.Memory = Unit {0}
-IsTreeFault start end tokens other = ⊥
 
 -- where no token stands in the way: the tree that is spelt decides, or its want
 abbrev pub AfterScreen : {A B : Type 0} → Rule A → (A → Outcome B) → List ℕ → List Token → Outcome (Unit {0}) → Outcome B → Type 0
 AfterScreen start settle text tokens (Err f) outcome = outcome ≡ Err f
 AfterScreen {A} start settle text tokens (Ok done) outcome =
-    ((tree : A) × Spells grammar start tokens tree × (outcome ≡ settle tree)) ⊎ HasNoTree start text tokens outcome
+    ((tree : A) × Spells grammar start tokens tree × (outcome ≡ settle tree))
+    ⊎ ((place : ℕ) × IsBlamed start (length text) tokens place × (outcome ≡ Err (fault.Syntax place)))
 
 abbrev pub IsOutcomeOfTokens : {A B : Type 0} → Rule A → (A → Outcome B) → List ℕ → List Token → Outcome B → Type 0
 IsOutcomeOfTokens start settle text tokens outcome = AfterScreen start settle text tokens (screened text tokens) outcome

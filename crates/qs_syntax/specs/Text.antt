@@ -1,5 +1,5 @@
--- The tree of a text, and the place of a fault (SPARQL 1.1 Query, 19.8).
-use Rattle.std.specs.Prelude.{◌≡◌, ◌⊎◌, ℕ, List, map, length, Option, Some, None, slice_get, Result, Ok, Err}
+-- The tokens of a text, and the places of their faults (SPARQL 1.1 Query, 19.8).
+use Rattle.std.specs.Prelude.{◌≡◌, ℕ, List, map, Option, Some, None, slice_get}
 use Rattle.qs_grammar.specs.Grammar.{Spells, IsDue}
 use Rattle.qs_lex.specs.Lexes.{Lexeme, Lexes, StopsAt}
 use Rattle.qs_terms.specs.declared.fault.QFault.{QFault}
@@ -19,10 +19,6 @@ IsTokenFault text (Syntax place) = StopsAt text place
 IsTokenFault text Memory = Unit {0}
 IsTokenFault text fault = ⊥
 
--- the text's tokens spell the tree
-abbrev pub IsTreeOf : {A : Type 0} → Rule A → List ℕ → A → Type 0
-IsTreeOf start text tree = (tokens : List Token) × AreTokensOf text tokens × Spells grammar start tokens tree
-
 -- the place of a token, or the end where there is none
 abbrev pub place_or_end : ℕ → Option Token → ℕ
 place_or_end end None = end
@@ -32,19 +28,14 @@ place_or_end end (Some t) = t.span.start
 abbrev pub place_of_number : ℕ → ℕ → List Token → ℕ
 place_of_number end n tokens = place_or_end end (slice_get tokens n)
 
--- The text's tokens spell no tree, and this is the place of the first token such that no tokens that spell one begin with those
--- up to it and with it, or the text's end.
-abbrev pub IsBlamed : {A : Type 0} → Rule A → List ℕ → ℕ → Type 0
-IsBlamed {A} start text place =
-    (tokens : List Token) × AreTokensOf text tokens × ((tree : A) → Spells grammar start tokens tree → ⊥)
-    × (n : ℕ) × IsDue grammar start tokens n × (place ≡ place_of_number (length text) n tokens)
+-- The tokens spell no tree, and this is the place of the first token such that no tokens that spell one begin with those up to it
+-- and with it, or the end.
+abbrev pub IsBlamed : {A : Type 0} → Rule A → ℕ → List Token → ℕ → Type 0
+IsBlamed {A} start end tokens place =
+    ((tree : A) → Spells grammar start tokens tree → ⊥) × (n : ℕ) × IsDue grammar start tokens n × (place ≡ place_of_number end n tokens)
 
--- the text has no tokens, or no tree
-abbrev pub IsFaultOfText : {A : Type 0} → Rule A → List ℕ → QFault → Type 0
-IsFaultOfText start text (Syntax place) = StopsAt text place ⊎ IsBlamed start text place
-IsFaultOfText start text Memory = Unit {0}
-IsFaultOfText start text fault = ⊥
-
--- a tree of the text is the answer, unless memory is wanting
-abbrev pub IsOnlyTreeOf : {A : Type 0} → Rule A → List ℕ → Result A QFault → Type 0
-IsOnlyTreeOf {A} start text result = (tree : A) → IsTreeOf start text tree → (result ≡ Ok tree) ⊎ (result ≡ Err Memory)
+-- the place that is blamed
+abbrev pub IsTreeFault : {A : Type 0} → Rule A → ℕ → List Token → QFault → Type 0
+IsTreeFault start end tokens (Syntax place) = IsBlamed start end tokens place
+IsTreeFault start end tokens Memory = Unit {0}
+IsTreeFault start end tokens fault = ⊥

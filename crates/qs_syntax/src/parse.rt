@@ -5,7 +5,7 @@ ghost use Rattle.qs_grammar.specs.Grammar.{Spells};
 ghost use Rattle.qs_tree.specs.Rules as rules;
 ghost use Rattle.qs_tree.specs.Table.{grammar};
 ghost use Rattle.qs_settle.specs.Settled.{query_outcome, update_outcome};
-ghost use Rattle.qs_syntax.specs.Outcome.{Answers, IsTreeFault, IsOutcomeOfTokens, IsQueryOutcome, IsUpdateOutcome};
+ghost use Rattle.qs_syntax.specs.Outcome.{Answers, IsOutcomeOfTokens, IsQueryOutcome, IsUpdateOutcome};
 
 use crate::token::tokens;
 use crate::tree::{query_of_tokens, update_of_tokens};

@@ -1,6 +1,7 @@
 //! Queries and updates of texts: what they come to, and each fault in its order.
 
 use crate::{parse_query, parse_update};
+use qs_ast::update::Operation;
 use qs_terms::QFault;
 use std::alloc::Global;
 use std::process::Abort;
@@ -227,6 +228,32 @@ fn limits(rt: HostRuntime) {
         "F6 too large at 522",
     );
     large_comes_to(&rt, alloc, ("SELECT * ", "(", ""), 65, "F6 too large at 73");
+}
+
+// as many triples as data may have, and as many operations as an update may, take no deep recursion
+#[test]
+fn many_triples(rt: HostRuntime) -> Result<(), Fail> {
+    let parts = ("PREFIX : <http://e/> INSERT DATA { ", ":s :p 1 . ", "}");
+    let text = repeated(rt.alloc(), parts, 100_000)?;
+    let update = parse_update(rt.alloc(), text.as_str())?;
+    let found = match update.operations.as_slice() {
+        [Operation::InsertData(blocks)] => match blocks.as_slice() {
+            [block] => Some(block.triples.as_slice().len()),
+            _ => None,
+        },
+        _ => None,
+    };
+    assert_eq!(rt; found, Some(100_000));
+    Ok(())
+}
+
+#[test]
+fn many_operations(rt: HostRuntime) -> Result<(), Fail> {
+    let parts = ("PREFIX : <http://e/> ", "CLEAR GRAPH :g ; ", "CLEAR ALL");
+    let text = repeated(rt.alloc(), parts, 100_000)?;
+    let update = parse_update(rt.alloc(), text.as_str())?;
+    assert_eq!(rt; update.operations.as_slice().len(), 100_001);
+    Ok(())
 }
 
 // as many brackets as are read, and one more

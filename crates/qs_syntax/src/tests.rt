@@ -1,10 +1,12 @@
 //! Trees of texts, worked out by hand, as they print; and places of faults.
 
-use crate::{query_tree, update_tree};
+use crate::tokens;
+use crate::tree::{query_of_tokens, update_of_tokens};
 use qs_terms::QFault;
+use qs_tree::query::Query;
+use qs_tree::update::Update;
 use std::alloc::Global;
 use std::process::Abort;
-use std::test::Fail;
 
 const TERMS: &str =
     "ASK { <http://a> ^:p*/(:q|!(^a|:r))+ \"s\"@en , 1 ; ?v -2 ; ; a [] . [ :p _:b ] . [] :q \"t\"^^x: . [ :p true ] !:r false }";
@@ -51,6 +53,18 @@ const GRAPHS: &str =
 
 const GRAPHS_TREE: &str =
     "Update { steps: Items { items: [UpdateStep { prologue: Items { items: [] }, operation: Some(Clear(Fault, Graph(Prefixed(12..14)))) }, UpdateStep { prologue: Items { items: [] }, operation: Some(Drop(Silent, Default)) }, UpdateStep { prologue: Items { items: [] }, operation: Some(Clear(Silent, Named)) }, UpdateStep { prologue: Items { items: [] }, operation: Some(Drop(Fault, All)) }, UpdateStep { prologue: Items { items: [] }, operation: Some(Create(Fault, Full(84..94))) }, UpdateStep { prologue: Items { items: [] }, operation: Some(Create(Silent, Prefixed(117..118))) }, UpdateStep { prologue: Items { items: [] }, operation: Some(Add(Transfer { on_missing: Fault, from: Graph(Prefixed(125..127)), to: Default })) }, UpdateStep { prologue: Items { items: [] }, operation: Some(Move(Transfer { on_missing: Silent, from: Default, to: Graph(Prefixed(170..172)) })) }, UpdateStep { prologue: Items { items: [] }, operation: Some(Copy(Transfer { on_missing: Fault, from: Graph(Prefixed(186..188)), to: Graph(Prefixed(192..194)) })) }] } }";
+
+/// The tree that a query's tokens spell.
+fn query_tree(alloc: Global, text: &str) -> Result<Query, QFault> {
+    let tokens = tokens(alloc, text)?;
+    query_of_tokens(alloc, text.len(), &tokens)
+}
+
+/// The tree that an update's tokens spell.
+fn update_tree(alloc: Global, text: &str) -> Result<Update, QFault> {
+    let tokens = tokens(alloc, text)?;
+    update_of_tokens(alloc, text.len(), &tokens)
+}
 
 /// How a query's tree prints.
 fn printed_query(alloc: Global, text: &str) -> Result<String, QFault> {
@@ -216,36 +230,4 @@ fn update_fronts(rt: HostRuntime) {
     for text in [QUADS, GRAPHS] {
         update_fronts_answer(&rt, alloc, text);
     }
-}
-
-/// A text of many parts: a front, a part again and again, an end.
-fn repeated(
-    alloc: Global,
-    front: &str,
-    part: &str,
-    times: usize,
-    end: &str,
-) -> Result<String, QFault> {
-    let mut text = String::new(alloc);
-    text.push_str(front)?;
-    for _ in 0..times {
-        text.push_str(part)?;
-    }
-    text.push_str(end)?;
-    Ok(text)
-}
-
-// a tree of many triples, or of many operations, takes no deep recursion
-#[test]
-fn many_triples(rt: HostRuntime) -> Result<(), Fail> {
-    let text = repeated(rt.alloc(), "INSERT DATA { ", ":s :p 1 . ", 100_000, "}")?;
-    assert!(rt; update_tree(rt.alloc(), text.as_str()).is_ok());
-    Ok(())
-}
-
-#[test]
-fn many_operations(rt: HostRuntime) -> Result<(), Fail> {
-    let text = repeated(rt.alloc(), "", "CLEAR ALL ; ", 100_000, "CLEAR ALL")?;
-    assert!(rt; update_tree(rt.alloc(), text.as_str()).is_ok());
-    Ok(())
 }

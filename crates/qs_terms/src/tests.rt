@@ -509,6 +509,7 @@ fn prints_faults(rt: HostRuntime) {
     prints(&rt, alloc, QFault::TooManyRows, "F8 too many rows");
     prints(&rt, alloc, QFault::Memory, "F9 out of memory");
     prints(&rt, alloc, QFault::Full, "F10 full");
+    prints(&rt, alloc, QFault::Later, "F11 later");
 }
 
 #[test]

@@ -1,7 +1,7 @@
 use Rattle.std.proofs.Common.{rules, ◌≡◌, ◌∙◌, sym, ap, Some}
 use Rattle.std.specs.Map.{lookup}
 use Rattle.std.specs.Str.{bytes_eq}
-use Rattle.qs_names.specs.Piece.{piece}
+use Rattle.qs_escapes.specs.Piece.{piece}
 use Rattle.qs_names.proofs.Prefixes.{expands}
 use Rattle.qs_names.proofs.names.Names.prefixed.Goals as goal
 

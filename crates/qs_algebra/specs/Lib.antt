@@ -1,0 +1,4 @@
+pub mod Outcome
+pub mod Numbers
+pub mod Basic
+pub mod Translation

@@ -1,0 +1,9 @@
+use Rattle.std.proofs.Common.{◌≡◌, take}
+use Rattle.std.specs.List.{list_any}
+use Rattle.qs_bindings.specs.Flags.{flags_from}
+use Rattle.qs_bindings.specs.Possible.{is_possible}
+use Rattle.qs_bindings.proofs.possible_variables.+possible.Given as goal
+
+abbrev pub invariant-possible_in_some-loop-part : goal.invariant-possible_in_some-loop-part
+invariant-possible_in_some-loop-part l =
+    l.flags.items ≡ flags_from (λ v. list_any (λ part. is_possible l.width part v) (take l.part-index l.parts)) 0 l.width

@@ -1,0 +1,16 @@
+pub mod AndOr
+pub mod May
+pub mod Below
+pub mod Same
+pub mod Slots
+pub mod Match
+pub mod Maps
+pub mod FoundLaw
+pub mod GraphLaws
+pub mod Past
+pub mod Turns
+pub mod Mapped
+pub mod Operators
+pub mod Meaning
+pub mod Arms
+pub mod Known

@@ -1,0 +1,12 @@
+//! The plain evaluator: the solutions of a pattern over quads, by plain loops.
+#![tactic(auto)]
+
+mod basic;
+mod evaluate;
+mod extend;
+mod quads;
+#[cfg(test)]
+mod tests;
+
+pub use evaluate::solutions;
+pub use quads::Quads;

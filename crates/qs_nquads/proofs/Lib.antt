@@ -1,0 +1,10 @@
+pub mod Apart
+pub mod Start
+pub mod Begin
+pub mod Gaps
+pub mod Fronts
+pub mod Steps
+pub mod Stops
+pub mod Numbers
+pub mod Readings
+pub mod Unique

@@ -1,0 +1,42 @@
+-- What bytes say as N-Quads (RDF 1.1 N-Quads, 3 and 4), or the fault that is due.
+use Rattle.std.specs.Prelude.{◌≡◌, ◌⊎◌, ℕ, ◌+◌, ◌-◌, ◌==◌, List, length, take, count_by}
+use Rattle.std.specs.Str.{IsUtf8, IsValidUpTo}
+use Rattle.qs_terms.specs.Statement.{Statement}
+use Rattle.qs_nquads.specs.Gap.{behind_gap}
+use Rattle.qs_nquads.specs.Reading.{Reading, State, start, step, ends, stops, Comes}
+use Rattle.qs_nquads.specs.declared.fault.NqFaultKind.{NqFaultKind}
+use Rattle.qs_nquads.specs.declared.fault.NqFaultKind.TheVariants as fault
+
+-- reading comes to the lawful end of the text, and this was read
+abbrev pub Ends : State → Reading → Type 0
+Ends from r = (rest : List ℕ) × Comes from (record { reading = r; rest = rest }) × (step (record { reading = r; rest = rest }) ≡ ends)
+
+-- reading stops with a fault where so many bytes are left
+abbrev pub StopsAt : State → NqFaultKind → ℕ → Type 0
+StopsAt from kind left = (s : State) × (rest : List ℕ) × Comes from s × (step s ≡ stops kind rest) × (left ≡ length rest)
+
+-- reading comes to a token where so many bytes are left
+abbrev pub ComesTo : State → ℕ → Type 0
+ComesTo from left = (s : State) × Comes from s × (left ≡ length (behind_gap s.rest))
+
+-- the fault is due where so many bytes are left; memory may be wanting at any token, and what is read is UTF-8
+abbrev pub IsStop : State → NqFaultKind → ℕ → Type 0
+IsStop from fault.Memory left = ComesTo from left
+IsStop from fault.Utf8 left = ⊥
+IsStop from kind left = StopsAt from kind left
+
+-- the line of a place: 1 and the count of LF before it
+abbrev pub line_at : List ℕ → ℕ → ℕ
+line_at bytes place = 1 + count_by (λ b. b == 10) (take place bytes)
+
+-- the bytes are N-Quads of these statements, in their order, and the next new label would get the number `next`
+abbrev pub IsNquads : List ℕ → ℕ → List Statement → ℕ → Type 0
+IsNquads bytes first quads next =
+    IsUtf8 bytes × ((r : Reading) × Ends (start first bytes) r × (r.quads ≡ quads) × (r.labels.next ≡ next))
+
+-- a fault at this line: the bytes aren't UTF-8, which comes before everything, with the line of the first bad byte; or reading
+-- stops there
+abbrev pub IsFault : List ℕ → ℕ → NqFaultKind → ℕ → Type 0
+IsFault bytes first kind line =
+    ((kind ≡ fault.Utf8) × (¬ (IsUtf8 bytes)) × ((n : ℕ) × IsValidUpTo bytes n × (line ≡ line_at bytes n)))
+    ⊎ (IsUtf8 bytes × ((left : ℕ) × IsStop (start first bytes) kind left × (line ≡ line_at bytes (length bytes - left))))

@@ -1,0 +1,45 @@
+//! The longest front of a text that is in the table.
+
+ghost use Rattle.std.specs.Prelude.{◌≡◌};
+ghost use Rattle.std.specs.Str.{chars};
+ghost use Rattle.qs_regular.specs.Longest.{best, here};
+ghost use Rattle.qs_regular.specs.Scan.{hold};
+ghost use Rattle.qs_nquads.specs.Table.{table};
+ghost use Rattle.qs_nquads.specs.State.{left};
+
+use crate::class::Class;
+use crate::state::State;
+
+fn kept(found: Option<(Class, usize)>, state: State, len: usize) -> Option<(Class, usize)>
+    ensures { result ≡ hold (here (left state)) len found }
+{
+    match state.class() {
+        Some(class) => Some((class, len)),
+        None => found,
+    }
+}
+
+/// The class and the length of the longest front.
+pub(crate) fn longest(text: &str) -> Option<(Class, usize)>
+    ensures { result ≡ best table (chars text.now) }
+{
+    let mut rest = text.chars();
+    let Some(first) = rest.next() else {
+        return None;
+    };
+    let Some(begun) = State::start(first) else {
+        return None;
+    };
+    let mut state = begun;
+    let mut len = first.len_utf8();
+    let mut found = None;
+    'chars: while let Some(c) = rest.next() {
+        found = kept(found, state, len);
+        let Some(next) = state.step(c) else {
+            return found;
+        };
+        state = next;
+        len += c.len_utf8();
+    }
+    kept(found, state, len)
+}

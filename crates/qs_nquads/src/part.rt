@@ -1,0 +1,115 @@
+//! What tokens say in a statement.
+
+ghost use Rattle.std.specs.Prelude.{◌≡◌, ◌-◌, length};
+ghost use Rattle.qs_nquads.specs.Gives.{Gives, GivesWith};
+ghost use Rattle.qs_nquads.specs.Part.{takes_label, label_part, iri_part, part_of};
+
+use crate::class::Class;
+use crate::fault::NqFaultKind;
+use crate::labels::Labels;
+use crate::place::Place;
+use qs_escapes::Escapes;
+use qs_escapes::decoded::decoded;
+use qs_escapes::piece::piece;
+use qs_terms::{Iri, Text};
+use std::alloc::Global;
+
+/// A part of a statement.
+#[derive(Drop)]
+pub enum Part {
+    /// An IRI.
+    Iri(Iri),
+    /// A blank node.
+    Blank(u64),
+    /// The form of a literal.
+    Form(Text),
+    /// A language tag, without its `@`.
+    Tag(Text),
+    /// `^^`
+    Carets,
+    /// `.`
+    Dot,
+    /// The end of a line.
+    LineEnd,
+}
+
+fn inside(token: &str) -> &str
+    ensures { result.now ≡ Rattle.qs_nquads.specs.Part.inside token.now }
+{
+    piece(token, 1, token.len().saturating_sub(1))
+}
+
+fn behind(token: &str, front: usize) -> &str
+    ensures { result.now ≡ Rattle.qs_nquads.specs.Part.behind token.now front }
+{
+    piece(token, front, token.len())
+}
+
+fn takes_label(place: &Place) -> bool
+    ensures { result ≡ takes_label place.now }
+{
+    match place {
+        Place::Start => true,
+        Place::Subject(_) => false,
+        Place::Predicate(_, _) => true,
+        Place::Form(_, _, _) => true,
+        Place::Typed(_, _, _) => false,
+        Place::Object(_, _, _) => true,
+        Place::Label(_, _, _, _) => false,
+        Place::Done => false,
+    }
+}
+
+fn blank(
+    alloc: Global,
+    place: &Place,
+    labels: &mut Labels,
+    label: &str,
+) -> Result<Part, NqFaultKind>
+    ensures { GivesWith (label_part labels.old (takes_label place.now) label.now) result labels.new }
+{
+    if !takes_label(place) {
+        return Err(NqFaultKind::Shape);
+    }
+    let label = Text::new(alloc, label)?;
+    let number = labels.number(label)?;
+    Ok(Part::Blank(number))
+}
+
+/// What the front of a class, of these bytes, says at a place of a statement.
+///
+/// # Errors
+/// The fault of a front that is no token, of a relative IRI, or of a label that has no place or no number; and want of memory.
+pub fn part_of(
+    alloc: Global,
+    place: &Place,
+    labels: &mut Labels,
+    class: Class,
+    token: &str,
+) -> Result<Part, NqFaultKind>
+    ensures { GivesWith (part_of place.now labels.old class token.now) result labels.new }
+{
+    match class {
+        Class::Iri => {
+            let text = decoded(alloc, inside(token), Escapes::Codepoints)?;
+            match Iri::new(text) {
+                Ok(iri) => Ok(Part::Iri(iri)),
+                Err(_) => Err(NqFaultKind::Iri),
+            }
+        }
+        Class::String => {
+            let form = decoded(alloc, inside(token), Escapes::Strings)?;
+            Ok(Part::Form(form))
+        }
+        Class::Tag => {
+            let tag = Text::new(alloc, behind(token, 1))?;
+            Ok(Part::Tag(tag))
+        }
+        Class::Label => blank(alloc, place, labels, behind(token, 2)),
+        Class::Carets => Ok(Part::Carets),
+        Class::Dot => Ok(Part::Dot),
+        Class::LineEnd => Ok(Part::LineEnd),
+        Class::Open => Err(NqFaultKind::Token),
+        Class::Broken => Err(NqFaultKind::Escape),
+    }
+}

@@ -1,0 +1,6 @@
+//! The patterns of the algebra, and what they mean: the solutions of a pattern in a graph of a dataset.
+#![tactic(auto)]
+
+mod pattern;
+
+pub use pattern::{BasicPattern, Pattern, Slot, TriplePattern};

@@ -1,0 +1,40 @@
+-- The first place of a name, by what stands before each place.
+use Rattle.std.proofs.Common.{◌≡◌, ℕ, zero, suc, ◌+◌, ◌<◌, ◌≤◌, Bool, true, false, ◌||◌, cond, nat_eq, ltb, List, [], ◌∷◌, length, take, Option, Some, None, refl, sym, ap, ◌∙◌, arith}
+use Rattle.std.proofs.lemmas.List.{take_all}
+use Rattle.std.proofs.lemmas.Bool.{lt-ltb, le-ltb}
+use Rattle.std.specs.Cmp.Lexicographic.{pointwise}
+use Rattle.qs_scope.specs.Names.{Name, contains}
+use Rattle.qs_scope.specs.Places.{is_before, first_with, place_of, IsWithin, IsIndex}
+use Rattle.qs_scope.specs.declared.seen.Places.{Places}
+
+absent_at : (x name : Name) (xs : List Name) (b : Bool) → pointwise nat_eq x name ≡ b → (b || contains xs name) ≡ false → (contains xs name ≡ false → place_of xs name ≡ length xs) → cond b zero (suc (place_of xs name)) ≡ suc (length xs)
+absent_at x name xs true e h f = let k : true ≡ false = h in cc
+absent_at x name xs false e h f = ap suc (f h)
+
+absent : (names : List Name) (name : Name) → contains names name ≡ false → place_of names name ≡ length names
+absent [] name h = refl
+absent (x ∷ xs) name h = absent_at x name xs (pointwise nat_eq x name) refl h (absent xs name)
+
+found_at : (x name : Name) (xs : List Name) (first : ℕ) (b : Bool) → (b || contains (take first xs) name) ≡ false → (b || contains (take (suc first) xs) name) ≡ true
+    → (contains (take first xs) name ≡ false → contains (take (suc first) xs) name ≡ true → place_of xs name ≡ first) → cond b zero (suc (place_of xs name)) ≡ suc first
+found_at x name xs first true h k f = let e : true ≡ false = h in cc
+found_at x name xs first false h k f = ap suc (f h k)
+
+first_at : (b c : Bool) (n : ℕ) → (b || c) ≡ true → c ≡ false → cond b zero n ≡ zero
+first_at true c n h k = refl
+first_at false c n h k = let e : true ≡ false = sym h ∙ k in cc
+
+found : (names : List Name) (name : Name) (first : ℕ) → contains (take first names) name ≡ false → contains (take (suc first) names) name ≡ true → place_of names name ≡ first
+found [] name zero h k = let e : false ≡ true = k in cc
+found [] name (suc first) h k = let e : false ≡ true = k in cc
+found (x ∷ xs) name zero h k = first_at (pointwise nat_eq x name) (contains (take zero xs) name) (suc (place_of xs name)) k refl
+found (x ∷ xs) name (suc first) h k = found_at x name xs first (pointwise nat_eq x name) h k (found xs name first)
+
+by_place : (names : List Name) (name : Name) (places : Option Places) → ((place : ℕ) → contains (take place names) name ≡ is_before place places) → place_of names name ≡ first_with (length names) places
+by_place names name None before = absent names name (ap (λ l. contains l name) (sym (take_all (length names) names (omega arith))) ∙ before (length names))
+by_place names name (Some places) before =
+    found names name places.first (before places.first ∙ le-ltb places.first places.first (omega arith)) (before (suc places.first) ∙ lt-ltb places.first (suc places.first) (omega arith))
+
+-- the index tells the first place
+pub first_place : (names : List Name) (places : Name → Option Places) → IsIndex names places → (name : Name) → place_of names name ≡ first_with (length names) (places name)
+first_place names places is name = by_place names name (places name) (is.before name)

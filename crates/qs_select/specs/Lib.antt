@@ -1,0 +1,3 @@
+pub mod Selection
+pub mod Sequence
+pub mod Outcome

@@ -1,0 +1,223 @@
+//! What a SELECT asks for (SPARQL 1.1 Query, 15 and 18.2.4).
+
+ghost use Rattle.std.specs.Prelude.{◌≡◌, map, IfOk, OnOk};
+ghost use Rattle.std.specs.List.{filter};
+ghost use Rattle.qs_scope.specs.Firsts.{names_of};
+ghost use Rattle.qs_scope.specs.Names.{contains};
+ghost use Rattle.qs_scope.specs.Places.{place_of};
+ghost use Rattle.qs_algebra.specs.Outcome.{Gives, all};
+ghost use Rattle.qs_select.specs.Selection as spec;
+
+use qs_algebra::translate;
+use qs_ast::pattern::Group;
+use qs_ast::query::{Projection, Query, QueryForm, Select, SelectItem};
+use qs_ast::term::Variable;
+use qs_patterns::Pattern;
+use qs_scope::{Seen, first_variables, in_scope};
+use qs_terms::{QFault, Text};
+use qs_tree::query::Duplicates;
+use sqlite_items::Items;
+use std::alloc::{AllocError, Global};
+
+/// Which part of a list: so many are left out at its front, and so many are left of the rest.
+#[derive(Clone, Copy)]
+pub struct Slice {
+    pub offset: u64,
+    pub limit: Option<u64>,
+}
+
+/// What a SELECT asks for.
+#[derive(Drop)]
+pub struct Selection {
+    /// How many variables the text has.
+    pub width: usize,
+    /// The names of the variables of the answer.
+    pub vars: Items<Text>,
+    /// The numbers of these variables.
+    pub columns: Items<usize>,
+    pub pattern: Pattern,
+    pub slice: Slice,
+}
+
+// the names of the variables, numbered by their places
+fn numbered<'a>(alloc: Global, variables: &'a [Variable]) -> Result<Seen<'a>, AllocError>
+    ensures { IfOk result (λ names. names ≡ names_of variables.now) }
+{
+    let mut names = Seen::new(alloc);
+    for variable in variables {
+        names.push(&variable.name)?;
+    }
+    Ok(names)
+}
+
+// those of the variables that are among the names
+fn those_among<'a>(
+    alloc: Global,
+    scope: &Seen<'a>,
+    variables: &'a [Variable],
+) -> Result<Items<Text>, AllocError>
+    ensures { IfOk result (λ vars. vars ≡ filter (contains scope.now) (names_of variables.now)) }
+{
+    let mut vars = Items::new(alloc);
+    for variable in variables {
+        if scope.contains(&variable.name) {
+            let name = variable.name.try_clone(alloc)?;
+            vars.push(name)?;
+        }
+    }
+    Ok(vars)
+}
+
+fn all_listed<'a>(
+    alloc: Global,
+    variables: &'a [Variable],
+    group: &'a Group,
+) -> Result<Items<Text>, AllocError>
+    ensures { IfOk result (λ vars. vars ≡ spec.all_listed (names_of variables.now) group.now) }
+{
+    let scope = in_scope(alloc, group)?;
+    those_among(alloc, &scope, variables)
+}
+
+fn item_variable(alloc: Global, item: &SelectItem) -> Result<Variable, QFault>
+    ensures { Gives (spec.item_variable item.now) result }
+{
+    match item {
+        SelectItem::Variable(variable) => {
+            let name = variable.name.try_clone(alloc)?;
+            Ok(Variable { name })
+        }
+        SelectItem::As(_, _) => Err(QFault::Later),
+    }
+}
+
+fn item_variables(alloc: Global, items: &[SelectItem]) -> Result<Items<Variable>, QFault>
+    ensures { Gives (all (map spec.item_variable items.now)) result }
+{
+    let mut variables = Items::new(alloc);
+    for item in items {
+        let variable = item_variable(alloc, item)?;
+        variables.push(variable)?;
+    }
+    Ok(variables)
+}
+
+// the names of the variables
+fn names(alloc: Global, variables: &[Variable]) -> Result<Items<Text>, AllocError>
+    ensures { IfOk result (λ names. names ≡ names_of variables.now) }
+{
+    let mut names = Items::new(alloc);
+    for variable in variables {
+        let name = variable.name.try_clone(alloc)?;
+        names.push(name)?;
+    }
+    Ok(names)
+}
+
+fn items_listed(alloc: Global, items: &[SelectItem]) -> Result<Items<Text>, QFault>
+    ensures { Gives (spec.items_listed items.now) result }
+{
+    let variables = item_variables(alloc, items)?;
+    let variables = first_variables(alloc, variables.as_slice())?;
+    let vars = names(alloc, variables.as_slice())?;
+    Ok(vars)
+}
+
+fn listed<'a>(
+    alloc: Global,
+    variables: &'a [Variable],
+    group: &'a Group,
+    projection: &Projection,
+) -> Result<Items<Text>, QFault>
+    ensures { Gives (spec.listed (names_of variables.now) group.now projection.now) result }
+{
+    match projection {
+        Projection::All => {
+            let vars = all_listed(alloc, variables, group)?;
+            Ok(vars)
+        }
+        Projection::Items(items) => items_listed(alloc, items.as_slice()),
+    }
+}
+
+// the numbers of the variables of these names
+fn numbers<'a>(
+    alloc: Global,
+    names: &Seen<'a>,
+    vars: &'a [Text],
+) -> Result<Items<usize>, AllocError>
+    ensures { IfOk result (λ columns. columns ≡ map (place_of names.now) vars.now) }
+{
+    let mut columns = Items::new(alloc);
+    for name in vars {
+        columns.push(names.place(name))?;
+    }
+    Ok(columns)
+}
+
+fn columns<'a>(
+    alloc: Global,
+    variables: &'a [Variable],
+    vars: &'a [Text],
+) -> Result<Items<usize>, AllocError>
+    ensures { IfOk result (λ columns. columns ≡ map (place_of (names_of variables.now)) vars.now) }
+{
+    let names = numbered(alloc, variables)?;
+    numbers(alloc, &names, vars)
+}
+
+fn is_meant(select: &Select) -> bool
+    ensures { result ≡ spec.is_meant select.now }
+{
+    let keeps_duplicates = match select.duplicates {
+        Duplicates::Kept => true,
+        Duplicates::Distinct => false,
+        Duplicates::Reduced => true,
+    };
+    keeps_duplicates && select.modifiers.order.is_empty()
+}
+
+fn slice_of(select: &Select) -> Slice
+    ensures { result ≡ spec.slice_of select.now }
+{
+    let offset = match select.modifiers.offset {
+        None => 0,
+        Some(offset) => offset,
+    };
+    Slice {
+        offset,
+        limit: select.modifiers.limit,
+    }
+}
+
+fn select_selection(alloc: Global, query: &Query, select: &Select) -> Result<Selection, QFault>
+    ensures { Gives (spec.select_selection query.now select.now) result }
+{
+    let variables = query.variables.as_slice();
+    let vars = listed(alloc, variables, &select.pattern, &select.projection)?;
+    let pattern = translate(alloc, query)?;
+    let columns = columns(alloc, variables, vars.as_slice())?;
+    Ok(Selection {
+        width: variables.len(),
+        vars,
+        columns,
+        pattern,
+        slice: slice_of(select),
+    })
+}
+
+/// What the query asks for, or Later where it has no meaning yet.
+pub fn selection_of(alloc: Global, query: &Query) -> Result<Selection, QFault>
+    ensures { Gives (spec.selection query.now) result }
+{
+    match &query.form {
+        QueryForm::Select(select) => {
+            if !is_meant(select) {
+                return Err(QFault::Later);
+            }
+            select_selection(alloc, query, select)
+        }
+        QueryForm::Construct(_) => Err(QFault::Later),
+        QueryForm::Ask(_) => Err(QFault::Later),
+    }
+}

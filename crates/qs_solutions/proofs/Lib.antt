@@ -1,0 +1,2 @@
+pub mod Unbound
+pub mod Cells

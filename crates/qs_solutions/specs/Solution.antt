@@ -1,0 +1,50 @@
+-- Solution mappings (SPARQL 1.1 Query, 18.1.8 and 18.3): at each variable's number its term, or none where it is not bound.
+use Rattle.std.specs.Prelude.{ℕ, zero, suc, Bool, true, false, ◌&&◌, ◌||◌, List, [], ◌∷◌, Option, Some, None, slice_index_or}
+use Rattle.qs_terms.specs.declared.term.Term.{Term}
+use Rattle.qs_terms.specs.Term.{same_term}
+
+abbrev pub Solution : Type 0
+Solution = List (Option Term)
+
+-- the term of a variable
+abbrev pub term_at : Solution → ℕ → Option Term
+term_at m v = slice_index_or m v None
+
+-- n variables, none of them bound
+abbrev pub unbound : ℕ → Solution
+unbound zero = []
+unbound (suc n) = None ∷ unbound n
+
+abbrev pub compatible_terms : Option Term → Option Term → Bool
+compatible_terms None y = true
+compatible_terms (Some x) None = true
+compatible_terms (Some x) (Some y) = same_term x y
+
+-- each variable bound in both has the same term
+abbrev pub compatible : Solution → Solution → Bool
+compatible [] b = true
+compatible (x ∷ a) [] = true
+compatible (x ∷ a) (y ∷ b) = compatible_terms x y && compatible a b
+
+abbrev pub first_bound : Option Term → Option Term → Option Term
+first_bound None y = y
+first_bound (Some x) y = Some x
+
+-- the bindings of both
+abbrev pub merge : Solution → Solution → Solution
+merge [] b = b
+merge (x ∷ a) [] = x ∷ a
+merge (x ∷ a) (y ∷ b) = first_bound x y ∷ merge a b
+
+abbrev pub same_cell : Option Term → Option Term → Bool
+same_cell None None = true
+same_cell None (Some y) = false
+same_cell (Some x) None = false
+same_cell (Some x) (Some y) = same_term x y
+
+-- the same term at each variable
+abbrev pub same_solution : Solution → Solution → Bool
+same_solution [] [] = true
+same_solution [] (y ∷ b) = false
+same_solution (x ∷ a) [] = false
+same_solution (x ∷ a) (y ∷ b) = same_cell x y && same_solution a b

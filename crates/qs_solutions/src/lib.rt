@@ -1,0 +1,10 @@
+//! Solutions of patterns, and the answers of queries.
+#![tactic(auto)]
+
+mod answer;
+mod operators;
+mod solution;
+
+pub use answer::Answer;
+pub use operators::joined;
+pub use solution::Row;
