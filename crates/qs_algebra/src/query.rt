@@ -1,29 +1,15 @@
 //! The patterns of queries (SPARQL 1.1 Query, 18.2).
 
-ghost use Rattle.std.specs.Prelude.{◌≡◌, IfOk};
-ghost use Rattle.qs_scope.specs.Firsts.{names_of};
 ghost use Rattle.qs_algebra.specs.Outcome.{Gives};
 ghost use Rattle.qs_algebra.specs.Translation as spec;
 
 use crate::basic::basic_pattern;
 use crate::translation::group_pattern;
 use qs_ast::query::{Construct, Query, QueryForm};
-use qs_ast::term::Variable;
 use qs_patterns::Pattern;
-use qs_scope::Seen;
+use qs_scope::{Seen, numbered};
 use qs_terms::QFault;
-use std::alloc::{AllocError, Global};
-
-/// The names of the variables in the order of their numbers.
-fn numbered<'a>(alloc: Global, variables: &'a [Variable]) -> Result<Seen<'a>, AllocError>
-    ensures { IfOk result (λ names. names ≡ names_of variables.now) }
-{
-    let mut names = Seen::new(alloc);
-    for variable in variables {
-        names.push(&variable.name)?;
-    }
-    Ok(names)
-}
+use std::alloc::Global;
 
 fn construct_pattern<'a>(
     alloc: Global,

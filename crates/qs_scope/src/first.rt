@@ -52,3 +52,14 @@ pub fn first_variables(alloc: Global, variables: &[Variable]) -> Result<Items<Va
     let Firsts { seen: _, found } = firsts;
     Ok(found)
 }
+
+/// The names of the variables, numbered by their places.
+pub fn numbered<'a>(alloc: Global, variables: &'a [Variable]) -> Result<Seen<'a>, AllocError>
+    ensures { IfOk result (λ names. names ≡ names_of variables.now) }
+{
+    let mut names = Seen::new(alloc);
+    for variable in variables {
+        names.push(&variable.name)?;
+    }
+    Ok(names)
+}

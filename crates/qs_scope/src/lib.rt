@@ -22,7 +22,7 @@ mod tables;
 mod tests;
 mod update;
 
-pub use first::first_variables;
+pub use first::{first_variables, numbered};
 pub use query::query_keeps_scope;
 pub use scope::in_scope;
 pub use seen::Seen;

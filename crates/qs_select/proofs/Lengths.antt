@@ -4,10 +4,10 @@ use Rattle.std.proofs.lemmas.List.{length-take, length-drop}
 use Rattle.std.proofs.lemmas.List.Sorted.{length_permutation}
 use Rattle.qs_terms.specs.Bag.{SameBag}
 use Rattle.qs_terms.specs.declared.fault.QFault.TheVariants.{TooManyRows}
-use Rattle.qs_solutions.specs.Solution.{Solution}
+use Rattle.qs_solutions.specs.Solution.{Solution, projected}
 use Rattle.qs_solutions.specs.declared.answer.Answer.TheVariants.{Solutions}
 use Rattle.qs_select.specs.Outcome.{IsSelected}
-use Rattle.qs_select.specs.Sequence.{limited, sliced, projected, count}
+use Rattle.qs_select.specs.Sequence.{limited, sliced, count}
 use Rattle.qs_select.specs.declared.selection.Selection.{Selection}
 use Rattle.qs_select.specs.declared.selection.Slice.{Slice}
 

@@ -3,11 +3,11 @@ use Rattle.std.proofs.Common.{◌≡◌, ℕ, ◌+◌, List, [], ◌∷◌, map,
 use Rattle.qs_terms.specs.declared.term.Term.TheVariants.{Blank}
 use Rattle.qs_terms.specs.Dataset.{graph_of}
 use Rattle.qs_terms.specs.Statement.{Statement}
-use Rattle.qs_solutions.specs.Solution.{Solution}
+use Rattle.qs_solutions.specs.Solution.{Solution, projected}
 use Rattle.qs_patterns.specs.declared.pattern.BasicPattern.{BasicPattern}
 use Rattle.qs_patterns.specs.declared.pattern.Slot.TheVariants as slot
 use Rattle.qs_patterns.specs.Basic.{basic}
-use Rattle.qs_select.specs.Sequence.{dataset, projected, sliced}
+use Rattle.qs_select.specs.Sequence.{dataset, sliced}
 
 abbrev says : ℕ → ℕ → ℕ → Statement
 says s p o = record { graph = None; subject = Blank s; predicate = Blank p; object = Blank o }

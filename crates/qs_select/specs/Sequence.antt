@@ -3,7 +3,7 @@ use Rattle.std.specs.Prelude.{◌≡◌, ℕ, List, map, take, drop, length, Opt
 use Rattle.qs_terms.specs.Bag.{SameBag, once}
 use Rattle.qs_terms.specs.Dataset.{graph_of}
 use Rattle.qs_terms.specs.Statement.{Statement, same_statement}
-use Rattle.qs_solutions.specs.Solution.{Solution, term_at}
+use Rattle.qs_solutions.specs.Solution.{Solution, projected}
 use Rattle.qs_patterns.specs.Eval.{eval}
 use Rattle.qs_select.specs.declared.selection.Selection.{Selection}
 use Rattle.qs_select.specs.declared.selection.Slice.{Slice}
@@ -15,10 +15,6 @@ dataset quads = once same_statement quads
 -- the solutions of the pattern in the default graph
 abbrev pub whole : Selection → List Statement → List Solution
 whole selection quads = eval selection.width (dataset quads) selection.pattern (graph_of (dataset quads) None)
-
--- the terms of the listed variables (Project)
-abbrev pub projected : List ℕ → Solution → Solution
-projected columns m = map (term_at m) columns
 
 abbrev pub limited : {X : Type 0} → Option ℕ → List X → List X
 limited None xs = xs

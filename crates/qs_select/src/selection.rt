@@ -13,7 +13,7 @@ use qs_ast::pattern::Group;
 use qs_ast::query::{Projection, Query, QueryForm, Select, SelectItem};
 use qs_ast::term::Variable;
 use qs_patterns::Pattern;
-use qs_scope::{Seen, first_variables, in_scope};
+use qs_scope::{Seen, first_variables, in_scope, numbered};
 use qs_terms::{QFault, Text};
 use qs_tree::query::Duplicates;
 use sqlite_items::Items;
@@ -37,17 +37,6 @@ pub struct Selection {
     pub columns: Items<usize>,
     pub pattern: Pattern,
     pub slice: Slice,
-}
-
-// the names of the variables, numbered by their places
-fn numbered<'a>(alloc: Global, variables: &'a [Variable]) -> Result<Seen<'a>, AllocError>
-    ensures { IfOk result (λ names. names ≡ names_of variables.now) }
-{
-    let mut names = Seen::new(alloc);
-    for variable in variables {
-        names.push(&variable.name)?;
-    }
-    Ok(names)
 }
 
 // those of the variables that are among the names

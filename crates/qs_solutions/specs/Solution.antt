@@ -1,5 +1,5 @@
 -- Solution mappings (SPARQL 1.1 Query, 18.1.8 and 18.3): at each variable's number its term, or none where it is not bound.
-use Rattle.std.specs.Prelude.{ℕ, zero, suc, Bool, true, false, ◌&&◌, ◌||◌, List, [], ◌∷◌, Option, Some, None, slice_index_or}
+use Rattle.std.specs.Prelude.{ℕ, zero, suc, Bool, true, false, ◌&&◌, ◌||◌, List, [], ◌∷◌, Option, Some, None, slice_index_or, map}
 use Rattle.qs_terms.specs.declared.term.Term.{Term}
 use Rattle.qs_terms.specs.Term.{same_term}
 
@@ -9,6 +9,10 @@ Solution = List (Option Term)
 -- the term of a variable
 abbrev pub term_at : Solution → ℕ → Option Term
 term_at m v = slice_index_or m v None
+
+-- the terms of the listed variables (Project)
+abbrev pub projected : List ℕ → Solution → Solution
+projected columns m = map (term_at m) columns
 
 -- n variables, none of them bound
 abbrev pub unbound : ℕ → Solution

@@ -1,8 +1,8 @@
 //! Solution mappings (SPARQL 1.1 Query, 18.1.8).
 
-ghost use Rattle.std.specs.Prelude.{◌≡◌, ◌∷◌, ◌++◌, [], length, take, IfOk, OnOk, None, Some, slice_set, option_to_list};
+ghost use Rattle.std.specs.Prelude.{◌≡◌, length, take, IfOk, None, Some, slice_set, option_to_list};
 ghost use Rattle.std.specs.Option.{option_copied};
-ghost use Rattle.qs_solutions.specs.Solution.{term_at, unbound, compatible, merge, first_bound};
+ghost use Rattle.qs_solutions.specs.Solution.{term_at, unbound, compatible, merge, first_bound, projected};
 
 use qs_terms::Term;
 use std::alloc::{AllocError, Global};
@@ -54,15 +54,6 @@ fn first_of<'a>(a: Option<&'a Term>, b: Option<&'a Term>) -> Option<&'a Term>
 }
 
 impl Row {
-    /// No cells.
-    pub fn new(alloc: Global) -> Row
-        ensures { result ≡ [] }
-    {
-        Row {
-            cells: Vec::new(alloc),
-        }
-    }
-
     /// So many variables, none of them bound.
     #[tactic(auto, using(crate::proofs::Unbound::unbound_more))]
     pub fn unbound(alloc: Global, width: usize) -> Result<Row, AllocError>
@@ -104,12 +95,16 @@ impl Row {
         Ok(Row { cells })
     }
 
-    /// Puts a variable more at the end.
-    pub fn push(&mut self, cell: Option<Term>) -> Result<(), AllocError>
-        ensures { OnOk result (self.new ≡ self.old ++ cell ∷ []) }
+    /// The terms of these variables alone, in their order (SPARQL 1.1 Query, 18.5: Project).
+    pub fn projected(&self, alloc: Global, columns: &[usize]) -> Result<Row, AllocError>
+        ensures { IfOk result (λ r. r ≡ projected columns.now self.now) }
     {
-        self.cells.push(cell)?;
-        Ok(())
+        let mut cells = Vec::new(alloc);
+        for column in columns {
+            let cell = copied(alloc, self.term(*column))?;
+            cells.push(cell)?;
+        }
+        Ok(Row { cells })
     }
 
     /// Binds the variable; one past the last stays as it is.

@@ -2,9 +2,9 @@ use Rattle.std.proofs.Common.{◌≡◌, ◌∙◌, ap, subst, List, map, None}
 use Rattle.qs_terms.specs.Bag.{SameBag}
 use Rattle.qs_terms.specs.Dataset.{graph_of}
 use Rattle.qs_terms.specs.Statement.{Statement}
-use Rattle.qs_solutions.specs.Solution.{Solution}
+use Rattle.qs_solutions.specs.Solution.{Solution, projected}
 use Rattle.qs_patterns.specs.Eval.{eval}
-use Rattle.qs_select.specs.Sequence.{whole, sliced, projected}
+use Rattle.qs_select.specs.Sequence.{whole, sliced}
 use Rattle.qs_select.proofs.Lengths.{too_many, answered}
 use Rattle.qs_select.proofs.select.selected.Goals as goal
 
