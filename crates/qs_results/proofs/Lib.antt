@@ -1,0 +1,3 @@
+mod Bindings
+mod Floats
+mod Rows

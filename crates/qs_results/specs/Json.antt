@@ -1,0 +1,69 @@
+-- Answers as JSON (SPARQL 1.1 Query Results JSON Format, 3.1 to 3.3). The members of each object ascend by their bytes.
+use Rattle.std.specs.Prelude.{ℕ, List, [], ◌∷◌, ◌++◌, Option, Some, None, map, codes, decimal, if◌then◌else◌}
+use Rattle.std.specs.Str.{bytes_eq}
+use Rattle.serde_json.specs.Data.{Data, boolean, string, array, object, Members, no_members, member, put}
+use Rattle.serde_json.specs.View.{items_of}
+use Rattle.qs_terms.specs.declared.term.Term.{Term}
+use Rattle.qs_terms.specs.declared.term.Term.TheVariants as term
+use Rattle.qs_solutions.specs.Solution.{Solution}
+use Rattle.qs_solutions.specs.declared.answer.Answer.{Answer}
+use Rattle.qs_solutions.specs.declared.answer.Answer.TheVariants.{Solutions, Truth}
+
+-- the datatype that isn't written
+unfoldable pub xsd_string : List ℕ
+xsd_string = codes "http://www.w3.org/2001/XMLSchema#string"
+
+-- a type, a value, and what comes behind them (3.2.2)
+abbrev pub typed_value : List ℕ → List ℕ → Members → Members
+typed_value type value more = member (codes "type") (string type) (member (codes "value") (string value) more)
+
+-- the datatype of a literal without a tag, unless it is xsd:string
+abbrev pub with_datatype : List ℕ → Members → Members
+with_datatype datatype more =
+    if bytes_eq datatype xsd_string then more else member (codes "datatype") (string datatype) more
+
+-- a literal: its tag, or else its datatype
+abbrev pub literal_members : List ℕ → List ℕ → Option (List ℕ) → Members
+literal_members form datatype (Some tag) =
+    typed_value (codes "literal") form (member (codes "xml:lang") (string tag) no_members)
+literal_members form datatype None = with_datatype datatype (typed_value (codes "literal") form no_members)
+
+abbrev pub term_members : Term → Members
+term_members (term.Iri iri) = typed_value (codes "uri") iri no_members
+term_members (term.Blank number) = typed_value (codes "bnode") (codes "b" ++ decimal number) no_members
+term_members (term.Literal l) = literal_members l.form l.datatype l.tag
+
+-- an RDF term (3.2.2)
+abbrev pub term_data : Term → Data
+term_data t = object (term_members t)
+
+-- the members with what the variable is bound to, if it is bound
+abbrev pub with_binding : List ℕ → Option Term → Members → Members
+with_binding name None ms = ms
+with_binding name (Some t) ms = put name (term_data t) ms
+
+-- the members with the variables that the solution binds, from left to right
+abbrev pub with_bindings : List (List ℕ) → Solution → Members → Members
+with_bindings [] row ms = ms
+with_bindings (name ∷ names) [] ms = ms
+with_bindings (name ∷ names) (cell ∷ row) ms = with_bindings names row (with_binding name cell ms)
+
+-- a solution: the variables that it binds, and no others (3.2.1)
+abbrev pub binding_data : List (List ℕ) → Solution → Data
+binding_data names row = object (with_bindings names row no_members)
+
+-- the names of the variables (3.1.1)
+abbrev pub names_data : List (List ℕ) → Data
+names_data names = array (items_of (map string names))
+
+-- the solutions in their order (3.2)
+abbrev pub rows_data : List (List ℕ) → List Solution → Data
+rows_data names rows = array (items_of (map (binding_data names) rows))
+
+-- the answer of a SELECT (3.1 and 3.2), or of an ASK (3.3)
+abbrev pub json_of : Answer → Data
+json_of (Solutions names rows) =
+    object (member (codes "head") (object (member (codes "vars") (names_data names) no_members))
+    (member (codes "results") (object (member (codes "bindings") (rows_data names rows) no_members)) no_members))
+json_of (Truth b) =
+    object (member (codes "boolean") (boolean b) (member (codes "head") (object no_members) no_members))

@@ -1,0 +1,72 @@
+//! How a job ends before anything is printed.
+
+ghost use Rattle.std.specs.Prelude.{Ok, Err, MatchResult};
+ghost use Rattle.qs_select.specs.Outcome.{Answers};
+ghost use Rattle.quads.specs.Ended.{IsTextOf, IsTextOutcome, IsQueryEnd, IsEnd};
+
+use crate::job::Job;
+use qs_nquads::{NqFault, read};
+use qs_query::answer;
+use qs_solutions::Answer;
+use qs_terms::{QFault, Quad};
+use std::alloc::Global;
+
+/// The most solutions that a query may have, behind OFFSET and LIMIT.
+const MAX_ROWS: u64 = 1_000_000;
+
+/// What a job comes to.
+#[derive(Drop)]
+pub enum Ended {
+    /// The query has this answer.
+    Answered(Answer),
+    /// The data are no N-Quads.
+    DataRefused(NqFault),
+    /// The text is refused, or memory is wanting.
+    Refused(QFault),
+}
+
+fn text_of(bytes: &[u8]) -> Result<&str, QFault>
+    ensures { MatchResult result (λ s. IsTextOf bytes.now (Ok s.now)) (λ f. IsTextOf bytes.now (Err f)) }
+{
+    match std::str::from_utf8(bytes) {
+        Ok(text) => Ok(text),
+        Err(error) => Err(QFault::Syntax {
+            place: error.valid_up_to(),
+        }),
+    }
+}
+
+#[tactic(auto, using(crate::proofs::Ends::no_text, crate::proofs::Ends::of_text))]
+fn text_answer(
+    alloc: Global,
+    text: &[u8],
+    quads: &[Quad],
+    next_blank: u64,
+) -> Result<Answer, QFault>
+    ensures { Answers (IsTextOutcome text.now quads.now) result }
+{
+    let text = text_of(text)?;
+    answer(alloc, text, quads, next_blank, MAX_ROWS)
+}
+
+fn query_ended(alloc: Global, file: &[u8], text: &[u8]) -> Ended
+    ensures { IsQueryEnd file.now text.now result }
+{
+    let (quads, next_blank) = match read(alloc, file, 0) {
+        Ok(parts) => parts,
+        Err(fault) => return Ended::DataRefused(fault),
+    };
+    match text_answer(alloc, text, quads.as_slice(), next_blank) {
+        Ok(answer) => Ended::Answered(answer),
+        Err(fault) => Ended::Refused(fault),
+    }
+}
+
+/// What the job comes to.
+pub fn end_of(alloc: Global, job: &Job) -> Ended
+    ensures { IsEnd job.now result }
+{
+    match job {
+        Job::Query { data, text } => query_ended(alloc, data.as_slice(), text.as_slice()),
+    }
+}

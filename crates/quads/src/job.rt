@@ -1,0 +1,15 @@
+//! What the program is asked to do, and what it did.
+
+/// A job, with the bytes of its files.
+#[derive(Drop)]
+pub enum Job {
+    /// The query of `text` over the N-Quads of `data`.
+    Query { data: Vec<u8>, text: Vec<u8> },
+}
+
+/// The exit status, and how many bytes the sink took.
+#[derive(Clone, Copy)]
+pub struct Ran {
+    pub status: u8,
+    pub written: u128,
+}

@@ -1,0 +1,116 @@
+//! The program: answers the query of a file over the quads of another.
+//!
+//! What a job's bytes come to is proved of `run`. Here the command line is read, the files, and nothing else.
+#![tactic(auto)]
+
+mod ended;
+#[cfg(test)]
+mod growth;
+mod job;
+mod printed;
+mod run;
+#[cfg(test)]
+mod tests;
+
+use crate::job::Job;
+use crate::run::run;
+use clap::error::ErrorKind;
+use clap::{Arg, ArgMatches, Command};
+use qs_results::out_of_memory_line;
+use qs_terms::{Counted, Sink, put_all};
+use std::alloc::{AllocError, Global};
+use std::process::ExitCode;
+use std::{env, fs, io};
+
+fn query_command<'a>(alloc: Global) -> Result<Command<'a>, AllocError> {
+    let file = Arg::new(alloc, "FILE")
+        .required(true)
+        .help("the data, as N-Quads");
+    let query = Arg::new(alloc, "QUERYFILE")
+        .required(true)
+        .help("the text of the query");
+    Command::new(alloc, "query")
+        .about("Prints the answer of a query over the data of a file, as JSON")
+        .arg(file)?
+        .arg(query)
+}
+
+fn command<'a>(alloc: Global) -> Result<Command<'a>, AllocError> {
+    Command::new(alloc, "quads")
+        .about("An RDF quad store with SPARQL")
+        .subcommand_required(true)
+        .subcommand(query_command(alloc)?)
+}
+
+/// The words of a command line, taken apart.
+fn matches_of<'a>(alloc: Global, words: &'a [String]) -> Result<ArgMatches<'a>, clap::Error> {
+    command(alloc)?.try_get_matches_from(words)
+}
+
+/// Prints that memory is wanting; the status is 1.
+fn refuse_for_memory<S: Sink>(out: &mut S) -> u8 {
+    put_all(out, out_of_memory_line().as_bytes());
+    1
+}
+
+/// Prints that a file can't be read, or that memory is wanting; the status is 1.
+fn refuse_file<S: Sink>(out: &mut S, name: &str, error: &io::Error) -> u8 {
+    if error.kind() == io::ErrorKind::OutOfMemory {
+        return refuse_for_memory(out);
+    }
+    for part in ["cannot read ", name, "\n"] {
+        if put_all(out, part.as_bytes()) < part.len() {
+            return 1;
+        }
+    }
+    1
+}
+
+/// `query FILE QUERYFILE`: its exit status.
+fn query<S: Sink>(rt: &HostRuntime, out: &mut S, matches: &ArgMatches<'_>) -> u8 {
+    let file = matches.get_str("FILE").unwrap_or("");
+    let data = match fs::read(rt, file) {
+        Ok(data) => data,
+        Err(error) => return refuse_file(out, file, &error),
+    };
+    let file = matches.get_str("QUERYFILE").unwrap_or("");
+    let text = match fs::read(rt, file) {
+        Ok(text) => text,
+        Err(error) => return refuse_file(out, file, &error),
+    };
+    run(rt.alloc(), &Job::Query { data, text }, out).status
+}
+
+/// Does what the words say: the exit status. What is wrong with the words goes to standard error.
+fn obey<S: Sink>(rt: &HostRuntime, out: &mut S, words: &[String]) -> u8 {
+    let matches = match matches_of(rt.alloc(), words) {
+        Ok(matches) => matches,
+        Err(error) if error.kind() == ErrorKind::OutOfMemory => return refuse_for_memory(out),
+        Err(error) => {
+            drop(rt.eprint(&error));
+            return error.exit_code() as u8;
+        }
+    };
+    match matches.subcommand() {
+        Some(("query", matches)) => query(rt, out, matches),
+        _ => 2,
+    }
+}
+
+fn words_of(rt: &HostRuntime) -> Result<Vec<String>, io::Error> {
+    let words = env::args(rt)?.collect(rt.alloc())?;
+    Ok(words)
+}
+
+fn main(rt: HostRuntime) -> ExitCode {
+    let mut out = Counted::new(io::writer(&rt));
+    let status = match words_of(&rt) {
+        Ok(words) => obey(&rt, &mut out, words.as_slice()),
+        Err(error) if error.kind() == io::ErrorKind::OutOfMemory => refuse_for_memory(&mut out),
+        Err(_) => {
+            drop(rt.eprintln("error: an argument is not UTF-8"));
+            2
+        }
+    };
+    ExitCode::from(status)
+}

@@ -1,0 +1,43 @@
+//! From the bytes of files to the bytes that are printed.
+
+ghost use Rattle.std.specs.Prelude.{◌⊎◌};
+ghost use Rattle.qs_terms.specs.declared.fault.QFault.TheVariants.{Memory};
+ghost use Rattle.quads.specs.Printed.{Prints, PrintsEnd, IsRun};
+ghost use Rattle.quads.specs.declared.ended.Ended.TheVariants.{Refused};
+
+use crate::ended::{Ended, end_of};
+use crate::job::{Job, Ran};
+use crate::printed::{printed, status};
+use qs_results::out_of_memory_line;
+use qs_terms::{Sink, put_all};
+use std::alloc::Global;
+
+fn put<S: Sink>(out: &mut S, bytes: &[u8], status: u8) -> Ran
+    ensures { Prints bytes.now status (S.taken out.old) (S.taken out.new) (S.faults out.old) (S.faults out.new) result }
+{
+    let taken = put_all(out, bytes);
+    Ran {
+        status: if taken == bytes.len() { status } else { 1 },
+        written: taken as u128,
+    }
+}
+
+// Puts the line, or the one of want of memory where it can't be made.
+fn put_line<S: Sink>(alloc: Global, end: &Ended, out: &mut S) -> Ran
+    ensures { PrintsEnd end.now (S.taken out.old) (S.taken out.new) (S.faults out.old) (S.faults out.new) result
+        ⊎ PrintsEnd (Refused Memory) (S.taken out.old) (S.taken out.new) (S.faults out.old) (S.faults out.new) result }
+{
+    match printed(alloc, end) {
+        Ok(line) => put(out, line.as_bytes(), status(end)),
+        Err(_) => put(out, out_of_memory_line().as_bytes(), 1),
+    }
+}
+
+/// Does the job and prints what it comes to: the answer as JSON, or the line of the fault that is due, and LF. The status is 0 where a
+/// query is answered, and 1 where it is refused, where memory is wanting, or where the sink fails; nothing is put behind a failure.
+pub fn run<S: Sink>(alloc: Global, job: &Job, out: &mut S) -> Ran
+    ensures { IsRun job.now (S.taken out.old) (S.taken out.new) (S.faults out.old) (S.faults out.new) result }
+{
+    let end = end_of(alloc, job);
+    put_line(alloc, &end, out)
+}
