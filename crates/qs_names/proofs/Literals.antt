@@ -46,7 +46,5 @@ integer_made form found h = made (Ok (typed form xsd_integer)) found (subst (λ 
 pub boolean_made : (form : List ℕ) (found : Result Literal TermFault) → OrMemory found (checked_parts form (checked_iri xsd_boolean)) → Gives (Ok (Some (typed form xsd_boolean))) (unless_refused found)
 boolean_made form found h = made (Ok (typed form xsd_boolean)) found (subst (λ due. OrMemory found due) (boolean_is_due form) h)
 
-pub string_made : (form datatype : List ℕ) (found : Result Literal TermFault) → datatype ≡ xsd_string → found ≡ checked_typed form datatype → Gives (Ok (Some (typed form xsd_string))) (unless_refused found)
-string_made form datatype found d e =
-    let due : found ≡ Ok (typed form xsd_string) = e ∙ ap (λ x. checked_typed form x) d ∙ string_is_due form in
-    rw due
+pub string_made : (form datatype : List ℕ) (found : Result Literal TermFault) → datatype ≡ xsd_string → OrMemory found (checked_typed form datatype) → Gives (Ok (Some (typed form xsd_string))) (unless_refused found)
+string_made form datatype found d h = made (Ok (typed form xsd_string)) found (subst (λ due. OrMemory found due) (ap (λ x. checked_typed form x) d ∙ string_is_due form) h)

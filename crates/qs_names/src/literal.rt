@@ -2,7 +2,7 @@
 
 ghost use Rattle.std.specs.Prelude.{◌≡◌, IfOk, Ok, Some};
 ghost use Rattle.std.specs.Result.{result_ok};
-ghost use Rattle.qs_terms.specs.Literal.{typed, checked_tagged};
+ghost use Rattle.qs_terms.specs.Literal.{typed, checked_typed, checked_tagged};
 ghost use Rattle.qs_names.specs.Gives.{Gives, unless_refused};
 ghost use Rattle.qs_names.specs.Names.{marks, xsd_string, xsd_integer, xsd_boolean};
 
@@ -54,7 +54,7 @@ pub(crate) fn plain(alloc: Global, form: Text) -> Result<Option<Lit>, QFault>
     ensures { Gives (Ok (Some (typed form xsd_string))) result }
 {
     match Iri::parse(alloc, XSD_STRING) {
-        Ok(datatype) => unless_refused(Lit::typed(form, datatype)),
+        Ok(datatype) => unless_refused(Lit::typed(alloc, form, datatype)),
         Err(_) => Err(QFault::Memory),
     }
 }
@@ -77,6 +77,14 @@ pub(crate) fn boolean(alloc: Global, value: bool) -> Result<Option<Lit>, QFault>
     ensures { Gives (Ok (Some (typed (Rattle.qs_names.specs.Names.boolean value) xsd_boolean))) result }
 {
     unless_refused(Lit::parse(alloc, boolean_form(value), XSD_BOOLEAN))
+}
+
+/// The literal of the form and the datatype, if that isn't rdf:langString.
+#[tactic(auto, using(crate::proofs::Literals::made))]
+pub(crate) fn with_datatype(alloc: Global, form: Text, datatype: Iri) -> Result<Option<Lit>, QFault>
+    ensures { Gives (Ok (result_ok (checked_typed form datatype))) result }
+{
+    unless_refused(Lit::typed(alloc, form, datatype))
 }
 
 /// The language-tagged string of the form, if the tag is one.

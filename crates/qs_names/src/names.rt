@@ -7,7 +7,7 @@ ghost use Rattle.std.specs.Str.{bytes_eq};
 ghost use Rattle.qs_names.specs.Gives.{Gives, Becomes};
 
 use crate::iri::{expanded, full_iri, parted, rdf_type};
-use crate::literal::{boolean, integer, plain, string, tagged};
+use crate::literal::{boolean, integer, plain, string, tagged, with_datatype};
 use crate::number::decimal;
 use crate::piece::{before_end, behind, whole};
 use qs_ast::term::Variable;
@@ -160,7 +160,7 @@ impl<'a> Names<'a> {
             Some(Annotation::Tag(span)) => { tagged(self.alloc, form, behind(self.text, span, 1)) }
             Some(Annotation::Datatype(iri)) => {
                 let datatype = self.iri(iri)?;
-                Ok(Lit::typed(form, datatype).ok())
+                with_datatype(self.alloc, form, datatype)
             }
         }
     }

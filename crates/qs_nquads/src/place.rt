@@ -75,7 +75,7 @@ fn plain(alloc: Global, form: Text) -> Result<Lit, NqFaultKind>
         Ok(datatype) => datatype,
         Err(_) => return Err(NqFaultKind::Memory),
     };
-    match Lit::typed(form, datatype) {
+    match Lit::typed(alloc, form, datatype) {
         Ok(literal) => Ok(literal),
         Err(_) => Err(NqFaultKind::Memory),
     }
@@ -155,14 +155,21 @@ fn at_form(
     }
 }
 
-fn at_typed(subject: Node, predicate: Iri, form: Text, part: Part) -> Result<Next, NqFaultKind>
-    ensures { result ≡ Rattle.qs_nquads.specs.Place.at_typed subject predicate form part }
+fn at_typed(
+    alloc: Global,
+    subject: Node,
+    predicate: Iri,
+    form: Text,
+    part: Part,
+) -> Result<Next, NqFaultKind>
+    ensures { Gives (Rattle.qs_nquads.specs.Place.at_typed subject predicate form part) result }
 {
     match part {
-        Part::Iri(datatype) => match Lit::typed(form, datatype) {
+        Part::Iri(datatype) => match Lit::typed(alloc, form, datatype) {
             Ok(literal) => {
                 Ok(Next::Place(Place::Object(subject, predicate, Term::Literal(literal))))
             }
+            Err(TermFault::Memory) => Err(NqFaultKind::Memory),
             Err(_) => Err(NqFaultKind::Literal),
         },
         _ => Err(NqFaultKind::Shape),
@@ -206,7 +213,7 @@ pub fn after(alloc: Global, place: Place, part: Part) -> Result<Next, NqFaultKin
         Place::Subject(subject) => at_subject(subject, part),
         Place::Predicate(subject, predicate) => at_predicate(subject, predicate, part),
         Place::Form(subject, predicate, form) => at_form(alloc, subject, predicate, form, part),
-        Place::Typed(subject, predicate, form) => at_typed(subject, predicate, form, part),
+        Place::Typed(subject, predicate, form) => at_typed(alloc, subject, predicate, form, part),
         Place::Object(subject, predicate, object) => { at_object(subject, predicate, object, part) }
         Place::Label(subject, predicate, object, name) => {
             at_label(subject, predicate, object, name, part)

@@ -8,6 +8,7 @@
 //! `Statement.antt`, bags in `Bag.antt`, names and nodes in `Dataset.antt`, devices in `Device.antt`.
 #![tactic(auto)]
 
+mod boxed;
 pub mod dataset;
 pub mod device;
 mod fault;

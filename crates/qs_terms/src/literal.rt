@@ -3,10 +3,11 @@
 ghost use Rattle.std.specs.Prelude.{◌≡◌, ◌↔◌, IfOk, IsTrue, Some, None};
 ghost use Rattle.std.specs.Option.{option_copied};
 ghost use Rattle.std.specs.Str.{bytes_eq};
-ghost use Rattle.qs_terms.specs.Literal.{rdf_lang_string, checked_typed, checked_parts, checked_tagged, is_literal};
+ghost use Rattle.qs_terms.specs.Literal.{rdf_lang_string, checked_typed, checked_parts, checked_tagged, is_literal, fits_tag};
 ghost use Rattle.qs_terms.specs.Iri.{checked_iri};
 ghost use Rattle.qs_terms.specs.OrMemory.{OrMemory};
 
+use crate::boxed::Boxed;
 use crate::fault::TermFault;
 use crate::iri::{Iri, check as check_iri};
 use crate::tag::is_tag;
@@ -17,16 +18,15 @@ use std::marker::Model;
 /// The datatype of the literals with a language tag (RDF 1.1 Concepts, 3.3).
 const RDF_LANG_STRING: &str = "http://www.w3.org/1999/02/22-rdf-syntax-ns#langString";
 
-/// A literal: its lexical form, its datatype and, if it is a language-tagged string, its tag in lower case
-/// (RDF 1.1 Concepts, 3.3). Its datatype is rdf:langString exactly where it has a tag.
+/// The parts of a literal.
 #[derive(Debug, Drop, PartialEq, Eq, PartialOrd, Ord, Hash)]
-pub struct Lit {
+struct Parts {
     form: Text,
     datatype: Text,
     tag: Option<Text>,
 }
 
-impl Model for Lit {
+impl Model for Parts {
     ghost use Rattle.std.specs.Prelude.{IsTrue};
     ghost use Rattle.qs_terms.specs.Literal.{Literal, fits_tag};
 
@@ -37,6 +37,24 @@ impl Model for Lit {
     ghost invariant = { λ l. IsTrue (fits_tag l.datatype l.tag) };
 
     ghost inverse = { λ l. record { form = l.form; datatype = l.datatype; tag = l.tag } };
+}
+
+/// A literal: its lexical form, its datatype and, if it is a language-tagged string, its tag in lower case
+/// (RDF 1.1 Concepts, 3.3). Its datatype is rdf:langString exactly where it has a tag. The parts stand behind a pointer, so
+/// that a term of any kind is small.
+#[derive(Debug, Drop, PartialEq, Eq, PartialOrd, Ord, Hash)]
+pub struct Lit {
+    parts: Boxed<Parts>,
+}
+
+impl Model for Lit {
+    ghost use Rattle.qs_terms.specs.Literal.{Literal};
+
+    ghost Value = { Literal };
+
+    ghost view = { λ l. l.parts };
+
+    ghost inverse = { λ l. record { parts = l } };
 }
 
 #[tactic(auto, unfolding(crate::specs::Literal::rdf_lang_string))]
@@ -54,18 +72,35 @@ fn lang_string(alloc: Global) -> Result<Text, AllocError>
 }
 
 impl Lit {
-    /// The literal of a form and a datatype other than rdf:langString, without taking memory.
-    pub fn typed(form: Text, datatype: Iri) -> Result<Lit, TermFault>
-        ensures { result ≡ checked_typed form datatype }
+    // The literal of its parts.
+    fn of_parts(
+        alloc: Global,
+        form: Text,
+        datatype: Text,
+        tag: Option<Text>,
+    ) -> Result<Lit, AllocError>
+        requires { IsTrue (fits_tag datatype tag) }
+        ensures { IfOk result (λ l. l ≡ record { form = form; datatype = datatype; tag = tag }) }
+    {
+        let parts = Boxed::new(
+            alloc,
+            Parts {
+                form,
+                datatype,
+                tag,
+            },
+        )?;
+        Ok(Lit { parts })
+    }
+
+    /// The literal of a form and a datatype other than rdf:langString. A refusal takes no memory.
+    pub fn typed(alloc: Global, form: Text, datatype: Iri) -> Result<Lit, TermFault>
+        ensures { OrMemory result (checked_typed form datatype) }
     {
         if is_lang_string(datatype.text()) {
             return Err(TermFault::BadDatatype);
         }
-        Ok(Lit {
-            form,
-            datatype: datatype.into_text(),
-            tag: None,
-        })
+        Ok(Lit::of_parts(alloc, form, datatype.into_text(), None)?)
     }
 
     /// The language-tagged string of a form and a tag, which is put into lower case.
@@ -78,11 +113,7 @@ impl Lit {
         let datatype = lang_string(alloc)?;
         let mut tag = tag;
         tag.make_ascii_lowercase();
-        Ok(Lit {
-            form,
-            datatype,
-            tag: Some(tag),
-        })
+        Ok(Lit::of_parts(alloc, form, datatype, Some(tag))?)
     }
 
     /// The literal of copies of a form and of a datatype's IRI. A refusal of the texts takes no memory.
@@ -95,11 +126,7 @@ impl Lit {
         }
         let form = Text::new(alloc, form)?;
         let datatype = Text::new(alloc, datatype)?;
-        Ok(Lit {
-            form,
-            datatype,
-            tag: None,
-        })
+        Ok(Lit::of_parts(alloc, form, datatype, None)?)
     }
 
     /// The language-tagged string of copies of a form and a tag. A refusal of the tag takes no memory.
@@ -119,21 +146,21 @@ impl Lit {
         ensures form { result.now ≡ self.now.form }
         ensures lawful { IsTrue (is_literal self.now) }
     {
-        self.form.as_str()
+        self.parts.get().form.as_str()
     }
 
     /// The datatype's IRI.
     pub fn datatype(&self) -> &str
         ensures { result.now ≡ self.now.datatype }
     {
-        self.datatype.as_str()
+        self.parts.get().datatype.as_str()
     }
 
     /// The language tag in lower case, without its `@`, if the literal has one.
     pub fn tag(&self) -> Option<&str>
         ensures { option_copied result ≡ self.now.tag }
     {
-        match &self.tag {
+        match &self.parts.get().tag {
             None => None,
             Some(tag) => Some(tag.as_str()),
         }
@@ -150,16 +177,13 @@ impl Lit {
     pub fn try_clone(&self, alloc: Global) -> Result<Lit, AllocError>
         ensures { IfOk result (λ l. l ≡ self.now) }
     {
-        let form = self.form.try_clone(alloc)?;
-        let datatype = self.datatype.try_clone(alloc)?;
-        let tag = match &self.tag {
+        let parts = self.parts.get();
+        let form = parts.form.try_clone(alloc)?;
+        let datatype = parts.datatype.try_clone(alloc)?;
+        let tag = match &parts.tag {
             None => None,
             Some(tag) => Some(tag.try_clone(alloc)?),
         };
-        Ok(Lit {
-            form,
-            datatype,
-            tag,
-        })
+        Lit::of_parts(alloc, form, datatype, tag)
     }
 }

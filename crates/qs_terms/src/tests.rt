@@ -105,7 +105,7 @@ fn is_literal(made: Result<Lit, TermFault>, form: &str, datatype: &str, tag: Opt
 fn make_typed(alloc: Global, datatype: &str) -> Result<Lit, TermFault> {
     let form = Text::new(alloc, "01")?;
     let datatype = Iri::parse(alloc, datatype)?;
-    Lit::typed(form, datatype)
+    Lit::typed(alloc, form, datatype)
 }
 
 #[test]
