@@ -1,4 +1,4 @@
-// The same work as crates/bench_dict in plain Rust, over std's HashMap from a term to its number: look up by reference, and put a
+// The same work as crates/bench/src/dict in plain Rust, over std's HashMap from a term to its number: look up by reference, and put a
 // clone in where the term is new. It can't give the term of a number back.
 use std::collections::HashMap;
 use std::time::Instant;

@@ -6,7 +6,7 @@ use qs_tree::expression::{BinaryFunction, Comparison, Sign, UnaryFunction};
 use sqlite_items::{Boxed, Items};
 
 #[cycle(expression)]
-#[derive(Debug, Drop)]
+#[derive(Drop)]
 pub enum Expression {
     Variable(Variable),
     Iri(Iri),
@@ -35,7 +35,7 @@ pub enum Expression {
 
 /// A further operand of a sum.
 #[cycle(expression)]
-#[derive(Debug, Drop)]
+#[derive(Drop)]
 pub struct Addend {
     pub sign: Sign,
     pub operand: Expression,

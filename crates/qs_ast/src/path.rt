@@ -5,14 +5,14 @@ use qs_tree::path::Repetition;
 use sqlite_items::{Boxed, Items};
 
 /// A member of a negated property set.
-#[derive(Debug, Drop)]
+#[derive(Drop)]
 pub struct NegatedIri {
     /// Whether `^` stands before it.
     pub inverse: bool,
     pub iri: Iri,
 }
 
-#[derive(Debug, Drop)]
+#[derive(Drop)]
 pub enum Path {
     Iri(Iri),
     /// `!`

@@ -8,7 +8,7 @@ use qs_terms::{Iri, Term};
 use sqlite_items::Items;
 
 /// What stands between a subject and an object.
-#[derive(Debug, Drop)]
+#[derive(Drop)]
 pub enum Verb {
     Variable(Variable),
     Iri(Iri),
@@ -17,7 +17,7 @@ pub enum Verb {
 }
 
 /// A triple. Those that are written with one subject, or with one verb, have it in common.
-#[derive(Debug, Drop)]
+#[derive(Drop)]
 pub struct Triple {
     pub subject: Shared<TermPattern>,
     pub verb: Shared<Verb>,
@@ -26,14 +26,14 @@ pub struct Triple {
 
 /// `{ .. }`: its patterns in the order of the text, and its filters, which apply to the whole group.
 #[cycle(group)]
-#[derive(Debug, Drop)]
+#[derive(Drop)]
 pub struct Group {
     pub patterns: Items<GraphPattern>,
     pub filters: Items<Expression>,
 }
 
 #[cycle(group)]
-#[derive(Debug, Drop)]
+#[derive(Drop)]
 pub enum GraphPattern {
     /// The triples of a group that have nothing but filters between them, in the order of the text.
     Triples(Items<Triple>),
@@ -47,7 +47,7 @@ pub enum GraphPattern {
 }
 
 /// The table of VALUES.
-#[derive(Debug, Drop)]
+#[derive(Drop)]
 pub struct InlineData {
     pub variables: Items<Variable>,
     /// None is UNDEF.

@@ -6,7 +6,7 @@ use crate::term::Variable;
 use qs_tree::query::{Direction, Duplicates};
 use sqlite_items::Items;
 
-#[derive(Debug, Drop)]
+#[derive(Drop)]
 pub struct Query {
     pub form: QueryForm,
     /// The trailing VALUES.
@@ -15,14 +15,14 @@ pub struct Query {
     pub variables: Items<Variable>,
 }
 
-#[derive(Debug, Drop)]
+#[derive(Drop)]
 pub enum QueryForm {
     Select(Select),
     Construct(Construct),
     Ask(Ask),
 }
 
-#[derive(Debug, Drop)]
+#[derive(Drop)]
 pub struct Select {
     pub duplicates: Duplicates,
     pub projection: Projection,
@@ -30,21 +30,21 @@ pub struct Select {
     pub modifiers: SolutionModifiers,
 }
 
-#[derive(Debug, Drop)]
+#[derive(Drop)]
 pub enum Projection {
     /// `*`
     All,
     Items(Items<SelectItem>),
 }
 
-#[derive(Debug, Drop)]
+#[derive(Drop)]
 pub enum SelectItem {
     Variable(Variable),
     /// `( .. AS .. )`
     As(Expression, Variable),
 }
 
-#[derive(Debug, Drop)]
+#[derive(Drop)]
 pub struct Construct {
     pub template: Items<Triple>,
     /// None in the short form, where the template is the pattern too.
@@ -52,13 +52,13 @@ pub struct Construct {
     pub modifiers: SolutionModifiers,
 }
 
-#[derive(Debug, Drop)]
+#[derive(Drop)]
 pub struct Ask {
     pub pattern: Group,
     pub modifiers: SolutionModifiers,
 }
 
-#[derive(Debug, Drop)]
+#[derive(Drop)]
 pub struct SolutionModifiers {
     pub order: Items<OrderCondition>,
     /// A count past 64 bits is the greatest.
@@ -66,7 +66,7 @@ pub struct SolutionModifiers {
     pub offset: Option<u64>,
 }
 
-#[derive(Debug, Drop)]
+#[derive(Drop)]
 pub struct OrderCondition {
     pub direction: Direction,
     pub key: Expression,

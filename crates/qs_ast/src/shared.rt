@@ -3,7 +3,6 @@
 ghost use Rattle.std.specs.Prelude.{◌≡◌, IfOk};
 
 use std::alloc::{AllocError, Global};
-use std::fmt;
 use std::marker::Model;
 use std::rc::Rc;
 
@@ -45,12 +44,5 @@ impl<T: Drop> Shared<T> {
         Ok(Shared {
             inner: self.inner.clone()?,
         })
-    }
-}
-
-// as the value
-impl<T: fmt::Debug> fmt::Debug for Shared<T> {
-    fn fmt<W: fmt::Write>(&self, f: &mut fmt::Formatter<W>) -> fmt::Result {
-        self.inner.fmt(f)
     }
 }

@@ -6,13 +6,13 @@ use qs_terms::{Iri, Lit, Text};
 use std::alloc::{AllocError, Global};
 
 /// A variable, by its name without the `?` or `$`.
-#[derive(Debug, Drop)]
+#[derive(Drop)]
 pub struct Variable {
     pub name: Text,
 }
 
 /// A blank node of a text (SPARQL 1.1 Query, 4.1.4).
-#[derive(Debug, Drop)]
+#[derive(Drop)]
 pub enum BlankNode {
     /// By its label, without the `_:`.
     Label(Text),
@@ -33,7 +33,7 @@ impl BlankNode {
 }
 
 /// A subject or an object.
-#[derive(Debug, Drop)]
+#[derive(Drop)]
 pub enum TermPattern {
     Variable(Variable),
     Iri(Iri),
@@ -58,7 +58,7 @@ impl TermPattern {
 }
 
 /// The name of a graph.
-#[derive(Debug, Drop)]
+#[derive(Drop)]
 pub enum VarOrIri {
     Variable(Variable),
     Iri(Iri),

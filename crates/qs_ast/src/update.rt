@@ -6,12 +6,12 @@ use qs_terms::Iri;
 use qs_tree::update::OnMissing;
 use sqlite_items::Items;
 
-#[derive(Debug, Drop)]
+#[derive(Drop)]
 pub struct Update {
     pub operations: Items<Operation>,
 }
 
-#[derive(Debug, Drop)]
+#[derive(Drop)]
 pub enum Operation {
     InsertData(Items<QuadBlock>),
     DeleteData(Items<QuadBlock>),
@@ -26,14 +26,14 @@ pub enum Operation {
 }
 
 /// Triples of the default graph, or of the graph that is named.
-#[derive(Debug, Drop)]
+#[derive(Drop)]
 pub struct QuadBlock {
     pub graph: Option<VarOrIri>,
     pub triples: Items<Triple>,
 }
 
 /// DELETE and INSERT with a WHERE.
-#[derive(Debug, Drop)]
+#[derive(Drop)]
 pub struct Modify {
     pub with: Option<Iri>,
     pub delete: Items<QuadBlock>,
@@ -41,7 +41,7 @@ pub struct Modify {
     pub pattern: Group,
 }
 
-#[derive(Debug, Drop)]
+#[derive(Drop)]
 pub enum GraphTarget {
     Graph(Iri),
     Default,
@@ -49,13 +49,13 @@ pub enum GraphTarget {
     All,
 }
 
-#[derive(Debug, Drop)]
+#[derive(Drop)]
 pub enum GraphOrDefault {
     Default,
     Graph(Iri),
 }
 
-#[derive(Debug, Drop)]
+#[derive(Drop)]
 pub struct Transfer {
     pub on_missing: OnMissing,
     pub from: GraphOrDefault,

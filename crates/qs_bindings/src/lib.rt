@@ -3,15 +3,9 @@
 
 mod certain_variables;
 mod flags;
-#[cfg(test)]
-mod growth;
 pub mod laws;
-#[cfg(test)]
-mod made;
 mod mentioned;
 mod possible_variables;
-#[cfg(test)]
-mod tests;
 
 pub use certain_variables::certain;
 pub use possible_variables::possible;

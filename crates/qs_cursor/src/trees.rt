@@ -4,6 +4,7 @@ ghost use Rattle.std.specs.Prelude.{◌≡◌, [], ◌∷◌, IfOk, OnOk};
 ghost use Rattle.qs_grammar.specs.Repeated.{keep};
 ghost use Rattle.qs_tree.specs.Trees.{path_chain, chain, sum, repeated, inverted, singles, related};
 
+use qs_beside::{boxed_three, boxed_two};
 use qs_tree::expression::{
     Addend, BinaryFunction, Call, Expression, Operand, Relation, UnaryFunction,
 };
@@ -156,10 +157,8 @@ pub fn conditional(
 ) -> Result<Call, AllocError>
     ensures { IfOk result (λ c. c ≡ Call.If arguments.0.0 arguments.0.1 arguments.1) }
 {
-    let ((test, then), otherwise) = arguments;
-    let test = Boxed::new(alloc, test)?;
-    let then = Boxed::new(alloc, then)?;
-    Ok(Call::If(test, then, Boxed::new(alloc, otherwise)?))
+    let ((test, then), otherwise) = boxed_three(alloc, arguments)?;
+    Ok(Call::If(test, then, otherwise))
 }
 
 /// A call of a function of one argument.
@@ -181,9 +180,8 @@ pub fn binary_call(
 ) -> Result<Call, AllocError>
     ensures { IfOk result (λ c. c ≡ Call.Binary function arguments.0 arguments.1) }
 {
-    let (first, second) = arguments;
-    let first = Boxed::new(alloc, first)?;
-    Ok(Call::Binary(function, first, Boxed::new(alloc, second)?))
+    let (first, second) = boxed_two(alloc, arguments)?;
+    Ok(Call::Binary(function, first, second))
 }
 
 /// A comparison, or the operand alone.
@@ -197,14 +195,12 @@ pub fn related(
     let Some(relation) = relation else {
         return Ok(first);
     };
-    let first = Boxed::new(alloc, first)?;
     match relation {
-        Relation::Compared(comparison, second) => Ok(Expression::Compare(
-            comparison,
-            first,
-            Boxed::new(alloc, second)?,
-        )),
-        Relation::Among(list) => Ok(Expression::In(first, list)),
-        Relation::NotAmong(list) => Ok(Expression::NotIn(first, list)),
+        Relation::Compared(comparison, second) => {
+            let (first, second) = boxed_two(alloc, (first, second))?;
+            Ok(Expression::Compare(comparison, first, second))
+        }
+        Relation::Among(list) => Ok(Expression::In(Boxed::new(alloc, first)?, list)),
+        Relation::NotAmong(list) => Ok(Expression::NotIn(Boxed::new(alloc, first)?, list)),
     }
 }

@@ -3,10 +3,6 @@
 
 mod dict;
 mod fault;
-#[cfg(test)]
-mod growth;
-#[cfg(test)]
-mod tests;
 
 pub use dict::Dict;
 pub use fault::DictFault;

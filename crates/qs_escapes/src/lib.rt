@@ -7,8 +7,3 @@ pub mod escape;
 pub mod piece;
 
 pub use crate::escape::Escapes;
-
-#[cfg(test)]
-mod growth;
-#[cfg(test)]
-mod tests;

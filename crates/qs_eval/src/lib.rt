@@ -5,8 +5,6 @@ mod basic;
 mod evaluate;
 mod extend;
 mod quads;
-#[cfg(test)]
-mod tests;
 
 pub use evaluate::solutions;
 pub use quads::Quads;

@@ -10,8 +10,6 @@ mod bytes;
 mod checks;
 mod conclude;
 mod fixed_reply;
-#[cfg(test)]
-mod growth;
 mod head;
 mod head_end;
 mod laws;
@@ -21,8 +19,6 @@ mod replies;
 mod request;
 mod session;
 mod stage;
-#[cfg(test)]
-mod tests;
 
 pub use fixed_reply::Fixed;
 pub use laws::{cuts_do_not_matter, requests_are_kept, requests_are_unique};

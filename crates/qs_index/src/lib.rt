@@ -3,8 +3,6 @@
 #![tactic(auto)]
 
 mod entry;
-#[cfg(test)]
-mod growth;
 mod index;
 pub mod order;
 pub mod order_scan;
@@ -12,8 +10,6 @@ pub mod pages;
 pub mod permutation;
 mod scan;
 mod search;
-#[cfg(test)]
-mod tests;
 
 pub use index::Index;
 pub use scan::Scan;

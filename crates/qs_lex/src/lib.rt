@@ -19,8 +19,3 @@ pub mod token;
 
 pub use crate::lexer::tokens;
 pub use crate::token::{Class, Token};
-
-#[cfg(test)]
-mod growth;
-#[cfg(test)]
-mod tests;

@@ -18,6 +18,3 @@ pub use crate::bracket::brackets;
 pub use crate::omitted::left_out;
 pub use crate::query::large_query;
 pub use crate::update::large_update;
-
-#[cfg(test)]
-mod tests;

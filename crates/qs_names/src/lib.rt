@@ -12,8 +12,3 @@ mod number;
 mod piece;
 
 pub use names::Names;
-
-#[cfg(test)]
-mod growth;
-#[cfg(test)]
-mod tests;

@@ -19,8 +19,3 @@ mod state;
 
 pub use crate::fault::{NqFault, NqFaultKind};
 pub use crate::nquads::read;
-
-#[cfg(test)]
-mod growth;
-#[cfg(test)]
-mod tests;

@@ -78,9 +78,12 @@ pub fn read(alloc: Global, bytes: &[u8], first_blank: u64) -> Result<(Vec<Quad>,
     let mut reader = Reader::new(alloc, first_blank);
     match read_text(&mut reader, text) {
         Ok(()) => Ok(reader.into_parts()),
-        Err(stop) => Err(NqFault {
-            line: line_at(bytes, bytes.len().saturating_sub(stop.left)),
-            kind: stop.kind,
-        }),
+        Err(stop) => {
+            drop(reader);
+            Err(NqFault {
+                line: line_at(bytes, bytes.len().saturating_sub(stop.left)),
+                kind: stop.kind,
+            })
+        }
     }
 }

@@ -33,10 +33,10 @@ impl Model for Reader {
     ghost view = { λ r. record { place = r.place; labels = r.labels; quads = r.quads.items } };
 }
 
-fn set(slot: &mut Place, place: Place)
-    ensures { slot.new ≡ place }
+fn set<T: Drop>(slot: &mut T, value: T)
+    ensures { slot.new ≡ value }
 {
-    *slot = place;
+    *slot = value;
 }
 
 impl Reader {
@@ -90,7 +90,15 @@ impl Reader {
         ensures quads { result.0.items ≡ self.quads }
         ensures next { result.1 ≡ self.labels.next }
     {
-        let next = self.labels.next();
-        (self.quads, next)
+        let Reader {
+            alloc: _,
+            place,
+            labels,
+            quads,
+        } = self;
+        let next = labels.next();
+        drop(place);
+        drop(labels);
+        (quads, next)
     }
 }

@@ -5,6 +5,7 @@ ghost use Rattle.qs_grammar.specs.Reading.{Reads};
 ghost use Rattle.qs_tree.specs.Rules as rules;
 ghost use Rattle.qs_tree.specs.Table.{grammar};
 
+use qs_beside::beside;
 use qs_cursor::kinds::VALUES;
 use qs_cursor::parser::Parser;
 use qs_cursor::tokens::Tokens;
@@ -127,7 +128,7 @@ fn table(parser: Parser, tokens: &mut Tokens<'_>) -> Result<InlineData, Fault>
     ensures { Reads (read grammar parser.depth rules.table tokens.old) result tokens.new }
 {
     let variables = variable_list(parser, tokens)?;
-    let rows = row_block(parser, tokens)?;
+    let (variables, rows) = beside(variables, row_block(parser, tokens))?;
     Ok(InlineData { variables, rows })
 }
 

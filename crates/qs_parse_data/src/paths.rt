@@ -8,6 +8,7 @@ ghost use Rattle.qs_tree.specs.Rules as rules;
 ghost use Rattle.qs_tree.specs.Sparql as name;
 ghost use Rattle.qs_tree.specs.Table.{grammar};
 
+use qs_beside::beside;
 use qs_cursor::parser::Parser;
 use qs_cursor::tokens::Tokens;
 use qs_cursor::trees::{all_of, alternative, invert, repeat, sequence};
@@ -146,7 +147,7 @@ fn path_element(parser: Parser, tokens: &mut Tokens<'_>) -> Result<Path, Fault>
         tokens.expect(Kind::Caret)?;
     }
     let primary = path_primary(parser, tokens)?;
-    let repetition = repetition(parser, tokens)?;
+    let (primary, repetition) = beside(primary, repetition(parser, tokens))?;
     let path = repeat(parser.alloc, primary, repetition)?;
     Ok(invert(parser.alloc, inverse, path)?)
 }
@@ -175,7 +176,7 @@ fn path_sequence(parser: Parser, tokens: &mut Tokens<'_>) -> Result<Path, Fault>
 {
     let place = tokens.place();
     let path = path_element(parser, tokens)?;
-    let others = more_elements(parser, tokens)?;
+    let (path, others) = beside(path, more_elements(parser, tokens))?;
     Ok(sequence(parser.alloc, PathOperand { place, path }, others)?)
 }
 
@@ -204,7 +205,7 @@ pub fn alternatives(parser: Parser, tokens: &mut Tokens<'_>) -> Result<Path, Fau
 {
     let place = tokens.place();
     let path = path_sequence(parser, tokens)?;
-    let others = more_sequences(parser, tokens)?;
+    let (path, others) = beside(path, more_sequences(parser, tokens))?;
     Ok(alternative(parser.alloc, PathOperand { place, path }, others)?)
 }
 

@@ -6,6 +6,7 @@ ghost use Rattle.qs_tree.specs.Rules as rules;
 ghost use Rattle.qs_tree.specs.Table.{grammar};
 
 use crate::triples::{template_braces, triples};
+use qs_beside::beside;
 use qs_cursor::kinds::NODES;
 use qs_cursor::parser::Parser;
 use qs_cursor::tokens::Tokens;
@@ -53,7 +54,7 @@ fn dotted_graph(parser: Parser, tokens: &mut Tokens<'_>) -> Result<QuadElement, 
 {
     let element = quads_graph(parser, tokens)?;
     if tokens.begins(&[Kind::Dot]) {
-        tokens.expect(Kind::Dot)?;
+        return tokens.closing(element, Kind::Dot);
     }
     Ok(element)
 }
@@ -63,7 +64,7 @@ fn quads_step(parser: Parser, tokens: &mut Tokens<'_>) -> Result<Items<QuadEleme
     ensures { Reads (read grammar parser.depth rules.quads_step tokens.old) result tokens.new }
 {
     let first = dotted_graph(parser, tokens)?;
-    let block = quads_block(parser, tokens)?;
+    let (first, block) = beside(first, quads_block(parser, tokens))?;
     Ok(all_of(parser.alloc, first, block)?)
 }
 
@@ -85,8 +86,8 @@ fn quads_steps(parser: Parser, tokens: &mut Tokens<'_>) -> Result<Items<QuadElem
 fn quads_elements(parser: Parser, tokens: &mut Tokens<'_>) -> Result<Items<QuadElement>, Fault>
     ensures { Reads (read grammar parser.depth rules.quads_elements tokens.old) result tokens.new }
 {
-    let mut found = quads_block(parser, tokens)?;
-    let others = quads_steps(parser, tokens)?;
+    let block = quads_block(parser, tokens)?;
+    let (mut found, others) = beside(block, quads_steps(parser, tokens))?;
     found.append(others)?;
     Ok(found)
 }
@@ -98,6 +99,6 @@ pub fn quads(parser: Parser, tokens: &mut Tokens<'_>) -> Result<QuadPattern, Fau
 {
     tokens.expect(Kind::LeftBrace)?;
     let elements = quads_elements(parser, tokens)?;
-    tokens.expect(Kind::RightBrace)?;
+    let elements = tokens.closing(elements, Kind::RightBrace)?;
     Ok(QuadPattern { elements })
 }

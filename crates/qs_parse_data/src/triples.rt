@@ -8,6 +8,7 @@ ghost use Rattle.qs_tree.specs.Sparql as name;
 ghost use Rattle.qs_tree.specs.Table.{grammar};
 
 use crate::paths::{alternatives, predicate};
+use qs_beside::beside;
 use qs_cursor::kinds::{NODES, TERMS, verbs};
 use qs_cursor::parser::Parser;
 use qs_cursor::tokens::Tokens;
@@ -62,7 +63,7 @@ fn object(parser: Parser, form: Form, tokens: &mut Tokens<'_>) -> Result<GraphNo
         return Ok(GraphNode::Term(Term::Anonymous));
     }
     let properties = properties(parser, form, tokens)?;
-    tokens.expect(Kind::RightBracket)?;
+    let properties = tokens.closing(properties, Kind::RightBracket)?;
     Ok(GraphNode::BlankNodePropertyList(properties))
 }
 
@@ -92,7 +93,7 @@ fn objects(parser: Parser, form: Form, tokens: &mut Tokens<'_>) -> Result<Items<
     ensures { Reads (read grammar parser.depth (rules.objects form) tokens.old) result tokens.new }
 {
     let first = object(parser, form, tokens)?;
-    let others = more_objects(parser, form, tokens)?;
+    let (first, others) = beside(first, more_objects(parser, form, tokens))?;
     Ok(all_of(parser.alloc, first, others)?)
 }
 
@@ -102,7 +103,7 @@ fn property(parser: Parser, form: Form, tokens: &mut Tokens<'_>) -> Result<Prope
     ensures { Reads (read grammar parser.depth (rules.property form) tokens.old) result tokens.new }
 {
     let verb = verb(parser, form, tokens)?;
-    let objects = objects(parser, form, tokens)?;
+    let (verb, objects) = beside(verb, objects(parser, form, tokens))?;
     Ok(Property { verb, objects })
 }
 
@@ -151,7 +152,7 @@ fn property_list(
     ensures { Reads (read grammar parser.depth (rules.properties_rule form) tokens.old) result tokens.new }
 {
     let first = property(parser, form, tokens)?;
-    let others = more_properties(parser, form, tokens)?;
+    let (first, others) = beside(first, more_properties(parser, form, tokens))?;
     Ok(all_of(parser.alloc, first, others)?)
 }
 
@@ -191,11 +192,12 @@ fn property_subject(
     ensures { Reads (read grammar parser.depth (rules.property_subject form) tokens.old) result tokens.new }
 {
     let own = properties(parser, form, tokens)?;
-    tokens.expect(Kind::RightBracket)?;
-    let mut others = Items::new(parser.alloc);
-    if tokens.begins(verbs(form)) {
-        others = properties(parser, form, tokens)?;
-    }
+    let own = tokens.closing(own, Kind::RightBracket)?;
+    let (own, others) = if tokens.begins(verbs(form)) {
+        beside(own, properties(parser, form, tokens))?
+    } else {
+        (own, Items::new(parser.alloc))
+    };
     Ok(TriplesSameSubject {
         subject: GraphNode::BlankNodePropertyList(own),
         properties: others,
@@ -226,10 +228,10 @@ fn same_subject(
     ensures { Reads (read grammar parser.depth (rules.same_subject form) tokens.old) result tokens.new }
 {
     if tokens.begins(&TERMS) {
-        let subject = GraphNode::Term(parser.term(tokens)?);
+        let subject = parser.term(tokens)?;
         let properties = properties(parser, form, tokens)?;
         return Ok(TriplesSameSubject {
-            subject,
+            subject: GraphNode::Term(subject),
             properties,
         });
     }

@@ -10,6 +10,7 @@ ghost use Rattle.qs_tree.specs.Rules as rules;
 ghost use Rattle.qs_tree.specs.Sparql as name;
 ghost use Rattle.qs_tree.specs.Table.{grammar};
 
+use qs_beside::beside;
 use qs_cursor::kinds::{CALLS, COMPARISONS, EXPRESSIONS, RELATIONS, UNARY_FUNCTIONS};
 use qs_cursor::parser::Parser;
 use qs_cursor::tokens::Tokens;
@@ -62,7 +63,7 @@ impl<F: Fn(Parser, &mut Tokens<'_>) -> Result<Expression, Fault>> Operators<F> {
         ensures { Reads (read grammar self.now.parser.depth rules.two_expressions tokens.old) result tokens.new }
     {
         let first = self.expression(tokens)?;
-        Ok((first, self.next_argument(tokens)?))
+        beside(first, self.next_argument(tokens))
     }
 
     #[tactic(auto, unfolding(qs_tree::specs::Rules::three_expressions))]
@@ -74,7 +75,7 @@ impl<F: Fn(Parser, &mut Tokens<'_>) -> Result<Expression, Fault>> Operators<F> {
         ensures { Reads (read grammar self.now.parser.depth rules.three_expressions tokens.old) result tokens.new }
     {
         let two = self.two_expressions(tokens)?;
-        Ok((two, self.next_argument(tokens)?))
+        beside(two, self.next_argument(tokens))
     }
 
     #[tactic(auto, unfolding(qs_tree::specs::Rules::two_arguments))]
@@ -124,7 +125,7 @@ impl<F: Fn(Parser, &mut Tokens<'_>) -> Result<Expression, Fault>> Operators<F> {
         let mut found = Items::new(self.parser.alloc);
         if tokens.begins(&EXPRESSIONS) {
             let first = self.expression(tokens)?;
-            let others = self.more_expressions(tokens)?;
+            let (first, others) = beside(first, self.more_expressions(tokens))?;
             found = all_of(self.parser.alloc, first, others)?;
         }
         tokens.closing(found, Kind::RightParen)
@@ -223,7 +224,7 @@ impl<F: Fn(Parser, &mut Tokens<'_>) -> Result<Expression, Fault>> Operators<F> {
     {
         let place = tokens.place();
         let expression = self.unary(tokens)?;
-        let others = self.more_factors(tokens)?;
+        let (expression, others) = beside(expression, self.more_factors(tokens))?;
         Ok(product(self.parser.alloc, Operand { place, expression }, others)?)
     }
 
@@ -234,8 +235,8 @@ impl<F: Fn(Parser, &mut Tokens<'_>) -> Result<Expression, Fault>> Operators<F> {
     {
         let place = tokens.place();
         let signed = tokens.expect(Kind::Signed)?.span;
-        let expression = Expression::Literal(Literal::Integer(signed));
         let factors = self.more_factors(tokens)?;
+        let expression = Expression::Literal(Literal::Integer(signed));
         Ok(product(self.parser.alloc, Operand { place, expression }, factors)?)
     }
 
@@ -292,7 +293,7 @@ impl<F: Fn(Parser, &mut Tokens<'_>) -> Result<Expression, Fault>> Operators<F> {
     {
         let place = tokens.place();
         let expression = self.product(tokens)?;
-        let addends = self.addends(tokens)?;
+        let (expression, addends) = beside(expression, self.addends(tokens))?;
         Ok(sum(self.parser.alloc, Operand { place, expression }, addends)?)
     }
 
@@ -331,7 +332,7 @@ impl<F: Fn(Parser, &mut Tokens<'_>) -> Result<Expression, Fault>> Operators<F> {
         ensures { Reads (read grammar self.now.parser.depth rules.relational tokens.old) result tokens.new }
     {
         let first = self.additive(tokens)?;
-        let relation = self.relation_after(tokens)?;
+        let (first, relation) = beside(first, self.relation_after(tokens))?;
         Ok(related(self.parser.alloc, first, relation)?)
     }
 
@@ -359,7 +360,7 @@ impl<F: Fn(Parser, &mut Tokens<'_>) -> Result<Expression, Fault>> Operators<F> {
     {
         let place = tokens.place();
         let expression = self.relational(tokens)?;
-        let others = self.more_relationals(tokens)?;
+        let (expression, others) = beside(expression, self.more_relationals(tokens))?;
         Ok(and(self.parser.alloc, Operand { place, expression }, others)?)
     }
 
@@ -387,7 +388,7 @@ impl<F: Fn(Parser, &mut Tokens<'_>) -> Result<Expression, Fault>> Operators<F> {
     {
         let place = tokens.place();
         let expression = self.conjunction(tokens)?;
-        let others = self.more_conjunctions(tokens)?;
+        let (expression, others) = beside(expression, self.more_conjunctions(tokens))?;
         Ok(or(self.parser.alloc, Operand { place, expression }, others)?)
     }
 }

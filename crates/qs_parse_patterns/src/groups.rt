@@ -7,6 +7,7 @@ ghost use Rattle.qs_tree.specs.Rules as rules;
 ghost use Rattle.qs_tree.specs.Sparql as name;
 ghost use Rattle.qs_tree.specs.Table.{grammar};
 
+use qs_beside::beside;
 use qs_cursor::kinds::{ELEMENTS, NODES};
 use qs_cursor::parser::Parser;
 use qs_cursor::tokens::Tokens;
@@ -38,8 +39,8 @@ fn expression_as_var(parser: Parser, tokens: &mut Tokens<'_>) -> Result<(Express
     ensures { Reads (read grammar parser.depth rules.expression_as_var tokens.old) result tokens.new }
 {
     let expression = expression(parser, tokens)?;
-    tokens.expect(Kind::As)?;
-    Ok((expression, parser.var(tokens)?))
+    let expression = tokens.closing(expression, Kind::As)?;
+    beside(expression, parser.var(tokens))
 }
 
 /// `(e AS ?v)` ([9], [60]).
@@ -94,7 +95,7 @@ fn groups(parser: Parser, tokens: &mut Tokens<'_>) -> Result<Items<Group>, Fault
     ensures { Reads (read grammar parser.depth rules.groups tokens.old) result tokens.new }
 {
     let first = group(parser, tokens)?;
-    let others = more_groups(parser, tokens)?;
+    let (first, others) = beside(first, more_groups(parser, tokens))?;
     Ok(all_of(parser.alloc, first, others)?)
 }
 
@@ -137,9 +138,9 @@ fn dotted_element(parser: Parser, tokens: &mut Tokens<'_>) -> Result<Element, Fa
     ensures { Reads (read grammar parser.depth rules.dotted_element tokens.old) result tokens.new }
 {
     let place = tokens.place();
-    let pattern = element(parser, tokens)?;
+    let mut pattern = element(parser, tokens)?;
     if tokens.begins(&[Kind::Dot]) {
-        tokens.expect(Kind::Dot)?;
+        pattern = tokens.closing(pattern, Kind::Dot)?;
     }
     Ok(Element { place, pattern })
 }
@@ -150,7 +151,7 @@ fn group_step(parser: Parser, tokens: &mut Tokens<'_>) -> Result<Items<Element>,
     ensures { Reads (read grammar parser.depth rules.group_step tokens.old) result tokens.new }
 {
     let first = dotted_element(parser, tokens)?;
-    let block = block(parser, tokens)?;
+    let (first, block) = beside(first, block(parser, tokens))?;
     Ok(all_of(parser.alloc, first, block)?)
 }
 
@@ -174,8 +175,8 @@ fn group_steps(parser: Parser, tokens: &mut Tokens<'_>) -> Result<Items<Element>
 fn elements(parser: Parser, tokens: &mut Tokens<'_>) -> Result<Items<Element>, Fault>
     ensures { Reads (read grammar parser.depth rules.elements tokens.old) result tokens.new }
 {
-    let mut found = block(parser, tokens)?;
-    let others = group_steps(parser, tokens)?;
+    let first = block(parser, tokens)?;
+    let (mut found, others) = beside(first, group_steps(parser, tokens))?;
     found.append(others)?;
     Ok(found)
 }
@@ -188,7 +189,7 @@ fn braced_group(parser: Parser, tokens: &mut Tokens<'_>) -> Result<Group, Fault>
     let place = tokens.place();
     tokens.expect(Kind::LeftBrace)?;
     let elements = elements(parser, tokens)?;
-    tokens.expect(Kind::RightBrace)?;
+    let elements = tokens.closing(elements, Kind::RightBrace)?;
     Ok(Group { place, elements })
 }
 

@@ -6,6 +6,7 @@ ghost use Rattle.qs_tree.specs.Rules as rules;
 ghost use Rattle.qs_tree.specs.Table.{grammar};
 
 use crate::groups::constraint;
+use qs_beside::beside;
 use qs_cursor::kinds::{CONSTRAINTS, ORDERS};
 use qs_cursor::parser::Parser;
 use qs_cursor::tokens::Tokens;
@@ -71,7 +72,7 @@ fn order_list(parser: Parser, tokens: &mut Tokens<'_>) -> Result<Items<OrderCond
     ensures { Reads (read grammar parser.depth rules.order_list tokens.old) result tokens.new }
 {
     let first = order(parser, tokens)?;
-    let others = orders(parser, tokens)?;
+    let (first, others) = beside(first, orders(parser, tokens))?;
     Ok(all_of(parser.alloc, first, others)?)
 }
 
@@ -130,7 +131,7 @@ pub fn modifiers(parser: Parser, tokens: &mut Tokens<'_>) -> Result<SolutionModi
     ensures { Reads (read grammar parser.depth rules.modifiers tokens.old) result tokens.new }
 {
     let order = order_clause(parser, tokens)?;
-    let (limit, offset) = slice(parser, tokens)?;
+    let (order, (limit, offset)) = beside(order, slice(parser, tokens))?;
     Ok(SolutionModifiers {
         order,
         limit,

@@ -5,6 +5,7 @@ ghost use Rattle.qs_grammar.specs.Reading.{Reads};
 ghost use Rattle.qs_tree.specs.Rules as rules;
 ghost use Rattle.qs_tree.specs.Table.{grammar};
 
+use qs_beside::beside;
 use qs_cursor::parser::Parser;
 use qs_cursor::tokens::Tokens;
 use qs_cursor::trees::all_of;
@@ -102,7 +103,7 @@ fn projection(parser: Parser, tokens: &mut Tokens<'_>) -> Result<Projection, Fau
 {
     if tokens.begins(&[Kind::Var, Kind::LeftParen]) {
         let first = item(parser, tokens)?;
-        let others = items(parser, tokens)?;
+        let (first, others) = beside(first, items(parser, tokens))?;
         return Ok(Projection::Items(all_of(parser.alloc, first, others)?));
     }
     tokens.expect(Kind::Star)?;
@@ -126,15 +127,18 @@ fn where_modifiers(
     ensures { Reads (read grammar parser.depth rules.where_modifiers tokens.old) result tokens.new }
 {
     let pattern = where_clause(parser, tokens)?;
-    Ok((pattern, modifiers(parser, tokens)?))
+    beside(pattern, modifiers(parser, tokens))
 }
 
 #[tactic(auto, unfolding(qs_tree::specs::Rules::select))]
 fn select(parser: Parser, tokens: &mut Tokens<'_>) -> Result<Select, Fault>
     ensures { Reads (read grammar parser.depth rules.select tokens.old) result tokens.new }
 {
-    let (duplicates, projection) = select_clause(parser, tokens)?;
-    let (pattern, modifiers) = where_modifiers(parser, tokens)?;
+    let clause = select_clause(parser, tokens)?;
+    let ((duplicates, projection), (pattern, modifiers)) = beside(
+        clause,
+        where_modifiers(parser, tokens),
+    )?;
     Ok(Select {
         duplicates,
         projection,
@@ -148,7 +152,7 @@ fn long_construct(parser: Parser, tokens: &mut Tokens<'_>) -> Result<Construct, 
     ensures { Reads (read grammar parser.depth rules.long_construct tokens.old) result tokens.new }
 {
     let template = template_braces(parser, tokens)?;
-    let (pattern, modifiers) = where_modifiers(parser, tokens)?;
+    let (template, (pattern, modifiers)) = beside(template, where_modifiers(parser, tokens))?;
     Ok(Construct {
         template,
         pattern: Some(pattern),
@@ -162,7 +166,7 @@ fn short_construct(parser: Parser, tokens: &mut Tokens<'_>) -> Result<Construct,
 {
     tokens.expect(Kind::Where)?;
     let template = template_braces(parser, tokens)?;
-    let modifiers = modifiers(parser, tokens)?;
+    let (template, modifiers) = beside(template, modifiers(parser, tokens))?;
     Ok(Construct {
         template,
         pattern: None,
@@ -209,11 +213,13 @@ pub fn query(parser: Parser, tokens: &mut Tokens<'_>) -> Result<Query, Fault>
     ensures { Reads (read grammar parser.depth rules.query tokens.old) result tokens.new }
 {
     let prologue = prologue(parser, tokens)?;
-    let form = query_form(parser, tokens)?;
-    let mut values = None;
-    if tokens.begins(&[Kind::Values]) {
-        values = Some(data::values(parser, tokens)?);
-    }
+    let head = beside(prologue, query_form(parser, tokens))?;
+    let ((prologue, form), values) = if tokens.begins(&[Kind::Values]) {
+        let (head, values) = beside(head, data::values(parser, tokens))?;
+        (head, Some(values))
+    } else {
+        (head, None)
+    };
     Ok(Query {
         prologue,
         form,

@@ -9,6 +9,7 @@ ghost use Rattle.qs_tree.specs.Rules as rules;
 ghost use Rattle.qs_tree.specs.Table.{grammar};
 
 use crate::queries;
+use qs_beside::beside;
 use qs_cursor::kinds::OPERATIONS;
 use qs_cursor::parser::Parser;
 use qs_cursor::tokens::Tokens;
@@ -53,12 +54,12 @@ fn insert(parser: Parser, tokens: &mut Tokens<'_>) -> Result<Operation, Fault>
         tokens.expect(Kind::Data)?;
         return Ok(Operation::InsertData(quads(parser, tokens)?));
     }
-    let insert = Some(quads(parser, tokens)?);
-    let pattern = where_group(parser, tokens)?;
+    let insert = quads(parser, tokens)?;
+    let (insert, pattern) = beside(insert, where_group(parser, tokens))?;
     Ok(Operation::Modify(Modify {
         with: None,
         delete: None,
-        insert,
+        insert: Some(insert),
         pattern,
     }))
 }
@@ -76,12 +77,12 @@ fn delete(parser: Parser, tokens: &mut Tokens<'_>) -> Result<Operation, Fault>
         tokens.expect(Kind::Where)?;
         return Ok(Operation::DeleteWhere(quads(parser, tokens)?));
     }
-    let delete = Some(quads(parser, tokens)?);
-    let insert = insert_clause(parser, tokens)?;
-    let pattern = where_group(parser, tokens)?;
+    let delete = quads(parser, tokens)?;
+    let changes = beside(delete, insert_clause(parser, tokens))?;
+    let ((delete, insert), pattern) = beside(changes, where_group(parser, tokens))?;
     Ok(Operation::Modify(Modify {
         with: None,
-        delete,
+        delete: Some(delete),
         insert,
         pattern,
     }))
@@ -96,8 +97,9 @@ fn changes(
 {
     if tokens.begins(&[Kind::Delete]) {
         tokens.expect(Kind::Delete)?;
-        let delete = Some(quads(parser, tokens)?);
-        return Ok((delete, insert_clause(parser, tokens)?));
+        let delete = quads(parser, tokens)?;
+        let (delete, insert) = beside(delete, insert_clause(parser, tokens))?;
+        return Ok((Some(delete), insert));
     }
     tokens.expect(Kind::Insert)?;
     Ok((None, Some(quads(parser, tokens)?)))
@@ -115,11 +117,11 @@ fn with_clause(parser: Parser, tokens: &mut Tokens<'_>) -> Result<Iri, Fault>
 fn with_graph(parser: Parser, tokens: &mut Tokens<'_>) -> Result<Operation, Fault>
     ensures { Reads (read grammar parser.depth rules.with_graph tokens.old) result tokens.new }
 {
-    let with = Some(with_clause(parser, tokens)?);
-    let (delete, insert) = changes(parser, tokens)?;
-    let pattern = where_group(parser, tokens)?;
+    let with = with_clause(parser, tokens)?;
+    let changes = changes(parser, tokens)?;
+    let ((delete, insert), pattern) = beside(changes, where_group(parser, tokens))?;
     Ok(Operation::Modify(Modify {
-        with,
+        with: Some(with),
         delete,
         insert,
         pattern,

@@ -5,14 +5,14 @@ use qs_terms::Term;
 use sqlite_items::Items;
 
 /// What stands in one place of a triple pattern.
-#[derive(Debug, Drop)]
+#[derive(Drop)]
 pub enum Slot {
     Term(Term),
     Variable(usize),
 }
 
 /// A triple pattern (SPARQL 1.1 Query, 18.1.5).
-#[derive(Debug, Drop)]
+#[derive(Drop)]
 pub struct TriplePattern {
     pub subject: Slot,
     pub predicate: Slot,
@@ -20,7 +20,7 @@ pub struct TriplePattern {
 }
 
 /// A basic graph pattern (SPARQL 1.1 Query, 18.1.6).
-#[derive(Debug, Drop)]
+#[derive(Drop)]
 pub struct BasicPattern {
     pub triples: Items<TriplePattern>,
     /// How many numbers behind those of the named variables are for hidden ones.
@@ -28,7 +28,7 @@ pub struct BasicPattern {
 }
 
 /// A pattern (SPARQL 1.1 Query, 18.2).
-#[derive(Debug, Drop)]
+#[derive(Drop)]
 pub enum Pattern {
     Basic(BasicPattern),
     /// Of any number, from left to right. It is a list and no tree of pairs, so that a pattern is no deeper than the groups of its

@@ -19,25 +19,28 @@ impl<'a> Resolver<'a> {
         ensures { Resolves (spec.call_of call.now self.old) result self.new }
     {
         match call {
-            WrittenCall::Bound(span) => Ok(Expression::Bound(self.variable(*span)?)),
+            WrittenCall::Bound(span) => match self.variable(*span) {
+                Ok(found) => Ok(Expression::Bound(found)),
+                Err(fault) => Err(fault),
+            },
             WrittenCall::If(test, then, otherwise) => {
                 let test = self.boxed(alloc, test.get())?;
                 let then = self.boxed(alloc, then.get())?;
                 let otherwise = self.boxed(alloc, otherwise.get())?;
                 Ok(Expression::If(test, then, otherwise))
             }
-            WrittenCall::Coalesce(list) => {
-                let list = self.list(alloc, list.as_slice())?;
-                Ok(Expression::Coalesce(list))
-            }
-            WrittenCall::Concat(list) => {
-                let list = self.list(alloc, list.as_slice())?;
-                Ok(Expression::Concat(list))
-            }
-            WrittenCall::Unary(function, argument) => {
-                let argument = self.boxed(alloc, argument.get())?;
-                Ok(Expression::Unary(*function, argument))
-            }
+            WrittenCall::Coalesce(list) => match self.list(alloc, list.as_slice()) {
+                Ok(found) => Ok(Expression::Coalesce(found)),
+                Err(fault) => Err(fault),
+            },
+            WrittenCall::Concat(list) => match self.list(alloc, list.as_slice()) {
+                Ok(found) => Ok(Expression::Concat(found)),
+                Err(fault) => Err(fault),
+            },
+            WrittenCall::Unary(function, argument) => match self.boxed(alloc, argument.get()) {
+                Ok(found) => Ok(Expression::Unary(*function, found)),
+                Err(fault) => Err(fault),
+            },
             WrittenCall::Binary(function, first, second) => {
                 let first = self.boxed(alloc, first.get())?;
                 let second = self.boxed(alloc, second.get())?;
@@ -68,20 +71,33 @@ impl<'a> Resolver<'a> {
         ensures { Resolves (spec.expression_of expression.now self.old) result self.new }
     {
         match expression {
-            WrittenExpression::Var(span) => Ok(Expression::Variable(self.variable(*span)?)),
-            WrittenExpression::Iri(iri) => Ok(Expression::Iri(self.iri(*iri)?)),
-            WrittenExpression::Literal(literal) => Ok(Expression::Literal(self.literal(
-                alloc, *literal,
-            )?)),
+            WrittenExpression::Var(span) => match self.variable(*span) {
+                Ok(found) => Ok(Expression::Variable(found)),
+                Err(fault) => Err(fault),
+            },
+            WrittenExpression::Iri(iri) => match self.iri(*iri) {
+                Ok(found) => Ok(Expression::Iri(found)),
+                Err(fault) => Err(fault),
+            },
+            WrittenExpression::Literal(literal) => match self.literal(alloc, *literal) {
+                Ok(found) => Ok(Expression::Literal(found)),
+                Err(fault) => Err(fault),
+            },
             WrittenExpression::Call(call) => self.call(alloc, call),
-            WrittenExpression::Or(operands) => {
-                let operands = self.expression_operands(alloc, operands.as_slice())?;
-                Ok(Expression::Or(operands))
-            }
-            WrittenExpression::And(operands) => {
-                let operands = self.expression_operands(alloc, operands.as_slice())?;
-                Ok(Expression::And(operands))
-            }
+            WrittenExpression::Or(operands) => match self.expression_operands(
+                alloc,
+                operands.as_slice(),
+            ) {
+                Ok(found) => Ok(Expression::Or(found)),
+                Err(fault) => Err(fault),
+            },
+            WrittenExpression::And(operands) => match self.expression_operands(
+                alloc,
+                operands.as_slice(),
+            ) {
+                Ok(found) => Ok(Expression::And(found)),
+                Err(fault) => Err(fault),
+            },
             WrittenExpression::Compare(comparison, first, second) => {
                 let first = self.boxed(alloc, first.get())?;
                 let second = self.boxed(alloc, second.get())?;
@@ -102,18 +118,21 @@ impl<'a> Resolver<'a> {
                 let others = self.addends(alloc, others.as_slice())?;
                 Ok(Expression::Sum(first, others))
             }
-            WrittenExpression::Product(operands) => {
-                let operands = self.expression_operands(alloc, operands.as_slice())?;
-                Ok(Expression::Product(operands))
-            }
-            WrittenExpression::Not(operand) => {
-                let operand = self.boxed(alloc, operand.get())?;
-                Ok(Expression::Not(operand))
-            }
-            WrittenExpression::Signed(sign, operand) => {
-                let operand = self.boxed(alloc, operand.get())?;
-                Ok(Expression::Signed(*sign, operand))
-            }
+            WrittenExpression::Product(operands) => match self.expression_operands(
+                alloc,
+                operands.as_slice(),
+            ) {
+                Ok(found) => Ok(Expression::Product(found)),
+                Err(fault) => Err(fault),
+            },
+            WrittenExpression::Not(operand) => match self.boxed(alloc, operand.get()) {
+                Ok(found) => Ok(Expression::Not(found)),
+                Err(fault) => Err(fault),
+            },
+            WrittenExpression::Signed(sign, operand) => match self.boxed(alloc, operand.get()) {
+                Ok(found) => Ok(Expression::Signed(*sign, found)),
+                Err(fault) => Err(fault),
+            },
         }
     }
 

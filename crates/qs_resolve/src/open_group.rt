@@ -5,6 +5,7 @@ ghost use Rattle.qs_resolve.specs.Pattern as spec;
 
 use qs_ast::expression::Expression;
 use qs_ast::pattern::{GraphPattern, Group, Triple};
+use qs_beside::push_behind;
 use sqlite_items::Items;
 use std::alloc::{AllocError, Global};
 use std::mem;
@@ -34,8 +35,8 @@ impl OpenGroup {
         ensures { OnOk result (self.new ≡ spec.put pattern self.old) }
     {
         let triples = mem::replace(&mut self.triples, Items::new(alloc));
-        close(&mut self.patterns, triples)?;
-        self.patterns.push(pattern)
+        let closed = close(&mut self.patterns, triples);
+        push_behind(closed, &mut self.patterns, pattern)
     }
 
     pub fn put_filter(&mut self, filter: Expression) -> Result<(), AllocError>

@@ -6,6 +6,7 @@ ghost use Rattle.qs_resolve.specs.Resolving.{Resolves, Changes};
 use crate::open_group::OpenGroup;
 use crate::resolver::Resolver;
 use qs_ast::pattern::{GraphPattern, Group};
+use qs_beside::beside;
 use qs_terms::QFault;
 use qs_tree::expression::Expression as WrittenExpression;
 use qs_tree::pattern::{
@@ -50,7 +51,7 @@ impl<'a> Resolver<'a> {
         ensures { Changes (spec.bind_pattern expression.now variable group.old self.old) result group.new self.new }
     {
         let expression = self.expression(alloc, expression)?;
-        let variable = self.variable(variable)?;
+        let (expression, variable) = beside(expression, self.variable(variable))?;
         Ok(group.put(alloc, GraphPattern::Bind(expression, variable))?)
     }
 
@@ -92,7 +93,7 @@ impl<'a> Resolver<'a> {
             }
             WrittenPattern::Graph(name, inner) => {
                 let name = self.var_or_iri(*name)?;
-                let inner = self.group(alloc, inner)?;
+                let (name, inner) = beside(name, self.group(alloc, inner))?;
                 Ok(group.put(alloc, GraphPattern::Graph(name, inner))?)
             }
             WrittenPattern::Filter(filter) => self.put_filter(alloc, group, filter),

@@ -12,6 +12,7 @@ use qs_ast::query::{
     SolutionModifiers,
 };
 use qs_ast::term::Variable;
+use qs_beside::beside;
 use qs_terms::QFault;
 use qs_tree::pattern::{Group as WrittenGroup, InlineData as WrittenData};
 use qs_tree::query::{
@@ -100,7 +101,7 @@ impl<'a> Resolver<'a> {
             WrittenItem::Var(span) => Ok(SelectItem::Variable(self.variable(*span)?)),
             WrittenItem::As(expression, span) => {
                 let expression = self.expression(alloc, expression)?;
-                let variable = self.variable(*span)?;
+                let (expression, variable) = beside(expression, self.variable(*span))?;
                 Ok(SelectItem::As(expression, variable))
             }
         }
@@ -139,8 +140,11 @@ impl<'a> Resolver<'a> {
         ensures { Resolves (spec.select query.now self.old) result self.new }
     {
         let projection = self.projection(alloc, &query.projection)?;
-        let pattern = self.group(alloc, &query.pattern)?;
-        let modifiers = self.modifiers(alloc, &query.modifiers)?;
+        let head = beside(projection, self.group(alloc, &query.pattern))?;
+        let ((projection, pattern), modifiers) = beside(
+            head,
+            self.modifiers(alloc, &query.modifiers),
+        )?;
         Ok(Select {
             duplicates: query.duplicates,
             projection,
@@ -179,8 +183,11 @@ impl<'a> Resolver<'a> {
         ensures { Resolves (spec.construct query.now self.old) result self.new }
     {
         let template = self.template(alloc, query.template.as_slice())?;
-        let pattern = self.optional_pattern(alloc, &query.pattern)?;
-        let modifiers = self.modifiers(alloc, &query.modifiers)?;
+        let head = beside(template, self.optional_pattern(alloc, &query.pattern))?;
+        let ((template, pattern), modifiers) = beside(
+            head,
+            self.modifiers(alloc, &query.modifiers),
+        )?;
         Ok(Construct {
             template,
             pattern,
@@ -193,7 +200,7 @@ impl<'a> Resolver<'a> {
         ensures { Resolves (spec.ask query.now self.old) result self.new }
     {
         let pattern = self.group(alloc, &query.pattern)?;
-        let modifiers = self.modifiers(alloc, &query.modifiers)?;
+        let (pattern, modifiers) = beside(pattern, self.modifiers(alloc, &query.modifiers))?;
         Ok(Ask { pattern, modifiers })
     }
 
@@ -243,7 +250,7 @@ impl<'a> Resolver<'a> {
     {
         self.prologue(query.prologue.as_slice())?;
         let form = self.form(alloc, &query.form)?;
-        let values = self.trailing(alloc, &query.values)?;
+        let (form, values) = beside(form, self.trailing(alloc, &query.values))?;
         Ok(Query {
             form,
             values,

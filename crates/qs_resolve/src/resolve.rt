@@ -1,5 +1,6 @@
 //! Whole queries and updates.
 
+ghost use Rattle.std.specs.Prelude.{◌≡◌, IfOk, IfErr, Ok, Err, Some, None, if◌then◌else◌};
 ghost use Rattle.qs_names.specs.Gives.{Gives};
 ghost use Rattle.qs_resolve.specs.Resolved as spec;
 
@@ -13,6 +14,18 @@ use qs_tree::query::Query as WrittenQuery;
 use qs_tree::update::Update as WrittenUpdate;
 use sqlite_items::Items;
 use std::alloc::Global;
+
+// what was resolved, where its literals are lawful
+fn where_lawful<T: Drop>(resolved: Result<T, QFault>, lawful: bool) -> Result<Option<T>, QFault>
+    ensures found { IfOk resolved (λ tree. result ≡ Ok (if lawful then Some tree else None)) }
+    ensures fault { IfErr resolved (λ fault. result ≡ Err fault) }
+{
+    match (resolved, lawful) {
+        (Ok(found), true) => Ok(Some(found)),
+        (Ok(_found), false) => Ok(None),
+        (Err(fault), _) => Err(fault),
+    }
+}
 
 /// The query of a text with its names resolved, with the variables that are given for it; `None` where a literal of it isn't lawful,
 /// since its datatype is rdf:langString and it has no tag (RDF 1.1 Concepts, 3.3). Anonymous blank nodes are numbered from 0.
@@ -30,11 +43,8 @@ pub fn resolve_query(
     ensures { Gives (spec.resolved_query text.now variables query.now) result }
 {
     let mut resolver = Resolver::new(Names::new(alloc, text));
-    let query = resolver.query(alloc, variables, query)?;
-    if !resolver.lawful {
-        return Ok(None);
-    }
-    Ok(Some(query))
+    let query = resolver.query(alloc, variables, query);
+    where_lawful(query, resolver.lawful)
 }
 
 /// The update of a text with its names resolved, in the same way. Prefixes of a later prologue are added to the earlier ones, and a
@@ -51,9 +61,6 @@ pub fn resolve_update(
     ensures { Gives (spec.resolved_update text.now update.now) result }
 {
     let mut resolver = Resolver::new(Names::new(alloc, text));
-    let update = resolver.update(alloc, update)?;
-    if !resolver.lawful {
-        return Ok(None);
-    }
-    Ok(Some(update))
+    let update = resolver.update(alloc, update);
+    where_lawful(update, resolver.lawful)
 }

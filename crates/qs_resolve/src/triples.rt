@@ -74,9 +74,9 @@ impl<'a> Resolver<'a> {
     ) -> Result<(), QFault>
         ensures { Collects (spec.simple_object subject.now verb.now found.old object self.old) result found.new self.new }
     {
-        let object = self.term(alloc, object)?;
         let subject = subject.share()?;
         let verb = verb.share()?;
+        let object = self.term(alloc, object)?;
         found.push(Triple {
             subject,
             verb,
@@ -94,10 +94,10 @@ impl<'a> Resolver<'a> {
     ) -> Result<Shared<TermPattern>, QFault>
         ensures { Opens (spec.blank_object subject.now verb.now found.old self.old) result found.new self.new }
     {
-        let object = TermPattern::Blank(self.anonymous()?);
-        let inner = Shared::new(alloc, object.try_clone(alloc)?)?;
+        let inner = self.shared_blank(alloc)?;
         let subject = subject.share()?;
         let verb = verb.share()?;
+        let object = inner.get().try_clone(alloc)?;
         found.push(Triple {
             subject,
             verb,

@@ -5,6 +5,7 @@ ghost use Rattle.qs_resolve.specs.Update as spec;
 
 use crate::resolver::Resolver;
 use qs_ast::update::{GraphOrDefault, GraphTarget, Modify, Operation, QuadBlock, Transfer, Update};
+use qs_beside::beside;
 use qs_terms::{Iri, QFault};
 use qs_tree::term::Iri as WrittenIri;
 use qs_tree::update::{
@@ -109,9 +110,12 @@ impl<'a> Resolver<'a> {
         ensures { Resolves (spec.modify modify.now self.old) result self.new }
     {
         let with = self.with_graph(modify.with)?;
-        let delete = self.optional_quads(alloc, &modify.delete)?;
-        let insert = self.optional_quads(alloc, &modify.insert)?;
-        let pattern = self.group(alloc, &modify.pattern)?;
+        let delete = beside(with, self.optional_quads(alloc, &modify.delete))?;
+        let insert = beside(delete, self.optional_quads(alloc, &modify.insert))?;
+        let (((with, delete), insert), pattern) = beside(
+            insert,
+            self.group(alloc, &modify.pattern),
+        )?;
         Ok(Modify {
             with,
             delete,
@@ -129,34 +133,55 @@ impl<'a> Resolver<'a> {
         ensures { Resolves (spec.operation_of operation.now self.old) result self.new }
     {
         match operation {
-            WrittenOperation::InsertData(quads) => {
-                let quads = self.quads(alloc, quads.elements.as_slice())?;
-                Ok(Operation::InsertData(quads))
-            }
-            WrittenOperation::DeleteData(quads) => {
-                let quads = self.quads(alloc, quads.elements.as_slice())?;
-                Ok(Operation::DeleteData(quads))
-            }
-            WrittenOperation::DeleteWhere(quads) => {
-                let quads = self.quads(alloc, quads.elements.as_slice())?;
-                Ok(Operation::DeleteWhere(quads))
-            }
-            WrittenOperation::Modify(modify) => {
-                let modify = self.modify(alloc, modify)?;
-                Ok(Operation::Modify(modify))
-            }
-            WrittenOperation::Clear(silent, target) => {
-                Ok(Operation::Clear(*silent, self.target(*target)?))
-            }
-            WrittenOperation::Drop(silent, target) => {
-                Ok(Operation::Drop(*silent, self.target(*target)?))
-            }
-            WrittenOperation::Create(silent, iri) => {
-                Ok(Operation::Create(*silent, self.iri(*iri)?))
-            }
-            WrittenOperation::Add(transfer) => Ok(Operation::Add(self.transfer(*transfer)?)),
-            WrittenOperation::Move(transfer) => Ok(Operation::Move(self.transfer(*transfer)?)),
-            WrittenOperation::Copy(transfer) => Ok(Operation::Copy(self.transfer(*transfer)?)),
+            WrittenOperation::InsertData(quads) => match self.quads(
+                alloc,
+                quads.elements.as_slice(),
+            ) {
+                Ok(found) => Ok(Operation::InsertData(found)),
+                Err(fault) => Err(fault),
+            },
+            WrittenOperation::DeleteData(quads) => match self.quads(
+                alloc,
+                quads.elements.as_slice(),
+            ) {
+                Ok(found) => Ok(Operation::DeleteData(found)),
+                Err(fault) => Err(fault),
+            },
+            WrittenOperation::DeleteWhere(quads) => match self.quads(
+                alloc,
+                quads.elements.as_slice(),
+            ) {
+                Ok(found) => Ok(Operation::DeleteWhere(found)),
+                Err(fault) => Err(fault),
+            },
+            WrittenOperation::Modify(modify) => match self.modify(alloc, modify) {
+                Ok(found) => Ok(Operation::Modify(found)),
+                Err(fault) => Err(fault),
+            },
+            WrittenOperation::Clear(silent, target) => match self.target(*target) {
+                Ok(found) => Ok(Operation::Clear(*silent, found)),
+                Err(fault) => Err(fault),
+            },
+            WrittenOperation::Drop(silent, target) => match self.target(*target) {
+                Ok(found) => Ok(Operation::Drop(*silent, found)),
+                Err(fault) => Err(fault),
+            },
+            WrittenOperation::Create(silent, iri) => match self.iri(*iri) {
+                Ok(found) => Ok(Operation::Create(*silent, found)),
+                Err(fault) => Err(fault),
+            },
+            WrittenOperation::Add(transfer) => match self.transfer(*transfer) {
+                Ok(found) => Ok(Operation::Add(found)),
+                Err(fault) => Err(fault),
+            },
+            WrittenOperation::Move(transfer) => match self.transfer(*transfer) {
+                Ok(found) => Ok(Operation::Move(found)),
+                Err(fault) => Err(fault),
+            },
+            WrittenOperation::Copy(transfer) => match self.transfer(*transfer) {
+                Ok(found) => Ok(Operation::Copy(found)),
+                Err(fault) => Err(fault),
+            },
         }
     }
 

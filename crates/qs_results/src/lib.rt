@@ -11,8 +11,3 @@ mod term;
 
 pub use answer::json;
 pub use line::{data_fault_line, fault_line, out_of_memory_line};
-
-#[cfg(test)]
-mod growth;
-#[cfg(test)]
-mod tests;

@@ -4,12 +4,8 @@
 
 mod blocks;
 mod first;
-#[cfg(test)]
-mod growth;
 mod labels;
 pub mod laws;
-#[cfg(test)]
-mod made;
 mod met;
 mod name;
 mod query;
@@ -18,8 +14,6 @@ mod scope;
 mod seen;
 mod selected;
 mod tables;
-#[cfg(test)]
-mod tests;
 mod update;
 
 pub use first::{first_variables, numbered};

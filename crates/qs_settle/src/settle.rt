@@ -1,6 +1,7 @@
 //! Faults of the tree.
 
-ghost use Rattle.std.specs.Prelude.{◌≡◌, IfOk, OnOk};
+ghost use Rattle.std.specs.Prelude.{◌≡◌, IfOk, IfErr, OnOk, Ok, Err, if◌then◌else◌};
+ghost use Rattle.qs_terms.specs.declared.fault.QFault.TheVariants.{Memory, Scope};
 ghost use Rattle.qs_scope.specs.KeepsScope as rule;
 ghost use Rattle.qs_names.specs.Gives.{Gives};
 ghost use Rattle.qs_settle.specs.Settled as spec;
@@ -97,22 +98,30 @@ fn variables(alloc: Global, text: &str, tokens: &[Token]) -> Result<Items<Variab
     first_variables(alloc, all.as_slice())
 }
 
+// the tree, where it keeps the rules of scope
+fn where_kept<T: Drop>(keeps: Result<bool, AllocError>, tree: T) -> Result<T, QFault>
+    ensures kept { IfOk keeps (λ holds. result ≡ (if holds then Ok tree else Err Scope)) }
+    ensures unknown { IfErr keeps (λ _. result ≡ Err Memory) }
+{
+    match keeps {
+        Ok(true) => Ok(tree),
+        Ok(false) => Err(QFault::Scope),
+        Err(_) => Err(QFault::Memory),
+    }
+}
+
 fn scoped_query(alloc: Global, query: Query) -> Result<Query, QFault>
     ensures { Gives (spec.in_scope rule.query_keeps_scope query) result }
 {
-    if query_keeps_scope(alloc, &query)? {
-        return Ok(query);
-    }
-    Err(QFault::Scope)
+    let keeps = query_keeps_scope(alloc, &query);
+    where_kept(keeps, query)
 }
 
 fn scoped_update(alloc: Global, update: Update) -> Result<Update, QFault>
     ensures { Gives (spec.in_scope rule.update_keeps_scope update) result }
 {
-    if update_keeps_scope(alloc, &update)? {
-        return Ok(update);
-    }
-    Err(QFault::Scope)
+    let keeps = update_keeps_scope(alloc, &update);
+    where_kept(keeps, update)
 }
 
 /// The query of a tree that the text's tokens spell.

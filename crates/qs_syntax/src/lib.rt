@@ -10,10 +10,3 @@ mod tree;
 
 pub use crate::parse::{parse_query, parse_update};
 pub use crate::token::tokens;
-
-#[cfg(test)]
-mod growth;
-#[cfg(test)]
-mod parsed;
-#[cfg(test)]
-mod tests;

@@ -26,8 +26,3 @@ pub use literal::Lit;
 pub use quad::Quad;
 pub use term::Term;
 pub use text::Text;
-
-#[cfg(test)]
-mod growth;
-#[cfg(test)]
-mod tests;

@@ -4,7 +4,7 @@ use crate::term::{Iri, Literal};
 use crate::token::Span;
 use sqlite_items::{Boxed, Items};
 
-#[derive(Clone, Copy, Debug, PartialEq, Eq)]
+#[derive(Clone, Copy, PartialEq, Eq)]
 pub enum Comparison {
     Equal,
     NotEqual,
@@ -14,14 +14,14 @@ pub enum Comparison {
     GreaterOrEqual,
 }
 
-#[derive(Clone, Copy, Debug, PartialEq, Eq)]
+#[derive(Clone, Copy, PartialEq, Eq)]
 pub enum Sign {
     Plus,
     Minus,
 }
 
 /// The functions of one argument.
-#[derive(Clone, Copy, Debug, PartialEq, Eq)]
+#[derive(Clone, Copy, PartialEq, Eq)]
 pub enum UnaryFunction {
     IsIri,
     IsBlank,
@@ -34,7 +34,7 @@ pub enum UnaryFunction {
 }
 
 /// The functions of two arguments.
-#[derive(Clone, Copy, Debug, PartialEq, Eq)]
+#[derive(Clone, Copy, PartialEq, Eq)]
 pub enum BinaryFunction {
     SameTerm,
     LangMatches,
@@ -44,7 +44,7 @@ pub enum BinaryFunction {
 }
 
 #[cycle(expression)]
-#[derive(Debug, Drop)]
+#[derive(Drop)]
 pub enum Expression {
     Var(Span),
     Iri(Iri),
@@ -68,7 +68,7 @@ pub enum Expression {
 
 /// An operand of a chain, and where it begins.
 #[cycle(expression)]
-#[derive(Debug, Drop)]
+#[derive(Drop)]
 pub struct Operand {
     pub place: usize,
     pub expression: Expression,
@@ -76,14 +76,14 @@ pub struct Operand {
 
 /// A further operand of a sum.
 #[cycle(expression)]
-#[derive(Debug, Drop)]
+#[derive(Drop)]
 pub struct Addend {
     pub sign: Sign,
     pub operand: Operand,
 }
 
 #[cycle(expression)]
-#[derive(Debug, Drop)]
+#[derive(Drop)]
 pub enum Call {
     Bound(Span),
     If(Boxed<Expression>, Boxed<Expression>, Boxed<Expression>),
@@ -94,7 +94,7 @@ pub enum Call {
 }
 
 /// What follows the first operand of a comparison or of IN.
-#[derive(Debug, Drop)]
+#[derive(Drop)]
 pub enum Relation {
     Compared(Comparison, Expression),
     Among(Items<Expression>),

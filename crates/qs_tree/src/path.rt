@@ -4,7 +4,7 @@ use crate::term::Iri;
 use crate::token::Span;
 use sqlite_items::{Boxed, Items};
 
-#[derive(Clone, Copy, Debug)]
+#[derive(Clone, Copy)]
 pub enum Predicate {
     Iri(Iri),
     /// `a`
@@ -12,7 +12,7 @@ pub enum Predicate {
 }
 
 /// A member of a negated property set.
-#[derive(Clone, Copy, Debug)]
+#[derive(Clone, Copy)]
 pub struct NegatedPredicate {
     /// Where it begins.
     pub place: usize,
@@ -21,7 +21,7 @@ pub struct NegatedPredicate {
     pub predicate: Predicate,
 }
 
-#[derive(Clone, Copy, Debug, PartialEq, Eq)]
+#[derive(Clone, Copy, PartialEq, Eq)]
 pub enum Repetition {
     /// `?`
     ZeroOrOne,
@@ -32,7 +32,7 @@ pub enum Repetition {
 }
 
 #[cycle(path)]
-#[derive(Debug, Drop)]
+#[derive(Drop)]
 pub enum Path {
     Predicate(Predicate),
     /// `!`
@@ -48,13 +48,13 @@ pub enum Path {
 
 /// An operand of a chain, and where it begins.
 #[cycle(path)]
-#[derive(Debug, Drop)]
+#[derive(Drop)]
 pub struct PathOperand {
     pub place: usize,
     pub path: Path,
 }
 
-#[derive(Debug, Drop)]
+#[derive(Drop)]
 pub enum Verb {
     Var(Span),
     Path(Path),

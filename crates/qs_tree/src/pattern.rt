@@ -8,7 +8,7 @@ use sqlite_items::Items;
 
 /// `{ .. }`
 #[cycle(group)]
-#[derive(Debug, Drop)]
+#[derive(Drop)]
 pub struct Group {
     /// Where it begins.
     pub place: usize,
@@ -17,14 +17,14 @@ pub struct Group {
 
 /// A block of triples or another pattern of a group, and where it begins.
 #[cycle(group)]
-#[derive(Debug, Drop)]
+#[derive(Drop)]
 pub struct Element {
     pub place: usize,
     pub pattern: GraphPattern,
 }
 
 #[cycle(group)]
-#[derive(Debug, Drop)]
+#[derive(Drop)]
 pub enum GraphPattern {
     Triples(Items<TriplesSameSubject>),
     /// One group, or the operands of UNION.
@@ -38,13 +38,13 @@ pub enum GraphPattern {
 }
 
 /// The table of VALUES.
-#[derive(Debug, Drop)]
+#[derive(Drop)]
 pub struct InlineData {
     pub variables: Items<Span>,
     pub rows: Items<Items<DataValue>>,
 }
 
-#[derive(Clone, Copy, Debug)]
+#[derive(Clone, Copy)]
 pub enum DataValue {
     Iri(Iri),
     Literal(Literal),

@@ -6,14 +6,14 @@ use crate::token::Span;
 use crate::triples::TriplesSameSubject;
 use sqlite_items::Items;
 
-#[derive(Clone, Copy, Debug)]
+#[derive(Clone, Copy)]
 pub struct PrefixDeclaration {
     /// With its `:`.
     pub prefix: Span,
     pub iri: Span,
 }
 
-#[derive(Debug, Drop)]
+#[derive(Drop)]
 pub struct Query {
     pub prologue: Items<PrefixDeclaration>,
     pub form: QueryForm,
@@ -21,14 +21,14 @@ pub struct Query {
     pub values: Option<InlineData>,
 }
 
-#[derive(Debug, Drop)]
+#[derive(Drop)]
 pub enum QueryForm {
     Select(Select),
     Construct(Construct),
     Ask(Ask),
 }
 
-#[derive(Debug, Drop)]
+#[derive(Drop)]
 pub struct Select {
     pub duplicates: Duplicates,
     pub projection: Projection,
@@ -37,28 +37,28 @@ pub struct Select {
 }
 
 /// What becomes of solutions that are alike.
-#[derive(Clone, Copy, Debug, PartialEq, Eq)]
+#[derive(Clone, Copy, PartialEq, Eq)]
 pub enum Duplicates {
     Kept,
     Distinct,
     Reduced,
 }
 
-#[derive(Debug, Drop)]
+#[derive(Drop)]
 pub enum Projection {
     /// `*`
     All,
     Items(Items<SelectItem>),
 }
 
-#[derive(Debug, Drop)]
+#[derive(Drop)]
 pub enum SelectItem {
     Var(Span),
     /// `( .. AS .. )`
     As(Expression, Span),
 }
 
-#[derive(Debug, Drop)]
+#[derive(Drop)]
 pub struct Construct {
     pub template: Items<TriplesSameSubject>,
     /// None in the short form, where the template is the pattern too.
@@ -66,26 +66,26 @@ pub struct Construct {
     pub modifiers: SolutionModifiers,
 }
 
-#[derive(Debug, Drop)]
+#[derive(Drop)]
 pub struct Ask {
     pub pattern: Group,
     pub modifiers: SolutionModifiers,
 }
 
-#[derive(Debug, Drop)]
+#[derive(Drop)]
 pub struct SolutionModifiers {
     pub order: Items<OrderCondition>,
     pub limit: Option<Span>,
     pub offset: Option<Span>,
 }
 
-#[derive(Debug, Drop)]
+#[derive(Drop)]
 pub struct OrderCondition {
     pub direction: Direction,
     pub key: Expression,
 }
 
-#[derive(Clone, Copy, Debug, PartialEq, Eq)]
+#[derive(Clone, Copy, PartialEq, Eq)]
 pub enum Direction {
     Ascending,
     Descending,

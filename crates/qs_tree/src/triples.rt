@@ -5,7 +5,7 @@ use crate::term::Term;
 use sqlite_items::Items;
 
 /// Where triples stand: the verbs of a template are no paths.
-#[derive(Clone, Copy, Debug, PartialEq, Eq)]
+#[derive(Clone, Copy, PartialEq, Eq)]
 pub enum Form {
     Pattern,
     Template,
@@ -13,7 +13,7 @@ pub enum Form {
 
 /// A subject or an object.
 #[cycle(triples)]
-#[derive(Debug, Drop)]
+#[derive(Drop)]
 pub enum GraphNode {
     Term(Term),
     /// `[ .. ]`
@@ -22,14 +22,14 @@ pub enum GraphNode {
 
 /// A verb and its objects.
 #[cycle(triples)]
-#[derive(Debug, Drop)]
+#[derive(Drop)]
 pub struct Property {
     pub verb: Verb,
     pub objects: Items<GraphNode>,
 }
 
 /// A subject and its properties: none only where the subject has its own in brackets.
-#[derive(Debug, Drop)]
+#[derive(Drop)]
 pub struct TriplesSameSubject {
     pub subject: GraphNode,
     pub properties: Items<Property>,

@@ -6,20 +6,20 @@ use crate::term::{Iri, VarOrIri};
 use crate::triples::TriplesSameSubject;
 use sqlite_items::Items;
 
-#[derive(Debug, Drop)]
+#[derive(Drop)]
 pub struct Update {
     /// Never empty.
     pub steps: Items<UpdateStep>,
 }
 
 /// A prologue and the operation after it: none only in the last step.
-#[derive(Debug, Drop)]
+#[derive(Drop)]
 pub struct UpdateStep {
     pub prologue: Items<PrefixDeclaration>,
     pub operation: Option<Operation>,
 }
 
-#[derive(Debug, Drop)]
+#[derive(Drop)]
 pub enum Operation {
     InsertData(QuadPattern),
     DeleteData(QuadPattern),
@@ -34,7 +34,7 @@ pub enum Operation {
 }
 
 /// DELETE and INSERT with a WHERE.
-#[derive(Debug, Drop)]
+#[derive(Drop)]
 pub struct Modify {
     pub with: Option<Iri>,
     pub delete: Option<QuadPattern>,
@@ -43,14 +43,14 @@ pub struct Modify {
 }
 
 /// What a graph that is missing, or is there already, comes to.
-#[derive(Clone, Copy, Debug, PartialEq, Eq)]
+#[derive(Clone, Copy, PartialEq, Eq)]
 pub enum OnMissing {
     Fault,
     /// `SILENT`
     Silent,
 }
 
-#[derive(Clone, Copy, Debug)]
+#[derive(Clone, Copy)]
 pub enum GraphTarget {
     Graph(Iri),
     Default,
@@ -58,13 +58,13 @@ pub enum GraphTarget {
     All,
 }
 
-#[derive(Clone, Copy, Debug)]
+#[derive(Clone, Copy)]
 pub enum GraphOrDefault {
     Default,
     Graph(Iri),
 }
 
-#[derive(Clone, Copy, Debug)]
+#[derive(Clone, Copy)]
 pub struct Transfer {
     pub on_missing: OnMissing,
     pub from: GraphOrDefault,
@@ -72,19 +72,19 @@ pub struct Transfer {
 }
 
 /// `{ .. }` of triples and GRAPH blocks.
-#[derive(Debug, Drop)]
+#[derive(Drop)]
 pub struct QuadPattern {
     pub elements: Items<QuadElement>,
 }
 
 /// A run of triples or a GRAPH block, and where it begins.
-#[derive(Debug, Drop)]
+#[derive(Drop)]
 pub struct QuadElement {
     pub place: usize,
     pub quads: Quads,
 }
 
-#[derive(Debug, Drop)]
+#[derive(Drop)]
 pub enum Quads {
     Triples(Items<TriplesSameSubject>),
     Graph(VarOrIri, Items<TriplesSameSubject>),

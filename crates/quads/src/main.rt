@@ -4,13 +4,9 @@
 #![tactic(auto)]
 
 mod ended;
-#[cfg(test)]
-mod growth;
 mod job;
 mod printed;
 mod run;
-#[cfg(test)]
-mod tests;
 
 use crate::job::Job;
 use crate::run::run;

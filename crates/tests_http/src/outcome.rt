@@ -1,0 +1,20 @@
+//! What a piece of work comes to where an allocation may be refused.
+
+#[derive(Clone, Copy, PartialEq, Eq)]
+pub enum Outcome {
+    /// All is as it ought to be.
+    Whole,
+    /// Memory was wanting.
+    Refused,
+    Wrong,
+}
+
+impl Outcome {
+    pub fn of_answer(is_right: bool) -> Outcome {
+        if is_right {
+            Outcome::Whole
+        } else {
+            Outcome::Wrong
+        }
+    }
+}

@@ -1,0 +1,29 @@
+//! What a piece of work comes to where an allocation may be refused.
+
+use qs_terms::QFault;
+
+#[derive(Clone, Copy, PartialEq, Eq)]
+pub enum Outcome {
+    /// All is as it ought to be.
+    Whole,
+    /// Memory was wanting.
+    Refused,
+    Wrong,
+}
+
+impl Outcome {
+    pub fn of_answer(is_right: bool) -> Outcome {
+        if is_right {
+            Outcome::Whole
+        } else {
+            Outcome::Wrong
+        }
+    }
+
+    pub fn of_fault(fault: &QFault) -> Outcome {
+        match fault {
+            QFault::Memory => Outcome::Refused,
+            _ => Outcome::Wrong,
+        }
+    }
+}

@@ -1,0 +1,79 @@
+//! The variables that patterns bind (SPARQL 1.1 Query, 18.2.1 and 18.5).
+
+use crate::outcome::Outcome;
+use qs_algebra::translate;
+use qs_bindings::{certain, possible};
+use qs_patterns::Pattern;
+use qs_syntax::parse_query;
+use qs_terms::QFault;
+use std::alloc::Global;
+
+/// Queries, and which of their variables, in the order of the text, each solution of the pattern binds, and which some solution may bind.
+const FLAGS: &[(&str, &[bool], &[bool])] = &[
+    // what triples mention; the blank node has the number behind the last
+    (
+        "SELECT ?z { ?a <u:p> _:b . _:b ?d ?a }",
+        &[false, true, true],
+        &[false, true, true],
+    ),
+    // what one part of a join binds
+    (
+        "SELECT * { { ?a <u:p> ?b } { ?b <u:q> ?c } }",
+        &[true, true, true],
+        &[true, true, true],
+    ),
+    // what each part of a union binds
+    (
+        "SELECT * { { ?a <u:p> ?b } UNION { ?b <u:q> ?c } }",
+        &[false, true, false],
+        &[true, true, true],
+    ),
+    (
+        "SELECT * { { { ?a <u:p> ?b } UNION { ?b <u:q> ?c } } { ?a <u:p> ?b } }",
+        &[true, true, false],
+        &[true, true, true],
+    ),
+    ("SELECT ?z {}", &[false], &[false]),
+];
+
+fn pattern_of(alloc: Global, text: &str) -> Result<Pattern, QFault> {
+    let query = parse_query(alloc, text)?;
+    let pattern = translate(alloc, &query);
+    drop(query);
+    pattern
+}
+
+fn has_flags(
+    alloc: Global,
+    pattern: &Pattern,
+    are_certain: &[bool],
+    are_possible: &[bool],
+) -> Result<bool, QFault> {
+    let found = certain(alloc, are_certain.len(), pattern)?;
+    let possible = possible(alloc, are_possible.len(), pattern)?;
+    Ok(found.as_slice() == are_certain && possible.as_slice() == are_possible)
+}
+
+fn is_flagged(
+    alloc: Global,
+    text: &str,
+    are_certain: &[bool],
+    are_possible: &[bool],
+) -> Result<bool, QFault> {
+    let pattern = pattern_of(alloc, text)?;
+    let has_flags = has_flags(alloc, &pattern, are_certain, are_possible);
+    drop(pattern);
+    has_flags
+}
+
+/// Whether each pattern has its flags.
+pub fn outcome(alloc: Global) -> Outcome {
+    for (text, are_certain, are_possible) in FLAGS {
+        match is_flagged(alloc, text, are_certain, are_possible) {
+            Ok(true) => {}
+            Ok(false) => return Outcome::Wrong,
+            Err(fault) => return Outcome::of_fault(&fault),
+        }
+    }
+    Outcome::Whole
+}

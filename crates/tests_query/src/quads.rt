@@ -1,0 +1,114 @@
+//! Quads as the data say them: of three quads the first and the last stand in a named graph, and the second in the default graph.
+
+use crate::outcome::Outcome;
+use qs_nquads::{NqFault, NqFaultKind, read};
+use qs_terms::{Quad, Term, dataset};
+use std::alloc::{AllocError, Global};
+use std::cmp::Ordering;
+
+const DATA: &[u8] = b"_:a <u:p> \"o\"@en <u:g> .\n_:b <u:p> \"o\"@en .\n_:c <u:p> \"o\"@en <u:g> .";
+
+/// Numbers for the first label, and the next one behind the last label, or the fault: three numbers are wanted.
+const NUMBERED: &[(u64, Result<u64, NqFault>)] = &[
+    (18446744073709551612, Ok(18446744073709551615)),
+    (
+        18446744073709551613,
+        Err(NqFault {
+            line: 3,
+            kind: NqFaultKind::Full,
+        }),
+    ),
+    (
+        18446744073709551615,
+        Err(NqFault {
+            line: 1,
+            kind: NqFaultKind::Full,
+        }),
+    ),
+];
+
+/// The number behind the last label.
+fn next_of(alloc: Global, first: u64) -> Result<u64, NqFault> {
+    let (quads, next) = read(alloc, DATA, first)?;
+    drop(quads);
+    Ok(next)
+}
+
+#[test]
+fn numbers_labels(rt: HostRuntime) {
+    for (first, want) in NUMBERED {
+        assert!(rt; next_of(rt.alloc(), *first) == *want, "{first}");
+    }
+}
+
+/// Whether the default graph comes first, then the named one by its subjects; and quads are found that are there.
+fn are_ordered(first: &Quad, second: &Quad, third: &Quad, last: &[Quad]) -> bool {
+    second.order(first) == Ordering::Less
+        && third.order(first) == Ordering::Greater
+        && third.order(third) == Ordering::Equal
+        && dataset::contains(last, third)
+        && !dataset::contains(last, first)
+        && dataset::is_above_blanks(4, last)
+        && !dataset::is_above_blanks(3, last)
+}
+
+fn compare(quads: &[Quad]) -> bool {
+    match quads {
+        [first, second, third] => are_ordered(first, second, third, &quads[2..]),
+        _ => false,
+    }
+}
+
+fn is_copied(alloc: Global, quad: &Quad) -> Result<bool, AllocError> {
+    let copy = quad.try_clone(alloc)?;
+    let is_same = copy.is_same(quad);
+    drop(copy);
+    Ok(is_same)
+}
+
+/// How many nodes the graph has.
+fn count_nodes(alloc: Global, quads: &[Quad], graph: Option<&Term>) -> Result<usize, AllocError> {
+    let nodes = dataset::nodes(alloc, quads, graph)?;
+    let count = nodes.len();
+    drop(nodes);
+    Ok(count)
+}
+
+/// How many named graphs there are.
+fn count_names(alloc: Global, quads: &[Quad]) -> Result<usize, AllocError> {
+    let names = dataset::names(alloc, quads)?;
+    let count = names.len();
+    drop(names);
+    Ok(count)
+}
+
+/// Whether each quad is copied, and there is one name; the graph of that name has two blank nodes and the literal that is the object of
+/// both, and the default graph a blank node and the literal.
+fn are_listed(alloc: Global, quads: &[Quad]) -> Result<bool, AllocError> {
+    for quad in quads {
+        let graph = quad.graph();
+        let count = if graph.is_some() { 3 } else { 2 };
+        if !is_copied(alloc, quad)? || count_nodes(alloc, quads, graph)? != count {
+            return Ok(false);
+        }
+    }
+    Ok(count_names(alloc, quads)? == 1)
+}
+
+/// Whether the quads are read, compared and copied, and their names and nodes found.
+pub fn outcome(alloc: Global) -> Outcome {
+    dataset::same_bag_by_counts();
+    match read(alloc, DATA, 1) {
+        Ok((quads, _)) => {
+            let are_compared = compare(quads.as_slice());
+            let are_listed = are_listed(alloc, quads.as_slice());
+            drop(quads);
+            match are_listed {
+                Ok(are_listed) => Outcome::of_answer(are_compared && are_listed),
+                Err(_) => Outcome::Refused,
+            }
+        }
+        Err(fault) if fault.kind == NqFaultKind::Memory => Outcome::Refused,
+        Err(_) => Outcome::Wrong,
+    }
+}

@@ -1,0 +1,36 @@
+//! Pairs of tests that run with each allocation refused in turn: the strict one wants the whole answer, the tolerant one takes want of
+//! memory for an answer, and then everything is as it was.
+
+use crate::outcome::Outcome;
+use crate::{dict, index, terms};
+use std::hash::RandomState;
+
+#[test]
+fn terms_strict(rt: HostRuntime) {
+    assert!(rt; terms::outcome(rt.alloc()) == Outcome::Whole);
+}
+
+#[test]
+fn terms_tolerant(rt: HostRuntime) {
+    assert!(rt; terms::outcome(rt.alloc()) != Outcome::Wrong);
+}
+
+#[test]
+fn numbers_strict(rt: HostRuntime) {
+    assert!(rt; dict::outcome(rt.alloc(), RandomState::new(&rt).ok()) == Outcome::Whole);
+}
+
+#[test]
+fn numbers_tolerant(rt: HostRuntime) {
+    assert!(rt; dict::outcome(rt.alloc(), RandomState::new(&rt).ok()) != Outcome::Wrong);
+}
+
+#[test]
+fn entries_strict(rt: HostRuntime) {
+    assert!(rt; index::outcome(rt.alloc()) == Outcome::Whole);
+}
+
+#[test]
+fn entries_tolerant(rt: HostRuntime) {
+    assert!(rt; index::outcome(rt.alloc()) != Outcome::Wrong);
+}

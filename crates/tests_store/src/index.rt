@@ -1,0 +1,89 @@
+//! The index: four entries, of graph 1 and of the last graph.
+
+use crate::outcome::Outcome;
+use qs_index::{Index, Scan};
+use std::alloc::{AllocError, Global};
+
+const A: [u32; 4] = [1, 2, 3, 4];
+
+const B: [u32; 4] = [1, 1, 3, 5];
+
+const C: [u32; 4] = [1, 1, 2, 4];
+
+const D: [u32; 4] = [4294967295, 1, 2, 4];
+
+/// Makes room twice, and puts in the entry of the last graph and then those of graph 1.
+fn fill(index: &mut Index) -> Result<(), AllocError> {
+    index.reserve(1)?;
+    index.insert(D);
+    index.reserve(300)?;
+    index.insert_all(&mut [A, B, C]);
+    Ok(())
+}
+
+/// Places that are given, and the entries of graph 1 that agree with them, in the order that is used.
+const SCANS: &[(Option<u32>, Option<u32>, Option<u32>, &[[u32; 4]])] = &[
+    (None, None, None, &[C, B, A]),
+    (None, Some(3), None, &[A, B]),
+    (None, None, Some(4), &[C, A]),
+    (Some(1), None, Some(4), &[C]),
+    (Some(2), Some(3), Some(4), &[A]),
+    (Some(2), Some(2), None, &[]),
+];
+
+/// Whether the scan hands out these entries, and looks at few more.
+fn hands_out(mut scan: Scan<'_>, wanted: &[[u32; 4]]) -> bool {
+    for entry in wanted {
+        if scan.next() != Some(*entry) {
+            return false;
+        }
+    }
+    scan.next().is_none() && scan.looked() <= 11
+}
+
+fn are_found(index: &Index) -> bool {
+    for (subject, predicate, object, wanted) in SCANS {
+        if !hands_out(index.scan(1, *subject, *predicate, *object), wanted) {
+            return false;
+        }
+    }
+    true
+}
+
+/// Graph numbers, and the next one that an entry has.
+const NEXT: &[(u32, Option<u32>)] = &[
+    (0, Some(1)),
+    (1, Some(4294967295)),
+    (4294967294, Some(4294967295)),
+    (4294967295, None),
+];
+
+fn are_graphs_found(index: &Index) -> bool {
+    for (after, next) in NEXT {
+        if index.next_graph(*after) != *next {
+            return false;
+        }
+    }
+    true
+}
+
+/// Whether all entries are found, and one is taken out.
+fn is_whole(index: &mut Index) -> bool {
+    are_found(index)
+        && are_graphs_found(index)
+        && index.remove(D)
+        && !index.remove(D)
+        && index.next_graph(1).is_none()
+}
+
+/// Whether the index is filled; where memory is wanting it has no entry of graph 1.
+pub fn outcome(alloc: Global) -> Outcome {
+    let mut index = Index::new(alloc);
+    let outcome = if fill(&mut index).is_err() {
+        Outcome::Refused.or_wrong(hands_out(index.scan(1, None, None, None), &[]))
+    } else {
+        Outcome::Whole.or_wrong(is_whole(&mut index))
+    };
+    drop(index);
+    outcome
+}

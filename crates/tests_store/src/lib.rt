@@ -1,0 +1,21 @@
+//! Tests of terms, the dictionary and the index: they stand in a crate of their own, since a crate with tests is proved twice.
+//!
+//! Here is what no clause says and no run of the program shows: calls that the program doesn't make, each once where it succeeds, at
+//! values worked out by hand from the standard, and what is printed. `growth` has the pairs for refused allocations. What is made is held
+//! by a small function of its own and let go by `drop`: a proof grows with what is alive where a call may fail.
+#![tactic(auto)]
+
+#[cfg(test)]
+mod devices;
+#[cfg(test)]
+mod dict;
+#[cfg(test)]
+mod faults;
+#[cfg(test)]
+mod growth;
+#[cfg(test)]
+mod index;
+#[cfg(test)]
+mod outcome;
+#[cfg(test)]
+mod terms;

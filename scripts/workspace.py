@@ -1,0 +1,190 @@
+"""The crates of this workspace, and how they are proved and built side by side."""
+import filecmp
+import hashlib
+import os
+import shutil
+import subprocess
+import tempfile
+from concurrent.futures import FIRST_COMPLETED, ThreadPoolExecutor, wait
+
+EACH = 3_000_000_000
+"""The memory that the check of one crate may take, in bytes."""
+
+
+def lines_of(root):
+    """Returns the line of each crate in crates.txt."""
+    with open(f"{root}/crates.txt", encoding="utf-8") as it:
+        lines = [line for line in it if ":" in line.partition("#")[0]]
+    return {line.partition(":")[0].split()[0]: line for line in lines}
+
+
+def crates_of(root):
+    """Returns the crates of crates.txt, each with the crates of the repository that it names."""
+    lines = lines_of(root)
+    return {crate: [it for it in line.partition("#")[0].partition(":")[2].split() if it in lines] for crate, line in lines.items()}
+
+
+def below(root, *names):
+    """Returns these crates and all that they stand on, each behind those that it names."""
+    crates, found = crates_of(root), {}
+
+    def take(crate):
+        if crate not in found:
+            for it in crates[crate]:
+                take(it)
+            found[crate] = crates[crate]
+
+    for name in names:
+        take(name)
+    return found
+
+
+def texts_of(root, crate):
+    """Returns the files that a crate is proved and built from."""
+    found = []
+    for part in ("src", "specs", "proofs"):
+        for at, folders, files in os.walk(f"{root}/crates/{crate}/{part}"):
+            folders.sort()
+            found += [f"{at}/{it}" for it in sorted(files) if it.endswith((".rt", ".antt"))]
+    return found
+
+
+def made_of(root, crates):
+    """Returns a sum of all that these crates are made from and by."""
+    rt = os.path.realpath(shutil.which("rt") or "rt")
+    total, lines = hashlib.sha256(rt.encode()), lines_of(root)
+    if os.path.isfile(rt):
+        total.update(str(os.stat(rt).st_mtime_ns).encode())
+    for crate in sorted(crates):
+        total.update(lines[crate].encode())
+        for file in texts_of(root, crate):
+            with open(file, "rb") as it:
+                total.update(repr((os.path.relpath(file, root), it.read())).encode())
+    return total.hexdigest()
+
+
+def is_large(root, crate):
+    lines = 0
+    for file in texts_of(root, crate):
+        if file.endswith(".rt"):
+            with open(file, "rb") as it:
+                lines += it.read().count(b"\n")
+    return lines >= 300
+
+
+def lanes():
+    """Returns how many checks run side by side: one a processor, as many as memory holds."""
+    with open("/proc/meminfo", encoding="utf-8") as it:
+        free = next(1024 * int(line.split()[1]) for line in it if line.startswith("MemAvailable"))
+    return max(1, min(len(os.sched_getaffinity(0)), free // EACH))
+
+
+def refresh(source, to, link):
+    """Makes a folder the same as another, without touching what is the same already."""
+    if not os.path.isdir(source):
+        shutil.rmtree(to, ignore_errors=True)
+        return
+    os.makedirs(to, exist_ok=True)
+    wanted = set(os.listdir(source))
+    for name in set(os.listdir(to)) - wanted:
+        shutil.rmtree(f"{to}/{name}") if os.path.isdir(f"{to}/{name}") else os.remove(f"{to}/{name}")
+    for name in wanted:
+        one, other = f"{source}/{name}", f"{to}/{name}"
+        if os.path.isdir(one):
+            refresh(one, other, link)
+        elif not os.path.exists(other) or not filecmp.cmp(one, other):
+            if os.path.exists(other):
+                os.remove(other)
+            linked(one, other) if link else shutil.copy2(one, other)
+
+
+def linked(one, other):
+    try:
+        os.link(one, other)
+    except OSError:
+        shutil.copy2(one, other)
+
+
+def trees(root):
+    """Returns the folder of the crates' own trees: where git keeps its own files, which rt ci doesn't read, or else a temporary one."""
+    ran = subprocess.run(["git", "-C", root, "rev-parse", "--absolute-git-dir"], capture_output=True, text=True)
+    name = hashlib.sha256(root.encode()).hexdigest()[:16]
+    return f"{ran.stdout.strip()}/apart" if ran.returncode == 0 else f"{tempfile.gettempdir()}/apart-{os.getuid()}-{name}"
+
+
+def put_lists(root, top, crates):
+    """Gives a tree of these crates its crates.txt and its HANDLES."""
+    with open(f"{top}/crates.txt", "w", encoding="utf-8") as it:
+        it.writelines(line for name, line in lines_of(root).items() if name in crates)
+    shutil.copy2(f"{root}/HANDLES", top)
+
+
+def apart(root, crate):
+    """Returns a tree of its own for work on a crate: one rt locks all crates below the one that it works in, so that in one tree
+    no two work side by side. It holds the crates below with their libraries; the crate's own out/ stays there for the next time."""
+    top = f"{trees(root)}/{crate}"
+    os.makedirs(f"{top}/.git", exist_ok=True)
+    needed = below(root, crate)
+    put_lists(root, top, needed)
+    for name in set(os.listdir(f"{top}/crates") if os.path.isdir(f"{top}/crates") else []) - set(needed):
+        shutil.rmtree(f"{top}/crates/{name}")
+    for name in needed:
+        for part in ("src", "specs", "proofs", "data"):
+            refresh(f"{root}/crates/{name}/{part}", f"{top}/crates/{name}/{part}", False)
+        if name != crate or not os.path.isdir(f"{top}/crates/{name}/out/rlib"):
+            refresh(f"{root}/crates/{name}/out/rlib", f"{top}/crates/{name}/out/rlib", True)
+    for name in ("stdin", "stdout", "args", "status"):
+        if os.path.isfile(f"{root}/crates/{crate}/{name}"):
+            shutil.copy2(f"{root}/crates/{crate}/{name}", f"{top}/crates/{crate}")
+    return top
+
+
+def hand_over(root, crate):
+    """Gives the repository what was built of a crate in its own tree: its library, or its program."""
+    made, to = f"{trees(root)}/{crate}/crates/{crate}/out", f"{root}/crates/{crate}/out"
+    os.makedirs(to, exist_ok=True)
+    refresh(f"{made}/rlib", f"{to}/rlib", True)
+    for name in (crate, f"{crate}_tests"):
+        if os.path.isfile(f"{made}/{name}"):
+            shutil.copy2(f"{made}/{name}", f"{to}/{name}.new")
+            os.replace(f"{to}/{name}.new", f"{to}/{name}")
+
+
+def build(root, crates, folder, words_of, tell):
+    """Builds the crates, each behind those that it names and first those with the longest chain of others behind them. A crate's
+    command is words_of(crate), its log stands in the folder. Returns the first crate that was not built, or None."""
+    behind = dict.fromkeys(crates, 0)
+    for crate in reversed([*crates]):
+        behind[crate] += sum(map(os.path.getsize, texts_of(root, crate)))
+        for it in crates[crate]:
+            behind[it] = max(behind[it], behind[crate])
+    left, running, done, most = sorted(crates, key=lambda it: -behind[it]), {}, set(), lanes()
+
+    def prove(crate, jobs):
+        with open(f"{folder}/{crate}.log", "wb") as log:
+            at = f"{apart(root, crate)}/crates/{crate}"
+            words = [*words_of(crate)[:2], "--jobs", str(jobs), *words_of(crate)[2:]]
+            status = subprocess.run(words, cwd=at, stdin=subprocess.DEVNULL, stdout=log, stderr=log).returncode
+        if not status:
+            hand_over(root, crate)
+        return status
+
+    with ThreadPoolExecutor(most) as pool:
+        while left or running:
+            ready = [it for it in left if done.issuperset(crates[it])]
+            idle = most - sum(jobs for _, jobs in running.values())
+            while ready and idle > 0:
+                # (the processors that no other crate waits for go to this one; to a small one each would only load its libraries again)
+                crate, spare = ready[0], max(1, min(4, idle // len(ready)))
+                jobs = spare if is_large(root, crate) else 1
+                ready, idle = ready[1:], idle - jobs
+                left.remove(crate)
+                tell(crate, len(left))
+                running[pool.submit(prove, crate, jobs)] = crate, jobs
+            for it in wait(running, return_when=FIRST_COMPLETED).done:
+                crate, _ = running.pop(it)
+                if it.result():
+                    wait(running)
+                    return crate
+                done.add(crate)
+    return None
