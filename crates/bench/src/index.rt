@@ -1,15 +1,14 @@
 //! The index: numbered quads in three orders.
 
-mod data;
 mod measure;
-mod work;
+pub mod work;
 
-use anyhow::Result;
+use std::io;
 
 /// With a number of entries their times; without one the work at a small size.
-pub fn run(rt: &HostRuntime, size: Option<u32>) -> Result<()> {
+pub fn run(rt: &HostRuntime, size: Option<u32>) -> io::Result<()> {
     match size {
         None => work::small(rt),
-        Some(size) => measure::all(rt, size),
+        Some(size) => measure::times(rt, size),
     }
 }

@@ -1,38 +1,28 @@
 //! Bytes of N-Quads to quads.
 
-use anyhow::Result;
+use crate::timing::{Work, show};
 use qs_nquads::read;
-use std::fs;
-use std::time::Instant;
+use std::alloc::Global;
+use std::{fs, io};
 
 // Two statements, of which one has two labels.
 const SHORT: &str = "<http://e/s> <http://e/p> \"a\" .\n_:a <http://e/p> _:b <http://e/g> .\n";
 
-// Prints the number of quads and the next blank node's number, or the fault.
-fn show(rt: &HostRuntime, bytes: &[u8]) -> Result<()> {
-    match read(rt.alloc(), bytes, 0) {
-        Ok((quads, next)) => {
-            let n = quads.len();
-            println!(rt; "{n} quads, next blank node {next}")?;
-        }
-        Err(fault) => println!(rt; "{fault}")?,
+/// The number of quads, and the next blank node's number; no quads where the bytes are at fault.
+pub fn read_all(alloc: Global, bytes: &[u8]) -> (u64, u64) {
+    match read(alloc, bytes, 0) {
+        Ok((quads, next)) => (quads.len() as u64, next),
+        Err(_) => (0, 0),
     }
-    Ok(())
 }
 
-// And the time, which has that of letting the quads go in it.
-fn timed(rt: &HostRuntime, bytes: &[u8]) -> Result<()> {
-    let start = Instant::now(rt)?;
-    show(rt, bytes)?;
-    let time = start.elapsed(rt)?.as_millis();
-    println!(rt; "{time} ms")?;
-    Ok(())
-}
-
-/// With a file's name its quads and the time of one run; without one those of a short text.
-pub fn run(rt: &HostRuntime, name: Option<&String>) -> Result<()> {
+/// With a file's name its quads and the time, that of letting the quads go among it; without one the quads of a short text.
+pub fn run(rt: &HostRuntime, name: Option<&String>) -> io::Result<()> {
     match name {
-        None => show(rt, SHORT.as_bytes()),
-        Some(name) => timed(rt, &fs::read(rt, name)?),
+        None => {
+            let (quads, next) = read_all(rt.alloc(), SHORT.as_bytes());
+            println!(rt; "{quads} quads, next blank node {next}")
+        }
+        Some(name) => show(rt, "quads:", Work::ReadQuads(&fs::read(rt, name)?)),
     }
 }

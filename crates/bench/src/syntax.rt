@@ -6,7 +6,7 @@ use crate::texts::{Reading, Sample};
 pub const SAMPLES: &[Sample] = &[
     // A block of triples, with property lists and paths. It is one element of its group.
     Sample {
-        name: "query, triples",
+        name: "query, triples:",
         reading: Reading::Query,
         front: "PREFIX : <http://example.org/> SELECT ?item ?name {\n",
         unit: "  ?item :name ?name ; :part/:made+ [ :by \"someone\"@en ] .\n  ?item ^:uses ?user , <http://example.org/user/12345> .\n",
@@ -14,7 +14,7 @@ pub const SAMPLES: &[Sample] = &[
     },
     // A filter with a list of expressions.
     Sample {
-        name: "query, expressions",
+        name: "query, expressions:",
         reading: Reading::Query,
         front: "PREFIX : <http://example.org/> ASK { FILTER(?kind IN (\n",
         unit: "  ?price * 2 -1 >= ?least && (STR(?name) = \"a\" || !BOUND(?other)), <http://example.org/c>, :a,\n",
@@ -22,7 +22,7 @@ pub const SAMPLES: &[Sample] = &[
     },
     // Data that is put in.
     Sample {
-        name: "INSERT DATA",
+        name: "INSERT DATA:",
         reading: Reading::Update,
         front: "PREFIX : <http://example.org/>\nINSERT DATA {\n",
         unit: "  <http://example.org/item/12345> :name \"a name of some length\"@en , \"17\"^^<http://www.w3.org/2001/XMLSchema#integer> ; :part _:b1 .\n",
@@ -30,7 +30,7 @@ pub const SAMPLES: &[Sample] = &[
     },
     // Operations with groups: triples, OPTIONAL and VALUES.
     Sample {
-        name: "update, operations",
+        name: "update, operations:",
         reading: Reading::Update,
         front: "PREFIX : <http://example.org/>\n",
         unit: "INSERT { ?item :seen true } WHERE { ?item :name ?name OPTIONAL { ?item ^:uses ?user VALUES ?user { :a :b 17 } } } ;\n",

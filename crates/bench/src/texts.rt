@@ -1,12 +1,11 @@
 //! Texts of a size, and what they are read to.
 
-use crate::timing::{RUNS, Timing};
-use anyhow::Result;
+use crate::line::line;
+use crate::timing::{Work, show};
 use qs_lex::tokens;
 use qs_syntax::{parse_query, parse_update};
 use std::alloc::{AllocError, Global};
-use std::fmt;
-use std::time::Instant;
+use std::io;
 
 /// What a text is read to.
 #[derive(Clone, Copy)]
@@ -25,89 +24,66 @@ pub struct Sample {
     pub end: &'static str,
 }
 
-/// What came of a text.
-#[derive(Clone, Copy)]
-enum Found {
-    /// The number of its tokens, or 0 where it has no token list.
-    Tokens(usize),
-    /// Whether it is a query, or an update.
-    Parsed(bool),
+// Lets a large value go in one place.
+fn is_ok<T: Drop, E: Drop>(outcome: Result<T, E>) -> u64 {
+    u64::from(outcome.is_ok())
 }
 
-impl fmt::Display for Found {
-    fn fmt<W: fmt::Write>(&self, f: &mut fmt::Formatter<W>) -> fmt::Result {
-        match self {
-            Found::Tokens(count) => write!(f, "{count}"),
-            Found::Parsed(is_parsed) => write!(f, "{is_parsed}"),
-        }
+// The number of tokens, or 0 where the text has no token list.
+fn count(alloc: Global, text: &str) -> u64 {
+    match tokens(alloc, text) {
+        Ok(found) => found.len() as u64,
+        Err(_) => 0,
     }
 }
 
-// Lets a large value go in one place.
-fn is_ok<T: Drop, E: Drop>(outcome: Result<T, E>) -> bool {
-    outcome.is_ok()
-}
-
-fn read(alloc: Global, reading: Reading, text: &str) -> Found {
+/// The number of tokens, or 1 where the text is a query, or an update; and else 0.
+pub fn read(alloc: Global, reading: Reading, text: &str) -> u64 {
     match reading {
-        Reading::Tokens => Found::Tokens(tokens(alloc, text).map_or(0, |found| found.len())),
-        Reading::Query => Found::Parsed(is_ok(parse_query(alloc, text))),
-        Reading::Update => Found::Parsed(is_ok(parse_update(alloc, text))),
+        Reading::Tokens => count(alloc, text),
+        Reading::Query => is_ok(parse_query(alloc, text)),
+        Reading::Update => is_ok(parse_update(alloc, text)),
     }
 }
 
 /// The text of so many units.
 fn text_of(alloc: Global, sample: &Sample, units: usize) -> Result<String, AllocError> {
-    let mut text = sample.front.to_string(alloc)?;
-    text.push_str(sample.unit.repeat(alloc, units)?.as_str())?;
+    let mut text = String::new(alloc);
+    text.push_str(sample.front)?;
+    for _unit in 0..units {
+        text.push_str(sample.unit)?;
+    }
     text.push_str(sample.end)?;
     Ok(text)
 }
 
-// Prints what came of a text of ten units.
-fn show(rt: &HostRuntime, sample: &Sample) -> Result<()> {
-    let text = text_of(rt.alloc(), sample, 10)?;
-    let found = read(rt.alloc(), sample.reading, &text);
-    let name = sample.name;
-    println!(rt; "{name}: {found}")?;
-    Ok(())
-}
-
-fn timed(rt: &HostRuntime, reading: Reading, text: &str) -> Result<Timing<Found>> {
-    let mut timing = Timing::new(Found::Tokens(0));
-    for _run in 0..RUNS {
-        let start = Instant::now(rt)?;
-        let found = read(rt.alloc(), reading, text);
-        timing.add(start.elapsed(rt)?, found);
+// Prints what came of the text.
+fn tell(rt: &HostRuntime, sample: &Sample, count: u64) -> io::Result<()> {
+    match sample.reading {
+        Reading::Tokens => line(rt, &[(sample.name, count)]),
+        _ => println!(rt; "{} {}", sample.name, count == 1),
     }
-    Ok(timing)
 }
 
-fn tell(rt: &HostRuntime, name: &str, len: usize, timing: Result<Timing<Found>>) -> Result<()> {
-    let Timing { least, last } = timing?;
-    println!(rt; "{name:<20} {len:>9} bytes {least:>8} us {last}")?;
-    Ok(())
+fn units(sample: &Sample, bytes: Option<u32>) -> usize {
+    match bytes {
+        None => 10,
+        Some(bytes) => (bytes as usize).checked_div(sample.unit.len()).unwrap_or(0),
+    }
 }
 
-// Prints the least time over a text of about so many bytes.
-fn measure(rt: &HostRuntime, sample: &Sample, bytes: usize) -> Result<()> {
-    let units = bytes.checked_div(sample.unit.len()).unwrap_or(0);
-    let text = text_of(rt.alloc(), sample, units)?;
-    tell(
-        rt,
-        sample.name,
-        text.len(),
-        timed(rt, sample.reading, &text),
-    )
+fn run_sample(rt: &HostRuntime, sample: &Sample, bytes: Option<u32>) -> io::Result<()> {
+    let text = text_of(rt.alloc(), sample, units(sample, bytes))?;
+    match bytes {
+        None => tell(rt, sample, read(rt.alloc(), sample.reading, &text)),
+        Some(_) => show(rt, sample.name, Work::ReadText(sample.reading, &text)),
+    }
 }
 
 /// With a number of bytes the times of texts of about so many; without one what comes of short ones.
-pub fn run(rt: &HostRuntime, samples: &[Sample], bytes: Option<u32>) -> Result<()> {
+pub fn run(rt: &HostRuntime, samples: &[Sample], bytes: Option<u32>) -> io::Result<()> {
     for sample in samples {
-        match bytes {
-            None => show(rt, sample)?,
-            Some(bytes) => measure(rt, sample, bytes as usize)?,
-        }
+        run_sample(rt, sample, bytes)?;
     }
     Ok(())
 }

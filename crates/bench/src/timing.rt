@@ -1,36 +1,67 @@
-//! Times.
+//! Times in microseconds, each the least of several runs.
 
-use anyhow::Result;
-use std::time::Duration;
+use crate::line::line;
+use crate::texts::Reading;
+use crate::{dict, endpoint, index, nquads, results, texts};
+use qs_dict::Dict;
+use qs_index::Index;
+use qs_solutions::Answer;
+use qs_terms::Term;
+use std::alloc::Global;
+use std::io;
+use std::time::Instant;
 
 /// How many runs a time is the least of.
 pub const RUNS: u32 = 5;
 
-/// The least time of the runs so far in microseconds, and the value of the last.
+/// Work that changes nothing, with what it is done on.
 #[derive(Clone, Copy)]
-pub struct Timing<T> {
-    pub least: u128,
-    pub last: T,
+pub enum Work<'a> {
+    FindTerms(&'a Dict, &'a [Term]),
+    ReadTerms(&'a Dict),
+    Scan(&'a Index),
+    LookUp(&'a Index, &'a [[u32; 4]]),
+    Feed(&'a [u8], usize),
+    Reply(&'a [u8]),
+    ReadText(Reading, &'a str),
+    ReadQuads(&'a [u8]),
+    Write(&'a Answer),
 }
 
-impl<T: Copy> Timing<T> {
-    /// No run yet, and a value that stands for that.
-    pub fn new(none: T) -> Timing<T> {
-        Timing {
-            least: u128::MAX,
-            last: none,
-        }
-    }
-
-    pub fn add(&mut self, time: Duration, value: T) {
-        self.least = self.least.min(time.as_micros());
-        self.last = value;
+// Does the work, and gives a count that comes of it.
+fn done(alloc: Global, work: Work) -> u64 {
+    match work {
+        Work::FindTerms(dict, terms) => dict::work::find_all(dict, terms),
+        Work::ReadTerms(dict) => dict::work::read_all(dict),
+        Work::Scan(index) => index::work::scan_all(index),
+        Work::LookUp(index, entries) => index::work::look_up(index, entries),
+        Work::Feed(bytes, piece) => u64::from(endpoint::is_ready(alloc, bytes, piece)),
+        Work::Reply(body) => endpoint::reply_len(alloc, body),
+        Work::ReadText(reading, text) => texts::read(alloc, reading, text),
+        Work::ReadQuads(bytes) => nquads::read_all(alloc, bytes).0,
+        Work::Write(answer) => results::json_len(alloc, answer),
     }
 }
 
-/// Prints a time and what was counted.
-pub fn say(rt: &HostRuntime, what: &str, timing: Result<Timing<u64>>) -> Result<()> {
-    let Timing { least, last } = timing?;
-    println!(rt; "{what}: {least} sum {last}")?;
-    Ok(())
+/// The time since the start; the greatest number where the system doesn't tell.
+pub fn micros(rt: &HostRuntime, start: io::Result<Instant>) -> u64 {
+    match start {
+        Ok(start) => match start.elapsed(rt) {
+            Ok(time) => u64::try_from(time.as_micros()).unwrap_or(u64::MAX),
+            Err(_) => u64::MAX,
+        },
+        Err(_) => u64::MAX,
+    }
+}
+
+/// Prints the time of the work, and its count.
+pub fn show(rt: &HostRuntime, what: &str, work: Work) -> io::Result<()> {
+    let mut least = u64::MAX;
+    let mut count = 0;
+    for _run in 0..RUNS {
+        let start = Instant::now(rt);
+        count = done(rt.alloc(), work);
+        least = least.min(micros(rt, start));
+    }
+    line(rt, &[(what, least), ("count", count)])
 }

@@ -1,83 +1,51 @@
-//! Times, each the least of several runs.
+//! The times of that work.
 
-use super::{data, work};
-use crate::timing::{RUNS, Timing, say};
-use anyhow::Result;
+use super::work::{iris, number_all};
+use crate::line::line;
+use crate::timing::{RUNS, Work, micros, show};
 use qs_dict::Dict;
 use qs_terms::Term;
 use std::hash::RandomState;
+use std::io;
 use std::time::Instant;
 
-// One load, into a dictionary of its own.
-fn loaded(rt: &HostRuntime, terms: &[Term]) -> Result<Timing<u64>> {
-    let state = RandomState::new(rt)?;
-    let mut dict = Dict::new(rt.alloc(), u32::MAX, state);
-    again(rt, &mut dict, terms, 1)
-}
-
-// Loads of the terms into an empty dictionary.
-fn load(rt: &HostRuntime, terms: &[Term]) -> Result<Timing<u64>> {
-    let mut timing = loaded(rt, terms)?;
-    for _run in 1..RUNS {
-        let next = loaded(rt, terms)?;
-        timing.least = timing.least.min(next.least);
-    }
-    Ok(timing)
-}
-
-// So many loads of the terms into one dictionary.
-fn again(rt: &HostRuntime, dict: &mut Dict, terms: &[Term], runs: u32) -> Result<Timing<u64>> {
-    let mut timing = Timing::new(0);
-    for _run in 0..runs {
-        let start = Instant::now(rt)?;
-        let sum = work::number_all(dict, terms)?;
-        timing.add(start.elapsed(rt)?, sum);
-    }
-    Ok(timing)
-}
-
-fn find(rt: &HostRuntime, dict: &Dict, terms: &[Term]) -> Result<Timing<u64>> {
-    let mut timing = Timing::new(0);
+// The time in which a dictionary of its own numbers the terms, or numbers them again.
+fn load(rt: &HostRuntime, terms: &[Term], state: RandomState, again: bool) -> u64 {
+    let mut least = u64::MAX;
     for _run in 0..RUNS {
-        let start = Instant::now(rt)?;
-        let sum = work::find_all(dict, terms);
-        timing.add(start.elapsed(rt)?, sum);
+        let mut dict = Dict::new(rt.alloc(), u32::MAX, state);
+        if again {
+            number_all(&mut dict, terms);
+        }
+        let start = Instant::now(rt);
+        number_all(&mut dict, terms);
+        least = least.min(micros(rt, start));
     }
-    Ok(timing)
+    least
 }
 
-fn read(rt: &HostRuntime, dict: &Dict) -> Result<Timing<u64>> {
-    let mut timing = Timing::new(0);
-    for _run in 0..RUNS {
-        let start = Instant::now(rt)?;
-        let count = work::read_all(dict);
-        timing.add(start.elapsed(rt)?, count);
-    }
-    Ok(timing)
+fn show_loads(rt: &HostRuntime, terms: &[Term], state: RandomState) -> io::Result<()> {
+    line(rt, &[("load:", load(rt, terms, state, false))])?;
+    line(rt, &[("load again:", load(rt, terms, state, true))])
 }
 
-fn in_order(rt: &HostRuntime, dict: &mut Dict, terms: &[Term]) -> Result<()> {
-    work::number_all(dict, terms)?;
-    say(rt, "load again", again(rt, dict, terms, RUNS))?;
-    say(rt, "find in order", find(rt, dict, terms))?;
-    say(rt, "read", read(rt, dict))
+fn show_finds<'a>(
+    rt: &HostRuntime,
+    dict: &'a Dict,
+    terms: &'a [Term],
+    scattered: &'a [Term],
+) -> io::Result<()> {
+    show(rt, "find in order:", Work::FindTerms(dict, terms))?;
+    show(rt, "read:", Work::ReadTerms(dict))?;
+    show(rt, "find scattered:", Work::FindTerms(dict, scattered))
 }
 
-fn scattered(rt: &HostRuntime, dict: &Dict, size: u32) -> Result<()> {
-    let terms = data::iris(rt.alloc(), size, 611_953)?;
-    say(rt, "find scattered", find(rt, dict, &terms))
-}
-
-fn measured(rt: &HostRuntime, dict: &mut Dict, terms: &[Term], size: u32) -> Result<()> {
-    say(rt, "load", load(rt, terms))?;
-    in_order(rt, dict, terms)?;
-    scattered(rt, dict, size)
-}
-
-/// All measurements at one size.
-pub fn all(rt: &HostRuntime, size: u32) -> Result<()> {
-    let state = RandomState::new(rt)?;
-    let terms = data::iris(rt.alloc(), size, 1)?;
+/// All times at one size.
+pub fn times(rt: &HostRuntime, state: RandomState, size: u32) -> io::Result<()> {
+    let terms = iris(rt.alloc(), size, 1)?;
+    show_loads(rt, &terms, state)?;
+    let scattered = iris(rt.alloc(), size, 611_953)?;
     let mut dict = Dict::new(rt.alloc(), u32::MAX, state);
-    measured(rt, &mut dict, &terms, size)
+    number_all(&mut dict, &terms);
+    show_finds(rt, &dict, &terms, &scattered)
 }

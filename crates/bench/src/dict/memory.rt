@@ -1,40 +1,41 @@
-//! Memory of a load, as the system counts it.
+//! The memory of a dictionary, as the system counts it.
 
-use crate::iri::iri;
-use anyhow::Result;
+use super::work::len;
+use crate::line::line;
+use crate::terms::iri;
 use qs_dict::Dict;
-use std::fs;
+use std::alloc::Global;
 use std::hash::RandomState;
+use std::{fs, io};
 
-// The kilobytes that the process has, or 0 where the system doesn't tell.
-fn resident(rt: &HostRuntime) -> Result<u64> {
-    let status = fs::read_to_string(rt, "/proc/self/status")?;
-    for line in status.lines() {
-        if let Some(rest) = line.strip_prefix("VmRSS:") {
-            return Ok(rest.trim_end_matches("kB").trim().parse::<u64>()?);
+// The second of the numbers in a line.
+fn second(numbers: &str) -> Option<u64> {
+    let mut words = numbers.split(' ');
+    let _first = words.next();
+    words.next()?.parse::<u64>().ok()
+}
+
+// The kilobytes that the process has, or 0 where the system doesn't tell. It tells pages, of 4 KB each.
+fn resident(rt: &HostRuntime) -> u64 {
+    match fs::read_to_string(rt, "/proc/self/statm") {
+        Ok(pages) => second(&pages).unwrap_or(0).saturating_mul(4),
+        Err(_) => 0,
+    }
+}
+
+fn number_below(alloc: Global, dict: &mut Dict, size: u32) {
+    for number in 0..size {
+        if let Ok(term) = iri(alloc, number) {
+            let _number = dict.number(&term);
         }
     }
-    Ok(0)
-}
-
-fn number_below(rt: &HostRuntime, dict: &mut Dict, size: u32) -> Result<()> {
-    for number in 0..size {
-        dict.number(&iri(rt.alloc(), number)?)?;
-    }
-    Ok(())
-}
-
-fn show(rt: &HostRuntime, dict: &mut Dict, size: u32) -> Result<()> {
-    let before = resident(rt)?;
-    number_below(rt, dict, size)?;
-    let grown = resident(rt)?.saturating_sub(before);
-    println!(rt; "terms {} kilobytes {grown}", dict.len())?;
-    Ok(())
 }
 
 /// The memory that a dictionary of `size` terms takes.
-pub fn load(rt: &HostRuntime, size: u32) -> Result<()> {
-    let state = RandomState::new(rt)?;
+pub fn show(rt: &HostRuntime, state: RandomState, size: u32) -> io::Result<()> {
+    let before = resident(rt);
     let mut dict = Dict::new(rt.alloc(), u32::MAX, state);
-    show(rt, &mut dict, size)
+    number_below(rt.alloc(), &mut dict, size);
+    let grown = resident(rt).saturating_sub(before);
+    line(rt, &[("terms", len(&dict)), ("kilobytes", grown)])
 }

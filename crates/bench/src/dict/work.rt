@@ -1,18 +1,32 @@
-//! The work that is measured.
+//! The work that is done on dictionaries.
 
-use super::data;
-use anyhow::Result;
-use qs_dict::{Dict, DictFault};
+use crate::line::line;
+use crate::terms::iri;
+use qs_dict::Dict;
 use qs_terms::Term;
+use std::alloc::{AllocError, Global};
 use std::hash::RandomState;
+use std::io;
 
-/// Numbers each term, and gives the sum of the numbers.
-pub fn number_all(dict: &mut Dict, terms: &[Term]) -> Result<u64, DictFault> {
+/// The IRIs of the numbers below `size`, in steps through them: by a long one, one after another stands far off in memory.
+pub fn iris(alloc: Global, size: u32, step: u32) -> Result<Vec<Term>, AllocError> {
+    let mut terms = Vec::new(alloc);
+    for i in 0..size {
+        let number = u64::from(i) * u64::from(step) % u64::from(size);
+        terms.push(iri(alloc, number as u32)?)?;
+    }
+    Ok(terms)
+}
+
+/// Numbers each term, and gives the sum of the numbers. A term that is refused has none.
+pub fn number_all(dict: &mut Dict, terms: &[Term]) -> u64 {
     let mut sum: u64 = 0;
     for term in terms {
-        sum = sum.wrapping_add(u64::from(dict.number(term)?));
+        if let Ok(number) = dict.number(term) {
+            sum = sum.wrapping_add(u64::from(number));
+        }
     }
-    Ok(sum)
+    sum
 }
 
 /// Finds each term, and gives the sum of the numbers.
@@ -37,48 +51,49 @@ pub fn read_all(dict: &Dict) -> u64 {
     count
 }
 
-fn numbered(rt: &HostRuntime, dict: &mut Dict, terms: &[Term]) -> Result<()> {
-    let first = number_all(dict, terms)?;
-    let again = number_all(dict, terms)?;
-    println!(rt; "numbered {first} again {again} terms {}", dict.len())?;
-    Ok(())
+/// The number of terms.
+pub fn len(dict: &Dict) -> u64 {
+    u64::from(dict.len())
 }
 
-fn refused(rt: &HostRuntime, dict: &mut Dict) -> Result<()> {
-    if let Err(fault) = dict.number(&Term::Blank(0)) {
-        println!(rt; "refused: {fault}")?;
+// Prints why a full dictionary numbers no other term.
+fn refused(rt: &HostRuntime, dict: &mut Dict) -> io::Result<()> {
+    match dict.number(&Term::Blank(0)) {
+        Ok(_) => Ok(()),
+        Err(fault) => println!(rt; "refused: {fault}"),
     }
-    Ok(())
 }
 
-fn read_back(rt: &HostRuntime, dict: &Dict, terms: &[Term]) -> Result<()> {
-    let found = find_all(dict, terms);
-    println!(rt; "found {found} read {}", read_all(dict))?;
-    Ok(())
-}
-
-fn cut(rt: &HostRuntime, dict: &mut Dict, terms: &[Term]) -> Result<()> {
-    dict.cut(600);
-    let found = find_all(dict, terms);
-    println!(rt;
-        "cut to {} found {found} read {}",
-        dict.len(),
-        read_all(dict)
+fn worked(rt: &HostRuntime, dict: &mut Dict, terms: &[Term]) -> io::Result<()> {
+    let numbered = number_all(dict, terms);
+    let again = number_all(dict, terms);
+    line(
+        rt,
+        &[
+            ("numbered", numbered),
+            ("again", again),
+            ("terms", len(dict)),
+        ],
     )?;
-    Ok(())
-}
-
-fn worked(rt: &HostRuntime, dict: &mut Dict, terms: &[Term]) -> Result<()> {
-    numbered(rt, dict, terms)?;
     refused(rt, dict)?;
-    read_back(rt, dict, terms)?;
-    cut(rt, dict, terms)
+    line(
+        rt,
+        &[("found", find_all(dict, terms)), ("read", read_all(dict))],
+    )?;
+    dict.cut(600);
+    line(
+        rt,
+        &[
+            ("cut to", len(dict)),
+            ("found", find_all(dict, terms)),
+            ("read", read_all(dict)),
+        ],
+    )
 }
 
-/// The work at a small size, by its counts.
-pub fn small(rt: &HostRuntime) -> Result<()> {
-    let state = RandomState::new(rt)?;
-    let terms = data::iris(rt.alloc(), 1000, 1)?;
+/// The work at a small size.
+pub fn small(rt: &HostRuntime, state: RandomState) -> io::Result<()> {
+    let terms = iris(rt.alloc(), 1000, 1)?;
     let mut dict = Dict::new(rt.alloc(), 1000, state);
     worked(rt, &mut dict, &terms)
 }

@@ -1,15 +1,32 @@
-//! The work that is measured.
+//! The work that is done on indexes.
 
-use super::data;
-use anyhow::Result;
+use crate::line::line;
+use crate::timing::micros;
 use qs_index::Index;
 use std::alloc::{AllocError, Global};
+use std::io;
+use std::time::Instant;
 
-/// How many entries a scan of a whole graph hands out.
-pub fn scan_all(index: &Index, graph: u32) -> u64 {
+/// `size` entries of one graph: in random order, or ascending, with ten objects a subject.
+pub fn entries(alloc: Global, size: u32, is_random: bool) -> Result<Vec<[u32; 4]>, AllocError> {
+    let mut entries = Vec::new(alloc);
+    let mut x: u32 = 1;
+    for i in 0..size {
+        x = x.wrapping_mul(1664525).wrapping_add(1013904223);
+        entries.push(if is_random {
+            [0, x % 10000, x / 65536 % 10, x]
+        } else {
+            [0, i / 10, i % 10, i]
+        })?;
+    }
+    Ok(entries)
+}
+
+/// How many entries a scan of the graph hands out.
+pub fn scan_all(index: &Index) -> u64 {
     let mut count: u64 = 0;
-    for entry in index.scan(graph, None, None, None) {
-        count = count.wrapping_add(1 + u64::from(entry[3] % 2 / 2));
+    for entry in index.scan(0, None, None, None) {
+        count = count.wrapping_add(u64::from(entry[0] == 0));
     }
     count
 }
@@ -26,11 +43,24 @@ pub fn look_up(index: &Index, entries: &[[u32; 4]]) -> u64 {
     count
 }
 
-/// Makes room for the entries and puts them in.
-pub fn load(index: &mut Index, entries: &mut [[u32; 4]]) -> Result<(), AllocError> {
-    index.reserve(entries.len() as u64)?;
-    index.insert_all(entries);
-    Ok(())
+// The time of putting the entries into an index.
+fn insert(rt: &HostRuntime, index: &mut Index, entries: &mut [[u32; 4]]) -> u64 {
+    match index.reserve(entries.len() as u64) {
+        Ok(()) => {
+            let start = Instant::now(rt);
+            index.insert_all(entries);
+            micros(rt, start)
+        }
+        Err(_) => u64::MAX,
+    }
+}
+
+/// The time of putting a copy of the entries into an index; a copy, as the order of what is put in is lost.
+pub fn insert_copy(rt: &HostRuntime, index: &mut Index, entries: &[[u32; 4]]) -> u64 {
+    match entries.to_vec(rt.alloc()) {
+        Ok(mut entries) => insert(rt, index, &mut entries),
+        Err(_) => u64::MAX,
+    }
 }
 
 // Removes the entries of one predicate, and gives how many were there.
@@ -44,21 +74,28 @@ fn remove(index: &mut Index, entries: &[[u32; 4]], predicate: u32) -> u64 {
     removed
 }
 
-fn worked(rt: &HostRuntime, index: &mut Index, entries: &mut [[u32; 4]]) -> Result<()> {
-    load(index, entries)?;
-    let first = scan_all(index, 0);
-    load(index, entries)?;
-    let again = scan_all(index, 0);
+fn worked(rt: &HostRuntime, index: &mut Index, entries: &[[u32; 4]]) -> io::Result<()> {
+    insert_copy(rt, index, entries);
+    let inserted = scan_all(index);
+    insert_copy(rt, index, entries);
+    let again = scan_all(index);
     let found = look_up(index, entries);
     let removed = remove(index, entries, 3);
-    let left = scan_all(index, 0);
-    println!(rt; "inserted {first} again {again} found {found} removed {removed} left {left}")?;
-    Ok(())
+    line(
+        rt,
+        &[
+            ("inserted", inserted),
+            ("again", again),
+            ("found", found),
+            ("removed", removed),
+            ("left", scan_all(index)),
+        ],
+    )
 }
 
-/// The work at a small size, by its counts.
-pub fn small(rt: &HostRuntime) -> Result<()> {
-    let mut entries = data::ascending(rt.alloc(), 1000)?;
+/// The work at a small size.
+pub fn small(rt: &HostRuntime) -> io::Result<()> {
+    let entries = entries(rt.alloc(), 1000, false)?;
     let mut index = Index::new(rt.alloc());
-    worked(rt, &mut index, &mut entries)
+    worked(rt, &mut index, &entries)
 }
