@@ -15,7 +15,7 @@ use Rattle.qs_patterns.specs.declared.pattern.TriplePattern.{TriplePattern}
 use Rattle.qs_patterns.specs.declared.pattern.BasicPattern.{BasicPattern}
 use Rattle.qs_algebra.specs.declared.hidden.Hidden.{Hidden}
 use Rattle.qs_algebra.specs.Numbers.{hidden_of, hidden_number, width}
-use Rattle.qs_algebra.specs.Outcome.{Outcome, and_then, all}
+use Rattle.qs_terms.specs.Outcome.{Outcome, and_then, all}
 
 abbrev pub term_slot : List Name → Hidden → TermPattern → Slot
 term_slot names hidden (term.Variable v) = slot.Variable (place_of names v.name)

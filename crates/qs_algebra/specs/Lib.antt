@@ -1,4 +1,3 @@
-pub mod Outcome
 pub mod Numbers
 pub mod Basic
 pub mod Translation

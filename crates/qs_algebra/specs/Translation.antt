@@ -16,7 +16,7 @@ use Rattle.qs_scope.specs.Names.{Name}
 use Rattle.qs_patterns.specs.declared.pattern.Pattern.{Pattern}
 use Rattle.qs_patterns.specs.declared.pattern.Pattern.TheVariants as pattern
 use Rattle.qs_algebra.specs.Basic.{basic_pattern}
-use Rattle.qs_algebra.specs.Outcome.{Outcome, and_then, all}
+use Rattle.qs_terms.specs.Outcome.{Outcome, and_then, all}
 
 -- one group, or a union of groups
 abbrev pub one_or_union : List Pattern → Pattern

@@ -2,7 +2,7 @@
 
 ghost use Rattle.std.specs.Prelude.{◌≡◌, IfOk, map};
 ghost use Rattle.qs_algebra.specs.Basic as spec;
-ghost use Rattle.qs_algebra.specs.Outcome.{Gives, all};
+ghost use Rattle.qs_terms.specs.Outcome.{OrWantOfMemory, all};
 
 use crate::hidden::{Hidden, hidden_of};
 use qs_ast::pattern::{Triple, Verb};
@@ -30,7 +30,7 @@ fn term_slot<'a>(
 }
 
 fn verb_slot<'a>(alloc: Global, names: &Seen<'a>, verb: &'a Verb) -> Result<Slot, QFault>
-    ensures { Gives (spec.verb_slot names.now verb.now) result }
+    ensures { OrWantOfMemory (spec.verb_slot names.now verb.now) result }
 {
     match verb {
         Verb::Variable(variable) => Ok(Slot::Variable(names.place(&variable.name))),
@@ -45,7 +45,7 @@ fn triple_pattern<'a>(
     hidden: &Hidden<'a>,
     triple: &'a Triple,
 ) -> Result<TriplePattern, QFault>
-    ensures { Gives (spec.triple_pattern names.now hidden.now triple.now) result }
+    ensures { OrWantOfMemory (spec.triple_pattern names.now hidden.now triple.now) result }
 {
     let predicate = verb_slot(alloc, names, triple.verb.get())?;
     let subject = term_slot(alloc, names, hidden, triple.subject.get())?;
@@ -63,7 +63,7 @@ fn triple_patterns<'a>(
     hidden: &Hidden<'a>,
     triples: &'a [Triple],
 ) -> Result<Items<TriplePattern>, QFault>
-    ensures { Gives (all (map (spec.triple_pattern names.now hidden.now) triples.now)) result }
+    ensures { OrWantOfMemory (all (map (spec.triple_pattern names.now hidden.now) triples.now)) result }
 {
     let mut patterns = Items::new(alloc);
     for triple in triples {
@@ -79,7 +79,7 @@ pub fn basic_pattern<'a>(
     names: &Seen<'a>,
     triples: &'a [Triple],
 ) -> Result<BasicPattern, QFault>
-    ensures { Gives (spec.basic_pattern names.now triples.now) result }
+    ensures { OrWantOfMemory (spec.basic_pattern names.now triples.now) result }
 {
     let hidden = hidden_of(alloc, triples)?;
     let triples = triple_patterns(alloc, names, &hidden, triples)?;

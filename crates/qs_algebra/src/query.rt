@@ -1,6 +1,6 @@
 //! The patterns of queries (SPARQL 1.1 Query, 18.2).
 
-ghost use Rattle.qs_algebra.specs.Outcome.{Gives};
+ghost use Rattle.qs_terms.specs.Outcome.{OrWantOfMemory};
 ghost use Rattle.qs_algebra.specs.Translation as spec;
 
 use crate::basic::basic_pattern;
@@ -16,7 +16,7 @@ fn construct_pattern<'a>(
     names: &Seen<'a>,
     construct: &'a Construct,
 ) -> Result<Pattern, QFault>
-    ensures { Gives (spec.template_or_group names.now construct.now.template construct.now.pattern) result }
+    ensures { OrWantOfMemory (spec.template_or_group names.now construct.now.template construct.now.pattern) result }
 {
     match &construct.pattern {
         None => {
@@ -28,7 +28,7 @@ fn construct_pattern<'a>(
 }
 
 fn form_pattern<'a>(alloc: Global, names: &Seen<'a>, form: &'a QueryForm) -> Result<Pattern, QFault>
-    ensures { Gives (spec.form_pattern names.now form.now) result }
+    ensures { OrWantOfMemory (spec.form_pattern names.now form.now) result }
 {
     match form {
         QueryForm::Select(select) => group_pattern(alloc, names, &select.pattern),
@@ -43,7 +43,7 @@ fn form_pattern<'a>(alloc: Global, names: &Seen<'a>, form: &'a QueryForm) -> Res
 /// # Errors
 /// `QFault::Later` where a form has no meaning yet; `QFault::Memory` for want of memory.
 pub fn translate(alloc: Global, query: &Query) -> Result<Pattern, QFault>
-    ensures { Gives (spec.translated query.now) result }
+    ensures { OrWantOfMemory (spec.translated query.now) result }
 {
     if query.values.is_some() {
         return Err(QFault::Later);

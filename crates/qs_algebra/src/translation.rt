@@ -1,7 +1,7 @@
 //! Groups as patterns of the algebra (SPARQL 1.1 Query, 18.2.2).
 
 ghost use Rattle.std.specs.Prelude.{◌≡◌, map};
-ghost use Rattle.qs_algebra.specs.Outcome.{Gives, all};
+ghost use Rattle.qs_terms.specs.Outcome.{OrWantOfMemory, all};
 ghost use Rattle.qs_algebra.specs.Translation as spec;
 
 use crate::basic::basic_pattern;
@@ -47,7 +47,7 @@ pub fn group_pattern<'a>(
     names: &Seen<'a>,
     group: &'a Group,
 ) -> Result<Pattern, QFault>
-    ensures { Gives (spec.group_pattern names.now group.now) result }
+    ensures { OrWantOfMemory (spec.group_pattern names.now group.now) result }
 {
     if !group.filters.is_empty() {
         return Err(QFault::Later);
@@ -62,7 +62,7 @@ fn parts<'a>(
     names: &Seen<'a>,
     patterns: &'a [GraphPattern],
 ) -> Result<Items<Pattern>, QFault>
-    ensures { Gives (all (map (spec.part names.now) patterns.now)) result }
+    ensures { OrWantOfMemory (all (map (spec.part names.now) patterns.now)) result }
 {
     let mut parts = Items::new(alloc);
     for pattern in patterns {
@@ -74,7 +74,7 @@ fn parts<'a>(
 
 #[cycle(group)]
 fn part<'a>(alloc: Global, names: &Seen<'a>, pattern: &'a GraphPattern) -> Result<Pattern, QFault>
-    ensures { Gives (spec.part names.now pattern.now) result }
+    ensures { OrWantOfMemory (spec.part names.now pattern.now) result }
 {
     match pattern {
         GraphPattern::Triples(triples) => {
@@ -95,7 +95,7 @@ fn operands<'a>(
     names: &Seen<'a>,
     groups: &'a [Group],
 ) -> Result<Items<Pattern>, QFault>
-    ensures { Gives (all (map (spec.group_pattern names.now) groups.now)) result }
+    ensures { OrWantOfMemory (all (map (spec.group_pattern names.now) groups.now)) result }
 {
     let mut parts = Items::new(alloc);
     for group in groups {

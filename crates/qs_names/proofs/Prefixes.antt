@@ -12,7 +12,7 @@ use Rattle.std.proofs.lemmas.Map.Text.{is_eq-slice_cmp}
 use Rattle.std.specs.List.{before_first, after_first}
 use Rattle.qs_terms.specs.declared.fault.QFault.{QFault}
 use Rattle.qs_tree.specs.declared.token.Span.{Span}
-use Rattle.qs_names.specs.Gives.{Gives}
+use Rattle.qs_terms.specs.Outcome.{OrWantOfMemory}
 use Rattle.qs_escapes.specs.Piece.{piece}
 use Rattle.qs_names.specs.Names.{Names, declared, prefixed, is_colon, joined}
 
@@ -38,6 +38,6 @@ put k v (e ∷ es) = put_at (slice_cmp nat_cmp k.now e.0.now) k v e es refl (put
 -- a name whose prefix is declared
 pub expands : (names : Names) (span : Span) (name prefix local i : List ℕ) (result : Result (List ℕ) QFault) → name ≡ piece names.text span.start span.end
     → prefix ≡ before_first is_colon name → lookup (bytes_eq prefix) names.prefixes ≡ Some i → local ≡ after_first is_colon name
-    → Gives (joined span.start (Some i) local) result → Gives (prefixed names span) result
+    → OrWantOfMemory (joined span.start (Some i) local) result → OrWantOfMemory (prefixed names span) result
 unfolding prefixed
 expands names span name prefix local i result n p h l g = rw (← n, ← p, h, ← l) g

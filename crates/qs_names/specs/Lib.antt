@@ -1,2 +1,2 @@
-pub mod Gives
+pub mod OrWantOfMemory
 pub mod Names

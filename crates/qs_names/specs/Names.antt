@@ -10,6 +10,7 @@ use Rattle.std.specs.Map.{lookup}
 use Rattle.std.specs.BTreeMap.{insert_entry}
 use Rattle.qs_terms.specs.Iri.{checked_iri}
 use Rattle.qs_terms.specs.Literal as lit
+use Rattle.qs_terms.specs.Literal.{xsd_string, xsd_integer, xsd_boolean}
 use Rattle.qs_terms.specs.declared.fault.TermFault.{TermFault}
 use Rattle.qs_terms.specs.declared.fault.QFault.{QFault}
 use Rattle.qs_terms.specs.declared.fault.QFault.TheVariants as fault
@@ -90,15 +91,6 @@ predicate names (written.Iri i) = iri names i
 predicate names written.RdfType = Ok rdf_type
 
 -- ---- literals (SPARQL 1.1 Query, 4.1.2)
-
-unfoldable pub xsd_string : List ℕ
-xsd_string = codes "http://www.w3.org/2001/XMLSchema#string"
-
-unfoldable pub xsd_integer : List ℕ
-xsd_integer = codes "http://www.w3.org/2001/XMLSchema#integer"
-
-unfoldable pub xsd_boolean : List ℕ
-xsd_boolean = codes "http://www.w3.org/2001/XMLSchema#boolean"
 
 -- how many quotation marks stand at each end: three of a kind, or one
 abbrev pub marks : List ℕ → ℕ

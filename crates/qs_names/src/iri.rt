@@ -3,7 +3,7 @@
 ghost use Rattle.std.specs.Prelude.{◌≡◌, Some, Ok};
 ghost use Rattle.std.specs.List.{before_first, after_first};
 ghost use Rattle.qs_terms.specs.Iri.{checked_iri};
-ghost use Rattle.qs_names.specs.Gives.{Gives};
+ghost use Rattle.qs_terms.specs.Outcome.{OrWantOfMemory};
 ghost use Rattle.qs_names.specs.Names.{full, is_colon};
 
 use crate::piece::inside;
@@ -28,7 +28,7 @@ pub(crate) fn absolute(place: usize, text: Text) -> Result<Iri, QFault>
 /// The IRI that is written as `<..>`.
 #[tactic(auto, unfolding(crate::specs::Names::full))]
 pub(crate) fn full_iri(alloc: Global, text: &str, span: Span) -> Result<Iri, QFault>
-    ensures { Gives (full text.now span) result }
+    ensures { OrWantOfMemory (full text.now span) result }
 {
     let text = decoded(alloc, inside(text, span, 1), Escapes::Codepoints)?;
     absolute(span.start, text)
@@ -36,7 +36,7 @@ pub(crate) fn full_iri(alloc: Global, text: &str, span: Span) -> Result<Iri, QFa
 
 /// The IRI that a prefix stands for, and a local name behind it.
 pub(crate) fn expanded(alloc: Global, place: usize, start: &str, local: &str) -> Result<Iri, QFault>
-    ensures { Gives (Rattle.qs_names.specs.Names.joined place (Some start.now) local.now) result }
+    ensures { OrWantOfMemory (Rattle.qs_names.specs.Names.joined place (Some start.now) local.now) result }
 {
     let text = joined(alloc, start, local)?;
     absolute(place, text)
@@ -56,7 +56,7 @@ pub(crate) fn parted(name: &str) -> (&str, &str)
 /// The IRI rdf:type.
 #[tactic(auto, unfolding(crate::specs::Names::rdf_type))]
 pub(crate) fn rdf_type(alloc: Global) -> Result<Iri, QFault>
-    ensures { Gives (Ok Rattle.qs_names.specs.Names.rdf_type) result }
+    ensures { OrWantOfMemory (Ok Rattle.qs_names.specs.Names.rdf_type) result }
 {
     let text = Text::new(alloc, RDF_TYPE)?;
     absolute(0, text)

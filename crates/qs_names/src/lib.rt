@@ -2,7 +2,7 @@
 //! prefixes that are declared so far (SPARQL 1.1 Query, 4.1).
 //!
 //! The definitions stand in `specs/`: `Names.antt` has them form by form, over the escapes and the pieces of texts of `qs_escapes`.
-//! `Gives.antt` says how want of memory is an answer.
+//! `Refused.antt` says which literals aren't lawful.
 #![tactic(auto)]
 
 mod iri;

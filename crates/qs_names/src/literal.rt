@@ -2,9 +2,10 @@
 
 ghost use Rattle.std.specs.Prelude.{◌≡◌, IfOk, Ok, Some};
 ghost use Rattle.std.specs.Result.{result_ok};
-ghost use Rattle.qs_terms.specs.Literal.{typed, checked_typed, checked_tagged};
-ghost use Rattle.qs_names.specs.Gives.{Gives, unless_refused};
-ghost use Rattle.qs_names.specs.Names.{marks, xsd_string, xsd_integer, xsd_boolean};
+ghost use Rattle.qs_terms.specs.Literal.{xsd_string, xsd_integer, xsd_boolean, typed, checked_typed, checked_tagged};
+ghost use Rattle.qs_terms.specs.Outcome.{OrWantOfMemory};
+ghost use Rattle.qs_names.specs.Refused.{unless_refused};
+ghost use Rattle.qs_names.specs.Names.{marks};
 
 use crate::piece::{inside, whole};
 use qs_escapes::Escapes;
@@ -12,12 +13,6 @@ use qs_escapes::decoded::decoded;
 use qs_terms::{Iri, Lit, QFault, TermFault, Text};
 use qs_tree::token::Span;
 use std::alloc::{AllocError, Global};
-
-const XSD_STRING: &str = "http://www.w3.org/2001/XMLSchema#string";
-
-const XSD_INTEGER: &str = "http://www.w3.org/2001/XMLSchema#integer";
-
-const XSD_BOOLEAN: &str = "http://www.w3.org/2001/XMLSchema#boolean";
 
 fn marks(written: &str) -> usize
     ensures { result ≡ marks written.now }
@@ -51,19 +46,17 @@ fn unless_refused(literal: Result<Lit, TermFault>) -> Result<Option<Lit>, QFault
 
 /// The string of the form.
 pub(crate) fn plain(alloc: Global, form: Text) -> Result<Option<Lit>, QFault>
-    ensures { Gives (Ok (Some (typed form xsd_string))) result }
+    ensures { OrWantOfMemory (Ok (Some (typed form xsd_string))) result }
 {
-    match Iri::parse(alloc, XSD_STRING) {
-        Ok(datatype) => unless_refused(Lit::typed(alloc, form, datatype)),
-        Err(_) => Err(QFault::Memory),
-    }
+    Ok(Some(Lit::string(alloc, form)?))
 }
 
 /// The integer of the form.
 pub(crate) fn integer(alloc: Global, form: &str) -> Result<Option<Lit>, QFault>
-    ensures { Gives (Ok (Some (typed form.now xsd_integer))) result }
+    ensures { OrWantOfMemory (Ok (Some (typed form.now xsd_integer))) result }
 {
-    unless_refused(Lit::parse(alloc, form, XSD_INTEGER))
+    let form = Text::new(alloc, form)?;
+    Ok(Some(Lit::integer(alloc, form)?))
 }
 
 fn boolean_form(value: bool) -> &'static str
@@ -74,15 +67,16 @@ fn boolean_form(value: bool) -> &'static str
 
 /// The boolean.
 pub(crate) fn boolean(alloc: Global, value: bool) -> Result<Option<Lit>, QFault>
-    ensures { Gives (Ok (Some (typed (Rattle.qs_names.specs.Names.boolean value) xsd_boolean))) result }
+    ensures { OrWantOfMemory (Ok (Some (typed (Rattle.qs_names.specs.Names.boolean value) xsd_boolean))) result }
 {
-    unless_refused(Lit::parse(alloc, boolean_form(value), XSD_BOOLEAN))
+    let form = Text::new(alloc, boolean_form(value))?;
+    Ok(Some(Lit::boolean(alloc, form)?))
 }
 
 /// The literal of the form and the datatype, if that isn't rdf:langString.
 #[tactic(auto, using(crate::proofs::Literals::made))]
 pub(crate) fn with_datatype(alloc: Global, form: Text, datatype: Iri) -> Result<Option<Lit>, QFault>
-    ensures { Gives (Ok (result_ok (checked_typed form datatype))) result }
+    ensures { OrWantOfMemory (Ok (result_ok (checked_typed form datatype))) result }
 {
     unless_refused(Lit::typed(alloc, form, datatype))
 }
@@ -90,7 +84,7 @@ pub(crate) fn with_datatype(alloc: Global, form: Text, datatype: Iri) -> Result<
 /// The language-tagged string of the form, if the tag is one.
 #[tactic(auto, using(crate::proofs::Literals::made))]
 pub(crate) fn tagged(alloc: Global, form: Text, tag: &str) -> Result<Option<Lit>, QFault>
-    ensures { Gives (Ok (result_ok (checked_tagged form tag.now))) result }
+    ensures { OrWantOfMemory (Ok (result_ok (checked_tagged form tag.now))) result }
 {
     let tag = Text::new(alloc, tag)?;
     unless_refused(Lit::tagged(alloc, form, tag))

@@ -4,7 +4,9 @@ ghost use Rattle.std.specs.Prelude.{◌≡◌, IfOk, OnErr};
 ghost use Rattle.std.specs.Map.{lookup};
 ghost use Rattle.std.specs.Option.{option_copied};
 ghost use Rattle.std.specs.Str.{bytes_eq};
-ghost use Rattle.qs_names.specs.Gives.{Gives, Becomes};
+ghost use Rattle.qs_terms.specs.OrWantOf.{BecomesOrWantOf};
+ghost use Rattle.qs_terms.specs.Outcome.{OrWantOfMemory};
+ghost use Rattle.qs_terms.specs.declared.fault.QFault.TheVariants.{Memory};
 
 use crate::iri::{expanded, full_iri, parted, rdf_type};
 use crate::literal::{boolean, integer, plain, string, tagged, with_datatype};
@@ -56,7 +58,7 @@ impl<'a> Names<'a> {
     /// `QFault::RelativeIri` with the place of an IRI that has no scheme, and `QFault::Memory`. The names are then as before.
     #[tactic(auto, using(crate::proofs::Prefixes::put), unfolding(crate::specs::Names::declare))]
     pub fn declare(&mut self, declaration: &PrefixDeclaration) -> Result<(), QFault>
-        ensures answer { Becomes (declare self.old declaration.now) result self.new }
+        ensures answer { BecomesOrWantOf Memory (declare self.old declaration.now) result self.new }
         ensures refused { OnErr result (self.new ≡ self.old) }
     {
         let iri = full_iri(self.alloc, self.text, declaration.iri)?;
@@ -88,7 +90,7 @@ impl<'a> Names<'a> {
     /// `QFault::Prefix` with the place of a name whose prefix isn't declared, `QFault::RelativeIri` with that of an IRI without a
     /// scheme, and `QFault::Memory`.
     pub fn iri(&self, written: WrittenIri) -> Result<Iri, QFault>
-        ensures { Gives (iri self.now written) result }
+        ensures { OrWantOfMemory (iri self.now written) result }
     {
         match written {
             WrittenIri::Full(span) => full_iri(self.alloc, self.text, span),
@@ -101,7 +103,7 @@ impl<'a> Names<'a> {
     /// # Errors
     /// Those of `iri`.
     pub fn predicate(&self, written: Predicate) -> Result<Iri, QFault>
-        ensures { Gives (predicate self.now written) result }
+        ensures { OrWantOfMemory (predicate self.now written) result }
     {
         match written {
             Predicate::Iri(iri) => self.iri(iri),
@@ -114,7 +116,7 @@ impl<'a> Names<'a> {
     /// # Errors
     /// Those of its datatype's IRI, and `QFault::Memory`.
     pub fn literal(&self, written: Literal) -> Result<Option<Lit>, QFault>
-        ensures { Gives (literal self.now written) result }
+        ensures { OrWantOfMemory (literal self.now written) result }
     {
         match written {
             Literal::String(span, annotation) => {
@@ -143,7 +145,7 @@ impl<'a> Names<'a> {
 
     #[tactic(auto, unfolding(crate::specs::Names::prefixed))]
     fn prefixed(&self, span: Span) -> Result<Iri, QFault>
-        ensures { Gives (Rattle.qs_names.specs.Names.prefixed self.now span) result }
+        ensures { OrWantOfMemory (Rattle.qs_names.specs.Names.prefixed self.now span) result }
     {
         let (prefix, local) = parted(whole(self.text, span));
         let Some(start) = self.declared(prefix) else {
@@ -153,7 +155,7 @@ impl<'a> Names<'a> {
     }
 
     fn annotated(&self, form: Text, annotation: Option<Annotation>) -> Result<Option<Lit>, QFault>
-        ensures { Gives (Rattle.qs_names.specs.Names.annotated self.now form annotation) result }
+        ensures { OrWantOfMemory (Rattle.qs_names.specs.Names.annotated self.now form annotation) result }
     {
         match annotation {
             None => plain(self.alloc, form),

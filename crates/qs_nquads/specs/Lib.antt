@@ -6,4 +6,3 @@ pub mod Part
 pub mod Place
 pub mod Reading
 pub mod Nquads
-pub mod Gives

@@ -1,6 +1,6 @@
 -- How statements are made of their parts (RDF 1.1 N-Quads, 4): subject, predicate, object, optionally the name of a graph, `.`.
 use Rattle.std.specs.Prelude.{ℕ, Bool, true, false, List, codes, Option, Some, None, Result, Ok, Err}
-use Rattle.qs_terms.specs.Literal.{Literal, typed, checked_typed, checked_tagged}
+use Rattle.qs_terms.specs.Literal.{Literal, xsd_string, typed, checked_typed, checked_tagged}
 use Rattle.qs_terms.specs.Statement.{Statement}
 use Rattle.qs_terms.specs.declared.fault.TermFault.{TermFault}
 use Rattle.qs_terms.specs.declared.term.Term.{Term}
@@ -15,10 +15,6 @@ use Rattle.qs_nquads.specs.declared.place.Place.{Place}
 use Rattle.qs_nquads.specs.declared.place.Place.TheVariants as place
 use Rattle.qs_nquads.specs.declared.place.Next.{Next}
 use Rattle.qs_nquads.specs.declared.place.Next.TheVariants as next
-
--- the datatype of a literal without a tag and without `^^` (RDF 1.1 Concepts, 3.3)
-unfoldable pub xsd_string : List ℕ
-xsd_string = codes "http://www.w3.org/2001/XMLSchema#string"
 
 -- an IRI or a blank node, as a term
 abbrev pub term_of : Node → Term

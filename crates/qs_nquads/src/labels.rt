@@ -4,7 +4,8 @@ ghost use Rattle.std.specs.Prelude.{◌≡◌};
 ghost use Rattle.std.specs.Map.{lookup};
 ghost use Rattle.std.specs.Option.{option_copied};
 ghost use Rattle.std.specs.Str.{bytes_eq};
-ghost use Rattle.qs_nquads.specs.Gives.{GivesWith};
+ghost use Rattle.qs_terms.specs.OrWantOf.{WithOrWantOf};
+ghost use Rattle.qs_nquads.specs.declared.fault.NqFaultKind.TheVariants.{Memory};
 ghost use Rattle.qs_nquads.specs.Labels.{from, number};
 
 use crate::fault::NqFaultKind;
@@ -57,7 +58,7 @@ impl Labels {
     /// # Errors
     /// `NqFaultKind::Full` where it is new and no number would be left behind it, and `NqFaultKind::Memory`.
     pub fn number(&mut self, label: Text) -> Result<u64, NqFaultKind>
-        ensures { GivesWith (number self.old label) result self.new }
+        ensures { WithOrWantOf Memory (number self.old label) result self.new }
     {
         if let Some(number) = self.known(&label) {
             return Ok(*number);

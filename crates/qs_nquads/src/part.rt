@@ -1,7 +1,8 @@
 //! What tokens say in a statement.
 
 ghost use Rattle.std.specs.Prelude.{◌≡◌, ◌-◌, length};
-ghost use Rattle.qs_nquads.specs.Gives.{Gives, GivesWith};
+ghost use Rattle.qs_terms.specs.OrWantOf.{OrWantOf, WithOrWantOf};
+ghost use Rattle.qs_nquads.specs.declared.fault.NqFaultKind.TheVariants.{Memory};
 ghost use Rattle.qs_nquads.specs.Part.{takes_label, label_part, iri_part, part_of};
 
 use crate::class::Class;
@@ -66,7 +67,7 @@ fn blank(
     labels: &mut Labels,
     label: &str,
 ) -> Result<Part, NqFaultKind>
-    ensures { GivesWith (label_part labels.old (takes_label place.now) label.now) result labels.new }
+    ensures { WithOrWantOf Memory (label_part labels.old (takes_label place.now) label.now) result labels.new }
 {
     if !takes_label(place) {
         return Err(NqFaultKind::Shape);
@@ -87,7 +88,7 @@ pub fn part_of(
     class: Class,
     token: &str,
 ) -> Result<Part, NqFaultKind>
-    ensures { GivesWith (part_of place.now labels.old class token.now) result labels.new }
+    ensures { WithOrWantOf Memory (part_of place.now labels.old class token.now) result labels.new }
 {
     match class {
         Class::Iri => {

@@ -1,17 +1,16 @@
 //! Places in a statement.
 
 ghost use Rattle.std.specs.Prelude.{◌≡◌, Ok};
-ghost use Rattle.qs_terms.specs.Literal.{typed};
-ghost use Rattle.qs_nquads.specs.Gives.{Gives};
-ghost use Rattle.qs_nquads.specs.Place.{statement, xsd_string, may_end};
+ghost use Rattle.qs_terms.specs.Literal.{typed, xsd_string};
+ghost use Rattle.qs_terms.specs.OrWantOf.{OrWantOf};
+ghost use Rattle.qs_nquads.specs.declared.fault.NqFaultKind.TheVariants.{Memory};
+ghost use Rattle.qs_nquads.specs.Place.{statement, may_end};
 
 use crate::fault::NqFaultKind;
 use crate::node::Node;
 use crate::part::Part;
 use qs_terms::{Iri, Lit, Quad, Term, TermFault, Text};
 use std::alloc::Global;
-
-const XSD_STRING: &str = "http://www.w3.org/2001/XMLSchema#string";
 
 /// Where a statement has come to, with what was read of it.
 #[derive(Drop)]
@@ -67,18 +66,10 @@ fn quad(subject: Node, predicate: Iri, object: Term, graph: Option<Node>) -> Qua
     Quad::new(graph, subject.into_term(), Term::Iri(predicate), object)
 }
 
-#[tactic(auto, unfolding(crate::specs::Place::xsd_string))]
 fn plain(alloc: Global, form: Text) -> Result<Lit, NqFaultKind>
-    ensures { Gives (Ok (typed form xsd_string)) result }
+    ensures { OrWantOf Memory (Ok (typed form xsd_string)) result }
 {
-    let datatype = match Iri::parse(alloc, XSD_STRING) {
-        Ok(datatype) => datatype,
-        Err(_) => return Err(NqFaultKind::Memory),
-    };
-    match Lit::typed(alloc, form, datatype) {
-        Ok(literal) => Ok(literal),
-        Err(_) => Err(NqFaultKind::Memory),
-    }
+    Ok(Lit::string(alloc, form)?)
 }
 
 fn at_start(part: Part) -> Result<Next, NqFaultKind>
@@ -136,7 +127,7 @@ fn at_form(
     form: Text,
     part: Part,
 ) -> Result<Next, NqFaultKind>
-    ensures { Gives (Rattle.qs_nquads.specs.Place.at_form subject predicate form part) result }
+    ensures { OrWantOf Memory (Rattle.qs_nquads.specs.Place.at_form subject predicate form part) result }
 {
     match part {
         Part::Tag(tag) => match Lit::tagged(alloc, form, tag) {
@@ -162,7 +153,7 @@ fn at_typed(
     form: Text,
     part: Part,
 ) -> Result<Next, NqFaultKind>
-    ensures { Gives (Rattle.qs_nquads.specs.Place.at_typed subject predicate form part) result }
+    ensures { OrWantOf Memory (Rattle.qs_nquads.specs.Place.at_typed subject predicate form part) result }
 {
     match part {
         Part::Iri(datatype) => match Lit::typed(alloc, form, datatype) {
@@ -206,7 +197,7 @@ fn at_done(part: Part) -> Result<Next, NqFaultKind>
 /// `NqFaultKind::Shape` where the part has no place here, `NqFaultKind::Literal` for rdf:langString behind `^^`, and
 /// `NqFaultKind::Memory`.
 pub fn after(alloc: Global, place: Place, part: Part) -> Result<Next, NqFaultKind>
-    ensures { Gives (Rattle.qs_nquads.specs.Place.after place part) result }
+    ensures { OrWantOf Memory (Rattle.qs_nquads.specs.Place.after place part) result }
 {
     match place {
         Place::Start => at_start(part),

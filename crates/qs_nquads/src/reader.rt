@@ -1,7 +1,8 @@
 //! What was read of a text.
 
 ghost use Rattle.std.specs.Prelude.{◌≡◌, Ok};
-ghost use Rattle.qs_nquads.specs.Gives.{Becomes};
+ghost use Rattle.qs_terms.specs.OrWantOf.{BecomesOrWantOf};
+ghost use Rattle.qs_nquads.specs.declared.fault.NqFaultKind.TheVariants.{Memory};
 ghost use Rattle.qs_nquads.specs.Labels.{from};
 ghost use Rattle.qs_nquads.specs.Reading.{at_first, placed, read};
 ghost use Rattle.qs_nquads.specs.Place.{may_end};
@@ -54,7 +55,7 @@ impl Reader {
 
     // Goes on with what a part made of the place.
     fn put(&mut self, next: Next) -> Result<(), NqFaultKind>
-        ensures { Becomes (placed self.old.quads self.old.labels (Ok next)) result self.new }
+        ensures { BecomesOrWantOf Memory (placed self.old.quads self.old.labels (Ok next)) result self.new }
     {
         match next {
             Next::Place(place) => set(&mut self.place, place),
@@ -68,7 +69,7 @@ impl Reader {
 
     /// Reads one front more.
     pub(crate) fn read(&mut self, class: Class, token: &str) -> Result<(), NqFaultKind>
-        ensures { Becomes (read self.old class token.now) result self.new }
+        ensures { BecomesOrWantOf Memory (read self.old class token.now) result self.new }
     {
         let part = part_of(self.alloc, &self.place, &mut self.labels, class, token)?;
         let place = mem::replace(&mut self.place, Place::Start);

@@ -1,7 +1,7 @@
 //! Answers of texts.
 
-ghost use Rattle.qs_select.specs.Outcome.{Answers};
-ghost use Rattle.qs_query.specs.Outcome.{IsOutcome};
+ghost use Rattle.qs_terms.specs.Outcome.{OneOrWantOfMemory};
+ghost use Rattle.qs_query.specs.Outcome.{IsOutcomeOfText};
 
 use qs_select::answer_query;
 use qs_solutions::Answer;
@@ -23,7 +23,7 @@ pub fn answer(
     next_blank: u64,
     max_rows: u64,
 ) -> Result<Answer, QFault>
-    ensures { Answers (IsOutcome text.now quads.now max_rows) result }
+    ensures { OneOrWantOfMemory (IsOutcomeOfText text.now quads.now max_rows) result }
 {
     let _ = next_blank;
     let query = parse_query(alloc, text)?;

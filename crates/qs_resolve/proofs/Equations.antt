@@ -22,7 +22,8 @@ use Rattle.qs_tree.specs.declared.expression.Expression.TheVariants as written_e
 use Rattle.qs_ast.specs.declared.expression.Expression.TheVariants as expression
 use Rattle.qs_ast.specs.declared.expression.Expression as resolved
 use Rattle.qs_resolve.specs.Expression.{expression_of, call_of, operand_of, addend_of, operands, addends, list}
-use Rattle.qs_resolve.specs.Resolving.{◌<$>◌, and_then}
+use Rattle.qs_terms.specs.Outcome.{and_then}
+use Rattle.qs_resolve.specs.Resolving.{◌<$>◌}
 use Rattle.qs_resolve.specs.declared.resolver.Resolver.{Resolver}
 
 pub alternative_is : (os : List PathOperand) → path_of (written.Alternative os) ≡ (path.Alternative <$> path_operands os)

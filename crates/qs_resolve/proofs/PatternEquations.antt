@@ -15,7 +15,8 @@ use Rattle.qs_resolve.specs.declared.open_group.OpenGroup.{OpenGroup}
 use Rattle.qs_resolve.specs.declared.resolver.Resolver.{Resolver}
 use Rattle.qs_resolve.specs.Leaves.{var_or_iri}
 use Rattle.qs_resolve.specs.Pattern.{Put, pattern_of, element_of, group_of, groups, elements, put, empty_group, finished, triples_pattern, filter_pattern, bind_pattern, values_pattern}
-use Rattle.qs_resolve.specs.Resolving.{Resolving, ◌>>=◌, pure, and_then}
+use Rattle.qs_terms.specs.Outcome.{and_then}
+use Rattle.qs_resolve.specs.Resolving.{Resolving, ◌>>=◌, pure}
 
 triples_bound : (ts : List TriplesSameSubject) → pattern_of (written.Triples ts) ≡ triples_pattern ts
 unfolding pattern_of element_of group_of

@@ -10,7 +10,8 @@ use Rattle.qs_ast.specs.declared.pattern.Triple.{Triple}
 use Rattle.qs_ast.specs.declared.pattern.Verb.{Verb}
 use Rattle.qs_resolve.specs.Leaves.{anonymous}
 use Rattle.qs_resolve.specs.Triples.{OfObject, OfSubject, object_of, property_of, objects, properties, simple_object, bracketed_object, verb_of, triple}
-use Rattle.qs_resolve.specs.Resolving.{◌>>=◌, and_then}
+use Rattle.qs_terms.specs.Outcome.{and_then}
+use Rattle.qs_resolve.specs.Resolving.{◌>>=◌}
 use Rattle.qs_resolve.specs.declared.resolver.Resolver.{Resolver}
 
 simple_bound : (t : Term) → object_of (written_node.Term t) ≡ (λ subject v found. simple_object subject v found t)

@@ -14,10 +14,11 @@ use Rattle.qs_ast.specs.declared.term.TermPattern.{TermPattern}
 use Rattle.qs_ast.specs.declared.term.TermPattern.TheVariants as term
 use Rattle.qs_ast.specs.declared.term.VarOrIri.{VarOrIri}
 use Rattle.qs_ast.specs.declared.term.VarOrIri.TheVariants as name
-use Rattle.qs_terms.specs.Literal.{Literal, typed}
+use Rattle.qs_terms.specs.Literal.{Literal, typed, xsd_string}
 use Rattle.qs_names.specs.Names as of
 use Rattle.qs_resolve.specs.declared.resolver.Resolver.{Resolver}
-use Rattle.qs_resolve.specs.Resolving.{Outcome, Resolving, ◌<$>◌, and_then}
+use Rattle.qs_terms.specs.Outcome.{Outcome, and_then}
+use Rattle.qs_resolve.specs.Resolving.{Resolving, ◌<$>◌}
 
 abbrev pub variable : Span → Resolving Variable
 variable span = λ s. Ok (record { name = of.variable s.names span }, s)
@@ -30,8 +31,8 @@ var_or_iri (written_name.Var v) = name.Variable <$> variable v
 var_or_iri (written_name.Iri i) = name.Iri <$> iri i
 
 -- what stands where a literal isn't lawful: the request is refused then
-unfoldable pub empty_string : Literal
-empty_string = typed [] (codes "http://www.w3.org/2001/XMLSchema#string")
+abbrev pub empty_string : Literal
+empty_string = typed [] xsd_string
 
 abbrev pub settled : Option Literal → Resolver → Outcome (Literal × Resolver)
 settled (Some l) s = Ok (l, s)

@@ -9,7 +9,8 @@ use Rattle.qs_ast.specs.declared.path.Path.{Path}
 use Rattle.qs_ast.specs.declared.path.Path.TheVariants as path
 use Rattle.qs_ast.specs.declared.path.NegatedIri.{NegatedIri}
 use Rattle.qs_names.specs.Names as of
-use Rattle.qs_resolve.specs.Resolving.{Resolving, ◌>>=◌, ◌<$>◌, pure, all, and_then}
+use Rattle.qs_terms.specs.Outcome.{and_then}
+use Rattle.qs_resolve.specs.Resolving.{Resolving, ◌>>=◌, ◌<$>◌, pure, all}
 
 abbrev pub predicate : Predicate → Resolving (List ℕ)
 predicate p = λ s. and_then (of.predicate s.names p) (λ i. Ok (i, s))

@@ -36,7 +36,8 @@ use Rattle.qs_resolve.specs.Data.{inline_data}
 use Rattle.qs_resolve.specs.Expression.{expression_of}
 use Rattle.qs_resolve.specs.Leaves.{variable}
 use Rattle.qs_resolve.specs.Pattern.{group_of}
-use Rattle.qs_resolve.specs.Resolving.{Resolving, ◌>>=◌, ◌>>◌, ◌<$>◌, pure, all, and_then}
+use Rattle.qs_terms.specs.Outcome.{and_then}
+use Rattle.qs_resolve.specs.Resolving.{Resolving, ◌>>=◌, ◌>>◌, ◌<$>◌, pure, all}
 use Rattle.qs_resolve.specs.Triples.{triples_behind}
 
 -- ---- prefixes

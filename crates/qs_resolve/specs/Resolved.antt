@@ -8,7 +8,7 @@ use Rattle.qs_ast.specs.declared.update.Update.{Update}
 use Rattle.qs_names.specs.Names.{Names, nothing_declared}
 use Rattle.qs_resolve.specs.declared.resolver.Resolver.{Resolver}
 use Rattle.qs_resolve.specs.Query.{query}
-use Rattle.qs_resolve.specs.Resolving.{Outcome, and_then}
+use Rattle.qs_terms.specs.Outcome.{Outcome, and_then}
 use Rattle.qs_resolve.specs.Update.{update}
 
 -- before the first token

@@ -1,15 +1,8 @@
 -- Steps that read a tree from left to right: each gives a value and goes on, or stops at the first fault.
 use Rattle.std.specs.Prelude.{◌≡◌, ◌≢◌, List, [], ◌∷◌, ◌++◌, Result, Ok, Err}
-use Rattle.qs_terms.specs.declared.fault.QFault.{QFault}
 use Rattle.qs_terms.specs.declared.fault.QFault.TheVariants.{Memory}
+use Rattle.qs_terms.specs.Outcome.{Outcome, and_then}
 use Rattle.qs_resolve.specs.declared.resolver.Resolver.{Resolver}
-
-abbrev pub Outcome : Type 0 → Type 0
-Outcome A = Result A QFault
-
-abbrev pub and_then : {A B : Type 0} → Outcome A → (A → Outcome B) → Outcome B
-and_then (Ok a) f = f a
-and_then (Err e) f = Err e
 
 abbrev pub Resolving : Type 0 → Type 0
 Resolving A = Resolver → Outcome (A × Resolver)

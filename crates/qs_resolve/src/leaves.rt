@@ -1,29 +1,23 @@
 //! Terms.
 
 ghost use Rattle.std.specs.Prelude.{Ok};
-ghost use Rattle.qs_names.specs.Gives.{Gives};
+ghost use Rattle.qs_terms.specs.Outcome.{OrWantOfMemory};
 ghost use Rattle.qs_resolve.specs.Leaves as spec;
 ghost use Rattle.qs_resolve.specs.Resolving.{Resolves};
 
 use crate::resolver::Resolver;
 use qs_ast::term::{BlankNode, TermPattern, VarOrIri, Variable};
-use qs_terms::{Iri, Lit, QFault};
+use qs_terms::{Iri, Lit, QFault, Text};
 use qs_tree::term::{
     Iri as WrittenIri, Literal as WrittenLiteral, Term as WrittenTerm, VarOrIri as WrittenVarOrIri,
 };
 use qs_tree::token::Span;
 use std::alloc::Global;
 
-const XSD_STRING: &str = "http://www.w3.org/2001/XMLSchema#string";
-
-#[tactic(auto, unfolding(crate::specs::Leaves::empty_string))]
 fn empty_string(alloc: Global) -> Result<Lit, QFault>
-    ensures { Gives (Ok spec.empty_string) result }
+    ensures { OrWantOfMemory (Ok spec.empty_string) result }
 {
-    match Lit::parse(alloc, "", XSD_STRING) {
-        Ok(lit) => Ok(lit),
-        Err(_fault) => Err(QFault::Memory),
-    }
+    Ok(Lit::string(alloc, Text::new(alloc, "")?)?)
 }
 
 impl<'a> Resolver<'a> {

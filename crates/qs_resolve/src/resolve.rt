@@ -1,7 +1,7 @@
 //! Whole queries and updates.
 
 ghost use Rattle.std.specs.Prelude.{◌≡◌, IfOk, IfErr, Ok, Err, Some, None, if◌then◌else◌};
-ghost use Rattle.qs_names.specs.Gives.{Gives};
+ghost use Rattle.qs_terms.specs.Outcome.{OrWantOfMemory};
 ghost use Rattle.qs_resolve.specs.Resolved as spec;
 
 use crate::resolver::Resolver;
@@ -40,7 +40,7 @@ pub fn resolve_query(
     variables: Items<Variable>,
     query: &WrittenQuery,
 ) -> Result<Option<Query>, QFault>
-    ensures { Gives (spec.resolved_query text.now variables query.now) result }
+    ensures { OrWantOfMemory (spec.resolved_query text.now variables query.now) result }
 {
     let mut resolver = Resolver::new(Names::new(alloc, text));
     let query = resolver.query(alloc, variables, query);
@@ -58,7 +58,7 @@ pub fn resolve_update(
     text: &str,
     update: &WrittenUpdate,
 ) -> Result<Option<Update>, QFault>
-    ensures { Gives (spec.resolved_update text.now update.now) result }
+    ensures { OrWantOfMemory (spec.resolved_update text.now update.now) result }
 {
     let mut resolver = Resolver::new(Names::new(alloc, text));
     let update = resolver.update(alloc, update);

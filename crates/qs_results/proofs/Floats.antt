@@ -8,7 +8,8 @@ use Rattle.serde_json.specs.Written.{has_float, items_have_float, members_have_f
 use Rattle.qs_terms.specs.declared.term.Term.{Term}
 use Rattle.qs_terms.specs.declared.term.Term.TheVariants as term
 use Rattle.qs_solutions.specs.Solution.{Solution}
-use Rattle.qs_results.specs.Json.{xsd_string, literal_members, term_members, term_data, with_binding, with_bindings}
+use Rattle.qs_terms.specs.Literal.{xsd_string}
+use Rattle.qs_results.specs.Json.{literal_members, term_members, term_data, with_binding, with_bindings}
 
 pub names_without_float : (names : List (List ℕ)) → items_have_float (items_of (map string names)) ≡ false
 names_without_float [] = refl

@@ -3,15 +3,12 @@ use Rattle.std.specs.Prelude.{ℕ, List, [], ◌∷◌, ◌++◌, Option, Some, 
 use Rattle.std.specs.Str.{bytes_eq}
 use Rattle.serde_json.specs.Data.{Data, boolean, string, array, object, Members, no_members, member, put}
 use Rattle.serde_json.specs.View.{items_of}
+use Rattle.qs_terms.specs.Literal.{xsd_string}
 use Rattle.qs_terms.specs.declared.term.Term.{Term}
 use Rattle.qs_terms.specs.declared.term.Term.TheVariants as term
 use Rattle.qs_solutions.specs.Solution.{Solution}
 use Rattle.qs_solutions.specs.declared.answer.Answer.{Answer}
 use Rattle.qs_solutions.specs.declared.answer.Answer.TheVariants.{Solutions, Truth}
-
--- the datatype that isn't written
-unfoldable pub xsd_string : List ℕ
-xsd_string = codes "http://www.w3.org/2001/XMLSchema#string"
 
 -- a type, a value, and what comes behind them (3.2.2)
 abbrev pub typed_value : List ℕ → List ℕ → Members → Members

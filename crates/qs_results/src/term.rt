@@ -1,23 +1,13 @@
 //! Terms as JSON values (SPARQL 1.1 Query Results JSON Format, 3.2.2).
 
 ghost use Rattle.std.specs.Prelude.{◌≡◌, IfOk};
-ghost use Rattle.std.specs.Str.{bytes_eq};
 ghost use Rattle.serde_json.specs.Data.{object};
 ghost use Rattle.serde_json.specs.View.{view};
-ghost use Rattle.qs_results.specs.Json.{xsd_string, literal_members, term_data};
+ghost use Rattle.qs_results.specs.Json.{literal_members, term_data};
 
 use qs_terms::{Lit, Term};
 use serde_json::{Value, json};
 use std::alloc::{AllocError, Global};
-
-const XSD_STRING: &str = "http://www.w3.org/2001/XMLSchema#string";
-
-#[tactic(auto, unfolding(crate::specs::Json::xsd_string))]
-fn is_xsd_string(datatype: &str) -> bool
-    ensures { result ≡ bytes_eq datatype.now xsd_string }
-{
-    datatype == XSD_STRING
-}
 
 /// A literal with its tag, or else with its datatype, unless that is xsd:string.
 fn literal_value(alloc: Global, literal: &Lit) -> Result<Value, AllocError>
@@ -28,11 +18,10 @@ fn literal_value(alloc: Global, literal: &Lit) -> Result<Value, AllocError>
     if let Some(tag) = literal.tag() {
         return json!(in alloc; {"type": "literal", "value": form, "xml:lang": tag});
     }
-    let datatype = literal.datatype();
-    if is_xsd_string(datatype) {
+    if literal.is_string() {
         return json!(in alloc; {"type": "literal", "value": form});
     }
-    json!(in alloc; {"datatype": datatype, "type": "literal", "value": form})
+    json!(in alloc; {"datatype": literal.datatype(), "type": "literal", "value": form})
 }
 
 /// The term as an object: a blank node's label is `b` and its number.

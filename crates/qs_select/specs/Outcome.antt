@@ -1,13 +1,13 @@
 -- What a query over some quads is answered with: one of the answers that the algebra gives, or the fault that is due (SPARQL 1.1
 -- Query, 16 and 18).
 use Rattle.std.specs.Prelude.{◌≡◌, ◌⊎◌, ◌<◌, ◌≤◌, ℕ, List, Ok, Err}
-use Rattle.qs_terms.specs.declared.fault.QFault.TheVariants.{TooManyRows, Memory}
+use Rattle.qs_terms.specs.declared.fault.QFault.TheVariants.{TooManyRows}
 use Rattle.qs_terms.specs.Statement.{Statement}
 use Rattle.qs_solutions.specs.Solution.{Solution}
 use Rattle.qs_solutions.specs.declared.answer.Answer.{Answer}
 use Rattle.qs_solutions.specs.declared.answer.Answer.TheVariants.{Solutions}
 use Rattle.qs_ast.specs.declared.query.Query.{Query}
-use Rattle.qs_algebra.specs.Outcome.{Outcome}
+use Rattle.qs_terms.specs.Outcome.{Outcome}
 use Rattle.qs_select.specs.Selection.{selection}
 use Rattle.qs_select.specs.Sequence.{whole, IsSequence, count}
 use Rattle.qs_select.specs.declared.selection.Selection.{Selection}
@@ -23,11 +23,5 @@ IsOfSelection (Ok asked) quads max_rows outcome = IsSelected asked (whole asked 
 IsOfSelection (Err f) quads max_rows outcome = outcome ≡ Err f
 
 -- the outcome of a query over the quads, of which each counts once
-abbrev pub IsOutcome : Query → List Statement → ℕ → Outcome Answer → Type 0
-IsOutcome query quads max_rows outcome = IsOfSelection (selection query) quads max_rows outcome
-
--- what is answered is due, unless it is want of memory
-abbrev pub Answers : {A : Type 0} → (Outcome A → Type 0) → Outcome A → Type 0
-Answers Due (Ok a) = Due (Ok a)
-Answers Due (Err Memory) = Unit {0}
-Answers Due (Err f) = Due (Err f)
+abbrev pub IsOutcomeOfQuery : Query → List Statement → ℕ → Outcome Answer → Type 0
+IsOutcomeOfQuery query quads max_rows outcome = IsOfSelection (selection query) quads max_rows outcome

@@ -20,7 +20,7 @@ use Rattle.qs_scope.specs.Names.{Name, contains}
 use Rattle.qs_scope.specs.Places.{place_of}
 use Rattle.qs_scope.specs.Scope.{in_scope}
 use Rattle.qs_patterns.specs.declared.pattern.Pattern.{Pattern}
-use Rattle.qs_algebra.specs.Outcome.{Outcome, and_then, all}
+use Rattle.qs_terms.specs.Outcome.{Outcome, and_then, all}
 use Rattle.qs_algebra.specs.Translation.{translated}
 use Rattle.qs_select.specs.declared.selection.Selection.{Selection}
 use Rattle.qs_select.specs.declared.selection.Slice.{Slice}
@@ -62,12 +62,12 @@ if_meant false outcome = Err Later
 
 -- ---- the selection
 
-abbrev pub or_none : Option ℕ → ℕ
-or_none None = 0
-or_none (Some n) = n
+abbrev pub or_zero : Option ℕ → ℕ
+or_zero None = 0
+or_zero (Some n) = n
 
 abbrev pub slice_of : Select → Slice
-slice_of select = record { offset = or_none select.modifiers.offset; limit = select.modifiers.limit }
+slice_of select = record { offset = or_zero select.modifiers.offset; limit = select.modifiers.limit }
 
 abbrev pub selection_with : List Name → Select → Pattern → List Name → Selection
 selection_with names select pattern vars = record {

@@ -1,7 +1,8 @@
 //! Queries over quads.
 
 ghost use Rattle.std.specs.Prelude.{◌≡◌, IfOk};
-ghost use Rattle.qs_select.specs.Outcome.{Answers, IsOutcome, IsSelected};
+ghost use Rattle.qs_terms.specs.Outcome.{OneOrWantOfMemory};
+ghost use Rattle.qs_select.specs.Outcome.{IsOutcomeOfQuery, IsSelected};
 ghost use Rattle.qs_select.specs.Sequence.{whole};
 
 use crate::selection::{Selection, selection_of};
@@ -19,7 +20,7 @@ fn selected(
     quads: &[Quad],
     max_rows: u64,
 ) -> Result<Answer, QFault>
-    ensures { Answers (IsSelected asked (whole asked quads.now) max_rows) result }
+    ensures { OneOrWantOfMemory (IsSelected asked (whole asked quads.now) max_rows) result }
 {
     let quads = Quads::new(alloc, quads)?;
     let all = solutions(alloc, asked.width, &asked.pattern, &quads, None)?;
@@ -45,7 +46,7 @@ pub fn answer_query(
     quads: &[Quad],
     max_rows: u64,
 ) -> Result<Answer, QFault>
-    ensures { Answers (IsOutcome query.now quads.now max_rows) result }
+    ensures { OneOrWantOfMemory (IsOutcomeOfQuery query.now quads.now max_rows) result }
 {
     let asked = selection_of(alloc, query)?;
     selected(alloc, asked, quads, max_rows)

@@ -5,7 +5,7 @@ ghost use Rattle.std.specs.List.{filter};
 ghost use Rattle.qs_scope.specs.Firsts.{names_of};
 ghost use Rattle.qs_scope.specs.Names.{contains};
 ghost use Rattle.qs_scope.specs.Places.{place_of};
-ghost use Rattle.qs_algebra.specs.Outcome.{Gives, all};
+ghost use Rattle.qs_terms.specs.Outcome.{OrWantOfMemory, all};
 ghost use Rattle.qs_select.specs.Selection as spec;
 
 use qs_algebra::translate;
@@ -69,7 +69,7 @@ fn all_listed<'a>(
 }
 
 fn item_variable(alloc: Global, item: &SelectItem) -> Result<Variable, QFault>
-    ensures { Gives (spec.item_variable item.now) result }
+    ensures { OrWantOfMemory (spec.item_variable item.now) result }
 {
     match item {
         SelectItem::Variable(variable) => {
@@ -81,7 +81,7 @@ fn item_variable(alloc: Global, item: &SelectItem) -> Result<Variable, QFault>
 }
 
 fn item_variables(alloc: Global, items: &[SelectItem]) -> Result<Items<Variable>, QFault>
-    ensures { Gives (all (map spec.item_variable items.now)) result }
+    ensures { OrWantOfMemory (all (map spec.item_variable items.now)) result }
 {
     let mut variables = Items::new(alloc);
     for item in items {
@@ -104,7 +104,7 @@ fn names(alloc: Global, variables: &[Variable]) -> Result<Items<Text>, AllocErro
 }
 
 fn items_listed(alloc: Global, items: &[SelectItem]) -> Result<Items<Text>, QFault>
-    ensures { Gives (spec.items_listed items.now) result }
+    ensures { OrWantOfMemory (spec.items_listed items.now) result }
 {
     let variables = item_variables(alloc, items)?;
     let variables = first_variables(alloc, variables.as_slice())?;
@@ -118,7 +118,7 @@ fn listed<'a>(
     group: &'a Group,
     projection: &Projection,
 ) -> Result<Items<Text>, QFault>
-    ensures { Gives (spec.listed (names_of variables.now) group.now projection.now) result }
+    ensures { OrWantOfMemory (spec.listed (names_of variables.now) group.now projection.now) result }
 {
     match projection {
         Projection::All => {
@@ -180,7 +180,7 @@ fn slice_of(select: &Select) -> Slice
 }
 
 fn select_selection(alloc: Global, query: &Query, select: &Select) -> Result<Selection, QFault>
-    ensures { Gives (spec.select_selection query.now select.now) result }
+    ensures { OrWantOfMemory (spec.select_selection query.now select.now) result }
 {
     let variables = query.variables.as_slice();
     let vars = listed(alloc, variables, &select.pattern, &select.projection)?;
@@ -197,7 +197,7 @@ fn select_selection(alloc: Global, query: &Query, select: &Select) -> Result<Sel
 
 /// What the query asks for, or Later where it has no meaning yet.
 pub fn selection_of(alloc: Global, query: &Query) -> Result<Selection, QFault>
-    ensures { Gives (spec.selection query.now) result }
+    ensures { OrWantOfMemory (spec.selection query.now) result }
 {
     match &query.form {
         QueryForm::Select(select) => {

@@ -1,5 +1,6 @@
 -- What tokens and trees come to: a query or an update with its names resolved, or the one fault that is due.
 use Rattle.std.specs.Prelude.{ℕ, Bool, true, false, nat_lt, List, [], ◌∷◌, ◌++◌, Option, Some, None, Result, Ok, Err, if◌then◌else◌}
+use Rattle.qs_terms.specs.Outcome.{Outcome, and_then}
 use Rattle.qs_terms.specs.declared.fault.QFault.{QFault}
 use Rattle.qs_terms.specs.declared.fault.QFault.TheVariants as fault
 use Rattle.qs_tree.specs.declared.kind.Kind.TheVariants as kind
@@ -18,13 +19,6 @@ use Rattle.std.specs.List.{fold}
 use Rattle.qs_resolve.specs.Resolved.{resolved_query, resolved_update}
 use Rattle.qs_scope.specs.Firsts.{firsts}
 use Rattle.qs_scope.specs.KeepsScope.{query_keeps_scope, update_keeps_scope}
-
-abbrev pub Outcome : Type 0 → Type 0
-Outcome A = Result A QFault
-
-abbrev pub and_then : {A B : Type 0} → Outcome A → (A → Outcome B) → Outcome B
-and_then (Ok a) f = f a
-and_then (Err e) f = Err e
 
 -- ---- over the tokens: the first word that is left out, and then the first bracket that is too much
 

@@ -1,6 +1,6 @@
 //! Faults of the tokens by themselves.
 
-ghost use Rattle.qs_names.specs.Gives.{Gives};
+ghost use Rattle.qs_terms.specs.Outcome.{OrWantOfMemory};
 ghost use Rattle.qs_settle.specs.Settled as spec;
 
 use qs_limits::{brackets, left_out};
@@ -11,7 +11,7 @@ use std::alloc::Global;
 /// Refuses the first word, decimal or double that is left out, and then the first bracket with which too many are open.
 #[tactic(auto, unfolding(crate::specs::Settled::screened))]
 pub fn screen(alloc: Global, text: &str, tokens: &[Token]) -> Result<(), QFault>
-    ensures { Gives (spec.screened text.now tokens.now) result }
+    ensures { OrWantOfMemory (spec.screened text.now tokens.now) result }
 {
     if let Some(word) = left_out(text, tokens) {
         let word = Text::new(alloc, word)?;

@@ -3,7 +3,7 @@
 ghost use Rattle.std.specs.Prelude.{◌≡◌, IfOk, IfErr, OnOk, Ok, Err, if◌then◌else◌};
 ghost use Rattle.qs_terms.specs.declared.fault.QFault.TheVariants.{Memory, Scope};
 ghost use Rattle.qs_scope.specs.KeepsScope as rule;
-ghost use Rattle.qs_names.specs.Gives.{Gives};
+ghost use Rattle.qs_terms.specs.Outcome.{OrWantOfMemory};
 ghost use Rattle.qs_settle.specs.Settled as spec;
 
 use qs_ast::query::Query;
@@ -111,14 +111,14 @@ fn where_kept<T: Drop>(keeps: Result<bool, AllocError>, tree: T) -> Result<T, QF
 }
 
 fn scoped_query(alloc: Global, query: Query) -> Result<Query, QFault>
-    ensures { Gives (spec.in_scope rule.query_keeps_scope query) result }
+    ensures { OrWantOfMemory (spec.in_scope rule.query_keeps_scope query) result }
 {
     let keeps = query_keeps_scope(alloc, &query);
     where_kept(keeps, query)
 }
 
 fn scoped_update(alloc: Global, update: Update) -> Result<Update, QFault>
-    ensures { Gives (spec.in_scope rule.update_keeps_scope update) result }
+    ensures { OrWantOfMemory (spec.in_scope rule.update_keeps_scope update) result }
 {
     let keeps = update_keeps_scope(alloc, &update);
     where_kept(keeps, update)
@@ -132,7 +132,7 @@ pub fn settle_query(
     tokens: &[Token],
     tree: &WrittenQuery,
 ) -> Result<Query, QFault>
-    ensures { Gives (spec.query_outcome text.now tokens.now tree.now) result }
+    ensures { OrWantOfMemory (spec.query_outcome text.now tokens.now tree.now) result }
 {
     let variables = variables(alloc, text, tokens)?;
     let resolved = resolve_query(alloc, text, variables, tree);
@@ -143,7 +143,7 @@ pub fn settle_query(
 /// The update of a tree that the text's tokens spell.
 #[tactic(auto, using(crate::proofs::Places::placed), unfolding(crate::specs::Settled::update_outcome))]
 pub fn settle_update(alloc: Global, text: &str, tree: &WrittenUpdate) -> Result<Update, QFault>
-    ensures { Gives (spec.update_outcome text.now tree.now) result }
+    ensures { OrWantOfMemory (spec.update_outcome text.now tree.now) result }
 {
     let resolved = resolve_update(alloc, text, tree);
     let update = by_place(resolved, large_update(tree))?;

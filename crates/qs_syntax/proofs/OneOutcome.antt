@@ -8,9 +8,10 @@ use Rattle.qs_terms.specs.declared.fault.QFault.TheVariants as fault
 use Rattle.qs_tree.specs.declared.token.Token.{Token}
 use Rattle.qs_tree.specs.Sparql.{Rule}
 use Rattle.qs_tree.specs.Table.{grammar, IsUnambiguous}
-use Rattle.qs_settle.specs.Settled.{Outcome, screened}
+use Rattle.qs_terms.specs.Outcome.{Outcome}
+use Rattle.qs_settle.specs.Settled.{screened}
 use Rattle.qs_syntax.specs.Kinds.{token_of}
-use Rattle.qs_syntax.specs.Outcome.{AfterScreen, IsOutcome}
+use Rattle.qs_syntax.specs.Outcome.{AfterScreen, IsParsed}
 use Rattle.qs_syntax.specs.Text.{IsBlamed, place_of_number}
 
 module _ {A : Type 0} (start : Rule A) where
@@ -51,7 +52,7 @@ module _ {A : Type 0} (start : Rule A) where
       → ((text : List ℕ) (ts : List Lexeme) (place : ℕ) → Lexes text ts → StopsAt text place → ⊥)
       → ((text : List ℕ) (place other : ℕ) → StopsAt text place → StopsAt text other → place ≡ other)
       → (settle : List ℕ → List Token → A → Outcome B) (text : List ℕ) (a b : Outcome B)
-      → IsOutcome start (settle text) text a → IsOutcome start (settle text) text b → a ≡ b
+      → IsParsed start (settle text) text a → IsParsed start (settle text) text b → a ≡ b
   one_outcome unambiguous lists apart places settle text a b (inl h) (inl k) =
       h.2 ∙ ap (λ p. Err (fault.Syntax p)) (places text h.0 k.0 h.1 k.1) ∙ sym k.2
   one_outcome unambiguous lists apart places settle text a b (inl h) (inr k) = absurd (apart text k.1.0 h.0 k.1.1 h.1)

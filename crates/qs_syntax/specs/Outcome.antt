@@ -10,7 +10,8 @@ use Rattle.qs_tree.specs.Table.{grammar}
 use Rattle.qs_ast.specs.declared.query.Query.{Query}
 use Rattle.qs_ast.specs.declared.update.Update.{Update}
 use Rattle.qs_syntax.specs.Text.{AreTokensOf, IsBlamed}
-use Rattle.qs_settle.specs.Settled.{Outcome, screened, query_outcome, update_outcome}
+use Rattle.qs_terms.specs.Outcome.{Outcome}
+use Rattle.qs_settle.specs.Settled.{screened, query_outcome, update_outcome}
 
 -- ---- the whole, in the order in which faults are due
 
@@ -25,19 +26,13 @@ abbrev pub IsOutcomeOfTokens : {A B : Type 0} → Rule A → (A → Outcome B) �
 IsOutcomeOfTokens start settle text tokens outcome = AfterScreen start settle text tokens (screened text tokens) outcome
 
 -- the text is no list of tokens, or its tokens decide
-abbrev pub IsOutcome : {A B : Type 0} → Rule A → (List Token → A → Outcome B) → List ℕ → Outcome B → Type 0
-IsOutcome start settle text outcome =
+abbrev pub IsParsed : {A B : Type 0} → Rule A → (List Token → A → Outcome B) → List ℕ → Outcome B → Type 0
+IsParsed start settle text outcome =
     ((place : ℕ) × StopsAt text place × (outcome ≡ Err (fault.Syntax place)))
     ⊎ ((tokens : List Token) × AreTokensOf text tokens × IsOutcomeOfTokens start (settle tokens) text tokens outcome)
 
 abbrev pub IsQueryOutcome : List ℕ → Outcome Query → Type 0
-IsQueryOutcome text outcome = IsOutcome rules.query (query_outcome text) text outcome
+IsQueryOutcome text outcome = IsParsed rules.query (query_outcome text) text outcome
 
 abbrev pub IsUpdateOutcome : List ℕ → Outcome Update → Type 0
-IsUpdateOutcome text outcome = IsOutcome rules.update (λ tokens. update_outcome text) text outcome
-
--- what is answered is due, unless it is want of memory
-abbrev pub Answers : {A : Type 0} → (Outcome A → Type 0) → Outcome A → Type 0
-Answers Due (Ok a) = Due (Ok a)
-Answers Due (Err fault.Memory) = Unit {0}
-Answers Due (Err f) = Due (Err f)
+IsUpdateOutcome text outcome = IsParsed rules.update (λ tokens. update_outcome text) text outcome

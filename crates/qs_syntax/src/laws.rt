@@ -3,7 +3,7 @@
 ghost use Rattle.std.specs.Prelude.{◌≡◌, List, ℕ};
 ghost use Rattle.qs_ast.specs.declared.query.Query.{Query};
 ghost use Rattle.qs_ast.specs.declared.update.Update.{Update};
-ghost use Rattle.qs_settle.specs.Settled.{Outcome};
+ghost use Rattle.qs_terms.specs.Outcome.{Outcome};
 ghost use Rattle.qs_syntax.specs.Outcome.{IsQueryOutcome, IsUpdateOutcome};
 
 use qs_lex::laws::one_token_list;

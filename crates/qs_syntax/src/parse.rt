@@ -5,7 +5,8 @@ ghost use Rattle.qs_grammar.specs.Grammar.{Spells};
 ghost use Rattle.qs_tree.specs.Rules as rules;
 ghost use Rattle.qs_tree.specs.Table.{grammar};
 ghost use Rattle.qs_settle.specs.Settled.{query_outcome, update_outcome};
-ghost use Rattle.qs_syntax.specs.Outcome.{Answers, IsOutcomeOfTokens, IsQueryOutcome, IsUpdateOutcome};
+ghost use Rattle.qs_terms.specs.Outcome.{OneOrWantOfMemory};
+ghost use Rattle.qs_syntax.specs.Outcome.{IsOutcomeOfTokens, IsQueryOutcome, IsUpdateOutcome};
 
 use crate::token::tokens;
 use crate::tree::{query_of_tokens, update_of_tokens};
@@ -17,7 +18,7 @@ use qs_tree::token::Token;
 use std::alloc::Global;
 
 fn query_of(alloc: Global, text: &str, tokens: &[Token]) -> Result<Query, QFault>
-    ensures { Answers (IsOutcomeOfTokens rules.query (query_outcome text.now tokens.now) text.now tokens.now) result }
+    ensures { OneOrWantOfMemory (IsOutcomeOfTokens rules.query (query_outcome text.now tokens.now) text.now tokens.now) result }
 {
     screen(alloc, text, tokens)?;
     let tree = query_of_tokens(alloc, text.len(), tokens)?;
@@ -25,7 +26,7 @@ fn query_of(alloc: Global, text: &str, tokens: &[Token]) -> Result<Query, QFault
 }
 
 fn update_of(alloc: Global, text: &str, tokens: &[Token]) -> Result<Update, QFault>
-    ensures { Answers (IsOutcomeOfTokens rules.update (update_outcome text.now) text.now tokens.now) result }
+    ensures { OneOrWantOfMemory (IsOutcomeOfTokens rules.update (update_outcome text.now) text.now tokens.now) result }
 {
     screen(alloc, text, tokens)?;
     let tree = update_of_tokens(alloc, text.len(), tokens)?;
@@ -43,7 +44,7 @@ fn update_of(alloc: Global, text: &str, tokens: &[Token]) -> Result<Update, QFau
 /// `QFault::Scope` where a rule of scope is broken (SPARQL 1.1 Query, the notes in 19.8). `QFault::Memory` for want of memory, at
 /// any time.
 pub fn parse_query(alloc: Global, text: &str) -> Result<Query, QFault>
-    ensures { Answers (IsQueryOutcome text.now) result }
+    ensures { OneOrWantOfMemory (IsQueryOutcome text.now) result }
 {
     let tokens = tokens(alloc, text)?;
     query_of(alloc, text, &tokens)
@@ -54,7 +55,7 @@ pub fn parse_query(alloc: Global, text: &str) -> Result<Query, QFault>
 /// # Errors
 /// As of `parse_query`.
 pub fn parse_update(alloc: Global, text: &str) -> Result<Update, QFault>
-    ensures { Answers (IsUpdateOutcome text.now) result }
+    ensures { OneOrWantOfMemory (IsUpdateOutcome text.now) result }
 {
     let tokens = tokens(alloc, text)?;
     update_of(alloc, text, &tokens)

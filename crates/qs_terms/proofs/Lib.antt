@@ -5,3 +5,4 @@ pub mod Counts
 pub mod FirstOnes
 pub mod DatasetSteps
 pub mod Puts
+pub mod Datatypes

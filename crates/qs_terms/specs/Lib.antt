@@ -1,7 +1,8 @@
 pub mod Iri
 pub mod Tag
 pub mod Literal
-pub mod OrMemory
+pub mod OrWantOf
+pub mod Outcome
 pub mod Term
 pub mod Statement
 pub mod Bag

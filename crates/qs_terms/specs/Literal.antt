@@ -16,6 +16,16 @@ pub record Literal : Type 0 where
 unfoldable pub rdf_lang_string : List ℕ
 rdf_lang_string = codes "http://www.w3.org/1999/02/22-rdf-syntax-ns#langString"
 
+-- the datatypes of strings, integers and booleans (XML Schema Part 2, 3.2.1, 3.3.13 and 3.2.2)
+unfoldable pub xsd_string : List ℕ
+xsd_string = codes "http://www.w3.org/2001/XMLSchema#string"
+
+unfoldable pub xsd_integer : List ℕ
+xsd_integer = codes "http://www.w3.org/2001/XMLSchema#integer"
+
+unfoldable pub xsd_boolean : List ℕ
+xsd_boolean = codes "http://www.w3.org/2001/XMLSchema#boolean"
+
 -- the literal of a form and a datatype
 abbrev pub typed : List ℕ → List ℕ → Literal
 typed form datatype = record { form = form; datatype = datatype; tag = None }

@@ -2,7 +2,8 @@
 
 ghost use Rattle.std.specs.Prelude.{◌≡◌, ◌↔◌, IfOk, OnOk, MatchResult, IsTrue};
 ghost use Rattle.std.specs.List.{list_any};
-ghost use Rattle.qs_terms.specs.OrMemory.{OrMemory};
+ghost use Rattle.qs_terms.specs.OrWantOf.{ValueOrWantOf};
+ghost use Rattle.qs_terms.specs.declared.fault.TermFault.TheVariants.{Memory};
 ghost use Rattle.qs_terms.specs.Iri.{is_scheme_char, reaches_colon, has_scheme, is_excluded, is_iri_text, checked_iri};
 
 use crate::fault::TermFault;
@@ -104,7 +105,7 @@ impl Iri {
 
     /// The IRI of a copy of the text. A refusal of the text takes no memory.
     pub fn parse(alloc: Global, text: &str) -> Result<Iri, TermFault>
-        ensures { OrMemory result (checked_iri text.now) }
+        ensures { ValueOrWantOf Memory (checked_iri text.now) result }
     {
         check(text.as_bytes())?;
         let text = Text::new(alloc, text)?;

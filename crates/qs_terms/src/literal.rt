@@ -3,20 +3,19 @@
 ghost use Rattle.std.specs.Prelude.{◌≡◌, ◌↔◌, IfOk, IsTrue, Some, None};
 ghost use Rattle.std.specs.Option.{option_copied};
 ghost use Rattle.std.specs.Str.{bytes_eq};
-ghost use Rattle.qs_terms.specs.Literal.{rdf_lang_string, checked_typed, checked_parts, checked_tagged, is_literal, fits_tag};
+ghost use Rattle.qs_terms.specs.Literal.{rdf_lang_string, xsd_string, xsd_integer, xsd_boolean, typed, checked_typed, checked_parts, checked_tagged, is_literal, fits_tag};
 ghost use Rattle.qs_terms.specs.Iri.{checked_iri};
-ghost use Rattle.qs_terms.specs.OrMemory.{OrMemory};
+ghost use Rattle.qs_terms.specs.OrWantOf.{ValueOrWantOf};
+ghost use Rattle.qs_terms.specs.declared.fault.TermFault.TheVariants.{Memory};
 
 use crate::boxed::Boxed;
+use crate::datatype;
 use crate::fault::TermFault;
 use crate::iri::{Iri, check as check_iri};
 use crate::tag::is_tag;
 use crate::text::Text;
 use std::alloc::{AllocError, Global};
 use std::marker::Model;
-
-/// The datatype of the literals with a language tag (RDF 1.1 Concepts, 3.3).
-const RDF_LANG_STRING: &str = "http://www.w3.org/1999/02/22-rdf-syntax-ns#langString";
 
 /// The parts of a literal.
 #[derive(Debug, Drop, PartialEq, Eq, PartialOrd, Ord, Hash)]
@@ -57,18 +56,10 @@ impl Model for Lit {
     ghost inverse = { λ l. record { parts = l } };
 }
 
-#[tactic(auto, unfolding(crate::specs::Literal::rdf_lang_string))]
 fn is_lang_string(datatype: &str) -> bool
     ensures { result ≡ bytes_eq datatype.now rdf_lang_string }
 {
-    datatype == RDF_LANG_STRING
-}
-
-#[tactic(auto, unfolding(crate::specs::Literal::rdf_lang_string))]
-fn lang_string(alloc: Global) -> Result<Text, AllocError>
-    ensures { IfOk result (λ t. t ≡ rdf_lang_string) }
-{
-    Text::new(alloc, RDF_LANG_STRING)
+    datatype == datatype::lang_string()
 }
 
 impl Lit {
@@ -93,9 +84,42 @@ impl Lit {
         Ok(Lit { parts })
     }
 
+    // The literal of a form and the text of a datatype that is known to be lawful.
+    fn of_known(alloc: Global, form: Text, datatype: &str) -> Result<Lit, AllocError>
+        requires { IsTrue (fits_tag datatype.now None) }
+        ensures { IfOk result (λ l. l ≡ typed form datatype.now) }
+    {
+        let datatype = Text::new(alloc, datatype)?;
+        Lit::of_parts(alloc, form, datatype, None)
+    }
+
+    /// The string of a form: its datatype is xsd:string (RDF 1.1 Concepts, 3.3, simple literals).
+    #[tactic(auto, using(crate::proofs::Datatypes::string_fits))]
+    pub fn string(alloc: Global, form: Text) -> Result<Lit, AllocError>
+        ensures { IfOk result (λ l. l ≡ typed form xsd_string) }
+    {
+        Lit::of_known(alloc, form, datatype::string())
+    }
+
+    /// The integer of a form: its datatype is xsd:integer.
+    #[tactic(auto, using(crate::proofs::Datatypes::integer_fits))]
+    pub fn integer(alloc: Global, form: Text) -> Result<Lit, AllocError>
+        ensures { IfOk result (λ l. l ≡ typed form xsd_integer) }
+    {
+        Lit::of_known(alloc, form, datatype::integer())
+    }
+
+    /// The boolean of a form: its datatype is xsd:boolean.
+    #[tactic(auto, using(crate::proofs::Datatypes::boolean_fits))]
+    pub fn boolean(alloc: Global, form: Text) -> Result<Lit, AllocError>
+        ensures { IfOk result (λ l. l ≡ typed form xsd_boolean) }
+    {
+        Lit::of_known(alloc, form, datatype::boolean())
+    }
+
     /// The literal of a form and a datatype other than rdf:langString. A refusal takes no memory.
     pub fn typed(alloc: Global, form: Text, datatype: Iri) -> Result<Lit, TermFault>
-        ensures { OrMemory result (checked_typed form datatype) }
+        ensures { ValueOrWantOf Memory (checked_typed form datatype) result }
     {
         if is_lang_string(datatype.text()) {
             return Err(TermFault::BadDatatype);
@@ -105,12 +129,12 @@ impl Lit {
 
     /// The language-tagged string of a form and a tag, which is put into lower case.
     pub fn tagged(alloc: Global, form: Text, tag: Text) -> Result<Lit, TermFault>
-        ensures { OrMemory result (checked_tagged form tag) }
+        ensures { ValueOrWantOf Memory (checked_tagged form tag) result }
     {
         if !is_tag(tag.as_str().as_bytes()) {
             return Err(TermFault::BadTag);
         }
-        let datatype = lang_string(alloc)?;
+        let datatype = Text::new(alloc, datatype::lang_string())?;
         let mut tag = tag;
         tag.make_ascii_lowercase();
         Ok(Lit::of_parts(alloc, form, datatype, Some(tag))?)
@@ -118,7 +142,7 @@ impl Lit {
 
     /// The literal of copies of a form and of a datatype's IRI. A refusal of the texts takes no memory.
     pub fn parse(alloc: Global, form: &str, datatype: &str) -> Result<Lit, TermFault>
-        ensures { OrMemory result (checked_parts form.now (checked_iri datatype.now)) }
+        ensures { ValueOrWantOf Memory (checked_parts form.now (checked_iri datatype.now)) result }
     {
         check_iri(datatype.as_bytes())?;
         if is_lang_string(datatype) {
@@ -131,7 +155,7 @@ impl Lit {
 
     /// The language-tagged string of copies of a form and a tag. A refusal of the tag takes no memory.
     pub fn parse_tagged(alloc: Global, form: &str, tag: &str) -> Result<Lit, TermFault>
-        ensures { OrMemory result (checked_tagged form.now tag.now) }
+        ensures { ValueOrWantOf Memory (checked_tagged form.now tag.now) result }
     {
         if !is_tag(tag.as_bytes()) {
             return Err(TermFault::BadTag);
@@ -154,6 +178,27 @@ impl Lit {
         ensures { result.now ≡ self.now.datatype }
     {
         self.parts.get().datatype.as_str()
+    }
+
+    /// Whether the datatype is xsd:string.
+    pub fn is_string(&self) -> bool
+        ensures { result ≡ bytes_eq self.now.datatype xsd_string }
+    {
+        self.datatype() == datatype::string()
+    }
+
+    /// Whether the datatype is xsd:integer.
+    pub fn is_integer(&self) -> bool
+        ensures { result ≡ bytes_eq self.now.datatype xsd_integer }
+    {
+        self.datatype() == datatype::integer()
+    }
+
+    /// Whether the datatype is xsd:boolean.
+    pub fn is_boolean(&self) -> bool
+        ensures { result ≡ bytes_eq self.now.datatype xsd_boolean }
+    {
+        self.datatype() == datatype::boolean()
     }
 
     /// The language tag in lower case, without its `@`, if the literal has one.

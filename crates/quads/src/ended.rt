@@ -1,7 +1,7 @@
 //! How a job ends before anything is printed.
 
 ghost use Rattle.std.specs.Prelude.{Ok, Err, MatchResult};
-ghost use Rattle.qs_select.specs.Outcome.{Answers};
+ghost use Rattle.qs_terms.specs.Outcome.{OneOrWantOfMemory};
 ghost use Rattle.quads.specs.Ended.{IsTextOf, IsTextOutcome, IsQueryEnd, IsEnd};
 
 use crate::job::Job;
@@ -43,7 +43,7 @@ fn text_answer(
     quads: &[Quad],
     next_blank: u64,
 ) -> Result<Answer, QFault>
-    ensures { Answers (IsTextOutcome text.now quads.now) result }
+    ensures { OneOrWantOfMemory (IsTextOutcome text.now quads.now) result }
 {
     let text = text_of(text)?;
     answer(alloc, text, quads, next_blank, MAX_ROWS)

@@ -1,5 +1,5 @@
 use Rattle.std.proofs.Common.{◌≡◌, map, drop}
-use Rattle.qs_algebra.specs.Outcome.{all, all_behind}
+use Rattle.qs_terms.specs.Outcome.{all, all_behind}
 use Rattle.qs_algebra.specs.Translation.{group_pattern, part}
 use Rattle.qs_algebra.proofs.translation.+group.Given as goal
 

@@ -1,5 +1,5 @@
 use Rattle.std.proofs.Common.{◌≡◌, map, drop}
-use Rattle.qs_algebra.specs.Outcome.{all, all_behind}
+use Rattle.qs_terms.specs.Outcome.{all, all_behind}
 use Rattle.qs_select.specs.Selection.{item_variable}
 use Rattle.qs_select.proofs.selection.item_variables.Given as goal
 

@@ -1,11 +1,13 @@
--- What a part of a tree comes to: a value, or the fault that it has no meaning yet.
-use Rattle.std.specs.Prelude.{◌≡◌, ◌≢◌, List, [], ◌∷◌, ◌++◌, Result, Ok, Err}
+-- What a text, or a part of it, comes to: a value, or the one fault that is due.
+use Rattle.std.specs.Prelude.{List, [], ◌∷◌, ◌++◌, Result, Ok, Err}
 use Rattle.qs_terms.specs.declared.fault.QFault.{QFault}
 use Rattle.qs_terms.specs.declared.fault.QFault.TheVariants.{Memory}
+use Rattle.qs_terms.specs.OrWantOf.{OrWantOf, OneOrWantOf}
 
 abbrev pub Outcome : Type 0 → Type 0
 Outcome A = Result A QFault
 
+-- the second behind the value of the first, or the fault of the first
 abbrev pub and_then : {A B : Type 0} → Outcome A → (A → Outcome B) → Outcome B
 and_then (Ok a) f = f a
 and_then (Err e) f = Err e
@@ -18,7 +20,10 @@ all_behind before (o ∷ os) = and_then o (λ a. all_behind (before ++ a ∷ [])
 abbrev pub all : {A : Type 0} → List (Outcome A) → Outcome (List A)
 all parts = all_behind [] parts
 
--- the result is the outcome that is due, or want of memory
-abbrev pub Gives : {A : Type 0} → Outcome A → Outcome A → Type 0
-Gives outcome (Ok a) = outcome ≡ Ok a
-Gives outcome (Err e) = e ≢ Memory → outcome ≡ Err e
+-- the answer is the outcome that is due, or want of memory
+abbrev pub OrWantOfMemory : {A : Type 0} → Outcome A → Outcome A → Type 0
+OrWantOfMemory due answer = OrWantOf Memory due answer
+
+-- the answer is one of the outcomes that are due, or want of memory
+abbrev pub OneOrWantOfMemory : {A : Type 0} → (Outcome A → Type 0) → Outcome A → Type 0
+OneOrWantOfMemory Due answer = OneOrWantOf Memory Due answer
