@@ -8,7 +8,7 @@ ghost use Rattle.qs_lex.specs.declared.iri_state.IriState.TheVariants.{Body};
 
 use crate::token::Class;
 use qs_regular::character::{is_iri_char, is_iri_scalar};
-use qs_regular::escape::Escape;
+use qs_regular::hex_digits::HexDigits;
 use qs_regular::push::{Pushed, push};
 
 /// What has been read of an IRI, or of a mark that begins with `<`.
@@ -23,7 +23,7 @@ pub enum IriState {
     /// an escape's backslash
     Backslash,
     /// digits of an escape
-    Hex(Escape),
+    Hex(HexDigits),
     /// a whole IRI
     Done,
 }
@@ -57,9 +57,9 @@ impl IriState {
             IriState::Body => in_body(c),
             IriState::Backslash => {
                 if c == 'u' {
-                    Some(IriState::Hex(Escape::new(3)))
+                    Some(IriState::Hex(HexDigits::new(3)))
                 } else if c == 'U' {
-                    Some(IriState::Hex(Escape::new(7)))
+                    Some(IriState::Hex(HexDigits::new(7)))
                 } else {
                     None
                 }

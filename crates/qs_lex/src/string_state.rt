@@ -7,7 +7,7 @@ ghost use Rattle.qs_lex.specs.StringState.{left_of_string};
 use crate::quote::Quote;
 use crate::token::Class;
 use qs_regular::character::{is_escaped, is_scalar};
-use qs_regular::escape::Escape;
+use qs_regular::hex_digits::HexDigits;
 use qs_regular::push::{Pushed, push};
 
 /// What has been read of a string.
@@ -22,7 +22,7 @@ pub enum StringState {
     /// a backslash in a short string
     ShortBackslash(Quote),
     /// digits of an escape in a short string
-    ShortHex(Quote, Escape),
+    ShortHex(Quote, HexDigits),
     /// a long string
     Long(Quote),
     /// a quotation mark in a long string
@@ -32,7 +32,7 @@ pub enum StringState {
     /// a backslash in a long string
     LongBackslash(Quote),
     /// digits of an escape in a long string
-    LongHex(Quote, Escape),
+    LongHex(Quote, HexDigits),
     /// a whole string
     Done,
 }
@@ -87,9 +87,9 @@ impl StringState {
                 if is_escaped(c) {
                     Some(StringState::Short(quote))
                 } else if c == 'u' {
-                    Some(StringState::ShortHex(quote, Escape::new(3)))
+                    Some(StringState::ShortHex(quote, HexDigits::new(3)))
                 } else if c == 'U' {
-                    Some(StringState::ShortHex(quote, Escape::new(7)))
+                    Some(StringState::ShortHex(quote, HexDigits::new(7)))
                 } else {
                     None
                 }
@@ -138,9 +138,9 @@ impl StringState {
                 if is_escaped(c) {
                     Some(StringState::Long(quote))
                 } else if c == 'u' {
-                    Some(StringState::LongHex(quote, Escape::new(3)))
+                    Some(StringState::LongHex(quote, HexDigits::new(3)))
                 } else if c == 'U' {
-                    Some(StringState::LongHex(quote, Escape::new(7)))
+                    Some(StringState::LongHex(quote, HexDigits::new(7)))
                 } else {
                     None
                 }

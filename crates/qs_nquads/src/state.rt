@@ -10,7 +10,7 @@ use crate::class::Class;
 use qs_regular::character::{
     is_chars, is_digit, is_escaped, is_iri_char, is_letter, is_letter_or_digit, is_scalar, is_u,
 };
-use qs_regular::escape::Escape;
+use qs_regular::hex_digits::HexDigits;
 use qs_regular::push::{Pushed, push};
 
 /// What has been read of a front.
@@ -21,7 +21,7 @@ pub enum State {
     /// the same, and a backslash
     IriBackslash,
     /// the same, and digits of an escape
-    IriHex(Escape),
+    IriHex(HexDigits),
     /// an IRI
     IriDone,
     /// a string without its end
@@ -29,7 +29,7 @@ pub enum State {
     /// the same, and a backslash
     StringBackslash,
     /// the same, and digits of an escape
-    StringHex(Escape),
+    StringHex(HexDigits),
     /// a string
     StringDone,
     /// `@`
@@ -98,18 +98,18 @@ fn behind_iri_backslash(c: char) -> Option<State>
     ensures { MatchOption result (advance (left state.IriBackslash) c ≡ []) (λ next. advance (left state.IriBackslash) c ≡ left next) }
 {
     if c == 'u' {
-        Some(State::IriHex(Escape::new(3)))
+        Some(State::IriHex(HexDigits::new(3)))
     } else if c == 'U' {
-        Some(State::IriHex(Escape::new(7)))
+        Some(State::IriHex(HexDigits::new(7)))
     } else {
         None
     }
 }
 
-fn in_iri_escape(escape: Escape, c: char) -> Option<State>
-    ensures { MatchOption result (advance (left (state.IriHex escape)) c ≡ []) (λ next. advance (left (state.IriHex escape)) c ≡ left next) }
+fn in_iri_escape(digits: HexDigits, c: char) -> Option<State>
+    ensures { MatchOption result (advance (left (state.IriHex digits)) c ≡ []) (λ next. advance (left (state.IriHex digits)) c ≡ left next) }
 {
-    match push(escape, c) {
+    match push(digits, c) {
         Pushed::Digit(next) => Some(State::IriHex(next)),
         Pushed::Whole(value) => {
             if is_scalar(value) {
@@ -144,18 +144,18 @@ fn behind_string_backslash(c: char) -> Option<State>
     if is_escaped(c) {
         Some(State::String)
     } else if c == 'u' {
-        Some(State::StringHex(Escape::new(3)))
+        Some(State::StringHex(HexDigits::new(3)))
     } else if c == 'U' {
-        Some(State::StringHex(Escape::new(7)))
+        Some(State::StringHex(HexDigits::new(7)))
     } else {
         None
     }
 }
 
-fn in_string_escape(escape: Escape, c: char) -> Option<State>
-    ensures { MatchOption result (advance (left (state.StringHex escape)) c ≡ []) (λ next. advance (left (state.StringHex escape)) c ≡ left next) }
+fn in_string_escape(digits: HexDigits, c: char) -> Option<State>
+    ensures { MatchOption result (advance (left (state.StringHex digits)) c ≡ []) (λ next. advance (left (state.StringHex digits)) c ≡ left next) }
 {
-    match push(escape, c) {
+    match push(digits, c) {
         Pushed::Digit(next) => Some(State::StringHex(next)),
         Pushed::Whole(value) => {
             if is_scalar(value) {

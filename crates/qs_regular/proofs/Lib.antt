@@ -1,4 +1,4 @@
 pub mod Derivative
 pub mod Longest
 pub mod Scan
-pub mod Escapes
+pub mod HexDigits

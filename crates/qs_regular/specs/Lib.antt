@@ -3,4 +3,4 @@ pub mod Form
 pub mod Derivative
 pub mod Longest
 pub mod Scan
-pub mod Escape
+pub mod HexDigits

@@ -4,6 +4,6 @@
 #![tactic(auto)]
 
 pub mod character;
-pub mod escape;
+pub mod hex_digits;
 pub mod laws;
 pub mod push;

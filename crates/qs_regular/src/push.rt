@@ -1,14 +1,14 @@
 //! One more character of an escape.
 
-ghost use Rattle.qs_regular.specs.Escape.{IsPushed};
+ghost use Rattle.qs_regular.specs.HexDigits.{IsPushed};
 
-use crate::escape::Escape;
+use crate::hex_digits::HexDigits;
 
 /// What a character makes of an escape.
 #[derive(Clone, Copy)]
 pub enum Pushed {
     /// One digit more, and not the last.
-    Digit(Escape),
+    Digit(HexDigits),
     /// The last digit, with the value of them all.
     Whole(u32),
     /// No digit.
@@ -16,9 +16,9 @@ pub enum Pushed {
 }
 
 /// What the next character makes of an escape.
-#[tactic(auto, unfolding(crate::specs::Character::is_hex, crate::specs::Character::hex_value), using(crate::proofs::Escapes::pushed, crate::proofs::Escapes::pushed_fits))]
-pub fn push(escape: Escape, c: char) -> Pushed
-    ensures { IsPushed escape c result }
+#[tactic(auto, unfolding(crate::specs::Character::is_hex, crate::specs::Character::hex_value), using(crate::proofs::HexDigits::pushed, crate::proofs::HexDigits::pushed_fits))]
+pub fn push(digits: HexDigits, c: char) -> Pushed
+    ensures { IsPushed digits c result }
 {
     if !c.is_ascii_hexdigit() {
         return Pushed::Other;
@@ -26,12 +26,12 @@ pub fn push(escape: Escape, c: char) -> Pushed
     let Some(digit) = c.to_digit(16) else {
         return Pushed::Other;
     };
-    let value = escape.value * 16 + digit;
-    if escape.after == 0 {
+    let value = digits.value * 16 + digit;
+    if digits.after == 0 {
         Pushed::Whole(value)
     } else {
-        Pushed::Digit(Escape {
-            after: escape.after - 1,
+        Pushed::Digit(HexDigits {
+            after: digits.after - 1,
             value,
         })
     }
