@@ -1,4 +1,5 @@
 -- What a procedure that takes no memory answers.
+-- (Inner: it serves proofs, and no promise of the product is read by it.)
 use Rattle.std.specs.Prelude.{◌≡◌, List, Result, Ok, Err}
 use Rattle.qs_grammar.specs.declared.fault.Fault.{Fault}
 use Rattle.qs_grammar.specs.Reading.{Outcome}

@@ -1,4 +1,5 @@
 -- Whether the variables of triple patterns have numbers below a bound.
+-- (Inner: it serves proofs, and no promise of the product is read by it.)
 use Rattle.std.specs.Prelude.{ℕ, Bool, true, ◌&&◌, List, nat_lt}
 use Rattle.std.specs.List.{list_all}
 use Rattle.qs_patterns.specs.declared.pattern.Slot.{Slot}

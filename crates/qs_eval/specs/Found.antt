@@ -1,4 +1,5 @@
 -- What a search through the triple patterns finds, one pattern after another.
+-- (Inner: it serves proofs, and no promise of the product is read by it.)
 use Rattle.std.specs.Prelude.{Bool, ◌&&◌, ℕ, List, [], ◌∷◌, Option, Some, None, if◌then◌else◌, slice_set, option_to_list}
 use Rattle.std.specs.List.{flat_map}
 use Rattle.qs_terms.specs.declared.term.Term.{Term}

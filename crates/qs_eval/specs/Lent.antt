@@ -1,4 +1,5 @@
 -- Lists of borrowed values.
+-- (Inner: it serves proofs, and no promise of the product is read by it.)
 use Rattle.std.specs.Prelude.{List, map}
 use Rattle.std.specs.Borrow.{Bor}
 

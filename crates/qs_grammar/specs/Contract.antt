@@ -1,4 +1,5 @@
 -- What reading a text ensures.
+-- (Inner: it serves proofs, and no promise of the product is read by it.)
 use Rattle.std.specs.Prelude.{◌≡◌, ◌≢◌, List, ◌⊎◌, length, Result, Ok, Err}
 use Rattle.qs_grammar.specs.declared.fault.Fault.{Fault}
 use Rattle.qs_grammar.specs.declared.fault.Fault.TheVariants as inner

@@ -1,4 +1,5 @@
 -- Outcomes whose items are taken up one by one into what was made before.
+-- (Inner: it serves proofs, and no promise of the product is read by it.)
 use Rattle.std.specs.Prelude.{List, [], ◌∷◌, ◌++◌, fold, Option, Some, None, Ok}
 use Rattle.qs_grammar.specs.Reading.{Outcome, and_then}
 

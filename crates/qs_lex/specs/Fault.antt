@@ -1,4 +1,5 @@
 -- When a text has no token list.
+-- (Inner: it serves proofs, and no promise of the product is read by it.)
 use Rattle.std.specs.Prelude.{ℕ, ◌<◌, List, length}
 use Rattle.std.specs.Str.{chars}
 use Rattle.qs_lex.specs.Lexes.{Lexeme, Reads, StopsAt}

@@ -1,4 +1,5 @@
 -- What is left of the table in each state of the scanner within IRIs.
+-- (Inner: it serves proofs, and no promise of the product is read by it.)
 use Rattle.std.specs.Prelude.{suc, [], ◌∷◌}
 use Rattle.qs_regular.specs.Form.{Form, nothing, one, hexes, many, ◌⨾◌, ◌∣◌, char}
 use Rattle.qs_regular.specs.Character.{is_iri_char, is_iri_scalar}

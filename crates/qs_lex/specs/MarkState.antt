@@ -1,4 +1,5 @@
 -- What is left of the table in each state of the scanner within marks.
+-- (Inner: it serves proofs, and no promise of the product is read by it.)
 use Rattle.std.specs.Prelude.{[], ◌∷◌}
 use Rattle.qs_regular.specs.Form.{nothing, ◌∣◌, char}
 use Rattle.qs_lex.specs.Table.{Left}

@@ -1,4 +1,5 @@
 -- What is left of the table in each state of the scanner within names, words, blank node labels, variables and language tags.
+-- (Inner: it serves proofs, and no promise of the product is read by it.)
 use Rattle.std.specs.Prelude.{[], ◌∷◌, ◌||◌, ◌==◌}
 use Rattle.qs_regular.specs.Form.{Form, nothing, one, many, ◌⨾◌, ◌∣◌, maybe, plus, char}
 use Rattle.qs_regular.specs.Character.{is_hex, is_u, is_digit, is_chars, is_mark_in_name, is_letter, is_letter_or_digit}

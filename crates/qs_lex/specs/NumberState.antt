@@ -1,4 +1,5 @@
 -- What is left of the table in each state of the scanner within numbers.
+-- (Inner: it serves proofs, and no promise of the product is read by it.)
 use Rattle.std.specs.Prelude.{[], ◌∷◌}
 use Rattle.qs_regular.specs.Form.{nothing, many, ◌⨾◌, ◌∣◌, maybe, plus}
 use Rattle.qs_lex.specs.Table.{digit, sign, dot, exponent, Left}

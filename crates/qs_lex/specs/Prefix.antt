@@ -1,4 +1,5 @@
 -- Whether a prefix goes on to its colon.
+-- (Inner: it serves proofs, and no promise of the product is read by it.)
 use Rattle.std.specs.Prelude.{◌≡◌, ◌<◌, ℕ, Bool, true, false, cond, ◌&&◌, ◌==◌, List, [], ◌∷◌, ◌++◌, length}
 use Rattle.std.specs.Str.{encode_utf8_all}
 use Rattle.qs_regular.specs.Form.{one, many}

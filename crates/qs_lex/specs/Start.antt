@@ -1,4 +1,5 @@
 -- What is left of the table after a token's first character.
+-- (Inner: it serves proofs, and no promise of the product is read by it.)
 use Rattle.std.specs.Prelude.{ℕ}
 use Rattle.qs_lex.specs.Table.{Left, table}
 use Rattle.qs_regular.specs.Longest.{advance}

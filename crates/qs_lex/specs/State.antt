@@ -1,4 +1,5 @@
 -- What is left of the forms in each state of the scanner.
+-- (Inner: it serves proofs, and no promise of the product is read by it.)
 use Rattle.qs_lex.specs.Table.{Left}
 use Rattle.qs_lex.specs.IriState.{left_of_iri}
 use Rattle.qs_lex.specs.MarkState.{left_of_mark}

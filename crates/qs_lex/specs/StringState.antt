@@ -1,4 +1,5 @@
 -- What is left of the table in each state of the scanner within strings.
+-- (Inner: it serves proofs, and no promise of the product is read by it.)
 use Rattle.std.specs.Prelude.{ℕ, suc, not, [], ◌∷◌}
 use Rattle.qs_regular.specs.Form.{Form, nothing, one, hexes, many, ◌⨾◌, ◌∣◌, maybe, char, echar, uchar}
 use Rattle.qs_regular.specs.Character.{is_scalar, is_escaped, is_one_of}

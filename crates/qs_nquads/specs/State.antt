@@ -1,4 +1,5 @@
 -- What is left of the table in each state of the scanner.
+-- (Inner: it serves proofs, and no promise of the product is read by it.)
 use Rattle.std.specs.Prelude.{ℕ, suc, [], ◌∷◌}
 use Rattle.qs_regular.specs.Form.{Form, nothing, one, hexes, many, ◌⨾◌, ◌∣◌, maybe, plus, char}
 use Rattle.qs_regular.specs.Character.{is_escaped, is_letter, is_letter_or_digit, is_scalar}

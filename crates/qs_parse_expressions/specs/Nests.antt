@@ -1,4 +1,5 @@
 -- A function value that reads expressions, with a parser.
+-- (Inner: it serves proofs, and no promise of the product is read by it.)
 use Rattle.std.specs.Prelude.{List, Result}
 use denote.Ref.{MutBor}
 use Rattle.qs_cursor.specs.declared.parser.Parser.{Parser}

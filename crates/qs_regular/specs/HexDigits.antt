@@ -1,4 +1,5 @@
 -- What a character makes of the digits of an escape.
+-- (Inner: it serves proofs, and no promise of the product is read by it.)
 use Rattle.std.specs.Prelude.{◌≡◌, ◌+◌, ◌*◌, true, false, ℕ}
 use Rattle.qs_regular.specs.Character.{is_hex, hex_value}
 use Rattle.qs_regular.specs.declared.hex_digits.HexDigits.{HexDigits}

@@ -1,4 +1,5 @@
 -- How a scan from left to right holds the longest front so far.
+-- (Inner: it serves proofs, and no promise of the product is read by it.)
 use Rattle.std.specs.Prelude.{ℕ, ◌+◌, Option, Some, None}
 
 -- what is found, with a class that ends at len

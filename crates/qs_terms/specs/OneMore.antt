@@ -1,4 +1,5 @@
 -- What one quad more adds to the names and to the nodes of a dataset.
+-- (Inner: it serves proofs, and no promise of the product is read by it.)
 use Rattle.std.specs.Prelude.{Bool, true, false, List, Option, Some, None}
 use Rattle.qs_terms.specs.Bag.{with_new}
 use Rattle.qs_terms.specs.Term.{same_term}
