@@ -63,6 +63,16 @@ def made_of(root, crates):
     return total.hexdigest()
 
 
+def seconds(root, crate):
+    """Returns about how many seconds the check of a crate takes, as scripts/seconds.txt has it, or else by its code."""
+    with open(f"{root}/scripts/seconds.txt", encoding="utf-8") as it:
+        for line in it:
+            name, _, count = line.partition(" ")
+            if name == crate:
+                return int(count)
+    return 10 + sum(os.path.getsize(file) for file in texts_of(root, crate) if file.endswith(".rt")) // 150
+
+
 def is_large(root, crate):
     lines = 0
     for file in texts_of(root, crate):
@@ -153,9 +163,10 @@ def hand_over(root, crate):
 def build(root, crates, folder, words_of, tell):
     """Builds the crates, each behind those that it names and first those with the longest chain of others behind them. A crate's
     command is words_of(crate), its log stands in the folder. Returns the first crate that was not built, or None."""
+    effort = {it: seconds(root, it) for it in crates}
     behind = dict.fromkeys(crates, 0)
     for crate in reversed([*crates]):
-        behind[crate] += sum(map(os.path.getsize, texts_of(root, crate)))
+        behind[crate] += effort[crate]
         for it in crates[crate]:
             behind[it] = max(behind[it], behind[crate])
     left, running, done, most = sorted(crates, key=lambda it: -behind[it]), {}, set(), lanes()
@@ -174,8 +185,11 @@ def build(root, crates, folder, words_of, tell):
             ready = [it for it in left if done.issuperset(crates[it])]
             idle = most - sum(jobs for _, jobs in running.values())
             while ready and idle > 0:
-                # (the processors that no other crate waits for go to this one; to a small one each would only load its libraries again)
-                crate, spare = ready[0], max(1, min(4, idle // len(ready)))
+                # (the processors that no other crate waits for go to this one, and two where the chain behind it is longer than all
+                # that is left takes on all processors; to a small one each would only load its libraries again)
+                crate = ready[0]
+                is_longest = most > 1 and most * behind[crate] > sum(effort[it] for it in crates if it not in done)
+                spare = max(2 if is_longest else 1, min(4, idle // len(ready)))
                 jobs = spare if is_large(root, crate) else 1
                 ready, idle = ready[1:], idle - jobs
                 left.remove(crate)

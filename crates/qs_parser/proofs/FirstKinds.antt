@@ -3,7 +3,7 @@ use Rattle.std.proofs.Common.{◌≡◌, false, [], ◌∷◌, refl}
 use Rattle.qs_grammar.specs.Reading.{first, nullable}
 use Rattle.qs_tree.specs.declared.kind.Kind.TheVariants as k
 use Rattle.qs_tree.specs.Table.{firsts}
-use Rattle.qs_tree.specs.Rules.{construct, delete, graph_operation, insert, item, long_construct, named_expression, operation, operations_rule, select, select_clause, template_braces, values, with_clause, with_graph}
+use Rattle.qs_tree.specs.Rules.{clear, construct, create, delete, drop_graph, from_graph_to_graph, graph_operation, insert, item, long_construct, named_expression, operation, operations_rule, select, select_clause, template_braces, values, with_clause, with_graph}
 
 pub first_item : first firsts item ≡ k.Var ∷ k.LeftParen ∷ []
 unfolding item named_expression
@@ -37,8 +37,20 @@ pub first_with_graph : first firsts with_graph ≡ k.With ∷ []
 unfolding with_graph with_clause
 first_with_graph = refl
 
+pub first_clear : first firsts clear ≡ k.Clear ∷ []
+unfolding clear
+first_clear = refl
+
+pub first_drop_graph : first firsts drop_graph ≡ k.Drop ∷ []
+unfolding drop_graph
+first_drop_graph = refl
+
+pub first_create : first firsts create ≡ k.Create ∷ []
+unfolding create
+first_create = refl
+
 pub first_operations_rule : first firsts operations_rule ≡ k.Insert ∷ k.Delete ∷ k.With ∷ k.Clear ∷ k.Drop ∷ k.Create ∷ k.Add ∷ k.Move ∷ k.Copy ∷ []
-unfolding operations_rule operation insert delete with_graph with_clause graph_operation
+unfolding operations_rule operation insert delete with_graph with_clause graph_operation clear drop_graph create from_graph_to_graph
 first_operations_rule = refl
 
 -- ---- rules that take at least one token

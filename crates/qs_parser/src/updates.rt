@@ -188,36 +188,70 @@ fn transfer(parser: Parser, tokens: &mut Tokens<'_>) -> Result<Transfer, Fault>
     })
 }
 
-#[tactic(auto, unfolding(qs_tree::specs::Rules::graph_operation))]
+#[tactic(auto, unfolding(qs_tree::specs::Rules::clear))]
+fn clear(parser: Parser, tokens: &mut Tokens<'_>) -> Result<Operation, Fault>
+    ensures { Reads (read grammar parser.depth rules.clear tokens.old) result tokens.new }
+{
+    tokens.expect(Kind::Clear)?;
+    let silent = silent(parser, tokens)?;
+    let target = target(parser, tokens)?;
+    Ok(Operation::Clear(silent, target))
+}
+
+#[tactic(auto, unfolding(qs_tree::specs::Rules::drop_graph))]
+fn drop_graph(parser: Parser, tokens: &mut Tokens<'_>) -> Result<Operation, Fault>
+    ensures { Reads (read grammar parser.depth rules.drop_graph tokens.old) result tokens.new }
+{
+    tokens.expect(Kind::Drop)?;
+    let silent = silent(parser, tokens)?;
+    let target = target(parser, tokens)?;
+    Ok(Operation::Drop(silent, target))
+}
+
+#[tactic(auto, unfolding(qs_tree::specs::Rules::create))]
+fn create(parser: Parser, tokens: &mut Tokens<'_>) -> Result<Operation, Fault>
+    ensures { Reads (read grammar parser.depth rules.create tokens.old) result tokens.new }
+{
+    tokens.expect(Kind::Create)?;
+    let silent = silent(parser, tokens)?;
+    tokens.expect(Kind::Graph)?;
+    let graph = parser.iri(tokens)?;
+    Ok(Operation::Create(silent, graph))
+}
+
+#[tactic(auto, unfolding(qs_tree::specs::Rules::from_graph_to_graph))]
+fn from_graph_to_graph(parser: Parser, tokens: &mut Tokens<'_>) -> Result<Operation, Fault>
+    ensures { Reads (read grammar parser.depth rules.from_graph_to_graph tokens.old) result tokens.new }
+{
+    if tokens.begins(&[Kind::Add]) {
+        tokens.expect(Kind::Add)?;
+        let transfer = transfer(parser, tokens)?;
+        return Ok(Operation::Add(transfer));
+    }
+    if tokens.begins(&[Kind::Move]) {
+        tokens.expect(Kind::Move)?;
+        let transfer = transfer(parser, tokens)?;
+        return Ok(Operation::Move(transfer));
+    }
+    tokens.expect(Kind::Copy)?;
+    let transfer = transfer(parser, tokens)?;
+    Ok(Operation::Copy(transfer))
+}
+
+#[tactic(auto, using(crate::proofs::FirstKinds::first_clear, crate::proofs::FirstKinds::first_drop_graph, crate::proofs::FirstKinds::first_create), unfolding(qs_tree::specs::Rules::graph_operation))]
 fn graph_operation(parser: Parser, tokens: &mut Tokens<'_>) -> Result<Operation, Fault>
     ensures { Reads (read grammar parser.depth rules.graph_operation tokens.old) result tokens.new }
 {
     if tokens.begins(&[Kind::Clear]) {
-        tokens.expect(Kind::Clear)?;
-        let silent = silent(parser, tokens)?;
-        return Ok(Operation::Clear(silent, target(parser, tokens)?));
+        return clear(parser, tokens);
     }
     if tokens.begins(&[Kind::Drop]) {
-        tokens.expect(Kind::Drop)?;
-        let silent = silent(parser, tokens)?;
-        return Ok(Operation::Drop(silent, target(parser, tokens)?));
+        return drop_graph(parser, tokens);
     }
     if tokens.begins(&[Kind::Create]) {
-        tokens.expect(Kind::Create)?;
-        let silent = silent(parser, tokens)?;
-        tokens.expect(Kind::Graph)?;
-        return Ok(Operation::Create(silent, parser.iri(tokens)?));
+        return create(parser, tokens);
     }
-    if tokens.begins(&[Kind::Add]) {
-        tokens.expect(Kind::Add)?;
-        return Ok(Operation::Add(transfer(parser, tokens)?));
-    }
-    if tokens.begins(&[Kind::Move]) {
-        tokens.expect(Kind::Move)?;
-        return Ok(Operation::Move(transfer(parser, tokens)?));
-    }
-    tokens.expect(Kind::Copy)?;
-    Ok(Operation::Copy(transfer(parser, tokens)?))
+    from_graph_to_graph(parser, tokens)
 }
 
 #[tactic(auto, using(crate::proofs::FirstKinds::first_insert, crate::proofs::FirstKinds::first_delete, crate::proofs::FirstKinds::first_with_graph), unfolding(qs_tree::specs::Rules::operation))]

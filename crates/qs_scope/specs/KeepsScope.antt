@@ -44,7 +44,7 @@ trailing_is_table None = true
 trailing_is_table (Some table) = is_table table
 
 -- a query keeps all rules
-abbrev pub query_keeps_scope : Query → Bool
+unfoldable pub query_keeps_scope : Query → Bool
 query_keeps_scope query = trailing_is_table query.values && form_keeps (trailing_names query.values) query.form
 
 -- ---- updates
@@ -82,7 +82,7 @@ inserted_labels (op.InsertData blocks) = flat_map block_labels blocks
 inserted_labels _ = []
 
 -- an update keeps all rules: no label stands in two runs of its operations, and none in two INSERT DATA
-abbrev pub update_keeps_scope : Update → Bool
+unfoldable pub update_keeps_scope : Update → Bool
 update_keeps_scope update =
     list_all operation_keeps update.operations &&
     are_apart (flat_map operation_runs update.operations) &&

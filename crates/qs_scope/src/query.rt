@@ -119,6 +119,7 @@ fn form_keeps(
 
 /// Whether the query keeps the rules of scope beyond the grammar (SPARQL 1.1 Query, the notes on the grammar in 19.8): of BIND, of
 /// AS in SELECT, of the labels of blank nodes, and of VALUES. The only error is want of memory.
+#[tactic(auto, unfolding(crate::specs::KeepsScope::query_keeps_scope))]
 pub fn query_keeps_scope(alloc: Global, query: &Query) -> Result<bool, AllocError>
     ensures { IfOk result (λ b. b ≡ spec.query_keeps_scope query.now) }
 {

@@ -111,6 +111,7 @@ fn inserted_are_apart(alloc: Global, operations: &[Operation]) -> Result<bool, A
 /// Whether the update keeps the rules of scope beyond the grammar (SPARQL 1.1 Query, the notes on the grammar in 19.8): those of
 /// queries in its WHERE clauses, no variable in data, no blank node in what it deletes, and labels of blank nodes in one run and in
 /// one INSERT DATA. The only error is want of memory.
+#[tactic(auto, unfolding(crate::specs::KeepsScope::update_keeps_scope))]
 pub fn update_keeps_scope(alloc: Global, update: &Update) -> Result<bool, AllocError>
     ensures { IfOk result (λ b. b ≡ spec.update_keeps_scope update.now) }
 {

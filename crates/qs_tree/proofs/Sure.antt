@@ -8,11 +8,11 @@ use Rattle.qs_tree.specs.contracts.kind.Kind.{the_type}
 use Rattle.qs_tree.specs.declared.kind.Kind.{Kind}
 use Rattle.qs_tree.specs.declared.triples.Form.TheVariants as form
 use Rattle.qs_tree.specs.Sparql.{Name, group, triples, properties, path, expression, operations, same_kind, sparql}
-use Rattle.qs_tree.specs.Rules.{iri, var_or_iri, annotation, literal, term, predicate, negated_one, more_negated, negated_all, negated, path_primary, repetition, path_element, more_elements, path_sequence, more_sequences, path_rule, verb, object, more_objects, objects, property, next_property, more_properties, properties_rule, anonymous_subject, property_subject, bracketed_subject, same_subject, triples_rule, parenthesized, next_argument, two_expressions, three_expressions, bound_var, two_arguments, three_arguments, more_expressions, list, unary_function, binary_function, call, operand_term, atom, unary, more_factors, product, signed_product, addend, addends, additive, comparison, relation, relational, more_relationals, conjunction, more_conjunctions, expression_rule, constraint, data_value, variables, data_values, data_row, data_rows, variable_list, value_block, row_block, column, table, values, more_groups, groups, expression_as_var, named_expression, element, block, dotted_element, group_step, group_steps, elements, group_rule, prefix_declaration, prologue, where_clause, order, limit, offset, slice, orders, order_list, order_clause, modifiers, item, items, duplicates, projection, select_clause, where_modifiers, select, template_braces, long_construct, short_construct, construct, ask, query_form, query, quads_block, quads_graph, dotted_graph, quads_step, quads_steps, quads_elements, quads, where_group, insert_clause, insert, delete, changes, with_clause, with_graph, silent, target, graph_or_default, transfer, graph_operation, operation, operations_rule, update}
+use Rattle.qs_tree.specs.Rules.{iri, var_or_iri, annotation, literal, term, predicate, negated_one, more_negated, negated_all, negated, path_primary, repetition, path_element, more_elements, path_sequence, more_sequences, path_rule, verb, object, more_objects, objects, property, next_property, more_properties, properties_rule, anonymous_subject, property_subject, bracketed_subject, same_subject, triples_rule, parenthesized, next_argument, two_expressions, three_expressions, bound_var, two_arguments, three_arguments, more_expressions, list, unary_function, binary_function, call, operand_term, atom, unary, more_factors, product, signed_product, addend, addends, additive, comparison, relation, relational, more_relationals, conjunction, more_conjunctions, expression_rule, constraint, data_value, variables, data_values, data_row, data_rows, variable_list, value_block, row_block, column, table, values, more_groups, groups, expression_as_var, named_expression, element, block, dotted_element, group_step, group_steps, elements, group_rule, prefix_declaration, prologue, where_clause, order, limit, offset, slice, orders, order_list, order_clause, modifiers, item, items, duplicates, projection, select_clause, where_modifiers, select, template_braces, long_construct, short_construct, construct, ask, query_form, query, quads_block, quads_graph, dotted_graph, quads_step, quads_steps, quads_elements, quads, where_group, insert_clause, insert, delete, changes, with_clause, with_graph, silent, target, graph_or_default, transfer, graph_operation, clear, drop_graph, create, from_graph_to_graph, operation, operations_rule, update}
 use Rattle.qs_tree.specs.Table.{rule, grammar}
 
 pub passes_each : (n : Name) → passes grammar n ≡ true
-unfolding same_kind rule iri var_or_iri annotation literal term predicate negated_one more_negated negated_all negated path_primary repetition path_element more_elements path_sequence more_sequences path_rule verb object more_objects objects property next_property more_properties properties_rule anonymous_subject property_subject bracketed_subject same_subject triples_rule parenthesized next_argument two_expressions three_expressions bound_var two_arguments three_arguments more_expressions list unary_function binary_function call operand_term atom unary more_factors product signed_product addend addends additive comparison relation relational more_relationals conjunction more_conjunctions expression_rule constraint data_value variables data_values data_row data_rows variable_list value_block row_block column table values more_groups groups expression_as_var named_expression element block dotted_element group_step group_steps elements group_rule prefix_declaration prologue where_clause order limit offset slice orders order_list order_clause modifiers item items duplicates projection select_clause where_modifiers select template_braces long_construct short_construct construct ask query_form query quads_block quads_graph dotted_graph quads_step quads_steps quads_elements quads where_group insert_clause insert delete changes with_clause with_graph silent target graph_or_default transfer graph_operation operation operations_rule update
+unfolding same_kind rule iri var_or_iri annotation literal term predicate negated_one more_negated negated_all negated path_primary repetition path_element more_elements path_sequence more_sequences path_rule verb object more_objects objects property next_property more_properties properties_rule anonymous_subject property_subject bracketed_subject same_subject triples_rule parenthesized next_argument two_expressions three_expressions bound_var two_arguments three_arguments more_expressions list unary_function binary_function call operand_term atom unary more_factors product signed_product addend addends additive comparison relation relational more_relationals conjunction more_conjunctions expression_rule constraint data_value variables data_values data_row data_rows variable_list value_block row_block column table values more_groups groups expression_as_var named_expression element block dotted_element group_step group_steps elements group_rule prefix_declaration prologue where_clause order limit offset slice orders order_list order_clause modifiers item items duplicates projection select_clause where_modifiers select template_braces long_construct short_construct construct ask query_form query quads_block quads_graph dotted_graph quads_step quads_steps quads_elements quads where_group insert_clause insert delete changes with_clause with_graph silent target graph_or_default transfer graph_operation clear drop_graph create from_graph_to_graph operation operations_rule update
 passes_each group = refl
 passes_each (triples form.Pattern) = refl
 passes_each (triples form.Template) = refl
@@ -23,11 +23,11 @@ passes_each expression = refl
 passes_each operations = refl
 
 pub query_starts : is_start grammar query ≡ true
-unfolding same_kind iri var_or_iri annotation literal term predicate negated_one more_negated negated_all negated path_primary repetition path_element more_elements path_sequence more_sequences path_rule verb object more_objects objects property next_property more_properties properties_rule anonymous_subject property_subject bracketed_subject same_subject triples_rule parenthesized next_argument two_expressions three_expressions bound_var two_arguments three_arguments more_expressions list unary_function binary_function call operand_term atom unary more_factors product signed_product addend addends additive comparison relation relational more_relationals conjunction more_conjunctions expression_rule constraint data_value variables data_values data_row data_rows variable_list value_block row_block column table values more_groups groups expression_as_var named_expression element block dotted_element group_step group_steps elements group_rule prefix_declaration prologue where_clause order limit offset slice orders order_list order_clause modifiers item items duplicates projection select_clause where_modifiers select template_braces long_construct short_construct construct ask query_form query quads_block quads_graph dotted_graph quads_step quads_steps quads_elements quads where_group insert_clause insert delete changes with_clause with_graph silent target graph_or_default transfer graph_operation operation operations_rule update
+unfolding same_kind iri var_or_iri annotation literal term predicate negated_one more_negated negated_all negated path_primary repetition path_element more_elements path_sequence more_sequences path_rule verb object more_objects objects property next_property more_properties properties_rule anonymous_subject property_subject bracketed_subject same_subject triples_rule parenthesized next_argument two_expressions three_expressions bound_var two_arguments three_arguments more_expressions list unary_function binary_function call operand_term atom unary more_factors product signed_product addend addends additive comparison relation relational more_relationals conjunction more_conjunctions expression_rule constraint data_value variables data_values data_row data_rows variable_list value_block row_block column table values more_groups groups expression_as_var named_expression element block dotted_element group_step group_steps elements group_rule prefix_declaration prologue where_clause order limit offset slice orders order_list order_clause modifiers item items duplicates projection select_clause where_modifiers select template_braces long_construct short_construct construct ask query_form query quads_block quads_graph dotted_graph quads_step quads_steps quads_elements quads where_group insert_clause insert delete changes with_clause with_graph silent target graph_or_default transfer graph_operation clear drop_graph create from_graph_to_graph operation operations_rule update
 query_starts = refl
 
 pub update_starts : is_start grammar update ≡ true
-unfolding same_kind iri var_or_iri annotation literal term predicate negated_one more_negated negated_all negated path_primary repetition path_element more_elements path_sequence more_sequences path_rule verb object more_objects objects property next_property more_properties properties_rule anonymous_subject property_subject bracketed_subject same_subject triples_rule parenthesized next_argument two_expressions three_expressions bound_var two_arguments three_arguments more_expressions list unary_function binary_function call operand_term atom unary more_factors product signed_product addend addends additive comparison relation relational more_relationals conjunction more_conjunctions expression_rule constraint data_value variables data_values data_row data_rows variable_list value_block row_block column table values more_groups groups expression_as_var named_expression element block dotted_element group_step group_steps elements group_rule prefix_declaration prologue where_clause order limit offset slice orders order_list order_clause modifiers item items duplicates projection select_clause where_modifiers select template_braces long_construct short_construct construct ask query_form query quads_block quads_graph dotted_graph quads_step quads_steps quads_elements quads where_group insert_clause insert delete changes with_clause with_graph silent target graph_or_default transfer graph_operation operation operations_rule update
+unfolding same_kind iri var_or_iri annotation literal term predicate negated_one more_negated negated_all negated path_primary repetition path_element more_elements path_sequence more_sequences path_rule verb object more_objects objects property next_property more_properties properties_rule anonymous_subject property_subject bracketed_subject same_subject triples_rule parenthesized next_argument two_expressions three_expressions bound_var two_arguments three_arguments more_expressions list unary_function binary_function call operand_term atom unary more_factors product signed_product addend addends additive comparison relation relational more_relationals conjunction more_conjunctions expression_rule constraint data_value variables data_values data_row data_rows variable_list value_block row_block column table values more_groups groups expression_as_var named_expression element block dotted_element group_step group_steps elements group_rule prefix_declaration prologue where_clause order limit offset slice orders order_list order_clause modifiers item items duplicates projection select_clause where_modifiers select template_braces long_construct short_construct construct ask query_form query quads_block quads_graph dotted_graph quads_step quads_steps quads_elements quads where_group insert_clause insert delete changes with_clause with_graph silent target graph_or_default transfer graph_operation clear drop_graph create from_graph_to_graph operation operations_rule update
 update_starts = refl
 
 pub same_kind-true : (a b : Kind) → same_kind a b ≡ true → a ≡ b
@@ -48,7 +48,7 @@ twos : (n : Name) → Option (Example (spelt_at grammar 2 n))
 twos n = find sparql lawful (spelt_at grammar 1) ones (rule n)
 
 has_example : (n : Name) → is_some (twos n) ≡ true
-unfolding twos ones rule iri var_or_iri annotation literal term predicate negated_one more_negated negated_all negated path_primary repetition path_element more_elements path_sequence more_sequences path_rule verb object more_objects objects property next_property more_properties properties_rule anonymous_subject property_subject bracketed_subject same_subject triples_rule parenthesized next_argument two_expressions three_expressions bound_var two_arguments three_arguments more_expressions list unary_function binary_function call operand_term atom unary more_factors product signed_product addend addends additive comparison relation relational more_relationals conjunction more_conjunctions expression_rule constraint data_value variables data_values data_row data_rows variable_list value_block row_block column table values more_groups groups expression_as_var named_expression element block dotted_element group_step group_steps elements group_rule prefix_declaration prologue where_clause order limit offset slice orders order_list order_clause modifiers item items duplicates projection select_clause where_modifiers select template_braces long_construct short_construct construct ask query_form query quads_block quads_graph dotted_graph quads_step quads_steps quads_elements quads where_group insert_clause insert delete changes with_clause with_graph silent target graph_or_default transfer graph_operation operation operations_rule update
+unfolding twos ones rule iri var_or_iri annotation literal term predicate negated_one more_negated negated_all negated path_primary repetition path_element more_elements path_sequence more_sequences path_rule verb object more_objects objects property next_property more_properties properties_rule anonymous_subject property_subject bracketed_subject same_subject triples_rule parenthesized next_argument two_expressions three_expressions bound_var two_arguments three_arguments more_expressions list unary_function binary_function call operand_term atom unary more_factors product signed_product addend addends additive comparison relation relational more_relationals conjunction more_conjunctions expression_rule constraint data_value variables data_values data_row data_rows variable_list value_block row_block column table values more_groups groups expression_as_var named_expression element block dotted_element group_step group_steps elements group_rule prefix_declaration prologue where_clause order limit offset slice orders order_list order_clause modifiers item items duplicates projection select_clause where_modifiers select template_braces long_construct short_construct construct ask query_form query quads_block quads_graph dotted_graph quads_step quads_steps quads_elements quads where_group insert_clause insert delete changes with_clause with_graph silent target graph_or_default transfer graph_operation clear drop_graph create from_graph_to_graph operation operations_rule update
 has_example group = refl
 has_example (triples form.Pattern) = refl
 has_example (triples form.Template) = refl

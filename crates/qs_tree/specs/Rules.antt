@@ -696,16 +696,27 @@ graph_or_default = k.Default ⇒ end_tree.Default <|> end_tree.Graph <$> opt (th
 unfoldable pub transfer : Rule Transfer
 transfer = (λ x. record { on_missing = x.0.0; from = x.0.1; to = x.1 }) <$> silent & graph_or_default << the k.To & graph_or_default
 
--- ("CLEAR" | "DROP") "SILENT"? ("GRAPH" Iri | "DEFAULT" | "NAMED" | "ALL")
---    | "CREATE" "SILENT"? "GRAPH" Iri
---    | ("ADD" | "MOVE" | "COPY") "SILENT"? End "TO" End
-unfoldable pub graph_operation : Rule Operation
-graph_operation = (λ x. operation_tree.Clear x.0 x.1) <$> the k.Clear >> silent & target
-    <|> (λ x. operation_tree.Drop x.0 x.1) <$> the k.Drop >> silent & target
-    <|> (λ x. operation_tree.Create x.0 x.1) <$> the k.Create >> silent << the k.Graph & iri
-    <|> operation_tree.Add <$> the k.Add >> transfer
+-- "CLEAR" "SILENT"? ("GRAPH" Iri | "DEFAULT" | "NAMED" | "ALL")
+unfoldable pub clear : Rule Operation
+clear = (λ x. operation_tree.Clear x.0 x.1) <$> the k.Clear >> silent & target
+
+-- "DROP" "SILENT"? ("GRAPH" Iri | "DEFAULT" | "NAMED" | "ALL")
+unfoldable pub drop_graph : Rule Operation
+drop_graph = (λ x. operation_tree.Drop x.0 x.1) <$> the k.Drop >> silent & target
+
+-- "CREATE" "SILENT"? "GRAPH" Iri
+unfoldable pub create : Rule Operation
+create = (λ x. operation_tree.Create x.0 x.1) <$> the k.Create >> silent << the k.Graph & iri
+
+-- ("ADD" | "MOVE" | "COPY") "SILENT"? End "TO" End
+unfoldable pub from_graph_to_graph : Rule Operation
+from_graph_to_graph = operation_tree.Add <$> the k.Add >> transfer
     <|> operation_tree.Move <$> the k.Move >> transfer
     <|> operation_tree.Copy <$> the k.Copy >> transfer
+
+-- what concerns whole graphs
+unfoldable pub graph_operation : Rule Operation
+graph_operation = clear <|> drop_graph <|> create <|> from_graph_to_graph
 
 -- Op = "INSERT" "DATA" Quads | "DELETE" "DATA" Quads | "DELETE" "WHERE" Quads
 --    | ("WITH" Iri)? ("DELETE" Quads ("INSERT" Quads)? | "INSERT" Quads) "WHERE" Group
