@@ -3,7 +3,7 @@
 ghost use Rattle.std.specs.Prelude.{◌≡◌, ◌<◌, ◌≤◌, ◌+◌, ◌-◌, IfSome, List, ℕ, length, slice_index};
 ghost use Rattle.qs_escapes.specs.Escape.{hex_number, uchar, echar_of, string_escape, escape};
 
-use qs_regular::escape::Escape as Digits;
+use qs_regular::hex_digits::HexDigits;
 use qs_regular::push::{Pushed, push};
 
 /// A character, and how many bytes behind the backslash name it.
@@ -23,7 +23,7 @@ pub enum Escapes {
 }
 
 #[tactic(auto, using(crate::proofs::HexNumbers::digit, crate::proofs::HexNumbers::whole, crate::proofs::HexNumbers::other, crate::proofs::HexNumbers::past))]
-fn hex_number(digits: Digits, bytes: &[u8]) -> Option<u32>
+fn hex_number(digits: HexDigits, bytes: &[u8]) -> Option<u32>
     ensures { result ≡ hex_number (digits.after + 1) digits.value bytes.now }
 {
     let mut digits = digits;
@@ -51,8 +51,8 @@ fn uchar(bytes: &[u8]) -> Option<Escape>
 {
     let (first, rest) = bytes.split_first()?;
     match *first {
-        b'u' => escape_of(5, hex_number(Digits::new(3), rest)),
-        b'U' => escape_of(9, hex_number(Digits::new(7), rest)),
+        b'u' => escape_of(5, hex_number(HexDigits::new(3), rest)),
+        b'U' => escape_of(9, hex_number(HexDigits::new(7), rest)),
         _ => None,
     }
 }
