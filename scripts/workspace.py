@@ -185,11 +185,8 @@ def build(root, crates, folder, words_of, tell):
             ready = [it for it in left if done.issuperset(crates[it])]
             idle = most - sum(jobs for _, jobs in running.values())
             while ready and idle > 0:
-                # (the processors that no other crate waits for go to this one, and two where the chain behind it is longer than all
-                # that is left takes on all processors; to a small one each would only load its libraries again)
-                crate = ready[0]
-                is_longest = most > 1 and most * behind[crate] > sum(effort[it] for it in crates if it not in done)
-                spare = max(2 if is_longest else 1, min(4, idle // len(ready)))
+                # (the processors that no other crate waits for go to this one; to a small one each would only load its libraries again)
+                crate, spare = ready[0], max(1, min(2, idle // len(ready)))
                 jobs = spare if is_large(root, crate) else 1
                 ready, idle = ready[1:], idle - jobs
                 left.remove(crate)
