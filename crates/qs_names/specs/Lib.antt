@@ -1,2 +1,2 @@
-pub mod OrWantOfMemory
+pub mod Refused
 pub mod Names
