@@ -14,7 +14,7 @@ returns-then-part-max_rows c =
     let solutions : SameBag c.in_ok-all.all.items (whole asked c.args.quads.now) =
     subst (λ (quads : List Statement). SameBag c.in_ok-all.all.items (eval asked.width quads asked.pattern (graph_of quads None))) c.in_ok-quads.ensures c.in_ok-all.ensures in
     let part : c.sliced-part.result.now ≡ sliced asked.slice c.in_ok-all.all.items = c.sliced-part.ensures ∙ ap (λ (rows : List Solution). sliced asked.slice rows) c.as_slice.ensures.value in
-    too_many asked c.in_ok-all.all.items (whole asked c.args.quads.now) c.sliced-part.result.now c.args.max_rows solutions part c.if-part-max_rows.true
+    λ _. too_many asked c.in_ok-all.all.items (whole asked c.args.quads.now) c.sliced-part.result.now c.args.max_rows solutions part c.if-part-max_rows.true
 
 pub returns : goal.returns
 returns c =
