@@ -20,4 +20,5 @@ pub record IsSound (pages : List (List (List ℕ))) (prefix : List ℕ) (given p
   pub within : page < length pages → at < length (page_at pages page)
   pub left : length (run_of (take given prefix) (rest_at pages page at)) ≤ length (beginning (take given prefix) (joined pages))
   pub few : looked + length (run_of (take given prefix) (rest_at pages page at)) ≤ length (beginning (take given prefix) (joined pages)) + 2 * digits (length (joined pages)) + 2
+  pub enough : length (beginning (take given prefix) (joined pages)) ≤ looked + length (run_of (take given prefix) (rest_at pages page at))
   pub going : page < length pages → looked + length (run_of (take given prefix) (rest_at pages page at)) ≤ length (beginning (take given prefix) (joined pages)) + 2 * digits (length (joined pages)) + 1

@@ -8,7 +8,7 @@ ghost use Rattle.qs_index.specs.Entries.{Entries, IsUnion};
 ghost use Rattle.qs_index.specs.Entry.{IsAscending, skip_before, with_entry, without_entry, beginning};
 
 use crate::order_scan::OrderScan;
-use crate::pages::{HALF, PAGE, Pages, Place};
+use crate::pages::{HALF, PAGE, Pages, Place, Reader};
 use crate::search::{find, locate};
 use std::alloc::{AllocError, Global};
 use std::marker::Model;
@@ -148,12 +148,12 @@ impl Order {
         ensures { MatchOption result (skip_before prefix.now self.now.entries ≡ []) (λ e. skip_before prefix.now self.now.entries ≡ e ∷ drop 1 (skip_before prefix.now self.now.entries)) }
     {
         let count = self.pages.len();
-        let mut looked = 0;
-        let found = find(&self.pages, prefix, &mut looked);
+        let mut reader = Reader::new(&self.pages);
+        let found = find(&mut reader, prefix);
         if found.page == count {
             return None;
         }
-        Some(*self.pages.look(found, &mut looked))
+        Some(reader.look(found))
     }
 
     /// The entries that begin with the first `given` numbers of `prefix`.
@@ -164,6 +164,6 @@ impl Order {
         ensures size { result.size ≡ length self.now.entries }
         ensures ascending { IsAscending self.now.entries }
     {
-        OrderScan::new(&self.pages, prefix, given)
+        OrderScan::new(Reader::new(&self.pages), prefix, given)
     }
 }

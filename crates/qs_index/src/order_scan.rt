@@ -2,65 +2,65 @@
 ghost use Rattle.std.specs.Prelude.{◌≡◌, ℕ, ◌+◌, ◌*◌, ◌<◌, ◌≤◌, List, length, take};
 ghost use Rattle.std.specs.Iterator.{item_count};
 ghost use Rattle.qs_index.specs.Digits.{digits};
-ghost use Rattle.qs_index.specs.Layout.{Layout, joined};
+ghost use Rattle.qs_index.specs.Layout.{Reading, joined};
 ghost use Rattle.qs_index.specs.Entry.{beginning, IsAscending};
 ghost use Rattle.qs_index.specs.Scan.{ScanState, NextOfScan};
 ghost use Rattle.qs_index.specs.OrderScan.{state_of, IsSound};
 
 use crate::entry::begins;
-use crate::pages::{Pages, Place};
+use crate::pages::{Place, Reader};
 use crate::search::find;
 use std::marker::Model;
 
 /// The entries of one order that begin with a prefix, one after another.
 #[derive(Drop)]
 pub struct OrderScan<'a> {
-    pages: &'a Pages,
+    reader: Reader<'a>,
     prefix: [u32; 4],
     given: usize,
     page: usize,
     at: usize,
-    looked: u128,
 }
 
 impl<'a> Model for OrderScan<'a> {
     ghost Value = { ScanState };
 
-    ghost view = { λ s. state_of s.pages.now.pages s.prefix s.given s.page s.at s.looked };
+    ghost view = { λ s. state_of s.reader.pages s.prefix s.given s.page s.at s.reader.looked };
 
-    ghost invariant = { λ s. IsSound s.pages.now.pages s.prefix s.given s.page s.at s.looked };
+    ghost invariant = { λ s. IsSound s.reader.pages s.prefix s.given s.page s.at s.reader.looked };
 }
 
 impl<'a> OrderScan<'a> {
     /// The scan of the entries that begin with the first `given` numbers of `prefix`.
-    pub fn new(pages: &'a Pages, prefix: [u32; 4], given: usize) -> OrderScan<'a>
+    pub fn new(reader: Reader<'a>, prefix: [u32; 4], given: usize) -> OrderScan<'a>
         requires short { given ≤ 4 }
-        requires ascending { IsAscending (joined pages.now.pages) }
-        ensures rest { result.rest ≡ beginning (take given prefix) (joined pages.now.pages) }
+        requires ascending { IsAscending (joined reader.pages) }
+        requires unread { reader.looked ≡ 0 }
+        ensures rest { result.rest ≡ beginning (take given prefix) (joined reader.entry.pages) }
         ensures handed { result.handed ≡ 0 }
-        ensures size { result.size ≡ length (joined pages.now.pages) }
+        ensures size { result.size ≡ length (joined reader.entry.pages) }
     {
-        let _held = pages.len();
-        let mut looked = 0;
-        let place = find(pages, &prefix[..given], &mut looked);
+        let mut reader = reader;
+        let _held = reader.len();
+        let place = find(&mut reader, &prefix[..given]);
         let page = place.page;
         let at = place.at;
         OrderScan {
-            pages,
+            reader,
             prefix,
             given,
             page,
             at,
-            looked,
         }
     }
 
-    /// How many entries were looked at since the scan began.
+    /// How many entries were looked at since the scan began: those handed out, and few more.
     pub fn looked(&self) -> u128
         ensures count { result ≡ self.now.looked }
+        ensures enough { self.now.handed ≤ result }
         ensures few { result ≤ self.now.handed + 2 * digits self.now.size + 2 }
     {
-        self.looked
+        self.reader.looked()
     }
 }
 
@@ -72,7 +72,7 @@ impl<'a> Iterator for OrderScan<'a> {
     ghost remaining = { item_count (λ s. s.rest) };
 
     fn next(&mut self) -> Option<[u32; 4]> {
-        let held = self.pages.len();
+        let held = self.reader.len();
         if self.page >= held {
             return None;
         }
@@ -80,14 +80,14 @@ impl<'a> Iterator for OrderScan<'a> {
             page: self.page,
             at: self.at,
         };
-        let entry = *self.pages.look(place, &mut self.looked);
+        let entry = self.reader.look(place);
         if !begins(&self.prefix[..self.given], &entry) {
             self.page = held;
             self.at = 0;
             return None;
         }
         self.at += 1;
-        if self.at == self.pages.page_len(self.page) {
+        if self.at == self.reader.page_len(self.page) {
             self.page += 1;
             self.at = 0;
         }

@@ -9,4 +9,4 @@ decreases-loop-low l = l.high - l.low
 
 abbrev pub invariant-loop-low : goal.invariant-loop-low
 invariant-loop-low l =
-    (l.low ≤ l.high) × (l.high < length (page_at l.pages.pages l.page)) × (skip_before l.prefix (joined (drop l.page l.pages.pages)) ≡ skip_before l.prefix (rest_at l.pages.pages l.page l.low)) × (is_before (get_or (page_at l.pages.pages l.page) l.high []) l.prefix ≡ false) × (l.looked + digits (l.high - l.low) ≤ l.fn.looked + digits (length (page_at l.pages.pages l.page)))
+    (l.low ≤ l.high) × (l.high < length (page_at l.fn.reader.pages l.page)) × (skip_before l.prefix (joined (drop l.page l.fn.reader.pages)) ≡ skip_before l.prefix (rest_at l.fn.reader.pages l.page l.low)) × (is_before (get_or (page_at l.fn.reader.pages l.page) l.high []) l.prefix ≡ false) × (l.reader.looked + digits (l.high - l.low) ≤ l.fn.reader.looked + digits (length (page_at l.fn.reader.pages l.page))) × (l.reader.pages ≡ l.fn.reader.pages)

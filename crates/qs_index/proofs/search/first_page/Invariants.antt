@@ -9,4 +9,4 @@ decreases-loop-low l = l.high - l.low
 
 abbrev pub invariant-loop-low : goal.invariant-loop-low
 invariant-loop-low l =
-    (l.low ≤ l.high) × (l.high ≤ length l.pages.pages) × (skip_before l.prefix (joined l.pages.pages) ≡ skip_before l.prefix (joined (drop l.low l.pages.pages))) × (l.high < length l.pages.pages → is_before (get_or (page_at l.pages.pages l.high) (length (page_at l.pages.pages l.high) - 1) []) l.prefix ≡ false) × (l.looked + digits (l.high - l.low) ≤ l.fn.looked + digits (length l.pages.pages))
+    (l.low ≤ l.high) × (l.high ≤ length l.fn.reader.pages) × (skip_before l.prefix (joined l.fn.reader.pages) ≡ skip_before l.prefix (joined (drop l.low l.fn.reader.pages))) × (l.high < length l.fn.reader.pages → is_before (get_or (page_at l.fn.reader.pages l.high) (length (page_at l.fn.reader.pages l.high) - 1) []) l.prefix ≡ false) × (l.reader.looked + digits (l.high - l.low) ≤ l.fn.reader.looked + digits (length l.fn.reader.pages)) × (l.reader.pages ≡ l.fn.reader.pages)
