@@ -13,3 +13,4 @@ pub mod Distinct
 pub mod Turned
 pub mod Graphs
 pub mod Unions
+pub mod Differences

@@ -5,7 +5,7 @@ ghost use Rattle.std.specs.Result.{OnOk};
 ghost use Rattle.std.specs.List.{All, Contains};
 ghost use Rattle.std.specs.List.Sorted.{IsPermutation};
 ghost use Rattle.qs_index.specs.Agreeing.{agreeing};
-ghost use Rattle.qs_index.specs.Entries.{Entries, IsUnion};
+ghost use Rattle.qs_index.specs.Entries.{Entries, IsUnion, IsDifference};
 ghost use Rattle.qs_index.specs.Entry.{IsEntry, IsAscending, with_entry, without_entry};
 ghost use Rattle.qs_index.specs.Graph.{graph_of, IsNextGraph};
 ghost use Rattle.qs_index.specs.Index.{IsOneSet, IsOrderOf};
@@ -28,6 +28,18 @@ fn insert_turned(order: &mut Order, permutation: Permutation, entries: &mut [[u3
     permutation.turn_all(entries);
     entries.sort_unstable();
     order.insert_all(entries);
+    permutation.restore_all(entries);
+}
+
+// Takes entries out of an order, turned and sorted.
+fn remove_turned(order: &mut Order, permutation: Permutation, entries: &mut [[u32; 4]])
+    ensures difference { IsDifference order.old.entries (map (turned permutation) entries.old) order.new.entries }
+    ensures spare { order.old.spare ≤ order.new.spare }
+    ensures permutation { IsPermutation entries.old entries.new }
+{
+    permutation.turn_all(entries);
+    entries.sort_unstable();
+    order.remove_all(entries);
     permutation.restore_all(entries);
 }
 
@@ -119,6 +131,44 @@ impl Index {
         self.gpos.remove(Permutation::Gpos.turn(entry));
         self.gosp.remove(Permutation::Gosp.turn(entry));
         true
+    }
+
+    /// Takes all of `entries` out that are there, and leaves them in some order: they are sorted for each order before they are
+    /// taken out there, which makes this the fast way to remove many. It takes no memory, and leaves no less room than there was.
+    pub fn remove_all(&mut self, entries: &mut [[u32; 4]])
+        ensures difference { IsDifference self.old.entries entries.old self.new.entries }
+        ensures spare { self.old.spare ≤ self.new.spare }
+        ensures permutation { IsPermutation entries.old entries.new }
+    {
+        remove_turned(&mut self.gspo, Permutation::Gspo, entries);
+        remove_turned(&mut self.gpos, Permutation::Gpos, entries);
+        remove_turned(&mut self.gosp, Permutation::Gosp, entries);
+    }
+
+    /// How many entries there are. It takes no memory, and goes over none.
+    pub fn len(&self) -> u128
+        ensures { result ≡ length self.now.entries }
+    {
+        self.gspo.len()
+    }
+
+    /// Whether an entry is there. It takes no memory.
+    pub fn contains(&self, entry: &[u32; 4]) -> bool
+        ensures { IsTrue result ↔ Contains self.now.entries entry.now }
+    {
+        self.gspo.contains(entry)
+    }
+
+    /// All entries, each once, ascending in the order GSPO. It takes no memory.
+    pub fn entries(&self) -> Scan<'_>
+        ensures rest { result.rest ≡ self.now.entries }
+        ensures each { (x : List ℕ) → Contains self.now.entries x → IsEntry x }
+        ensures ascending { IsAscending self.now.entries }
+        ensures handed { result.handed ≡ 0 }
+        ensures size { result.size ≡ length self.now.entries }
+    {
+        let order = &self.gspo;
+        Scan::new(order.scan([0, 0, 0, 0], 0), Permutation::Gspo)
     }
 
     /// The order of a permutation.

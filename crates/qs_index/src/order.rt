@@ -4,7 +4,7 @@ ghost use Rattle.std.specs.Bool.{OnTrue, OnFalse};
 ghost use Rattle.std.specs.Result.{OnOk};
 ghost use Rattle.std.specs.List.{Contains};
 ghost use Rattle.qs_index.specs.Layout.{Layout, joined, page_at, rest_at, room_of};
-ghost use Rattle.qs_index.specs.Entries.{Entries, IsUnion};
+ghost use Rattle.qs_index.specs.Entries.{Entries, IsUnion, IsDifference, IsOrdered};
 ghost use Rattle.qs_index.specs.Entry.{IsAscending, skip_before, with_entry, without_entry, beginning};
 
 use crate::order_scan::OrderScan;
@@ -55,6 +55,7 @@ fn make_room(pages: &mut Pages, place: Place) -> Place
 #[derive(Drop)]
 pub struct Order {
     pages: Pages,
+    count: u128,
 }
 
 impl Model for Order {
@@ -62,7 +63,7 @@ impl Model for Order {
 
     ghost view = { λ s. record { entries = joined s.pages.pages; spare = room_of s.pages.pages s.pages.spare } };
 
-    ghost invariant = { λ s. IsAscending (joined s.pages.pages) };
+    ghost invariant = { λ s. IsOrdered (joined s.pages.pages) s.count };
 }
 
 impl Order {
@@ -73,6 +74,7 @@ impl Order {
     {
         Order {
             pages: Pages::new(alloc),
+            count: 0,
         }
     }
 
@@ -101,6 +103,7 @@ impl Order {
         let count = self.pages.len();
         if count == 0 {
             self.pages.put_first(entry);
+            self.count = 1;
             return true;
         }
         let Err(place) = locate(&self.pages, &entry) else {
@@ -108,6 +111,7 @@ impl Order {
         };
         let free = make_room(&mut self.pages, place);
         put_before(&mut self.pages, free, entry);
+        self.count += 1;
         true
     }
 
@@ -139,7 +143,40 @@ impl Order {
             return false;
         };
         self.pages.take_out(place);
+        self.count -= 1;
         true
+    }
+
+    /// Takes all of `entries` out. Ascending ones are taken out fastest.
+    pub fn remove_all(&mut self, entries: &[[u32; 4]])
+        ensures difference { IsDifference self.old.entries entries.now self.new.entries }
+        ensures spare { self.old.spare ≤ self.new.spare }
+    {
+        let _count = self.pages.len();
+        for entry in entries {
+            self.remove(*entry);
+        }
+    }
+
+    /// How many entries there are.
+    pub fn len(&self) -> u128
+        ensures { result ≡ length self.now.entries }
+    {
+        self.count
+    }
+
+    /// Whether an entry is there.
+    pub fn contains(&self, entry: &[u32; 4]) -> bool
+        ensures { IsTrue result ↔ Contains self.now.entries entry.now }
+    {
+        let count = self.pages.len();
+        if count == 0 {
+            return false;
+        }
+        match locate(&self.pages, entry) {
+            Ok(_) => true,
+            Err(_) => false,
+        }
     }
 
     /// The first entry that doesn't stand before all entries that begin with `prefix`.
