@@ -8,7 +8,7 @@ use Rattle.std.proofs.lemmas.List.{take_more}
 use Rattle.std.proofs.lemmas.List.Sorted.{Contains-permutation, IsPermutation-sym}
 use Rattle.std.proofs.lemmas.List.Elements.{Contains-append_left, Contains-append_right, Contains-append_cases}
 use Rattle.qs_index.specs.Entries.{IsDifference}
-use Rattle.qs_index.specs.Entry.{IsAscending, keep_before, skip_before, without_entry, IsEntry}
+use Rattle.qs_index.specs.Entry.{IsAscending, keep_before, skip_before, without_entry}
 use Rattle.qs_index.specs.Index.{IsOrderOf}
 use Rattle.qs_index.specs.Permutation.{turned}
 use Rattle.qs_index.specs.declared.permutation.Permutation.{Permutation}

@@ -14,3 +14,5 @@ pub mod Turned
 pub mod Graphs
 pub mod Unions
 pub mod Differences
+pub mod Prefixes
+pub mod ScanSteps

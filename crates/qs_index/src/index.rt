@@ -13,6 +13,7 @@ ghost use Rattle.qs_index.specs.Permutation.{order_used, turned};
 
 use crate::order::Order;
 use crate::permutation::{Lookup, Permutation};
+use crate::prefix::Prefix;
 use crate::scan::Scan;
 use std::alloc::{AllocError, Global};
 use std::marker::Model;
@@ -211,7 +212,7 @@ impl Index {
     {
         let order = &self.gspo;
         let from = after.checked_add(1)?;
-        let entry = order.first_from(&[from])?;
+        let entry = order.first_from(&Prefix::new([from, 0, 0, 0], 1))?;
         Some(entry[0])
     }
 }

@@ -8,6 +8,7 @@ pub mod order;
 pub mod order_scan;
 pub mod pages;
 pub mod permutation;
+pub mod prefix;
 mod scan;
 mod search;
 

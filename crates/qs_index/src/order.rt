@@ -9,6 +9,7 @@ ghost use Rattle.qs_index.specs.Entry.{IsAscending, skip_before, with_entry, wit
 
 use crate::order_scan::OrderScan;
 use crate::pages::{HALF, PAGE, Pages, Place, Reader};
+use crate::prefix::Prefix;
 use crate::search::{find, locate};
 use std::alloc::{AllocError, Global};
 use std::marker::Model;
@@ -180,17 +181,13 @@ impl Order {
     }
 
     /// The first entry that doesn't stand before all entries that begin with `prefix`.
-    pub fn first_from(&self, prefix: &[u32]) -> Option<[u32; 4]>
-        requires { length prefix.now ≤ 4 }
+    pub fn first_from(&self, prefix: &Prefix) -> Option<[u32; 4]>
         ensures { MatchOption result (skip_before prefix.now self.now.entries ≡ []) (λ e. skip_before prefix.now self.now.entries ≡ e ∷ drop 1 (skip_before prefix.now self.now.entries)) }
     {
-        let count = self.pages.len();
+        let _count = self.pages.len();
         let mut reader = Reader::new(&self.pages);
-        let found = find(&mut reader, prefix);
-        if found.page == count {
-            return None;
-        }
-        Some(reader.look(found))
+        let found = find(&mut reader, prefix)?;
+        Some(found.entry)
     }
 
     /// The entries that begin with the first `given` numbers of `prefix`.
@@ -201,6 +198,6 @@ impl Order {
         ensures size { result.size ≡ length self.now.entries }
         ensures ascending { IsAscending self.now.entries }
     {
-        OrderScan::new(Reader::new(&self.pages), prefix, given)
+        OrderScan::new(Reader::new(&self.pages), Prefix::new(prefix, given))
     }
 }

@@ -1,27 +1,42 @@
 // Binary searches in the pages of one order.
-ghost use Rattle.std.specs.Prelude.{◌≡◌, ℕ, ◌+◌, ◌-◌, ◌*◌, ◌<◌, ◌≤◌, ◌^◌, List, [], ◌∷◌, length, drop, false, slice_index_or, IfOk, IfErr};
+ghost use Rattle.std.specs.Prelude.{◌≡◌, ℕ, ◌+◌, ◌-◌, ◌*◌, ◌<◌, ◌≤◌, ◌^◌, List, [], ◌∷◌, length, drop, false, slice_index_or, IfOk, IfErr, IfSome, IfNone};
 ghost use Rattle.qs_index.specs.Digits.{digits};
 ghost use Rattle.qs_index.specs.Layout.{Layout, Reading, joined, page_at, rest_at};
 ghost use Rattle.qs_index.specs.Entry.{is_before, IsAscending, skip_before};
-ghost use Rattle.qs_index.specs.Place.{IsPlaceFor, IsPlaceOf};
+ghost use Rattle.qs_index.specs.Place.{IsPlaceFor, IsPlaceOf, IsFound, IsPageFound};
 
-use crate::entry::is_before;
 use crate::pages::{Pages, Place, Reader};
+use crate::prefix::Prefix;
 
-// The first page whose last entry isn't before `prefix`.
+// An entry that was compared, and the number of the page that it ends, or of its place in its page.
+#[derive(Clone, Copy)]
+struct Bound {
+    at: usize,
+    entry: [u32; 4],
+}
+
+/// An entry that was found, and where it stands.
+#[derive(Clone, Copy)]
+pub struct Found {
+    pub place: Place,
+    pub entry: [u32; 4],
+}
+
+// The first page whose last entry isn't before `prefix`, and that entry; where there is none, the number of pages.
 #[inline(always)]
-fn first_page(reader: &mut Reader<'_>, prefix: &[u32]) -> usize
-    requires short { length prefix.now ≤ 4 }
+fn first_page(reader: &mut Reader<'_>, prefix: &Prefix) -> Bound
     requires ascending { IsAscending (joined reader.old.pages) }
     requires countable { reader.old.looked + digits (length reader.old.pages) < 2 ^ 128 }
-    ensures within { result ≤ length reader.old.pages }
-    ensures skips { skip_before prefix.now (joined reader.old.pages) ≡ skip_before prefix.now (joined (drop result reader.old.pages)) }
-    ensures reached { result < length reader.old.pages → is_before (slice_index_or (page_at reader.old.pages result) (length (page_at reader.old.pages result) - 1) []) prefix.now ≡ false }
+    ensures within { result.at ≤ length reader.old.pages }
+    ensures skips { skip_before prefix.now (joined reader.old.pages) ≡ skip_before prefix.now (joined (drop result.at reader.old.pages)) }
+    ensures reached { result.at < length reader.old.pages → IsPageFound prefix.now reader.old.pages result.at result.entry }
+    ensures looked { result.at < length reader.old.pages → reader.old.looked + 1 ≤ reader.new.looked }
     ensures pages { reader.new.pages ≡ reader.old.pages }
     ensures counted { reader.new.looked ≤ reader.old.looked + digits (length reader.old.pages) }
 {
     let mut low = 0;
     let mut high = reader.len();
+    let mut bound = [0; 4];
     while low < high {
         let middle = low + (high - low) / 2;
         let last = reader.page_len(middle) - 1;
@@ -30,63 +45,76 @@ fn first_page(reader: &mut Reader<'_>, prefix: &[u32]) -> usize
             at: last,
         };
         let entry = reader.look(place);
-        if is_before(&entry, prefix) {
+        if prefix.is_after(&entry) {
             low = middle + 1;
         } else {
             high = middle;
+            bound = entry;
         }
     }
-    low
+    Bound {
+        at: low,
+        entry: bound,
+    }
 }
 
-// The first entry of a page that isn't before `prefix`, where its last isn't.
+// The first entry of a page that isn't before `prefix`, where its last, which is given, isn't.
 #[inline(always)]
-fn first_in_page(reader: &mut Reader<'_>, page: usize, prefix: &[u32]) -> usize
-    requires short { length prefix.now ≤ 4 }
+fn first_in_page(reader: &mut Reader<'_>, page: usize, last: [u32; 4], prefix: &Prefix) -> Bound
     requires ascending { IsAscending (joined reader.old.pages) }
     requires page_in { page < length reader.old.pages }
-    requires reached { is_before (slice_index_or (page_at reader.old.pages page) (length (page_at reader.old.pages page) - 1) []) prefix.now ≡ false }
+    requires reached { IsPageFound prefix.now reader.old.pages page last }
     requires countable { reader.old.looked + digits (length (page_at reader.old.pages page)) < 2 ^ 128 }
-    ensures within { result < length (page_at reader.old.pages page) }
-    ensures skips { skip_before prefix.now (joined (drop page reader.old.pages)) ≡ rest_at reader.old.pages page result }
+    ensures within { result.at < length (page_at reader.old.pages page) }
+    ensures skips { skip_before prefix.now (joined (drop page reader.old.pages)) ≡ rest_at reader.old.pages page result.at }
+    ensures entry { result.entry ≡ slice_index_or (page_at reader.old.pages page) result.at [] }
     ensures pages { reader.new.pages ≡ reader.old.pages }
+    ensures looked { reader.old.looked ≤ reader.new.looked }
     ensures counted { reader.new.looked ≤ reader.old.looked + digits (length (page_at reader.old.pages page)) }
 {
     let mut low = 0;
     let mut high = reader.page_len(page) - 1;
+    let mut bound = last;
     while low < high {
         let middle = low + (high - low) / 2;
         let place = Place { page, at: middle };
         let entry = reader.look(place);
-        if is_before(&entry, prefix) {
+        if prefix.is_after(&entry) {
             low = middle + 1;
         } else {
             high = middle;
+            bound = entry;
         }
     }
-    low
+    Bound {
+        at: low,
+        entry: bound,
+    }
 }
 
-/// Where the first entry stands that isn't before `prefix`.
+/// The first entry that isn't before `prefix`.
 #[inline(always)]
-pub fn find(reader: &mut Reader<'_>, prefix: &[u32]) -> Place
-    requires short { length prefix.now ≤ 4 }
+pub fn find(reader: &mut Reader<'_>, prefix: &Prefix) -> Option<Found>
     requires ascending { IsAscending (joined reader.old.pages) }
     requires countable { reader.old.looked + 2 * digits (length (joined reader.old.pages)) < 2 ^ 128 }
-    ensures rest { rest_at reader.old.pages result.page result.at ≡ skip_before prefix.now (joined reader.old.pages) }
-    ensures page_within { result.page ≤ length reader.old.pages }
-    ensures within { result.page < length reader.old.pages → result.at < length (page_at reader.old.pages result.page) }
-    ensures at_end { result.page ≡ length reader.old.pages → result.at ≡ 0 }
+    ensures some { IfSome result (λ found. IsFound prefix.now reader.old.pages found.place.page found.place.at found.entry) }
+    ensures none { IfNone result (skip_before prefix.now (joined reader.old.pages) ≡ []) }
+    ensures looked { IfSome result (λ _. reader.old.looked + 1 ≤ reader.new.looked) }
     ensures pages { reader.new.pages ≡ reader.old.pages }
     ensures counted { reader.new.looked ≤ reader.old.looked + 2 * digits (length (joined reader.old.pages)) }
 {
     let held = reader.len();
     let page = first_page(reader, prefix);
-    if page == held {
-        return Place { page, at: 0 };
+    if page.at == held {
+        return None;
     }
-    let at = first_in_page(reader, page, prefix);
-    Place { page, at }
+    let bound = first_in_page(reader, page.at, page.entry, prefix);
+    let place = Place {
+        page: page.at,
+        at: bound.at,
+    };
+    let entry = bound.entry;
+    Some(Found { place, entry })
 }
 
 // Where an entry stands, or where it has to be put.
@@ -100,17 +128,16 @@ fn locate_in(reader: Reader<'_>, entry: &[u32; 4]) -> Result<Place, Place>
 {
     let mut reader = reader;
     let count = reader.len();
-    let found = find(&mut reader, entry);
-    if found.page == count {
+    let whole = Prefix::new(*entry, 4);
+    let Some(found) = find(&mut reader, &whole) else {
         let last = count - 1;
         let at = reader.page_len(last);
         return Err(Place { page: last, at });
+    };
+    if found.entry == *entry {
+        return Ok(found.place);
     }
-    let stands = reader.look(found);
-    if stands == *entry {
-        return Ok(found);
-    }
-    Err(found)
+    Err(found.place)
 }
 
 /// Where an entry stands, or where it has to be put.

@@ -1,6 +1,3 @@
-use Rattle.std.proofs.Common.{subst, sym, length, ◌<◌, ◌≡◌}
-use Rattle.std.specs.Result.{IfOk, IfErr}
-use Rattle.qs_index.specs.Place.{IsPlaceFor, IsPlaceOf}
 use Rattle.qs_index.proofs.search.locate.Goals as goal
 
 pub returns-clause-found : goal.returns-clause-found

@@ -1,6 +1,4 @@
-use Rattle.std.proofs.Common.{◌≡◌, ◌+◌, ◌<◌, ◌^◌, List, ℕ, [], ◌∷◌, length, arith, rules, sym, ap, ◌∙◌, subst, ⊎_elim}
-use Rattle.std.specs.List.{Contains}
-use Rattle.std.proofs.lemmas.List.{nil_from_length}
+use Rattle.std.proofs.Common.{◌≡◌, ◌+◌, length, arith, rules, sym, ap, ◌∙◌, subst}
 use Rattle.qs_index.specs.Layout.{joined}
 use Rattle.qs_index.specs.Entries.{IsOrdered}
 use Rattle.qs_index.specs.Entry.{IsAscending, with_entry}

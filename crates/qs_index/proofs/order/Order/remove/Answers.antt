@@ -1,4 +1,4 @@
-use Rattle.std.proofs.Common.{◌≡◌, ◌+◌, ◌-◌, ◌≤◌, length, arith, sym, ap, ◌∙◌, subst}
+use Rattle.std.proofs.Common.{◌-◌, ◌≤◌, arith, sym, ap, ◌∙◌, subst}
 use Rattle.qs_index.specs.Layout.{joined, room_of}
 use Rattle.qs_index.specs.Entries.{IsOrdered}
 use Rattle.qs_index.specs.Entry.{IsAscending, without_entry}
