@@ -205,6 +205,20 @@ impl Index {
         Scan::new(order.scan(lookup.prefix, lookup.given), lookup.permutation)
     }
 
+    /// About how many entries of a graph have the subject, predicate and object that are given: a hint that promises nothing. It is
+    /// exact where they stand in one page or in two. It takes no memory, and goes over no entries.
+    pub fn estimate(
+        &self,
+        graph: u32,
+        subject: Option<u32>,
+        predicate: Option<u32>,
+        object: Option<u32>,
+    ) -> u64 {
+        let lookup = Lookup::new(graph, subject, predicate, object);
+        let order = self.order(lookup.permutation);
+        order.estimate(lookup.prefix, lookup.given)
+    }
+
     /// The least graph number above `after` that an entry has. It takes no memory.
     pub fn next_graph(&self, after: u32) -> Option<u32>
         ensures next { IfSome result (IsNextGraph self.now.entries after) }

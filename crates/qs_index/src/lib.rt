@@ -3,6 +3,7 @@
 #![tactic(auto)]
 
 mod entry;
+mod estimate;
 mod index;
 pub mod order;
 pub mod order_scan;
