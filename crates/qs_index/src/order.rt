@@ -11,7 +11,7 @@ use crate::estimate::{distance, last_with};
 use crate::order_scan::OrderScan;
 use crate::pages::{HALF, PAGE, Pages, Place, Reader};
 use crate::prefix::Prefix;
-use crate::search::{Found, find, locate};
+use crate::search::{Found, NOWHERE, find, locate, locate_from};
 use std::alloc::{AllocError, Global};
 use std::marker::Model;
 
@@ -53,6 +53,13 @@ fn make_room(pages: &mut Pages, place: Place) -> Place
     }
 }
 
+// Whether an entry was put in or taken out, and a place to go on from behind it.
+#[derive(Clone, Copy)]
+struct Edited {
+    is_done: bool,
+    place: Place,
+}
+
 /// The entries of one order, and how many inserts need no memory.
 #[derive(Drop)]
 pub struct Order {
@@ -92,6 +99,40 @@ impl Order {
         self.pages.set_aside(wanted)
     }
 
+    // Puts an entry in its place, looked for from an earlier place on.
+    fn insert_from(&mut self, from: Place, entry: [u32; 4]) -> Edited
+        requires { 0 < self.old.spare }
+        ensures new { IsTrue result.is_done ↔ (¬ Contains self.old.entries entry) }
+        ensures stood { OnFalse result.is_done (Contains self.old.entries entry) }
+        ensures added { OnTrue result.is_done (self.new.entries ≡ with_entry entry self.old.entries) }
+        ensures kept { OnFalse result.is_done (self.new.entries ≡ self.old.entries) }
+        ensures ascending { IsAscending self.new.entries }
+        ensures spare { self.old.spare ≤ self.new.spare + 1 }
+    {
+        let count = self.pages.len();
+        if count == 0 {
+            self.pages.put_first(entry);
+            self.count = 1;
+            return Edited {
+                is_done: true,
+                place: NOWHERE,
+            };
+        }
+        let Err(place) = locate_from(&self.pages, from, &entry) else {
+            return Edited {
+                is_done: false,
+                place: from,
+            };
+        };
+        let free = make_room(&mut self.pages, place);
+        put_before(&mut self.pages, free, entry);
+        self.count += 1;
+        Edited {
+            is_done: true,
+            place: free,
+        }
+    }
+
     /// Puts an entry in its place, and tells whether it is new.
     pub fn insert(&mut self, entry: [u32; 4]) -> bool
         requires { 0 < self.old.spare }
@@ -102,19 +143,8 @@ impl Order {
         ensures ascending { IsAscending self.new.entries }
         ensures spare { self.old.spare ≤ self.new.spare + 1 }
     {
-        let count = self.pages.len();
-        if count == 0 {
-            self.pages.put_first(entry);
-            self.count = 1;
-            return true;
-        }
-        let Err(place) = locate(&self.pages, &entry) else {
-            return false;
-        };
-        let free = make_room(&mut self.pages, place);
-        put_before(&mut self.pages, free, entry);
-        self.count += 1;
-        true
+        let edited = self.insert_from(NOWHERE, entry);
+        edited.is_done
     }
 
     /// Puts all of `entries` in. Ascending ones are put in fastest.
@@ -124,8 +154,42 @@ impl Order {
         ensures spare { self.old.spare ≤ self.new.spare + length entries.now }
     {
         let _count = self.pages.len();
+        let mut from = NOWHERE;
         for entry in entries {
-            self.insert(*entry);
+            let edited = self.insert_from(from, *entry);
+            from = edited.place;
+        }
+    }
+
+    // Takes an entry out, looked for from an earlier place on.
+    fn remove_from(&mut self, from: Place, entry: [u32; 4]) -> Edited
+        ensures stood { IsTrue result.is_done ↔ Contains self.old.entries entry }
+        ensures taken { OnTrue result.is_done (self.new.entries ≡ without_entry entry self.old.entries) }
+        ensures kept { OnFalse result.is_done (self.new.entries ≡ self.old.entries) }
+        ensures ascending { IsAscending self.new.entries }
+        ensures spare { self.old.spare ≤ self.new.spare }
+    {
+        let count = self.pages.len();
+        if count == 0 {
+            return Edited {
+                is_done: false,
+                place: from,
+            };
+        }
+        let Ok(place) = locate_from(&self.pages, from, &entry) else {
+            return Edited {
+                is_done: false,
+                place: from,
+            };
+        };
+        self.pages.take_out(place);
+        self.count -= 1;
+        Edited {
+            is_done: true,
+            place: Place {
+                page: place.page,
+                at: place.at.saturating_sub(1),
+            },
         }
     }
 
@@ -137,16 +201,8 @@ impl Order {
         ensures ascending { IsAscending self.new.entries }
         ensures spare { self.old.spare ≤ self.new.spare }
     {
-        let count = self.pages.len();
-        if count == 0 {
-            return false;
-        }
-        let Ok(place) = locate(&self.pages, &entry) else {
-            return false;
-        };
-        self.pages.take_out(place);
-        self.count -= 1;
-        true
+        let edited = self.remove_from(NOWHERE, entry);
+        edited.is_done
     }
 
     /// Takes all of `entries` out. Ascending ones are taken out fastest.
@@ -155,8 +211,10 @@ impl Order {
         ensures spare { self.old.spare ≤ self.new.spare }
     {
         let _count = self.pages.len();
+        let mut from = NOWHERE;
         for entry in entries {
-            self.remove(*entry);
+            let edited = self.remove_from(from, *entry);
+            from = edited.place;
         }
     }
 

@@ -1,5 +1,5 @@
 // Binary searches in the pages of one order.
-ghost use Rattle.std.specs.Prelude.{◌≡◌, ℕ, ◌+◌, ◌-◌, ◌*◌, ◌<◌, ◌≤◌, ◌^◌, List, [], ◌∷◌, length, drop, false, slice_index_or, IfOk, IfErr, IfSome, IfNone};
+ghost use Rattle.std.specs.Prelude.{◌≡◌, ℕ, ◌+◌, ◌-◌, ◌*◌, ◌<◌, ◌≤◌, ◌^◌, List, [], ◌∷◌, length, drop, true, false, slice_index_or, IfOk, IfErr, IfSome, IfNone};
 ghost use Rattle.qs_index.specs.Digits.{digits};
 ghost use Rattle.qs_index.specs.Layout.{Layout, Reading, joined, page_at, rest_at};
 ghost use Rattle.qs_index.specs.Entry.{is_before, IsAscending, skip_before};
@@ -14,6 +14,12 @@ struct Bound {
     at: usize,
     entry: [u32; 4],
 }
+
+/// A place behind all pages, from which a search can't go on.
+pub const NOWHERE: Place = Place {
+    page: usize::MAX,
+    at: 0,
+};
 
 /// An entry that was found, and where it stands.
 #[derive(Clone, Copy)]
@@ -58,11 +64,19 @@ fn first_page(reader: &mut Reader<'_>, prefix: &Prefix) -> Bound
     }
 }
 
-// The first entry of a page that isn't before `prefix`, where its last, which is given, isn't.
+// The first entry of a page that isn't before `prefix`, where those in front of `from` are, and its last, which is given, isn't.
 #[inline(always)]
-fn first_in_page(reader: &mut Reader<'_>, page: usize, last: [u32; 4], prefix: &Prefix) -> Bound
+fn first_in_page(
+    reader: &mut Reader<'_>,
+    page: usize,
+    from: usize,
+    last: [u32; 4],
+    prefix: &Prefix,
+) -> Bound
     requires ascending { IsAscending (joined reader.old.pages) }
     requires page_in { page < length reader.old.pages }
+    requires from_in { from < length (page_at reader.old.pages page) }
+    requires passed { skip_before prefix.now (joined (drop page reader.old.pages)) ≡ skip_before prefix.now (rest_at reader.old.pages page from) }
     requires reached { IsPageFound prefix.now reader.old.pages page last }
     requires countable { reader.old.looked + digits (length (page_at reader.old.pages page)) < 2 ^ 128 }
     ensures within { result.at < length (page_at reader.old.pages page) }
@@ -72,7 +86,7 @@ fn first_in_page(reader: &mut Reader<'_>, page: usize, last: [u32; 4], prefix: &
     ensures looked { reader.old.looked ≤ reader.new.looked }
     ensures counted { reader.new.looked ≤ reader.old.looked + digits (length (page_at reader.old.pages page)) }
 {
-    let mut low = 0;
+    let mut low = from;
     let mut high = reader.page_len(page) - 1;
     let mut bound = last;
     while low < high {
@@ -108,7 +122,7 @@ pub fn find(reader: &mut Reader<'_>, prefix: &Prefix) -> Option<Found>
     if page.at == held {
         return None;
     }
-    let bound = first_in_page(reader, page.at, page.entry, prefix);
+    let bound = first_in_page(reader, page.at, 0, page.entry, prefix);
     let place = Place {
         page: page.at,
         at: bound.at,
@@ -117,9 +131,62 @@ pub fn find(reader: &mut Reader<'_>, prefix: &Prefix) -> Option<Found>
     Some(Found { place, entry })
 }
 
+// The first entry that isn't before `prefix`, looked for in the page of an earlier place, whose entry is, before all pages are
+// searched.
+#[inline(always)]
+fn find_behind(reader: &mut Reader<'_>, from: Place, prefix: &Prefix) -> Option<Found>
+    requires ascending { IsAscending (joined reader.old.pages) }
+    requires page { from.page < length reader.old.pages }
+    requires at { from.at < length (page_at reader.old.pages from.page) }
+    requires passed { is_before (slice_index_or (page_at reader.old.pages from.page) from.at []) prefix.now ≡ true }
+    requires countable { reader.old.looked + 1 + 2 * digits (length (joined reader.old.pages)) < 2 ^ 128 }
+    ensures some { IfSome result (λ found. IsFound prefix.now reader.old.pages found.place.page found.place.at found.entry) }
+    ensures none { IfNone result (skip_before prefix.now (joined reader.old.pages) ≡ []) }
+    ensures pages { reader.new.pages ≡ reader.old.pages }
+{
+    let held = reader.len();
+    let page = from.page;
+    let len = reader.page_len(page);
+    let end = Place { page, at: len - 1 };
+    let last = reader.look(end);
+    if prefix.is_after(&last) {
+        if page + 1 == held {
+            return None;
+        }
+        return find(reader, prefix);
+    }
+    let bound = first_in_page(reader, page, from.at + 1, last, prefix);
+    let place = Place { page, at: bound.at };
+    let entry = bound.entry;
+    Some(Found { place, entry })
+}
+
+// The first entry that isn't before `prefix`, looked for from an earlier place on where it stands behind that.
+#[inline(always)]
+fn find_from(reader: &mut Reader<'_>, from: Place, prefix: &Prefix) -> Option<Found>
+    requires ascending { IsAscending (joined reader.old.pages) }
+    requires countable { reader.old.looked + 2 + 2 * digits (length (joined reader.old.pages)) < 2 ^ 128 }
+    ensures some { IfSome result (λ found. IsFound prefix.now reader.old.pages found.place.page found.place.at found.entry) }
+    ensures none { IfNone result (skip_before prefix.now (joined reader.old.pages) ≡ []) }
+    ensures pages { reader.new.pages ≡ reader.old.pages }
+{
+    let held = reader.len();
+    if from.page >= held {
+        return find(reader, prefix);
+    }
+    if from.at >= reader.page_len(from.page) {
+        return find(reader, prefix);
+    }
+    let start = reader.look(from);
+    if prefix.is_after(&start) {
+        return find_behind(reader, from, prefix);
+    }
+    find(reader, prefix)
+}
+
 // Where an entry stands, or where it has to be put.
 #[inline(always)]
-fn locate_in(reader: Reader<'_>, entry: &[u32; 4]) -> Result<Place, Place>
+fn locate_in(reader: Reader<'_>, from: Place, entry: &[u32; 4]) -> Result<Place, Place>
     requires ascending { IsAscending (joined reader.pages) }
     requires some { 0 < length reader.pages }
     requires unread { reader.looked ≡ 0 }
@@ -129,7 +196,7 @@ fn locate_in(reader: Reader<'_>, entry: &[u32; 4]) -> Result<Place, Place>
     let mut reader = reader;
     let count = reader.len();
     let whole = Prefix::new(*entry, 4);
-    let Some(found) = find(&mut reader, &whole) else {
+    let Some(found) = find_from(&mut reader, from, &whole) else {
         let last = count - 1;
         let at = reader.page_len(last);
         return Err(Place { page: last, at });
@@ -140,6 +207,17 @@ fn locate_in(reader: Reader<'_>, entry: &[u32; 4]) -> Result<Place, Place>
     Err(found.place)
 }
 
+/// Where an entry stands, or where it has to be put, looked for from an earlier place on where it stands behind that.
+#[inline(always)]
+pub fn locate_from(pages: &Pages, from: Place, entry: &[u32; 4]) -> Result<Place, Place>
+    requires ascending { IsAscending (joined pages.now.pages) }
+    requires some { 0 < length pages.now.pages }
+    ensures found { IfOk result (λ place. IsPlaceOf entry.now pages.now.pages place.page place.at) }
+    ensures missing { IfErr result (λ place. IsPlaceFor entry.now pages.now.pages place.page place.at) }
+{
+    locate_in(Reader::new(pages), from, entry)
+}
+
 /// Where an entry stands, or where it has to be put.
 #[inline(always)]
 pub fn locate(pages: &Pages, entry: &[u32; 4]) -> Result<Place, Place>
@@ -148,5 +226,5 @@ pub fn locate(pages: &Pages, entry: &[u32; 4]) -> Result<Place, Place>
     ensures found { IfOk result (λ place. IsPlaceOf entry.now pages.now.pages place.page place.at) }
     ensures missing { IfErr result (λ place. IsPlaceFor entry.now pages.now.pages place.page place.at) }
 {
-    locate_in(Reader::new(pages), entry)
+    locate_from(pages, NOWHERE, entry)
 }

@@ -1,4 +1,4 @@
-use Rattle.std.proofs.Common.{◌<◌, length, arith, ap, ◌∙◌, sym}
+use Rattle.std.proofs.Common.{refl, [], ◌<◌, length, arith, ap, ◌∙◌, sym}
 use Rattle.qs_index.specs.Digits.{digits}
 use Rattle.qs_index.specs.Layout.{page_at}
 use Rattle.qs_index.specs.Entry.{skip_before}
@@ -26,6 +26,8 @@ first_in_page-bound-requires c =
     rw c.first_page-page.ensures.pages record {
       ascending = c.requires.ascending;
       page_in = within;
+      from_in = (c.len-held.ensures.sizes c.first_page-page.result.at [] within).0;
+      passed = refl;
       reached = c.first_page-page.ensures.reached within;
       countable = omega (arith, c.first_page-page.ensures.counted, c.requires.countable);
     }

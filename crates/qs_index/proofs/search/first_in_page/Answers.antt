@@ -7,11 +7,11 @@ use Rattle.qs_index.proofs.search.first_in_page.Goals as goal
 
 pub loop-low-init : goal.loop-low-init
 loop-low-init c =
-    let few = digits-le (c.page_len-high.result - 1 - 0) (length (page_at c.args.reader.now.pages c.args.page)) (omega (arith, c.page_len-high.ensures.len)) in
+    let few = digits-le (c.page_len-high.result - 1 - c.args.from) (length (page_at c.args.reader.now.pages c.args.page)) (omega (arith, c.page_len-high.ensures.len)) in
     record {
-      ordered = omega arith;
+      ordered = omega (arith, c.page_len-high.ensures.len, c.requires.from_in);
       within = omega (arith, c.page_len-high.ensures.len, c.page_len-high.ensures.size.0);
-      skips = refl;
+      skips = c.requires.passed;
       entry_is = rw c.page_len-high.ensures.len c.requires.reached.entry_is;
       reached = c.requires.reached.reached;
       looked = omega arith;

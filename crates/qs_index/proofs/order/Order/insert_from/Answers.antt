@@ -6,7 +6,7 @@ use Rattle.qs_index.proofs.EntryEdits.{IsAscending-with}
 use Rattle.qs_index.proofs.Members.{not_first_if_missing, length-with}
 use Rattle.qs_index.proofs.Places.{joined_le}
 use Rattle.qs_index.proofs.Turned.{four_with, only_entry}
-use Rattle.qs_index.proofs.order.Order.insert.Goals as goal
+use Rattle.qs_index.proofs.order.Order.insert_from.Goals as goal
 
 pub invariant_of-self : goal.invariant_of-self
 invariant_of-self c =
