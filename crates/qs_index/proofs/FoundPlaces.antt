@@ -1,17 +1,10 @@
 -- What a found place says of an entry.
-use Rattle.std.proofs.Common.{◌≡◌, ◌≢◌, ℕ, ◌+◌, ◌-◌, ◌*◌, ◌^◌, ◌<◌, ◌≤◌, List, [], length, get_or, refl, sym, ◌∙◌, arith, subst}
-use Rattle.qs_index.specs.Digits.{digits}
-use Rattle.qs_index.specs.Layout.{joined, page_at, rest_at, HasPageSizes}
+use Rattle.std.proofs.Common.{◌≡◌, ◌≢◌, ℕ, ◌+◌, ◌-◌, ◌<◌, ◌≤◌, List, [], length, get_or, refl, sym, ◌∙◌, arith, subst}
+use Rattle.qs_index.specs.Layout.{joined, page_at, rest_at}
 use Rattle.qs_index.specs.Entry.{IsNotFirst, IsAscending, skip_before}
 use Rattle.qs_index.specs.Place.{IsPlaceFor, IsPlaceOf}
-use Rattle.qs_index.proofs.DigitLaws.{digits_small}
 use Rattle.qs_index.proofs.Members.{first_if_member, member_if_first}
-use Rattle.qs_index.proofs.Places.{rest_more, rest_next_page, rest_end, joined_le}
-
-pub look_fits : (pages : List (List (List ℕ))) (looked : ℕ) → HasPageSizes pages → length pages < 2 ^ 64 → looked ≤ 0 + 2 * digits (length (joined pages)) → looked + 1 < 2 ^ 128
-look_fits pages looked sizes h l =
-    let b = joined_le pages sizes in
-    let d = digits_small (length (joined pages)) in omega arith
+use Rattle.qs_index.proofs.Places.{rest_more, rest_next_page, rest_end}
 
 pub not_first_at : (x : List ℕ) (pages : List (List (List ℕ))) (m k : ℕ) (rest : List (List ℕ)) → m < length pages → k < length (page_at pages m) → rest_at pages m k ≡ rest → get_or (page_at pages m) k [] ≢ x → IsNotFirst x rest
 not_first_at x pages m k rest h l e n = subst (IsNotFirst x) (sym (rest_more pages m k h l) ∙ e) n

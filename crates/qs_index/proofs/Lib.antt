@@ -13,3 +13,6 @@ pub mod Distinct
 pub mod Turned
 pub mod Graphs
 pub mod Unions
+pub mod Differences
+pub mod Prefixes
+pub mod ScanSteps

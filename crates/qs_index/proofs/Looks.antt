@@ -31,3 +31,9 @@ pub start_fits : (pages : List (List (List ℕ))) → HasPageSizes pages → len
 start_fits pages sizes h =
     let b = joined_le pages sizes in
     let d = digits_small (length (joined pages)) in omega arith
+
+-- the same where two entries are looked at before
+pub start_fits_later : (pages : List (List (List ℕ))) → HasPageSizes pages → length pages < 2 ^ 64 → 2 + 2 * digits (length (joined pages)) < 2 ^ 128
+start_fits_later pages sizes h =
+    let b = joined_le pages sizes in
+    let d = digits_small (length (joined pages)) in omega arith

@@ -1,9 +1,9 @@
 -- What the list after an edit contains.
-use Rattle.std.proofs.Common.{◌≡◌, ◌≢◌, ◌⊎◌, ℕ, Bool, true, false, cond, List, [], ◌∷◌, ◌++◌, take, drop, refl, ap, sym, ◌∙◌, subst, arith, inl, inr, ⊎_elim}
+use Rattle.std.proofs.Common.{◌≡◌, ◌≢◌, ◌⊎◌, ℕ, Bool, true, false, cond, List, [], ◌∷◌, ◌++◌, ◌+◌, length, take, drop, refl, ap, sym, ◌∙◌, subst, arith, inl, inr, ⊎_elim}
 use Rattle.std.specs.List.{Contains}
 use Rattle.std.specs.List.Sorted.{IsPermutation}
 use Rattle.std.proofs.lemmas.List.{take-append-drop}
-use Rattle.std.proofs.lemmas.List.Sorted.{IsPermutation-sym, IsPermutation-middle}
+use Rattle.std.proofs.lemmas.List.Sorted.{IsPermutation-sym, IsPermutation-middle, length_permutation}
 use Rattle.std.specs.Cmp.Lexicographic.{bytes_decides}
 use Rattle.std.proofs.lemmas.Bool.{false≢true}
 use Rattle.std.proofs.lemmas.List.Elements.{Contains-get_or, Contains-append_left, Contains-append_right, Contains-append_cases, Contains-push_cases}
@@ -119,3 +119,10 @@ IsPermutation-without x xs e =
     let rest = drop 1 (skip_before x xs) in
     let whole : keep_before x xs ++ x ∷ rest ≡ xs = ap (λ r. keep_before x xs ++ r) (sym e) ∙ keep-skip x xs in
     subst (λ r. IsPermutation r (x ∷ without_entry x xs)) whole (IsPermutation-middle (keep_before x xs) x rest)
+
+pub length-with : (x : List ℕ) (xs : List (List ℕ)) → length (with_entry x xs) ≡ length xs + 1
+length-with x xs = let e = length_permutation (x ∷ xs) (with_entry x xs) (IsPermutation-with x xs) in omega arith
+
+pub length-without : (x : List ℕ) (xs : List (List ℕ)) → IsAscending xs → Contains xs x → length xs ≡ length (without_entry x xs) + 1
+length-without x xs u c =
+    let e = length_permutation xs (x ∷ without_entry x xs) (IsPermutation-without x xs (skip_of_member x xs u c)) in omega arith

@@ -113,3 +113,22 @@ pub skip_done : (p : List ℕ) (pages : List (List (List ℕ))) (m k : ℕ) → 
 skip_done p pages m k h l b =
     let n = length_joined_at pages m h in
     skip_none p (joined (drop m pages)) k (omega arith) (ap (λ r. is_before r p) (get_joined pages m k h l) ∙ b)
+
+-- where the entry at k of page m is before the prefix, all up to it are
+pub skip_place : (p : List ℕ) (pages : List (List (List ℕ))) (m k : ℕ) → IsAscending (joined pages) → m < length pages → k < length (page_at pages m) → is_before (get_or (page_at pages m) k []) p ≡ true → skip_before p (joined pages) ≡ skip_before p (rest_at pages m (k + 1))
+skip_place p pages m k u h l b =
+    let all = ap joined (sym (take-append-drop m pages)) ∙ joined-append (take m pages) (drop m pages) in
+    let before = length (joined (take m pages)) in
+    let n = length_joined_at pages m h in
+    let whole : length (joined pages) ≡ before + length (joined (drop m pages)) = ap length all ∙ length-append (joined (take m pages)) (joined (drop m pages)) in
+    let at : get_or (joined pages) (before + k) [] ≡ get_or (page_at pages m) k [] = sym (get_or-drop before (joined pages) k []) ∙ ap (λ r. get_or r k []) (joined_drop pages m) ∙ get_joined pages m k h l in
+    let e = skip_to p (joined pages) (before + k) u (omega arith) (ap (λ r. is_before r p) at ∙ b) in
+    let after : drop (before + k + 1) (joined pages) ≡ rest_at pages m (k + 1) = ap (λ j. drop j (joined pages)) (the_same before k) ∙ sym (drop-drop (k + 1) before (joined pages)) ∙ ap (drop (k + 1)) (joined_drop pages m) in
+    e ∙ ap (skip_before p) after
+  where
+    the_same : (a k : ℕ) → a + k + 1 ≡ a + (k + 1)
+    the_same a k = omega arith
+
+-- so those of its page that aren't are those of all
+pub skip_to_page : (p : List ℕ) (pages : List (List (List ℕ))) (m k : ℕ) → IsAscending (joined pages) → m < length pages → k < length (page_at pages m) → is_before (get_or (page_at pages m) k []) p ≡ true → skip_before p (joined pages) ≡ skip_before p (joined (drop m pages))
+skip_to_page p pages m k u h l b = skip_place p pages m k u h l b ∙ sym (skip_in_page p pages m k u h l b)

@@ -8,13 +8,14 @@ use Rattle.std.proofs.lemmas.List.{length-map}
 use Rattle.std.proofs.lemmas.List.Sorted.{length_permutation}
 use Rattle.qs_index.specs.Agreeing.{agrees, agreeing}
 use Rattle.qs_index.specs.Entry.{begins, beginning, IsAscending, with_entry, without_entry}
+use Rattle.qs_index.specs.Entries.{HaveFour, IsOrdered}
 use Rattle.qs_index.specs.Index.{IsOrderOf}
 use Rattle.qs_index.specs.Entry.{IsEntry}
 use Rattle.qs_index.specs.Permutation.{turned, restored, order_used, prefix_of}
 use Rattle.qs_index.specs.declared.permutation.Permutation.{Permutation}
 use Rattle.qs_index.specs.declared.permutation.Permutation.TheVariants.{Gspo, Gpos, Gosp}
 use Rattle.qs_index.proofs.Distinct.{IsDistinct-ascending, IsDistinct-filter, IsDistinct-map, IsAscending-filter, IsPermutation-distinct, member_of_filter, filter_has, member_of_map, map_has, map-map, nothing_in_nil}
-use Rattle.qs_index.proofs.Members.{with_has_it, with_has_old, member_of_with, member_of_without, without_has_other, without_lacks_it, skip_of_member}
+use Rattle.qs_index.proofs.Members.{head_or_tail, with_has_it, with_has_old, member_of_with, member_of_without, without_has_other, without_lacks_it, skip_of_member}
 
 pub restored-turned : (permutation : Permutation) (x : List ℕ) → restored permutation (turned permutation x) ≡ x
 restored-turned Gspo x = refl
@@ -91,6 +92,17 @@ order_removed permutation x t xs ys zs false s w m o h e u = absurd (false≢tru
 
 pub entries_with : (x : List ℕ) (xs : List (List ℕ)) → IsEntry x → ((y : List ℕ) → Contains xs y → IsEntry y) → (y : List ℕ) → Contains (with_entry x xs) y → IsEntry y
 entries_with x xs e all y c = ⊎_elim (λ s. subst IsEntry s e) (λ t. all y t) (member_of_with x y xs c)
+
+pub four_with : (x : List ℕ) (xs : List (List ℕ)) → length x ≡ 4 → HaveFour xs → HaveFour (with_entry x xs)
+four_with x xs e all y c = ⊎_elim (λ s. subst (λ r. length r ≡ 4) s e) (λ t. all y t) (member_of_with x y xs c)
+
+-- an order of one entry
+pub only_entry : (x : List ℕ) → length x ≡ 4 → IsOrdered (x ∷ []) 1
+only_entry x e = record {
+  ascending = (tt, tt);
+  four = λ y c. ⊎_elim (λ s. subst (λ r. length r ≡ 4) s e) (λ n. absurd (nothing_in_nil y n)) (head_or_tail x [] y c);
+  counted = omega arith;
+}
 
 -- the tests of a front of an entry and of its places
 tests_1 : (a : Bool) → cond a true false ≡ (((a && true) && true) && true)

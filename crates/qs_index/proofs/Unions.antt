@@ -7,10 +7,10 @@ use Rattle.std.proofs.lemmas.List.{take_more}
 use Rattle.std.proofs.lemmas.List.Sorted.{Contains-permutation, IsPermutation-sym}
 use Rattle.std.proofs.lemmas.List.Elements.{Contains-append_left, Contains-append_right, Contains-append_cases}
 use Rattle.qs_index.specs.Entries.{IsUnion}
-use Rattle.qs_index.specs.Entry.{IsAscending, with_entry}
+use Rattle.qs_index.specs.Entry.{IsAscending, with_entry, beginning}
 use Rattle.qs_index.specs.Index.{IsOrderOf}
 use Rattle.qs_index.specs.Entry.{IsEntry}
-use Rattle.qs_index.specs.Permutation.{turned}
+use Rattle.qs_index.specs.Permutation.{turned, restored}
 use Rattle.qs_index.specs.declared.permutation.Permutation.{Permutation}
 use Rattle.qs_index.specs.declared.permutation.Permutation.TheVariants.{Gspo}
 use Rattle.qs_index.proofs.Distinct.{nothing_in_nil, map_has, member_of_map}
@@ -73,3 +73,8 @@ turned_by_none (x ∷ xs) = ap (λ r. x ∷ r) (turned_by_none xs)
 
 pub entries_of_union : (xs added new : List (List ℕ)) → IsUnion xs added new → ((x : List ℕ) → Contains xs x → IsEntry x) → ((x : List ℕ) → Contains added x → IsEntry x) → (x : List ℕ) → Contains new x → IsEntry x
 entries_of_union xs added new u old more x c = ⊎_elim (λ l. old x l) (λ r. more x r) (u.only x c)
+
+-- all entries begin with nothing, and the first order turns none
+pub all_restored : (xs : List (List ℕ)) → map (restored Gspo) (beginning [] xs) ≡ xs
+all_restored [] = refl
+all_restored (x ∷ xs) = ap (λ r. x ∷ r) (all_restored xs)

@@ -9,6 +9,11 @@ pub record Layout : Type 0 where
   pub pages : List (List (List ℕ))
   pub spare : ℕ
 
+-- an order that is read: its pages, and how many entries were looked at
+pub record Reading : Type 0 where
+  pub pages : List (List (List ℕ))
+  pub looked : ℕ
+
 -- the entries of all pages, one page after another
 abbrev pub joined : List (List (List ℕ)) → List (List ℕ)
 joined [] = []

@@ -2,6 +2,7 @@ pub mod Digits
 pub mod Layout
 pub mod Entry
 pub mod Entries
+pub mod Prefix
 pub mod Place
 pub mod Scan
 pub mod OrderScan

@@ -1,7 +1,7 @@
-use Rattle.std.specs.Prelude.{◌≡◌, ℕ, ◌<◌, ◌≤◌, List, length}
+use Rattle.std.specs.Prelude.{◌≡◌, ℕ, ◌-◌, ◌<◌, ◌≤◌, List, [], length, false, slice_index_or}
 use Rattle.std.specs.List.{Contains}
 use Rattle.qs_index.specs.Layout.{joined, page_at, rest_at}
-use Rattle.qs_index.specs.Entry.{skip_before}
+use Rattle.qs_index.specs.Entry.{is_before, skip_before}
 
 -- a place where x, which isn't among the entries, has to be put: those from there on are the ones that aren't before it
 pub record IsPlaceFor (x : List ℕ) (pages : List (List (List ℕ))) (page at : ℕ) : Type 0 where
@@ -16,3 +16,15 @@ pub record IsPlaceOf (x : List ℕ) (pages : List (List (List ℕ))) (page at : 
   pub at_in : at < length (page_at pages page)
   pub before : rest_at pages page at ≡ skip_before x (joined pages)
   pub stands : Contains (joined pages) x
+
+-- the last entry of a page, which isn't before the prefix
+pub record IsPageFound (prefix : List ℕ) (pages : List (List (List ℕ))) (page : ℕ) (entry : List ℕ) : Type 0 where
+  pub entry_is : entry ≡ slice_index_or (page_at pages page) (length (page_at pages page) - 1) []
+  pub reached : is_before entry prefix ≡ false
+
+-- the first entry that isn't before the prefix, and where it stands
+pub record IsFound (prefix : List ℕ) (pages : List (List (List ℕ))) (page at : ℕ) (entry : List ℕ) : Type 0 where
+  pub page_in : page < length pages
+  pub at_in : at < length (page_at pages page)
+  pub before : rest_at pages page at ≡ skip_before prefix (joined pages)
+  pub entry_is : entry ≡ slice_index_or (page_at pages page) at []

@@ -1,20 +1,28 @@
-// Comparisons of entries with fronts of entries.
-ghost use Rattle.std.specs.Prelude.{◌≡◌, ◌≤◌, length};
+// Comparisons of entries with one another.
+ghost use Rattle.std.specs.Prelude.{◌≡◌, ◌+◌, ◌*◌, ◌^◌, ◌≤◌, length};
 ghost use Rattle.qs_index.specs.Entry.{is_before, begins};
 
-/// Whether `entry` stands before every entry that begins with `prefix`.
+// Two numbers as one of 64 bits, the first before the second.
 #[inline(always)]
-#[tactic(auto, using(crate::proofs::CompareSteps::compare_steps))]
-pub fn is_before(entry: &[u32; 4], prefix: &[u32]) -> bool
-    requires { length prefix.now ≤ 4 }
-    ensures { result ≡ is_before entry.now prefix.now }
+fn joint(first: u32, second: u32) -> u64
+    ensures { result ≡ first * 2 ^ 32 + second }
 {
-    for k in 0..prefix.len() {
-        if entry[k] != prefix[k] {
-            return entry[k] < prefix[k];
-        }
+    u64::from(first) * 0x1_0000_0000 + u64::from(second)
+}
+
+/// Whether `entry` is less than `other`: two comparisons of 64 bits at most.
+#[inline(always)]
+pub fn is_less(entry: &[u32; 4], other: &[u32; 4]) -> bool
+    ensures { result ≡ is_before entry.now other.now }
+{
+    let [a, b, c, d] = *entry;
+    let [p, q, r, s] = *other;
+    let front = joint(a, b);
+    let other_front = joint(p, q);
+    if front != other_front {
+        return front < other_front;
     }
-    false
+    joint(c, d) < joint(r, s)
 }
 
 /// Whether `entry` begins with `prefix`.

@@ -5,7 +5,7 @@ ghost use Rattle.std.specs.Result.{OnOk};
 ghost use Rattle.std.specs.List.{All, Contains};
 ghost use Rattle.std.specs.List.Sorted.{IsPermutation};
 ghost use Rattle.qs_index.specs.Agreeing.{agreeing};
-ghost use Rattle.qs_index.specs.Entries.{Entries, IsUnion};
+ghost use Rattle.qs_index.specs.Entries.{Entries, IsUnion, IsDifference};
 ghost use Rattle.qs_index.specs.Entry.{IsEntry, IsAscending, with_entry, without_entry};
 ghost use Rattle.qs_index.specs.Graph.{graph_of, IsNextGraph};
 ghost use Rattle.qs_index.specs.Index.{IsOneSet, IsOrderOf};
@@ -13,6 +13,7 @@ ghost use Rattle.qs_index.specs.Permutation.{order_used, turned};
 
 use crate::order::Order;
 use crate::permutation::{Lookup, Permutation};
+use crate::prefix::Prefix;
 use crate::scan::Scan;
 use std::alloc::{AllocError, Global};
 use std::marker::Model;
@@ -28,6 +29,18 @@ fn insert_turned(order: &mut Order, permutation: Permutation, entries: &mut [[u3
     permutation.turn_all(entries);
     entries.sort_unstable();
     order.insert_all(entries);
+    permutation.restore_all(entries);
+}
+
+// Takes entries out of an order, turned and sorted.
+fn remove_turned(order: &mut Order, permutation: Permutation, entries: &mut [[u32; 4]])
+    ensures difference { IsDifference order.old.entries (map (turned permutation) entries.old) order.new.entries }
+    ensures spare { order.old.spare ≤ order.new.spare }
+    ensures permutation { IsPermutation entries.old entries.new }
+{
+    permutation.turn_all(entries);
+    entries.sort_unstable();
+    order.remove_all(entries);
     permutation.restore_all(entries);
 }
 
@@ -121,6 +134,44 @@ impl Index {
         true
     }
 
+    /// Takes all of `entries` out that are there, and leaves them in some order: they are sorted for each order before they are
+    /// taken out there, which makes this the fast way to remove many. It takes no memory, and leaves no less room than there was.
+    pub fn remove_all(&mut self, entries: &mut [[u32; 4]])
+        ensures difference { IsDifference self.old.entries entries.old self.new.entries }
+        ensures spare { self.old.spare ≤ self.new.spare }
+        ensures permutation { IsPermutation entries.old entries.new }
+    {
+        remove_turned(&mut self.gspo, Permutation::Gspo, entries);
+        remove_turned(&mut self.gpos, Permutation::Gpos, entries);
+        remove_turned(&mut self.gosp, Permutation::Gosp, entries);
+    }
+
+    /// How many entries there are. It takes no memory, and goes over none.
+    pub fn len(&self) -> u128
+        ensures { result ≡ length self.now.entries }
+    {
+        self.gspo.len()
+    }
+
+    /// Whether an entry is there. It takes no memory.
+    pub fn contains(&self, entry: &[u32; 4]) -> bool
+        ensures { IsTrue result ↔ Contains self.now.entries entry.now }
+    {
+        self.gspo.contains(entry)
+    }
+
+    /// All entries, each once, ascending in the order GSPO. It takes no memory.
+    pub fn entries(&self) -> Scan<'_>
+        ensures rest { result.rest ≡ self.now.entries }
+        ensures each { (x : List ℕ) → Contains self.now.entries x → IsEntry x }
+        ensures ascending { IsAscending self.now.entries }
+        ensures handed { result.handed ≡ 0 }
+        ensures size { result.size ≡ length self.now.entries }
+    {
+        let order = &self.gspo;
+        Scan::new(order.scan([0, 0, 0, 0], 0), Permutation::Gspo)
+    }
+
     /// The order of a permutation.
     fn order(&self, permutation: Permutation) -> &Order
         ensures order { IsOrderOf permutation self.now.entries result.now.entries }
@@ -154,6 +205,20 @@ impl Index {
         Scan::new(order.scan(lookup.prefix, lookup.given), lookup.permutation)
     }
 
+    /// About how many entries of a graph have the subject, predicate and object that are given: a hint that promises nothing. It is
+    /// exact where they stand in one page or in two. It takes no memory, and goes over no entries.
+    pub fn estimate(
+        &self,
+        graph: u32,
+        subject: Option<u32>,
+        predicate: Option<u32>,
+        object: Option<u32>,
+    ) -> u64 {
+        let lookup = Lookup::new(graph, subject, predicate, object);
+        let order = self.order(lookup.permutation);
+        order.estimate(lookup.prefix, lookup.given)
+    }
+
     /// The least graph number above `after` that an entry has. It takes no memory.
     pub fn next_graph(&self, after: u32) -> Option<u32>
         ensures next { IfSome result (IsNextGraph self.now.entries after) }
@@ -161,7 +226,7 @@ impl Index {
     {
         let order = &self.gspo;
         let from = after.checked_add(1)?;
-        let entry = order.first_from(&[from])?;
+        let entry = order.first_from(&Prefix::new([from, 0, 0, 0], 1))?;
         Some(entry[0])
     }
 }

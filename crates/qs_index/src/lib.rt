@@ -3,11 +3,13 @@
 #![tactic(auto)]
 
 mod entry;
+mod estimate;
 mod index;
 pub mod order;
 pub mod order_scan;
 pub mod pages;
 pub mod permutation;
+pub mod prefix;
 mod scan;
 mod search;
 

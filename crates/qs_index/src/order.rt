@@ -4,12 +4,14 @@ ghost use Rattle.std.specs.Bool.{OnTrue, OnFalse};
 ghost use Rattle.std.specs.Result.{OnOk};
 ghost use Rattle.std.specs.List.{Contains};
 ghost use Rattle.qs_index.specs.Layout.{Layout, joined, page_at, rest_at, room_of};
-ghost use Rattle.qs_index.specs.Entries.{Entries, IsUnion};
+ghost use Rattle.qs_index.specs.Entries.{Entries, IsUnion, IsDifference, IsOrdered};
 ghost use Rattle.qs_index.specs.Entry.{IsAscending, skip_before, with_entry, without_entry, beginning};
 
+use crate::estimate::{distance, last_with};
 use crate::order_scan::OrderScan;
-use crate::pages::{HALF, PAGE, Pages, Place};
-use crate::search::{find, locate};
+use crate::pages::{HALF, PAGE, Pages, Place, Reader};
+use crate::prefix::Prefix;
+use crate::search::{Found, NOWHERE, find, locate, locate_from};
 use std::alloc::{AllocError, Global};
 use std::marker::Model;
 
@@ -51,10 +53,18 @@ fn make_room(pages: &mut Pages, place: Place) -> Place
     }
 }
 
+// Whether an entry was put in or taken out, and a place to go on from behind it.
+#[derive(Clone, Copy)]
+struct Edited {
+    is_done: bool,
+    place: Place,
+}
+
 /// The entries of one order, and how many inserts need no memory.
 #[derive(Drop)]
 pub struct Order {
     pages: Pages,
+    count: u128,
 }
 
 impl Model for Order {
@@ -62,7 +72,7 @@ impl Model for Order {
 
     ghost view = { λ s. record { entries = joined s.pages.pages; spare = room_of s.pages.pages s.pages.spare } };
 
-    ghost invariant = { λ s. IsAscending (joined s.pages.pages) };
+    ghost invariant = { λ s. IsOrdered (joined s.pages.pages) s.count };
 }
 
 impl Order {
@@ -73,6 +83,7 @@ impl Order {
     {
         Order {
             pages: Pages::new(alloc),
+            count: 0,
         }
     }
 
@@ -88,6 +99,40 @@ impl Order {
         self.pages.set_aside(wanted)
     }
 
+    // Puts an entry in its place, looked for from an earlier place on.
+    fn insert_from(&mut self, from: Place, entry: [u32; 4]) -> Edited
+        requires { 0 < self.old.spare }
+        ensures new { IsTrue result.is_done ↔ (¬ Contains self.old.entries entry) }
+        ensures stood { OnFalse result.is_done (Contains self.old.entries entry) }
+        ensures added { OnTrue result.is_done (self.new.entries ≡ with_entry entry self.old.entries) }
+        ensures kept { OnFalse result.is_done (self.new.entries ≡ self.old.entries) }
+        ensures ascending { IsAscending self.new.entries }
+        ensures spare { self.old.spare ≤ self.new.spare + 1 }
+    {
+        let count = self.pages.len();
+        if count == 0 {
+            self.pages.put_first(entry);
+            self.count = 1;
+            return Edited {
+                is_done: true,
+                place: NOWHERE,
+            };
+        }
+        let Err(place) = locate_from(&self.pages, from, &entry) else {
+            return Edited {
+                is_done: false,
+                place: from,
+            };
+        };
+        let free = make_room(&mut self.pages, place);
+        put_before(&mut self.pages, free, entry);
+        self.count += 1;
+        Edited {
+            is_done: true,
+            place: free,
+        }
+    }
+
     /// Puts an entry in its place, and tells whether it is new.
     pub fn insert(&mut self, entry: [u32; 4]) -> bool
         requires { 0 < self.old.spare }
@@ -98,17 +143,8 @@ impl Order {
         ensures ascending { IsAscending self.new.entries }
         ensures spare { self.old.spare ≤ self.new.spare + 1 }
     {
-        let count = self.pages.len();
-        if count == 0 {
-            self.pages.put_first(entry);
-            return true;
-        }
-        let Err(place) = locate(&self.pages, &entry) else {
-            return false;
-        };
-        let free = make_room(&mut self.pages, place);
-        put_before(&mut self.pages, free, entry);
-        true
+        let edited = self.insert_from(NOWHERE, entry);
+        edited.is_done
     }
 
     /// Puts all of `entries` in. Ascending ones are put in fastest.
@@ -118,8 +154,42 @@ impl Order {
         ensures spare { self.old.spare ≤ self.new.spare + length entries.now }
     {
         let _count = self.pages.len();
+        let mut from = NOWHERE;
         for entry in entries {
-            self.insert(*entry);
+            let edited = self.insert_from(from, *entry);
+            from = edited.place;
+        }
+    }
+
+    // Takes an entry out, looked for from an earlier place on.
+    fn remove_from(&mut self, from: Place, entry: [u32; 4]) -> Edited
+        ensures stood { IsTrue result.is_done ↔ Contains self.old.entries entry }
+        ensures taken { OnTrue result.is_done (self.new.entries ≡ without_entry entry self.old.entries) }
+        ensures kept { OnFalse result.is_done (self.new.entries ≡ self.old.entries) }
+        ensures ascending { IsAscending self.new.entries }
+        ensures spare { self.old.spare ≤ self.new.spare }
+    {
+        let count = self.pages.len();
+        if count == 0 {
+            return Edited {
+                is_done: false,
+                place: from,
+            };
+        }
+        let Ok(place) = locate_from(&self.pages, from, &entry) else {
+            return Edited {
+                is_done: false,
+                place: from,
+            };
+        };
+        self.pages.take_out(place);
+        self.count -= 1;
+        Edited {
+            is_done: true,
+            place: Place {
+                page: place.page,
+                at: place.at.saturating_sub(1),
+            },
         }
     }
 
@@ -131,29 +201,98 @@ impl Order {
         ensures ascending { IsAscending self.new.entries }
         ensures spare { self.old.spare ≤ self.new.spare }
     {
+        let edited = self.remove_from(NOWHERE, entry);
+        edited.is_done
+    }
+
+    /// Takes all of `entries` out. Ascending ones are taken out fastest.
+    pub fn remove_all(&mut self, entries: &[[u32; 4]])
+        ensures difference { IsDifference self.old.entries entries.now self.new.entries }
+        ensures spare { self.old.spare ≤ self.new.spare }
+    {
+        let _count = self.pages.len();
+        let mut from = NOWHERE;
+        for entry in entries {
+            let edited = self.remove_from(from, *entry);
+            from = edited.place;
+        }
+    }
+
+    /// How many entries there are.
+    pub fn len(&self) -> u128
+        ensures { result ≡ length self.now.entries }
+    {
+        self.count
+    }
+
+    /// Whether an entry is there.
+    pub fn contains(&self, entry: &[u32; 4]) -> bool
+        ensures { IsTrue result ↔ Contains self.now.entries entry.now }
+    {
         let count = self.pages.len();
         if count == 0 {
             return false;
         }
-        let Ok(place) = locate(&self.pages, &entry) else {
-            return false;
-        };
-        self.pages.take_out(place);
-        true
+        match locate(&self.pages, entry) {
+            Ok(_) => true,
+            Err(_) => false,
+        }
     }
 
     /// The first entry that doesn't stand before all entries that begin with `prefix`.
-    pub fn first_from(&self, prefix: &[u32]) -> Option<[u32; 4]>
-        requires { length prefix.now ≤ 4 }
+    pub fn first_from(&self, prefix: &Prefix) -> Option<[u32; 4]>
         ensures { MatchOption result (skip_before prefix.now self.now.entries ≡ []) (λ e. skip_before prefix.now self.now.entries ≡ e ∷ drop 1 (skip_before prefix.now self.now.entries)) }
     {
-        let count = self.pages.len();
-        let mut looked = 0;
-        let found = find(&self.pages, prefix, &mut looked);
-        if found.page == count {
-            return None;
+        let _count = self.pages.len();
+        let mut reader = Reader::new(&self.pages);
+        let found = find(&mut reader, prefix)?;
+        Some(found.entry)
+    }
+
+    // The first entry that isn't before `prefix`, and where it stands.
+    fn first(&self, prefix: &Prefix) -> Option<Found> {
+        let _count = self.pages.len();
+        let mut reader = Reader::new(&self.pages);
+        find(&mut reader, prefix)
+    }
+
+    // Where the entries that aren't before `prefix` begin.
+    fn place_from(&self, prefix: &Prefix) -> Place {
+        match self.first(prefix) {
+            Some(found) => found.place,
+            None => Place {
+                page: self.pages.len(),
+                at: 0,
+            },
         }
-        Some(*self.pages.look(found, &mut looked))
+    }
+
+    // Where the entries behind an entry begin.
+    fn place_behind(&self, entry: &[u32; 4]) -> Place {
+        let Some(found) = self.first(&Prefix::new(*entry, 4)) else {
+            return Place {
+                page: self.pages.len(),
+                at: 0,
+            };
+        };
+        let place = found.place;
+        let there = found.entry;
+        if there == *entry {
+            return Place {
+                page: place.page,
+                at: place.at.saturating_add(1),
+            };
+        }
+        place
+    }
+
+    /// About how many entries begin with the first `given` numbers of `prefix`.
+    pub fn estimate(&self, prefix: [u32; 4], given: usize) -> u64
+        requires { given ≤ 4 }
+    {
+        let from = self.place_from(&Prefix::new(prefix, given));
+        let to = self.place_behind(&last_with(prefix, given));
+        u64::try_from(distance(&self.pages, from, to)).unwrap_or(u64::MAX)
     }
 
     /// The entries that begin with the first `given` numbers of `prefix`.
@@ -164,6 +303,6 @@ impl Order {
         ensures size { result.size ≡ length self.now.entries }
         ensures ascending { IsAscending self.now.entries }
     {
-        OrderScan::new(&self.pages, prefix, given)
+        OrderScan::new(Reader::new(&self.pages), Prefix::new(prefix, given))
     }
 }

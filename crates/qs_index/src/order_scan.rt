@@ -1,66 +1,117 @@
 // A scan of one order.
-ghost use Rattle.std.specs.Prelude.{◌≡◌, ℕ, ◌+◌, ◌*◌, ◌<◌, ◌≤◌, List, length, take};
+ghost use Rattle.std.specs.Prelude.{◌≡◌, ℕ, ◌+◌, ◌*◌, ◌^◌, ◌<◌, ◌≤◌, List, [], length, true, slice_index_or};
 ghost use Rattle.std.specs.Iterator.{item_count};
 ghost use Rattle.qs_index.specs.Digits.{digits};
-ghost use Rattle.qs_index.specs.Layout.{Layout, joined};
-ghost use Rattle.qs_index.specs.Entry.{beginning, IsAscending};
+ghost use Rattle.qs_index.specs.Layout.{Reading, joined, page_at, rest_at};
+ghost use Rattle.qs_index.specs.Entries.{HaveFour};
+ghost use Rattle.qs_index.specs.Entry.{begins, beginning, run_of, IsAscending};
 ghost use Rattle.qs_index.specs.Scan.{ScanState, NextOfScan};
-ghost use Rattle.qs_index.specs.OrderScan.{state_of, IsSound};
+ghost use Rattle.qs_index.specs.OrderScan.{state_of, waiting, IsHead, IsSound};
 
-use crate::entry::begins;
-use crate::pages::{Pages, Place};
+use crate::pages::{Place, Reader};
+use crate::prefix::Prefix;
 use crate::search::find;
 use std::marker::Model;
+
+// The entry at a place: the one that the search found there, or the one that is read.
+fn read(reader: &mut Reader<'_>, head: Option<[u32; 4]>, place: Place) -> [u32; 4]
+    requires page { place.page < length reader.old.pages }
+    requires at { place.at < length (page_at reader.old.pages place.page) }
+    requires countable { reader.old.looked + 1 < 2 ^ 128 }
+    requires head { IsHead reader.old.pages place.page place.at head }
+    ensures entry { result ≡ slice_index_or (page_at reader.old.pages place.page) place.at [] }
+    ensures pages { reader.new.pages ≡ reader.old.pages }
+    ensures counted { reader.new.looked + waiting head ≡ reader.old.looked + 1 }
+{
+    match head {
+        Some(entry) => entry,
+        None => reader.look(place),
+    }
+}
+
+// Where a scan goes on behind an entry that begins with its prefix: at the end where no other entry can.
+fn step(reader: &Reader<'_>, prefix: &Prefix, place: Place) -> Place
+    requires page { place.page < length reader.now.pages }
+    requires at { place.at < length (page_at reader.now.pages place.page) }
+    requires ascending { IsAscending (joined reader.now.pages) }
+    requires entries { HaveFour (joined reader.now.pages) }
+    requires begins { begins prefix.now (slice_index_or (page_at reader.now.pages place.page) place.at []) ≡ true }
+    ensures within { result.page < length reader.now.pages → result.at < length (page_at reader.now.pages result.page) }
+    ensures run { run_of prefix.now (rest_at reader.now.pages result.page result.at) ≡ run_of prefix.now (rest_at reader.now.pages place.page (place.at + 1)) }
+{
+    let held = reader.len();
+    if prefix.is_whole() {
+        return Place { page: held, at: 0 };
+    }
+    let at = place.at + 1;
+    if at < reader.page_len(place.page) {
+        return Place {
+            page: place.page,
+            at,
+        };
+    }
+    Place {
+        page: place.page + 1,
+        at: 0,
+    }
+}
 
 /// The entries of one order that begin with a prefix, one after another.
 #[derive(Drop)]
 pub struct OrderScan<'a> {
-    pages: &'a Pages,
-    prefix: [u32; 4],
-    given: usize,
+    reader: Reader<'a>,
+    prefix: Prefix,
     page: usize,
     at: usize,
-    looked: u128,
+    // The first entry until it is handed out, as the search has looked at it.
+    head: Option<[u32; 4]>,
 }
 
 impl<'a> Model for OrderScan<'a> {
     ghost Value = { ScanState };
 
-    ghost view = { λ s. state_of s.pages.now.pages s.prefix s.given s.page s.at s.looked };
+    ghost view = { λ s. state_of s.reader.pages s.prefix s.page s.at s.reader.looked };
 
-    ghost invariant = { λ s. IsSound s.pages.now.pages s.prefix s.given s.page s.at s.looked };
+    ghost invariant = { λ s. IsSound s.reader.pages s.prefix s.page s.at s.head s.reader.looked };
 }
 
 impl<'a> OrderScan<'a> {
-    /// The scan of the entries that begin with the first `given` numbers of `prefix`.
-    pub fn new(pages: &'a Pages, prefix: [u32; 4], given: usize) -> OrderScan<'a>
-        requires short { given ≤ 4 }
-        requires ascending { IsAscending (joined pages.now.pages) }
-        ensures rest { result.rest ≡ beginning (take given prefix) (joined pages.now.pages) }
+    /// The scan of the entries that begin with `prefix`.
+    pub fn new(reader: Reader<'a>, prefix: Prefix) -> OrderScan<'a>
+        requires ascending { IsAscending (joined reader.pages) }
+        requires entries { HaveFour (joined reader.pages) }
+        requires unread { reader.looked ≡ 0 }
+        ensures rest { result.rest ≡ beginning prefix (joined reader.entry.pages) }
         ensures handed { result.handed ≡ 0 }
-        ensures size { result.size ≡ length (joined pages.now.pages) }
+        ensures size { result.size ≡ length (joined reader.entry.pages) }
     {
-        let _held = pages.len();
-        let mut looked = 0;
-        let place = find(pages, &prefix[..given], &mut looked);
-        let page = place.page;
-        let at = place.at;
+        let mut reader = reader;
+        let held = reader.len();
+        let Some(found) = find(&mut reader, &prefix) else {
+            return OrderScan {
+                reader,
+                prefix,
+                page: held,
+                at: 0,
+                head: None,
+            };
+        };
         OrderScan {
-            pages,
+            reader,
             prefix,
-            given,
-            page,
-            at,
-            looked,
+            page: found.place.page,
+            at: found.place.at,
+            head: Some(found.entry),
         }
     }
 
-    /// How many entries were looked at since the scan began.
+    /// How many entries were looked at since the scan began: those handed out, and few more.
     pub fn looked(&self) -> u128
         ensures count { result ≡ self.now.looked }
+        ensures enough { self.now.handed ≤ result }
         ensures few { result ≤ self.now.handed + 2 * digits self.now.size + 2 }
     {
-        self.looked
+        self.reader.looked()
     }
 }
 
@@ -72,7 +123,7 @@ impl<'a> Iterator for OrderScan<'a> {
     ghost remaining = { item_count (λ s. s.rest) };
 
     fn next(&mut self) -> Option<[u32; 4]> {
-        let held = self.pages.len();
+        let held = self.reader.len();
         if self.page >= held {
             return None;
         }
@@ -80,17 +131,16 @@ impl<'a> Iterator for OrderScan<'a> {
             page: self.page,
             at: self.at,
         };
-        let entry = *self.pages.look(place, &mut self.looked);
-        if !begins(&self.prefix[..self.given], &entry) {
+        let entry = read(&mut self.reader, self.head, place);
+        self.head = None;
+        if !self.prefix.begins(&entry) {
             self.page = held;
             self.at = 0;
             return None;
         }
-        self.at += 1;
-        if self.at == self.pages.page_len(self.page) {
-            self.page += 1;
-            self.at = 0;
-        }
+        let next = step(&self.reader, &self.prefix, place);
+        self.page = next.page;
+        self.at = next.at;
         Some(entry)
     }
 }

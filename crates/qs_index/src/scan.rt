@@ -29,10 +29,11 @@ impl<'a> Scan<'a> {
         Scan { inner, permutation }
     }
 
-    /// How many entries were looked at since the scan began: compared or handed out. At every moment they are at most those
-    /// handed out, and two for each binary digit of the number of entries, and two.
+    /// How many entries were looked at since the scan began: compared or handed out. At every moment they are at least those
+    /// handed out, and at most these, and two for each binary digit of the number of entries, and two.
     pub fn looked(&self) -> u128
         ensures count { result ≡ self.now.looked }
+        ensures enough { self.now.handed ≤ result }
         ensures few { result ≤ self.now.handed + 2 * digits self.now.size + 2 }
     {
         self.inner.looked()

@@ -1,87 +1,221 @@
 // Binary searches in the pages of one order.
-ghost use Rattle.std.specs.Prelude.{◌≡◌, ℕ, ◌+◌, ◌-◌, ◌*◌, ◌<◌, ◌≤◌, ◌^◌, List, [], ◌∷◌, length, drop, false, slice_index_or, IfOk, IfErr};
+ghost use Rattle.std.specs.Prelude.{◌≡◌, ℕ, ◌+◌, ◌-◌, ◌*◌, ◌<◌, ◌≤◌, ◌^◌, List, [], ◌∷◌, length, drop, true, false, slice_index_or, IfOk, IfErr, IfSome, IfNone};
 ghost use Rattle.qs_index.specs.Digits.{digits};
-ghost use Rattle.qs_index.specs.Layout.{Layout, joined, page_at, rest_at};
+ghost use Rattle.qs_index.specs.Layout.{Layout, Reading, joined, page_at, rest_at};
 ghost use Rattle.qs_index.specs.Entry.{is_before, IsAscending, skip_before};
-ghost use Rattle.qs_index.specs.Place.{IsPlaceFor, IsPlaceOf};
+ghost use Rattle.qs_index.specs.Place.{IsPlaceFor, IsPlaceOf, IsFound, IsPageFound};
 
-use crate::entry::is_before;
-use crate::pages::{Pages, Place};
+use crate::pages::{Pages, Place, Reader};
+use crate::prefix::Prefix;
 
-// The first page whose last entry isn't before `prefix`.
+// An entry that was compared, and the number of the page that it ends, or of its place in its page.
+#[derive(Clone, Copy)]
+struct Bound {
+    at: usize,
+    entry: [u32; 4],
+}
+
+/// A place behind all pages, from which a search can't go on.
+pub const NOWHERE: Place = Place {
+    page: usize::MAX,
+    at: 0,
+};
+
+/// An entry that was found, and where it stands.
+#[derive(Clone, Copy)]
+pub struct Found {
+    pub place: Place,
+    pub entry: [u32; 4],
+}
+
+// The first page whose last entry isn't before `prefix`, and that entry; where there is none, the number of pages.
 #[inline(always)]
-fn first_page(pages: &Pages, prefix: &[u32], looked: &mut u128) -> usize
-    requires short { length prefix.now ≤ 4 }
-    requires ascending { IsAscending (joined pages.now.pages) }
-    requires countable { looked.old + digits (length pages.now.pages) < 2 ^ 128 }
-    ensures within { result ≤ length pages.now.pages }
-    ensures skips { skip_before prefix.now (joined pages.now.pages) ≡ skip_before prefix.now (joined (drop result pages.now.pages)) }
-    ensures reached { result < length pages.now.pages → is_before (slice_index_or (page_at pages.now.pages result) (length (page_at pages.now.pages result) - 1) []) prefix.now ≡ false }
-    ensures counted { looked.new ≤ looked.old + digits (length pages.now.pages) }
+fn first_page(reader: &mut Reader<'_>, prefix: &Prefix) -> Bound
+    requires ascending { IsAscending (joined reader.old.pages) }
+    requires countable { reader.old.looked + digits (length reader.old.pages) < 2 ^ 128 }
+    ensures within { result.at ≤ length reader.old.pages }
+    ensures skips { skip_before prefix.now (joined reader.old.pages) ≡ skip_before prefix.now (joined (drop result.at reader.old.pages)) }
+    ensures reached { result.at < length reader.old.pages → IsPageFound prefix.now reader.old.pages result.at result.entry }
+    ensures looked { result.at < length reader.old.pages → reader.old.looked + 1 ≤ reader.new.looked }
+    ensures pages { reader.new.pages ≡ reader.old.pages }
+    ensures counted { reader.new.looked ≤ reader.old.looked + digits (length reader.old.pages) }
 {
     let mut low = 0;
-    let mut high = pages.len();
+    let mut high = reader.len();
+    let mut bound = [0; 4];
     while low < high {
         let middle = low + (high - low) / 2;
-        let last = pages.page_len(middle) - 1;
+        let last = reader.page_len(middle) - 1;
         let place = Place {
             page: middle,
             at: last,
         };
-        if is_before(pages.look(place, looked), prefix) {
+        let entry = reader.look(place);
+        if prefix.is_after(&entry) {
             low = middle + 1;
         } else {
             high = middle;
+            bound = entry;
         }
     }
-    low
+    Bound {
+        at: low,
+        entry: bound,
+    }
 }
 
-// The first entry of a page that isn't before `prefix`, where its last isn't.
+// The first entry of a page that isn't before `prefix`, where those in front of `from` are, and its last, which is given, isn't.
 #[inline(always)]
-fn first_in_page(pages: &Pages, page: usize, prefix: &[u32], looked: &mut u128) -> usize
-    requires short { length prefix.now ≤ 4 }
-    requires ascending { IsAscending (joined pages.now.pages) }
-    requires page_in { page < length pages.now.pages }
-    requires reached { is_before (slice_index_or (page_at pages.now.pages page) (length (page_at pages.now.pages page) - 1) []) prefix.now ≡ false }
-    requires countable { looked.old + digits (length (page_at pages.now.pages page)) < 2 ^ 128 }
-    ensures within { result < length (page_at pages.now.pages page) }
-    ensures skips { skip_before prefix.now (joined (drop page pages.now.pages)) ≡ rest_at pages.now.pages page result }
-    ensures counted { looked.new ≤ looked.old + digits (length (page_at pages.now.pages page)) }
+fn first_in_page(
+    reader: &mut Reader<'_>,
+    page: usize,
+    from: usize,
+    last: [u32; 4],
+    prefix: &Prefix,
+) -> Bound
+    requires ascending { IsAscending (joined reader.old.pages) }
+    requires page_in { page < length reader.old.pages }
+    requires from_in { from < length (page_at reader.old.pages page) }
+    requires passed { skip_before prefix.now (joined (drop page reader.old.pages)) ≡ skip_before prefix.now (rest_at reader.old.pages page from) }
+    requires reached { IsPageFound prefix.now reader.old.pages page last }
+    requires countable { reader.old.looked + digits (length (page_at reader.old.pages page)) < 2 ^ 128 }
+    ensures within { result.at < length (page_at reader.old.pages page) }
+    ensures skips { skip_before prefix.now (joined (drop page reader.old.pages)) ≡ rest_at reader.old.pages page result.at }
+    ensures entry { result.entry ≡ slice_index_or (page_at reader.old.pages page) result.at [] }
+    ensures pages { reader.new.pages ≡ reader.old.pages }
+    ensures looked { reader.old.looked ≤ reader.new.looked }
+    ensures counted { reader.new.looked ≤ reader.old.looked + digits (length (page_at reader.old.pages page)) }
 {
-    let mut low = 0;
-    let mut high = pages.page_len(page) - 1;
+    let mut low = from;
+    let mut high = reader.page_len(page) - 1;
+    let mut bound = last;
     while low < high {
         let middle = low + (high - low) / 2;
         let place = Place { page, at: middle };
-        if is_before(pages.look(place, looked), prefix) {
+        let entry = reader.look(place);
+        if prefix.is_after(&entry) {
             low = middle + 1;
         } else {
             high = middle;
+            bound = entry;
         }
     }
-    low
+    Bound {
+        at: low,
+        entry: bound,
+    }
 }
 
-/// Where the first entry stands that isn't before `prefix`.
+/// The first entry that isn't before `prefix`.
 #[inline(always)]
-pub fn find(pages: &Pages, prefix: &[u32], looked: &mut u128) -> Place
-    requires short { length prefix.now ≤ 4 }
-    requires ascending { IsAscending (joined pages.now.pages) }
-    requires countable { looked.old + 2 * digits (length (joined pages.now.pages)) < 2 ^ 128 }
-    ensures rest { rest_at pages.now.pages result.page result.at ≡ skip_before prefix.now (joined pages.now.pages) }
-    ensures page_within { result.page ≤ length pages.now.pages }
-    ensures within { result.page < length pages.now.pages → result.at < length (page_at pages.now.pages result.page) }
-    ensures at_end { result.page ≡ length pages.now.pages → result.at ≡ 0 }
-    ensures counted { looked.new ≤ looked.old + 2 * digits (length (joined pages.now.pages)) }
+pub fn find(reader: &mut Reader<'_>, prefix: &Prefix) -> Option<Found>
+    requires ascending { IsAscending (joined reader.old.pages) }
+    requires countable { reader.old.looked + 2 * digits (length (joined reader.old.pages)) < 2 ^ 128 }
+    ensures some { IfSome result (λ found. IsFound prefix.now reader.old.pages found.place.page found.place.at found.entry) }
+    ensures none { IfNone result (skip_before prefix.now (joined reader.old.pages) ≡ []) }
+    ensures looked { IfSome result (λ _. reader.old.looked + 1 ≤ reader.new.looked) }
+    ensures pages { reader.new.pages ≡ reader.old.pages }
+    ensures counted { reader.new.looked ≤ reader.old.looked + 2 * digits (length (joined reader.old.pages)) }
 {
-    let held = pages.len();
-    let page = first_page(pages, prefix, looked);
-    if page == held {
-        return Place { page, at: 0 };
+    let held = reader.len();
+    let page = first_page(reader, prefix);
+    if page.at == held {
+        return None;
     }
-    let at = first_in_page(pages, page, prefix, looked);
-    Place { page, at }
+    let bound = first_in_page(reader, page.at, 0, page.entry, prefix);
+    let place = Place {
+        page: page.at,
+        at: bound.at,
+    };
+    let entry = bound.entry;
+    Some(Found { place, entry })
+}
+
+// The first entry that isn't before `prefix`, looked for in the page of an earlier place, whose entry is, before all pages are
+// searched.
+#[inline(always)]
+fn find_behind(reader: &mut Reader<'_>, from: Place, prefix: &Prefix) -> Option<Found>
+    requires ascending { IsAscending (joined reader.old.pages) }
+    requires page { from.page < length reader.old.pages }
+    requires at { from.at < length (page_at reader.old.pages from.page) }
+    requires passed { is_before (slice_index_or (page_at reader.old.pages from.page) from.at []) prefix.now ≡ true }
+    requires countable { reader.old.looked + 1 + 2 * digits (length (joined reader.old.pages)) < 2 ^ 128 }
+    ensures some { IfSome result (λ found. IsFound prefix.now reader.old.pages found.place.page found.place.at found.entry) }
+    ensures none { IfNone result (skip_before prefix.now (joined reader.old.pages) ≡ []) }
+    ensures pages { reader.new.pages ≡ reader.old.pages }
+{
+    let held = reader.len();
+    let page = from.page;
+    let len = reader.page_len(page);
+    let end = Place { page, at: len - 1 };
+    let last = reader.look(end);
+    if prefix.is_after(&last) {
+        if page + 1 == held {
+            return None;
+        }
+        return find(reader, prefix);
+    }
+    let bound = first_in_page(reader, page, from.at + 1, last, prefix);
+    let place = Place { page, at: bound.at };
+    let entry = bound.entry;
+    Some(Found { place, entry })
+}
+
+// The first entry that isn't before `prefix`, looked for from an earlier place on where it stands behind that.
+#[inline(always)]
+fn find_from(reader: &mut Reader<'_>, from: Place, prefix: &Prefix) -> Option<Found>
+    requires ascending { IsAscending (joined reader.old.pages) }
+    requires countable { reader.old.looked + 2 + 2 * digits (length (joined reader.old.pages)) < 2 ^ 128 }
+    ensures some { IfSome result (λ found. IsFound prefix.now reader.old.pages found.place.page found.place.at found.entry) }
+    ensures none { IfNone result (skip_before prefix.now (joined reader.old.pages) ≡ []) }
+    ensures pages { reader.new.pages ≡ reader.old.pages }
+{
+    let held = reader.len();
+    if from.page >= held {
+        return find(reader, prefix);
+    }
+    if from.at >= reader.page_len(from.page) {
+        return find(reader, prefix);
+    }
+    let start = reader.look(from);
+    if prefix.is_after(&start) {
+        return find_behind(reader, from, prefix);
+    }
+    find(reader, prefix)
+}
+
+// Where an entry stands, or where it has to be put.
+#[inline(always)]
+fn locate_in(reader: Reader<'_>, from: Place, entry: &[u32; 4]) -> Result<Place, Place>
+    requires ascending { IsAscending (joined reader.pages) }
+    requires some { 0 < length reader.pages }
+    requires unread { reader.looked ≡ 0 }
+    ensures found { IfOk result (λ place. IsPlaceOf entry.now reader.entry.pages place.page place.at) }
+    ensures missing { IfErr result (λ place. IsPlaceFor entry.now reader.entry.pages place.page place.at) }
+{
+    let mut reader = reader;
+    let count = reader.len();
+    let whole = Prefix::new(*entry, 4);
+    let Some(found) = find_from(&mut reader, from, &whole) else {
+        let last = count - 1;
+        let at = reader.page_len(last);
+        return Err(Place { page: last, at });
+    };
+    if found.entry == *entry {
+        return Ok(found.place);
+    }
+    Err(found.place)
+}
+
+/// Where an entry stands, or where it has to be put, looked for from an earlier place on where it stands behind that.
+#[inline(always)]
+pub fn locate_from(pages: &Pages, from: Place, entry: &[u32; 4]) -> Result<Place, Place>
+    requires ascending { IsAscending (joined pages.now.pages) }
+    requires some { 0 < length pages.now.pages }
+    ensures found { IfOk result (λ place. IsPlaceOf entry.now pages.now.pages place.page place.at) }
+    ensures missing { IfErr result (λ place. IsPlaceFor entry.now pages.now.pages place.page place.at) }
+{
+    locate_in(Reader::new(pages), from, entry)
 }
 
 /// Where an entry stands, or where it has to be put.
@@ -92,16 +226,5 @@ pub fn locate(pages: &Pages, entry: &[u32; 4]) -> Result<Place, Place>
     ensures found { IfOk result (λ place. IsPlaceOf entry.now pages.now.pages place.page place.at) }
     ensures missing { IfErr result (λ place. IsPlaceFor entry.now pages.now.pages place.page place.at) }
 {
-    let count = pages.len();
-    let mut looked = 0;
-    let found = find(pages, entry, &mut looked);
-    if found.page == count {
-        let last = count - 1;
-        let at = pages.page_len(last);
-        return Err(Place { page: last, at });
-    }
-    if *pages.look(found, &mut looked) == *entry {
-        return Ok(found);
-    }
-    Err(found)
+    locate_from(pages, NOWHERE, entry)
 }

@@ -8,5 +8,13 @@ abbrev pub decreases-loop-low : goal.decreases-loop-low
 decreases-loop-low l = l.high - l.low
 
 abbrev pub invariant-loop-low : goal.invariant-loop-low
-invariant-loop-low l =
-    (l.low ≤ l.high) × (l.high < length (page_at l.pages.pages l.page)) × (skip_before l.prefix (joined (drop l.page l.pages.pages)) ≡ skip_before l.prefix (rest_at l.pages.pages l.page l.low)) × (is_before (get_or (page_at l.pages.pages l.page) l.high []) l.prefix ≡ false) × (l.looked + digits (l.high - l.low) ≤ l.fn.looked + digits (length (page_at l.pages.pages l.page)))
+invariant-loop-low l = record {
+  ordered : l.low ≤ l.high;
+  within : l.high < length (page_at l.fn.reader.pages l.page);
+  skips : skip_before l.prefix (joined (drop l.page l.fn.reader.pages)) ≡ skip_before l.prefix (rest_at l.fn.reader.pages l.page l.low);
+  entry_is : l.bound ≡ get_or (page_at l.fn.reader.pages l.page) l.high [];
+  reached : is_before l.bound l.prefix ≡ false;
+  looked : l.fn.reader.looked ≤ l.reader.looked;
+  few : l.reader.looked + digits (l.high - l.low) ≤ l.fn.reader.looked + digits (length (page_at l.fn.reader.pages l.page));
+  same : l.reader.pages ≡ l.fn.reader.pages;
+}

@@ -1,27 +1,49 @@
-use Rattle.std.proofs.Common.{rules, ◌+◌, ◌-◌, ◌/◌, arith}
+use Rattle.std.proofs.Common.{◌≡◌, ◌+◌, ◌-◌, ◌/◌, [], length, get_or, arith, ap, sym, ◌∙◌}
+use Rattle.qs_index.specs.Entry.{is_before}
+use Rattle.qs_index.specs.Layout.{page_at}
 use Rattle.qs_index.proofs.DigitLaws.{digits_left, digits_right, middle_below}
 use Rattle.qs_index.proofs.Places.{skip_page}
 use Rattle.qs_index.proofs.search.first_page.Goals as goal
 
-pub look-requires-clause-countable : goal.look-requires-clause-countable
-look-requires-clause-countable c =
+pub look-entry-requires-clause-countable : goal.look-entry-requires-clause-countable
+look-entry-requires-clause-countable c =
     let h = digits_left c.loop-low.low c.loop-low.high c.loop-low-test.true in
-    omega (arith, c.loop-low.invariant.4, c.requires.countable)
+    omega (arith, c.loop-low.invariant.few, c.requires.countable)
 
-pub loop-low-preserved-then-is_before : goal.loop-low-preserved-then-is_before
-loop-low-preserved-then-is_before c =
+pub loop-low-preserved-then-is_after : goal.loop-low-preserved-then-is_after
+loop-low-preserved-then-is_after c =
+    let i = c.loop-low.invariant in
+    let pages = c.args.reader.now.pages in
     let middle = c.loop-low.low + (c.loop-low.high - c.loop-low.low) / 2 in
     let h = digits_right c.loop-low.low c.loop-low.high c.loop-low-test.true in
-    let m = middle_below c.loop-low.low c.loop-low.high c.loop-low-test.true in (
-      omega arith,
-      c.loop-low.invariant.1,
-      skip_page c.args.prefix.now c.args.pages.now.pages 0 middle c.len-high.ensures.sizes c.requires.ascending (omega (arith, c.loop-low.invariant.1)) (search rules),
-      c.loop-low.invariant.3,
-      omega (arith, c.loop-low.invariant.4, c.look.ensures.counted),
-    )
+    let m = middle_below c.loop-low.low c.loop-low.high c.loop-low-test.true in
+    let read : c.look-entry.result ≡ get_or (page_at pages middle) (length (page_at pages middle) - 1) [] = c.look-entry.ensures.entry ∙ ap (λ r. get_or (page_at r middle) (c.page_len-last.result - 1) []) i.same ∙ ap (λ k. get_or (page_at pages middle) (k - 1) []) (c.page_len-last.ensures.len ∙ ap (λ r. length (page_at r middle)) i.same) in
+    record {
+      ordered = omega arith;
+      within = i.within;
+      skips = skip_page c.args.prefix.now pages 0 middle c.len-high.ensures.sizes c.requires.ascending (omega (arith, i.within)) (ap (λ r. is_before r c.args.prefix.now) (sym read) ∙ sym c.is_after.ensures ∙ c.if-is_after.true);
+      reached = i.reached;
+      looked = λ b. omega (arith, i.looked b, c.look-entry.ensures.counted);
+      rising = omega (arith, i.rising, c.look-entry.ensures.counted);
+      few = omega (arith, i.few, c.look-entry.ensures.counted);
+      same = c.look-entry.ensures.pages ∙ i.same;
+    }
 
 pub loop-low-preserved : goal.loop-low-preserved
 loop-low-preserved c =
+    let i = c.loop-low.invariant in
+    let pages = c.args.reader.now.pages in
+    let middle = c.loop-low.low + (c.loop-low.high - c.loop-low.low) / 2 in
     let h = digits_left c.loop-low.low c.loop-low.high c.loop-low-test.true in
     let m = middle_below c.loop-low.low c.loop-low.high c.loop-low-test.true in
-    (omega arith, omega (arith, c.loop-low.invariant.1), c.loop-low.invariant.2, λ _. search rules, omega (arith, c.loop-low.invariant.4, c.look.ensures.counted))
+    let read : c.look-entry.result ≡ get_or (page_at pages middle) (length (page_at pages middle) - 1) [] = c.look-entry.ensures.entry ∙ ap (λ r. get_or (page_at r middle) (c.page_len-last.result - 1) []) i.same ∙ ap (λ k. get_or (page_at pages middle) (k - 1) []) (c.page_len-last.ensures.len ∙ ap (λ r. length (page_at r middle)) i.same) in
+    record {
+      ordered = omega arith;
+      within = omega (arith, i.within);
+      skips = i.skips;
+      reached = λ _. record { entry_is = read; reached = sym c.is_after.ensures ∙ c.if-is_after.false };
+      looked = λ _. omega (arith, i.rising, c.look-entry.ensures.counted);
+      rising = omega (arith, i.rising, c.look-entry.ensures.counted);
+      few = omega (arith, i.few, c.look-entry.ensures.counted);
+      same = c.look-entry.ensures.pages ∙ i.same;
+    }

@@ -1,10 +1,7 @@
 use Rattle.std.proofs.Common.{arith}
 use Rattle.qs_index.proofs.Looks.{start_fits}
-use Rattle.qs_index.proofs.FoundPlaces.{look_fits}
 use Rattle.qs_index.proofs.order.Order.first_from.Goals as goal
 
-pub find-found-requires-clause-countable : goal.find-found-requires-clause-countable
-find-found-requires-clause-countable c = start_fits c.self.inside.pages.pages c.len-count.ensures.sizes (omega (arith, c.len-count.ensures.len, c.len-count.type_inv))
-
-pub look-requires-clause-countable : goal.look-requires-clause-countable
-look-requires-clause-countable c = look_fits c.self.inside.pages.pages c.find-found.new.looked c.len-count.ensures.sizes (omega (arith, c.len-count.ensures.len, c.len-count.type_inv)) c.find-found.ensures.counted
+pub find-requires-clause-countable : goal.find-requires-clause-countable
+find-requires-clause-countable c =
+    rw (c.new-reader.ensures.pages, c.new-reader.ensures.looked) (start_fits c.self.inside.pages.pages c.len-count.ensures.sizes (omega (arith, c.len-count.ensures.len, c.len-count.type_inv)))

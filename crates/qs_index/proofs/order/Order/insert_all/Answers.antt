@@ -4,6 +4,6 @@ use Rattle.qs_index.proofs.order.Order.insert_all.Goals as goal
 
 pub loop-entry-preserved : goal.loop-entry-preserved
 loop-entry-preserved c = record {
-  spare = omega (arith, c.insert.ensures.spare, c.loop-entry.invariant.spare);
-  union = IsUnion-more c.args.self.now.entries c.args.entries.now c.loop-entry.self.entries c.insert.new.self.entries c.loop-entry.entry-index (get_or c.args.entries.now c.loop-entry.entry-index []) c.insert.result (omega (arith, c.loop-entry-test.true)) refl c.loop-entry.invariant.union c.insert.ensures.added c.insert.ensures.kept c.insert.ensures.stood c.insert.ensures.ascending;
+  spare = omega (arith, c.insert_from-edited.ensures.spare, c.loop-entry.invariant.spare);
+  union = IsUnion-more c.args.self.now.entries c.args.entries.now c.loop-entry.self.entries c.insert_from-edited.new.self.entries c.loop-entry.entry-index (get_or c.args.entries.now c.loop-entry.entry-index []) c.insert_from-edited.result.is_done (omega (arith, c.loop-entry-test.true)) refl c.loop-entry.invariant.union c.insert_from-edited.ensures.added c.insert_from-edited.ensures.kept c.insert_from-edited.ensures.stood c.insert_from-edited.ensures.ascending;
 }
