@@ -12,8 +12,8 @@ use Rattle.qs_tree.specs.declared.path.Repetition.TheVariants.{ZeroOrOne, ZeroOr
 use Rattle.qs_ast.specs.declared.path.NegatedIri.{NegatedIri}
 use Rattle.qs_ast.specs.declared.path.Path.{Path, Path-F, map-Path, roll-Path, ind-Path}
 use Rattle.qs_ast.specs.declared.path.Path.TheVariants.{Iri, NegatedSet, Alternative, Sequence, Inverse, Repeated, rolls-Iri, rolls-NegatedSet, rolls-Alternative, rolls-Sequence, rolls-Inverse, rolls-Repeated}
-use Rattle.qs_paths.specs.declared.pair.Pair.{Pair}
-use Rattle.qs_paths.specs.Steps.{Graph, agrees, is_between, pair, swapped, pair_of, along, against, negated, is_of, is_none, is_outside, composed, from_pair}
+use Rattle.qs_paths.specs.Pair.{Pair, pair, swapped}
+use Rattle.qs_paths.specs.Steps.{Graph, agrees, is_between, pair_of, along, against, negated, is_of, is_none, is_outside, composed, from_pair}
 use Rattle.qs_paths.specs.Closure.{candidates, leads, repeats, ends, starts, from_start, closure}
 use Rattle.qs_paths.specs.Pairs.{AtEnds, in_sequence, is_step, pairs, pairs_level}
 use Rattle.qs_paths.proofs.Meaning.{pairs_iri, pairs_negated, pairs_alternative, pairs_sequence, pairs_inverse, pairs_repeated}
@@ -21,19 +21,19 @@ use Rattle.qs_paths.proofs.Members.{Mem, mem_at, mem_left, mem_split, mem_of_fil
 use Rattle.qs_paths.proofs.WalkLaws.{both, Cases, cases}
 
 module _ (graph : Graph) where
-  abbrev Node : Term → Type 0
+  abbrev pub Node : Term → Type 0
   Node t = Mem t (nodes_of graph)
 
   -- the same term, or two nodes
   abbrev pub Near : Term → Term → Type 0
   Near x y = (x ≡ y) ⊎ (Node x × Node y)
 
-  near_on : (x y z : Term) → Near x y → Near y z → Near x z
+  pub near_on : (x y z : Term) → Near x y → Near y z → Near x z
   near_on x y z (inl e) h = subst (λ (u : Term). Near u z) (sym e) h
   near_on x y z (inr m) (inl e) = inr (m.0, mem_at y z (nodes_of graph) e m.1)
   near_on x y z (inr m) (inr n) = inr (m.0, n.1)
 
-  near_back : (x y : Term) → Near x y → Near y x
+  pub near_back : (x y : Term) → Near x y → Near y x
   near_back x y (inl e) = inl (sym e)
   near_back x y (inr m) = inr (m.1, m.0)
 
@@ -48,10 +48,10 @@ module _ (graph : Graph) where
   tied_at : (left right : Option Term) (e f : Pair) → e ≡ f → Between left right f → Between left right e
   tied_at left right e f is b = subst (λ (g : Pair). Between left right g) (sym is) b
 
-  subject_node : (t : Triple) → Mem t graph → Node t.subject
+  pub subject_node : (t : Triple) → Mem t graph → Node t.subject
   subject_node t m = mem_once same_term same_term-Decides t.subject (flat_map ends_of graph) (mem_flat ends_of t t.subject graph m (inl refl))
 
-  object_node : (t : Triple) → Mem t graph → Node t.object
+  pub object_node : (t : Triple) → Mem t graph → Node t.object
   object_node t m = mem_once same_term same_term-Decides t.object (flat_map ends_of graph) (mem_flat ends_of t t.object graph m (inr (inl refl)))
 
   tied_along : (test : Term → Bool) → Tied (along test graph)
@@ -68,7 +68,7 @@ module _ (graph : Graph) where
         );
       }
 
-  tied_swapped : (f : AtEnds) → Tied f → Tied (λ left right. map swapped (f right left))
+  pub tied_swapped : (f : AtEnds) → Tied f → Tied (λ left right. map swapped (f right left))
   tied_swapped f t left right e h =
       let w = mem_of_map swapped e (f right left) h in
       let b = t right left w.0 w.1.0 in
@@ -107,7 +107,7 @@ module _ (graph : Graph) where
   abbrev Each : List AtEnds → Type 0
   Each fs = (f : AtEnds) → Mem f fs → Tied f
 
-  tied_sequence : (fs : List AtEnds) → Each fs → Tied (in_sequence fs)
+  pub tied_sequence : (fs : List AtEnds) → Each fs → Tied (in_sequence fs)
   tied_sequence [] each left right e h = elim h [ ]
   tied_sequence (f ∷ []) each left right e h = each f (inl refl) left right e h
   tied_sequence (f ∷ g ∷ fs) each left right e h =
@@ -123,7 +123,7 @@ module _ (graph : Graph) where
 
   -- ---- closures
 
-  step_near : (f : AtEnds) → Tied f → (u v : Term) → is_step f u v ≡ true → Near u v
+  pub step_near : (f : AtEnds) → Tied f → (u v : Term) → is_step f u v ≡ true → Near u v
   step_near f t u v h = by (f (Some u) None) (λ e m. t (Some u) None e m) h
     where
       by : (es : List Pair) → ((e : Pair) → Mem e es → Between (Some u) None e) → list_any (λ e. same_term v e.right) es ≡ true → Near u v
@@ -146,7 +146,7 @@ module _ (graph : Graph) where
         | inr k ↦ near_on x c y (leads_near step near cs x c k.0) (leads_near step near cs c y k.1)
       ]
 
-  repeats_near : (repetition : Repetition) (step : Term → Term → Bool) → ((u v : Term) → step u v ≡ true → Near u v) → (cs : List Term) (x y : Term) → repeats repetition step cs x y ≡ true → Near x y
+  pub repeats_near : (repetition : Repetition) (step : Term → Term → Bool) → ((u v : Term) → step u v ≡ true → Near u v) → (cs : List Term) (x y : Term) → repeats repetition step cs x y ≡ true → Near x y
   repeats_near ZeroOrOne step near cs x y h = elim (or_cases (same_term x y) (step x y) h) [ inl k ↦ inl ((same_term-Decides x y).0 k) | inr k ↦ near x y k ]
   repeats_near ZeroOrMore step near cs x y h =
       elim (or_cases (same_term x y) (leads step cs x y) h) [ inl k ↦ inl ((same_term-Decides x y).0 k) | inr k ↦ leads_near step near cs x y k ]
@@ -197,16 +197,16 @@ module _ (graph : Graph) where
   tied = ind-Path IsTied (λ x y is. subst (λ z. IsTied (roll-Path z)) is (tied_level y))
 
   -- a path steps from a candidate to candidates alone
-  candidate : (x y : Term) → (y ≡ x) ⊎ Node y → Mem y (candidates graph x)
+  pub candidate : (x y : Term) → (y ≡ x) ⊎ Node y → Mem y (candidates graph x)
   candidate x y (inl e) = mem_once same_term same_term-Decides y (x ∷ nodes_of graph) (inl e)
   candidate x y (inr m) = mem_once same_term same_term-Decides y (x ∷ nodes_of graph) (inr m)
 
   pub start_candidate : (x : Term) → Mem x (candidates graph x)
   start_candidate x = candidate x x (inl refl)
 
-  pub candidates_closed : (p : Path) (x u v : Term) → Mem u (candidates graph x) → is_step (pairs graph p) u v ≡ true → Mem v (candidates graph x)
-  candidates_closed p x u v m h =
-      elim (step_near (pairs graph p) (tied p) u v h) [
+  pub candidates_closed : (f : AtEnds) → Tied f → (x u v : Term) → Mem u (candidates graph x) → is_step f u v ≡ true → Mem v (candidates graph x)
+  candidates_closed f t x u v m h =
+      elim (step_near f t u v h) [
         | inl e ↦ mem_at u v (candidates graph x) e m
         | inr n ↦ candidate x v (inr n.1)
       ]

@@ -10,16 +10,15 @@ use Rattle.qs_terms.specs.Dataset.{nodes_of, ends_of}
 use Rattle.qs_terms.proofs.SameTerm.{same_term-Decides}
 use Rattle.qs_tree.specs.declared.path.Repetition.{Repetition}
 use Rattle.qs_tree.specs.declared.path.Repetition.TheVariants.{ZeroOrOne, ZeroOrMore, OneOrMore}
-use Rattle.qs_ast.specs.declared.path.Path.{Path}
-use Rattle.qs_paths.specs.declared.pair.Pair.{Pair}
+use Rattle.qs_paths.specs.Pair.{Pair}
 use Rattle.qs_paths.specs.Steps.{Graph}
 use Rattle.qs_paths.specs.Closure.{candidates, leads, repeats, ends, starts}
 use Rattle.qs_paths.specs.Found.{with_all, rights, begins, Holds}
-use Rattle.qs_paths.specs.Pairs.{is_step, pairs}
+use Rattle.qs_paths.specs.Pairs.{AtEnds, is_step}
 use Rattle.qs_paths.specs.Walk.{IsWalk}
 use Rattle.qs_paths.proofs.Members.{Mem, mem_at, mem_left, mem_right, mem_split, mem_filter, mem_of_filter, mem_map, mem_of_map, in_mem, mem_in, or_cases, or_left, or_right, bool_same, distinct_filter, distinct_once, mem_once, mem_of_once, no_longer, same_bag, mem_with_new, with_new_has, distinct_with_new, extends_with_new, Extends}
 use Rattle.qs_paths.proofs.Members as members
-use Rattle.qs_paths.proofs.Near.{start_candidate, candidates_closed}
+use Rattle.qs_paths.proofs.Near.{Tied, start_candidate, candidates_closed}
 use Rattle.qs_paths.proofs.WalkLaws.{leads_one, leads_on, leads_walk, leads_inside}
 
 -- ---- many terms at the end
@@ -38,12 +37,12 @@ pub distinct_with_all : (xs ys : List Term) → Distinct same_term xs → Distin
 distinct_with_all xs ys d = subst (Distinct same_term) (sym (all_is xs ys)) (members.distinct_with_all same_term same_term-Decides xs ys d)
 
 -- the right ends of pairs
-right_in : (y : Term) (es : List Pair) → Mem y (rights es) → list_any (λ e. same_term y e.right) es ≡ true
+pub right_in : (y : Term) (es : List Pair) → Mem y (rights es) → list_any (λ e. same_term y e.right) es ≡ true
 right_in y [] h = elim h [ ]
 right_in y (e ∷ es) (inl i) = or_left (same_term y e.right) (list_any (λ f. same_term y f.right) es) ((same_term-Decides y e.right).1 i)
 right_in y (e ∷ es) (inr h) = or_right (same_term y e.right) (list_any (λ f. same_term y f.right) es) (right_in y es h)
 
-in_right : (y : Term) (es : List Pair) → list_any (λ e. same_term y e.right) es ≡ true → Mem y (rights es)
+pub in_right : (y : Term) (es : List Pair) → list_any (λ e. same_term y e.right) es ≡ true → Mem y (rights es)
 in_right y [] h = let f : false ≡ true = h in cc
 in_right y (e ∷ es) h =
     elim (or_cases (same_term y e.right) (list_any (λ f. same_term y f.right) es) h) [
@@ -69,38 +68,38 @@ right_start graph left right y ns ts l r n e =
         with_new_has same_term same_term-Decides z y (nodes_of graph)
         (elim (mem_of_once same_term same_term-Decides z (y ∷ nodes_of graph) m) [ inl i ↦ inr i | inr k ↦ inl k ]))
 
-module _ (graph : Graph) (p : Path) (x : Term) where
+module _ (graph : Graph) (f : AtEnds) (tied : Tied graph f) (x : Term) where
   abbrev step : Term → Term → Bool
-  step = is_step (pairs graph p)
+  step = is_step f
 
   abbrev cs : List Term
   cs = candidates graph x
 
   abbrev Reaches : Repetition → Term → Type 0
-  Reaches repetition y = repeats repetition (is_step (pairs graph p)) (candidates graph x) x y ≡ true
+  Reaches repetition y = repeats repetition (is_step f) (candidates graph x) x y ≡ true
 
   -- the pairs that the program has from u are the steps from u
-  pub stepped : (u y : Term) (next : List Pair) → SameBag next (pairs graph p (Some u) None) → Mem y (rights next) → is_step (pairs graph p) u y ≡ true
-  stepped u y next h m = sym (list_any-IsPermutation (λ (e : Pair). same_term y e.right) next (pairs graph p (Some u) None) h) ∙ right_in y next m
+  pub stepped : (u y : Term) (next : List Pair) → SameBag next (f (Some u) None) → Mem y (rights next) → is_step f u y ≡ true
+  stepped u y next h m = sym (list_any-IsPermutation (λ (e : Pair). same_term y e.right) next (f (Some u) None) h) ∙ right_in y next m
 
-  pub steps : (u y : Term) (next : List Pair) → SameBag next (pairs graph p (Some u) None) → is_step (pairs graph p) u y ≡ true → Mem y (rights next)
-  steps u y next h m = in_right y next (list_any-IsPermutation (λ (e : Pair). same_term y e.right) next (pairs graph p (Some u) None) h ∙ m)
+  pub steps : (u y : Term) (next : List Pair) → SameBag next (f (Some u) None) → is_step f u y ≡ true → Mem y (rights next)
+  steps u y next h m = in_right y next (list_any-IsPermutation (λ (e : Pair). same_term y e.right) next (f (Some u) None) h ∙ m)
 
-  inside : (repetition : Repetition) (y : Term) → Reaches repetition y → Mem y cs
+  pub inside : (repetition : Repetition) (y : Term) → Reaches repetition y → Mem y cs
   inside ZeroOrOne y h =
       elim (or_cases (same_term x y) (step x y) h) [
         | inl s ↦ mem_at x y cs ((same_term-Decides x y).0 s) (start_candidate graph x)
-        | inr s ↦ candidates_closed graph p x x y (start_candidate graph x) s
+        | inr s ↦ candidates_closed graph f tied x x y (start_candidate graph x) s
       ]
   inside ZeroOrMore y h =
       elim (or_cases (same_term x y) (leads step cs x y) h) [
         | inl s ↦ mem_at x y cs ((same_term-Decides x y).0 s) (start_candidate graph x)
-        | inr s ↦ leads_inside step cs (candidates_closed graph p x) cs x y (λ d m. m) (start_candidate graph x) s
+        | inr s ↦ leads_inside step cs (candidates_closed graph f tied x) cs x y (λ d m. m) (start_candidate graph x) s
       ]
-  inside OneOrMore y h = leads_inside step cs (candidates_closed graph p x) cs x y (λ d m. m) (start_candidate graph x) h
+  inside OneOrMore y h = leads_inside step cs (candidates_closed graph f tied x) cs x y (λ d m. m) (start_candidate graph x) h
 
   -- a list that has exactly what is led to is the bag of the ends
-  ends_bag : (repetition : Repetition) (terms : List Term) → Distinct same_term terms → ((y : Term) → Mem y terms → Reaches repetition y) → ((y : Term) → Reaches repetition y → Mem y terms) → SameBag terms (ends repetition (is_step (pairs graph p)) graph x)
+  ends_bag : (repetition : Repetition) (terms : List Term) → Distinct same_term terms → ((y : Term) → Mem y terms → Reaches repetition y) → ((y : Term) → Reaches repetition y → Mem y terms) → SameBag terms (ends repetition (is_step f) graph x)
   ends_bag repetition terms d sound complete =
       same_bag same_term same_term-Decides terms (ends repetition step graph x) d
       (distinct_filter same_term same_term-Decides (repeats repetition step cs x) cs (distinct_once same_term same_term-Decides (x ∷ nodes_of graph)))
@@ -114,7 +113,7 @@ module _ (graph : Graph) (p : Path) (x : Term) where
   mem_holds terms test y h m = sym (h.1 y) ∙ mem_in same_term same_term-Decides y terms m
 
   -- `?` needs no search
-  pub optional_ends : (terms : List Term) → Holds terms (begins ZeroOrOne (is_step (pairs graph p)) x) → SameBag terms (ends ZeroOrOne (is_step (pairs graph p)) graph x)
+  pub optional_ends : (terms : List Term) → Holds terms (begins ZeroOrOne (is_step f) x) → SameBag terms (ends ZeroOrOne (is_step f) graph x)
   optional_ends terms h = ends_bag ZeroOrOne terms h.0 (λ y m. mem_holds terms _ y h m) (λ y r. holds_mem terms _ y h r)
 
   -- what holds between two passes: the terms at places below `at` were gone on from
@@ -122,15 +121,15 @@ module _ (graph : Graph) (p : Path) (x : Term) where
     pub within : at ≤ length terms
     pub distinct : Distinct same_term terms
     pub sound : (y : Term) → Mem y terms → Reaches repetition y
-    pub first : (y : Term) → begins repetition (is_step (pairs graph p)) x y ≡ true → Mem y terms
-    pub closed : (u y : Term) → Mem u (take at terms) → is_step (pairs graph p) u y ≡ true → Mem y terms
+    pub first : (y : Term) → begins repetition (is_step f) x y ≡ true → Mem y terms
+    pub closed : (u y : Term) → Mem u (take at terms) → is_step f u y ≡ true → Mem y terms
 
   begin_sound : (repetition : Repetition) (y : Term) → begins repetition step x y ≡ true → Reaches repetition y
   begin_sound ZeroOrOne y h = h
   begin_sound ZeroOrMore y h = or_left (same_term x y) (leads step cs x y) h
   begin_sound OneOrMore y h = leads_one step cs x y h
 
-  pub search_begins : (repetition : Repetition) (terms : List Term) → Holds terms (begins repetition (is_step (pairs graph p)) x) → Searching repetition terms 0
+  pub search_begins : (repetition : Repetition) (terms : List Term) → Holds terms (begins repetition (is_step f) x) → Searching repetition terms 0
   search_begins repetition terms h = record {
     within = omega arith;
     distinct = h.0;
@@ -155,7 +154,7 @@ module _ (graph : Graph) (p : Path) (x : Term) where
   mem_take : (n : ℕ) (u : Term) (terms : List Term) → Mem u (take n terms) → Mem u terms
   mem_take n u terms m = subst (λ (l : List Term). Mem u l) (take-append-drop n terms) (mem_left u (take n terms) (drop n terms) m)
 
-  pub search_on : (repetition : Repetition) (terms terms' : List Term) (at : ℕ) (u : Term) (next : List Pair) → repetition ≢ ZeroOrOne → Searching repetition terms at → at < length terms → u ≡ get_or terms at u → SameBag next (pairs graph p (Some u) None) → terms' ≡ with_all terms (rights next) → Searching repetition terms' (at + 1)
+  pub search_on : (repetition : Repetition) (terms terms' : List Term) (at : ℕ) (u : Term) (next : List Pair) → repetition ≢ ZeroOrOne → Searching repetition terms at → at < length terms → u ≡ get_or terms at u → SameBag next (f (Some u) None) → terms' ≡ with_all terms (rights next) → Searching repetition terms' (at + 1)
   search_on repetition terms terms' at u next ne was lt is h e =
       let extended : (zs : List Term) × (with_all terms (rights next) ≡ terms ++ zs) =
       let w = members.extends_with_all same_term same_term-Decides terms (rights next) in (w.0, all_is terms (rights next) ∙ w.1) in
@@ -187,7 +186,7 @@ module _ (graph : Graph) (p : Path) (x : Term) where
   search_room repetition terms at was =
       no_longer same_term same_term-Decides terms cs was.distinct (λ y m. inside repetition y (was.sound y m))
 
-  pub search_ends : (repetition : Repetition) (terms : List Term) (at : ℕ) → repetition ≢ ZeroOrOne → Searching repetition terms at → length terms ≤ at → SameBag terms (ends repetition (is_step (pairs graph p)) graph x)
+  pub search_ends : (repetition : Repetition) (terms : List Term) (at : ℕ) → repetition ≢ ZeroOrOne → Searching repetition terms at → length terms ≤ at → SameBag terms (ends repetition (is_step f) graph x)
   search_ends repetition terms at ne was le = ends_bag repetition terms was.distinct was.sound (complete repetition ne was.first)
     where
       all : take at terms ≡ terms
@@ -211,7 +210,7 @@ module _ (graph : Graph) (p : Path) (x : Term) where
           by (u ∷ us) k w = go u y us (first u w.0) w.1
 
   -- before the search
-  pub begun_both : (repetition : Repetition) (next : List Pair) (es : List Pair) (t0 t1 t2 : List Term) → repetition ≡ ZeroOrOne → t0 ≡ [] → t1 ≡ with_new same_term t0 x → SameBag next (pairs graph p (Some x) None) → es ≡ next → t2 ≡ with_all t1 (rights es) → Holds t2 (begins repetition (is_step (pairs graph p)) x)
+  pub begun_both : (repetition : Repetition) (next : List Pair) (es : List Pair) (t0 t1 t2 : List Term) → repetition ≡ ZeroOrOne → t0 ≡ [] → t1 ≡ with_new same_term t0 x → SameBag next (f (Some x) None) → es ≡ next → t2 ≡ with_all t1 (rights es) → Holds t2 (begins repetition (is_step f) x)
   begun_both repetition next es t0 t1 t2 is e f h s g =
       subst (λ (r : Repetition). Holds t2 (begins r step x)) (sym is)
       (subst (λ (l : List Term). Holds l (begins ZeroOrOne step x)) (sym (g ∙ (ap (λ l. with_all l (rights es)) (f ∙ ap (λ l. with_new same_term l x) e) ∙ ap (λ l. with_all (x ∷ []) (rights l)) s))) (
@@ -232,7 +231,7 @@ module _ (graph : Graph) (p : Path) (x : Term) where
             ]))),
       ))
 
-  pub begun_steps : (repetition : Repetition) (next : List Pair) (es : List Pair) (t0 t2 : List Term) → repetition ≡ OneOrMore → t0 ≡ [] → SameBag next (pairs graph p (Some x) None) → es ≡ next → t2 ≡ with_all t0 (rights es) → Holds t2 (begins repetition (is_step (pairs graph p)) x)
+  pub begun_steps : (repetition : Repetition) (next : List Pair) (es : List Pair) (t0 t2 : List Term) → repetition ≡ OneOrMore → t0 ≡ [] → SameBag next (f (Some x) None) → es ≡ next → t2 ≡ with_all t0 (rights es) → Holds t2 (begins repetition (is_step f) x)
   begun_steps repetition next es t0 t2 is e h s g =
       subst (λ (r : Repetition). Holds t2 (begins r step x)) (sym is)
       (subst (λ (l : List Term). Holds l (begins OneOrMore step x)) (sym (g ∙ (ap (λ l. with_all l (rights es)) e ∙ ap (λ l. with_all [] (rights l)) s))) (
@@ -247,7 +246,7 @@ module _ (graph : Graph) (p : Path) (x : Term) where
             (λ k. mem_in same_term same_term-Decides y (with_all [] (rights next)) (with_all_has y [] (rights next) (inr (steps x y next h k)))),
       ))
 
-  pub optional_at : (repetition : Repetition) (terms ts : List Term) → repetition ≡ ZeroOrOne → ts ≡ terms → Holds terms (begins repetition (is_step (pairs graph p)) x) → SameBag ts (ends repetition (is_step (pairs graph p)) graph x)
+  pub optional_at : (repetition : Repetition) (terms ts : List Term) → repetition ≡ ZeroOrOne → ts ≡ terms → Holds terms (begins repetition (is_step f) x) → SameBag ts (ends repetition (is_step f) graph x)
   optional_at repetition terms ts is e h =
       subst (λ (r : Repetition). SameBag ts (ends r step graph x)) (sym is)
       (subst (λ (l : List Term). SameBag l (ends ZeroOrOne step graph x)) (sym e)
@@ -256,5 +255,5 @@ module _ (graph : Graph) (p : Path) (x : Term) where
   pub search_falls : (repetition : Repetition) (terms : List Term) (at : ℕ) → Searching repetition terms at → at < length terms → length (candidates graph x) - (at + 1) < length (candidates graph x) - at
   search_falls repetition terms at was lt = let room = search_room repetition terms at was in omega arith
 
-  pub search_result : (repetition : Repetition) (terms ts : List Term) (at : ℕ) → repetition ≢ ZeroOrOne → Searching repetition terms at → length terms ≤ at → ts ≡ terms → SameBag ts (ends repetition (is_step (pairs graph p)) graph x)
+  pub search_result : (repetition : Repetition) (terms ts : List Term) (at : ℕ) → repetition ≢ ZeroOrOne → Searching repetition terms at → length terms ≤ at → ts ≡ terms → SameBag ts (ends repetition (is_step f) graph x)
   search_result repetition terms ts at ne was le e = subst (λ (l : List Term). SameBag l (ends repetition step graph x)) (sym e) (search_ends repetition terms at ne was le)
