@@ -1,0 +1,9 @@
+pub mod Equations
+pub mod Flags
+pub mod Strings
+pub mod Joining
+pub mod Steps
+pub mod Chains
+pub mod Arms
+pub mod Rows
+pub mod Words

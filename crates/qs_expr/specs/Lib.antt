@@ -1,0 +1,9 @@
+pub mod Truth
+pub mod Calls
+pub mod Meaning
+pub mod Makes
+pub mod Mentions
+pub mod Comes
+pub mod Joined
+pub mod SoFar
+pub mod Words

@@ -1,0 +1,27 @@
+//! Expressions of the algebra and what they mean in a solution (SPARQL 1.1 Query, 17).
+//!
+//! Variables have numbers, and chains are lists, so that no tree is deeper than the brackets of its text. `value` evaluates an
+//! expression over anything that gives variables their terms (`Bindings`); it makes no term, and takes memory for CONCAT alone. `eval`
+//! makes the term, `truth` is the effective boolean value, `holds` what FILTER asks, and `order_key` what ORDER BY sorts by.
+//!
+//! The definitions stand in `specs/`: truth with errors in `Truth.antt`, calls in `Calls.antt`, expressions in `Meaning.antt`, which
+//! ones take memory in `Makes.antt`, which variables they name in `Mentions.antt`; how answers stand to what is due in `Comes.antt`.
+#![tactic(auto)]
+
+mod bindings;
+mod call;
+mod evaluate;
+mod expr;
+mod fault;
+mod joined;
+pub mod laws;
+mod make;
+mod operator;
+mod relation;
+
+pub use bindings::Bindings;
+pub use evaluate::{truth, value};
+pub use expr::{Addend, Expr};
+pub use fault::ExprFault;
+pub use make::{ebv, eval, holds, order_key};
+pub use operator::{BinaryFunction, Comparison, Sign, UnaryFunction};

@@ -1,0 +1,7 @@
+pub mod Numbers
+pub mod Terms
+pub mod Texts
+pub mod Ranges
+pub mod Keys
+pub mod Lawful
+pub mod Rows

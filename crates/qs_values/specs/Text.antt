@@ -1,0 +1,24 @@
+-- Texts in texts, and language ranges.
+use Rattle.std.specs.Prelude.{ℕ, Bool, false, ◌||◌, List, [], ◌∷◌, ◌++◌, codes, nat_eq}
+use Rattle.std.specs.List.{starts_with}
+use Rattle.std.specs.Str.{bytes_eq}
+use Rattle.qs_terms.specs.Tag.{lowered}
+
+-- the needle stands somewhere in the text
+abbrev pub stands_in : List ℕ → List ℕ → Bool
+stands_in needle [] = starts_with nat_eq [] needle
+stands_in needle (c ∷ cs) = starts_with nat_eq (c ∷ cs) needle || stands_in needle cs
+
+-- `*` matches each tag that has something
+abbrev pub is_any_range : List ℕ → List ℕ → Bool
+is_any_range range [] = false
+is_any_range range (c ∷ tag) = bytes_eq range (codes "*")
+
+-- the tag begins with the range, which has something, and `-`
+abbrev pub begins_with_range : List ℕ → List ℕ → Bool
+begins_with_range [] tag = false
+begins_with_range (c ∷ range) tag = starts_with nat_eq tag ((c ∷ range) ++ codes "-")
+
+-- basic filtering: the range and the tag are the same but for case, or the range is a front of the tag's subtags (RFC 4647, 3.3.1)
+abbrev pub matches_range : List ℕ → List ℕ → Bool
+matches_range range tag = is_any_range range tag || (bytes_eq (lowered tag) (lowered range) || begins_with_range (lowered range) (lowered tag))
