@@ -67,10 +67,29 @@ fn are_graphs_found(index: &Index) -> bool {
     true
 }
 
-/// Whether all entries are found, and one is taken out.
+/// Whether the entries are counted, known and estimated.
+fn are_known(index: &Index) -> bool {
+    index.len() == 4
+        && index.contains(&A)
+        && !index.contains(&[1, 2, 3, 5])
+        && index.estimate(1, None, None, None) == 3
+        && index.estimate(1, Some(2), Some(3), Some(4)) == 1
+        && index.estimate(2, None, None, None) == 0
+}
+
+/// Whether two entries, and one that isn't there, are taken out at once.
+fn are_removed(index: &mut Index) -> bool {
+    index.remove_all(&mut [A, C, [7, 7, 7, 7]]);
+    index.len() == 2 && hands_out(index.entries(), &[B, D])
+}
+
+/// Whether all entries are found, and one is taken out, and then more.
 fn is_whole(index: &mut Index) -> bool {
     are_found(index)
         && are_graphs_found(index)
+        && are_known(index)
+        && hands_out(index.entries(), &[C, B, A, D])
+        && are_removed(index)
         && index.remove(D)
         && !index.remove(D)
         && index.next_graph(1).is_none()

@@ -16,6 +16,8 @@ mod growth;
 #[cfg(test)]
 mod index;
 #[cfg(test)]
+mod looks;
+#[cfg(test)]
 mod outcome;
 #[cfg(test)]
 mod terms;

@@ -1,0 +1,56 @@
+//! How many entries a scan looks at, in indexes of four sizes.
+
+use qs_index::{Index, Scan};
+use std::alloc::{AllocError, Global};
+
+/// Sizes of an index, how many entries have its first predicate, and how many entries a scan looks at besides those that it hands out,
+/// at most.
+const BOUNDS: &[(u32, u32, u128)] = &[(1, 1, 4), (256, 16, 20), (257, 17, 20), (65_536, 4_096, 36)];
+
+/// `size` entries of graph 0: sixteen objects a subject.
+fn entries(alloc: Global, size: u32) -> Result<Vec<[u32; 4]>, AllocError> {
+    let mut entries = Vec::new(alloc);
+    for i in 0..size {
+        entries.push([0, i / 16, i % 16, i])?;
+    }
+    Ok(entries)
+}
+
+fn fill(index: &mut Index, size: u32, alloc: Global) -> Result<(), AllocError> {
+    let mut entries = entries(alloc, size)?;
+    index.reserve(entries.len() as u64)?;
+    index.insert_all(&mut entries);
+    Ok(())
+}
+
+/// Whether a scan hands out so many entries, and looks at few others.
+fn looks_at_few(mut scan: Scan<'_>, handed: u32, bound: u128) -> bool {
+    for _step in 0..handed {
+        if scan.next().is_none() {
+            return false;
+        }
+    }
+    scan.next().is_none() && scan.looked().saturating_sub(u128::from(handed)) <= bound
+}
+
+/// Whether scans of all, of one predicate, of one entry and of nothing look at few entries.
+fn are_few(index: &Index, size: u32, first: u32, bound: u128) -> bool {
+    looks_at_few(index.scan(0, None, None, None), size, bound)
+        && looks_at_few(index.scan(0, None, Some(0), None), first, bound)
+        && looks_at_few(index.scan(0, Some(0), Some(0), Some(0)), 1, bound)
+        && looks_at_few(index.scan(1, None, None, None), 0, bound)
+}
+
+fn is_bound(alloc: Global, size: u32, first: u32, bound: u128) -> bool {
+    let mut index = Index::new(alloc);
+    let is_few = fill(&mut index, size, alloc).is_ok() && are_few(&index, size, first, bound);
+    drop(index);
+    is_few
+}
+
+#[test]
+fn scans_look_at_few_entries(rt: HostRuntime) {
+    for (size, first, bound) in BOUNDS {
+        assert!(rt; is_bound(rt.alloc(), *size, *first, *bound));
+    }
+}
