@@ -3,5 +3,6 @@ pub mod Terms
 pub mod Texts
 pub mod Ranges
 pub mod Keys
+pub mod KeyOrder
 pub mod Lawful
 pub mod Rows

@@ -11,6 +11,7 @@
 
 mod datatype;
 mod key;
+pub mod laws;
 mod make;
 mod number;
 mod same;
