@@ -65,7 +65,7 @@ def made_of(root, crates):
 
 def seconds(root, crate):
     """Returns about how many seconds the check of a crate takes, as scripts/seconds.txt has it, or else by its code."""
-    with open(f"{root}/scripts/seconds.txt", encoding="utf-8") as it:
+    with open(f"{os.path.dirname(os.path.abspath(__file__))}/seconds.txt", encoding="utf-8") as it:
         for line in it:
             name, _, count = line.partition(" ")
             if name == crate:
