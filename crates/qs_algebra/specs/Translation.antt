@@ -1,7 +1,9 @@
--- The pattern of a group (SPARQL 1.1 Query, 18.2.2, simplified as in 18.2.2.8): its parts are joined from left to right. What has no
--- line of its own here has no meaning yet.
-use Rattle.std.specs.Prelude.{List, [], ◌∷◌, Option, Some, None, Ok, Err}
+-- The pattern of a group (SPARQL 1.1 Query, 18.2.2, simplified as in 18.2.2.8): what its steps make of the empty solution, in the
+-- order of the text. What has no line of its own here has no meaning yet.
+use Rattle.std.specs.Prelude.{ℕ, List, [], ◌∷◌, map, Option, Some, None, Ok, Err}
+use Rattle.qs_terms.specs.Outcome.{Outcome, and_then, all}
 use Rattle.qs_terms.specs.declared.fault.QFault.TheVariants.{Later}
+use Rattle.qs_terms.specs.declared.term.Term.TheVariants as value
 use Rattle.qs_ast.specs.declared.expression.Expression.{Expression}
 use Rattle.qs_ast.specs.declared.pattern.Group.{Group, fold-Group}
 use Rattle.qs_ast.specs.declared.pattern.GraphPattern.{GraphPattern, fold-GraphPattern}
@@ -11,12 +13,19 @@ use Rattle.qs_ast.specs.declared.pattern.Triple.{Triple}
 use Rattle.qs_ast.specs.declared.query.Query.{Query}
 use Rattle.qs_ast.specs.declared.query.QueryForm.{QueryForm}
 use Rattle.qs_ast.specs.declared.query.QueryForm.TheVariants as form
+use Rattle.qs_ast.specs.declared.term.Variable.{Variable}
+use Rattle.qs_ast.specs.declared.term.VarOrIri.{VarOrIri}
+use Rattle.qs_ast.specs.declared.term.VarOrIri.TheVariants as name
 use Rattle.qs_scope.specs.Firsts.{names_of}
 use Rattle.qs_scope.specs.Names.{Name}
+use Rattle.qs_scope.specs.Places.{place_of}
 use Rattle.qs_patterns.specs.declared.pattern.Pattern.{Pattern}
 use Rattle.qs_patterns.specs.declared.pattern.Pattern.TheVariants as pattern
+use Rattle.qs_patterns.specs.declared.pattern.Pattern.TheOpen as level
+use Rattle.qs_patterns.specs.declared.pattern.Step.{Step, out-Step}
+use Rattle.qs_patterns.specs.declared.pattern.Step.TheVariants as step
+use Rattle.qs_patterns.specs.declared.pattern.Table.{Table}
 use Rattle.qs_algebra.specs.Basic.{basic_pattern}
-use Rattle.qs_terms.specs.Outcome.{Outcome, and_then, all}
 
 -- one group, or a union of groups
 abbrev pub one_or_union : List Pattern → Pattern
@@ -24,35 +33,62 @@ one_or_union [] = pattern.Union []
 one_or_union (part ∷ []) = part
 one_or_union (part ∷ second ∷ parts) = pattern.Union (part ∷ second ∷ parts)
 
--- no pattern, one, or several that are joined from left to right
-abbrev pub none_one_or_join : List Pattern → Pattern
-none_one_or_join [] = pattern.Basic (record { triples = []; hidden = 0 })
-none_one_or_join (part ∷ []) = part
-none_one_or_join (part ∷ second ∷ parts) = pattern.Join (part ∷ second ∷ parts)
+-- the graph of a name, or each graph
+abbrev pub in_graph : List Name → VarOrIri → Pattern → Pattern
+in_graph names (name.Variable v) part = pattern.EachGraph (place_of names v.name) part
+in_graph names (name.Iri i) part = pattern.Graph (value.Iri i) part
 
-abbrev pub pattern_level : List Name → GraphPattern-F (Outcome Pattern) (Outcome Pattern) → Outcome Pattern
-pattern_level names (Triples triples) = and_then (basic_pattern names triples) (λ basic. Ok (pattern.Basic basic))
-pattern_level names (Union groups) = and_then (all groups) (λ parts. Ok (one_or_union parts))
-pattern_level names (Optional group) = Err Later
-pattern_level names (Minus group) = Err Later
-pattern_level names (Graph name group) = Err Later
-pattern_level names (Bind value variable) = Err Later
-pattern_level names (Values table) = Err Later
+-- the number of a variable
+abbrev pub number_of : List Name → Variable → ℕ
+number_of names v = place_of names v.name
 
-abbrev pub without_filters : List Expression → Outcome Pattern → Outcome Pattern
-without_filters [] whole = whole
-without_filters (filter ∷ filters) whole = Err Later
+-- the table of VALUES
+abbrev pub table_of : List Name → InlineData → Table
+table_of names table = record { variables = map (number_of names) table.variables; rows = table.rows }
 
-abbrev pub group_level : List Name → Group-F (Outcome Pattern) (Outcome Pattern) → Outcome Pattern
-group_level names group = without_filters group.filters (and_then (all group.patterns) (λ parts. Ok (none_one_or_join parts)))
+-- ---- the steps of a group, and the group that is closed behind them
+
+-- the only step of a group: a pattern that is joined to the empty solution alone is that pattern
+abbrev pub alone : Step → level.Step-F Pattern Step → Pattern
+alone s (level.Join part) = part
+alone s (level.LeftJoin part) = pattern.Group (s ∷ [])
+alone s (level.Minus part) = pattern.Group (s ∷ [])
+
+abbrev pub closed : List Step → Pattern
+closed [] = pattern.Group []
+closed (s ∷ []) = alone s (out-Step s)
+closed (s ∷ t ∷ more) = pattern.Group (s ∷ t ∷ more)
+
+abbrev pub then_closed : Outcome (List Step) → Outcome Pattern
+then_closed steps = and_then steps (λ all_steps. Ok (closed all_steps))
+
+abbrev pub step_level : List Name → GraphPattern-F (Outcome Step) (Outcome (List Step)) → Outcome Step
+step_level names (Triples triples) = and_then (basic_pattern names triples) (λ basic. Ok (step.Join (pattern.Basic basic)))
+step_level names (Union groups) = and_then (all (map then_closed groups)) (λ parts. Ok (step.Join (one_or_union parts)))
+step_level names (Optional group) = and_then (then_closed group) (λ part. Ok (step.LeftJoin part))
+step_level names (Minus group) = and_then (then_closed group) (λ part. Ok (step.Minus part))
+step_level names (Graph graph group) = and_then (then_closed group) (λ part. Ok (step.Join (in_graph names graph part)))
+step_level names (Bind value variable) = Err Later
+step_level names (Values table) = Ok (step.Join (pattern.Values (table_of names table)))
+
+abbrev pub without_filters : List Expression → Outcome (List Step) → Outcome (List Step)
+without_filters [] steps = steps
+without_filters (filter ∷ filters) steps = Err Later
+
+abbrev pub group_level : List Name → Group-F (Outcome Step) (Outcome (List Step)) → Outcome (List Step)
+group_level names group = without_filters group.filters (all group.patterns)
+
+-- the steps of a group
+abbrev pub group_steps : List Name → Group → Outcome (List Step)
+group_steps names = fold-Group (Outcome Step) (Outcome (List Step)) (step_level names) (group_level names)
+
+-- the step that a part of a group is
+abbrev pub step_of : List Name → GraphPattern → Outcome Step
+step_of names = fold-GraphPattern (Outcome Step) (Outcome (List Step)) (step_level names) (group_level names)
 
 -- the pattern of a group
 abbrev pub group_pattern : List Name → Group → Outcome Pattern
-group_pattern names = fold-Group (Outcome Pattern) (Outcome Pattern) (pattern_level names) (group_level names)
-
--- the pattern of a part of a group
-abbrev pub part : List Name → GraphPattern → Outcome Pattern
-part names = fold-GraphPattern (Outcome Pattern) (Outcome Pattern) (pattern_level names) (group_level names)
+group_pattern names group = then_closed (group_steps names group)
 
 -- the pattern of a query: that of its WHERE, which in a short CONSTRUCT is its template (16.2.4)
 abbrev pub template_or_group : List Name → List Triple → Option Group → Outcome Pattern
@@ -64,11 +100,12 @@ form_pattern names (form.Select select) = group_pattern names select.pattern
 form_pattern names (form.Construct construct) = template_or_group names construct.template construct.pattern
 form_pattern names (form.Ask ask) = group_pattern names ask.pattern
 
--- a trailing VALUES has no meaning yet
-abbrev pub without_table : Option InlineData → Outcome Pattern → Outcome Pattern
-without_table None whole = whole
-without_table (Some table) whole = Err Later
+-- joined with the trailing VALUES, if there is one (18.2.4.3)
+abbrev pub with_table : List Name → Option InlineData → Outcome Pattern → Outcome Pattern
+with_table names None whole = whole
+with_table names (Some table) whole =
+    and_then whole (λ part. Ok (pattern.Group (step.Join part ∷ step.Join (pattern.Values (table_of names table)) ∷ [])))
 
 -- the pattern of a query, whose variables have the numbers of their places in its list
 abbrev pub translated : Query → Outcome Pattern
-translated query = without_table query.values (form_pattern (names_of query.variables) query.form)
+translated query = with_table (names_of query.variables) query.values (form_pattern (names_of query.variables) query.form)

@@ -4,6 +4,7 @@
 mod basic;
 mod hidden;
 mod query;
+mod table;
 mod translation;
 
 pub use query::translate;

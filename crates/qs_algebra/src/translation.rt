@@ -1,32 +1,39 @@
 //! Groups as patterns of the algebra (SPARQL 1.1 Query, 18.2.2).
 
-ghost use Rattle.std.specs.Prelude.{◌≡◌, map};
+ghost use Rattle.std.specs.Prelude.{◌≡◌, map, IfOk};
 ghost use Rattle.qs_terms.specs.Outcome.{OrWantOfMemory, all};
 ghost use Rattle.qs_algebra.specs.Translation as spec;
 
 use crate::basic::basic_pattern;
+use crate::table::table_of;
 use qs_ast::pattern::{GraphPattern, Group};
-use qs_patterns::{BasicPattern, Pattern};
+use qs_ast::term::VarOrIri;
+use qs_patterns::{Pattern, Step};
 use qs_scope::Seen;
-use qs_terms::QFault;
-use sqlite_items::Items;
-use std::alloc::Global;
+use qs_terms::{QFault, Term};
+use sqlite_items::{Boxed, Items};
+use std::alloc::{AllocError, Global};
 
-fn none_one_or_join(alloc: Global, mut parts: Items<Pattern>) -> Pattern
-    ensures { result ≡ spec.none_one_or_join parts }
+/// A group that is closed behind its last step. One pattern that is joined to the empty solution alone is that pattern.
+#[tactic(auto, using(crate::proofs::Alone::join, crate::proofs::Alone::left_join, crate::proofs::Alone::minus))]
+fn closed(mut steps: Items<Step>) -> Result<Pattern, AllocError>
+    ensures { IfOk result (λ p. p ≡ spec.closed steps) }
 {
-    if parts.is_empty() {
-        return Pattern::Basic(BasicPattern {
-            triples: Items::new(alloc),
-            hidden: 0,
-        });
+    if steps.len() != 1 {
+        return Ok(Pattern::Group(steps));
     }
-    if parts.len() == 1 {
-        if let Some(part) = parts.pop() {
-            return part;
+    match steps.pop() {
+        Some(Step::Join(part)) => Ok(part),
+        Some(Step::LeftJoin(part)) => {
+            steps.push(Step::LeftJoin(part))?;
+            Ok(Pattern::Group(steps))
         }
+        Some(Step::Minus(part)) => {
+            steps.push(Step::Minus(part))?;
+            Ok(Pattern::Group(steps))
+        }
+        None => Ok(Pattern::Group(steps)),
     }
-    Pattern::Join(parts)
 }
 
 fn one_or_union(mut parts: Items<Pattern>) -> Pattern
@@ -40,6 +47,27 @@ fn one_or_union(mut parts: Items<Pattern>) -> Pattern
     Pattern::Union(parts)
 }
 
+/// The pattern in the graph of the name, or in each graph.
+fn in_graph<'a>(
+    alloc: Global,
+    names: &Seen<'a>,
+    name: &'a VarOrIri,
+    part: Pattern,
+) -> Result<Pattern, AllocError>
+    ensures { IfOk result (λ p. p ≡ spec.in_graph names.now name.now part) }
+{
+    let part = Boxed::new(alloc, part)?;
+    match name {
+        VarOrIri::Variable(variable) => {
+            Ok(Pattern::EachGraph(names.place(&variable.name), part))
+        }
+        VarOrIri::Iri(iri) => {
+            let name = iri.try_clone(alloc)?;
+            Ok(Pattern::Graph(Term::Iri(name), part))
+        }
+    }
+}
+
 /// The pattern of a group, where `names` are the names of the variables in the order of their numbers.
 #[cycle(group)]
 pub fn group_pattern<'a>(
@@ -49,43 +77,68 @@ pub fn group_pattern<'a>(
 ) -> Result<Pattern, QFault>
     ensures { OrWantOfMemory (spec.group_pattern names.now group.now) result }
 {
+    let steps = group_steps(alloc, names, group)?;
+    let pattern = closed(steps)?;
+    Ok(pattern)
+}
+
+#[cycle(group)]
+fn group_steps<'a>(alloc: Global, names: &Seen<'a>, group: &'a Group) -> Result<Items<Step>, QFault>
+    ensures { OrWantOfMemory (spec.group_steps names.now group.now) result }
+{
     if !group.filters.is_empty() {
         return Err(QFault::Later);
     }
-    let parts = parts(alloc, names, group.patterns.as_slice())?;
-    Ok(none_one_or_join(alloc, parts))
+    steps(alloc, names, group.patterns.as_slice())
 }
 
 #[cycle(group)]
-fn parts<'a>(
+fn steps<'a>(
     alloc: Global,
     names: &Seen<'a>,
     patterns: &'a [GraphPattern],
-) -> Result<Items<Pattern>, QFault>
-    ensures { OrWantOfMemory (all (map (spec.part names.now) patterns.now)) result }
+) -> Result<Items<Step>, QFault>
+    ensures { OrWantOfMemory (all (map (spec.step_of names.now) patterns.now)) result }
 {
-    let mut parts = Items::new(alloc);
+    let mut steps = Items::new(alloc);
     for pattern in patterns {
-        let part = part(alloc, names, pattern)?;
-        parts.push(part)?;
+        let step = step(alloc, names, pattern)?;
+        steps.push(step)?;
     }
-    Ok(parts)
+    Ok(steps)
 }
 
 #[cycle(group)]
-fn part<'a>(alloc: Global, names: &Seen<'a>, pattern: &'a GraphPattern) -> Result<Pattern, QFault>
-    ensures { OrWantOfMemory (spec.part names.now pattern.now) result }
+fn step<'a>(alloc: Global, names: &Seen<'a>, pattern: &'a GraphPattern) -> Result<Step, QFault>
+    ensures { OrWantOfMemory (spec.step_of names.now pattern.now) result }
 {
     match pattern {
         GraphPattern::Triples(triples) => {
             let basic = basic_pattern(alloc, names, triples.as_slice())?;
-            Ok(Pattern::Basic(basic))
+            Ok(Step::Join(Pattern::Basic(basic)))
         }
         GraphPattern::Union(groups) => {
             let parts = operands(alloc, names, groups.as_slice())?;
-            Ok(one_or_union(parts))
+            Ok(Step::Join(one_or_union(parts)))
         }
-        _ => Err(QFault::Later),
+        GraphPattern::Optional(group) => {
+            let part = group_pattern(alloc, names, group)?;
+            Ok(Step::LeftJoin(part))
+        }
+        GraphPattern::Minus(group) => {
+            let part = group_pattern(alloc, names, group)?;
+            Ok(Step::Minus(part))
+        }
+        GraphPattern::Graph(name, group) => {
+            let part = group_pattern(alloc, names, group)?;
+            let part = in_graph(alloc, names, name, part)?;
+            Ok(Step::Join(part))
+        }
+        GraphPattern::Values(table) => {
+            let table = table_of(alloc, names, table)?;
+            Ok(Step::Join(Pattern::Values(table)))
+        }
+        GraphPattern::Bind(_, _) => Err(QFault::Later),
     }
 }
 

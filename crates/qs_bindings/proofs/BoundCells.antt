@@ -1,10 +1,10 @@
 -- Which variables solutions bind, through the operators of the algebra and through all maps.
-use Rattle.std.proofs.Common.{◌≡◌, ℕ, zero, suc, ◌+◌, ◌≤◌, ◌<◌, Bool, true, false, cond, if◌then◌else◌, List, [], ◌∷◌, ◌++◌, map, take, Option, Some, None, IsSome, refl, sym, ap, subst, ◌∙◌, arith}
-use Rattle.std.specs.List.{AllByRecursion, filter, flat_map}
+use Rattle.std.proofs.Common.{◌≡◌, ℕ, zero, suc, ◌+◌, ◌≤◌, ◌<◌, Bool, true, false, cond, if◌then◌else◌, not, List, [], ◌∷◌, ◌++◌, map, take, Option, Some, None, IsSome, refl, sym, ap, subst, ◌∙◌, arith}
+use Rattle.std.specs.List.{AllByRecursion, filter, flat_map, list_any}
 use Rattle.std.proofs.lemmas.List.{get_or-take}
 use Rattle.qs_terms.specs.declared.term.Term.{Term}
 use Rattle.qs_solutions.specs.Solution.{Solution, term_at, unbound, compatible, first_bound, merge}
-use Rattle.qs_solutions.specs.Operators.{merges, join}
+use Rattle.qs_solutions.specs.Operators.{merges, join, or_alone, left_join, excludes, minus}
 use Rattle.qs_patterns.specs.Basic.{all_maps}
 
 abbrev pub Bound : ℕ → Solution → Type 0
@@ -89,6 +89,29 @@ module _ (v : ℕ) (left right : List Solution) where
   join_neither h k = each_flat_map (Unbound v) (Unbound v) (merges right) (λ a e.
       each_map (Unbound v) (Unbound v) (merge a) (λ b f. merge_at a b v ∙ first_neither (term_at a v) (term_at b v) e f)
       (filter (compatible a) right) (each_filter (Unbound v) (compatible a) right k)) left h
+
+  -- ---- optional and minus
+
+  alone_each : (P : Solution → Type 0) (a : Solution) (ms : List Solution) → P a → AllByRecursion P ms → AllByRecursion P (or_alone a ms)
+  alone_each P a [] h k = (h, tt)
+  alone_each P a (m ∷ ms) h k = k
+
+  pub left_join_left : (holds : Solution → Bool) → AllByRecursion (Bound v) left → AllByRecursion (Bound v) (left_join holds left right)
+  left_join_left holds = each_flat_map (Bound v) (Bound v) (λ a. or_alone a (filter holds (merges right a))) (λ a h.
+      alone_each (Bound v) a (filter holds (merges right a)) h
+      (each_filter (Bound v) holds (merges right a)
+      (each_map (λ m. m ≡ m) (Bound v) (merge a) (λ b e. subst IsSome (sym (merge_at a b v)) (first_left (term_at a v) (term_at b v) h))
+      (filter (compatible a) right) (each_of (λ m. m ≡ m) (λ m. refl) _)))) left
+
+  pub left_join_neither : (holds : Solution → Bool) → AllByRecursion (Unbound v) left → AllByRecursion (Unbound v) right → AllByRecursion (Unbound v) (left_join holds left right)
+  left_join_neither holds h k = each_flat_map (Unbound v) (Unbound v) (λ a. or_alone a (filter holds (merges right a))) (λ a e.
+      alone_each (Unbound v) a (filter holds (merges right a)) e
+      (each_filter (Unbound v) holds (merges right a)
+      (each_map (Unbound v) (Unbound v) (merge a) (λ b f. merge_at a b v ∙ first_neither (term_at a v) (term_at b v) e f)
+      (filter (compatible a) right) (each_filter (Unbound v) (compatible a) right k)))) left h
+
+  pub minus_each : (P : Solution → Type 0) → AllByRecursion P left → AllByRecursion P (minus left right)
+  minus_each P h = each_filter P (λ a. not (list_any (excludes a) right)) left h
 
 -- ---- all maps
 

@@ -27,7 +27,7 @@ same_number a b e = elim (eqb_tells a b) as (λ w. (a == b) ≡ true) [ inl p �
 other_number : (a b : ℕ) → a < b → (a == b) ≡ false
 other_number a b h = elim (eqb_tells a b) as (λ w. (a == b) ≡ false) [ inl p ↦ absurd (omega (arith, h, p.1)) | inr p ↦ p.0 ]
 
-set_one : (f : ℕ → Bool) (v n k : ℕ) → slice_set (flags_from f v n) k true ≡ flags_from (λ w. f w || ((v + k) == w)) v n
+pub set_one : (f : ℕ → Bool) (v n k : ℕ) → slice_set (flags_from f v n) k true ≡ flags_from (λ w. f w || ((v + k) == w)) v n
 set_one f v zero k = refl
 set_one f v (suc n) zero =
     ap (λ b. b ∷ flags_from f (v + 1) n) (sym (ap (λ b. f v || b) (same_number (v + 0) v (omega arith)) ∙ or_true (f v)))

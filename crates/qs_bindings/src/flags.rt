@@ -1,6 +1,6 @@
 //! Flags at the numbers of variables.
 
-ghost use Rattle.std.specs.Prelude.{◌≡◌, ◌||◌, ◌&&◌, IfOk};
+ghost use Rattle.std.specs.Prelude.{◌≡◌, ◌||◌, ◌&&◌, true, slice_set, IfOk};
 ghost use Rattle.qs_bindings.specs.Flags.{flags_from, flag_at};
 
 use std::alloc::{AllocError, Global};
@@ -15,6 +15,15 @@ pub(crate) fn alike(alloc: Global, width: usize, flag: bool) -> Result<Vec<bool>
         flags.push(flag)?;
     }
     Ok(flags)
+}
+
+/// Flags the variable, if it is one of them.
+pub(crate) fn flag(flags: &mut Vec<bool>, variable: usize)
+    ensures { flags.new.items ≡ slice_set flags.old.items variable true }
+{
+    if let Some(flag) = flags.get_mut(variable) {
+        *flag = true;
+    }
 }
 
 /// The flag of a variable; none stands past the last.

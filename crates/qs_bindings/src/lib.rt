@@ -6,6 +6,7 @@ mod flags;
 pub mod laws;
 mod mentioned;
 mod possible_variables;
+mod table;
 
 pub use certain_variables::certain;
 pub use possible_variables::possible;

@@ -4,7 +4,7 @@ ghost use Rattle.std.specs.Prelude.{◌≡◌, IfOk};
 ghost use Rattle.qs_patterns.specs.Basic.{mentions};
 ghost use Rattle.qs_bindings.specs.Flags.{flags_from, with_slot, with_triple};
 
-use crate::flags::alike;
+use crate::flags::{alike, flag};
 use qs_patterns::{Slot, TriplePattern};
 use std::alloc::{AllocError, Global};
 
@@ -14,11 +14,7 @@ fn flag_slot(flags: &mut Vec<bool>, slot: &Slot)
 {
     match slot {
         Slot::Term(_) => {}
-        Slot::Variable(variable) => {
-            if let Some(flag) = flags.get_mut(*variable) {
-                *flag = true;
-            }
-        }
+        Slot::Variable(variable) => flag(flags, *variable),
     }
 }
 

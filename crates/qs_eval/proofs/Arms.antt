@@ -1,56 +1,90 @@
 -- The arms of the evaluator.
-use Rattle.std.proofs.Common.{◌≡◌, ℕ, ◌+◌, ◌<◌, List, [], ◌∷◌, ◌++◌, length, map, take, get_or, refl, ap, subst, sym, ◌∙◌}
+use Rattle.std.proofs.Common.{◌≡◌, ℕ, ◌+◌, ◌<◌, true, List, [], ◌∷◌, ◌++◌, length, take, get_or, Some, refl, ap, subst, sym, ◌∙◌}
 use Rattle.std.specs.List.{flat_map, fold}
 use Rattle.std.proofs.lemmas.List.{take_more, append-nil}
-use Rattle.std.proofs.lemmas.List.Sorted.{IsPermutation-append}
+use Rattle.std.proofs.lemmas.List.Sorted.{IsPermutation-append, IsPermutation-refl}
 use Rattle.std.proofs.lemmas.Grind.{flat_map-append}
 use Rattle.qs_terms.specs.Bag.{SameBag}
+use Rattle.qs_terms.specs.Dataset.{graph_of, names_of}
 use Rattle.qs_terms.specs.Statement.{Statement}
-use Rattle.qs_solutions.specs.Solution.{Solution, unbound}
+use Rattle.qs_terms.specs.declared.term.Term.{Term}
+use Rattle.qs_solutions.specs.Solution.{Solution, unbound, binding}
 use Rattle.qs_solutions.specs.Operators as of
 use Rattle.qs_patterns.specs.declared.pattern.BasicPattern.{BasicPattern}
+use Rattle.qs_patterns.specs.declared.pattern.Table.{Table}
 use Rattle.qs_patterns.specs.declared.pattern.Pattern.{Pattern}
-use Rattle.qs_patterns.specs.declared.pattern.Pattern.TheVariants.{Basic, Join, Union}
-use Rattle.qs_patterns.specs.Basic.{Graph, basic}
-use Rattle.qs_patterns.specs.Eval.{eval}
-use Rattle.qs_eval.proofs.Meaning.{eval_basic, eval_join, eval_union}
-use Rattle.qs_eval.proofs.Operators.{join_same}
+use Rattle.qs_patterns.specs.declared.pattern.Pattern.TheVariants.{Basic, Group, Union, Graph, EachGraph, Values}
+use Rattle.qs_patterns.specs.declared.pattern.Step.{Step}
+use Rattle.qs_patterns.specs.declared.pattern.Step.TheVariants.{Join, LeftJoin, Minus}
+use Rattle.qs_patterns.specs.Basic.{Graph as Triples, basic}
+use Rattle.qs_patterns.specs.Eval.{eval, step, in_named, in_each, rows_of}
+use Rattle.qs_patterns.proofs.Meaning.{eval_basic, eval_group, eval_union, eval_graph, eval_each_graph, eval_values, step_join, step_left_join, step_minus}
+use Rattle.qs_eval.proofs.Operators.{join_same, left_join_same, minus_same}
 
 same_at : (rows xs ys zs : List Solution) → rows ≡ xs → SameBag xs ys → zs ≡ ys → SameBag rows zs
 same_at rows xs ys zs e h f =
     subst (λ (l : List Solution). SameBag l zs) (sym e) (subst (λ (l : List Solution). SameBag xs l) (sym f) h)
 
-module _ (width : ℕ) (quads : List Statement) (graph : Graph) (p : Pattern) where
+module _ (width : ℕ) (quads : List Statement) (graph : Triples) (p : Pattern) where
   pub basic_arm : (b : BasicPattern) (rows : List Solution) → p ≡ Basic b → SameBag rows (basic width b graph) → SameBag rows (eval width quads p graph)
   basic_arm b rows is h = same_at _ _ _ _ refl h (ap (λ q. eval width quads q graph) is ∙ eval_basic width quads graph b)
 
-  pub join_arm : (parts ps : List Pattern) (rows : List Solution) → p ≡ Join parts → ps ≡ parts → SameBag rows (of.join_all width (map (λ part. eval width quads part graph) ps)) → SameBag rows (eval width quads p graph)
-  join_arm parts ps rows is e h =
-      same_at _ _ _ _ refl h (ap (λ q. eval width quads q graph) is ∙ (eval_join width quads graph parts ∙ ap (λ l. of.join_all width (map (λ part. eval width quads part graph) l)) (sym e)))
+  pub group_arm : (steps ss : List Step) (rows : List Solution) → p ≡ Group steps → ss ≡ steps → SameBag rows (fold (λ left s. step width quads s graph left) (unbound width ∷ []) ss) → SameBag rows (eval width quads p graph)
+  group_arm steps ss rows is e h =
+      same_at _ _ _ _ refl h (ap (λ q. eval width quads q graph) is ∙ (eval_group width quads graph steps ∙ ap (λ l. fold (λ left s. step width quads s graph left) (unbound width ∷ []) l) (sym e)))
 
   pub union_arm : (parts ps : List Pattern) (rows : List Solution) → p ≡ Union parts → ps ≡ parts → SameBag rows (flat_map (λ part. eval width quads part graph) ps) → SameBag rows (eval width quads p graph)
   union_arm parts ps rows is e h =
       same_at _ _ _ _ refl h (ap (λ q. eval width quads q graph) is ∙ (eval_union width quads graph parts ∙ ap (flat_map (λ part. eval width quads part graph)) (sym e)))
 
-fold_last : (first : List Solution) (xs : List (List Solution)) (y : List Solution) → fold of.join first (xs ++ y ∷ []) ≡ of.join (fold of.join first xs) y
-fold_last first [] y = refl
-fold_last first (x ∷ xs) y = fold_last (of.join first x) xs y
+  pub graph_arm : (name : Term) (a part : Pattern) (rows : List Solution) → p ≡ Graph name a → part ≡ a → SameBag rows (in_named quads name (eval width quads part)) → SameBag rows (eval width quads p graph)
+  graph_arm name a part rows is e h =
+      same_at _ _ _ _ refl h (ap (λ q. eval width quads q graph) is ∙ (eval_graph width quads graph name a ∙ ap (λ q. in_named quads name (eval width quads q)) (sym e)))
 
-map_last : (f : Pattern → List Solution) (ps : List Pattern) (p : Pattern) → map f (ps ++ p ∷ []) ≡ map f ps ++ f p ∷ []
-map_last f [] p = refl
-map_last f (q ∷ ps) p = ap (λ l. f q ∷ l) (map_last f ps p)
+  pub each_arm : (v : ℕ) (a part : Pattern) (names : List Term) (rows : List Solution) → p ≡ EachGraph v a → part ≡ a → names ≡ names_of quads → SameBag rows (in_each width quads v (eval width quads part) names) → SameBag rows (eval width quads p graph)
+  each_arm v a part names rows is e n h =
+      same_at _ _ _ _ refl h
+      (ap (λ q. eval width quads q graph) is ∙ (eval_each_graph width quads graph v a
+      ∙ (ap (λ q. in_each width quads v (eval width quads q) (names_of quads)) (sym e) ∙ ap (λ l. in_each width quads v (eval width quads part) l) (sym n))))
 
--- one part more is joined
-pub join_more : (width : ℕ) (f : Pattern → List Solution) (ps : List Pattern) (i : ℕ) (p : Pattern) (rows right rows' : List Solution) → i < length ps → p ≡ get_or ps i p → SameBag rows (of.join_all width (map f (take i ps))) → SameBag right (f p)
-    → rows' ≡ of.join rows right → SameBag rows' (of.join_all width (map f (take (i + 1) ps)))
-join_more width f ps i p rows right rows' lt is h m e =
-    same_at _ _ _ _ e (join_same _ _ _ _ h m)
-    (ap (λ l. of.join_all width (map f l)) (take_more ps i p lt)
-    ∙ (ap (of.join_all width) (map_last f (take i ps) (get_or ps i p))
-    ∙ (fold_last (unbound width ∷ []) (map f (take i ps)) (f (get_or ps i p)) ∙ ap (λ q. of.join (of.join_all width (map f (take i ps))) (f q)) (sym is))))
+  pub values_arm : (table : Table) (rows : List Solution) → p ≡ Values table → rows ≡ rows_of width table → SameBag rows (eval width quads p graph)
+  values_arm table rows is e = same_at _ _ _ _ e (IsPermutation-refl (rows_of width table)) (ap (λ q. eval width quads q graph) is ∙ eval_values width quads graph table)
+
+-- a step over any list that is the same bag as the one that it was made over
+module _ (width : ℕ) (quads : List Statement) (graph : Triples) (s : Step) (part : Pattern) (left right rows xs : List Solution) where
+  pub join_arm : s ≡ Join part → SameBag right (eval width quads part graph) → rows ≡ of.join left right → SameBag left xs → SameBag rows (step width quads s graph xs)
+  join_arm i r e l = same_at _ _ _ _ e (join_same _ _ _ _ l r) (ap (λ q. step width quads q graph xs) i ∙ step_join width quads graph part xs)
+
+  pub left_join_arm : s ≡ LeftJoin part → SameBag right (eval width quads part graph) → rows ≡ of.left_join (λ m. true) left right → SameBag left xs → SameBag rows (step width quads s graph xs)
+  left_join_arm i r e l = same_at _ _ _ _ e (left_join_same (λ m. true) _ _ _ _ l r) (ap (λ q. step width quads q graph xs) i ∙ step_left_join width quads graph part xs)
+
+  pub minus_arm : s ≡ Minus part → SameBag right (eval width quads part graph) → rows ≡ of.minus left right → SameBag left xs → SameBag rows (step width quads s graph xs)
+  minus_arm i r e l = same_at _ _ _ _ e (minus_same _ _ _ _ l r) (ap (λ q. step width quads q graph xs) i ∙ step_minus width quads graph part xs)
+
+fold_last : (f : List Solution → Step → List Solution) (first : List Solution) (ss : List Step) (s : Step) → fold f first (ss ++ s ∷ []) ≡ f (fold f first ss) s
+fold_last f first [] s = refl
+fold_last f first (t ∷ ss) s = fold_last f (f first t) ss s
+
+-- one step more
+pub step_more : (f : List Solution → Step → List Solution) (first : List Solution) (ss : List Step) (i : ℕ) (s : Step) (rows rows' : List Solution) → i < length ss → s ≡ get_or ss i s
+    → SameBag rows (fold f first (take i ss)) → ((xs : List Solution) → SameBag rows xs → SameBag rows' (f xs s)) → SameBag rows' (fold f first (take (i + 1) ss))
+step_more f first ss i s rows rows' lt is h more =
+    same_at _ _ _ _ refl (more (fold f first (take i ss)) h)
+    (ap (fold f first) (take_more ss i s lt) ∙ (fold_last f first (take i ss) (get_or ss i s) ∙ ap (f (fold f first (take i ss))) (sym is)))
 
 -- one part more
 pub union_more : (f : Pattern → List Solution) (ps : List Pattern) (i : ℕ) (p : Pattern) (rows more rows' : List Solution) → i < length ps → p ≡ get_or ps i p → SameBag rows (flat_map f (take i ps)) → SameBag more (f p) → rows' ≡ rows ++ more → SameBag rows' (flat_map f (take (i + 1) ps))
 union_more f ps i p rows more rows' lt is h m e =
     same_at _ _ _ _ e (IsPermutation-append _ _ _ _ h m)
     (ap (flat_map f) (take_more ps i p lt) ∙ (flat_map-append f (take i ps) (get_or ps i p ∷ []) ∙ ap (λ xs. flat_map f (take i ps) ++ xs) (append-nil (f (get_or ps i p)) ∙ ap f (sym is))))
+
+-- one name more
+pub each_more : (width : ℕ) (quads : List Statement) (v : ℕ) (part : Pattern) (ns : List Term) (i : ℕ) (n : Term) (rows inner more rows' : List Solution) → i < length ns → n ≡ get_or ns i n
+    → SameBag rows (in_each width quads v (eval width quads part) (take i ns)) → SameBag inner (eval width quads part (graph_of quads (Some n))) → more ≡ of.join inner (binding width (v ∷ []) (Some n ∷ []) ∷ []) → rows' ≡ rows ++ more
+    → SameBag rows' (in_each width quads v (eval width quads part) (take (i + 1) ns))
+each_more width quads v part ns i n rows inner more rows' lt is h m j e =
+    let own = λ (name : Term). binding width (v ∷ []) (Some name ∷ []) ∷ [] in
+    let f = λ (name : Term). of.join (eval width quads part (graph_of quads (Some name))) (own name) in
+    let k : SameBag more (f n) = same_at _ _ _ _ j (join_same inner (eval width quads part (graph_of quads (Some n))) (own n) (own n) m (IsPermutation-refl (own n))) refl in
+    same_at _ _ _ _ e (IsPermutation-append _ _ _ _ h k)
+    (ap (flat_map f) (take_more ns i n lt) ∙ (flat_map-append f (take i ns) (get_or ns i n ∷ []) ∙ ap (λ xs. flat_map f (take i ns) ++ xs) (append-nil (f (get_or ns i n)) ∙ ap f (sym is))))

@@ -11,6 +11,9 @@ pub mod Past
 pub mod Turns
 pub mod Mapped
 pub mod Operators
-pub mod Meaning
 pub mod Arms
 pub mod Known
+pub mod KnownQuads
+pub mod KnownTerms
+pub mod Named
+pub mod LentLaws

@@ -4,6 +4,7 @@
 mod basic;
 mod evaluate;
 mod extend;
+mod names;
 mod quads;
 
 pub use evaluate::solutions;

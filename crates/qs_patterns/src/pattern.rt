@@ -2,7 +2,7 @@
 //! hidden ones of each basic graph pattern, which its blank nodes are.
 
 use qs_terms::Term;
-use sqlite_items::Items;
+use sqlite_items::{Boxed, Items};
 
 /// What stands in one place of a triple pattern.
 #[derive(Drop)]
@@ -27,13 +27,35 @@ pub struct BasicPattern {
     pub hidden: usize,
 }
 
+/// The table of VALUES (SPARQL 1.1 Query, 18.2.2.7): its variables, of which none stands twice, and its rows. None is UNDEF.
+#[derive(Drop)]
+pub struct Table {
+    pub variables: Items<usize>,
+    pub rows: Items<Items<Option<Term>>>,
+}
+
 /// A pattern (SPARQL 1.1 Query, 18.2).
+#[cycle(pattern)]
 #[derive(Drop)]
 pub enum Pattern {
     Basic(BasicPattern),
-    /// Of any number, from left to right. It is a list and no tree of pairs, so that a pattern is no deeper than the groups of its
-    /// text are nested.
-    Join(Items<Pattern>),
+    /// A group: what its steps make of the one solution that binds nothing, in the order of the text. They are a list and no tree of
+    /// pairs, so that a pattern is no deeper than the groups of its text are nested.
+    Group(Items<Step>),
     /// Of any number.
     Union(Items<Pattern>),
+    /// In the graph of this name.
+    Graph(Term, Boxed<Pattern>),
+    /// In each named graph, with the variable bound to its name.
+    EachGraph(usize, Boxed<Pattern>),
+    Values(Table),
+}
+
+/// A step of a group: what it makes of the solutions of the steps before it (SPARQL 1.1 Query, 18.2.2.6).
+#[cycle(pattern)]
+#[derive(Drop)]
+pub enum Step {
+    Join(Pattern),
+    LeftJoin(Pattern),
+    Minus(Pattern),
 }

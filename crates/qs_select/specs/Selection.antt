@@ -1,10 +1,11 @@
 -- What a SELECT asks for (SPARQL 1.1 Query, 15 and 18.2.4).
-use Rattle.std.specs.Prelude.{ℕ, Bool, true, false, ◌&&◌, List, [], ◌∷◌, map, length, Option, Some, None, Ok, Err}
+use Rattle.std.specs.Prelude.{ℕ, Bool, true, false, ◌&&◌, List, [], ◌∷◌, ◌++◌, map, length, Option, Some, None, Ok, Err}
 use Rattle.std.specs.List.{filter}
 use Rattle.qs_terms.specs.declared.fault.QFault.TheVariants.{Later}
 use Rattle.qs_tree.specs.declared.query.Duplicates.{Duplicates}
 use Rattle.qs_tree.specs.declared.query.Duplicates.TheVariants as duplicates
 use Rattle.qs_ast.specs.declared.pattern.Group.{Group}
+use Rattle.qs_ast.specs.declared.pattern.InlineData.{InlineData}
 use Rattle.qs_ast.specs.declared.query.OrderCondition.{OrderCondition}
 use Rattle.qs_ast.specs.declared.query.Projection.{Projection}
 use Rattle.qs_ast.specs.declared.query.Projection.TheVariants as projection
@@ -18,6 +19,7 @@ use Rattle.qs_ast.specs.declared.term.Variable.{Variable}
 use Rattle.qs_scope.specs.Firsts.{names_of, firsts}
 use Rattle.qs_scope.specs.Names.{Name, contains}
 use Rattle.qs_scope.specs.Places.{place_of}
+use Rattle.qs_scope.specs.KeepsScope.{trailing_names}
 use Rattle.qs_scope.specs.Scope.{in_scope}
 use Rattle.qs_patterns.specs.declared.pattern.Pattern.{Pattern}
 use Rattle.qs_terms.specs.Outcome.{Outcome, and_then, all}
@@ -27,9 +29,9 @@ use Rattle.qs_select.specs.declared.selection.Slice.{Slice}
 
 -- ---- the variables that the answer lists, each once
 
--- those in scope of the pattern, in the order in which they first appear in the text (16.1)
-abbrev pub all_listed : List Name → Group → List Name
-all_listed names group = filter (contains (in_scope group)) names
+-- those in scope of the pattern or of the trailing VALUES, in the order in which they first appear in the text (16.1 and 10.2)
+abbrev pub all_listed : List Name → Group → Option InlineData → List Name
+all_listed names group values = filter (contains (in_scope group ++ trailing_names values)) names
 
 abbrev pub item_variable : SelectItem → Outcome Variable
 item_variable (item.Variable v) = Ok v
@@ -38,9 +40,9 @@ item_variable (item.As value v) = Err Later
 abbrev pub items_listed : List SelectItem → Outcome (List Name)
 items_listed items = and_then (all (map item_variable items)) (λ variables. Ok (names_of (firsts variables)))
 
-abbrev pub listed : List Name → Group → Projection → Outcome (List Name)
-listed names group projection.All = Ok (all_listed names group)
-listed names group (projection.Items items) = items_listed items
+abbrev pub listed : List Name → Group → Option InlineData → Projection → Outcome (List Name)
+listed names group values projection.All = Ok (all_listed names group values)
+listed names group values (projection.Items items) = items_listed items
 
 -- ---- what has no meaning yet
 
@@ -80,7 +82,7 @@ selection_with names select pattern vars = record {
 
 abbrev pub select_selection : Query → Select → Outcome Selection
 select_selection query select =
-    and_then (listed (names_of query.variables) select.pattern select.projection)
+    and_then (listed (names_of query.variables) select.pattern query.values select.projection)
     (λ vars. and_then (translated query) (λ pattern. Ok (selection_with (names_of query.variables) select pattern vars)))
 
 abbrev pub form_selection : Query → QueryForm → Outcome Selection

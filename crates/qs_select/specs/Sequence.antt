@@ -24,9 +24,9 @@ limited (Some n) xs = take n xs
 abbrev pub sliced : {X : Type 0} → Slice → List X → List X
 sliced slice xs = limited slice.limit (drop slice.offset xs)
 
--- the rows are the sequence of the solutions in some order
+-- the rows are the sequence of the solutions in some order: projected, and then sliced
 abbrev pub IsSequence : Selection → List Solution → List Solution → Type 0
-IsSequence selection solutions rows = (all : List Solution) × SameBag all solutions × (rows ≡ map (projected selection.columns) (sliced selection.slice all))
+IsSequence selection solutions rows = (all : List Solution) × SameBag all solutions × (rows ≡ sliced selection.slice (map (projected selection.columns) all))
 
 -- the length that all sequences of the solutions have
 abbrev pub count : Selection → List Solution → ℕ

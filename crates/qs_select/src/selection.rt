@@ -1,15 +1,16 @@
 //! What a SELECT asks for (SPARQL 1.1 Query, 15 and 18.2.4).
 
-ghost use Rattle.std.specs.Prelude.{◌≡◌, map, IfOk, OnOk};
+ghost use Rattle.std.specs.Prelude.{◌≡◌, ◌++◌, map, IfOk, OnOk};
 ghost use Rattle.std.specs.List.{filter};
 ghost use Rattle.qs_scope.specs.Firsts.{names_of};
+ghost use Rattle.qs_scope.specs.KeepsScope.{trailing_names};
 ghost use Rattle.qs_scope.specs.Names.{contains};
 ghost use Rattle.qs_scope.specs.Places.{place_of};
 ghost use Rattle.qs_terms.specs.Outcome.{OrWantOfMemory, all};
 ghost use Rattle.qs_select.specs.Selection as spec;
 
 use qs_algebra::translate;
-use qs_ast::pattern::Group;
+use qs_ast::pattern::{Group, InlineData};
 use qs_ast::query::{Projection, Query, QueryForm, Select, SelectItem};
 use qs_ast::term::Variable;
 use qs_patterns::Pattern;
@@ -57,14 +58,35 @@ fn those_among<'a>(
     Ok(vars)
 }
 
+fn put_names<'a>(names: &mut Seen<'a>, variables: &'a [Variable]) -> Result<(), AllocError>
+    ensures { OnOk result (names.new ≡ names.old ++ names_of variables.now) }
+{
+    for variable in variables {
+        names.push(&variable.name)?;
+    }
+    Ok(())
+}
+
+// the variables of the trailing VALUES, if there is one, behind the others
+fn put_trailing<'a>(names: &mut Seen<'a>, values: &'a Option<InlineData>) -> Result<(), AllocError>
+    ensures { OnOk result (names.new ≡ names.old ++ trailing_names values.now) }
+{
+    match values {
+        None => Ok(()),
+        Some(table) => put_names(names, table.variables.as_slice()),
+    }
+}
+
 fn all_listed<'a>(
     alloc: Global,
     variables: &'a [Variable],
     group: &'a Group,
+    values: &'a Option<InlineData>,
 ) -> Result<Items<Text>, AllocError>
-    ensures { IfOk result (λ vars. vars ≡ spec.all_listed (names_of variables.now) group.now) }
+    ensures { IfOk result (λ vars. vars ≡ spec.all_listed (names_of variables.now) group.now values.now) }
 {
-    let scope = in_scope(alloc, group)?;
+    let mut scope = in_scope(alloc, group)?;
+    put_trailing(&mut scope, values)?;
     those_among(alloc, &scope, variables)
 }
 
@@ -116,13 +138,14 @@ fn listed<'a>(
     alloc: Global,
     variables: &'a [Variable],
     group: &'a Group,
+    values: &'a Option<InlineData>,
     projection: &Projection,
 ) -> Result<Items<Text>, QFault>
-    ensures { OrWantOfMemory (spec.listed (names_of variables.now) group.now projection.now) result }
+    ensures { OrWantOfMemory (spec.listed (names_of variables.now) group.now values.now projection.now) result }
 {
     match projection {
         Projection::All => {
-            let vars = all_listed(alloc, variables, group)?;
+            let vars = all_listed(alloc, variables, group, values)?;
             Ok(vars)
         }
         Projection::Items(items) => items_listed(alloc, items.as_slice()),
@@ -183,7 +206,13 @@ fn select_selection(alloc: Global, query: &Query, select: &Select) -> Result<Sel
     ensures { OrWantOfMemory (spec.select_selection query.now select.now) result }
 {
     let variables = query.variables.as_slice();
-    let vars = listed(alloc, variables, &select.pattern, &select.projection)?;
+    let vars = listed(
+        alloc,
+        variables,
+        &select.pattern,
+        &query.values,
+        &select.projection,
+    )?;
     let pattern = translate(alloc, query)?;
     let columns = columns(alloc, variables, vars.as_slice())?;
     Ok(Selection {

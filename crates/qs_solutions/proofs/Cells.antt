@@ -1,8 +1,8 @@
 -- Compatible and merged, variable by variable.
-use Rattle.std.proofs.Common.{◌≡◌, ℕ, zero, suc, ◌<◌, ◌≤◌, ◌+◌, Bool, true, false, ◌&&◌, List, [], ◌∷◌, ◌++◌, length, drop, Option, Some, None, max, refl, sym, ap, ◌∙◌, arith, add-one}
+use Rattle.std.proofs.Common.{◌≡◌, ℕ, zero, suc, ◌<◌, ◌≤◌, ◌+◌, Bool, true, false, ◌&&◌, ◌||◌, List, [], ◌∷◌, ◌++◌, length, drop, Option, Some, None, max, refl, sym, ap, ◌∙◌, arith, add-one}
 use Rattle.std.proofs.lemmas.List.{append_assoc, append-nil, drop_all}
 use Rattle.qs_terms.specs.declared.term.Term.{Term}
-use Rattle.qs_solutions.specs.Solution.{Solution, term_at, compatible_terms, compatible, first_bound, merge}
+use Rattle.qs_solutions.specs.Solution.{Solution, term_at, compatible_terms, compatible, both_bound, share, first_bound, merge}
 
 all_none : (x : Option Term) → compatible_terms x None ≡ true
 all_none None = refl
@@ -28,6 +28,27 @@ step (x ∷ a) (y ∷ b) (suc i) h = step a b i (omega arith)
 
 pub compatible_step : (a b : Solution) (i : ℕ) → i < length a → compatible (drop i a) (drop i b) ≡ (compatible_terms (term_at a i) (term_at b i) && compatible (drop (i + 1) a) (drop (i + 1) b))
 compatible_step a b i h = rw add-one (step a b i h)
+
+share_nil : (a : Solution) → share a [] ≡ false
+share_nil [] = refl
+share_nil (x ∷ a) = refl
+
+none_both : (x : Option Term) → both_bound x None ≡ false
+none_both None = refl
+none_both (Some x) = refl
+
+at_share : (x : Option Term) (a : Solution) → false ≡ (both_bound x None || share a [])
+at_share x a = rw (none_both x, share_nil a) refl
+
+shared : (a b : Solution) (i : ℕ) → i < length a → share (drop i a) (drop i b) ≡ (both_bound (term_at a i) (term_at b i) || share (drop (suc i) a) (drop (suc i) b))
+shared [] b i h = absurd (omega arith)
+shared (x ∷ a) [] zero h = at_share x a
+shared (x ∷ a) (y ∷ b) zero h = refl
+shared (x ∷ a) [] (suc i) h = ap (share (drop i a)) (sym (drop_nil i)) ∙ shared a [] i (omega arith) ∙ ap (λ l. both_bound (term_at a i) None || share (drop (suc i) a) l) (drop_nil (suc i))
+shared (x ∷ a) (y ∷ b) (suc i) h = shared a b i (omega arith)
+
+pub share_step : (a b : Solution) (i : ℕ) → i < length a → share (drop i a) (drop i b) ≡ (both_bound (term_at a i) (term_at b i) || share (drop (i + 1) a) (drop (i + 1) b))
+share_step a b i h = rw add-one (shared a b i h)
 
 merge_nil : (a : Solution) → merge a [] ≡ a
 merge_nil [] = refl

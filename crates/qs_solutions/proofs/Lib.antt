@@ -1,2 +1,4 @@
 pub mod Unbound
 pub mod Cells
+pub mod Optional
+pub mod Bindings

@@ -1,5 +1,5 @@
 -- Solution mappings (SPARQL 1.1 Query, 18.1.8 and 18.3): at each variable's number its term, or none where it is not bound.
-use Rattle.std.specs.Prelude.{ℕ, zero, suc, Bool, true, false, ◌&&◌, ◌||◌, List, [], ◌∷◌, Option, Some, None, slice_index_or, map}
+use Rattle.std.specs.Prelude.{ℕ, zero, suc, Bool, true, false, ◌&&◌, ◌||◌, List, [], ◌∷◌, Option, Some, None, slice_index_or, slice_set, map}
 use Rattle.qs_terms.specs.declared.term.Term.{Term}
 use Rattle.qs_terms.specs.Term.{same_term}
 
@@ -18,6 +18,16 @@ projected columns m = map (term_at m) columns
 abbrev pub unbound : ℕ → Solution
 unbound zero = []
 unbound (suc n) = None ∷ unbound n
+
+-- a with these variables bound to these terms, one after another; a variable past the last stays unbound
+abbrev pub bind_all : Solution → List ℕ → List (Option Term) → Solution
+bind_all a [] terms = a
+bind_all a (v ∷ vs) [] = a
+bind_all a (v ∷ vs) (t ∷ terms) = bind_all (slice_set a v t) vs terms
+
+-- n variables, of which these are bound to these terms, and no other
+abbrev pub binding : ℕ → List ℕ → List (Option Term) → Solution
+binding n vs terms = bind_all (unbound n) vs terms
 
 abbrev pub compatible_terms : Option Term → Option Term → Bool
 compatible_terms None y = true
@@ -39,6 +49,17 @@ abbrev pub merge : Solution → Solution → Solution
 merge [] b = b
 merge (x ∷ a) [] = x ∷ a
 merge (x ∷ a) (y ∷ b) = first_bound x y ∷ merge a b
+
+abbrev pub both_bound : Option Term → Option Term → Bool
+both_bound None y = false
+both_bound (Some x) None = false
+both_bound (Some x) (Some y) = true
+
+-- some variable is bound in both
+abbrev pub share : Solution → Solution → Bool
+share [] b = false
+share (x ∷ a) [] = false
+share (x ∷ a) (y ∷ b) = both_bound x y || share a b
 
 abbrev pub same_cell : Option Term → Option Term → Bool
 same_cell None None = true

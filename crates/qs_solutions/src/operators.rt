@@ -1,7 +1,8 @@
-//! Join (SPARQL 1.1 Query, 18.5).
+//! Join, LeftJoin and Minus (SPARQL 1.1 Query, 18.5).
 
-ghost use Rattle.std.specs.Prelude.{◌≡◌, ◌++◌, IfOk, OnOk};
-ghost use Rattle.qs_solutions.specs.Operators.{merges, join};
+ghost use Rattle.std.specs.Prelude.{◌≡◌, ◌++◌, IfOk, OnOk, true};
+ghost use Rattle.std.specs.List.{list_any};
+ghost use Rattle.qs_solutions.specs.Operators.{merges, join, or_alone, left_join, excludes, minus};
 
 use crate::solution::Row;
 use std::alloc::{AllocError, Global};
@@ -31,6 +32,61 @@ pub fn joined(alloc: Global, left: &[Row], right: &[Row]) -> Result<Vec<Row>, Al
     let mut rows = Vec::new(alloc);
     for row in left {
         put_merges(alloc, row, right, &mut rows)?;
+    }
+    Ok(rows)
+}
+
+/// Puts the row's merges at the end of `rows`, or the row alone where it has none.
+fn put_optional(
+    alloc: Global,
+    row: &Row,
+    right: &[Row],
+    rows: &mut Vec<Row>,
+) -> Result<(), AllocError>
+    ensures { OnOk result (rows.new.items ≡ rows.old.items ++ or_alone row.now (merges right.now row.now)) }
+{
+    let before = rows.len();
+    put_merges(alloc, row, right, rows)?;
+    if rows.len() == before {
+        let row = row.try_clone(alloc)?;
+        rows.push(row)?;
+    }
+    Ok(())
+}
+
+/// Each row of the left merged with each row of the right that it is compatible with, and alone where it is compatible with none.
+#[tactic(auto, using(crate::proofs::Optional::one_more))]
+pub fn left_joined(alloc: Global, left: &[Row], right: &[Row]) -> Result<Vec<Row>, AllocError>
+    ensures { IfOk result (λ rows. rows.items ≡ left_join (λ m. true) left.now right.now) }
+{
+    let mut rows = Vec::new(alloc);
+    for row in left {
+        put_optional(alloc, row, right, &mut rows)?;
+    }
+    Ok(rows)
+}
+
+fn is_excluded(row: &Row, right: &[Row]) -> bool
+    ensures { result ≡ list_any (excludes row.now) right.now }
+{
+    for other in right {
+        if row.is_compatible(other) && row.shares(other) {
+            return true;
+        }
+    }
+    false
+}
+
+/// The rows of the left that no row of the right is compatible with and shares a bound variable with.
+pub fn without(alloc: Global, left: &[Row], right: &[Row]) -> Result<Vec<Row>, AllocError>
+    ensures { IfOk result (λ rows. rows.items ≡ minus left.now right.now) }
+{
+    let mut rows = Vec::new(alloc);
+    for row in left {
+        if !is_excluded(row, right) {
+            let row = row.try_clone(alloc)?;
+            rows.push(row)?;
+        }
     }
     Ok(rows)
 }

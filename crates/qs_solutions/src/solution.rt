@@ -2,7 +2,7 @@
 
 ghost use Rattle.std.specs.Prelude.{◌≡◌, length, take, IfOk, None, Some, slice_set, option_to_list};
 ghost use Rattle.std.specs.Option.{option_copied};
-ghost use Rattle.qs_solutions.specs.Solution.{term_at, unbound, compatible, merge, first_bound, projected};
+ghost use Rattle.qs_solutions.specs.Solution.{term_at, unbound, binding, compatible, share, both_bound, merge, first_bound, projected};
 
 use qs_terms::Term;
 use std::alloc::{AllocError, Global};
@@ -29,6 +29,15 @@ fn compatible_terms(a: Option<&Term>, b: Option<&Term>) -> bool
     match (a, b) {
         (Some(x), Some(y)) => x.is_same(y),
         _ => true,
+    }
+}
+
+fn are_bound(a: Option<&Term>, b: Option<&Term>) -> bool
+    ensures { result ≡ both_bound (option_copied a.entry) (option_copied b.entry) }
+{
+    match (a, b) {
+        (Some(_), Some(_)) => true,
+        _ => false,
     }
 }
 
@@ -64,6 +73,24 @@ impl Row {
             cells.push(None)?;
         }
         Ok(Row { cells })
+    }
+
+    /// So many variables, of which these are bound to these terms, and no other. Where a term is none, its variable is unbound.
+    #[tactic(auto, using(crate::proofs::Bindings::one_more, crate::proofs::Bindings::none_left))]
+    pub fn binding(
+        alloc: Global,
+        width: usize,
+        variables: &[usize],
+        terms: &[Option<Term>],
+    ) -> Result<Row, AllocError>
+        ensures { IfOk result (λ r. r ≡ binding width variables.now terms.now) }
+    {
+        let mut row = Row::unbound(alloc, width)?;
+        for at in 0..variables.len().min(terms.len()) {
+            let cell = copied(alloc, terms[at].as_ref())?;
+            row.set(variables[at], cell);
+        }
+        Ok(row)
     }
 
     /// How many variables it has, bound or not.
@@ -107,13 +134,20 @@ impl Row {
         Ok(Row { cells })
     }
 
+    // Binds the variable to the term, or to none; one past the last stays as it is.
+    fn set(&mut self, variable: usize, term: Option<Term>)
+        ensures { self.new ≡ slice_set self.old variable term }
+    {
+        if let Some(cell) = self.cells.get_mut(variable) {
+            *cell = term;
+        }
+    }
+
     /// Binds the variable; one past the last stays as it is.
     pub fn bind(&mut self, variable: usize, term: Term)
         ensures { self.new ≡ slice_set self.old variable (Some term) }
     {
-        if let Some(cell) = self.cells.get_mut(variable) {
-            *cell = Some(term);
-        }
+        self.set(variable, Some(term));
     }
 
     /// Leaves the first `width` variables.
@@ -134,6 +168,19 @@ impl Row {
             }
         }
         true
+    }
+
+    /// Whether some variable is bound in both (SPARQL 1.1 Query, 18.5, Minus).
+    #[tactic(auto, using(crate::proofs::Cells::share_step))]
+    pub fn shares(&self, other: &Row) -> bool
+        ensures { result ≡ share self.now other.now }
+    {
+        for variable in 0..self.cells.len() {
+            if are_bound(self.term(variable), other.term(variable)) {
+                return true;
+            }
+        }
+        false
     }
 
     /// The bindings of both (SPARQL 1.1 Query, 18.3).

@@ -1,33 +1,71 @@
-use Rattle.std.proofs.Common.{rules}
+use Rattle.std.proofs.Common.{rules, true, List, [], ◌∷◌, Some, ap, subst, sym, ◌∙◌}
 use Rattle.std.specs.Option.{option_copied}
 use Rattle.qs_terms.specs.Dataset.{graph_of}
-use Rattle.qs_eval.proofs.Arms.{basic_arm, join_arm, join_more, union_arm, union_more}
+use Rattle.qs_terms.specs.Bag.{SameBag}
+use Rattle.qs_solutions.specs.Operators.{join, left_join, minus}
+use Rattle.qs_solutions.specs.Solution.{Solution, binding}
+use Rattle.qs_eval.specs.Lent.{lent}
+use Rattle.qs_eval.proofs.LentLaws.{lent_at, lent_within}
+use Rattle.qs_eval.proofs.Arms.{basic_arm, group_arm, union_arm, graph_arm, each_arm, values_arm, join_arm, left_join_arm, minus_arm, step_more, union_more, each_more}
 use Rattle.qs_patterns.specs.declared.pattern.Pattern.{the_lemmas}
 use Rattle.qs_eval.proofs.evaluate.+solutions.Goals as goal
 
 pub solutions-solutions_of_all-requires : goal.solutions-solutions_of_all-requires
 solutions-solutions_of_all-requires t c = search (rules, the_lemmas)
 
+pub solutions-solutions_of_group-requires : goal.solutions-solutions_of_group-requires
+solutions-solutions_of_group-requires t c = search (rules, the_lemmas)
+
 pub solutions-returns-in_ok-rows-in-Basic : goal.solutions-returns-in_ok-rows-in-Basic
 solutions-returns-in_ok-rows-in-Basic t c =
     basic_arm c.args.width c.args.quads.now (graph_of c.args.quads.now (option_copied c.args.graph)) c.args.pattern.now _ c.in_ok-rows-in-Basic.rows.items c.in-Basic.is c.in_ok-rows-in-Basic.ensures
 
+pub solutions-returns-in_ok-rows-in-Group : goal.solutions-returns-in_ok-rows-in-Group
+solutions-returns-in_ok-rows-in-Group t c =
+    group_arm c.args.width c.args.quads.now (graph_of c.args.quads.now (option_copied c.args.graph)) c.args.pattern.now c.in-Group.steps _ c.in_ok-rows-in-Group.rows.items c.in-Group.is c.as_slice.ensures c.in_ok-rows-in-Group.ensures
+
 pub solutions-returns-in_ok-rows-in-Union : goal.solutions-returns-in_ok-rows-in-Union
 solutions-returns-in_ok-rows-in-Union t c =
-    union_arm c.args.width c.args.quads.now (graph_of c.args.quads.now (option_copied c.args.graph)) c.args.pattern.now c.in-Union.parts c.as_slice-in-Union.result.now c.in_ok-rows-in-Union.rows.items c.in-Union.is c.as_slice-in-Union.ensures c.in_ok-rows-in-Union.ensures
+    union_arm c.args.width c.args.quads.now (graph_of c.args.quads.now (option_copied c.args.graph)) c.args.pattern.now c.in-Union.parts _ c.in_ok-rows-in-Union.rows.items c.in-Union.is c.as_slice-in-Union.ensures c.in_ok-rows-in-Union.ensures
+
+pub solutions-returns-in_ok-rows-in-Graph : goal.solutions-returns-in_ok-rows-in-Graph
+solutions-returns-in_ok-rows-in-Graph t c =
+    graph_arm c.args.width c.args.quads.now (graph_of c.args.quads.now (option_copied c.args.graph)) c.args.pattern.now _ c.in-Graph.part _ c.in_ok-rows-in-Graph.rows.items c.in-Graph.is c.get.ensures c.in_ok-rows-in-Graph.ensures
+
+pub solutions-returns-in_ok-rows-in-EachGraph : goal.solutions-returns-in_ok-rows-in-EachGraph
+solutions-returns-in_ok-rows-in-EachGraph t c =
+    each_arm c.args.width c.args.quads.now (graph_of c.args.quads.now (option_copied c.args.graph)) c.args.pattern.now _ c.in-EachGraph.part _ _ c.in_ok-rows-in-EachGraph.rows.items c.in-EachGraph.is c.get-in-EachGraph.ensures (ap lent c.as_slice-in-EachGraph.ensures.value ∙ c.in_ok-names-in-EachGraph.ensures) c.in_ok-rows-in-EachGraph.ensures
+
+pub solutions-returns-in_ok-rows-in-Values : goal.solutions-returns-in_ok-rows-in-Values
+solutions-returns-in_ok-rows-in-Values t c =
+    values_arm c.args.width c.args.quads.now (graph_of c.args.quads.now (option_copied c.args.graph)) c.args.pattern.now c.in-Values.table c.in_ok-rows-in-Values.rows.items c.in-Values.is c.in_ok-rows-in-Values.ensures
+
+pub stepped-returns-in_ok-rows-in-Join : goal.stepped-returns-in_ok-rows-in-Join
+stepped-returns-in_ok-rows-in-Join t c xs h =
+    join_arm c.args.width c.args.quads.now (graph_of c.args.quads.now (option_copied c.args.graph)) c.args.one.now _ c.args.left.now c.in_ok-right-in-Join.right.items c.in_ok-rows-in-Join.rows.items xs
+    c.in-Join.is c.in_ok-right-in-Join.ensures (c.in_ok-rows-in-Join.ensures ∙ ap (join c.args.left.now) c.as_slice.ensures.value) h
+
+pub stepped-returns-in_ok-rows-in-LeftJoin : goal.stepped-returns-in_ok-rows-in-LeftJoin
+stepped-returns-in_ok-rows-in-LeftJoin t c xs h =
+    left_join_arm c.args.width c.args.quads.now (graph_of c.args.quads.now (option_copied c.args.graph)) c.args.one.now _ c.args.left.now c.in_ok-right-in-LeftJoin.right.items c.in_ok-rows-in-LeftJoin.rows.items xs
+    c.in-LeftJoin.is c.in_ok-right-in-LeftJoin.ensures (c.in_ok-rows-in-LeftJoin.ensures ∙ ap (left_join (λ m. true) c.args.left.now) c.as_slice-in-LeftJoin.ensures.value) h
+
+pub stepped-returns-in_ok-rows-in-Minus : goal.stepped-returns-in_ok-rows-in-Minus
+stepped-returns-in_ok-rows-in-Minus t c xs h =
+    minus_arm c.args.width c.args.quads.now (graph_of c.args.quads.now (option_copied c.args.graph)) c.args.one.now _ c.args.left.now c.in_ok-right-in-Minus.right.items c.in_ok-rows-in-Minus.rows.items xs
+    c.in-Minus.is c.in_ok-right-in-Minus.ensures (c.in_ok-rows-in-Minus.ensures ∙ ap (minus c.args.left.now) c.as_slice-in-Minus.ensures.value) h
+
+pub solutions_of_group-loop-one-preserved : goal.solutions_of_group-loop-one-preserved
+solutions_of_group-loop-one-preserved t c =
+    step_more _ _ c.args.steps.now c.loop-one.one-index c.one-item.result c.loop-one.rows.items c.in_ok-rows.rows.items c.loop-one-test.true c.one-item.is c.loop-one.invariant
+    (λ xs h. c.in_ok-rows.ensures xs (subst (λ (l : List Solution). SameBag l xs) (sym c.as_slice.ensures.value) h))
 
 pub solutions_of_all-loop-part-preserved : goal.solutions_of_all-loop-part-preserved
 solutions_of_all-loop-part-preserved t c =
     union_more _ c.args.parts.now c.loop-part.part-index c.part-item.result _ _ _ c.loop-part-test.true c.part-item.is c.loop-part.invariant c.in_ok-more.ensures c.in_ok-append.ensures.items
 
-pub solutions-solutions_of_joined-requires : goal.solutions-solutions_of_joined-requires
-solutions-solutions_of_joined-requires t c = search (rules, the_lemmas)
-
-pub solutions-returns-in_ok-rows-in-Join : goal.solutions-returns-in_ok-rows-in-Join
-solutions-returns-in_ok-rows-in-Join t c =
-    join_arm c.args.width c.args.quads.now (graph_of c.args.quads.now (option_copied c.args.graph)) c.args.pattern.now c.in-Join.parts c.as_slice.result.now c.in_ok-rows-in-Join.rows.items c.in-Join.is c.as_slice.ensures c.in_ok-rows-in-Join.ensures
-
-pub solutions_of_joined-loop-operand-preserved : goal.solutions_of_joined-loop-operand-preserved
-solutions_of_joined-loop-operand-preserved t c =
-    join_more c.args.width _ c.args.parts.now c.loop-operand.operand-index c.operand-item.result c.loop-operand.rows.items c.in_ok-right.right.items _ c.loop-operand-test.true c.operand-item.is c.loop-operand.invariant c.in_ok-right.ensures
-    (rw (← c.as_slice.ensures.value, ← c.as_slice-in-loop-operand.ensures.value) c.in_ok-rows.ensures)
+pub solutions_in_each-loop-name-preserved : goal.solutions_in_each-loop-name-preserved
+solutions_in_each-loop-name-preserved t c =
+    each_more c.args.width c.args.quads.now c.args.variable c.args.part.now (lent c.args.names.now) c.loop-name.name-index c.name-item.result.now c.loop-name.rows.items c.in_ok-inner.inner.items c.in_ok-more.more.items _
+    (lent_within c.args.names.now _ c.loop-name-test.true) (lent_at c.args.names.now _ c.name-item.result c.name-item.is) c.loop-name.invariant c.in_ok-inner.ensures
+    (c.in_ok-more.ensures ∙ ap (λ (l : List Solution). join l (binding c.args.width (c.args.variable ∷ []) (Some c.name-item.result.now ∷ []) ∷ [])) c.as_slice.ensures.value) c.in_ok-append.ensures.items
