@@ -1,17 +1,21 @@
 -- Groups of one step.
-use Rattle.std.proofs.Common.{◌≡◌, List, [], ◌∷◌, refl, sym, ap, ◌∙◌}
+use Rattle.std.proofs.Common.{◌≡◌, ℕ, List, [], ◌∷◌, refl, sym, ap, ◌∙◌}
+use Rattle.qs_expr.specs.declared.expr.Expr.{Expr}
 use Rattle.qs_patterns.specs.declared.pattern.Pattern.{Pattern}
 use Rattle.qs_patterns.specs.declared.pattern.Pattern.TheOpen as level
 use Rattle.qs_patterns.specs.declared.pattern.Pattern.TheVariants.{Group}
 use Rattle.qs_patterns.specs.declared.pattern.Step.{Step, out-Step, out-roll-Step}
-use Rattle.qs_patterns.specs.declared.pattern.Step.TheVariants.{Join, LeftJoin, Minus, rolls-Join, rolls-LeftJoin, rolls-Minus}
-use Rattle.qs_algebra.specs.Translation.{alone, closed}
+use Rattle.qs_patterns.specs.declared.pattern.Step.TheVariants.{Join, LeftJoin, Minus, Extend, rolls-Join, rolls-LeftJoin, rolls-Minus, rolls-Extend}
+use Rattle.qs_algebra.specs.Translation.{alone, unfiltered}
 
-pub join : (p : Pattern) → closed (Join p ∷ []) ≡ p
+pub join : (p : Pattern) → unfiltered (Join p ∷ []) ≡ p
 join p = ap (alone (Join p)) (ap out-Step (sym (rolls-Join p)) ∙ out-roll-Step (level.Join p))
 
-pub left_join : (p : Pattern) → closed (LeftJoin p ∷ []) ≡ Group (LeftJoin p ∷ [])
-left_join p = ap (alone (LeftJoin p)) (ap out-Step (sym (rolls-LeftJoin p)) ∙ out-roll-Step (level.LeftJoin p))
+pub left_join : (p : Pattern) (conditions : List Expr) → unfiltered (LeftJoin p conditions ∷ []) ≡ Group (LeftJoin p conditions ∷ []) []
+left_join p conditions = ap (alone (LeftJoin p conditions)) (ap out-Step (sym (rolls-LeftJoin p conditions)) ∙ out-roll-Step (level.LeftJoin p conditions))
 
-pub minus : (p : Pattern) → closed (Minus p ∷ []) ≡ Group (Minus p ∷ [])
+pub minus : (p : Pattern) → unfiltered (Minus p ∷ []) ≡ Group (Minus p ∷ []) []
 minus p = ap (alone (Minus p)) (ap out-Step (sym (rolls-Minus p)) ∙ out-roll-Step (level.Minus p))
+
+pub extend : (v : ℕ) (e : Expr) → unfiltered (Extend v e ∷ []) ≡ Group (Extend v e ∷ []) []
+extend v e = ap (alone (Extend v e)) (ap out-Step (sym (rolls-Extend v e)) ∙ out-roll-Step (level.Extend v e))

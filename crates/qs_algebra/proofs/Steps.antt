@@ -14,16 +14,17 @@ use Rattle.qs_patterns.specs.declared.pattern.Pattern.{Pattern}
 use Rattle.qs_patterns.specs.declared.pattern.Step.{Step}
 use Rattle.qs_patterns.specs.declared.pattern.Step.TheVariants.{Join}
 use Rattle.qs_scope.specs.Names.{Name}
-use Rattle.qs_algebra.specs.Translation.{one_or_union, then_closed, step_level, group_level, group_steps, group_pattern, step_of, with_table}
+use Rattle.qs_algebra.specs.Translation.{one_or_union, then_closed, step_level, group_level, group_parts, group_pattern, step_of, with_table}
+use Rattle.qs_algebra.specs.declared.parts.GroupParts.{GroupParts}
 
-each_closed : (names : List Name) (groups : List Group) → map then_closed (map (group_steps names) groups) ≡ map (group_pattern names) groups
+each_closed : (names : List Name) (groups : List Group) → map then_closed (map (group_parts names) groups) ≡ map (group_pattern names) groups
 each_closed names [] = refl
 each_closed names (g ∷ groups) = ap (λ l. group_pattern names g ∷ l) (each_closed names groups)
 
 pub union : (names : List Name) (groups : List Group) → step_of names (Union groups) ≡ and_then (all (map (group_pattern names) groups)) (λ parts. Ok (Join (one_or_union parts)))
 union names groups =
     ap (step_of names) (sym (rolls-Union groups))
-    ∙ (fold-roll-GraphPattern (Outcome Step) (Outcome (List Step)) (step_level names) (group_level names) (level.Union groups)
+    ∙ (fold-roll-GraphPattern (Outcome Step) (Outcome GroupParts) (step_level names) (group_level names) (level.Union groups)
     ∙ ap (λ ps. and_then (all ps) (λ parts. Ok (Join (one_or_union parts)))) (each_closed names groups))
 
 pub union_found : (names : List Name) (p : GraphPattern) (groups gs : List Group) (parts : List Pattern) → p ≡ Union groups → gs ≡ groups → all (map (group_pattern names) gs) ≡ Ok parts → step_of names p ≡ Ok (Join (one_or_union parts))

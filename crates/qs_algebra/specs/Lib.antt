@@ -1,3 +1,4 @@
 pub mod Numbers
 pub mod Basic
+pub mod Expressions
 pub mod Translation

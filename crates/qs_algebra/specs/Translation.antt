@@ -1,10 +1,8 @@
 -- The pattern of a group (SPARQL 1.1 Query, 18.2.2, simplified as in 18.2.2.8): what its steps make of the empty solution, in the
--- order of the text. What has no line of its own here has no meaning yet.
+-- order of the text, as far as its filters hold.
 use Rattle.std.specs.Prelude.{ℕ, List, [], ◌∷◌, map, Option, Some, None, Ok, Err}
 use Rattle.qs_terms.specs.Outcome.{Outcome, and_then, all}
-use Rattle.qs_terms.specs.declared.fault.QFault.TheVariants.{Later}
 use Rattle.qs_terms.specs.declared.term.Term.TheVariants as value
-use Rattle.qs_ast.specs.declared.expression.Expression.{Expression}
 use Rattle.qs_ast.specs.declared.pattern.Group.{Group, fold-Group}
 use Rattle.qs_ast.specs.declared.pattern.GraphPattern.{GraphPattern, fold-GraphPattern}
 use Rattle.qs_ast.specs.declared.pattern.GraphPattern.TheOpen.{Group-F, GraphPattern-F, Triples, Union, Optional, Minus, Graph, Bind, Values}
@@ -25,7 +23,11 @@ use Rattle.qs_patterns.specs.declared.pattern.Pattern.TheOpen as level
 use Rattle.qs_patterns.specs.declared.pattern.Step.{Step, out-Step}
 use Rattle.qs_patterns.specs.declared.pattern.Step.TheVariants as step
 use Rattle.qs_patterns.specs.declared.pattern.Table.{Table}
+use Rattle.qs_expr.specs.declared.expr.Expr.{Expr}
 use Rattle.qs_algebra.specs.Basic.{basic_pattern}
+use Rattle.qs_algebra.specs.Expressions.{expr_of}
+use Rattle.qs_algebra.specs.declared.named.NamedPattern.{NamedPattern}
+use Rattle.qs_algebra.specs.declared.parts.GroupParts.{GroupParts}
 
 -- one group, or a union of groups
 abbrev pub one_or_union : List Pattern → Pattern
@@ -46,49 +48,62 @@ number_of names v = place_of names v.name
 abbrev pub table_of : List Name → InlineData → Table
 table_of names table = record { variables = map (number_of names) table.variables; rows = table.rows }
 
--- ---- the steps of a group, and the group that is closed behind them
+-- ---- the steps and the filters of a group, and the group that is closed behind them
 
 -- the only step of a group: a pattern that is joined to the empty solution alone is that pattern
 abbrev pub alone : Step → level.Step-F Pattern Step → Pattern
 alone s (level.Join part) = part
-alone s (level.LeftJoin part) = pattern.Group (s ∷ [])
-alone s (level.Minus part) = pattern.Group (s ∷ [])
+alone s (level.LeftJoin part conditions) = pattern.Group (s ∷ []) []
+alone s (level.Minus part) = pattern.Group (s ∷ []) []
+alone s (level.Extend v e) = pattern.Group (s ∷ []) []
 
-abbrev pub closed : List Step → Pattern
-closed [] = pattern.Group []
-closed (s ∷ []) = alone s (out-Step s)
-closed (s ∷ t ∷ more) = pattern.Group (s ∷ t ∷ more)
+-- the steps without filters
+abbrev pub unfiltered : List Step → Pattern
+unfiltered [] = pattern.Group [] []
+unfiltered (s ∷ []) = alone s (out-Step s)
+unfiltered (s ∷ t ∷ more) = pattern.Group (s ∷ t ∷ more) []
 
-abbrev pub then_closed : Outcome (List Step) → Outcome Pattern
-then_closed steps = and_then steps (λ all_steps. Ok (closed all_steps))
+-- the steps, with the filters, which apply to the whole group (5.2.2)
+abbrev pub filtered : List Step → List Expr → Pattern
+filtered steps [] = unfiltered steps
+filtered steps (f ∷ fs) = pattern.Group steps (f ∷ fs)
 
-abbrev pub step_level : List Name → GraphPattern-F (Outcome Step) (Outcome (List Step)) → Outcome Step
+abbrev pub closed : GroupParts → Pattern
+closed group = filtered group.steps group.conditions
+
+abbrev pub then_closed : Outcome GroupParts → Outcome Pattern
+then_closed parts = and_then parts (λ group. Ok (closed group))
+
+-- an optional group: its own filters are the condition (18.2.2.6)
+abbrev pub optional : GroupParts → Step
+optional group = step.LeftJoin (unfiltered group.steps) group.conditions
+
+abbrev pub step_level : List Name → GraphPattern-F (Outcome Step) (Outcome GroupParts) → Outcome Step
 step_level names (Triples triples) = and_then (basic_pattern names triples) (λ basic. Ok (step.Join (pattern.Basic basic)))
 step_level names (Union groups) = and_then (all (map then_closed groups)) (λ parts. Ok (step.Join (one_or_union parts)))
-step_level names (Optional group) = and_then (then_closed group) (λ part. Ok (step.LeftJoin part))
+step_level names (Optional group) = and_then group (λ parts. Ok (optional parts))
 step_level names (Minus group) = and_then (then_closed group) (λ part. Ok (step.Minus part))
 step_level names (Graph graph group) = and_then (then_closed group) (λ part. Ok (step.Join (in_graph names graph part)))
-step_level names (Bind value variable) = Err Later
+step_level names (Bind value variable) = Ok (step.Extend (number_of names variable) (expr_of names value))
 step_level names (Values table) = Ok (step.Join (pattern.Values (table_of names table)))
 
-abbrev pub without_filters : List Expression → Outcome (List Step) → Outcome (List Step)
-without_filters [] steps = steps
-without_filters (filter ∷ filters) steps = Err Later
+abbrev pub with_filters : List Expr → List Step → GroupParts
+with_filters conditions steps = record { steps = steps; conditions = conditions }
 
-abbrev pub group_level : List Name → Group-F (Outcome Step) (Outcome (List Step)) → Outcome (List Step)
-group_level names group = without_filters group.filters (all group.patterns)
+abbrev pub group_level : List Name → Group-F (Outcome Step) (Outcome GroupParts) → Outcome GroupParts
+group_level names group = and_then (all group.patterns) (λ steps. Ok (with_filters (map (expr_of names) group.filters) steps))
 
--- the steps of a group
-abbrev pub group_steps : List Name → Group → Outcome (List Step)
-group_steps names = fold-Group (Outcome Step) (Outcome (List Step)) (step_level names) (group_level names)
+-- the steps and the filters of a group
+abbrev pub group_parts : List Name → Group → Outcome GroupParts
+group_parts names = fold-Group (Outcome Step) (Outcome GroupParts) (step_level names) (group_level names)
 
 -- the step that a part of a group is
 abbrev pub step_of : List Name → GraphPattern → Outcome Step
-step_of names = fold-GraphPattern (Outcome Step) (Outcome (List Step)) (step_level names) (group_level names)
+step_of names = fold-GraphPattern (Outcome Step) (Outcome GroupParts) (step_level names) (group_level names)
 
 -- the pattern of a group
 abbrev pub group_pattern : List Name → Group → Outcome Pattern
-group_pattern names group = then_closed (group_steps names group)
+group_pattern names group = then_closed (group_parts names group)
 
 -- the pattern of a query: that of its WHERE, which in a short CONSTRUCT is its template (16.2.4)
 abbrev pub template_or_group : List Name → List Triple → Option Group → Outcome Pattern
@@ -104,8 +119,20 @@ form_pattern names (form.Ask ask) = group_pattern names ask.pattern
 abbrev pub with_table : List Name → Option InlineData → Outcome Pattern → Outcome Pattern
 with_table names None whole = whole
 with_table names (Some table) whole =
-    and_then whole (λ part. Ok (pattern.Group (step.Join part ∷ step.Join (pattern.Values (table_of names table)) ∷ [])))
+    and_then whole (λ part. Ok (pattern.Group (step.Join part ∷ step.Join (pattern.Values (table_of names table)) ∷ []) []))
 
 -- the pattern of a query, whose variables have the numbers of their places in its list
-abbrev pub translated : Query → Outcome Pattern
-translated query = with_table (names_of query.variables) query.values (form_pattern (names_of query.variables) query.form)
+abbrev pub query_pattern : Query → Outcome Pattern
+query_pattern query = with_table (names_of query.variables) query.values (form_pattern (names_of query.variables) query.form)
+
+-- a pattern with the names of its variables
+abbrev pub named : List Variable → Pattern → NamedPattern
+named variables pattern = record { names = names_of variables; pattern = pattern }
+
+-- the pattern of a query, with its variables
+abbrev pub translated : Query → Outcome NamedPattern
+translated query = and_then (query_pattern query) (λ pattern. Ok (named query.variables pattern))
+
+-- the pattern of a WHERE by itself, with the variables of its text
+abbrev pub translated_where : List Variable → Group → Outcome NamedPattern
+translated_where variables group = and_then (group_pattern (names_of variables) group) (λ pattern. Ok (named variables pattern))

@@ -1,55 +1,113 @@
 //! Basic graph patterns (SPARQL 1.1 Query, 18.2.2.5).
 
-ghost use Rattle.std.specs.Prelude.{◌≡◌, IfOk, map};
+ghost use Rattle.std.specs.Prelude.{◌≡◌, ◌↔◌, IfOk, IsTrue, map};
 ghost use Rattle.qs_algebra.specs.Basic as spec;
+ghost use Rattle.qs_patterns.specs.declared.pattern.Slot.TheVariants as slot;
 ghost use Rattle.qs_terms.specs.Outcome.{OrWantOfMemory, all};
+ghost use Rattle.qs_terms.specs.declared.term.Term.TheVariants as value;
 
 use crate::hidden::{Hidden, hidden_of};
 use qs_ast::pattern::{Triple, Verb};
 use qs_ast::term::TermPattern;
 use qs_patterns::{BasicPattern, Slot, TriplePattern};
 use qs_scope::Seen;
-use qs_terms::{QFault, Term};
+use qs_shared::Shared;
+use qs_terms::{Iri, Lit, QFault, Term};
 use sqlite_items::Items;
 use std::alloc::{AllocError, Global};
+
+fn is_iri(term: &Term, iri: &Iri) -> bool
+    ensures { IsTrue result ↔ (term.now ≡ value.Iri iri.now) }
+{
+    match term {
+        Term::Iri(known) => known.is_same(iri),
+        _ => false,
+    }
+}
+
+fn is_literal(term: &Term, literal: &Lit) -> bool
+    ensures { IsTrue result ↔ (term.now ≡ value.Literal literal.now) }
+{
+    match term {
+        Term::Literal(known) => known.is_same(literal),
+        _ => false,
+    }
+}
+
+/// The slot of an IRI, which is shared with the slot before it where that has the same one.
+fn iri_slot(alloc: Global, before: Option<&Slot>, iri: &Iri) -> Result<Slot, AllocError>
+    ensures { IfOk result (λ s. s ≡ slot.Term (value.Iri iri.now)) }
+{
+    if let Some(Slot::Term(term)) = before {
+        if is_iri(term.get(), iri) {
+            return Ok(Slot::Term(term.share()?));
+        }
+    }
+    let iri = Term::Iri(iri.try_clone(alloc)?);
+    Ok(Slot::Term(Shared::new(alloc, iri)?))
+}
+
+/// The slot of a literal, which is shared with the slot before it where that has the same one.
+fn literal_slot(alloc: Global, before: Option<&Slot>, literal: &Lit) -> Result<Slot, AllocError>
+    ensures { IfOk result (λ s. s ≡ slot.Term (value.Literal literal.now)) }
+{
+    if let Some(Slot::Term(term)) = before {
+        if is_literal(term.get(), literal) {
+            return Ok(Slot::Term(term.share()?));
+        }
+    }
+    let literal = Term::Literal(literal.try_clone(alloc)?);
+    Ok(Slot::Term(Shared::new(alloc, literal)?))
+}
 
 fn term_slot<'a>(
     alloc: Global,
     names: &Seen<'a>,
     hidden: &Hidden<'a>,
+    before: Option<&Slot>,
     term: &'a TermPattern,
 ) -> Result<Slot, AllocError>
     ensures { IfOk result (λ s. s ≡ spec.term_slot names.now hidden.now term.now) }
 {
     match term {
         TermPattern::Variable(variable) => Ok(Slot::Variable(names.place(&variable.name))),
-        TermPattern::Iri(iri) => Ok(Slot::Term(Term::Iri(iri.try_clone(alloc)?))),
-        TermPattern::Literal(literal) => Ok(Slot::Term(Term::Literal(literal.try_clone(alloc)?))),
+        TermPattern::Iri(iri) => iri_slot(alloc, before, iri),
+        TermPattern::Literal(literal) => literal_slot(alloc, before, literal),
         TermPattern::Blank(blank) => Ok(Slot::Variable(hidden.number(names, blank)?)),
     }
 }
 
-fn verb_slot<'a>(alloc: Global, names: &Seen<'a>, verb: &'a Verb) -> Result<Slot, QFault>
+fn verb_slot<'a>(
+    alloc: Global,
+    names: &Seen<'a>,
+    before: Option<&Slot>,
+    verb: &'a Verb,
+) -> Result<Slot, QFault>
     ensures { OrWantOfMemory (spec.verb_slot names.now verb.now) result }
 {
     match verb {
         Verb::Variable(variable) => Ok(Slot::Variable(names.place(&variable.name))),
-        Verb::Iri(iri) => Ok(Slot::Term(Term::Iri(iri.try_clone(alloc)?))),
+        Verb::Iri(iri) => Ok(iri_slot(alloc, before, iri)?),
         Verb::Path(_) => Err(QFault::Later),
     }
 }
 
+/// The triple pattern of a triple. It shares the terms that the one before it has in the same places.
 fn triple_pattern<'a>(
     alloc: Global,
     names: &Seen<'a>,
     hidden: &Hidden<'a>,
+    before: Option<&TriplePattern>,
     triple: &'a Triple,
 ) -> Result<TriplePattern, QFault>
     ensures { OrWantOfMemory (spec.triple_pattern names.now hidden.now triple.now) result }
 {
-    let predicate = verb_slot(alloc, names, triple.verb.get())?;
-    let subject = term_slot(alloc, names, hidden, triple.subject.get())?;
-    let object = term_slot(alloc, names, hidden, &triple.object)?;
+    let above = before.map(|pattern| &pattern.predicate);
+    let predicate = verb_slot(alloc, names, above, triple.verb.get())?;
+    let above = before.map(|pattern| &pattern.subject);
+    let subject = term_slot(alloc, names, hidden, above, triple.subject.get())?;
+    let above = before.map(|pattern| &pattern.object);
+    let object = term_slot(alloc, names, hidden, above, &triple.object)?;
     Ok(TriplePattern {
         subject,
         predicate,
@@ -67,7 +125,8 @@ fn triple_patterns<'a>(
 {
     let mut patterns = Items::new(alloc);
     for triple in triples {
-        let pattern = triple_pattern(alloc, names, hidden, triple)?;
+        let before = patterns.as_slice().last();
+        let pattern = triple_pattern(alloc, names, hidden, before, triple)?;
         patterns.push(pattern)?;
     }
     Ok(patterns)

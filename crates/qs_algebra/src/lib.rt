@@ -2,10 +2,15 @@
 #![tactic(auto)]
 
 mod basic;
+mod expression;
 mod hidden;
+mod named;
+mod operator;
+mod parts;
 mod query;
 mod table;
 mod translation;
 
-pub use query::translate;
+pub use named::NamedPattern;
+pub use query::{translate, translate_where};
 pub use translation::group_pattern;

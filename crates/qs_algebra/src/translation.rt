@@ -5,35 +5,62 @@ ghost use Rattle.qs_terms.specs.Outcome.{OrWantOfMemory, all};
 ghost use Rattle.qs_algebra.specs.Translation as spec;
 
 use crate::basic::basic_pattern;
+use crate::expression::{expr_of, exprs_of};
+use crate::parts::GroupParts;
 use crate::table::table_of;
 use qs_ast::pattern::{GraphPattern, Group};
 use qs_ast::term::VarOrIri;
+use qs_beside::beside;
 use qs_patterns::{Pattern, Step};
 use qs_scope::Seen;
 use qs_terms::{QFault, Term};
 use sqlite_items::{Boxed, Items};
 use std::alloc::{AllocError, Global};
 
-/// A group that is closed behind its last step. One pattern that is joined to the empty solution alone is that pattern.
-#[tactic(auto, using(crate::proofs::Alone::join, crate::proofs::Alone::left_join, crate::proofs::Alone::minus))]
-fn closed(mut steps: Items<Step>) -> Result<Pattern, AllocError>
-    ensures { IfOk result (λ p. p ≡ spec.closed steps) }
+/// The steps of a group without filters. One pattern that is joined to the empty solution alone is that pattern.
+#[tactic(auto, using(crate::proofs::Alone::join, crate::proofs::Alone::left_join, crate::proofs::Alone::minus, crate::proofs::Alone::extend))]
+fn unfiltered(alloc: Global, mut steps: Items<Step>) -> Result<Pattern, AllocError>
+    ensures { IfOk result (λ p. p ≡ spec.unfiltered steps) }
 {
+    let none = Items::new(alloc);
     if steps.len() != 1 {
-        return Ok(Pattern::Group(steps));
+        return Ok(Pattern::Group(steps, none));
     }
     match steps.pop() {
         Some(Step::Join(part)) => Ok(part),
-        Some(Step::LeftJoin(part)) => {
-            steps.push(Step::LeftJoin(part))?;
-            Ok(Pattern::Group(steps))
+        Some(Step::LeftJoin(part, conditions)) => {
+            steps.push(Step::LeftJoin(part, conditions))?;
+            Ok(Pattern::Group(steps, none))
         }
         Some(Step::Minus(part)) => {
             steps.push(Step::Minus(part))?;
-            Ok(Pattern::Group(steps))
+            Ok(Pattern::Group(steps, none))
         }
-        None => Ok(Pattern::Group(steps)),
+        Some(Step::Extend(variable, expr)) => {
+            steps.push(Step::Extend(variable, expr))?;
+            Ok(Pattern::Group(steps, none))
+        }
+        None => Ok(Pattern::Group(steps, none)),
     }
+}
+
+/// A group that is closed behind its last step, with its filters.
+fn closed(alloc: Global, group: GroupParts) -> Result<Pattern, AllocError>
+    ensures { IfOk result (λ p. p ≡ spec.closed group) }
+{
+    if group.conditions.is_empty() {
+        unfiltered(alloc, group.steps)
+    } else {
+        Ok(Pattern::Group(group.steps, group.conditions))
+    }
+}
+
+/// An optional group, whose own filters are the condition.
+fn optional(alloc: Global, group: GroupParts) -> Result<Step, AllocError>
+    ensures { IfOk result (λ s. s ≡ spec.optional group) }
+{
+    let (conditions, part) = beside(group.conditions, unfiltered(alloc, group.steps))?;
+    Ok(Step::LeftJoin(part, conditions))
 }
 
 fn one_or_union(mut parts: Items<Pattern>) -> Pattern
@@ -77,19 +104,18 @@ pub fn group_pattern<'a>(
 ) -> Result<Pattern, QFault>
     ensures { OrWantOfMemory (spec.group_pattern names.now group.now) result }
 {
-    let steps = group_steps(alloc, names, group)?;
-    let pattern = closed(steps)?;
+    let parts = group_parts(alloc, names, group)?;
+    let pattern = closed(alloc, parts)?;
     Ok(pattern)
 }
 
 #[cycle(group)]
-fn group_steps<'a>(alloc: Global, names: &Seen<'a>, group: &'a Group) -> Result<Items<Step>, QFault>
-    ensures { OrWantOfMemory (spec.group_steps names.now group.now) result }
+fn group_parts<'a>(alloc: Global, names: &Seen<'a>, group: &'a Group) -> Result<GroupParts, QFault>
+    ensures { OrWantOfMemory (spec.group_parts names.now group.now) result }
 {
-    if !group.filters.is_empty() {
-        return Err(QFault::Later);
-    }
-    steps(alloc, names, group.patterns.as_slice())
+    let steps = steps(alloc, names, group.patterns.as_slice())?;
+    let (steps, conditions) = beside(steps, exprs_of(alloc, names, group.filters.as_slice()))?;
+    Ok(GroupParts { steps, conditions })
 }
 
 #[cycle(group)]
@@ -122,8 +148,9 @@ fn step<'a>(alloc: Global, names: &Seen<'a>, pattern: &'a GraphPattern) -> Resul
             Ok(Step::Join(one_or_union(parts)))
         }
         GraphPattern::Optional(group) => {
-            let part = group_pattern(alloc, names, group)?;
-            Ok(Step::LeftJoin(part))
+            let parts = group_parts(alloc, names, group)?;
+            let step = optional(alloc, parts)?;
+            Ok(step)
         }
         GraphPattern::Minus(group) => {
             let part = group_pattern(alloc, names, group)?;
@@ -138,7 +165,10 @@ fn step<'a>(alloc: Global, names: &Seen<'a>, pattern: &'a GraphPattern) -> Resul
             let table = table_of(alloc, names, table)?;
             Ok(Step::Join(Pattern::Values(table)))
         }
-        GraphPattern::Bind(_, _) => Err(QFault::Later),
+        GraphPattern::Bind(value, variable) => {
+            let expr = expr_of(alloc, names, value)?;
+            Ok(Step::Extend(names.place(&variable.name), expr))
+        }
     }
 }
 

@@ -1,7 +1,7 @@
 //! Updates (SPARQL 1.1 Update, 3).
 
 use crate::pattern::{Group, Triple};
-use crate::term::VarOrIri;
+use crate::term::{VarOrIri, Variable};
 use qs_terms::Iri;
 use qs_tree::update::OnMissing;
 use sqlite_items::Items;
@@ -9,6 +9,8 @@ use sqlite_items::Items;
 #[derive(Drop)]
 pub struct Update {
     pub operations: Items<Operation>,
+    /// The variables of the text, in the order in which they first appear in it.
+    pub variables: Items<Variable>,
 }
 
 #[derive(Drop)]

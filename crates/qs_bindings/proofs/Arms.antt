@@ -7,11 +7,12 @@ use Rattle.qs_solutions.specs.Solution.{Solution, term_at, binding}
 use Rattle.std.proofs.lemmas.Bool.{lt-ltb}
 use Rattle.std.proofs.lemmas.List.{take_more}
 use Rattle.std.proofs.lemmas.List.Folds.{list_any_more, list_all-append}
+use Rattle.qs_expr.specs.declared.expr.Expr.{Expr}
 use Rattle.qs_patterns.specs.declared.pattern.BasicPattern.{BasicPattern}
 use Rattle.qs_patterns.specs.declared.pattern.Pattern.{Pattern}
 use Rattle.qs_patterns.specs.declared.pattern.Pattern.TheVariants.{Basic, Group, Union, Graph, EachGraph, Values}
 use Rattle.qs_patterns.specs.declared.pattern.Step.{Step}
-use Rattle.qs_patterns.specs.declared.pattern.Step.TheVariants.{Join, LeftJoin, Minus}
+use Rattle.qs_patterns.specs.declared.pattern.Step.TheVariants.{Join, LeftJoin, Minus, Extend}
 use Rattle.qs_patterns.specs.declared.pattern.Table.{Table}
 use Rattle.qs_patterns.specs.Eval.{rows_of}
 use Rattle.qs_patterns.specs.Basic.{mentions}
@@ -19,7 +20,7 @@ use Rattle.qs_bindings.specs.Flags.{flags_from, flag_at}
 use Rattle.qs_bindings.specs.Certain.{is_certain, is_certain_step, is_column, is_set}
 use Rattle.qs_bindings.specs.Possible.{is_possible, is_possible_step}
 use Rattle.qs_bindings.proofs.FlagLaws.{same_flags, flag_is}
-use Rattle.qs_bindings.proofs.Meaning.{certain_basic, certain_group, certain_union, certain_graph, certain_each_graph, certain_values, certain_join, certain_left_join, certain_minus, possible_basic, possible_group, possible_union, possible_graph, possible_each_graph, possible_values, possible_join, possible_left_join, possible_minus}
+use Rattle.qs_bindings.proofs.Meaning.{certain_basic, certain_group, certain_union, certain_graph, certain_each_graph, certain_values, certain_join, certain_left_join, certain_minus, certain_extend, possible_basic, possible_group, possible_union, possible_graph, possible_each_graph, possible_values, possible_join, possible_left_join, possible_minus, possible_extend}
 use Rattle.qs_bindings.proofs.ColumnLaws.{set_here}
 
 within : (v width : ℕ) (b : Bool) → v < width → b ≡ (nat_lt v width && b)
@@ -48,9 +49,9 @@ module _ (width : ℕ) (p : Pattern) (flags : List Bool) where
   certain_basic_arm b is h =
       arm (mentions b.triples) (is_certain width p) (λ v lt. within v width (mentions b.triples v) lt ∙ sym (ap (λ q. is_certain width q v) is ∙ certain_basic width v b)) h
 
-  pub certain_group_arm : (steps ss : List Step) → p ≡ Group steps → ss ≡ steps → flags ≡ flags_from (λ v. list_any (λ s. is_certain_step width s v) ss) 0 width → flags ≡ flags_from (is_certain width p) 0 width
-  certain_group_arm steps ss is e h =
-      arm _ (is_certain width p) (λ v lt. ap (list_any (λ s. is_certain_step width s v)) e ∙ sym (ap (λ q. is_certain width q v) is ∙ certain_group width v steps)) h
+  pub certain_group_arm : (steps ss : List Step) (conditions : List Expr) → p ≡ Group steps conditions → ss ≡ steps → flags ≡ flags_from (λ v. list_any (λ s. is_certain_step width s v) ss) 0 width → flags ≡ flags_from (is_certain width p) 0 width
+  certain_group_arm steps ss conditions is e h =
+      arm _ (is_certain width p) (λ v lt. ap (list_any (λ s. is_certain_step width s v)) e ∙ sym (ap (λ q. is_certain width q v) is ∙ certain_group width v steps conditions)) h
 
   pub certain_union_arm : (parts ps : List Pattern) → p ≡ Union parts → ps ≡ parts → flags ≡ flags_from (λ v. list_all (λ part. is_certain width part v) ps) 0 width → flags ≡ flags_from (is_certain width p) 0 width
   certain_union_arm parts ps is e h =
@@ -69,9 +70,9 @@ module _ (width : ℕ) (p : Pattern) (flags : List Bool) where
   possible_basic_arm b is h =
       arm (mentions b.triples) (is_possible width p) (λ v lt. within v width (mentions b.triples v) lt ∙ sym (ap (λ q. is_possible width q v) is ∙ possible_basic width v b)) h
 
-  pub possible_group_arm : (steps ss : List Step) → p ≡ Group steps → ss ≡ steps → flags ≡ flags_from (λ v. list_any (λ s. is_possible_step width s v) ss) 0 width → flags ≡ flags_from (is_possible width p) 0 width
-  possible_group_arm steps ss is e h =
-      arm _ (is_possible width p) (λ v lt. ap (list_any (λ s. is_possible_step width s v)) e ∙ sym (ap (λ q. is_possible width q v) is ∙ possible_group width v steps)) h
+  pub possible_group_arm : (steps ss : List Step) (conditions : List Expr) → p ≡ Group steps conditions → ss ≡ steps → flags ≡ flags_from (λ v. list_any (λ s. is_possible_step width s v) ss) 0 width → flags ≡ flags_from (is_possible width p) 0 width
+  possible_group_arm steps ss conditions is e h =
+      arm _ (is_possible width p) (λ v lt. ap (list_any (λ s. is_possible_step width s v)) e ∙ sym (ap (λ q. is_possible width q v) is ∙ possible_group width v steps conditions)) h
 
   pub possible_union_arm : (parts ps : List Pattern) → p ≡ Union parts → ps ≡ parts → flags ≡ flags_from (λ v. list_any (λ part. is_possible width part v) ps) 0 width → flags ≡ flags_from (is_possible width p) 0 width
   possible_union_arm parts ps is e h =
@@ -101,8 +102,8 @@ module _ (width : ℕ) (s : Step) (part : Pattern) (flags : List Bool) where
   pub certain_join_arm : s ≡ Join part → flags ≡ flags_from (is_certain width part) 0 width → flags ≡ flags_from (is_certain_step width s) 0 width
   certain_join_arm is h = step_arm _ _ (λ v. sym (ap (λ t. is_certain_step width t v) is ∙ certain_join width v part)) h
 
-  pub certain_left_join_arm : s ≡ LeftJoin part → flags ≡ flags_from (λ v. false) 0 width → flags ≡ flags_from (is_certain_step width s) 0 width
-  certain_left_join_arm is h = step_arm _ _ (λ v. sym (ap (λ t. is_certain_step width t v) is ∙ certain_left_join width v part)) h
+  pub certain_left_join_arm : (conditions : List Expr) → s ≡ LeftJoin part conditions → flags ≡ flags_from (λ v. false) 0 width → flags ≡ flags_from (is_certain_step width s) 0 width
+  certain_left_join_arm conditions is h = step_arm _ _ (λ v. sym (ap (λ t. is_certain_step width t v) is ∙ certain_left_join width v part conditions)) h
 
   pub certain_minus_arm : s ≡ Minus part → flags ≡ flags_from (λ v. false) 0 width → flags ≡ flags_from (is_certain_step width s) 0 width
   certain_minus_arm is h = step_arm _ _ (λ v. sym (ap (λ t. is_certain_step width t v) is ∙ certain_minus width v part)) h
@@ -110,11 +111,20 @@ module _ (width : ℕ) (s : Step) (part : Pattern) (flags : List Bool) where
   pub possible_join_arm : s ≡ Join part → flags ≡ flags_from (is_possible width part) 0 width → flags ≡ flags_from (is_possible_step width s) 0 width
   possible_join_arm is h = step_arm _ _ (λ v. sym (ap (λ t. is_possible_step width t v) is ∙ possible_join width v part)) h
 
-  pub possible_left_join_arm : s ≡ LeftJoin part → flags ≡ flags_from (is_possible width part) 0 width → flags ≡ flags_from (is_possible_step width s) 0 width
-  possible_left_join_arm is h = step_arm _ _ (λ v. sym (ap (λ t. is_possible_step width t v) is ∙ possible_left_join width v part)) h
+  pub possible_left_join_arm : (conditions : List Expr) → s ≡ LeftJoin part conditions → flags ≡ flags_from (is_possible width part) 0 width → flags ≡ flags_from (is_possible_step width s) 0 width
+  possible_left_join_arm conditions is h = step_arm _ _ (λ v. sym (ap (λ t. is_possible_step width t v) is ∙ possible_left_join width v part conditions)) h
 
   pub possible_minus_arm : s ≡ Minus part → flags ≡ flags_from (λ v. false) 0 width → flags ≡ flags_from (is_possible_step width s) 0 width
   possible_minus_arm is h = step_arm _ _ (λ v. sym (ap (λ t. is_possible_step width t v) is ∙ possible_minus width v part)) h
+
+module _ (width : ℕ) (s : Step) (w : ℕ) (e : Expr) (flags : List Bool) where
+  pub certain_extend_arm : s ≡ Extend w e → flags ≡ flags_from (λ v. false) 0 width → flags ≡ flags_from (is_certain_step width s) 0 width
+  certain_extend_arm is h = h ∙ same_flags (λ v. false) (is_certain_step width s) 0 width (λ v low high. sym (ap (λ t. is_certain_step width t v) is ∙ certain_extend width v w e))
+
+  pub possible_extend_arm : (before : List Bool) → s ≡ Extend w e → before ≡ flags_from (λ v. false) 0 width → flags ≡ slice_set before w true → flags ≡ flags_from (is_possible_step width s) 0 width
+  possible_extend_arm before is h f =
+      f ∙ ap (λ l. slice_set l w true) h ∙ set_here (λ v. false) width w
+      ∙ same_flags (λ v. false || w == v) (is_possible_step width s) 0 width (λ v low high. sym (ap (λ t. is_possible_step width t v) is ∙ possible_extend width v w e))
 
 module _ {X : Type 0} (f : X → ℕ → Bool) (ps : List X) (i n : ℕ) (p : X) (flags more flags' : List Bool) where
   all_more : (v : ℕ) → i < length ps → (list_all (λ part. f part v) (take i ps) && f (get_or ps i p) v) ≡ list_all (λ part. f part v) (take (i + 1) ps)

@@ -10,21 +10,23 @@ use Rattle.qs_terms.specs.Term.{same_term}
 use Rattle.qs_terms.specs.declared.term.Term.{Term}
 use Rattle.qs_solutions.specs.Solution.{Solution, term_at, unbound, binding}
 use Rattle.qs_solutions.specs.Operators.{join}
+use Rattle.qs_expr.specs.declared.expr.Expr.{Expr}
 use Rattle.qs_patterns.specs.declared.pattern.BasicPattern.{BasicPattern}
 use Rattle.qs_patterns.specs.declared.pattern.Table.{Table}
 use Rattle.qs_patterns.specs.declared.pattern.Step.{Step, map-Step, roll-Step}
-use Rattle.qs_patterns.specs.declared.pattern.Step.TheVariants.{Join, LeftJoin, Minus, rolls-Join, rolls-LeftJoin, rolls-Minus}
+use Rattle.qs_patterns.specs.declared.pattern.Step.TheVariants.{Join, LeftJoin, Minus, Extend, rolls-Join, rolls-LeftJoin, rolls-Minus, rolls-Extend}
 use Rattle.qs_patterns.specs.declared.pattern.Pattern.{Pattern, map-Pattern, roll-Pattern, ind-Pattern}
 use Rattle.qs_patterns.specs.declared.pattern.Pattern.TheOpen as level
 use Rattle.qs_patterns.specs.declared.pattern.Pattern.TheVariants.{Basic, Group, Union, Graph, EachGraph, Values, rolls-Basic, rolls-Group, rolls-Union, rolls-Graph, rolls-EachGraph, rolls-Values}
 use Rattle.qs_patterns.specs.Basic.{Graph as Triples, mentions, puts_into, terms_of, all_maps, matches}
-use Rattle.qs_patterns.specs.Eval.{eval, step, in_named, in_each, rows_of}
-use Rattle.qs_patterns.proofs.Meaning.{eval_basic, eval_group, eval_union, eval_graph, eval_each_graph, eval_values, step_join, step_left_join, step_minus}
+use Rattle.qs_patterns.specs.Eval.{eval, step, all_hold, bound_to, extended, in_named, in_each, rows_of}
+use Rattle.qs_patterns.proofs.Meaning.{eval_basic, eval_group, eval_union, eval_graph, eval_each_graph, eval_values, step_join, step_left_join, step_minus, step_extend}
+use Rattle.qs_expr.specs.Meaning.{meaning}
 use Rattle.qs_bindings.specs.Certain.{is_certain, is_certain_step, is_column, is_set}
 use Rattle.qs_bindings.specs.Possible.{is_possible, is_possible_step}
-use Rattle.qs_bindings.proofs.Meaning.{certain_basic, certain_group, certain_union, certain_graph, certain_each_graph, certain_values, certain_join, certain_left_join, certain_minus, possible_basic, possible_group, possible_union, possible_graph, possible_each_graph, possible_values, possible_join, possible_left_join, possible_minus}
+use Rattle.qs_bindings.proofs.Meaning.{certain_basic, certain_group, certain_union, certain_graph, certain_each_graph, certain_values, certain_join, certain_left_join, certain_minus, certain_extend, possible_basic, possible_group, possible_union, possible_graph, possible_each_graph, possible_values, possible_join, possible_left_join, possible_minus, possible_extend}
 use Rattle.qs_bindings.proofs.BoundCells.{Bound, Unbound, each_append, each_of, each_filter, each_map, each_flat_map, join_left, join_right, join_neither, left_join_left, left_join_neither, minus_each, unbound_at, maps_bind, maps_leave, take_bound, take_unbound, take_past}
-use Rattle.qs_bindings.proofs.SetCells.{named_bound, named_other, named_past, row_other, row_past}
+use Rattle.qs_bindings.proofs.SetCells.{bound_keeps, unbound_keeps, named_bound, named_other, named_past, row_other, row_past}
 
 both_hold : (a b : Bool) → (a && b) ≡ true → (a ≡ true) × (b ≡ true)
 both_hold true b h = (refl, h)
@@ -61,16 +63,22 @@ module _ (width : ℕ) (quads : List Statement) (v : ℕ) where
     λ h. subst (AllByRecursion (Bound v)) (sym (step_join width quads graph part left)) (join_right v left (eval width quads part graph) (ih (sym (certain_join width v part) ∙ h) graph)),
   )
 
-  left_join_binds : (part : Pattern) → BindsOn (LeftJoin part)
-  left_join_binds part graph left = (
-    λ h. subst (AllByRecursion (Bound v)) (sym (step_left_join width quads graph part left)) (left_join_left v left (eval width quads part graph) (λ m. true) h),
-    λ h. let f : false ≡ true = sym (certain_left_join width v part) ∙ h in cc,
+  left_join_binds : (part : Pattern) (conditions : List Expr) → BindsOn (LeftJoin part conditions)
+  left_join_binds part conditions graph left = (
+    λ h. subst (AllByRecursion (Bound v)) (sym (step_left_join width quads graph part conditions left)) (left_join_left v left (eval width quads part graph) (all_hold conditions) h),
+    λ h. let f : false ≡ true = sym (certain_left_join width v part conditions) ∙ h in cc,
   )
 
   minus_binds : (part : Pattern) → BindsOn (Minus part)
   minus_binds part graph left = (
     λ h. subst (AllByRecursion (Bound v)) (sym (step_minus width quads graph part left)) (minus_each v left (eval width quads part graph) (Bound v) h),
     λ h. let f : false ≡ true = sym (certain_minus width v part) ∙ h in cc,
+  )
+
+  extend_binds : (w : ℕ) (e : Expr) → BindsOn (Extend w e)
+  extend_binds w e graph left = (
+    λ h. subst (AllByRecursion (Bound v)) (sym (step_extend width quads graph w e left)) (each_map (Bound v) (Bound v) (extended w e) (λ m k. bound_keeps m w v (meaning m e) k) left h),
+    λ h. let f : false ≡ true = sym (certain_extend width v w e) ∙ h in cc,
   )
 
   still_bound : (es : List ((s : Step) × BindsOn s)) (graph : Triples) (first : List Solution) → AllByRecursion (Bound v) first → AllByRecursion (Bound v) (fold (λ left s. step width quads s graph left) first (map (λ e. e.0) es))
@@ -123,9 +131,9 @@ module _ (width : ℕ) (quads : List Statement) (v : ℕ) where
 
   binds_level : (y : level.Pattern-F ((p : Pattern) × Binds p) ((s : Step) × BindsOn s)) → Binds (roll-Pattern (map-Pattern ((p : Pattern) × Binds p) ((s : Step) × BindsOn s) Pattern Step (λ e. e.0) (λ e. e.0) y))
   binds_level (level.Basic b) = subst Binds (sym (rolls-Basic b)) (basic_binds b)
-  binds_level (level.Group es) = subst Binds (sym (rolls-Group (map (λ e. e.0) es))) (λ h graph.
-      subst (AllByRecursion (Bound v)) (sym (eval_group width quads graph (map (λ e. e.0) es)))
-      (steps_bind es graph (unbound width ∷ []) (sym (certain_group width v (map (λ e. e.0) es)) ∙ h)))
+  binds_level (level.Group es conditions) = subst Binds (sym (rolls-Group (map (λ e. e.0) es) conditions)) (λ h graph.
+      subst (AllByRecursion (Bound v)) (sym (eval_group width quads graph (map (λ e. e.0) es) conditions))
+      (each_filter (Bound v) (all_hold conditions) _ (steps_bind es graph (unbound width ∷ []) (sym (certain_group width v (map (λ e. e.0) es) conditions) ∙ h))))
   binds_level (level.Union es) = subst Binds (sym (rolls-Union (map (λ e. e.0) es))) (λ h graph.
       subst (AllByRecursion (Bound v)) (sym (eval_union width quads graph (map (λ e. e.0) es)))
       (union_binds es graph (sym (certain_union width v (map (λ e. e.0) es)) ∙ h)))
@@ -139,8 +147,9 @@ module _ (width : ℕ) (quads : List Statement) (v : ℕ) where
 
   binds_on_level : (y : level.Step-F ((p : Pattern) × Binds p) ((s : Step) × BindsOn s)) → BindsOn (roll-Step (map-Step ((p : Pattern) × Binds p) ((s : Step) × BindsOn s) Pattern Step (λ e. e.0) (λ e. e.0) y))
   binds_on_level (level.Join e) = subst BindsOn (sym (rolls-Join e.0)) (join_binds e.0 e.1)
-  binds_on_level (level.LeftJoin e) = subst BindsOn (sym (rolls-LeftJoin e.0)) (left_join_binds e.0)
+  binds_on_level (level.LeftJoin e conditions) = subst BindsOn (sym (rolls-LeftJoin e.0 conditions)) (left_join_binds e.0 conditions)
   binds_on_level (level.Minus e) = subst BindsOn (sym (rolls-Minus e.0)) (minus_binds e.0)
+  binds_on_level (level.Extend w e) = subst BindsOn (sym (rolls-Extend w e)) (extend_binds w e)
 
   each_binds : (p : Pattern) → Binds p
   each_binds = ind-Pattern Binds BindsOn (λ x y is. subst (λ z. Binds (roll-Pattern z)) is (binds_level y)) (λ x y is. subst (λ z. BindsOn (roll-Step z)) is (binds_on_level y))
@@ -169,13 +178,18 @@ module _ (width : ℕ) (quads : List Statement) (v : ℕ) where
   join_leaves part ih h graph left n =
       subst (AllByRecursion (Unbound v)) (sym (step_join width quads graph part left)) (join_neither v left (eval width quads part graph) n (ih (sym (possible_join width v part) ∙ h) graph))
 
-  left_join_leaves : (part : Pattern) → Leaves part → LeavesOn (LeftJoin part)
-  left_join_leaves part ih h graph left n =
-      subst (AllByRecursion (Unbound v)) (sym (step_left_join width quads graph part left)) (left_join_neither v left (eval width quads part graph) (λ m. true) n (ih (sym (possible_left_join width v part) ∙ h) graph))
+  left_join_leaves : (part : Pattern) (conditions : List Expr) → Leaves part → LeavesOn (LeftJoin part conditions)
+  left_join_leaves part conditions ih h graph left n =
+      subst (AllByRecursion (Unbound v)) (sym (step_left_join width quads graph part conditions left)) (left_join_neither v left (eval width quads part graph) (all_hold conditions) n (ih (sym (possible_left_join width v part conditions) ∙ h) graph))
 
   minus_leaves : (part : Pattern) → LeavesOn (Minus part)
   minus_leaves part h graph left n =
       subst (AllByRecursion (Unbound v)) (sym (step_minus width quads graph part left)) (minus_each v left (eval width quads part graph) (Unbound v) n)
+
+  extend_leaves : (w : ℕ) (e : Expr) → LeavesOn (Extend w e)
+  extend_leaves w e h graph left n =
+      subst (AllByRecursion (Unbound v)) (sym (step_extend width quads graph w e left))
+      (each_map (Unbound v) (Unbound v) (extended w e) (λ m k. unbound_keeps m w v (meaning m e) (sym (possible_extend width v w e) ∙ h) k) left n)
 
   steps_leave : (es : List ((s : Step) × LeavesOn s)) (graph : Triples) (first : List Solution) → AllByRecursion (Unbound v) first → list_any (λ s. is_possible_step width s v) (map (λ e. e.0) es) ≡ false
       → AllByRecursion (Unbound v) (fold (λ left s. step width quads s graph left) first (map (λ e. e.0) es))
@@ -217,9 +231,9 @@ module _ (width : ℕ) (quads : List Statement) (v : ℕ) where
 
   leaves_level : (y : level.Pattern-F ((p : Pattern) × Leaves p) ((s : Step) × LeavesOn s)) → Leaves (roll-Pattern (map-Pattern ((p : Pattern) × Leaves p) ((s : Step) × LeavesOn s) Pattern Step (λ e. e.0) (λ e. e.0) y))
   leaves_level (level.Basic b) = subst Leaves (sym (rolls-Basic b)) (basic_leaves b)
-  leaves_level (level.Group es) = subst Leaves (sym (rolls-Group (map (λ e. e.0) es))) (λ h graph.
-      subst (AllByRecursion (Unbound v)) (sym (eval_group width quads graph (map (λ e. e.0) es)))
-      (steps_leave es graph (unbound width ∷ []) (unbound_at width v, tt) (sym (possible_group width v (map (λ e. e.0) es)) ∙ h)))
+  leaves_level (level.Group es conditions) = subst Leaves (sym (rolls-Group (map (λ e. e.0) es) conditions)) (λ h graph.
+      subst (AllByRecursion (Unbound v)) (sym (eval_group width quads graph (map (λ e. e.0) es) conditions))
+      (each_filter (Unbound v) (all_hold conditions) _ (steps_leave es graph (unbound width ∷ []) (unbound_at width v, tt) (sym (possible_group width v (map (λ e. e.0) es) conditions) ∙ h))))
   leaves_level (level.Union es) = subst Leaves (sym (rolls-Union (map (λ e. e.0) es))) (λ h graph.
       subst (AllByRecursion (Unbound v)) (sym (eval_union width quads graph (map (λ e. e.0) es)))
       (union_leaves es graph (sym (possible_union width v (map (λ e. e.0) es)) ∙ h)))
@@ -233,8 +247,9 @@ module _ (width : ℕ) (quads : List Statement) (v : ℕ) where
 
   leaves_on_level : (y : level.Step-F ((p : Pattern) × Leaves p) ((s : Step) × LeavesOn s)) → LeavesOn (roll-Step (map-Step ((p : Pattern) × Leaves p) ((s : Step) × LeavesOn s) Pattern Step (λ e. e.0) (λ e. e.0) y))
   leaves_on_level (level.Join e) = subst LeavesOn (sym (rolls-Join e.0)) (join_leaves e.0 e.1)
-  leaves_on_level (level.LeftJoin e) = subst LeavesOn (sym (rolls-LeftJoin e.0)) (left_join_leaves e.0 e.1)
+  leaves_on_level (level.LeftJoin e conditions) = subst LeavesOn (sym (rolls-LeftJoin e.0 conditions)) (left_join_leaves e.0 conditions e.1)
   leaves_on_level (level.Minus e) = subst LeavesOn (sym (rolls-Minus e.0)) (minus_leaves e.0)
+  leaves_on_level (level.Extend w e) = subst LeavesOn (sym (rolls-Extend w e)) (extend_leaves w e)
 
   each_leaves : (p : Pattern) → Leaves p
   each_leaves = ind-Pattern Leaves LeavesOn (λ x y is. subst (λ z. Leaves (roll-Pattern z)) is (leaves_level y)) (λ x y is. subst (λ z. LeavesOn (roll-Step z)) is (leaves_on_level y))

@@ -2,10 +2,11 @@
 use Rattle.std.proofs.Common.{◌≡◌, ℕ, Bool, false, ◌&&◌, ◌||◌, ◌==◌, List, [], ◌∷◌, map, nat_lt, refl, ap, sym, ◌∙◌}
 use Rattle.std.specs.List.{list_any, list_all}
 use Rattle.qs_terms.specs.declared.term.Term.{Term}
+use Rattle.qs_expr.specs.declared.expr.Expr.{Expr}
 use Rattle.qs_patterns.specs.declared.pattern.BasicPattern.{BasicPattern}
 use Rattle.qs_patterns.specs.declared.pattern.Table.{Table}
 use Rattle.qs_patterns.specs.declared.pattern.Step.{Step, fold-roll-Step}
-use Rattle.qs_patterns.specs.declared.pattern.Step.TheVariants.{Join, LeftJoin, Minus, rolls-Join, rolls-LeftJoin, rolls-Minus}
+use Rattle.qs_patterns.specs.declared.pattern.Step.TheVariants.{Join, LeftJoin, Minus, Extend, rolls-Join, rolls-LeftJoin, rolls-Minus, rolls-Extend}
 use Rattle.qs_patterns.specs.declared.pattern.Pattern.{Pattern, fold-roll-Pattern}
 use Rattle.qs_patterns.specs.declared.pattern.Pattern.TheOpen as level
 use Rattle.qs_patterns.specs.declared.pattern.Pattern.TheVariants.{Basic, Group, Union, Graph, EachGraph, Values, rolls-Basic, rolls-Group, rolls-Union, rolls-Graph, rolls-EachGraph, rolls-Values}
@@ -30,9 +31,9 @@ module _ (width v : ℕ) where
   certain_basic b =
       ap (λ p. is_certain width p v) (sym (rolls-Basic b)) ∙ (ap (λ (f : ℕ → Bool). f v) (fold-roll-Pattern (ℕ → Bool) (ℕ → Bool) (is_certain_level width) is_certain_step_level (level.Basic b)))
 
-  pub certain_group : (steps : List Step) → is_certain width (Group steps) v ≡ list_any (λ s. is_certain_step width s v) steps
-  certain_group steps =
-      ap (λ p. is_certain width p v) (sym (rolls-Group steps)) ∙ (ap (λ (f : ℕ → Bool). f v) (fold-roll-Pattern (ℕ → Bool) (ℕ → Bool) (is_certain_level width) is_certain_step_level (level.Group steps)) ∙ any_steps (is_certain_step width) v steps)
+  pub certain_group : (steps : List Step) (conditions : List Expr) → is_certain width (Group steps conditions) v ≡ list_any (λ s. is_certain_step width s v) steps
+  certain_group steps conditions =
+      ap (λ p. is_certain width p v) (sym (rolls-Group steps conditions)) ∙ (ap (λ (f : ℕ → Bool). f v) (fold-roll-Pattern (ℕ → Bool) (ℕ → Bool) (is_certain_level width) is_certain_step_level (level.Group steps conditions)) ∙ any_steps (is_certain_step width) v steps)
 
   pub certain_union : (parts : List Pattern) → is_certain width (Union parts) v ≡ list_all (λ part. is_certain width part v) parts
   certain_union parts =
@@ -53,19 +54,22 @@ module _ (width v : ℕ) where
   pub certain_join : (part : Pattern) → is_certain_step width (Join part) v ≡ is_certain width part v
   certain_join part = ap (λ s. is_certain_step width s v) (sym (rolls-Join part)) ∙ ap (λ (f : ℕ → Bool). f v) (fold-roll-Step (ℕ → Bool) (ℕ → Bool) (is_certain_level width) is_certain_step_level (level.Join part))
 
-  pub certain_left_join : (part : Pattern) → is_certain_step width (LeftJoin part) v ≡ false
-  certain_left_join part = ap (λ s. is_certain_step width s v) (sym (rolls-LeftJoin part)) ∙ ap (λ (f : ℕ → Bool). f v) (fold-roll-Step (ℕ → Bool) (ℕ → Bool) (is_certain_level width) is_certain_step_level (level.LeftJoin part))
+  pub certain_left_join : (part : Pattern) (conditions : List Expr) → is_certain_step width (LeftJoin part conditions) v ≡ false
+  certain_left_join part conditions = ap (λ s. is_certain_step width s v) (sym (rolls-LeftJoin part conditions)) ∙ ap (λ (f : ℕ → Bool). f v) (fold-roll-Step (ℕ → Bool) (ℕ → Bool) (is_certain_level width) is_certain_step_level (level.LeftJoin part conditions))
 
   pub certain_minus : (part : Pattern) → is_certain_step width (Minus part) v ≡ false
   certain_minus part = ap (λ s. is_certain_step width s v) (sym (rolls-Minus part)) ∙ ap (λ (f : ℕ → Bool). f v) (fold-roll-Step (ℕ → Bool) (ℕ → Bool) (is_certain_level width) is_certain_step_level (level.Minus part))
+
+  pub certain_extend : (w : ℕ) (e : Expr) → is_certain_step width (Extend w e) v ≡ false
+  certain_extend w e = ap (λ s. is_certain_step width s v) (sym (rolls-Extend w e)) ∙ ap (λ (f : ℕ → Bool). f v) (fold-roll-Step (ℕ → Bool) (ℕ → Bool) (is_certain_level width) is_certain_step_level (level.Extend w e))
 
   pub possible_basic : (b : BasicPattern) → is_possible width (Basic b) v ≡ (nat_lt v width && mentions b.triples v)
   possible_basic b =
       ap (λ p. is_possible width p v) (sym (rolls-Basic b)) ∙ (ap (λ (f : ℕ → Bool). f v) (fold-roll-Pattern (ℕ → Bool) (ℕ → Bool) (is_possible_level width) is_possible_step_level (level.Basic b)))
 
-  pub possible_group : (steps : List Step) → is_possible width (Group steps) v ≡ list_any (λ s. is_possible_step width s v) steps
-  possible_group steps =
-      ap (λ p. is_possible width p v) (sym (rolls-Group steps)) ∙ (ap (λ (f : ℕ → Bool). f v) (fold-roll-Pattern (ℕ → Bool) (ℕ → Bool) (is_possible_level width) is_possible_step_level (level.Group steps)) ∙ any_steps (is_possible_step width) v steps)
+  pub possible_group : (steps : List Step) (conditions : List Expr) → is_possible width (Group steps conditions) v ≡ list_any (λ s. is_possible_step width s v) steps
+  possible_group steps conditions =
+      ap (λ p. is_possible width p v) (sym (rolls-Group steps conditions)) ∙ (ap (λ (f : ℕ → Bool). f v) (fold-roll-Pattern (ℕ → Bool) (ℕ → Bool) (is_possible_level width) is_possible_step_level (level.Group steps conditions)) ∙ any_steps (is_possible_step width) v steps)
 
   pub possible_union : (parts : List Pattern) → is_possible width (Union parts) v ≡ list_any (λ part. is_possible width part v) parts
   possible_union parts =
@@ -86,8 +90,11 @@ module _ (width v : ℕ) where
   pub possible_join : (part : Pattern) → is_possible_step width (Join part) v ≡ is_possible width part v
   possible_join part = ap (λ s. is_possible_step width s v) (sym (rolls-Join part)) ∙ ap (λ (f : ℕ → Bool). f v) (fold-roll-Step (ℕ → Bool) (ℕ → Bool) (is_possible_level width) is_possible_step_level (level.Join part))
 
-  pub possible_left_join : (part : Pattern) → is_possible_step width (LeftJoin part) v ≡ is_possible width part v
-  possible_left_join part = ap (λ s. is_possible_step width s v) (sym (rolls-LeftJoin part)) ∙ ap (λ (f : ℕ → Bool). f v) (fold-roll-Step (ℕ → Bool) (ℕ → Bool) (is_possible_level width) is_possible_step_level (level.LeftJoin part))
+  pub possible_left_join : (part : Pattern) (conditions : List Expr) → is_possible_step width (LeftJoin part conditions) v ≡ is_possible width part v
+  possible_left_join part conditions = ap (λ s. is_possible_step width s v) (sym (rolls-LeftJoin part conditions)) ∙ ap (λ (f : ℕ → Bool). f v) (fold-roll-Step (ℕ → Bool) (ℕ → Bool) (is_possible_level width) is_possible_step_level (level.LeftJoin part conditions))
 
   pub possible_minus : (part : Pattern) → is_possible_step width (Minus part) v ≡ false
   possible_minus part = ap (λ s. is_possible_step width s v) (sym (rolls-Minus part)) ∙ ap (λ (f : ℕ → Bool). f v) (fold-roll-Step (ℕ → Bool) (ℕ → Bool) (is_possible_level width) is_possible_step_level (level.Minus part))
+
+  pub possible_extend : (w : ℕ) (e : Expr) → is_possible_step width (Extend w e) v ≡ (w == v)
+  possible_extend w e = ap (λ s. is_possible_step width s v) (sym (rolls-Extend w e)) ∙ ap (λ (f : ℕ → Bool). f v) (fold-roll-Step (ℕ → Bool) (ℕ → Bool) (is_possible_level width) is_possible_step_level (level.Extend w e))

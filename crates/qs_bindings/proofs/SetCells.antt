@@ -1,10 +1,11 @@
 -- Which variables a row that binds some variables binds.
-use Rattle.std.proofs.Common.{◌≡◌, ℕ, zero, suc, ◌<◌, ◌≤◌, Bool, true, false, ◌||◌, ◌==◌, List, [], ◌∷◌, length, Option, Some, None, slice_set, refl, sym, ap, ◌∙◌, arith, inl, inr}
+use Rattle.std.proofs.Common.{◌≡◌, ℕ, zero, suc, ◌<◌, ◌≤◌, Bool, true, false, ◌||◌, ◌==◌, List, [], ◌∷◌, length, Option, Some, None, IsSome, slice_set, refl, sym, ap, ◌∙◌, arith, inl, inr}
 use Rattle.std.specs.List.{list_any}
 use Rattle.std.proofs.lemmas.Bool.Decides.{eqb_tells}
 use Rattle.qs_terms.specs.declared.term.Term.{Term}
 use Rattle.qs_solutions.specs.Solution.{Solution, term_at, unbound, bind_all, binding}
-use Rattle.qs_bindings.proofs.BoundCells.{unbound_at}
+use Rattle.qs_patterns.specs.Eval.{bound_to}
+use Rattle.qs_bindings.proofs.BoundCells.{Bound, Unbound, unbound_at}
 
 -- the variable that is set
 set_at : (n v : ℕ) (t : Option Term) → v < n → term_at (slice_set (unbound n) v t) v ≡ t
@@ -51,6 +52,23 @@ named_other n w v t h = set_other (unbound n) w v (Some t) (other_number w v h) 
 
 pub named_past : (n w v : ℕ) (t : Term) → n ≤ v → term_at (binding n (w ∷ []) (Some t ∷ [])) v ≡ None
 named_past n w v t h = set_past (unbound n) w v (Some t) (omega (arith, unbound_length n)) ∙ unbound_at n v
+
+still_set : (a : Solution) (w v : ℕ) (t : Term) → IsSome (term_at a v) → IsSome (term_at (slice_set a w (Some t)) v)
+still_set [] w v t h = h
+still_set (x ∷ a) zero zero t h = refl
+still_set (x ∷ a) zero (suc v) t h = h
+still_set (x ∷ a) (suc w) zero t h = h
+still_set (x ∷ a) (suc w) (suc v) t h = still_set a w v t h
+
+-- a solution that is extended keeps what is bound
+pub bound_keeps : (a : Solution) (w v : ℕ) (t : Option Term) → Bound v a → Bound v (bound_to a w t)
+bound_keeps a w v None h = h
+bound_keeps a w v (Some t) h = still_set a w v t h
+
+-- and leaves each other variable
+pub unbound_keeps : (a : Solution) (w v : ℕ) (t : Option Term) → (w == v) ≡ false → Unbound v a → Unbound v (bound_to a w t)
+unbound_keeps a w v None o h = h
+unbound_keeps a w v (Some t) o h = set_other a w v (Some t) (other_number w v o) ∙ h
 
 or_parts : (a b : Bool) → (a || b) ≡ false → (a ≡ false) × (b ≡ false)
 or_parts true b h = let f : true ≡ false = h in cc

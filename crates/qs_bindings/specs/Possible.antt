@@ -4,13 +4,13 @@ use Rattle.std.specs.List.{list_any}
 use Rattle.qs_patterns.specs.Basic.{mentions}
 use Rattle.qs_patterns.specs.declared.pattern.Step.{Step, fold-Step}
 use Rattle.qs_patterns.specs.declared.pattern.Pattern.{Pattern, fold-Pattern}
-use Rattle.qs_patterns.specs.declared.pattern.Pattern.TheOpen.{Pattern-F, Step-F, Basic, Group, Union, Graph, EachGraph, Values, Join, LeftJoin, Minus}
+use Rattle.qs_patterns.specs.declared.pattern.Pattern.TheOpen.{Pattern-F, Step-F, Basic, Group, Union, Graph, EachGraph, Values, Join, LeftJoin, Minus, Extend}
 use Rattle.qs_bindings.specs.Certain.{is_column}
 
--- a step of a group, or a part of a union, may bind it, or GRAPH its variable, or a table; what is taken away binds none
+-- a step of a group, or a part of a union, may bind it, or GRAPH or BIND its variable, or a table; what is taken away binds none
 abbrev pub is_possible_level : ℕ → Pattern-F (ℕ → Bool) (ℕ → Bool) → ℕ → Bool
 is_possible_level width (Basic pattern) v = nat_lt v width && mentions pattern.triples v
-is_possible_level width (Group steps) v = list_any (λ one. one v) steps
+is_possible_level width (Group steps conditions) v = list_any (λ one. one v) steps
 is_possible_level width (Union parts) v = list_any (λ part. part v) parts
 is_possible_level width (Graph name part) v = part v
 is_possible_level width (EachGraph w part) v = nat_lt v width && w == v || part v
@@ -18,8 +18,9 @@ is_possible_level width (Values table) v = nat_lt v width && is_column table v
 
 abbrev pub is_possible_step_level : Step-F (ℕ → Bool) (ℕ → Bool) → ℕ → Bool
 is_possible_step_level (Join part) v = part v
-is_possible_step_level (LeftJoin part) v = part v
+is_possible_step_level (LeftJoin part conditions) v = part v
 is_possible_step_level (Minus part) v = false
+is_possible_step_level (Extend w e) v = w == v
 
 -- whether the variable may be bound in a solution of the pattern, of `width` named variables
 abbrev pub is_possible : ℕ → Pattern → ℕ → Bool

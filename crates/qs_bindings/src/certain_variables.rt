@@ -23,7 +23,7 @@ pub fn certain(alloc: Global, width: usize, pattern: &Pattern) -> Result<Vec<boo
             let flags = mentioned(alloc, width, basic.triples.as_slice())?;
             Ok(flags)
         }
-        Pattern::Group(steps) => {
+        Pattern::Group(steps, _) => {
             let flags = certain_in_steps(alloc, width, steps.as_slice())?;
             Ok(flags)
         }
@@ -70,11 +70,15 @@ fn certain_of_step(alloc: Global, width: usize, one: &Step) -> Result<Vec<bool>,
             let flags = certain(alloc, width, part)?;
             Ok(flags)
         }
-        Step::LeftJoin(_) => {
+        Step::LeftJoin(_, _) => {
             let flags = alike(alloc, width, false)?;
             Ok(flags)
         }
         Step::Minus(_) => {
+            let flags = alike(alloc, width, false)?;
+            Ok(flags)
+        }
+        Step::Extend(_, _) => {
             let flags = alike(alloc, width, false)?;
             Ok(flags)
         }

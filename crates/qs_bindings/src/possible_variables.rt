@@ -22,7 +22,7 @@ pub fn possible(alloc: Global, width: usize, pattern: &Pattern) -> Result<Vec<bo
             let flags = mentioned(alloc, width, basic.triples.as_slice())?;
             Ok(flags)
         }
-        Pattern::Group(steps) => {
+        Pattern::Group(steps, _) => {
             let flags = possible_in_steps(alloc, width, steps.as_slice())?;
             Ok(flags)
         }
@@ -69,12 +69,17 @@ fn possible_of_step(alloc: Global, width: usize, one: &Step) -> Result<Vec<bool>
             let flags = possible(alloc, width, part)?;
             Ok(flags)
         }
-        Step::LeftJoin(part) => {
+        Step::LeftJoin(part, _) => {
             let flags = possible(alloc, width, part)?;
             Ok(flags)
         }
         Step::Minus(_) => {
             let flags = alike(alloc, width, false)?;
+            Ok(flags)
+        }
+        Step::Extend(variable, _) => {
+            let mut flags = alike(alloc, width, false)?;
+            flag(&mut flags, *variable);
             Ok(flags)
         }
     }

@@ -1,25 +1,27 @@
 -- The arms of the evaluator.
-use Rattle.std.proofs.Common.{◌≡◌, ℕ, ◌+◌, ◌<◌, true, List, [], ◌∷◌, ◌++◌, length, take, get_or, Some, refl, ap, subst, sym, ◌∙◌}
+use Rattle.std.proofs.Common.{◌≡◌, ℕ, ◌+◌, ◌<◌, List, [], ◌∷◌, ◌++◌, map, length, take, get_or, Some, refl, ap, subst, sym, ◌∙◌}
 use Rattle.std.specs.List.{flat_map, fold}
 use Rattle.std.proofs.lemmas.List.{take_more, append-nil}
 use Rattle.std.proofs.lemmas.List.Sorted.{IsPermutation-append, IsPermutation-refl}
 use Rattle.std.proofs.lemmas.Grind.{flat_map-append}
+use Rattle.std.proofs.lemmas.List.Sorted.{IsPermutation-map}
 use Rattle.qs_terms.specs.Bag.{SameBag}
 use Rattle.qs_terms.specs.Dataset.{graph_of, names_of}
 use Rattle.qs_terms.specs.Statement.{Statement}
 use Rattle.qs_terms.specs.declared.term.Term.{Term}
 use Rattle.qs_solutions.specs.Solution.{Solution, unbound, binding}
 use Rattle.qs_solutions.specs.Operators as of
+use Rattle.qs_expr.specs.declared.expr.Expr.{Expr}
 use Rattle.qs_patterns.specs.declared.pattern.BasicPattern.{BasicPattern}
 use Rattle.qs_patterns.specs.declared.pattern.Table.{Table}
 use Rattle.qs_patterns.specs.declared.pattern.Pattern.{Pattern}
 use Rattle.qs_patterns.specs.declared.pattern.Pattern.TheVariants.{Basic, Group, Union, Graph, EachGraph, Values}
 use Rattle.qs_patterns.specs.declared.pattern.Step.{Step}
-use Rattle.qs_patterns.specs.declared.pattern.Step.TheVariants.{Join, LeftJoin, Minus}
+use Rattle.qs_patterns.specs.declared.pattern.Step.TheVariants.{Join, LeftJoin, Minus, Extend}
 use Rattle.qs_patterns.specs.Basic.{Graph as Triples, basic}
-use Rattle.qs_patterns.specs.Eval.{eval, step, in_named, in_each, rows_of}
-use Rattle.qs_patterns.proofs.Meaning.{eval_basic, eval_group, eval_union, eval_graph, eval_each_graph, eval_values, step_join, step_left_join, step_minus}
-use Rattle.qs_eval.proofs.Operators.{join_same, left_join_same, minus_same}
+use Rattle.qs_patterns.specs.Eval.{eval, step, all_hold, kept, extended, in_named, in_each, rows_of}
+use Rattle.qs_patterns.proofs.Meaning.{eval_basic, eval_group, eval_union, eval_graph, eval_each_graph, eval_values, step_join, step_left_join, step_minus, step_extend}
+use Rattle.qs_eval.proofs.Operators.{filter_same, join_same, left_join_same, minus_same}
 
 same_at : (rows xs ys zs : List Solution) → rows ≡ xs → SameBag xs ys → zs ≡ ys → SameBag rows zs
 same_at rows xs ys zs e h f =
@@ -29,9 +31,14 @@ module _ (width : ℕ) (quads : List Statement) (graph : Triples) (p : Pattern) 
   pub basic_arm : (b : BasicPattern) (rows : List Solution) → p ≡ Basic b → SameBag rows (basic width b graph) → SameBag rows (eval width quads p graph)
   basic_arm b rows is h = same_at _ _ _ _ refl h (ap (λ q. eval width quads q graph) is ∙ eval_basic width quads graph b)
 
-  pub group_arm : (steps ss : List Step) (rows : List Solution) → p ≡ Group steps → ss ≡ steps → SameBag rows (fold (λ left s. step width quads s graph left) (unbound width ∷ []) ss) → SameBag rows (eval width quads p graph)
-  group_arm steps ss rows is e h =
-      same_at _ _ _ _ refl h (ap (λ q. eval width quads q graph) is ∙ (eval_group width quads graph steps ∙ ap (λ l. fold (λ left s. step width quads s graph left) (unbound width ∷ []) l) (sym e)))
+  pub group_arm : (steps ss : List Step) (conditions cs : List Expr) (found rows : List Solution) → p ≡ Group steps conditions → ss ≡ steps → cs ≡ conditions
+      → SameBag found (fold (λ left s. step width quads s graph left) (unbound width ∷ []) ss) → rows ≡ kept cs found → SameBag rows (eval width quads p graph)
+  group_arm steps ss conditions cs found rows is e f h k =
+      same_at _ _ _ _ k (filter_same (all_hold cs) _ _ h)
+      (ap (λ q. eval width quads q graph) is
+      ∙ (eval_group width quads graph steps conditions
+      ∙ (ap (λ l. kept conditions (fold (λ left s. step width quads s graph left) (unbound width ∷ []) l)) (sym e)
+      ∙ ap (λ l. kept l (fold (λ left s. step width quads s graph left) (unbound width ∷ []) ss)) (sym f))))
 
   pub union_arm : (parts ps : List Pattern) (rows : List Solution) → p ≡ Union parts → ps ≡ parts → SameBag rows (flat_map (λ part. eval width quads part graph) ps) → SameBag rows (eval width quads p graph)
   union_arm parts ps rows is e h =
@@ -55,11 +62,19 @@ module _ (width : ℕ) (quads : List Statement) (graph : Triples) (s : Step) (pa
   pub join_arm : s ≡ Join part → SameBag right (eval width quads part graph) → rows ≡ of.join left right → SameBag left xs → SameBag rows (step width quads s graph xs)
   join_arm i r e l = same_at _ _ _ _ e (join_same _ _ _ _ l r) (ap (λ q. step width quads q graph xs) i ∙ step_join width quads graph part xs)
 
-  pub left_join_arm : s ≡ LeftJoin part → SameBag right (eval width quads part graph) → rows ≡ of.left_join (λ m. true) left right → SameBag left xs → SameBag rows (step width quads s graph xs)
-  left_join_arm i r e l = same_at _ _ _ _ e (left_join_same (λ m. true) _ _ _ _ l r) (ap (λ q. step width quads q graph xs) i ∙ step_left_join width quads graph part xs)
+  pub left_join_arm : (conditions cs : List Expr) → s ≡ LeftJoin part conditions → cs ≡ conditions → SameBag right (eval width quads part graph) → rows ≡ of.left_join (all_hold cs) left right → SameBag left xs
+      → SameBag rows (step width quads s graph xs)
+  left_join_arm conditions cs i f r e l =
+      same_at _ _ _ _ e (left_join_same (all_hold cs) _ _ _ _ l r)
+      (ap (λ q. step width quads q graph xs) i ∙ (step_left_join width quads graph part conditions xs ∙ ap (λ l. of.left_join (all_hold l) xs (eval width quads part graph)) (sym f)))
 
   pub minus_arm : s ≡ Minus part → SameBag right (eval width quads part graph) → rows ≡ of.minus left right → SameBag left xs → SameBag rows (step width quads s graph xs)
   minus_arm i r e l = same_at _ _ _ _ e (minus_same _ _ _ _ l r) (ap (λ q. step width quads q graph xs) i ∙ step_minus width quads graph part xs)
+
+pub extend_arm : (width : ℕ) (quads : List Statement) (graph : Triples) (s : Step) (v : ℕ) (e : Expr) (left rows xs : List Solution) → s ≡ Extend v e → rows ≡ map (extended v e) left → SameBag left xs
+    → SameBag rows (step width quads s graph xs)
+extend_arm width quads graph s v e left rows xs i f l =
+    same_at _ _ _ _ f (IsPermutation-map (extended v e) _ _ l) (ap (λ q. step width quads q graph xs) i ∙ step_extend width quads graph v e xs)
 
 fold_last : (f : List Solution → Step → List Solution) (first : List Solution) (ss : List Step) (s : Step) → fold f first (ss ++ s ∷ []) ≡ f (fold f first ss) s
 fold_last f first [] s = refl

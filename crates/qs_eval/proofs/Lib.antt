@@ -11,6 +11,8 @@ pub mod Past
 pub mod Turns
 pub mod Mapped
 pub mod Operators
+pub mod Optional
+pub mod Written
 pub mod Arms
 pub mod Known
 pub mod KnownQuads

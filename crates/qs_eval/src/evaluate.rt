@@ -7,14 +7,15 @@ ghost use Rattle.qs_terms.specs.Bag.{SameBag};
 ghost use Rattle.qs_terms.specs.Dataset.{graph_of};
 ghost use Rattle.qs_solutions.specs.Solution.{Solution, unbound, binding};
 ghost use Rattle.qs_solutions.specs.Operators.{join};
-ghost use Rattle.qs_patterns.specs.Eval.{eval, step, in_named, in_each, rows_of};
+ghost use Rattle.qs_patterns.specs.Eval.{eval, step, kept, in_named, in_each, rows_of};
 ghost use Rattle.qs_eval.specs.Lent.{lent};
 
 use crate::basic::solutions_of_basic;
+use crate::conditions::{extended, kept, left_joined};
 use crate::names::{is_name, names};
 use crate::quads::Quads;
 use qs_patterns::{Pattern, Step, Table};
-use qs_solutions::{Row, joined, left_joined, without};
+use qs_solutions::{Row, joined, without};
 use qs_terms::Term;
 use std::alloc::{AllocError, Global};
 
@@ -73,8 +74,9 @@ pub fn solutions(
             let rows = solutions_of_basic(alloc, width, basic, quads, graph)?;
             Ok(rows)
         }
-        Pattern::Group(steps) => {
+        Pattern::Group(steps, conditions) => {
             let rows = solutions_of_group(alloc, width, steps.as_slice(), quads, graph)?;
+            let rows = kept(alloc, conditions.as_slice(), rows)?;
             Ok(rows)
         }
         Pattern::Union(parts) => {
@@ -119,7 +121,7 @@ fn solutions_of_group(
     let mut rows = Vec::new(alloc);
     rows.push(unit)?;
     for one in steps {
-        rows = stepped(alloc, width, one, quads, graph, rows.as_slice())?;
+        rows = stepped(alloc, width, one, quads, graph, rows)?;
     }
     Ok(rows)
 }
@@ -132,24 +134,33 @@ fn stepped(
     one: &Step,
     quads: &Quads<'_>,
     graph: Option<&Term>,
-    left: &[Row],
+    left: Vec<Row>,
 ) -> Result<Vec<Row>, AllocError>
-    ensures { IfOk result (λ rows. (xs : List Solution) → SameBag left.now xs → SameBag rows.items (step width quads.now one.now (graph_of quads.now (option_copied graph.entry)) xs)) }
+    ensures { IfOk result (λ rows. (xs : List Solution) → SameBag left.items xs → SameBag rows.items (step width quads.now one.now (graph_of quads.now (option_copied graph.entry)) xs)) }
 {
     match one {
         Step::Join(part) => {
             let right = solutions(alloc, width, part, quads, graph)?;
-            let rows = joined(alloc, left, right.as_slice())?;
+            let rows = joined(alloc, left.as_slice(), right.as_slice())?;
             Ok(rows)
         }
-        Step::LeftJoin(part) => {
+        Step::LeftJoin(part, conditions) => {
             let right = solutions(alloc, width, part, quads, graph)?;
-            let rows = left_joined(alloc, left, right.as_slice())?;
+            let rows = left_joined(
+                alloc,
+                left.as_slice(),
+                right.as_slice(),
+                conditions.as_slice(),
+            )?;
             Ok(rows)
         }
         Step::Minus(part) => {
             let right = solutions(alloc, width, part, quads, graph)?;
-            let rows = without(alloc, left, right.as_slice())?;
+            let rows = without(alloc, left.as_slice(), right.as_slice())?;
+            Ok(rows)
+        }
+        Step::Extend(variable, expr) => {
+            let rows = extended(alloc, *variable, expr, left)?;
             Ok(rows)
         }
     }

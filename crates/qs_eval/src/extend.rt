@@ -18,7 +18,7 @@ fn term_in<'a>(slot: &'a Slot, row: &'a Row) -> Option<&'a Term>
     ensures { option_copied result ≡ value row.now slot.now }
 {
     match slot {
-        Slot::Term(term) => Some(term),
+        Slot::Term(term) => Some(term.get()),
         Slot::Variable(variable) => row.term(*variable),
     }
 }
@@ -52,7 +52,7 @@ fn bind_slot(
 {
     match slot {
         Slot::Term(fixed) => {
-            if fixed.is_same(term) {
+            if fixed.get().is_same(term) {
                 Ok(Some(row))
             } else {
                 Ok(None)

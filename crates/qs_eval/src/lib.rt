@@ -2,6 +2,7 @@
 #![tactic(auto)]
 
 mod basic;
+mod conditions;
 mod evaluate;
 mod extend;
 mod names;

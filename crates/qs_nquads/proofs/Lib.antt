@@ -8,3 +8,7 @@ pub mod Stops
 pub mod Numbers
 pub mod Readings
 pub mod Unique
+pub mod Larger
+pub mod NumbersBelow
+pub mod PlacesBelow
+pub mod ReadingsBelow

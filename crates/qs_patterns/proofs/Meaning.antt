@@ -1,5 +1,5 @@
 -- What patterns and steps mean, by their variants.
-use Rattle.std.proofs.Common.{◌≡◌, ℕ, true, List, [], ◌∷◌, map, refl, ap, sym, ◌∙◌}
+use Rattle.std.proofs.Common.{◌≡◌, ℕ, List, [], ◌∷◌, map, refl, ap, sym, ◌∙◌}
 use Rattle.std.specs.List.{flat_map, fold}
 use Rattle.std.proofs.lemmas.List.Folds.{flat_map-map}
 use Rattle.qs_terms.specs.Dataset.{names_of}
@@ -7,15 +7,16 @@ use Rattle.qs_terms.specs.Statement.{Statement}
 use Rattle.qs_terms.specs.declared.term.Term.{Term}
 use Rattle.qs_solutions.specs.Solution.{Solution, unbound}
 use Rattle.qs_solutions.specs.Operators as of
+use Rattle.qs_expr.specs.declared.expr.Expr.{Expr}
 use Rattle.qs_patterns.specs.declared.pattern.BasicPattern.{BasicPattern}
 use Rattle.qs_patterns.specs.declared.pattern.Table.{Table}
 use Rattle.qs_patterns.specs.declared.pattern.Step.{Step, fold-roll-Step}
-use Rattle.qs_patterns.specs.declared.pattern.Step.TheVariants.{Join, LeftJoin, Minus, rolls-Join, rolls-LeftJoin, rolls-Minus}
+use Rattle.qs_patterns.specs.declared.pattern.Step.TheVariants.{Join, LeftJoin, Minus, Extend, rolls-Join, rolls-LeftJoin, rolls-Minus, rolls-Extend}
 use Rattle.qs_patterns.specs.declared.pattern.Pattern.{Pattern, fold-roll-Pattern}
 use Rattle.qs_patterns.specs.declared.pattern.Pattern.TheOpen as level
 use Rattle.qs_patterns.specs.declared.pattern.Pattern.TheVariants.{Basic, Group, Union, Graph, EachGraph, Values, rolls-Basic, rolls-Group, rolls-Union, rolls-Graph, rolls-EachGraph, rolls-Values}
 use Rattle.qs_patterns.specs.Basic.{Graph as Triples, basic}
-use Rattle.qs_patterns.specs.Eval.{Found, Stepped, eval, step, eval_level, step_level, in_named, in_each, rows_of}
+use Rattle.qs_patterns.specs.Eval.{Found, Stepped, eval, step, eval_level, step_level, all_hold, kept, extended, in_named, in_each, rows_of}
 
 module _ (width : ℕ) (quads : List Statement) (graph : Triples) where
   pub eval_basic : (b : BasicPattern) → eval width quads (Basic b) graph ≡ basic width b graph
@@ -26,11 +27,11 @@ module _ (width : ℕ) (quads : List Statement) (graph : Triples) where
   steps_from rows [] = refl
   steps_from rows (s ∷ steps) = steps_from (step width quads s graph rows) steps
 
-  pub eval_group : (steps : List Step) → eval width quads (Group steps) graph ≡ fold (λ left s. step width quads s graph left) (unbound width ∷ []) steps
-  eval_group steps =
-      ap (λ p. eval width quads p graph) (sym (rolls-Group steps))
-      ∙ (ap (λ (f : Found). f graph) (fold-roll-Pattern Found Stepped (eval_level width quads) step_level (level.Group steps))
-      ∙ steps_from (unbound width ∷ []) steps)
+  pub eval_group : (steps : List Step) (conditions : List Expr) → eval width quads (Group steps conditions) graph ≡ kept conditions (fold (λ left s. step width quads s graph left) (unbound width ∷ []) steps)
+  eval_group steps conditions =
+      ap (λ p. eval width quads p graph) (sym (rolls-Group steps conditions))
+      ∙ (ap (λ (f : Found). f graph) (fold-roll-Pattern Found Stepped (eval_level width quads) step_level (level.Group steps conditions))
+      ∙ ap (kept conditions) (steps_from (unbound width ∷ []) steps))
 
   pub eval_union : (parts : List Pattern) → eval width quads (Union parts) graph ≡ flat_map (λ part. eval width quads part graph) parts
   eval_union parts =
@@ -54,10 +55,14 @@ module _ (width : ℕ) (quads : List Statement) (graph : Triples) where
   step_join part left =
       ap (λ s. step width quads s graph left) (sym (rolls-Join part)) ∙ ap (λ (f : Stepped). f graph left) (fold-roll-Step Found Stepped (eval_level width quads) step_level (level.Join part))
 
-  pub step_left_join : (part : Pattern) (left : List Solution) → step width quads (LeftJoin part) graph left ≡ of.left_join (λ m. true) left (eval width quads part graph)
-  step_left_join part left =
-      ap (λ s. step width quads s graph left) (sym (rolls-LeftJoin part)) ∙ ap (λ (f : Stepped). f graph left) (fold-roll-Step Found Stepped (eval_level width quads) step_level (level.LeftJoin part))
+  pub step_left_join : (part : Pattern) (conditions : List Expr) (left : List Solution) → step width quads (LeftJoin part conditions) graph left ≡ of.left_join (all_hold conditions) left (eval width quads part graph)
+  step_left_join part conditions left =
+      ap (λ s. step width quads s graph left) (sym (rolls-LeftJoin part conditions)) ∙ ap (λ (f : Stepped). f graph left) (fold-roll-Step Found Stepped (eval_level width quads) step_level (level.LeftJoin part conditions))
 
   pub step_minus : (part : Pattern) (left : List Solution) → step width quads (Minus part) graph left ≡ of.minus left (eval width quads part graph)
   step_minus part left =
       ap (λ s. step width quads s graph left) (sym (rolls-Minus part)) ∙ ap (λ (f : Stepped). f graph left) (fold-roll-Step Found Stepped (eval_level width quads) step_level (level.Minus part))
+
+  pub step_extend : (v : ℕ) (e : Expr) (left : List Solution) → step width quads (Extend v e) graph left ≡ map (extended v e) left
+  step_extend v e left =
+      ap (λ s. step width quads s graph left) (sym (rolls-Extend v e)) ∙ ap (λ (f : Stepped). f graph left) (fold-roll-Step Found Stepped (eval_level width quads) step_level (level.Extend v e))

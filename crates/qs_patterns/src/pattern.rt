@@ -1,13 +1,16 @@
 //! Patterns of the algebra (SPARQL 1.1 Query, 18.2). Variables have numbers: those with a name come first, and behind them the
 //! hidden ones of each basic graph pattern, which its blank nodes are.
 
+use qs_expr::Expr;
+use qs_shared::Shared;
 use qs_terms::Term;
 use sqlite_items::{Boxed, Items};
 
-/// What stands in one place of a triple pattern.
+/// What stands in one place of a triple pattern. A term that stands in the same place of one triple pattern after another is kept once,
+/// and they have it in common: a long list of triples with one subject or predicate takes no copy of it for each.
 #[derive(Drop)]
 pub enum Slot {
-    Term(Term),
+    Term(Shared<Term>),
     Variable(usize),
 }
 
@@ -39,9 +42,9 @@ pub struct Table {
 #[derive(Drop)]
 pub enum Pattern {
     Basic(BasicPattern),
-    /// A group: what its steps make of the one solution that binds nothing, in the order of the text. They are a list and no tree of
-    /// pairs, so that a pattern is no deeper than the groups of its text are nested.
-    Group(Items<Step>),
+    /// A group: what its steps make of the one solution that binds nothing, in the order of the text, as far as all conditions hold. The
+    /// steps are a list and no tree of pairs, so that a pattern is no deeper than the groups of its text are nested.
+    Group(Items<Step>, Items<Expr>),
     /// Of any number.
     Union(Items<Pattern>),
     /// In the graph of this name.
@@ -56,6 +59,9 @@ pub enum Pattern {
 #[derive(Drop)]
 pub enum Step {
     Join(Pattern),
-    LeftJoin(Pattern),
+    /// With the conditions that a merged solution must meet.
+    LeftJoin(Pattern, Items<Expr>),
     Minus(Pattern),
+    /// The variable is bound to the value of the expression, where it has one.
+    Extend(usize, Expr),
 }

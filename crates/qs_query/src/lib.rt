@@ -3,5 +3,6 @@
 
 mod query;
 
+pub use qs_select::solutions_of;
 pub use qs_solutions::{Answer, Row};
 pub use query::answer;

@@ -1,6 +1,7 @@
 //! Answers of texts.
 
 ghost use Rattle.qs_terms.specs.Outcome.{OneOrWantOfMemory};
+ghost use Rattle.qs_select.specs.Sequence.{dataset_of};
 ghost use Rattle.qs_query.specs.Outcome.{IsOutcomeOfText};
 
 use qs_select::answer_query;
@@ -9,13 +10,13 @@ use qs_syntax::parse_query;
 use qs_terms::{QFault, Quad};
 use std::alloc::Global;
 
-/// An answer of the text over the dataset that the quads are: one that stands again counts once (SPARQL 1.1 Query, 16 and 18).
-/// `next_blank` is above the numbers of all blank nodes of the quads.
+/// An answer of the text over the dataset that the quads are, of which each counts once, with the next blank node's number (SPARQL 1.1
+/// Query, 16 and 18). The number is above those of all blank nodes of the quads.
 ///
 /// # Errors
 /// The fault of the text, as of `parse_query`. Of a text without fault: `QFault::Later` where a form of it has no meaning yet;
-/// `QFault::TooManyRows` where the solutions, behind OFFSET and LIMIT, are more than `max_rows`. `QFault::Memory` for want of
-/// memory, at any time.
+/// `QFault::TooManyRows` where the solutions of a SELECT, behind OFFSET and LIMIT, are more than `max_rows`. `QFault::Memory` for want
+/// of memory, at any time.
 pub fn answer(
     alloc: Global,
     text: &str,
@@ -23,9 +24,8 @@ pub fn answer(
     next_blank: u64,
     max_rows: u64,
 ) -> Result<Answer, QFault>
-    ensures { OneOrWantOfMemory (IsOutcomeOfText text.now quads.now max_rows) result }
+    ensures { OneOrWantOfMemory (IsOutcomeOfText text.now (dataset_of quads.now next_blank) max_rows) result }
 {
-    let _ = next_blank;
     let query = parse_query(alloc, text)?;
-    answer_query(alloc, &query, quads, max_rows)
+    answer_query(alloc, &query, quads, next_blank, None, max_rows)
 }

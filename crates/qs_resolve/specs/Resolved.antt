@@ -22,5 +22,5 @@ if_lawful a s = if s.lawful then Some a else None
 unfoldable pub resolved_query : List ℕ → List Variable → WrittenQuery → Outcome (Option Query)
 resolved_query text variables q = and_then (query variables q (start (nothing_declared text))) (λ r. Ok (if_lawful r.0 r.1))
 
-unfoldable pub resolved_update : List ℕ → WrittenUpdate → Outcome (Option Update)
-resolved_update text u = and_then (update u (start (nothing_declared text))) (λ r. Ok (if_lawful r.0 r.1))
+unfoldable pub resolved_update : List ℕ → List Variable → WrittenUpdate → Outcome (Option Update)
+resolved_update text variables u = and_then (update variables u (start (nothing_declared text))) (λ r. Ok (if_lawful r.0 r.1))

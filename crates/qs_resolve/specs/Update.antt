@@ -15,6 +15,7 @@ use Rattle.qs_tree.specs.declared.update.Quads.TheVariants as written_quads
 use Rattle.qs_tree.specs.declared.update.Transfer.{Transfer as WrittenTransfer}
 use Rattle.qs_tree.specs.declared.update.Update.{Update as WrittenUpdate}
 use Rattle.qs_tree.specs.declared.update.UpdateStep.{UpdateStep}
+use Rattle.qs_ast.specs.declared.term.Variable.{Variable}
 use Rattle.qs_ast.specs.declared.update.GraphOrDefault.{GraphOrDefault}
 use Rattle.qs_ast.specs.declared.update.GraphOrDefault.TheVariants as end
 use Rattle.qs_ast.specs.declared.update.GraphTarget.{GraphTarget}
@@ -98,5 +99,6 @@ abbrev pub steps : List Operation → List UpdateStep → Resolving (List Operat
 steps found [] = pure found
 steps found (u ∷ us) = step found u >>= (λ more. steps more us)
 
-unfoldable pub update : WrittenUpdate → Resolving Update
-update u = steps [] u.steps >>= (λ found. pure (record { operations = found }))
+-- the update, with the variables of its text
+unfoldable pub update : List Variable → WrittenUpdate → Resolving Update
+update variables u = steps [] u.steps >>= (λ found. pure (record { operations = found; variables = variables }))

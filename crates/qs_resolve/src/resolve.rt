@@ -56,11 +56,12 @@ pub fn resolve_query(
 pub fn resolve_update(
     alloc: Global,
     text: &str,
+    variables: Items<Variable>,
     update: &WrittenUpdate,
 ) -> Result<Option<Update>, QFault>
-    ensures { OrWantOfMemory (spec.resolved_update text.now update.now) result }
+    ensures { OrWantOfMemory (spec.resolved_update text.now variables update.now) result }
 {
     let mut resolver = Resolver::new(Names::new(alloc, text));
-    let update = resolver.update(alloc, update);
+    let update = resolver.update(alloc, variables, update);
     where_lawful(update, resolver.lawful)
 }

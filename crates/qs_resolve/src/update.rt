@@ -4,6 +4,7 @@ ghost use Rattle.qs_resolve.specs.Resolving.{Resolves, Collects};
 ghost use Rattle.qs_resolve.specs.Update as spec;
 
 use crate::resolver::Resolver;
+use qs_ast::term::Variable;
 use qs_ast::update::{GraphOrDefault, GraphTarget, Modify, Operation, QuadBlock, Transfer, Update};
 use qs_beside::beside;
 use qs_terms::{Iri, QFault};
@@ -229,13 +230,21 @@ impl<'a> Resolver<'a> {
         Ok(())
     }
 
-    /// The operations of an update.
+    /// The operations of an update, with the variables of its text.
     #[tactic(auto, unfolding(crate::specs::Update::update))]
-    pub fn update(&mut self, alloc: Global, update: &WrittenUpdate) -> Result<Update, QFault>
-        ensures { Resolves (spec.update update.now self.old) result self.new }
+    pub fn update(
+        &mut self,
+        alloc: Global,
+        variables: Items<Variable>,
+        update: &WrittenUpdate,
+    ) -> Result<Update, QFault>
+        ensures { Resolves (spec.update variables update.now self.old) result self.new }
     {
         let mut operations = Items::new(alloc);
         self.steps(alloc, &mut operations, update.steps.as_slice())?;
-        Ok(Update { operations })
+        Ok(Update {
+            operations,
+            variables,
+        })
     }
 }

@@ -3,4 +3,5 @@ pub mod Brought
 pub mod Reading
 pub mod PlacesKept
 pub mod FirstsKept
+pub mod Listed
 pub mod FirstPlace

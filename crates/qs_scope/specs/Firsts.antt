@@ -7,6 +7,12 @@ use Rattle.qs_ast.specs.declared.term.Variable.{Variable}
 abbrev pub names_of : List Variable → List Name
 names_of variables = map (λ v. v.name) variables
 
+abbrev pub with_name : Name → Variable
+with_name name = record { name = name }
+
+abbrev pub with_names : List Name → List Variable
+with_names names = map with_name names
+
 -- one more, unless it is among them
 unfoldable pub add_first : List Variable → Variable → List Variable
 add_first found v = if contains (names_of found) v.name then found else found ++ v ∷ []

@@ -9,4 +9,5 @@ pub mod Tables
 pub mod Selected
 pub mod KeepsScope
 pub mod Firsts
+pub mod VariablesIn
 pub mod Laws

@@ -1,56 +1,52 @@
 //! Variables in the order in which they first appear.
 
-ghost use Rattle.std.specs.Prelude.{◌≡◌, ◌∷◌, [], ◌++◌, IfOk, OnOk};
-ghost use Rattle.qs_scope.specs.Firsts.{names_of, add_first, firsts};
+ghost use Rattle.std.specs.Prelude.{◌≡◌, ◌∷◌, [], ◌++◌, take, IfOk, OnOk, if◌then◌else◌};
+ghost use Rattle.qs_scope.specs.Firsts.{names_of, with_name, with_names, firsts};
+ghost use Rattle.qs_scope.specs.Names.{contains};
 
+use crate::name::Name;
 use crate::seen::Seen;
 use qs_ast::term::Variable;
 use sqlite_items::Items;
 use std::alloc::{AllocError, Global};
 
-/// The variables that were found so far, each once.
-#[derive(Drop)]
-struct Firsts<'a> {
-    seen: Seen<'a>,
-    found: Items<Variable>,
-}
-
-fn copy(alloc: Global, variable: &Variable) -> Result<Variable, AllocError>
-    ensures { IfOk result (λ v. v ≡ variable.now) }
+// The variable of the name behind the others, unless the name stands before its place.
+fn put_first<'a>(
+    alloc: Global,
+    names: &Seen<'a>,
+    found: &mut Items<Variable>,
+    place: usize,
+    name: &Name<'a>,
+) -> Result<(), AllocError>
+    ensures { OnOk result (found.new ≡ (if contains (take place names.now) name.now then found.old else found.old ++ with_name name.now ∷ [])) }
 {
-    let name = variable.name.try_clone(alloc)?;
-    Ok(Variable { name })
+    if names.is_before(place, name.text()) {
+        return Ok(());
+    }
+    let variable = name.variable(alloc)?;
+    found.push(variable)
 }
 
-impl<'a> Firsts<'a> {
-    #[tactic(auto, using(crate::proofs::FirstsKept::names_with), unfolding(crate::specs::Firsts::add_first))]
-    fn add(&mut self, alloc: Global, variable: &'a Variable) -> Result<(), AllocError>
-        requires { self.old.seen ≡ names_of self.old.found }
-        ensures found { OnOk result (self.new.found ≡ add_first self.old.found variable.now) }
-        ensures seen { OnOk result (self.new.seen ≡ names_of self.new.found) }
-    {
-        if self.seen.contains(&variable.name) {
-            return Ok(());
-        }
-        let own = copy(alloc, variable)?;
-        self.found.push(own)?;
-        self.seen.push(&variable.name)
+/// The variables of the names, each once, in the order in which they first appear.
+#[tactic(auto, using(crate::proofs::FirstsKept::first_more))]
+pub fn first_of_names(alloc: Global, names: &Seen<'_>) -> Result<Items<Variable>, AllocError>
+    ensures { IfOk result (λ found. found ≡ firsts (with_names names.now)) }
+{
+    let all = names.as_slice();
+    let mut found = Items::new(alloc);
+    for place in 0..all.len() {
+        put_first(alloc, names, &mut found, place, &all[place])?;
     }
+    Ok(found)
 }
 
 /// The variables, each once, in the order in which they first appear (SPARQL 1.1 Query, 16.1: what `SELECT *` lists).
+#[tactic(auto, using(crate::proofs::FirstsKept::with_own_names))]
 pub fn first_variables(alloc: Global, variables: &[Variable]) -> Result<Items<Variable>, AllocError>
     ensures { IfOk result (λ found. found ≡ firsts variables.now) }
 {
-    let mut firsts = Firsts {
-        seen: Seen::new(alloc),
-        found: Items::new(alloc),
-    };
-    for variable in variables {
-        firsts.add(alloc, variable)?;
-    }
-    let Firsts { seen: _, found } = firsts;
-    Ok(found)
+    let names = numbered(alloc, variables)?;
+    first_of_names(alloc, &names)
 }
 
 /// The names of the variables, numbered by their places.

@@ -1,9 +1,13 @@
 //! The rules that a query or an update keeps beyond the grammar (SPARQL 1.1 Query, 18.2.1 and the notes on the grammar in 19.8;
-//! 19.6 for the labels of blank nodes).
+//! 19.6 for the labels of blank nodes), and the variables that stand anywhere in it.
 #![tactic(auto)]
 
 mod blocks;
 mod first;
+mod in_expression;
+mod in_group;
+mod in_query;
+mod in_update;
 mod labels;
 pub mod laws;
 mod met;
@@ -17,6 +21,8 @@ mod tables;
 mod update;
 
 pub use first::{first_variables, numbered};
+pub use in_query::query_variables;
+pub use in_update::update_variables;
 pub use query::query_keeps_scope;
 pub use scope::in_scope;
 pub use seen::Seen;

@@ -1,11 +1,14 @@
 //! Names of variables and labels of blank nodes, borrowed from a tree.
 
-ghost use Rattle.std.specs.Prelude.{◌≡◌, refl, nat_eq, Some};
+ghost use Rattle.std.specs.Prelude.{◌≡◌, refl, nat_eq, Some, IfOk};
 ghost use Rattle.std.specs.Ordering.{nat_cmp};
 ghost use Rattle.std.specs.Cmp.{partial_equiv_from_equiv};
 ghost use Rattle.std.specs.Cmp.Lexicographic.{pointwise, slice_cmp, nat_list_eq_equiv, nat_list_cmp_total, texts_ties, texts_po};
+ghost use Rattle.qs_scope.specs.Firsts.{with_name};
 
+use qs_ast::term::Variable;
 use qs_terms::Text;
+use std::alloc::{AllocError, Global};
 use std::cmp::Ordering;
 use std::marker::Model;
 
@@ -28,6 +31,20 @@ impl<'a> Name<'a> {
         ensures { result ≡ text.now }
     {
         Name { text }
+    }
+
+    pub fn text(&self) -> &'a Text
+        ensures { result.now ≡ self.now }
+    {
+        self.text
+    }
+
+    /// The variable of this name.
+    pub fn variable(&self, alloc: Global) -> Result<Variable, AllocError>
+        ensures { IfOk result (λ v. v ≡ with_name self.now) }
+    {
+        let name = self.text.try_clone(alloc)?;
+        Ok(Variable { name })
     }
 }
 

@@ -49,7 +49,11 @@ pub fn binds_are_new(alloc: Global, group: &Group) -> Result<bool, AllocError>
     scope::group(alloc, &mut names, group)
 }
 
-fn push_trailing<'a>(names: &mut Seen<'a>, values: &'a Option<InlineData>) -> Result<(), AllocError>
+/// The variables of the trailing VALUES, if there is one.
+pub fn push_trailing<'a>(
+    names: &mut Seen<'a>,
+    values: &'a Option<InlineData>,
+) -> Result<(), AllocError>
     ensures { OnOk result (names.new ≡ names.old ++ spec.trailing_names values.now) }
 {
     match values {

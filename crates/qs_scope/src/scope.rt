@@ -11,7 +11,7 @@ use qs_ast::pattern::{GraphPattern, Group, InlineData, Triple, Verb};
 use qs_ast::term::{TermPattern, VarOrIri, Variable};
 use std::alloc::{AllocError, Global};
 
-fn push_variable<'a>(names: &mut Seen<'a>, variable: &'a Variable) -> Result<(), AllocError>
+pub fn push_variable<'a>(names: &mut Seen<'a>, variable: &'a Variable) -> Result<(), AllocError>
     ensures { OnOk result (names.new ≡ names.old ++ variable.now.name ∷ []) }
 {
     names.push(&variable.name)
@@ -35,7 +35,8 @@ fn push_verb<'a>(names: &mut Seen<'a>, verb: &'a Verb) -> Result<(), AllocError>
     }
 }
 
-fn push_graph<'a>(names: &mut Seen<'a>, graph: &'a VarOrIri) -> Result<(), AllocError>
+/// The variable that the name of a graph is.
+pub fn push_graph<'a>(names: &mut Seen<'a>, graph: &'a VarOrIri) -> Result<(), AllocError>
     ensures { OnOk result (names.new ≡ names.old ++ variables.graph_variables graph.now) }
 {
     match graph {
@@ -52,7 +53,8 @@ fn push_triple<'a>(names: &mut Seen<'a>, triple: &'a Triple) -> Result<(), Alloc
     push_term(names, &triple.object)
 }
 
-fn push_triples<'a>(names: &mut Seen<'a>, triples: &'a [Triple]) -> Result<(), AllocError>
+/// The variables of triples.
+pub fn push_triples<'a>(names: &mut Seen<'a>, triples: &'a [Triple]) -> Result<(), AllocError>
     ensures { OnOk result (names.new ≡ names.old ++ flat_map variables.triple_variables triples.now) }
 {
     for triple in triples {

@@ -68,6 +68,12 @@ impl<'a> Seen<'a> {
         self.names.len()
     }
 
+    pub fn as_slice(&self) -> &[Name<'a>]
+        ensures { result.now ≡ self.now }
+    {
+        self.names.as_slice()
+    }
+
     pub fn push(&mut self, name: &'a Text) -> Result<(), AllocError>
         ensures { OnOk result (self.new ≡ self.old ++ name.now ∷ []) }
     {

@@ -1,15 +1,14 @@
 -- Sequences of the same solutions have one length.
-use Rattle.std.proofs.Common.{◌≡◌, ◌<◌, ◌≤◌, ◌-◌, ℕ, zero, suc, List, [], ◌∷◌, length, take, drop, min, map, Option, Some, None, Ok, Err, refl, sym, ap, ◌∙◌, subst, inl, inr}
+use Rattle.std.proofs.Common.{◌≡◌, ◌-◌, ℕ, Bool, true, false, List, [], ◌∷◌, length, take, drop, min, map, Option, Some, None, sym, ap, ◌∙◌}
 use Rattle.std.proofs.lemmas.List.{length-take, length-drop}
-use Rattle.std.proofs.lemmas.List.Sorted.{length_permutation}
+use Rattle.std.proofs.lemmas.List.Sorted.{length_permutation, IsPermutation-map}
 use Rattle.qs_terms.specs.Bag.{SameBag}
-use Rattle.qs_terms.specs.declared.fault.QFault.TheVariants.{TooManyRows}
-use Rattle.qs_solutions.specs.Solution.{Solution, projected}
-use Rattle.qs_solutions.specs.declared.answer.Answer.TheVariants.{Solutions}
-use Rattle.qs_select.specs.Outcome.{IsSelected}
-use Rattle.qs_select.specs.Sequence.{limited, sliced, count}
+use Rattle.qs_solutions.specs.Solution.{Solution, projected, same_solution}
+use Rattle.qs_eval.proofs.Same.{same_solution-Decides}
+use Rattle.qs_select.specs.Sequence.{limited, sliced, once_where, listed_rows, IsSequence, count}
 use Rattle.qs_select.specs.declared.selection.Selection.{Selection}
 use Rattle.qs_select.specs.declared.selection.Slice.{Slice}
+use Rattle.qs_select.proofs.Once.{same_once}
 
 limited_length : (limit : Option ℕ) (xs ys : List Solution) → length xs ≡ length ys → length (limited limit xs) ≡ length (limited limit ys)
 limited_length None xs ys h = h
@@ -19,32 +18,18 @@ sliced_length : (slice : Slice) (xs ys : List Solution) → length xs ≡ length
 sliced_length slice xs ys h =
     limited_length slice.limit (drop slice.offset xs) (drop slice.offset ys) (length-drop slice.offset xs ∙ ap (λ n. n - slice.offset) h ∙ sym (length-drop slice.offset ys))
 
--- the solutions in some order have as many in their sequence
-counted : (asked : Selection) (all solutions part : List Solution) → SameBag all solutions → part ≡ sliced asked.slice all → length part ≡ count asked solutions
-counted asked all solutions part h is = ap length is ∙ sliced_length asked.slice all solutions (sym (length_permutation all solutions h))
+same_where : (distinct : Bool) (xs ys : List Solution) → SameBag xs ys → SameBag (once_where distinct xs) (once_where distinct ys)
+same_where true xs ys h = same_once same_solution same_solution-Decides xs ys h
+same_where false xs ys h = h
 
-pub too_many : (asked : Selection) (all solutions part : List Solution) (max_rows : ℕ) → SameBag all solutions → part ≡ sliced asked.slice all → max_rows < length part → IsSelected asked solutions max_rows (Err TooManyRows)
-too_many asked all solutions part max_rows h is more = inl (subst (λ (n : ℕ). max_rows < n) (counted asked all solutions part h is) more, refl)
+-- solutions in another order are listed in another order
+same_listed : (asked : Selection) (a b : List Solution) → SameBag a b → SameBag (listed_rows asked a) (listed_rows asked b)
+same_listed asked a b h =
+    same_where asked.is_distinct (map (projected asked.columns) a) (map (projected asked.columns) b) (IsPermutation-map (projected asked.columns) a b h)
 
-map_drop : (f : Solution → Solution) (n : ℕ) (xs : List Solution) → map f (drop n xs) ≡ drop n (map f xs)
-map_drop f zero xs = refl
-map_drop f (suc n) [] = refl
-map_drop f (suc n) (x ∷ xs) = map_drop f n xs
+pub counts_agree : (asked : Selection) (a b : List Solution) → SameBag a b → count asked a ≡ count asked b
+counts_agree asked a b h =
+    sliced_length asked.slice (listed_rows asked a) (listed_rows asked b) (sym (length_permutation (listed_rows asked a) (listed_rows asked b) (same_listed asked a b h)))
 
-map_take : (f : Solution → Solution) (n : ℕ) (xs : List Solution) → map f (take n xs) ≡ take n (map f xs)
-map_take f zero xs = refl
-map_take f (suc n) [] = refl
-map_take f (suc n) (x ∷ xs) = ap (λ l. f x ∷ l) (map_take f n xs)
-
-map_limited : (f : Solution → Solution) (limit : Option ℕ) (xs : List Solution) → map f (limited limit xs) ≡ limited limit (map f xs)
-map_limited f None xs = refl
-map_limited f (Some n) xs = map_take f n xs
-
--- what is done to each solution alone may be done to the slice
-map_sliced : (f : Solution → Solution) (slice : Slice) (xs : List Solution) → map f (sliced slice xs) ≡ sliced slice (map f xs)
-map_sliced f slice xs = map_limited f slice.limit (drop slice.offset xs) ∙ ap (limited slice.limit) (map_drop f slice.offset xs)
-
-pub answered : (asked : Selection) (all solutions part rows : List Solution) (max_rows : ℕ) → SameBag all solutions → part ≡ sliced asked.slice all → length part ≤ max_rows → rows ≡ map (projected asked.columns) part
-    → IsSelected asked solutions max_rows (Ok (Solutions asked.vars rows))
-answered asked all solutions part rows max_rows h is few e =
-    inr (subst (λ (n : ℕ). n ≤ max_rows) (counted asked all solutions part h is) few, rows, (all, h, e ∙ ap (map (projected asked.columns)) is ∙ map_sliced (projected asked.columns) asked.slice all), refl)
+pub length_of_sequence : (asked : Selection) (solutions rows : List Solution) → IsSequence asked solutions rows → length rows ≡ count asked solutions
+length_of_sequence asked solutions rows s = ap length s.2 ∙ counts_agree asked s.0 solutions s.1

@@ -1,2 +1,6 @@
+pub mod Cells
+pub mod Known
 pub mod Lengths
+pub mod Once
+pub mod Ordered
 pub mod Rows

@@ -1,27 +1,46 @@
--- What a query over some quads is answered with: one of the answers that the algebra gives, or the fault that is due (SPARQL 1.1
+-- What a query over a dataset is answered with: one of the answers that the algebra gives, or the fault that is due (SPARQL 1.1
 -- Query, 16 and 18).
-use Rattle.std.specs.Prelude.{◌≡◌, ◌⊎◌, ◌<◌, ◌≤◌, ℕ, List, Ok, Err}
+use Rattle.std.specs.Prelude.{◌≡◌, ◌⊎◌, ◌<◌, ◌≤◌, ℕ, List, length, Ok, Err}
 use Rattle.qs_terms.specs.declared.fault.QFault.TheVariants.{TooManyRows}
-use Rattle.qs_terms.specs.Statement.{Statement}
+use Rattle.qs_terms.specs.Bag.{SameBag}
+use Rattle.qs_terms.specs.Dataset.{Dataset, Triple}
+use Rattle.qs_terms.specs.Outcome.{Outcome}
 use Rattle.qs_solutions.specs.Solution.{Solution}
 use Rattle.qs_solutions.specs.declared.answer.Answer.{Answer}
-use Rattle.qs_solutions.specs.declared.answer.Answer.TheVariants.{Solutions}
+use Rattle.qs_solutions.specs.declared.answer.Answer.TheVariants.{Solutions, Truth}
 use Rattle.qs_ast.specs.declared.query.Query.{Query}
-use Rattle.qs_terms.specs.Outcome.{Outcome}
-use Rattle.qs_select.specs.Selection.{selection}
-use Rattle.qs_select.specs.Sequence.{whole, IsSequence, count}
+use Rattle.qs_algebra.specs.declared.named.NamedPattern.{NamedPattern}
+use Rattle.qs_select.specs.Request.{request}
+use Rattle.qs_select.specs.Sequence.{whole, IsSequence, count, has_solution}
+use Rattle.qs_select.specs.declared.request.Request.{Request}
+use Rattle.qs_select.specs.declared.request.Request.TheVariants.{Select, Ask}
 use Rattle.qs_select.specs.declared.selection.Selection.{Selection}
 
--- a sequence of the solutions, or the fault that there are more than max_rows
+-- SELECT (16.1): a sequence of the solutions, or the fault that there are more than max_rows in it
 abbrev pub IsSelected : Selection → List Solution → ℕ → Outcome Answer → Type 0
 IsSelected asked solutions max_rows outcome =
     ((max_rows < count asked solutions) × (outcome ≡ Err TooManyRows))
     ⊎ ((count asked solutions ≤ max_rows) × (rows : List Solution) × IsSequence asked solutions rows × (outcome ≡ Ok (Solutions asked.vars rows)))
 
-abbrev pub IsOfSelection : Outcome Selection → List Statement → ℕ → Outcome Answer → Type 0
-IsOfSelection (Ok asked) quads max_rows outcome = IsSelected asked (whole asked quads) max_rows outcome
-IsOfSelection (Err f) quads max_rows outcome = outcome ≡ Err f
+-- ASK (16.3): whether there is a solution, however many there are
+abbrev pub IsAsked : List Solution → Outcome Answer → Type 0
+IsAsked solutions outcome = outcome ≡ Ok (Truth (has_solution solutions))
 
--- the outcome of a query over the quads, of which each counts once
-abbrev pub IsOutcomeOfQuery : Query → List Statement → ℕ → Outcome Answer → Type 0
-IsOutcomeOfQuery query quads max_rows outcome = IsOfSelection (selection query) quads max_rows outcome
+-- by the form of the query
+abbrev pub IsAnswered : Request → Dataset → List Triple → ℕ → Outcome Answer → Type 0
+IsAnswered (Select asked) d graph max_rows outcome = IsSelected asked (whole asked.pattern d.quads graph) max_rows outcome
+IsAnswered (Ask pattern) d graph max_rows outcome = IsAsked (whole pattern d.quads graph) outcome
+
+abbrev pub IsOfRequest : Outcome Request → Dataset → List Triple → ℕ → Outcome Answer → Type 0
+IsOfRequest (Ok asked) d graph max_rows outcome = IsAnswered asked d graph max_rows outcome
+IsOfRequest (Err f) d graph max_rows outcome = outcome ≡ Err f
+
+-- the outcome of a query over the dataset, where these triples are the active graph
+abbrev pub IsOutcomeOfQuery : Query → Dataset → List Triple → ℕ → Outcome Answer → Type 0
+IsOutcomeOfQuery query d graph max_rows outcome = IsOfRequest (request query) d graph max_rows outcome
+
+-- all solutions of a pattern with its variables, as an update's WHERE has them, or the fault that there are more than max_rows
+abbrev pub IsAllSolutions : NamedPattern → List Solution → ℕ → Outcome Answer → Type 0
+IsAllSolutions pattern solutions max_rows outcome =
+    ((max_rows < length solutions) × (outcome ≡ Err TooManyRows))
+    ⊎ ((length solutions ≤ max_rows) × (rows : List Solution) × SameBag rows solutions × (outcome ≡ Ok (Solutions pattern.names rows)))

@@ -1,5 +1,5 @@
 -- What a SELECT asks for (SPARQL 1.1 Query, 15 and 18.2.4).
-use Rattle.std.specs.Prelude.{ℕ, Bool, true, false, ◌&&◌, List, [], ◌∷◌, ◌++◌, map, length, Option, Some, None, Ok, Err}
+use Rattle.std.specs.Prelude.{ℕ, Bool, true, false, List, [], ◌∷◌, ◌++◌, map, Option, Some, None, Ok, Err}
 use Rattle.std.specs.List.{filter}
 use Rattle.qs_terms.specs.declared.fault.QFault.TheVariants.{Later}
 use Rattle.qs_tree.specs.declared.query.Duplicates.{Duplicates}
@@ -10,18 +10,17 @@ use Rattle.qs_ast.specs.declared.query.OrderCondition.{OrderCondition}
 use Rattle.qs_ast.specs.declared.query.Projection.{Projection}
 use Rattle.qs_ast.specs.declared.query.Projection.TheVariants as projection
 use Rattle.qs_ast.specs.declared.query.Query.{Query}
-use Rattle.qs_ast.specs.declared.query.QueryForm.{QueryForm}
-use Rattle.qs_ast.specs.declared.query.QueryForm.TheVariants as form
 use Rattle.qs_ast.specs.declared.query.Select.{Select}
 use Rattle.qs_ast.specs.declared.query.SelectItem.{SelectItem}
 use Rattle.qs_ast.specs.declared.query.SelectItem.TheVariants as item
+use Rattle.qs_ast.specs.declared.query.SolutionModifiers.{SolutionModifiers}
 use Rattle.qs_ast.specs.declared.term.Variable.{Variable}
 use Rattle.qs_scope.specs.Firsts.{names_of, firsts}
 use Rattle.qs_scope.specs.Names.{Name, contains}
 use Rattle.qs_scope.specs.Places.{place_of}
 use Rattle.qs_scope.specs.KeepsScope.{trailing_names}
 use Rattle.qs_scope.specs.Scope.{in_scope}
-use Rattle.qs_patterns.specs.declared.pattern.Pattern.{Pattern}
+use Rattle.qs_algebra.specs.declared.named.NamedPattern.{NamedPattern}
 use Rattle.qs_terms.specs.Outcome.{Outcome, and_then, all}
 use Rattle.qs_algebra.specs.Translation.{translated}
 use Rattle.qs_select.specs.declared.selection.Selection.{Selection}
@@ -46,17 +45,9 @@ listed names group values (projection.Items items) = items_listed items
 
 -- ---- what has no meaning yet
 
-abbrev pub keeps_duplicates : Duplicates → Bool
-keeps_duplicates duplicates.Kept = true
-keeps_duplicates duplicates.Distinct = false
-keeps_duplicates duplicates.Reduced = true
-
 abbrev pub is_unordered : List OrderCondition → Bool
 is_unordered [] = true
 is_unordered (one ∷ more) = false
-
-abbrev pub is_meant : Select → Bool
-is_meant select = keeps_duplicates select.duplicates && is_unordered select.modifiers.order
 
 abbrev pub if_meant : {A : Type 0} → Bool → Outcome A → Outcome A
 if_meant true outcome = outcome
@@ -64,32 +55,33 @@ if_meant false outcome = Err Later
 
 -- ---- the selection
 
+-- whether duplicates are eliminated (15.3); REDUCED permits it, and here eliminates none
+abbrev pub is_distinct : Duplicates → Bool
+is_distinct duplicates.Kept = false
+is_distinct duplicates.Distinct = true
+is_distinct duplicates.Reduced = false
+
 abbrev pub or_zero : Option ℕ → ℕ
 or_zero None = 0
 or_zero (Some n) = n
 
-abbrev pub slice_of : Select → Slice
-slice_of select = record { offset = or_zero select.modifiers.offset; limit = select.modifiers.limit }
+abbrev pub slice_of : SolutionModifiers → Slice
+slice_of modifiers = record { offset = or_zero modifiers.offset; limit = modifiers.limit }
 
-abbrev pub selection_with : List Name → Select → Pattern → List Name → Selection
-selection_with names select pattern vars = record {
-  width = length names;
+abbrev pub selection_with : Select → NamedPattern → List Name → Selection
+selection_with select pattern vars = record {
   vars = vars;
-  columns = map (place_of names) vars;
+  columns = map (place_of pattern.names) vars;
   pattern = pattern;
-  slice = slice_of select;
+  is_distinct = is_distinct select.duplicates;
+  slice = slice_of select.modifiers;
 }
 
-abbrev pub select_selection : Query → Select → Outcome Selection
-select_selection query select =
+abbrev pub meant_selection : Query → Select → Outcome Selection
+meant_selection query select =
     and_then (listed (names_of query.variables) select.pattern query.values select.projection)
-    (λ vars. and_then (translated query) (λ pattern. Ok (selection_with (names_of query.variables) select pattern vars)))
+    (λ vars. and_then (translated query) (λ pattern. Ok (selection_with select pattern vars)))
 
-abbrev pub form_selection : Query → QueryForm → Outcome Selection
-form_selection query (form.Select select) = if_meant (is_meant select) (select_selection query select)
-form_selection query (form.Construct construct) = Err Later
-form_selection query (form.Ask ask) = Err Later
-
--- what the query asks for, or that it has no meaning yet
-abbrev pub selection : Query → Outcome Selection
-selection query = form_selection query query.form
+-- what the SELECT asks for, or that it has no meaning yet
+abbrev pub selection : Query → Select → Outcome Selection
+selection query select = if_meant (is_unordered select.modifiers.order) (meant_selection query select)

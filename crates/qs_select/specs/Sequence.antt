@@ -1,20 +1,22 @@
--- The sequence of a query (SPARQL 1.1 Query, 15 and 18.2.5): the solutions of its pattern in some order, projected and sliced.
-use Rattle.std.specs.Prelude.{◌≡◌, ℕ, List, map, take, drop, length, Option, Some, None}
+-- The sequence of a query's solutions (SPARQL 1.1 Query, 15, 18.2.4 and 18.2.5): its pattern's solutions in some order, and what the
+-- modifiers make of them, one after another: projection, DISTINCT or REDUCED, OFFSET and LIMIT.
+use Rattle.std.specs.Prelude.{◌≡◌, ℕ, Bool, true, false, List, [], ◌∷◌, map, take, drop, length, Option, Some, None}
 use Rattle.qs_terms.specs.Bag.{SameBag, once}
-use Rattle.qs_terms.specs.Dataset.{graph_of}
+use Rattle.qs_terms.specs.Dataset.{Dataset, Triple}
 use Rattle.qs_terms.specs.Statement.{Statement, same_statement}
-use Rattle.qs_solutions.specs.Solution.{Solution, projected}
+use Rattle.qs_solutions.specs.Solution.{Solution, projected, same_solution}
 use Rattle.qs_patterns.specs.Eval.{eval}
+use Rattle.qs_algebra.specs.declared.named.NamedPattern.{NamedPattern}
 use Rattle.qs_select.specs.declared.selection.Selection.{Selection}
 use Rattle.qs_select.specs.declared.selection.Slice.{Slice}
 
--- the dataset of some quads: each counts once
-abbrev pub dataset : List Statement → List Statement
-dataset quads = once same_statement quads
+-- the dataset of some quads, of which each counts once, with the next blank node's number
+abbrev pub dataset_of : List Statement → ℕ → Dataset
+dataset_of quads next = record { quads = once same_statement quads; next = next }
 
--- the solutions of the pattern in the default graph
-abbrev pub whole : Selection → List Statement → List Solution
-whole selection quads = eval selection.width (dataset quads) selection.pattern (graph_of (dataset quads) None)
+-- all solutions of a pattern over the quads of a dataset, where these triples are the active graph
+abbrev pub whole : NamedPattern → List Statement → List Triple → List Solution
+whole named quads graph = eval (length named.names) quads named.pattern graph
 
 abbrev pub limited : {X : Type 0} → Option ℕ → List X → List X
 limited None xs = xs
@@ -24,10 +26,24 @@ limited (Some n) xs = take n xs
 abbrev pub sliced : {X : Type 0} → Slice → List X → List X
 sliced slice xs = limited slice.limit (drop slice.offset xs)
 
--- the rows are the sequence of the solutions in some order: projected, and then sliced
+-- where duplicates are eliminated, the first occurrences (Distinct); else all (Reduced may leave all, and does)
+abbrev pub once_where : Bool → List Solution → List Solution
+once_where true rows = once same_solution rows
+once_where false rows = rows
+
+-- the solutions in this order, projected (Project), and without duplicates where that is asked for
+abbrev pub listed_rows : Selection → List Solution → List Solution
+listed_rows selection solutions = once_where selection.is_distinct (map (projected selection.columns) solutions)
+
+-- the rows are the sequence of the solutions in some order
 abbrev pub IsSequence : Selection → List Solution → List Solution → Type 0
-IsSequence selection solutions rows = (all : List Solution) × SameBag all solutions × (rows ≡ sliced selection.slice (map (projected selection.columns) all))
+IsSequence selection solutions rows = (all : List Solution) × SameBag all solutions × (rows ≡ sliced selection.slice (listed_rows selection all))
 
 -- the length that all sequences of the solutions have
 abbrev pub count : Selection → List Solution → ℕ
-count selection solutions = length (sliced selection.slice solutions)
+count selection solutions = length (sliced selection.slice (listed_rows selection solutions))
+
+-- whether there is one
+abbrev pub has_solution : List Solution → Bool
+has_solution [] = false
+has_solution (m ∷ ms) = true

@@ -9,11 +9,10 @@ ghost use Rattle.qs_scope.specs.Places.{place_of};
 ghost use Rattle.qs_terms.specs.Outcome.{OrWantOfMemory, all};
 ghost use Rattle.qs_select.specs.Selection as spec;
 
-use qs_algebra::translate;
+use qs_algebra::{NamedPattern, translate};
 use qs_ast::pattern::{Group, InlineData};
-use qs_ast::query::{Projection, Query, QueryForm, Select, SelectItem};
+use qs_ast::query::{Projection, Query, Select, SelectItem, SolutionModifiers};
 use qs_ast::term::Variable;
-use qs_patterns::Pattern;
 use qs_scope::{Seen, first_variables, in_scope, numbered};
 use qs_terms::{QFault, Text};
 use qs_tree::query::Duplicates;
@@ -30,13 +29,13 @@ pub struct Slice {
 /// What a SELECT asks for.
 #[derive(Drop)]
 pub struct Selection {
-    /// How many variables the text has.
-    pub width: usize,
     /// The names of the variables of the answer.
     pub vars: Items<Text>,
     /// The numbers of these variables.
     pub columns: Items<usize>,
-    pub pattern: Pattern,
+    pub pattern: NamedPattern,
+    /// Whether duplicates are eliminated.
+    pub is_distinct: bool,
     pub slice: Slice,
 }
 
@@ -178,32 +177,37 @@ fn columns<'a>(
     numbers(alloc, &names, vars)
 }
 
-fn is_meant(select: &Select) -> bool
-    ensures { result ≡ spec.is_meant select.now }
+fn is_distinct(duplicates: Duplicates) -> bool
+    ensures { result ≡ spec.is_distinct duplicates }
 {
-    let keeps_duplicates = match select.duplicates {
-        Duplicates::Kept => true,
-        Duplicates::Distinct => false,
-        Duplicates::Reduced => true,
-    };
-    keeps_duplicates && select.modifiers.order.is_empty()
+    match duplicates {
+        Duplicates::Kept => false,
+        Duplicates::Distinct => true,
+        Duplicates::Reduced => false,
+    }
 }
 
-fn slice_of(select: &Select) -> Slice
-    ensures { result ≡ spec.slice_of select.now }
+fn slice_of(modifiers: &SolutionModifiers) -> Slice
+    ensures { result ≡ spec.slice_of modifiers.now }
 {
-    let offset = match select.modifiers.offset {
+    let offset = match modifiers.offset {
         None => 0,
         Some(offset) => offset,
     };
     Slice {
         offset,
-        limit: select.modifiers.limit,
+        limit: modifiers.limit,
     }
 }
 
-fn select_selection(alloc: Global, query: &Query, select: &Select) -> Result<Selection, QFault>
-    ensures { OrWantOfMemory (spec.select_selection query.now select.now) result }
+fn is_unordered(select: &Select) -> bool
+    ensures { result ≡ spec.is_unordered select.now.modifiers.order }
+{
+    select.modifiers.order.is_empty()
+}
+
+fn meant_selection(alloc: Global, query: &Query, select: &Select) -> Result<Selection, QFault>
+    ensures { OrWantOfMemory (spec.meant_selection query.now select.now) result }
 {
     let variables = query.variables.as_slice();
     let vars = listed(
@@ -213,29 +217,23 @@ fn select_selection(alloc: Global, query: &Query, select: &Select) -> Result<Sel
         &query.values,
         &select.projection,
     )?;
-    let pattern = translate(alloc, query)?;
     let columns = columns(alloc, variables, vars.as_slice())?;
+    let pattern = translate(alloc, query)?;
     Ok(Selection {
-        width: variables.len(),
         vars,
         columns,
         pattern,
-        slice: slice_of(select),
+        is_distinct: is_distinct(select.duplicates),
+        slice: slice_of(&select.modifiers),
     })
 }
 
-/// What the query asks for, or Later where it has no meaning yet.
-pub fn selection_of(alloc: Global, query: &Query) -> Result<Selection, QFault>
-    ensures { OrWantOfMemory (spec.selection query.now) result }
+/// What the SELECT of the query asks for, or Later where it has no meaning yet.
+pub fn selection_of(alloc: Global, query: &Query, select: &Select) -> Result<Selection, QFault>
+    ensures { OrWantOfMemory (spec.selection query.now select.now) result }
 {
-    match &query.form {
-        QueryForm::Select(select) => {
-            if !is_meant(select) {
-                return Err(QFault::Later);
-            }
-            select_selection(alloc, query, select)
-        }
-        QueryForm::Construct(_) => Err(QFault::Later),
-        QueryForm::Ask(_) => Err(QFault::Later),
+    if !is_unordered(select) {
+        return Err(QFault::Later);
     }
+    meant_selection(alloc, query, select)
 }

@@ -1,14 +1,40 @@
-//! The sequence of a SELECT: its solutions sliced and projected (SPARQL 1.1 Query, 18.2.5).
+//! The sequence of a SELECT: its solutions projected, without duplicates where that is asked for, and sliced (SPARQL 1.1 Query, 18.2.5).
 
 ghost use Rattle.std.specs.Prelude.{◌≡◌, length, map, take, drop, min, IfOk};
 ghost use Rattle.qs_solutions.specs.Solution.{projected};
+ghost use Rattle.qs_eval.specs.Lent.{lent};
 ghost use Rattle.qs_select.specs.Sequence as spec;
 
-use crate::selection::Slice;
+use crate::distinct::firsts;
+use crate::selection::{Selection, Slice};
 use qs_solutions::Row;
 use std::alloc::{AllocError, Global};
 
-fn limited(rows: &[Row], limit: Option<u64>) -> &[Row]
+fn lent_rows<'a>(alloc: Global, rows: &'a [Row]) -> Result<Vec<&'a Row>, AllocError>
+    ensures { IfOk result (λ all. lent all.items ≡ rows.now) }
+{
+    let mut all = Vec::new(alloc);
+    for row in rows {
+        all.push(row)?;
+    }
+    Ok(all)
+}
+
+/// The rows that are listed: all, or without duplicates the first ones. They aren't projected yet.
+pub fn listed_rows<'a>(
+    alloc: Global,
+    asked: &Selection,
+    all: &'a [Row],
+) -> Result<Vec<&'a Row>, AllocError>
+    ensures { IfOk result (λ rows. map (projected asked.now.columns) (lent rows.items) ≡ spec.listed_rows asked.now all.now) }
+{
+    if asked.is_distinct {
+        return firsts(alloc, all, asked.columns.as_slice());
+    }
+    lent_rows(alloc, all)
+}
+
+fn limited<'r, 'a>(rows: &'r [&'a Row], limit: Option<u64>) -> &'r [&'a Row]
     ensures { result.now ≡ spec.limited limit rows.now }
 {
     match limit {
@@ -21,7 +47,7 @@ fn limited(rows: &[Row], limit: Option<u64>) -> &[Row]
 }
 
 /// The part of the rows: so many are left out at their front, and so many are left of the rest.
-pub fn sliced(rows: &[Row], slice: Slice) -> &[Row]
+pub fn sliced<'r, 'a>(rows: &'r [&'a Row], slice: Slice) -> &'r [&'a Row]
     ensures { result.now ≡ spec.sliced slice rows.now }
 {
     let first = slice.offset.min(rows.len() as u64);
@@ -29,11 +55,11 @@ pub fn sliced(rows: &[Row], slice: Slice) -> &[Row]
 }
 
 /// The rows with the terms of these variables alone.
-pub fn projected(alloc: Global, rows: &[Row], columns: &[usize]) -> Result<Vec<Row>, AllocError>
-    ensures { IfOk result (λ all. all.items ≡ map (projected columns.now) rows.now) }
+pub fn projected(alloc: Global, rows: &[&Row], columns: &[usize]) -> Result<Vec<Row>, AllocError>
+    ensures { IfOk result (λ all. all.items ≡ map (projected columns.now) (lent rows.now)) }
 {
     let mut all = Vec::new(alloc);
-    for row in rows {
+    for &row in rows {
         let row = row.projected(alloc, columns)?;
         all.push(row)?;
     }

@@ -1,5 +1,5 @@
 -- What tokens and trees come to: a query or an update with its names resolved, or the one fault that is due.
-use Rattle.std.specs.Prelude.{ℕ, Bool, true, false, nat_lt, List, [], ◌∷◌, ◌++◌, Option, Some, None, Result, Ok, Err, if◌then◌else◌}
+use Rattle.std.specs.Prelude.{ℕ, Bool, true, false, nat_lt, List, [], ◌∷◌, ◌++◌, Option, Some, None, Ok, Err, if◌then◌else◌}
 use Rattle.qs_terms.specs.Outcome.{Outcome, and_then}
 use Rattle.qs_terms.specs.declared.fault.QFault.{QFault}
 use Rattle.qs_terms.specs.declared.fault.QFault.TheVariants as fault
@@ -17,8 +17,8 @@ use Rattle.qs_limits.specs.LeftOut.{left_out}
 use Rattle.qs_names.specs.Names.{Names, variable, nothing_declared}
 use Rattle.std.specs.List.{fold}
 use Rattle.qs_resolve.specs.Resolved.{resolved_query, resolved_update}
-use Rattle.qs_scope.specs.Firsts.{firsts}
 use Rattle.qs_scope.specs.KeepsScope.{query_keeps_scope, update_keeps_scope}
+use Rattle.qs_scope.specs.VariablesIn.{query_variables, update_variables}
 
 -- ---- over the tokens: the first word that is left out, and then the first bracket that is too much
 
@@ -62,7 +62,8 @@ by_place (Err f) place = Err (earlier f place)
 abbrev pub in_scope : {A : Type 0} → (A → Bool) → A → Outcome A
 in_scope keeps a = if keeps a then Ok a else Err fault.Scope
 
--- the variables of the text, as often as they stand in it
+-- ---- the variables of the text, as often as they stand in it
+
 abbrev pub is_variable : Kind → Bool
 is_variable kind.Var = true
 is_variable other = false
@@ -73,13 +74,23 @@ with_variable names found t = if is_variable t.kind then found ++ record { name 
 abbrev pub named : Names → List Token → List Variable
 named names tokens = fold (with_variable names) [] tokens
 
--- each once, in the order in which they first appear
 abbrev pub variables_of : List ℕ → List Token → List Variable
-variables_of text tokens = firsts (named (nothing_declared text) tokens)
+variables_of text tokens = named (nothing_declared text) tokens
+
+-- ---- the whole: those variables, and behind them those of the tree, are listed at last, each once
+
+abbrev pub listed_query : Query → Query
+listed_query query = record query { variables = query_variables query }
 
 unfoldable pub query_outcome : List ℕ → List Token → WrittenQuery → Outcome Query
 query_outcome text tokens q =
-    and_then (by_place (resolved_query text (variables_of text tokens) q) (large.query q)) (in_scope query_keeps_scope)
+    and_then (and_then (by_place (resolved_query text (variables_of text tokens) q) (large.query q)) (in_scope query_keeps_scope))
+    (λ kept. Ok (listed_query kept))
 
-unfoldable pub update_outcome : List ℕ → WrittenUpdate → Outcome Update
-update_outcome text u = and_then (by_place (resolved_update text u) (large.update u)) (in_scope update_keeps_scope)
+abbrev pub listed_update : Update → Update
+listed_update update = record update { variables = update_variables update }
+
+unfoldable pub update_outcome : List ℕ → List Token → WrittenUpdate → Outcome Update
+update_outcome text tokens u =
+    and_then (and_then (by_place (resolved_update text (variables_of text tokens) u) (large.update u)) (in_scope update_keeps_scope))
+    (λ kept. Ok (listed_update kept))

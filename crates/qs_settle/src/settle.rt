@@ -9,10 +9,11 @@ ghost use Rattle.qs_settle.specs.Settled as spec;
 use qs_ast::query::Query;
 use qs_ast::term::Variable;
 use qs_ast::update::Update;
+use qs_beside::beside;
 use qs_limits::{large_query, large_update};
 use qs_names::Names;
 use qs_resolve::{resolve_query, resolve_update};
-use qs_scope::{first_variables, query_keeps_scope, update_keeps_scope};
+use qs_scope::{query_keeps_scope, query_variables, update_keeps_scope, update_variables};
 use qs_terms::QFault;
 use qs_tree::kind::Kind;
 use qs_tree::query::Query as WrittenQuery;
@@ -94,8 +95,7 @@ fn variables(alloc: Global, text: &str, tokens: &[Token]) -> Result<Items<Variab
     ensures { IfOk result (λ v. v ≡ spec.variables_of text.now tokens.now) }
 {
     let names = Names::new(alloc, text);
-    let all = named(alloc, &names, tokens)?;
-    first_variables(alloc, all.as_slice())
+    named(alloc, &names, tokens)
 }
 
 // the tree, where it keeps the rules of scope
@@ -124,7 +124,39 @@ fn scoped_update(alloc: Global, update: Update) -> Result<Update, QFault>
     where_kept(keeps, update)
 }
 
-/// The query of a tree that the text's tokens spell.
+fn listed_query(alloc: Global, query: Query) -> Result<Query, AllocError>
+    ensures { IfOk result (λ q. q ≡ spec.listed_query query) }
+{
+    let variables = query_variables(alloc, &query);
+    let (query, variables) = beside(query, variables)?;
+    let Query {
+        form,
+        values,
+        variables: _,
+    } = query;
+    Ok(Query {
+        form,
+        values,
+        variables,
+    })
+}
+
+fn listed_update(alloc: Global, update: Update) -> Result<Update, AllocError>
+    ensures { IfOk result (λ u. u ≡ spec.listed_update update) }
+{
+    let variables = update_variables(alloc, &update);
+    let (update, variables) = beside(update, variables)?;
+    let Update {
+        operations,
+        variables: _,
+    } = update;
+    Ok(Update {
+        operations,
+        variables,
+    })
+}
+
+/// The query of a tree that the text's tokens spell, with all of its variables.
 #[tactic(auto, using(crate::proofs::Places::placed), unfolding(crate::specs::Settled::query_outcome))]
 pub fn settle_query(
     alloc: Global,
@@ -137,15 +169,23 @@ pub fn settle_query(
     let variables = variables(alloc, text, tokens)?;
     let resolved = resolve_query(alloc, text, variables, tree);
     let query = by_place(resolved, large_query(tree))?;
-    scoped_query(alloc, query)
+    let query = scoped_query(alloc, query)?;
+    Ok(listed_query(alloc, query)?)
 }
 
-/// The update of a tree that the text's tokens spell.
+/// The update of a tree that the text's tokens spell, with all of its variables.
 #[tactic(auto, using(crate::proofs::Places::placed), unfolding(crate::specs::Settled::update_outcome))]
-pub fn settle_update(alloc: Global, text: &str, tree: &WrittenUpdate) -> Result<Update, QFault>
-    ensures { OrWantOfMemory (spec.update_outcome text.now tree.now) result }
+pub fn settle_update(
+    alloc: Global,
+    text: &str,
+    tokens: &[Token],
+    tree: &WrittenUpdate,
+) -> Result<Update, QFault>
+    ensures { OrWantOfMemory (spec.update_outcome text.now tokens.now tree.now) result }
 {
-    let resolved = resolve_update(alloc, text, tree);
+    let variables = variables(alloc, text, tokens)?;
+    let resolved = resolve_update(alloc, text, variables, tree);
     let update = by_place(resolved, large_update(tree))?;
-    scoped_update(alloc, update)
+    let update = scoped_update(alloc, update)?;
+    Ok(listed_update(alloc, update)?)
 }

@@ -1,4 +1,3 @@
 pub mod Unbound
 pub mod Cells
-pub mod Optional
 pub mod Bindings

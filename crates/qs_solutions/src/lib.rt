@@ -6,5 +6,5 @@ mod operators;
 mod solution;
 
 pub use answer::Answer;
-pub use operators::{joined, left_joined, without};
+pub use operators::{joined, without};
 pub use solution::Row;

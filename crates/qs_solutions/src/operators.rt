@@ -1,8 +1,8 @@
-//! Join, LeftJoin and Minus (SPARQL 1.1 Query, 18.5).
+//! Join and Minus (SPARQL 1.1 Query, 18.5).
 
-ghost use Rattle.std.specs.Prelude.{◌≡◌, ◌++◌, IfOk, OnOk, true};
+ghost use Rattle.std.specs.Prelude.{◌≡◌, ◌++◌, IfOk, OnOk};
 ghost use Rattle.std.specs.List.{list_any};
-ghost use Rattle.qs_solutions.specs.Operators.{merges, join, or_alone, left_join, excludes, minus};
+ghost use Rattle.qs_solutions.specs.Operators.{merges, join, excludes, minus};
 
 use crate::solution::Row;
 use std::alloc::{AllocError, Global};
@@ -32,36 +32,6 @@ pub fn joined(alloc: Global, left: &[Row], right: &[Row]) -> Result<Vec<Row>, Al
     let mut rows = Vec::new(alloc);
     for row in left {
         put_merges(alloc, row, right, &mut rows)?;
-    }
-    Ok(rows)
-}
-
-/// Puts the row's merges at the end of `rows`, or the row alone where it has none.
-fn put_optional(
-    alloc: Global,
-    row: &Row,
-    right: &[Row],
-    rows: &mut Vec<Row>,
-) -> Result<(), AllocError>
-    ensures { OnOk result (rows.new.items ≡ rows.old.items ++ or_alone row.now (merges right.now row.now)) }
-{
-    let before = rows.len();
-    put_merges(alloc, row, right, rows)?;
-    if rows.len() == before {
-        let row = row.try_clone(alloc)?;
-        rows.push(row)?;
-    }
-    Ok(())
-}
-
-/// Each row of the left merged with each row of the right that it is compatible with, and alone where it is compatible with none.
-#[tactic(auto, using(crate::proofs::Optional::one_more))]
-pub fn left_joined(alloc: Global, left: &[Row], right: &[Row]) -> Result<Vec<Row>, AllocError>
-    ensures { IfOk result (λ rows. rows.items ≡ left_join (λ m. true) left.now right.now) }
-{
-    let mut rows = Vec::new(alloc);
-    for row in left {
-        put_optional(alloc, row, right, &mut rows)?;
     }
     Ok(rows)
 }

@@ -35,4 +35,4 @@ abbrev pub IsQueryOutcome : List ℕ → Outcome Query → Type 0
 IsQueryOutcome text outcome = IsParsed rules.query (query_outcome text) text outcome
 
 abbrev pub IsUpdateOutcome : List ℕ → Outcome Update → Type 0
-IsUpdateOutcome text outcome = IsParsed rules.update (λ tokens. update_outcome text) text outcome
+IsUpdateOutcome text outcome = IsParsed rules.update (update_outcome text) text outcome

@@ -26,11 +26,11 @@ fn query_of(alloc: Global, text: &str, tokens: &[Token]) -> Result<Query, QFault
 }
 
 fn update_of(alloc: Global, text: &str, tokens: &[Token]) -> Result<Update, QFault>
-    ensures { OneOrWantOfMemory (IsOutcomeOfTokens rules.update (update_outcome text.now) text.now tokens.now) result }
+    ensures { OneOrWantOfMemory (IsOutcomeOfTokens rules.update (update_outcome text.now tokens.now) text.now tokens.now) result }
 {
     screen(alloc, text, tokens)?;
     let tree = update_of_tokens(alloc, text.len(), tokens)?;
-    settle_update(alloc, text, &tree)
+    settle_update(alloc, text, tokens, &tree)
 }
 
 /// The query of a text, with its names resolved (SPARQL 1.1 Query, 19.8, [1]).

@@ -1,2 +1,3 @@
+pub mod Due
 pub mod Ended
-pub mod Printed
+pub mod Run

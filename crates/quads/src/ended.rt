@@ -2,11 +2,15 @@
 
 ghost use Rattle.std.specs.Prelude.{Ok, Err, MatchResult};
 ghost use Rattle.qs_terms.specs.Outcome.{OneOrWantOfMemory};
-ghost use Rattle.quads.specs.Ended.{IsTextOf, IsTextOutcome, IsQueryEnd, IsEnd};
+ghost use Rattle.qs_select.specs.Sequence.{dataset_of};
+ghost use Rattle.quads.specs.Due.{IsTextOf, IsTextOutcome};
+ghost use Rattle.quads.specs.Ended.{IsQueryEnd, IsEnd};
 
 use crate::job::Job;
+use qs_nquads::laws::next_number_is_fresh;
 use qs_nquads::{NqFault, read};
 use qs_query::answer;
+use qs_select::laws::quads_are_a_dataset;
 use qs_solutions::Answer;
 use qs_terms::{QFault, Quad};
 use std::alloc::Global;
@@ -43,7 +47,7 @@ fn text_answer(
     quads: &[Quad],
     next_blank: u64,
 ) -> Result<Answer, QFault>
-    ensures { OneOrWantOfMemory (IsTextOutcome text.now quads.now) result }
+    ensures { OneOrWantOfMemory (IsTextOutcome text.now (dataset_of quads.now next_blank)) result }
 {
     let text = text_of(text)?;
     answer(alloc, text, quads, next_blank, MAX_ROWS)
@@ -56,6 +60,8 @@ fn query_ended(alloc: Global, file: &[u8], text: &[u8]) -> Ended
         Ok(parts) => parts,
         Err(fault) => return Ended::DataRefused(fault),
     };
+    next_number_is_fresh();
+    quads_are_a_dataset();
     match text_answer(alloc, text, quads.as_slice(), next_blank) {
         Ok(answer) => Ended::Answered(answer),
         Err(fault) => Ended::Refused(fault),

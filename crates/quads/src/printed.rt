@@ -1,14 +1,15 @@
 //! What is printed of a job's end.
 
 ghost use Rattle.std.specs.Prelude.{◌≡◌, IfOk, string_bytes};
-ghost use Rattle.quads.specs.Printed as spec;
+ghost use Rattle.quads.specs.Due.{line};
+ghost use Rattle.quads.specs.Ended as spec;
 
 use crate::ended::Ended;
 use qs_results::{data_fault_line, fault_line, json};
 use std::alloc::{AllocError, Global};
 
 fn text(alloc: Global, end: &Ended) -> Result<String, AllocError>
-    ensures { IfOk result (λ s. spec.line (string_bytes s) ≡ spec.printed end.now) }
+    ensures { IfOk result (λ s. line (string_bytes s) ≡ spec.printed end.now) }
 {
     match end {
         Ended::Answered(answer) => json(alloc, answer),

@@ -2,8 +2,10 @@
 
 ghost use Rattle.std.specs.Prelude.{◌⊎◌};
 ghost use Rattle.qs_terms.specs.declared.fault.QFault.TheVariants.{Memory};
-ghost use Rattle.quads.specs.Printed.{Prints, PrintsEnd, IsRun};
-ghost use Rattle.quads.specs.declared.ended.Ended.TheVariants.{Refused};
+ghost use Rattle.qs_results.specs.Lines.{fault_line};
+ghost use Rattle.quads.specs.Due.{line};
+ghost use Rattle.quads.specs.Ended as ended;
+ghost use Rattle.quads.specs.Run.{Prints, IsRun};
 
 use crate::ended::{Ended, end_of};
 use crate::job::{Job, Ran};
@@ -24,8 +26,8 @@ fn put<S: Sink>(out: &mut S, bytes: &[u8], status: u8) -> Ran
 
 // Puts the line, or the one of want of memory where it can't be made.
 fn put_line<S: Sink>(alloc: Global, end: &Ended, out: &mut S) -> Ran
-    ensures { PrintsEnd end.now (S.taken out.old) (S.taken out.new) (S.faults out.old) (S.faults out.new) result
-        ⊎ PrintsEnd (Refused Memory) (S.taken out.old) (S.taken out.new) (S.faults out.old) (S.faults out.new) result }
+    ensures { Prints (ended.printed end.now) (ended.status end.now) (S.taken out.old) (S.taken out.new) (S.faults out.old) (S.faults out.new) result
+        ⊎ Prints (line (fault_line Memory)) 1 (S.taken out.old) (S.taken out.new) (S.faults out.old) (S.faults out.new) result }
 {
     match printed(alloc, end) {
         Ok(line) => put(out, line.as_bytes(), status(end)),

@@ -2,10 +2,12 @@
 
 use crate::lines::{comes_to, written};
 use crate::outcome::Outcome;
+use qs_algebra::translate;
 use qs_nquads::{NqFaultKind, read};
-use qs_query::answer;
+use qs_query::{Answer, answer, solutions_of};
 use qs_results::json;
-use qs_terms::Quad;
+use qs_syntax::parse_query;
+use qs_terms::{QFault, Quad, Term, TermFault};
 use std::alloc::Global;
 
 /// Queries over the data below, the greatest number of solutions, and the line of the fault, or nothing where there is none.
@@ -17,7 +19,9 @@ const LIMITED: &[(&str, u64, &str)] = &[
     ("SELECT ?p { ?s ?p ?o } OFFSET 1", 1, "F8 too many rows"),
     ("SELECT ?p { ?s ?p ?o } LIMIT 0", 0, ""),
     ("SELECT * { ?s ?p ", 0, "F1 syntax at 17"),
-    ("ASK {}", 0, "F11 later"),
+    ("SELECT DISTINCT ?p { ?s ?p ?o }", 2, ""),
+    ("SELECT DISTINCT ?p { ?s ?p ?o }", 1, "F8 too many rows"),
+    ("ASK { ?s ?p ?o }", 0, ""),
 ];
 
 fn limited_outcome(alloc: Global, quads: &[Quad]) -> Outcome {
@@ -33,23 +37,77 @@ fn limited_outcome(alloc: Global, quads: &[Quad]) -> Outcome {
 const DATA: &[u8] =
     b"<u:a> <u:p> <u:b> .\n_:c <u:p> \"x\\t\"@EN .\n<u:a> <u:q> \"1\"^^<u:t> .\n<u:a> <u:p> _:c <u:g> .";
 
-/// A query with all forms that have an answer.
-const TEXT: &str =
-    "PREFIX p: <u:> SELECT REDUCED ?x ?y ?z { { ?x p:p ?y } UNION { [] p:p _:n . ?x p:q ?y } { ?x ?p ?y . ?x ?p ?y } } LIMIT 9 OFFSET 0";
+/// Queries with all forms that have an answer, and their answers, worked out by hand.
+///
+/// Of the first: `<u:a> <u:p> <u:b>` and `_:c <u:p> "x\t"@en` by the left side of UNION; `<u:a> <u:q> "1"` by the right one, for each of
+/// two triples of `u:p`. Of the second: two solutions of `?x p:p ?y`, each twice; MINUS takes those of `_:c` away, which is the object in
+/// the named graph, and what is left is one row.
+const ANSWERED: &[(&str, &str)] = &[
+    (
+        "PREFIX p: <u:> SELECT REDUCED ?x ?y ?z { { ?x p:p ?y } UNION { [] p:p _:n . ?x p:q ?y } { ?x ?p ?y . ?x ?p ?y } } LIMIT 9 OFFSET 0",
+        r#"{"head":{"vars":["x","y","z"]},"results":{"bindings":[{"x":{"type":"uri","value":"u:a"},"y":{"type":"uri","value":"u:b"}},{"x":{"type":"bnode","value":"b0"},"y":{"type":"literal","value":"x\t","xml:lang":"en"}},{"x":{"type":"uri","value":"u:a"},"y":{"datatype":"u:t","type":"literal","value":"1"}},{"x":{"type":"uri","value":"u:a"},"y":{"datatype":"u:t","type":"literal","value":"1"}}]}}"#,
+    ),
+    (
+        "PREFIX p: <u:> SELECT DISTINCT ?x ?v ?w { {} UNION {} ?x p:p ?y OPTIONAL { ?x p:q ?z FILTER(ISIRI(?y)) } BIND(CONCAT(STR(?z), \"!\") AS ?v) FILTER(BOUND(?x)) VALUES ?w { 5 } MINUS { GRAPH ?g { ?s ?p ?x } } }",
+        r#"{"head":{"vars":["x","v","w"]},"results":{"bindings":[{"v":{"type":"literal","value":"1!"},"w":{"datatype":"http://www.w3.org/2001/XMLSchema#integer","type":"literal","value":"5"},"x":{"type":"uri","value":"u:a"}}]}}"#,
+    ),
+    (
+        "ASK { ?s <u:q> ?o FILTER(?s = <u:a>) } OFFSET 1",
+        r#"{"boolean":true,"head":{}}"#,
+    ),
+];
 
-/// `<u:a> <u:p> <u:b>` and `_:c <u:p> "x\t"@en` by the left side of UNION; `<u:a> <u:q> "1"` by the right one, for each of two triples
-/// of `u:p`.
-const LINE: &str =
-    r#"{"head":{"vars":["x","y","z"]},"results":{"bindings":[{"x":{"type":"uri","value":"u:a"},"y":{"type":"uri","value":"u:b"}},{"x":{"type":"bnode","value":"b0"},"y":{"type":"literal","value":"x\t","xml:lang":"en"}},{"x":{"type":"uri","value":"u:a"},"y":{"datatype":"u:t","type":"literal","value":"1"}},{"x":{"type":"uri","value":"u:a"},"y":{"datatype":"u:t","type":"literal","value":"1"}}]}}"#;
-
-fn written_outcome(alloc: Global, quads: &[Quad]) -> Outcome {
-    match answer(alloc, TEXT, quads, 1, 4) {
+fn written_answer(alloc: Global, answer: Result<Answer, QFault>, line: &str) -> Outcome {
+    match answer {
         Ok(answer) => {
             let text = json(alloc, &answer);
             drop(answer);
-            written(text, LINE)
+            written(text, line)
         }
         Err(fault) => Outcome::of_fault(&fault),
+    }
+}
+
+fn written_outcome(alloc: Global, quads: &[Quad]) -> Outcome {
+    for (text, line) in ANSWERED {
+        match written_answer(alloc, answer(alloc, text, quads, 1, 4), line) {
+            Outcome::Whole => {}
+            other => return other,
+        }
+    }
+    Outcome::Whole
+}
+
+/// All solutions of one pattern in the default graph, and in a named one.
+const DEFAULT_LINE: &str =
+    r#"{"head":{"vars":["s","o"]},"results":{"bindings":[{"o":{"type":"uri","value":"u:b"},"s":{"type":"uri","value":"u:a"}},{"o":{"type":"literal","value":"x\t","xml:lang":"en"},"s":{"type":"bnode","value":"b0"}}]}}"#;
+
+const NAMED_LINE: &str =
+    r#"{"head":{"vars":["s","o"]},"results":{"bindings":[{"o":{"type":"bnode","value":"b0"},"s":{"type":"uri","value":"u:a"}}]}}"#;
+
+fn in_graph(alloc: Global, quads: &[Quad], graph: Option<&Term>) -> Result<Answer, QFault> {
+    let query = parse_query(alloc, "SELECT * { ?s <u:p> ?o }")?;
+    let pattern = translate(alloc, &query);
+    drop(query);
+    let pattern = pattern?;
+    let answer = solutions_of(alloc, &pattern, quads, graph, 2);
+    drop(pattern);
+    answer
+}
+
+fn graphs_outcome(alloc: Global, quads: &[Quad]) -> Outcome {
+    match written_answer(alloc, in_graph(alloc, quads, None), DEFAULT_LINE) {
+        Outcome::Whole => {}
+        other => return other,
+    }
+    match Term::iri(alloc, "u:g") {
+        Ok(name) => {
+            let answer = in_graph(alloc, quads, Some(&name));
+            drop(name);
+            written_answer(alloc, answer, NAMED_LINE)
+        }
+        Err(TermFault::Memory) => Outcome::Refused,
+        Err(_) => Outcome::Wrong,
     }
 }
 
@@ -59,6 +117,10 @@ pub fn outcome(alloc: Global) -> Outcome {
         Ok((quads, _)) => {
             let outcome = match limited_outcome(alloc, quads.as_slice()) {
                 Outcome::Whole => written_outcome(alloc, quads.as_slice()),
+                other => other,
+            };
+            let outcome = match outcome {
+                Outcome::Whole => graphs_outcome(alloc, quads.as_slice()),
                 other => other,
             };
             drop(quads);

@@ -1,7 +1,8 @@
 //! The variables that patterns bind (SPARQL 1.1 Query, 18.2.1 and 18.5).
 
 use crate::outcome::Outcome;
-use qs_algebra::translate;
+use qs_algebra::{NamedPattern, translate, translate_where};
+use qs_ast::query::{Query, QueryForm};
 use qs_bindings::{certain, possible};
 use qs_patterns::Pattern;
 use qs_syntax::parse_query;
@@ -34,13 +35,30 @@ const FLAGS: &[(&str, &[bool], &[bool])] = &[
         &[true, true, true],
     ),
     ("SELECT ?z {}", &[false], &[false]),
+    // BIND may err, and a filter binds nothing
+    (
+        "SELECT * { ?a <u:p> ?b BIND(?b AS ?c) OPTIONAL { ?a <u:q> ?d FILTER(?d = ?b) } FILTER(?a = ?e) }",
+        &[true, true, false, false, false],
+        &[true, true, true, true, false],
+    ),
 ];
 
-fn pattern_of(alloc: Global, text: &str) -> Result<Pattern, QFault> {
+// the pattern of the WHERE by itself, where the query is a SELECT
+fn pattern_of_where(alloc: Global, query: &Query) -> Result<NamedPattern, QFault> {
+    match &query.form {
+        QueryForm::Select(select) => {
+            translate_where(alloc, query.variables.as_slice(), &select.pattern)
+        }
+        _ => Err(QFault::Later),
+    }
+}
+
+fn patterns_of(alloc: Global, text: &str) -> Result<(NamedPattern, NamedPattern), QFault> {
     let query = parse_query(alloc, text)?;
-    let pattern = translate(alloc, &query);
+    let whole = translate(alloc, &query);
+    let alone = pattern_of_where(alloc, &query);
     drop(query);
-    pattern
+    Ok((whole?, alone?))
 }
 
 fn has_flags(
@@ -60,10 +78,12 @@ fn is_flagged(
     are_certain: &[bool],
     are_possible: &[bool],
 ) -> Result<bool, QFault> {
-    let pattern = pattern_of(alloc, text)?;
-    let has_flags = has_flags(alloc, &pattern, are_certain, are_possible);
-    drop(pattern);
-    has_flags
+    let (whole, alone) = patterns_of(alloc, text)?;
+    let of_whole = has_flags(alloc, &whole.pattern, are_certain, are_possible);
+    let of_where = has_flags(alloc, &alone.pattern, are_certain, are_possible);
+    drop(whole);
+    drop(alone);
+    Ok(of_whole? && of_where?)
 }
 
 /// Whether each pattern has its flags.

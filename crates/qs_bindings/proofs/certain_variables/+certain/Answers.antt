@@ -2,7 +2,7 @@ use Rattle.std.proofs.Common.{◌||◌, ◌&&◌, ap, ◌∙◌}
 use Rattle.qs_patterns.specs.Basic.{mentions}
 use Rattle.qs_bindings.specs.Flags.{flags_from, flag_at}
 use Rattle.qs_bindings.specs.Certain.{is_certain, is_certain_step}
-use Rattle.qs_bindings.proofs.Arms.{certain_basic_arm, certain_group_arm, certain_union_arm, certain_graph_arm, certain_each_arm, certain_values_arm, certain_join_arm, certain_left_join_arm, certain_minus_arm, some_more, every_more}
+use Rattle.qs_bindings.proofs.Arms.{certain_basic_arm, certain_group_arm, certain_union_arm, certain_graph_arm, certain_each_arm, certain_values_arm, certain_join_arm, certain_left_join_arm, certain_minus_arm, certain_extend_arm, some_more, every_more}
 use Rattle.qs_bindings.proofs.certain_variables.+certain.Goals as goal
 
 pub certain-returns-in_ok-flags-in-Basic : goal.certain-returns-in_ok-flags-in-Basic
@@ -12,7 +12,7 @@ certain-returns-in_ok-flags-in-Basic t c =
 
 pub certain-returns-in_ok-flags-in-Group : goal.certain-returns-in_ok-flags-in-Group
 certain-returns-in_ok-flags-in-Group t c =
-    certain_group_arm c.args.width c.args.pattern.now c.in_ok-flags-in-Group.flags.items c.in-Group.steps _ c.in-Group.is c.as_slice-in-Group.ensures c.in_ok-flags-in-Group.ensures
+    certain_group_arm c.args.width c.args.pattern.now c.in_ok-flags-in-Group.flags.items c.in-Group.steps _ _ c.in-Group.is c.as_slice-in-Group.ensures c.in_ok-flags-in-Group.ensures
 
 pub certain-returns-in_ok-flags-in-Union : goal.certain-returns-in_ok-flags-in-Union
 certain-returns-in_ok-flags-in-Union t c =
@@ -36,11 +36,15 @@ certain_of_step-returns-in_ok-flags-in-Join t c =
 
 pub certain_of_step-returns-in_ok-flags-in-LeftJoin : goal.certain_of_step-returns-in_ok-flags-in-LeftJoin
 certain_of_step-returns-in_ok-flags-in-LeftJoin t c =
-    certain_left_join_arm c.args.width c.args.one.now _ c.in_ok-flags-in-LeftJoin.flags.items c.in-LeftJoin.is c.in_ok-flags-in-LeftJoin.ensures
+    certain_left_join_arm c.args.width c.args.one.now _ c.in_ok-flags-in-LeftJoin.flags.items _ c.in-LeftJoin.is c.in_ok-flags-in-LeftJoin.ensures
 
 pub certain_of_step-returns-in_ok-flags-in-Minus : goal.certain_of_step-returns-in_ok-flags-in-Minus
 certain_of_step-returns-in_ok-flags-in-Minus t c =
     certain_minus_arm c.args.width c.args.one.now _ c.in_ok-flags-in-Minus.flags.items c.in-Minus.is c.in_ok-flags-in-Minus.ensures
+
+pub certain_of_step-returns-in_ok-flags-in-Extend : goal.certain_of_step-returns-in_ok-flags-in-Extend
+certain_of_step-returns-in_ok-flags-in-Extend t c =
+    certain_extend_arm c.args.width c.args.one.now _ _ c.in_ok-flags-in-Extend.flags.items c.in-Extend.is c.in_ok-flags-in-Extend.ensures
 
 pub certain_in_steps-loop-one-preserved : goal.certain_in_steps-loop-one-preserved
 certain_in_steps-loop-one-preserved t c =

@@ -3,7 +3,7 @@ use Rattle.std.specs.List.{list_any}
 use Rattle.qs_patterns.specs.Basic.{mentions}
 use Rattle.qs_bindings.specs.Flags.{flags_from, flag_at}
 use Rattle.qs_bindings.specs.Possible.{is_possible, is_possible_step}
-use Rattle.qs_bindings.proofs.Arms.{possible_basic_arm, possible_group_arm, possible_union_arm, possible_graph_arm, possible_each_arm, possible_values_arm, possible_join_arm, possible_left_join_arm, possible_minus_arm, some_more, every_more}
+use Rattle.qs_bindings.proofs.Arms.{possible_basic_arm, possible_group_arm, possible_union_arm, possible_graph_arm, possible_each_arm, possible_values_arm, possible_join_arm, possible_left_join_arm, possible_minus_arm, possible_extend_arm, some_more, every_more}
 use Rattle.qs_bindings.proofs.possible_variables.+possible.Goals as goal
 
 pub possible-returns-in_ok-flags-in-Basic : goal.possible-returns-in_ok-flags-in-Basic
@@ -13,7 +13,7 @@ possible-returns-in_ok-flags-in-Basic t c =
 
 pub possible-returns-in_ok-flags-in-Group : goal.possible-returns-in_ok-flags-in-Group
 possible-returns-in_ok-flags-in-Group t c =
-    possible_group_arm c.args.width c.args.pattern.now c.in_ok-flags-in-Group.flags.items c.in-Group.steps _ c.in-Group.is c.as_slice-in-Group.ensures c.in_ok-flags-in-Group.ensures
+    possible_group_arm c.args.width c.args.pattern.now c.in_ok-flags-in-Group.flags.items c.in-Group.steps _ _ c.in-Group.is c.as_slice-in-Group.ensures c.in_ok-flags-in-Group.ensures
 
 pub possible-returns-in_ok-flags-in-Union : goal.possible-returns-in_ok-flags-in-Union
 possible-returns-in_ok-flags-in-Union t c =
@@ -38,11 +38,15 @@ possible_of_step-returns-in_ok-flags-in-Join t c =
 
 pub possible_of_step-returns-in_ok-flags-in-LeftJoin : goal.possible_of_step-returns-in_ok-flags-in-LeftJoin
 possible_of_step-returns-in_ok-flags-in-LeftJoin t c =
-    possible_left_join_arm c.args.width c.args.one.now _ c.in_ok-flags-in-LeftJoin.flags.items c.in-LeftJoin.is c.in_ok-flags-in-LeftJoin.ensures
+    possible_left_join_arm c.args.width c.args.one.now _ c.in_ok-flags-in-LeftJoin.flags.items _ c.in-LeftJoin.is c.in_ok-flags-in-LeftJoin.ensures
 
 pub possible_of_step-returns-in_ok-flags-in-Minus : goal.possible_of_step-returns-in_ok-flags-in-Minus
 possible_of_step-returns-in_ok-flags-in-Minus t c =
     possible_minus_arm c.args.width c.args.one.now _ c.in_ok-flags-in-Minus.flags.items c.in-Minus.is c.in_ok-flags-in-Minus.ensures
+
+pub possible_of_step-returns-in_ok-flags-in-Extend : goal.possible_of_step-returns-in_ok-flags-in-Extend
+possible_of_step-returns-in_ok-flags-in-Extend t c =
+    possible_extend_arm c.args.width c.args.one.now _ _ c.flag.new.flags.items c.in_ok-flags-in-Extend.flags.items c.in-Extend.is c.in_ok-flags-in-Extend.ensures c.flag.ensures
 
 pub possible_in_steps-loop-one-preserved : goal.possible_in_steps-loop-one-preserved
 possible_in_steps-loop-one-preserved t c =

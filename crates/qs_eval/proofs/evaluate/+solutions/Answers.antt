@@ -1,12 +1,12 @@
-use Rattle.std.proofs.Common.{rules, true, List, [], ◌∷◌, Some, ap, subst, sym, ◌∙◌}
+use Rattle.std.proofs.Common.{rules, List, [], ◌∷◌, Some, ap, ◌∙◌}
 use Rattle.std.specs.Option.{option_copied}
 use Rattle.qs_terms.specs.Dataset.{graph_of}
-use Rattle.qs_terms.specs.Bag.{SameBag}
 use Rattle.qs_solutions.specs.Operators.{join, left_join, minus}
 use Rattle.qs_solutions.specs.Solution.{Solution, binding}
+use Rattle.qs_patterns.specs.Eval.{all_hold}
 use Rattle.qs_eval.specs.Lent.{lent}
 use Rattle.qs_eval.proofs.LentLaws.{lent_at, lent_within}
-use Rattle.qs_eval.proofs.Arms.{basic_arm, group_arm, union_arm, graph_arm, each_arm, values_arm, join_arm, left_join_arm, minus_arm, step_more, union_more, each_more}
+use Rattle.qs_eval.proofs.Arms.{basic_arm, group_arm, union_arm, graph_arm, each_arm, values_arm, join_arm, left_join_arm, minus_arm, extend_arm, step_more, union_more, each_more}
 use Rattle.qs_patterns.specs.declared.pattern.Pattern.{the_lemmas}
 use Rattle.qs_eval.proofs.evaluate.+solutions.Goals as goal
 
@@ -19,10 +19,6 @@ solutions-solutions_of_group-requires t c = search (rules, the_lemmas)
 pub solutions-returns-in_ok-rows-in-Basic : goal.solutions-returns-in_ok-rows-in-Basic
 solutions-returns-in_ok-rows-in-Basic t c =
     basic_arm c.args.width c.args.quads.now (graph_of c.args.quads.now (option_copied c.args.graph)) c.args.pattern.now _ c.in_ok-rows-in-Basic.rows.items c.in-Basic.is c.in_ok-rows-in-Basic.ensures
-
-pub solutions-returns-in_ok-rows-in-Group : goal.solutions-returns-in_ok-rows-in-Group
-solutions-returns-in_ok-rows-in-Group t c =
-    group_arm c.args.width c.args.quads.now (graph_of c.args.quads.now (option_copied c.args.graph)) c.args.pattern.now c.in-Group.steps _ c.in_ok-rows-in-Group.rows.items c.in-Group.is c.as_slice.ensures c.in_ok-rows-in-Group.ensures
 
 pub solutions-returns-in_ok-rows-in-Union : goal.solutions-returns-in_ok-rows-in-Union
 solutions-returns-in_ok-rows-in-Union t c =
@@ -40,25 +36,36 @@ pub solutions-returns-in_ok-rows-in-Values : goal.solutions-returns-in_ok-rows-i
 solutions-returns-in_ok-rows-in-Values t c =
     values_arm c.args.width c.args.quads.now (graph_of c.args.quads.now (option_copied c.args.graph)) c.args.pattern.now c.in-Values.table c.in_ok-rows-in-Values.rows.items c.in-Values.is c.in_ok-rows-in-Values.ensures
 
+pub solutions-returns-in_ok-rows-in-Group-2 : goal.solutions-returns-in_ok-rows-in-Group-2
+solutions-returns-in_ok-rows-in-Group-2 t c =
+    group_arm c.args.width c.args.quads.now (graph_of c.args.quads.now (option_copied c.args.graph)) c.args.pattern.now c.in-Group.steps _ c.in-Group.conditions _ c.in_ok-rows-in-Group.rows.items c.in_ok-rows-in-Group-2.rows.items
+    c.in-Group.is c.as_slice.ensures c.as_slice-in-Group.ensures c.in_ok-rows-in-Group.ensures c.in_ok-rows-in-Group-2.ensures
+
 pub stepped-returns-in_ok-rows-in-Join : goal.stepped-returns-in_ok-rows-in-Join
 stepped-returns-in_ok-rows-in-Join t c xs h =
-    join_arm c.args.width c.args.quads.now (graph_of c.args.quads.now (option_copied c.args.graph)) c.args.one.now _ c.args.left.now c.in_ok-right-in-Join.right.items c.in_ok-rows-in-Join.rows.items xs
-    c.in-Join.is c.in_ok-right-in-Join.ensures (c.in_ok-rows-in-Join.ensures ∙ ap (join c.args.left.now) c.as_slice.ensures.value) h
+    join_arm c.args.width c.args.quads.now (graph_of c.args.quads.now (option_copied c.args.graph)) c.args.one.now _ c.args.left.items c.in_ok-right-in-Join.right.items c.in_ok-rows-in-Join.rows.items xs
+    c.in-Join.is c.in_ok-right-in-Join.ensures (c.in_ok-rows-in-Join.ensures ∙ (ap (λ l. join l c.as_slice-in-Join.result.now) c.as_slice.ensures.value ∙ ap (join c.args.left.items) c.as_slice-in-Join.ensures.value)) h
 
 pub stepped-returns-in_ok-rows-in-LeftJoin : goal.stepped-returns-in_ok-rows-in-LeftJoin
 stepped-returns-in_ok-rows-in-LeftJoin t c xs h =
-    left_join_arm c.args.width c.args.quads.now (graph_of c.args.quads.now (option_copied c.args.graph)) c.args.one.now _ c.args.left.now c.in_ok-right-in-LeftJoin.right.items c.in_ok-rows-in-LeftJoin.rows.items xs
-    c.in-LeftJoin.is c.in_ok-right-in-LeftJoin.ensures (c.in_ok-rows-in-LeftJoin.ensures ∙ ap (left_join (λ m. true) c.args.left.now) c.as_slice-in-LeftJoin.ensures.value) h
+    left_join_arm c.args.width c.args.quads.now (graph_of c.args.quads.now (option_copied c.args.graph)) c.args.one.now _ c.args.left.items c.in_ok-right-in-LeftJoin.right.items c.in_ok-rows-in-LeftJoin.rows.items xs _ _
+    c.in-LeftJoin.is c.as_slice-in-LeftJoin-3.ensures c.in_ok-right-in-LeftJoin.ensures
+    (c.in_ok-rows-in-LeftJoin.ensures
+    ∙ (ap (λ l. left_join (all_hold c.as_slice-in-LeftJoin-3.result.now) l c.as_slice-in-LeftJoin-2.result.now) c.as_slice-in-LeftJoin.ensures.value
+    ∙ ap (left_join (all_hold c.as_slice-in-LeftJoin-3.result.now) c.args.left.items) c.as_slice-in-LeftJoin-2.ensures.value)) h
 
 pub stepped-returns-in_ok-rows-in-Minus : goal.stepped-returns-in_ok-rows-in-Minus
 stepped-returns-in_ok-rows-in-Minus t c xs h =
-    minus_arm c.args.width c.args.quads.now (graph_of c.args.quads.now (option_copied c.args.graph)) c.args.one.now _ c.args.left.now c.in_ok-right-in-Minus.right.items c.in_ok-rows-in-Minus.rows.items xs
-    c.in-Minus.is c.in_ok-right-in-Minus.ensures (c.in_ok-rows-in-Minus.ensures ∙ ap (minus c.args.left.now) c.as_slice-in-Minus.ensures.value) h
+    minus_arm c.args.width c.args.quads.now (graph_of c.args.quads.now (option_copied c.args.graph)) c.args.one.now _ c.args.left.items c.in_ok-right-in-Minus.right.items c.in_ok-rows-in-Minus.rows.items xs
+    c.in-Minus.is c.in_ok-right-in-Minus.ensures (c.in_ok-rows-in-Minus.ensures ∙ (ap (λ l. minus l c.as_slice-in-Minus-2.result.now) c.as_slice-in-Minus.ensures.value ∙ ap (minus c.args.left.items) c.as_slice-in-Minus-2.ensures.value)) h
+
+pub stepped-returns-in_ok-rows-in-Extend : goal.stepped-returns-in_ok-rows-in-Extend
+stepped-returns-in_ok-rows-in-Extend t c xs h =
+    extend_arm c.args.width c.args.quads.now (graph_of c.args.quads.now (option_copied c.args.graph)) c.args.one.now _ _ c.args.left.items c.in_ok-rows-in-Extend.rows.items xs c.in-Extend.is c.in_ok-rows-in-Extend.ensures h
 
 pub solutions_of_group-loop-one-preserved : goal.solutions_of_group-loop-one-preserved
 solutions_of_group-loop-one-preserved t c =
-    step_more _ _ c.args.steps.now c.loop-one.one-index c.one-item.result c.loop-one.rows.items c.in_ok-rows.rows.items c.loop-one-test.true c.one-item.is c.loop-one.invariant
-    (λ xs h. c.in_ok-rows.ensures xs (subst (λ (l : List Solution). SameBag l xs) (sym c.as_slice.ensures.value) h))
+    step_more _ _ c.args.steps.now c.loop-one.one-index c.one-item.result c.loop-one.rows.items c.in_ok-rows.rows.items c.loop-one-test.true c.one-item.is c.loop-one.invariant c.in_ok-rows.ensures
 
 pub solutions_of_all-loop-part-preserved : goal.solutions_of_all-loop-part-preserved
 solutions_of_all-loop-part-preserved t c =

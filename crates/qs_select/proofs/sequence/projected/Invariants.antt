@@ -1,6 +1,7 @@
 use Rattle.std.proofs.Common.{◌≡◌, map, take}
 use Rattle.qs_solutions.specs.Solution.{projected}
+use Rattle.qs_eval.specs.Lent.{lent}
 use Rattle.qs_select.proofs.sequence.projected.Given as goal
 
 abbrev pub invariant-loop-row : goal.invariant-loop-row
-invariant-loop-row l = l.all.items ≡ map (projected l.columns) (take l.row-index l.rows)
+invariant-loop-row l = l.all.items ≡ map (projected l.columns) (lent (take l.row-index l.rows))

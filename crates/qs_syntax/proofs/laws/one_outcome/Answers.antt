@@ -9,4 +9,4 @@ returns-clause-of_query c =
 
 pub returns-clause-of_update : goal.returns-clause-of_update
 returns-clause-of_update c =
-    law.one_outcome rules.update c.one_tree.ensures.of_update c.one_token_list.ensures.lists c.one_token_list.ensures.apart c.one_token_list.ensures.places (λ text tokens. update_outcome text)
+    law.one_outcome rules.update c.one_tree.ensures.of_update c.one_token_list.ensures.lists c.one_token_list.ensures.apart c.one_token_list.ensures.places update_outcome

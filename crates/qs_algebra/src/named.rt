@@ -1,0 +1,13 @@
+//! Patterns that know their variables.
+
+use qs_patterns::Pattern;
+use qs_terms::Text;
+use sqlite_items::Items;
+
+/// A pattern with the names of its variables: the number of a variable is its place among them.
+#[derive(Drop)]
+pub struct NamedPattern {
+    /// Without their `?` or `$`, each once.
+    pub names: Items<Text>,
+    pub pattern: Pattern,
+}

@@ -1,0 +1,12 @@
+//! The parts of a group that isn't closed yet.
+
+use qs_expr::Expr;
+use qs_patterns::Step;
+use sqlite_items::Items;
+
+/// The steps of a group, and its filters apart, since they apply to the whole group, or to an optional one as the condition.
+#[derive(Drop)]
+pub struct GroupParts {
+    pub steps: Items<Step>,
+    pub conditions: Items<Expr>,
+}

@@ -1,0 +1,7 @@
+use Rattle.std.proofs.Common.{◌≡◌, ◌++◌, take}
+use Rattle.qs_solutions.specs.Operators.{merges}
+use Rattle.qs_patterns.specs.Eval.{kept}
+use Rattle.qs_eval.proofs.conditions.put_merges.Given as goal
+
+abbrev pub invariant-loop-other : goal.invariant-loop-other
+invariant-loop-other l = l.rows.items ≡ l.fn.rows.items ++ kept l.conditions (merges (take l.other-index l.right) l.row)

@@ -1,0 +1,153 @@
+//! Conditions of groups and of optional patterns, and values that are bound (SPARQL 1.1 Query, 18.5: Filter, LeftJoin, Extend).
+
+ghost use Rattle.std.specs.Prelude.{◌≡◌, ◌++◌, ◌∷◌, [], map, IfOk, OnOk};
+ghost use Rattle.std.specs.List.{filter};
+ghost use Rattle.qs_solutions.specs.Operators.{merges, or_alone, left_join};
+ghost use Rattle.qs_patterns.specs.Eval as spec;
+
+use qs_expr::{Expr, ExprFault, eval, holds};
+use qs_solutions::Row;
+use std::alloc::{AllocError, Global};
+
+/// Whether all conditions are true in the solution; an error isn't true.
+fn all_hold(alloc: Global, conditions: &[Expr], row: &Row) -> Result<bool, AllocError>
+    ensures { IfOk result (λ b. b ≡ spec.all_hold conditions.now row.now) }
+{
+    for condition in conditions {
+        if !holds(alloc, condition, row)? {
+            return Ok(false);
+        }
+    }
+    Ok(true)
+}
+
+/// Puts the row behind the others, if all conditions hold in it.
+fn put_kept(
+    alloc: Global,
+    row: Row,
+    conditions: &[Expr],
+    rows: &mut Vec<Row>,
+) -> Result<(), AllocError>
+    ensures { OnOk result (rows.new.items ≡ rows.old.items ++ spec.kept conditions.now (row ∷ [])) }
+{
+    if all_hold(alloc, conditions, &row)? {
+        rows.push(row)?;
+    }
+    Ok(())
+}
+
+/// The rows in which all conditions hold.
+pub(crate) fn kept(
+    alloc: Global,
+    conditions: &[Expr],
+    rows: Vec<Row>,
+) -> Result<Vec<Row>, AllocError>
+    ensures { IfOk result (λ all. all.items ≡ spec.kept conditions.now rows.items) }
+{
+    if conditions.is_empty() {
+        return Ok(rows);
+    }
+    let mut all = Vec::new(alloc);
+    for row in rows {
+        put_kept(alloc, row, conditions, &mut all)?;
+    }
+    Ok(all)
+}
+
+/// Puts the row merged with each compatible one of the right behind the others, as far as all conditions hold in it.
+#[tactic(auto, using(crate::proofs::Optional::merge_more, crate::proofs::Optional::merge_less))]
+fn put_merges(
+    alloc: Global,
+    row: &Row,
+    right: &[Row],
+    conditions: &[Expr],
+    rows: &mut Vec<Row>,
+) -> Result<(), AllocError>
+    ensures { OnOk result (rows.new.items ≡ rows.old.items ++ spec.kept conditions.now (merges right.now row.now)) }
+{
+    for other in right {
+        if row.is_compatible(other) {
+            let merged = row.merged(alloc, other)?;
+            put_kept(alloc, merged, conditions, rows)?;
+        }
+    }
+    Ok(())
+}
+
+/// Puts the row's merges behind the others, as far as all conditions hold in them, or the row alone where there are none.
+fn put_optional(
+    alloc: Global,
+    row: &Row,
+    right: &[Row],
+    conditions: &[Expr],
+    rows: &mut Vec<Row>,
+) -> Result<(), AllocError>
+    ensures { OnOk result (rows.new.items ≡ rows.old.items ++ or_alone row.now (spec.kept conditions.now (merges right.now row.now))) }
+{
+    let before = rows.len();
+    put_merges(alloc, row, right, conditions, rows)?;
+    if rows.len() == before {
+        let row = row.try_clone(alloc)?;
+        rows.push(row)?;
+    }
+    Ok(())
+}
+
+/// Each row of the left merged with each row of the right that it is compatible with, as far as all conditions hold in the merged one;
+/// and alone where there is no such.
+#[tactic(auto, using(crate::proofs::Optional::one_more))]
+pub(crate) fn left_joined(
+    alloc: Global,
+    left: &[Row],
+    right: &[Row],
+    conditions: &[Expr],
+) -> Result<Vec<Row>, AllocError>
+    ensures { IfOk result (λ rows. rows.items ≡ left_join (spec.all_hold conditions.now) left.now right.now) }
+{
+    let mut rows = Vec::new(alloc);
+    for row in left {
+        put_optional(alloc, row, right, conditions, &mut rows)?;
+    }
+    Ok(rows)
+}
+
+/// Binds the variable to the value of the expression in the row; where there is an error, the row stays as it is.
+fn extend(alloc: Global, variable: usize, expr: &Expr, row: &mut Row) -> Result<(), AllocError>
+    ensures { OnOk result (row.new ≡ spec.extended variable expr.now row.old) }
+{
+    match eval(alloc, expr, &*row) {
+        Ok(term) => {
+            row.bind(variable, term);
+            Ok(())
+        }
+        Err(ExprFault::TypeError) => Ok(()),
+        Err(ExprFault::Memory) => Err(AllocError),
+    }
+}
+
+fn extend_all(
+    alloc: Global,
+    variable: usize,
+    expr: &Expr,
+    rows: &mut [Row],
+) -> Result<(), AllocError>
+    ensures { OnOk result (rows.new ≡ map (spec.extended variable expr.now) rows.old) }
+{
+    for row in rows.iter_mut() {
+        extend(alloc, variable, expr, row)?;
+    }
+    Ok(())
+}
+
+/// The rows with the variable bound to the value of the expression, where it has one.
+pub(crate) fn extended(
+    alloc: Global,
+    variable: usize,
+    expr: &Expr,
+    mut rows: Vec<Row>,
+) -> Result<Vec<Row>, AllocError>
+    ensures { IfOk result (λ all. all.items ≡ map (spec.extended variable expr.now) rows.items) }
+{
+    extend_all(alloc, variable, expr, rows.as_mut_slice())?;
+    Ok(rows)
+}

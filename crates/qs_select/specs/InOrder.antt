@@ -1,0 +1,34 @@
+-- The sequence of solutions that stand in some order already.
+-- (Inner: it serves proofs, and no promise of the product is read by it.)
+use Rattle.std.specs.Prelude.{◌≡◌, ◌⊎◌, ◌<◌, ◌≤◌, ℕ, nat_lt, List, length, Ok, Err, if◌then◌else◌}
+use Rattle.qs_terms.specs.Bag.{SameBag}
+use Rattle.qs_terms.specs.Outcome.{Outcome, and_then}
+use Rattle.qs_terms.specs.declared.fault.QFault.TheVariants.{TooManyRows}
+use Rattle.qs_solutions.specs.Solution.{Solution}
+use Rattle.qs_solutions.specs.declared.answer.Answer.{Answer}
+use Rattle.qs_solutions.specs.declared.answer.Answer.TheVariants.{Solutions}
+use Rattle.qs_scope.specs.Names.{Name}
+use Rattle.qs_select.specs.Sequence.{sliced, listed_rows, count}
+use Rattle.qs_select.specs.declared.selection.Selection.{Selection}
+
+-- the rows of the sequence of the solutions in this order, unless they are more than max_rows
+abbrev pub IsRowsOf : Selection → ℕ → List Solution → Outcome (List Solution) → Type 0
+IsRowsOf asked max_rows all outcome =
+    ((max_rows < count asked all) × (outcome ≡ Err TooManyRows))
+    ⊎ ((count asked all ≤ max_rows) × (outcome ≡ Ok (sliced asked.slice (listed_rows asked all))))
+
+-- the same of the solutions in some order
+abbrev pub IsRows : Selection → List Solution → ℕ → Outcome (List Solution) → Type 0
+IsRows asked solutions max_rows outcome = (all : List Solution) × SameBag all solutions × IsRowsOf asked max_rows all outcome
+
+-- the rows with their variables
+abbrev pub with_vars : List Name → Outcome (List Solution) → Outcome Answer
+with_vars vars rows = and_then rows (λ rows. Ok (Solutions vars rows))
+
+-- the rows, unless they are more than max_rows
+abbrev pub bounded : ℕ → List Solution → Outcome (List Solution)
+bounded max_rows all = if nat_lt max_rows (length all) then Err TooManyRows else Ok all
+
+-- the same of the solutions in some order
+abbrev pub AreFew : List Solution → ℕ → Outcome (List Solution) → Type 0
+AreFew solutions max_rows outcome = (all : List Solution) × SameBag all solutions × (outcome ≡ bounded max_rows all)

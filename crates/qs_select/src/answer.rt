@@ -1,0 +1,176 @@
+//! Queries over quads.
+
+ghost use Rattle.std.specs.Prelude.{◌≡◌, IfOk};
+ghost use Rattle.std.specs.Option.{option_copied};
+ghost use Rattle.qs_terms.specs.Bag.{SameBag, once};
+ghost use Rattle.qs_terms.specs.Dataset.{graph_of};
+ghost use Rattle.qs_terms.specs.Outcome.{OneOrWantOfMemory};
+ghost use Rattle.qs_terms.specs.Statement.{same_statement};
+ghost use Rattle.qs_select.specs.InOrder as in_order;
+ghost use Rattle.qs_select.specs.Outcome.{IsSelected, IsAsked, IsAllSolutions, IsOutcomeOfQuery};
+ghost use Rattle.qs_select.specs.Sequence.{dataset_of, whole};
+
+use crate::request::{Request, request_of};
+use crate::selection::Selection;
+use crate::sequence::{listed_rows, projected, sliced};
+use qs_algebra::NamedPattern;
+use qs_ast::query::Query;
+use qs_eval::{Quads, solutions};
+use qs_solutions::{Answer, Row};
+use qs_terms::{QFault, Quad, Term, Text};
+use sqlite_items::Items;
+use std::alloc::{AllocError, Global};
+
+fn all_solutions(
+    alloc: Global,
+    pattern: &NamedPattern,
+    quads: &Quads<'_>,
+    active: Option<&Term>,
+) -> Result<Vec<Row>, AllocError>
+    ensures { IfOk result (λ rows. SameBag rows.items (whole pattern.now quads.now (graph_of quads.now (option_copied active.entry)))) }
+{
+    solutions(alloc, pattern.names.len(), &pattern.pattern, quads, active)
+}
+
+// the sequence of the solutions in this order
+fn rows_of(
+    alloc: Global,
+    asked: &Selection,
+    all: &[Row],
+    max_rows: u64,
+) -> Result<Items<Row>, QFault>
+    ensures { OneOrWantOfMemory (in_order.IsRowsOf asked.now max_rows all.now) result }
+{
+    let listed = listed_rows(alloc, asked, all)?;
+    let part = sliced(listed.as_slice(), asked.slice);
+    if part.len() as u64 > max_rows {
+        return Err(QFault::TooManyRows);
+    }
+    let rows = projected(alloc, part, asked.columns.as_slice())?;
+    Ok(Items::from_vec(rows))
+}
+
+fn sequence(
+    alloc: Global,
+    asked: &Selection,
+    quads: &Quads<'_>,
+    active: Option<&Term>,
+    max_rows: u64,
+) -> Result<Items<Row>, QFault>
+    ensures { OneOrWantOfMemory (in_order.IsRows asked.now (whole asked.now.pattern quads.now (graph_of quads.now (option_copied active.entry))) max_rows) result }
+{
+    let all = all_solutions(alloc, &asked.pattern, quads, active)?;
+    rows_of(alloc, asked, all.as_slice(), max_rows)
+}
+
+// the rows with the names of the variables
+fn with_vars(vars: Items<Text>, rows: Result<Items<Row>, QFault>) -> Result<Answer, QFault>
+    ensures { result ≡ in_order.with_vars vars rows }
+{
+    match rows {
+        Ok(rows) => Ok(Answer::Solutions { vars, rows }),
+        Err(fault) => Err(fault),
+    }
+}
+
+fn selected(
+    alloc: Global,
+    asked: Selection,
+    quads: &Quads<'_>,
+    active: Option<&Term>,
+    max_rows: u64,
+) -> Result<Answer, QFault>
+    ensures { OneOrWantOfMemory (IsSelected asked (whole asked.pattern quads.now (graph_of quads.now (option_copied active.entry))) max_rows) result }
+{
+    let rows = sequence(alloc, &asked, quads, active, max_rows);
+    with_vars(asked.vars, rows)
+}
+
+fn truth(
+    alloc: Global,
+    pattern: &NamedPattern,
+    quads: &Quads<'_>,
+    active: Option<&Term>,
+) -> Result<Answer, QFault>
+    ensures { OneOrWantOfMemory (IsAsked (whole pattern.now quads.now (graph_of quads.now (option_copied active.entry)))) result }
+{
+    let all = all_solutions(alloc, pattern, quads, active)?;
+    Ok(Answer::Truth(!all.is_empty()))
+}
+
+/// An answer of the query over the dataset that the quads are, of which each counts once, with the next blank node's number. The graph
+/// of the name is active, or the default graph where none is given (SPARQL 1.1 Query, 16).
+///
+/// # Errors
+/// `QFault::Later` where the query has a form that has no meaning yet; `QFault::TooManyRows` where the sequence of a SELECT has more
+/// than `max_rows` solutions, behind OFFSET and LIMIT; `QFault::Memory` for want of memory.
+pub fn answer_query(
+    alloc: Global,
+    query: &Query,
+    quads: &[Quad],
+    next_blank: u64,
+    active: Option<&Term>,
+    max_rows: u64,
+) -> Result<Answer, QFault>
+    ensures { let d = dataset_of quads.now next_blank in OneOrWantOfMemory (IsOutcomeOfQuery query.now d (graph_of d.quads (option_copied active.entry)) max_rows) result }
+{
+    let _ = next_blank;
+    let quads = Quads::new(alloc, quads)?;
+    match request_of(alloc, query)? {
+        Request::Select(asked) => selected(alloc, asked, &quads, active, max_rows),
+        Request::Ask(pattern) => truth(alloc, &pattern, &quads, active),
+    }
+}
+
+fn copied(alloc: Global, names: &[Text]) -> Result<Items<Text>, AllocError>
+    ensures { IfOk result (λ copies. copies ≡ names.now) }
+{
+    let mut copies = Items::new(alloc);
+    for name in names {
+        let name = name.try_clone(alloc)?;
+        copies.push(name)?;
+    }
+    Ok(copies)
+}
+
+fn bounded(all: Vec<Row>, max_rows: u64) -> Result<Items<Row>, QFault>
+    ensures { result ≡ in_order.bounded max_rows all.items }
+{
+    if all.len() as u64 > max_rows {
+        return Err(QFault::TooManyRows);
+    }
+    Ok(Items::from_vec(all))
+}
+
+fn few_solutions(
+    alloc: Global,
+    pattern: &NamedPattern,
+    quads: &Quads<'_>,
+    active: Option<&Term>,
+    max_rows: u64,
+) -> Result<Items<Row>, QFault>
+    ensures { OneOrWantOfMemory (in_order.AreFew (whole pattern.now quads.now (graph_of quads.now (option_copied active.entry))) max_rows) result }
+{
+    let all = all_solutions(alloc, pattern, quads, active)?;
+    bounded(all, max_rows)
+}
+
+/// All solutions of the pattern over the dataset that the quads are, of which each counts once, with the pattern's variables; in any
+/// order. The graph of the name is active, or the default graph where none is given (SPARQL 1.1 Update, 3.1.3: WITH).
+///
+/// # Errors
+/// `QFault::TooManyRows` where there are more than `max_rows`; `QFault::Memory` for want of memory.
+pub fn solutions_of(
+    alloc: Global,
+    pattern: &NamedPattern,
+    quads: &[Quad],
+    active: Option<&Term>,
+    max_rows: u64,
+) -> Result<Answer, QFault>
+    ensures { let set = once same_statement quads.now in OneOrWantOfMemory (IsAllSolutions pattern.now (whole pattern.now set (graph_of set (option_copied active.entry))) max_rows) result }
+{
+    let quads = Quads::new(alloc, quads)?;
+    let vars = copied(alloc, pattern.names.as_slice())?;
+    let rows = few_solutions(alloc, pattern, &quads, active, max_rows);
+    with_vars(vars, rows)
+}

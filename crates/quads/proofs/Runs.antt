@@ -1,0 +1,44 @@
+-- From a job's end, and what the sink took of its line, to the run.
+use Rattle.std.proofs.Common.{◌≡◌, ◌<◌, ℕ, List, Option, ◌⊎◌, inl, inr, Ok, Err, length, take, refl, sym, subst, arith}
+use Rattle.std.proofs.lemmas.List.{take_all}
+use Rattle.std.specs.Io.KnownBytes.{Appends}
+use Rattle.qs_terms.specs.Device.{one_more}
+use Rattle.qs_terms.specs.declared.fault.QFault.TheVariants as fault
+use Rattle.qs_results.specs.Lines.{fault_line}
+use Rattle.quads.specs.Due.{line, IsDue, IsBegun}
+use Rattle.quads.specs.Ended.{IsEnd, printed, status}
+use Rattle.quads.specs.Run.{Prints, IsRun}
+use Rattle.quads.specs.declared.ended.Ended.{Ended}
+use Rattle.quads.specs.declared.ended.Ended.TheVariants.{Answered, DataRefused, Refused}
+use Rattle.quads.specs.declared.job.Job.{Job}
+use Rattle.quads.specs.declared.job.Job.TheVariants.{Query}
+use Rattle.quads.specs.declared.job.Ran.{Ran}
+
+-- what is printed of a job's end is due
+due_of : (job : Job) (end : Ended) → IsEnd job end → IsDue job (printed end) (status end)
+due_of (Query file text) (Answered answer) is = inl (Ok answer, is, refl, refl)
+due_of (Query file text) (DataRefused f) is = inr (f, is, refl, refl)
+due_of (Query file text) (Refused f) is = inl (Err f, is, refl, refl)
+
+begun : (job : Job) (bytes : List ℕ) (s : ℕ) → IsDue job bytes s → IsBegun job bytes
+begun (Query file text) bytes s due = (s, due)
+
+-- memory may always be wanting
+memory : (job : Job) → IsDue job (line (fault_line fault.Memory)) 1
+memory (Query file text) = inl (Err fault.Memory, (λ other. absurd (other refl)), refl, refl)
+
+whole : (n : ℕ) (bytes : List ℕ) → n ≡ length bytes → take n bytes ≡ bytes
+whole n bytes is = take_all n bytes (omega (arith, is))
+
+module _ (job : Job) (taken taken2 : Option (List ℕ)) (faults faults2 : ℕ) (r : Ran) where
+  ran_of : (bytes : List ℕ) (s : ℕ) → IsDue job bytes s → Prints bytes s taken taken2 faults faults2 r → IsRun job taken taken2 faults faults2 r
+  ran_of bytes s due p = at p.2
+    where
+      at : ((r.written ≡ length bytes) × (r.status ≡ s) × (faults2 ≡ faults)) ⊎ ((r.written < length bytes) × (r.status ≡ 1) × (faults2 ≡ one_more faults)) → IsRun job taken taken2 faults faults2 r
+      at (inl w) = inl (bytes, subst (λ (n : ℕ). IsDue job bytes n) (sym w.1) due, w.0, subst (λ (l : List ℕ). Appends taken taken2 l) (whole r.written bytes w.0) p.1, w.2)
+      at (inr w) = inr (bytes, begun job bytes s due, w.0, p.1, w.1, w.2)
+
+  -- the job's end that is printed, or want of memory in its place
+  pub ran : (end : Ended) → IsEnd job end → (Prints (printed end) (status end) taken taken2 faults faults2 r) ⊎ (Prints (line (fault_line fault.Memory)) 1 taken taken2 faults faults2 r) → IsRun job taken taken2 faults faults2 r
+  ran end is (inl p) = ran_of (printed end) (status end) (due_of job end is) p
+  ran end is (inr p) = ran_of (line (fault_line fault.Memory)) 1 (memory job) p

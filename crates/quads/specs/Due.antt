@@ -1,0 +1,74 @@
+-- What is due of a job: the bytes that are printed, and the exit status. A query is answered, or refused by the first fault, of the
+-- data before the text.
+use Rattle.std.specs.Prelude.{◌≡◌, ◌⊎◌, ◌∷◌, ◌++◌, [], ℕ, List, Ok, Err}
+use Rattle.std.specs.Str.{IsUtf8, IsValidUpTo}
+use Rattle.serde_json.specs.Written.{compact_text}
+use Rattle.qs_terms.specs.Dataset.{Dataset, IsDataset}
+use Rattle.qs_terms.specs.Outcome.{Outcome, OneOrWantOfMemory}
+use Rattle.qs_terms.specs.Statement.{Statement}
+use Rattle.qs_terms.specs.declared.fault.QFault.TheVariants as fault
+use Rattle.qs_nquads.specs.Nquads.{IsNquads, IsFault}
+use Rattle.qs_nquads.specs.declared.fault.NqFault.{NqFault}
+use Rattle.qs_solutions.specs.declared.answer.Answer.{Answer}
+use Rattle.qs_select.specs.Sequence.{dataset_of}
+use Rattle.qs_query.specs.Outcome.{IsOutcomeOfText}
+use Rattle.qs_results.specs.Json.{json_of}
+use Rattle.qs_results.specs.Lines.{fault_line, data_fault_line}
+use Rattle.quads.specs.declared.job.Job.{Job}
+use Rattle.quads.specs.declared.job.Job.TheVariants.{Query}
+
+-- the most solutions of a query
+abbrev pub max_rows : ℕ
+max_rows = 1000000
+
+-- ---- what a query comes to
+
+-- the bytes are a text; where they aren't UTF-8, the fault is at the first bad byte
+abbrev pub IsTextOf : List ℕ → Outcome (List ℕ) → Type 0
+IsTextOf bytes (Ok text) = IsUtf8 bytes × (text ≡ bytes)
+IsTextOf bytes (Err f) = (¬ (IsUtf8 bytes)) × ((place : ℕ) × IsValidUpTo bytes place × (f ≡ fault.Syntax place))
+
+abbrev pub IsOutcomeOfRead : Outcome (List ℕ) → Dataset → Outcome Answer → Type 0
+IsOutcomeOfRead (Ok text) d outcome = IsOutcomeOfText text d max_rows outcome
+IsOutcomeOfRead (Err f) d outcome = outcome ≡ Err f
+
+-- what the bytes of a query's file come to over the dataset
+abbrev pub IsTextOutcome : List ℕ → Dataset → Outcome Answer → Type 0
+IsTextOutcome bytes d outcome = (text : Outcome (List ℕ)) × IsTextOf bytes text × IsOutcomeOfRead text d outcome
+
+-- the same over the dataset that N-Quads are, whose blank nodes are numbered from 0
+abbrev pub IsOverData : List ℕ → List ℕ → Outcome Answer → Type 0
+IsOverData file text outcome =
+    (quads : List Statement) × (next : ℕ) × IsNquads file 0 quads next × IsDataset (dataset_of quads next) × IsTextOutcome text (dataset_of quads next) outcome
+
+-- ---- what is printed of it
+
+-- the text with LF
+abbrev pub line : List ℕ → List ℕ
+line text = text ++ 10 ∷ []
+
+-- an answer as JSON, or the line of the fault
+abbrev pub outcome_line : Outcome Answer → List ℕ
+outcome_line (Ok answer) = line (compact_text (json_of answer))
+outcome_line (Err f) = line (fault_line f)
+
+abbrev pub outcome_status : Outcome Answer → ℕ
+outcome_status (Ok answer) = 0
+outcome_status (Err f) = 1
+
+-- the data are quads, and this is printed of what the text comes to over them, or of want of memory
+abbrev pub IsDueOfText : List ℕ → List ℕ → List ℕ → ℕ → Type 0
+IsDueOfText file text bytes status =
+    (outcome : Outcome Answer) × OneOrWantOfMemory (IsOverData file text) outcome × (bytes ≡ outcome_line outcome) × (status ≡ outcome_status outcome)
+
+-- the data are none, and this is the line of their fault
+abbrev pub IsDueOfData : List ℕ → List ℕ → ℕ → Type 0
+IsDueOfData file bytes status = (f : NqFault) × IsFault file 0 f.kind f.line × (bytes ≡ line (data_fault_line f)) × (status ≡ 1)
+
+-- these bytes, whole, and this status are due of the job
+abbrev pub IsDue : Job → List ℕ → ℕ → Type 0
+IsDue (Query file text) bytes status = IsDueOfText file.items text.items bytes status ⊎ IsDueOfData file.items bytes status
+
+-- the job may have begun to print these bytes: of a query those that are due
+abbrev pub IsBegun : Job → List ℕ → Type 0
+IsBegun (Query file text) bytes = (status : ℕ) × IsDue (Query file text) bytes status
