@@ -1,6 +1,7 @@
 //! Measures the parts of the store. The first argument names a part, and the second its size: then the part's times are printed, or
-//! its memory where a word stands behind the size. Without a size a part works at a small size, and what it prints is always the
-//! same; with no argument all parts do so in turn.
+//! its memory where a word stands behind the size. N-Quads have a file's name for a size: then the time of reading is printed, or that
+//! of writing where a word stands behind the name. Without a size a part works at a small size, and what it prints is always the same;
+//! with no argument all parts do so in turn.
 #![tactic(auto)]
 
 mod dict;
@@ -45,7 +46,7 @@ fn one(rt: &HostRuntime, part: &str, argument: Option<&String>, is_memory: bool)
         "http" => endpoint::run(rt, size),
         "index" => index::run(rt, size),
         "lex" => texts::run(rt, lex::SAMPLES, size),
-        "nquads" => nquads::run(rt, argument),
+        "nquads" => nquads::run(rt, argument, is_memory),
         "results" => results::run(rt, size, is_memory),
         "syntax" => texts::run(rt, syntax::SAMPLES, size),
         _ => Err(io::Error::from(io::ErrorKind::InvalidInput)),

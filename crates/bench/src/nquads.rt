@@ -1,7 +1,8 @@
-//! Bytes of N-Quads to quads.
+//! Bytes of N-Quads to quads, and quads to bytes.
 
 use crate::timing::{Work, show};
-use qs_nquads::read;
+use qs_nquads::{read, text, write};
+use qs_terms::{Counted, Quad};
 use std::alloc::Global;
 use std::{fs, io};
 
@@ -16,13 +17,43 @@ pub fn read_all(alloc: Global, bytes: &[u8]) -> (u64, u64) {
     }
 }
 
-/// With a file's name its quads and the time, that of letting the quads go among it; without one the quads of a short text.
-pub fn run(rt: &HostRuntime, name: Option<&String>) -> io::Result<()> {
+/// The number of the quads, which go into a device that keeps nothing; 0 for want of memory.
+pub fn write_all(alloc: Global, quads: &[Quad]) -> u64 {
+    let mut out = Counted::new(io::sink());
+    match write(alloc, quads, &mut out) {
+        Ok(()) => quads.len() as u64,
+        Err(_) => 0,
+    }
+}
+
+fn quads_of(alloc: Global, bytes: &[u8]) -> io::Result<Vec<Quad>> {
+    match read(alloc, bytes, 0) {
+        Ok((quads, _)) => Ok(quads),
+        Err(_) => Err(io::Error::from(io::ErrorKind::InvalidData)),
+    }
+}
+
+fn run_short(rt: &HostRuntime) -> io::Result<()> {
+    let (quads, next) = read_all(rt.alloc(), SHORT.as_bytes());
+    println!(rt; "{quads} quads, next blank node {next}")?;
+    let quads = quads_of(rt.alloc(), SHORT.as_bytes())?;
+    let text = text(rt.alloc(), quads.as_slice())?;
+    print!(rt; "{text}")
+}
+
+fn run_write(rt: &HostRuntime, name: &str) -> io::Result<()> {
+    let bytes = fs::read(rt, name)?;
+    let quads = quads_of(rt.alloc(), &bytes)?;
+    drop(bytes);
+    show(rt, "written:", Work::WriteQuads(&quads))
+}
+
+/// With a file's name its quads and the time, that of letting the quads go among it, or the time of writing them; without one the quads
+/// of a short text.
+pub fn run(rt: &HostRuntime, name: Option<&String>, is_written: bool) -> io::Result<()> {
     match name {
-        None => {
-            let (quads, next) = read_all(rt.alloc(), SHORT.as_bytes());
-            println!(rt; "{quads} quads, next blank node {next}")
-        }
+        None => run_short(rt),
+        Some(name) if is_written => run_write(rt, name),
         Some(name) => show(rt, "quads:", Work::ReadQuads(&fs::read(rt, name)?)),
     }
 }

@@ -2,8 +2,9 @@
 
 use crate::terms::{lawful, text};
 use crate::timing::{Work, show};
-use qs_results::json;
-use qs_solutions::{Answer, Row};
+use qs_answer::Answer;
+use qs_results::{json, ntriples};
+use qs_solutions::Row;
 use qs_terms::{Term, Text};
 use sqlite_items::Items;
 use std::alloc::{AllocError, Global};
@@ -40,16 +41,24 @@ fn answer(alloc: Global, size: u32) -> Result<Answer, AllocError> {
     Ok(Answer::Solutions { vars, rows })
 }
 
+fn text_of(alloc: Global, answer: &Answer) -> Result<String, AllocError> {
+    match answer {
+        Answer::Solutions { vars: _, rows: _ } => json(alloc, answer),
+        Answer::Truth(_) => json(alloc, answer),
+        Answer::Graph(_) => ntriples(alloc, answer),
+    }
+}
+
 /// The length of the answer's text; 0 for want of memory.
-pub fn json_len(alloc: Global, answer: &Answer) -> u64 {
-    match json(alloc, answer) {
+pub fn text_len(alloc: Global, answer: &Answer) -> u64 {
+    match text_of(alloc, answer) {
         Ok(text) => text.len() as u64,
         Err(_) => 0,
     }
 }
 
 fn print(rt: &HostRuntime, answer: &Answer) -> io::Result<()> {
-    let text = json(rt.alloc(), answer)?;
+    let text = text_of(rt.alloc(), answer)?;
     rt.println(text)
 }
 

@@ -3,10 +3,10 @@
 use crate::line::line;
 use crate::texts::Reading;
 use crate::{dict, endpoint, index, nquads, results, texts};
+use qs_answer::Answer;
 use qs_dict::Dict;
 use qs_index::Index;
-use qs_solutions::Answer;
-use qs_terms::Term;
+use qs_terms::{Quad, Term};
 use std::alloc::Global;
 use std::io;
 use std::time::Instant;
@@ -25,6 +25,7 @@ pub enum Work<'a> {
     Reply(&'a [u8]),
     ReadText(Reading, &'a str),
     ReadQuads(&'a [u8]),
+    WriteQuads(&'a [Quad]),
     Write(&'a Answer),
 }
 
@@ -39,7 +40,8 @@ fn done(alloc: Global, work: Work) -> u64 {
         Work::Reply(body) => endpoint::reply_len(alloc, body),
         Work::ReadText(reading, text) => texts::read(alloc, reading, text),
         Work::ReadQuads(bytes) => nquads::read_all(alloc, bytes).0,
-        Work::Write(answer) => results::json_len(alloc, answer),
+        Work::WriteQuads(quads) => nquads::write_all(alloc, quads),
+        Work::Write(answer) => results::text_len(alloc, answer),
     }
 }
 

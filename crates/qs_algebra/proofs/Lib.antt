@@ -1,2 +1,3 @@
+pub mod Kept
 pub mod Alone
 pub mod Steps

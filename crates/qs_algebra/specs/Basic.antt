@@ -1,10 +1,12 @@
--- Basic graph patterns of triples (SPARQL 1.1 Query, 18.2.2.5). A path that is more than one IRI has no meaning yet.
-use Rattle.std.specs.Prelude.{List, map, Ok, Err}
-use Rattle.qs_terms.specs.declared.fault.QFault.TheVariants.{Later}
+-- Basic graph patterns of triples (SPARQL 1.1 Query, 18.2.2.5), and the path patterns among them (18.2.2.4): a triple whose verb is a path
+-- of more than one IRI.
+use Rattle.std.specs.Prelude.{List, Option, Some, None, option_map}
+use Rattle.std.specs.List.{filter_map}
 use Rattle.qs_terms.specs.declared.term.Term.TheVariants as value
 use Rattle.qs_ast.specs.declared.pattern.Triple.{Triple}
 use Rattle.qs_ast.specs.declared.pattern.Verb.{Verb}
 use Rattle.qs_ast.specs.declared.pattern.Verb.TheVariants as verb
+use Rattle.qs_ast.specs.declared.path.Path.{Path}
 use Rattle.qs_ast.specs.declared.term.TermPattern.{TermPattern}
 use Rattle.qs_ast.specs.declared.term.TermPattern.TheVariants as term
 use Rattle.qs_scope.specs.Names.{Name}
@@ -12,10 +14,10 @@ use Rattle.qs_scope.specs.Places.{place_of}
 use Rattle.qs_patterns.specs.declared.pattern.Slot.{Slot}
 use Rattle.qs_patterns.specs.declared.pattern.Slot.TheVariants as slot
 use Rattle.qs_patterns.specs.declared.pattern.TriplePattern.{TriplePattern}
+use Rattle.qs_patterns.specs.declared.pattern.PathPattern.{PathPattern}
 use Rattle.qs_patterns.specs.declared.pattern.BasicPattern.{BasicPattern}
 use Rattle.qs_algebra.specs.declared.hidden.Hidden.{Hidden}
 use Rattle.qs_algebra.specs.Numbers.{hidden_of, hidden_number, width}
-use Rattle.qs_terms.specs.Outcome.{Outcome, and_then, all}
 
 abbrev pub term_slot : List Name → Hidden → TermPattern → Slot
 term_slot names hidden (term.Variable v) = slot.Variable (place_of names v.name)
@@ -23,22 +25,37 @@ term_slot names hidden (term.Iri i) = slot.Term (value.Iri i)
 term_slot names hidden (term.Literal l) = slot.Term (value.Literal l)
 term_slot names hidden (term.Blank b) = slot.Variable (hidden_number names hidden b)
 
-abbrev pub verb_slot : List Name → Verb → Outcome Slot
-verb_slot names (verb.Variable v) = Ok (slot.Variable (place_of names v.name))
-verb_slot names (verb.Iri i) = Ok (slot.Term (value.Iri i))
-verb_slot names (verb.Path p) = Err Later
+-- the slot of a verb that is no path
+abbrev pub verb_slot : List Name → Verb → Option Slot
+verb_slot names (verb.Variable v) = Some (slot.Variable (place_of names v.name))
+verb_slot names (verb.Iri i) = Some (slot.Term (value.Iri i))
+verb_slot names (verb.Path p) = None
 
-abbrev pub triple_with : Slot → Slot → Slot → TriplePattern
-triple_with subject object predicate = record { subject = subject; predicate = predicate; object = object }
+abbrev pub path_of : Verb → Option Path
+path_of (verb.Variable v) = None
+path_of (verb.Iri i) = None
+path_of (verb.Path p) = Some p
 
-abbrev pub triple_pattern : List Name → Hidden → Triple → Outcome TriplePattern
+abbrev pub triple_between : Slot → Slot → Slot → TriplePattern
+triple_between subject object predicate = record { subject = subject; predicate = predicate; object = object }
+
+abbrev pub path_between : Slot → Slot → Path → PathPattern
+path_between subject object path = record { subject = subject; path = path; object = object }
+
+-- a triple whose verb is no path is a triple pattern
+abbrev pub triple_pattern : List Name → Hidden → Triple → Option TriplePattern
 triple_pattern names hidden t =
-    and_then (verb_slot names t.verb) (λ predicate. Ok (triple_with (term_slot names hidden t.subject) (term_slot names hidden t.object) predicate))
+    option_map (triple_between (term_slot names hidden t.subject) (term_slot names hidden t.object)) (verb_slot names t.verb)
 
-abbrev pub basic_with : Hidden → List TriplePattern → BasicPattern
-basic_with hidden triples = record { triples = triples; hidden = width hidden }
+-- and one whose verb is a path, a path pattern
+abbrev pub path_pattern : List Name → Hidden → Triple → Option PathPattern
+path_pattern names hidden t = option_map (path_between (term_slot names hidden t.subject) (term_slot names hidden t.object)) (path_of t.verb)
+
+-- both in the order of the text; the hidden variables are those of all
+abbrev pub basic_of : List Name → Hidden → List Triple → BasicPattern
+basic_of names hidden triples =
+    record { triples = filter_map (triple_pattern names hidden) triples; paths = filter_map (path_pattern names hidden) triples; hidden = width hidden }
 
 -- the basic graph pattern of these triples
-abbrev pub basic_pattern : List Name → List Triple → Outcome BasicPattern
-basic_pattern names triples =
-    and_then (all (map (triple_pattern names (hidden_of triples)) triples)) (λ patterns. Ok (basic_with (hidden_of triples) patterns))
+abbrev pub basic_pattern : List Name → List Triple → BasicPattern
+basic_pattern names triples = basic_of names (hidden_of triples) triples

@@ -1,16 +1,20 @@
 -- The pattern of a group (SPARQL 1.1 Query, 18.2.2, simplified as in 18.2.2.8): what its steps make of the empty solution, in the
 -- order of the text, as far as its filters hold.
-use Rattle.std.specs.Prelude.{ℕ, List, [], ◌∷◌, map, Option, Some, None, Ok, Err}
-use Rattle.qs_terms.specs.Outcome.{Outcome, and_then, all}
+use Rattle.std.specs.Prelude.{ℕ, List, [], ◌∷◌, ◌++◌, map, Option, Some, None}
+use Rattle.std.specs.List.{flat_map}
 use Rattle.qs_terms.specs.declared.term.Term.TheVariants as value
 use Rattle.qs_ast.specs.declared.pattern.Group.{Group, fold-Group}
 use Rattle.qs_ast.specs.declared.pattern.GraphPattern.{GraphPattern, fold-GraphPattern}
 use Rattle.qs_ast.specs.declared.pattern.GraphPattern.TheOpen.{Group-F, GraphPattern-F, Triples, Union, Optional, Minus, Graph, Bind, Values}
 use Rattle.qs_ast.specs.declared.pattern.InlineData.{InlineData}
 use Rattle.qs_ast.specs.declared.pattern.Triple.{Triple}
+use Rattle.qs_ast.specs.declared.query.Projection.{Projection}
+use Rattle.qs_ast.specs.declared.query.Projection.TheVariants as projection
 use Rattle.qs_ast.specs.declared.query.Query.{Query}
 use Rattle.qs_ast.specs.declared.query.QueryForm.{QueryForm}
 use Rattle.qs_ast.specs.declared.query.QueryForm.TheVariants as form
+use Rattle.qs_ast.specs.declared.query.SelectItem.{SelectItem}
+use Rattle.qs_ast.specs.declared.query.SelectItem.TheVariants as item
 use Rattle.qs_ast.specs.declared.term.Variable.{Variable}
 use Rattle.qs_ast.specs.declared.term.VarOrIri.{VarOrIri}
 use Rattle.qs_ast.specs.declared.term.VarOrIri.TheVariants as name
@@ -71,68 +75,83 @@ filtered steps (f ∷ fs) = pattern.Group steps (f ∷ fs)
 abbrev pub closed : GroupParts → Pattern
 closed group = filtered group.steps group.conditions
 
-abbrev pub then_closed : Outcome GroupParts → Outcome Pattern
-then_closed parts = and_then parts (λ group. Ok (closed group))
-
 -- an optional group: its own filters are the condition (18.2.2.6)
 abbrev pub optional : GroupParts → Step
 optional group = step.LeftJoin (unfiltered group.steps) group.conditions
 
-abbrev pub step_level : List Name → GraphPattern-F (Outcome Step) (Outcome GroupParts) → Outcome Step
-step_level names (Triples triples) = and_then (basic_pattern names triples) (λ basic. Ok (step.Join (pattern.Basic basic)))
-step_level names (Union groups) = and_then (all (map then_closed groups)) (λ parts. Ok (step.Join (one_or_union parts)))
-step_level names (Optional group) = and_then group (λ parts. Ok (optional parts))
-step_level names (Minus group) = and_then (then_closed group) (λ part. Ok (step.Minus part))
-step_level names (Graph graph group) = and_then (then_closed group) (λ part. Ok (step.Join (in_graph names graph part)))
-step_level names (Bind value variable) = Ok (step.Extend (number_of names variable) (expr_of names value))
-step_level names (Values table) = Ok (step.Join (pattern.Values (table_of names table)))
+abbrev pub step_level : List Name → GraphPattern-F Step GroupParts → Step
+step_level names (Triples triples) = step.Join (pattern.Basic (basic_pattern names triples))
+step_level names (Union groups) = step.Join (one_or_union (map closed groups))
+step_level names (Optional group) = optional group
+step_level names (Minus group) = step.Minus (closed group)
+step_level names (Graph graph group) = step.Join (in_graph names graph (closed group))
+step_level names (Bind value variable) = step.Extend (number_of names variable) (expr_of names value)
+step_level names (Values table) = step.Join (pattern.Values (table_of names table))
 
-abbrev pub with_filters : List Expr → List Step → GroupParts
-with_filters conditions steps = record { steps = steps; conditions = conditions }
-
-abbrev pub group_level : List Name → Group-F (Outcome Step) (Outcome GroupParts) → Outcome GroupParts
-group_level names group = and_then (all group.patterns) (λ steps. Ok (with_filters (map (expr_of names) group.filters) steps))
+abbrev pub group_level : List Name → Group-F Step GroupParts → GroupParts
+group_level names group = record { steps = group.patterns; conditions = map (expr_of names) group.filters }
 
 -- the steps and the filters of a group
-abbrev pub group_parts : List Name → Group → Outcome GroupParts
-group_parts names = fold-Group (Outcome Step) (Outcome GroupParts) (step_level names) (group_level names)
+abbrev pub group_parts : List Name → Group → GroupParts
+group_parts names = fold-Group Step GroupParts (step_level names) (group_level names)
 
 -- the step that a part of a group is
-abbrev pub step_of : List Name → GraphPattern → Outcome Step
-step_of names = fold-GraphPattern (Outcome Step) (Outcome GroupParts) (step_level names) (group_level names)
+abbrev pub step_of : List Name → GraphPattern → Step
+step_of names = fold-GraphPattern Step GroupParts (step_level names) (group_level names)
 
 -- the pattern of a group
-abbrev pub group_pattern : List Name → Group → Outcome Pattern
-group_pattern names group = then_closed (group_parts names group)
+abbrev pub group_pattern : List Name → Group → Pattern
+group_pattern names group = closed (group_parts names group)
 
 -- the pattern of a query: that of its WHERE, which in a short CONSTRUCT is its template (16.2.4)
-abbrev pub template_or_group : List Name → List Triple → Option Group → Outcome Pattern
-template_or_group names template None = and_then (basic_pattern names template) (λ basic. Ok (pattern.Basic basic))
+abbrev pub template_or_group : List Name → List Triple → Option Group → Pattern
+template_or_group names template None = pattern.Basic (basic_pattern names template)
 template_or_group names template (Some group) = group_pattern names group
 
-abbrev pub form_pattern : List Name → QueryForm → Outcome Pattern
+abbrev pub form_pattern : List Name → QueryForm → Pattern
 form_pattern names (form.Select select) = group_pattern names select.pattern
 form_pattern names (form.Construct construct) = template_or_group names construct.template construct.pattern
 form_pattern names (form.Ask ask) = group_pattern names ask.pattern
 
--- joined with the trailing VALUES, if there is one (18.2.4.3)
-abbrev pub with_table : List Name → Option InlineData → Outcome Pattern → Outcome Pattern
-with_table names None whole = whole
-with_table names (Some table) whole =
-    and_then whole (λ part. Ok (pattern.Group (step.Join part ∷ step.Join (pattern.Values (table_of names table)) ∷ []) []))
+-- the trailing VALUES, if there is one (18.2.4.3)
+abbrev pub trailing_steps : List Name → Option InlineData → List Step
+trailing_steps names None = []
+trailing_steps names (Some table) = step.Join (pattern.Values (table_of names table)) ∷ []
+
+-- an item of SELECT: an expression extends each solution, a variable does nothing (18.2.4.4)
+abbrev pub item_steps : List Name → SelectItem → List Step
+item_steps names (item.Variable v) = []
+item_steps names (item.As value v) = step.Extend (number_of names v) (expr_of names value) ∷ []
+
+abbrev pub projection_steps : List Name → Projection → List Step
+projection_steps names projection.All = []
+projection_steps names (projection.Items items) = flat_map (item_steps names) items
+
+-- the select expressions, from left to right
+abbrev pub selected_steps : List Name → QueryForm → List Step
+selected_steps names (form.Select select) = projection_steps names select.projection
+selected_steps names (form.Construct construct) = []
+selected_steps names (form.Ask ask) = []
+
+-- what stands behind a query's pattern: it is joined with the trailing VALUES, and then extended by the select expressions
+abbrev pub behind : List Name → Query → List Step
+behind names query = trailing_steps names query.values ++ selected_steps names query.form
+
+abbrev pub with_steps : List Step → Pattern → Pattern
+with_steps steps part = unfiltered (step.Join part ∷ steps)
 
 -- the pattern of a query, whose variables have the numbers of their places in its list
-abbrev pub query_pattern : Query → Outcome Pattern
-query_pattern query = with_table (names_of query.variables) query.values (form_pattern (names_of query.variables) query.form)
+abbrev pub query_pattern : Query → Pattern
+query_pattern query = with_steps (behind (names_of query.variables) query) (form_pattern (names_of query.variables) query.form)
 
 -- a pattern with the names of its variables
 abbrev pub named : List Variable → Pattern → NamedPattern
 named variables pattern = record { names = names_of variables; pattern = pattern }
 
 -- the pattern of a query, with its variables
-abbrev pub translated : Query → Outcome NamedPattern
-translated query = and_then (query_pattern query) (λ pattern. Ok (named query.variables pattern))
+abbrev pub translated : Query → NamedPattern
+translated query = named query.variables (query_pattern query)
 
 -- the pattern of a WHERE by itself, with the variables of its text
-abbrev pub translated_where : List Variable → Group → Outcome NamedPattern
-translated_where variables group = and_then (group_pattern (names_of variables) group) (λ pattern. Ok (named variables pattern))
+abbrev pub translated_where : List Variable → Group → NamedPattern
+translated_where variables group = named variables (group_pattern (names_of variables) group)

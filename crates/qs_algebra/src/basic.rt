@@ -1,18 +1,21 @@
 //! Basic graph patterns (SPARQL 1.1 Query, 18.2.2.5).
 
-ghost use Rattle.std.specs.Prelude.{◌≡◌, ◌↔◌, IfOk, IsTrue, map};
+ghost use Rattle.std.specs.Prelude.{◌≡◌, ◌↔◌, IfOk, IsTrue};
+ghost use Rattle.std.specs.List.{filter_map};
 ghost use Rattle.qs_algebra.specs.Basic as spec;
 ghost use Rattle.qs_patterns.specs.declared.pattern.Slot.TheVariants as slot;
-ghost use Rattle.qs_terms.specs.Outcome.{OrWantOfMemory, all};
 ghost use Rattle.qs_terms.specs.declared.term.Term.TheVariants as value;
 
 use crate::hidden::{Hidden, hidden_of};
+use crate::path::shared;
+use qs_ast::path::Path;
 use qs_ast::pattern::{Triple, Verb};
 use qs_ast::term::TermPattern;
-use qs_patterns::{BasicPattern, Slot, TriplePattern};
+use qs_beside::beside;
+use qs_patterns::{BasicPattern, PathPattern, Slot, TriplePattern};
 use qs_scope::Seen;
 use qs_shared::Shared;
-use qs_terms::{Iri, Lit, QFault, Term};
+use qs_terms::{Iri, Lit, Term};
 use sqlite_items::Items;
 use std::alloc::{AllocError, Global};
 
@@ -77,57 +80,121 @@ fn term_slot<'a>(
     }
 }
 
+/// The slot of a verb that is no path.
 fn verb_slot<'a>(
     alloc: Global,
     names: &Seen<'a>,
     before: Option<&Slot>,
     verb: &'a Verb,
-) -> Result<Slot, QFault>
-    ensures { OrWantOfMemory (spec.verb_slot names.now verb.now) result }
+) -> Result<Option<Slot>, AllocError>
+    ensures { IfOk result (λ s. s ≡ spec.verb_slot names.now verb.now) }
 {
     match verb {
-        Verb::Variable(variable) => Ok(Slot::Variable(names.place(&variable.name))),
-        Verb::Iri(iri) => Ok(iri_slot(alloc, before, iri)?),
-        Verb::Path(_) => Err(QFault::Later),
+        Verb::Variable(variable) => Ok(Some(Slot::Variable(names.place(&variable.name)))),
+        Verb::Iri(iri) => Ok(Some(iri_slot(alloc, before, iri)?)),
+        Verb::Path(_) => Ok(None),
     }
 }
 
-/// The triple pattern of a triple. It shares the terms that the one before it has in the same places.
+/// The triple pattern of a triple whose verb is no path. It shares the terms that the one before it has in the same places.
 fn triple_pattern<'a>(
     alloc: Global,
     names: &Seen<'a>,
     hidden: &Hidden<'a>,
     before: Option<&TriplePattern>,
     triple: &'a Triple,
-) -> Result<TriplePattern, QFault>
-    ensures { OrWantOfMemory (spec.triple_pattern names.now hidden.now triple.now) result }
+) -> Result<Option<TriplePattern>, AllocError>
+    ensures { IfOk result (λ p. p ≡ spec.triple_pattern names.now hidden.now triple.now) }
 {
     let above = before.map(|pattern| &pattern.predicate);
-    let predicate = verb_slot(alloc, names, above, triple.verb.get())?;
+    let Some(predicate) = verb_slot(alloc, names, above, triple.verb.get())? else {
+        return Ok(None);
+    };
     let above = before.map(|pattern| &pattern.subject);
     let subject = term_slot(alloc, names, hidden, above, triple.subject.get())?;
     let above = before.map(|pattern| &pattern.object);
     let object = term_slot(alloc, names, hidden, above, &triple.object)?;
-    Ok(TriplePattern {
+    Ok(Some(TriplePattern {
         subject,
         predicate,
         object,
-    })
+    }))
 }
 
+#[tactic(auto, using(crate::proofs::Kept::kept_more, crate::proofs::Kept::kept_less))]
 fn triple_patterns<'a>(
     alloc: Global,
     names: &Seen<'a>,
     hidden: &Hidden<'a>,
     triples: &'a [Triple],
-) -> Result<Items<TriplePattern>, QFault>
-    ensures { OrWantOfMemory (all (map (spec.triple_pattern names.now hidden.now) triples.now)) result }
+) -> Result<Items<TriplePattern>, AllocError>
+    ensures { IfOk result (λ patterns. patterns ≡ filter_map (spec.triple_pattern names.now hidden.now) triples.now) }
 {
     let mut patterns = Items::new(alloc);
     for triple in triples {
         let before = patterns.as_slice().last();
-        let pattern = triple_pattern(alloc, names, hidden, before, triple)?;
-        patterns.push(pattern)?;
+        if let Some(pattern) = triple_pattern(alloc, names, hidden, before, triple)? {
+            patterns.push(pattern)?;
+        }
+    }
+    Ok(patterns)
+}
+
+/// The verb's path, which is shared with the one before it where that is the same.
+fn path_of(
+    alloc: Global,
+    before: Option<&Shared<Path>>,
+    verb: &Verb,
+) -> Result<Option<Shared<Path>>, AllocError>
+    ensures { IfOk result (λ path. path ≡ spec.path_of verb.now) }
+{
+    match verb {
+        Verb::Path(path) => Ok(Some(shared(alloc, before, path)?)),
+        _ => Ok(None),
+    }
+}
+
+/// The path pattern of a triple whose verb is a path. It shares its path and the terms of its ends with the one before it, where
+/// that has the same.
+fn path_pattern<'a>(
+    alloc: Global,
+    names: &Seen<'a>,
+    hidden: &Hidden<'a>,
+    before: Option<&PathPattern>,
+    triple: &'a Triple,
+) -> Result<Option<PathPattern>, AllocError>
+    ensures { IfOk result (λ p. p ≡ spec.path_pattern names.now hidden.now triple.now) }
+{
+    let above = before.map(|pattern| &pattern.path);
+    let Some(path) = path_of(alloc, above, triple.verb.get())? else {
+        return Ok(None);
+    };
+    let above = before.map(|pattern| &pattern.subject);
+    let left = term_slot(alloc, names, hidden, above, triple.subject.get())?;
+    let above = before.map(|pattern| &pattern.object);
+    let right = term_slot(alloc, names, hidden, above, &triple.object)?;
+    Ok(Some(PathPattern {
+        subject: left,
+        path,
+        object: right,
+    }))
+}
+
+#[tactic(auto, using(crate::proofs::Kept::kept_more, crate::proofs::Kept::kept_less))]
+fn path_patterns<'a>(
+    alloc: Global,
+    names: &Seen<'a>,
+    hidden: &Hidden<'a>,
+    triples: &'a [Triple],
+) -> Result<Items<PathPattern>, AllocError>
+    ensures { IfOk result (λ patterns. patterns ≡ filter_map (spec.path_pattern names.now hidden.now) triples.now) }
+{
+    let mut patterns = Items::new(alloc);
+    for triple in triples {
+        let before = patterns.as_slice().last();
+        if let Some(pattern) = path_pattern(alloc, names, hidden, before, triple)? {
+            patterns.push(pattern)?;
+        }
     }
     Ok(patterns)
 }
@@ -137,11 +204,16 @@ pub fn basic_pattern<'a>(
     alloc: Global,
     names: &Seen<'a>,
     triples: &'a [Triple],
-) -> Result<BasicPattern, QFault>
-    ensures { OrWantOfMemory (spec.basic_pattern names.now triples.now) result }
+) -> Result<BasicPattern, AllocError>
+    ensures { IfOk result (λ p. p ≡ spec.basic_pattern names.now triples.now) }
 {
     let hidden = hidden_of(alloc, triples)?;
-    let triples = triple_patterns(alloc, names, &hidden, triples)?;
+    let paths = path_patterns(alloc, names, &hidden, triples)?;
+    let (paths, triples) = beside(paths, triple_patterns(alloc, names, &hidden, triples))?;
     let hidden = hidden.width()?;
-    Ok(BasicPattern { triples, hidden })
+    Ok(BasicPattern {
+        triples,
+        paths,
+        hidden,
+    })
 }

@@ -7,10 +7,12 @@ mod hidden;
 mod named;
 mod operator;
 mod parts;
+mod path;
 mod query;
 mod table;
 mod translation;
 
+pub use expression::expr_of;
 pub use named::NamedPattern;
 pub use query::{translate, translate_where};
 pub use translation::group_pattern;

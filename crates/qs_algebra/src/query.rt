@@ -1,23 +1,22 @@
 //! The patterns of queries (SPARQL 1.1 Query, 18.2).
 
-ghost use Rattle.std.specs.Prelude.{◌≡◌, [], ◌∷◌, IfOk, Ok};
+ghost use Rattle.std.specs.List.{flat_map};
+ghost use Rattle.std.specs.Prelude.{◌≡◌, ◌++◌, IfOk, OnOk};
 ghost use Rattle.qs_scope.specs.Firsts as first;
-ghost use Rattle.qs_terms.specs.Outcome.{OrWantOfMemory};
-ghost use Rattle.qs_patterns.specs.declared.pattern.Pattern.TheVariants as group;
-ghost use Rattle.qs_patterns.specs.declared.pattern.Step.TheVariants as step;
 ghost use Rattle.qs_algebra.specs.Translation as spec;
 
 use crate::basic::basic_pattern;
+use crate::expression::expr_of;
 use crate::named::NamedPattern;
 use crate::table::table_of;
-use crate::translation::group_pattern;
+use crate::translation::{group_pattern, unfiltered};
 use qs_ast::pattern::{Group, InlineData};
-use qs_ast::query::{Construct, Query, QueryForm};
+use qs_ast::query::{Construct, Projection, Query, QueryForm, SelectItem};
 use qs_ast::term::Variable;
-use qs_beside::{beside, push_behind};
+use qs_beside::beside;
 use qs_patterns::{Pattern, Step};
 use qs_scope::{Seen, numbered};
-use qs_terms::{QFault, Text};
+use qs_terms::Text;
 use sqlite_items::Items;
 use std::alloc::{AllocError, Global};
 
@@ -25,8 +24,8 @@ fn construct_pattern<'a>(
     alloc: Global,
     names: &Seen<'a>,
     construct: &'a Construct,
-) -> Result<Pattern, QFault>
-    ensures { OrWantOfMemory (spec.template_or_group names.now construct.now.template construct.now.pattern) result }
+) -> Result<Pattern, AllocError>
+    ensures { IfOk result (λ p. p ≡ spec.template_or_group names.now construct.now.template construct.now.pattern) }
 {
     match &construct.pattern {
         None => {
@@ -37,8 +36,12 @@ fn construct_pattern<'a>(
     }
 }
 
-fn form_pattern<'a>(alloc: Global, names: &Seen<'a>, form: &'a QueryForm) -> Result<Pattern, QFault>
-    ensures { OrWantOfMemory (spec.form_pattern names.now form.now) result }
+fn form_pattern<'a>(
+    alloc: Global,
+    names: &Seen<'a>,
+    form: &'a QueryForm,
+) -> Result<Pattern, AllocError>
+    ensures { IfOk result (λ p. p ≡ spec.form_pattern names.now form.now) }
 {
     match form {
         QueryForm::Select(select) => group_pattern(alloc, names, &select.pattern),
@@ -47,32 +50,89 @@ fn form_pattern<'a>(alloc: Global, names: &Seen<'a>, form: &'a QueryForm) -> Res
     }
 }
 
-/// The two patterns joined.
-fn joined(alloc: Global, first: Pattern, second: Pattern) -> Result<Pattern, AllocError>
-    ensures { IfOk result (λ p. p ≡ group.Group (step.Join first ∷ step.Join second ∷ []) []) }
-{
-    let mut steps = Items::new(alloc);
-    let done = steps.push(Step::Join(first));
-    push_behind(done, &mut steps, Step::Join(second))?;
-    Ok(Pattern::Group(steps, Items::new(alloc)))
-}
-
-/// The pattern joined with the trailing VALUES, if there is one.
-fn with_table<'a>(
+/// The trailing VALUES, if there is one, behind the steps.
+fn put_trailing<'a>(
     alloc: Global,
     names: &Seen<'a>,
     values: &'a Option<InlineData>,
-    pattern: Pattern,
-) -> Result<Pattern, AllocError>
-    ensures { IfOk result (λ p. Ok p ≡ spec.with_table names.now values.now (Ok pattern)) }
+    steps: &mut Items<Step>,
+) -> Result<(), AllocError>
+    ensures { OnOk result (steps.new ≡ steps.old ++ spec.trailing_steps names.now values.now) }
 {
     match values {
-        None => Ok(pattern),
+        None => Ok(()),
         Some(table) => {
-            let (pattern, table) = beside(pattern, table_of(alloc, names, table))?;
-            joined(alloc, pattern, Pattern::Values(table))
+            let table = table_of(alloc, names, table)?;
+            steps.push(Step::Join(Pattern::Values(table)))
         }
     }
+}
+
+/// The expression of an item of SELECT, if it is one, behind the steps.
+fn put_item<'a>(
+    alloc: Global,
+    names: &Seen<'a>,
+    item: &'a SelectItem,
+    steps: &mut Items<Step>,
+) -> Result<(), AllocError>
+    ensures { OnOk result (steps.new ≡ steps.old ++ spec.item_steps names.now item.now) }
+{
+    match item {
+        SelectItem::Variable(_) => Ok(()),
+        SelectItem::As(value, variable) => {
+            let value = expr_of(alloc, names, value)?;
+            steps.push(Step::Extend(names.place(&variable.name), value))
+        }
+    }
+}
+
+fn put_items<'a>(
+    alloc: Global,
+    names: &Seen<'a>,
+    items: &'a [SelectItem],
+    steps: &mut Items<Step>,
+) -> Result<(), AllocError>
+    ensures { OnOk result (steps.new ≡ steps.old ++ flat_map (spec.item_steps names.now) items.now) }
+{
+    for item in items {
+        put_item(alloc, names, item, steps)?;
+    }
+    Ok(())
+}
+
+/// The select expressions of the form, from left to right, behind the steps.
+fn put_selected<'a>(
+    alloc: Global,
+    names: &Seen<'a>,
+    form: &'a QueryForm,
+    steps: &mut Items<Step>,
+) -> Result<(), AllocError>
+    ensures { OnOk result (steps.new ≡ steps.old ++ spec.selected_steps names.now form.now) }
+{
+    match form {
+        QueryForm::Select(select) => match &select.projection {
+            Projection::All => Ok(()),
+            Projection::Items(items) => put_items(alloc, names, items.as_slice(), steps),
+        },
+        QueryForm::Construct(_) => Ok(()),
+        QueryForm::Ask(_) => Ok(()),
+    }
+}
+
+/// The pattern of the form with what stands behind it.
+fn with_steps<'a>(
+    alloc: Global,
+    names: &Seen<'a>,
+    query: &'a Query,
+    pattern: Pattern,
+) -> Result<Pattern, AllocError>
+    ensures { IfOk result (λ p. p ≡ spec.with_steps (spec.behind names.now query.now) pattern) }
+{
+    let mut steps = Items::new(alloc);
+    steps.push(Step::Join(pattern))?;
+    put_trailing(alloc, names, &query.values, &mut steps)?;
+    put_selected(alloc, names, &query.form, &mut steps)?;
+    unfiltered(alloc, steps)
 }
 
 /// The names of the variables, as their own.
@@ -98,30 +158,31 @@ fn named(
     Ok(NamedPattern { names, pattern })
 }
 
-fn query_pattern(alloc: Global, query: &Query) -> Result<Pattern, QFault>
-    ensures { OrWantOfMemory (spec.query_pattern query.now) result }
+fn query_pattern(alloc: Global, query: &Query) -> Result<Pattern, AllocError>
+    ensures { IfOk result (λ p. p ≡ spec.query_pattern query.now) }
 {
     let names = numbered(alloc, query.variables.as_slice())?;
     let pattern = form_pattern(alloc, &names, &query.form)?;
-    let pattern = with_table(alloc, &names, &query.values, pattern)?;
+    let pattern = with_steps(alloc, &names, query, pattern)?;
     Ok(pattern)
 }
 
 /// The pattern of a query with the variables of its text: the pattern of its WHERE, which in a short CONSTRUCT is its template, joined
-/// with the trailing VALUES.
-///
-/// # Errors
-/// `QFault::Later` where a form has no meaning yet; `QFault::Memory` for want of memory.
-pub fn translate(alloc: Global, query: &Query) -> Result<NamedPattern, QFault>
-    ensures { OrWantOfMemory (spec.translated query.now) result }
+/// with the trailing VALUES and extended by the select expressions.
+pub fn translate(alloc: Global, query: &Query) -> Result<NamedPattern, AllocError>
+    ensures { IfOk result (λ p. p ≡ spec.translated query.now) }
 {
     let pattern = query_pattern(alloc, query)?;
     let named = named(alloc, query.variables.as_slice(), pattern)?;
     Ok(named)
 }
 
-fn where_pattern(alloc: Global, variables: &[Variable], group: &Group) -> Result<Pattern, QFault>
-    ensures { OrWantOfMemory (spec.group_pattern (first.names_of variables.now) group.now) result }
+fn where_pattern(
+    alloc: Global,
+    variables: &[Variable],
+    group: &Group,
+) -> Result<Pattern, AllocError>
+    ensures { IfOk result (λ p. p ≡ spec.group_pattern (first.names_of variables.now) group.now) }
 {
     let names = numbered(alloc, variables)?;
     let pattern = group_pattern(alloc, &names, group)?;
@@ -129,15 +190,12 @@ fn where_pattern(alloc: Global, variables: &[Variable], group: &Group) -> Result
 }
 
 /// The pattern of a WHERE by itself, as an update has it, with the variables of the text.
-///
-/// # Errors
-/// `QFault::Later` where a form has no meaning yet; `QFault::Memory` for want of memory.
 pub fn translate_where(
     alloc: Global,
     variables: &[Variable],
     group: &Group,
-) -> Result<NamedPattern, QFault>
-    ensures { OrWantOfMemory (spec.translated_where variables.now group.now) result }
+) -> Result<NamedPattern, AllocError>
+    ensures { IfOk result (λ p. p ≡ spec.translated_where variables.now group.now) }
 {
     let pattern = where_pattern(alloc, variables, group)?;
     let named = named(alloc, variables, pattern)?;

@@ -1,7 +1,6 @@
 //! Groups as patterns of the algebra (SPARQL 1.1 Query, 18.2.2).
 
 ghost use Rattle.std.specs.Prelude.{◌≡◌, map, IfOk};
-ghost use Rattle.qs_terms.specs.Outcome.{OrWantOfMemory, all};
 ghost use Rattle.qs_algebra.specs.Translation as spec;
 
 use crate::basic::basic_pattern;
@@ -13,13 +12,13 @@ use qs_ast::term::VarOrIri;
 use qs_beside::beside;
 use qs_patterns::{Pattern, Step};
 use qs_scope::Seen;
-use qs_terms::{QFault, Term};
+use qs_terms::Term;
 use sqlite_items::{Boxed, Items};
 use std::alloc::{AllocError, Global};
 
 /// The steps of a group without filters. One pattern that is joined to the empty solution alone is that pattern.
 #[tactic(auto, using(crate::proofs::Alone::join, crate::proofs::Alone::left_join, crate::proofs::Alone::minus, crate::proofs::Alone::extend))]
-fn unfiltered(alloc: Global, mut steps: Items<Step>) -> Result<Pattern, AllocError>
+pub fn unfiltered(alloc: Global, mut steps: Items<Step>) -> Result<Pattern, AllocError>
     ensures { IfOk result (λ p. p ≡ spec.unfiltered steps) }
 {
     let none = Items::new(alloc);
@@ -101,8 +100,8 @@ pub fn group_pattern<'a>(
     alloc: Global,
     names: &Seen<'a>,
     group: &'a Group,
-) -> Result<Pattern, QFault>
-    ensures { OrWantOfMemory (spec.group_pattern names.now group.now) result }
+) -> Result<Pattern, AllocError>
+    ensures { IfOk result (λ p. p ≡ spec.group_pattern names.now group.now) }
 {
     let parts = group_parts(alloc, names, group)?;
     let pattern = closed(alloc, parts)?;
@@ -110,8 +109,12 @@ pub fn group_pattern<'a>(
 }
 
 #[cycle(group)]
-fn group_parts<'a>(alloc: Global, names: &Seen<'a>, group: &'a Group) -> Result<GroupParts, QFault>
-    ensures { OrWantOfMemory (spec.group_parts names.now group.now) result }
+fn group_parts<'a>(
+    alloc: Global,
+    names: &Seen<'a>,
+    group: &'a Group,
+) -> Result<GroupParts, AllocError>
+    ensures { IfOk result (λ parts. parts ≡ spec.group_parts names.now group.now) }
 {
     let steps = steps(alloc, names, group.patterns.as_slice())?;
     let (steps, conditions) = beside(steps, exprs_of(alloc, names, group.filters.as_slice()))?;
@@ -123,8 +126,8 @@ fn steps<'a>(
     alloc: Global,
     names: &Seen<'a>,
     patterns: &'a [GraphPattern],
-) -> Result<Items<Step>, QFault>
-    ensures { OrWantOfMemory (all (map (spec.step_of names.now) patterns.now)) result }
+) -> Result<Items<Step>, AllocError>
+    ensures { IfOk result (λ steps. steps ≡ map (spec.step_of names.now) patterns.now) }
 {
     let mut steps = Items::new(alloc);
     for pattern in patterns {
@@ -135,8 +138,8 @@ fn steps<'a>(
 }
 
 #[cycle(group)]
-fn step<'a>(alloc: Global, names: &Seen<'a>, pattern: &'a GraphPattern) -> Result<Step, QFault>
-    ensures { OrWantOfMemory (spec.step_of names.now pattern.now) result }
+fn step<'a>(alloc: Global, names: &Seen<'a>, pattern: &'a GraphPattern) -> Result<Step, AllocError>
+    ensures { IfOk result (λ step. step ≡ spec.step_of names.now pattern.now) }
 {
     match pattern {
         GraphPattern::Triples(triples) => {
@@ -177,8 +180,8 @@ fn operands<'a>(
     alloc: Global,
     names: &Seen<'a>,
     groups: &'a [Group],
-) -> Result<Items<Pattern>, QFault>
-    ensures { OrWantOfMemory (all (map (spec.group_pattern names.now) groups.now)) result }
+) -> Result<Items<Pattern>, AllocError>
+    ensures { IfOk result (λ parts. parts ≡ map (spec.group_pattern names.now) groups.now) }
 {
     let mut parts = Items::new(alloc);
     for group in groups {

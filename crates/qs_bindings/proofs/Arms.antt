@@ -14,8 +14,7 @@ use Rattle.qs_patterns.specs.declared.pattern.Pattern.TheVariants.{Basic, Group,
 use Rattle.qs_patterns.specs.declared.pattern.Step.{Step}
 use Rattle.qs_patterns.specs.declared.pattern.Step.TheVariants.{Join, LeftJoin, Minus, Extend}
 use Rattle.qs_patterns.specs.declared.pattern.Table.{Table}
-use Rattle.qs_patterns.specs.Eval.{rows_of}
-use Rattle.qs_patterns.specs.Basic.{mentions}
+use Rattle.qs_patterns.specs.Basic.{occurs}
 use Rattle.qs_bindings.specs.Flags.{flags_from, flag_at}
 use Rattle.qs_bindings.specs.Certain.{is_certain, is_certain_step, is_column, is_set}
 use Rattle.qs_bindings.specs.Possible.{is_possible, is_possible_step}
@@ -45,9 +44,9 @@ module _ (width : ℕ) (p : Pattern) (flags : List Bool) where
   arm : (f g : ℕ → Bool) → ((v : ℕ) → v < width → f v ≡ g v) → flags ≡ flags_from f 0 width → flags ≡ flags_from g 0 width
   arm f g same h = h ∙ same_flags f g 0 width (λ v low high. same v (omega (arith, high)))
 
-  pub certain_basic_arm : (b : BasicPattern) → p ≡ Basic b → flags ≡ flags_from (mentions b.triples) 0 width → flags ≡ flags_from (is_certain width p) 0 width
+  pub certain_basic_arm : (b : BasicPattern) → p ≡ Basic b → flags ≡ flags_from (occurs b) 0 width → flags ≡ flags_from (is_certain width p) 0 width
   certain_basic_arm b is h =
-      arm (mentions b.triples) (is_certain width p) (λ v lt. within v width (mentions b.triples v) lt ∙ sym (ap (λ q. is_certain width q v) is ∙ certain_basic width v b)) h
+      arm (occurs b) (is_certain width p) (λ v lt. within v width (occurs b v) lt ∙ sym (ap (λ q. is_certain width q v) is ∙ certain_basic width v b)) h
 
   pub certain_group_arm : (steps ss : List Step) (conditions : List Expr) → p ≡ Group steps conditions → ss ≡ steps → flags ≡ flags_from (λ v. list_any (λ s. is_certain_step width s v) ss) 0 width → flags ≡ flags_from (is_certain width p) 0 width
   certain_group_arm steps ss conditions is e h =
@@ -66,9 +65,9 @@ module _ (width : ℕ) (p : Pattern) (flags : List Bool) where
       arm _ (is_certain width p) (λ v lt. or_turned (is_certain width part v) (w == v) ∙ ap (λ b. b || is_certain width part v) (within v width (w == v) lt) ∙ ap (λ q. nat_lt v width && w == v || is_certain width q v) e ∙ sym (ap (λ q. is_certain width q v) is ∙ certain_each_graph width v w a))
       (f ∙ ap (λ l. slice_set l w true) h ∙ set_here (is_certain width part) width w)
 
-  pub possible_basic_arm : (b : BasicPattern) → p ≡ Basic b → flags ≡ flags_from (mentions b.triples) 0 width → flags ≡ flags_from (is_possible width p) 0 width
+  pub possible_basic_arm : (b : BasicPattern) → p ≡ Basic b → flags ≡ flags_from (occurs b) 0 width → flags ≡ flags_from (is_possible width p) 0 width
   possible_basic_arm b is h =
-      arm (mentions b.triples) (is_possible width p) (λ v lt. within v width (mentions b.triples v) lt ∙ sym (ap (λ q. is_possible width q v) is ∙ possible_basic width v b)) h
+      arm (occurs b) (is_possible width p) (λ v lt. within v width (occurs b v) lt ∙ sym (ap (λ q. is_possible width q v) is ∙ possible_basic width v b)) h
 
   pub possible_group_arm : (steps ss : List Step) (conditions : List Expr) → p ≡ Group steps conditions → ss ≡ steps → flags ≡ flags_from (λ v. list_any (λ s. is_possible_step width s v) ss) 0 width → flags ≡ flags_from (is_possible width p) 0 width
   possible_group_arm steps ss conditions is e h =

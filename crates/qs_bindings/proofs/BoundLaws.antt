@@ -1,5 +1,5 @@
 -- Each solution binds what is certain, and nothing that isn't possible: by induction on the pattern.
-use Rattle.std.proofs.Common.{◌≡◌, ℕ, ◌+◌, ◌<◌, ◌≤◌, Bool, true, false, ◌&&◌, ◌||◌, ◌==◌, List, [], ◌∷◌, map, take, nat_lt, Option, Some, IsSome, if◌then◌else◌, refl, sym, ap, subst, ◌∙◌, arith}
+use Rattle.std.proofs.Common.{◌≡◌, ℕ, ◌+◌, ◌<◌, Bool, true, false, ◌&&◌, ◌||◌, ◌==◌, List, [], ◌∷◌, map, take, nat_lt, Option, Some, IsSome, if◌then◌else◌, refl, sym, ap, subst, ◌∙◌, arith}
 use Rattle.std.specs.List.{All, AllByRecursion, flat_map, fold, list_any, list_all}
 use Rattle.std.specs.Option.{is_some}
 use Rattle.std.proofs.lemmas.Bool.{ltb-true, ltb-false}
@@ -17,15 +17,16 @@ use Rattle.qs_patterns.specs.declared.pattern.Step.{Step, map-Step, roll-Step}
 use Rattle.qs_patterns.specs.declared.pattern.Step.TheVariants.{Join, LeftJoin, Minus, Extend, rolls-Join, rolls-LeftJoin, rolls-Minus, rolls-Extend}
 use Rattle.qs_patterns.specs.declared.pattern.Pattern.{Pattern, map-Pattern, roll-Pattern, ind-Pattern}
 use Rattle.qs_patterns.specs.declared.pattern.Pattern.TheOpen as level
-use Rattle.qs_patterns.specs.declared.pattern.Pattern.TheVariants.{Basic, Group, Union, Graph, EachGraph, Values, rolls-Basic, rolls-Group, rolls-Union, rolls-Graph, rolls-EachGraph, rolls-Values}
-use Rattle.qs_patterns.specs.Basic.{Graph as Triples, mentions, puts_into, terms_of, all_maps, matches}
-use Rattle.qs_patterns.specs.Eval.{eval, step, all_hold, bound_to, extended, in_named, in_each, rows_of}
+use Rattle.qs_patterns.specs.declared.pattern.Pattern.TheVariants.{Basic, Values, rolls-Basic, rolls-Group, rolls-Union, rolls-Graph, rolls-EachGraph, rolls-Values}
+use Rattle.qs_patterns.specs.Basic.{Graph as Triples, mentions, puts_into, terms_of, all_maps, matches, is_end, occurs, with_paths}
+use Rattle.qs_patterns.specs.Eval.{eval, step, all_hold, extended, in_each, rows_of}
 use Rattle.qs_patterns.proofs.Meaning.{eval_basic, eval_group, eval_union, eval_graph, eval_each_graph, eval_values, step_join, step_left_join, step_minus, step_extend}
 use Rattle.qs_expr.specs.Meaning.{meaning}
 use Rattle.qs_bindings.specs.Certain.{is_certain, is_certain_step, is_column, is_set}
 use Rattle.qs_bindings.specs.Possible.{is_possible, is_possible_step}
-use Rattle.qs_bindings.proofs.Meaning.{certain_basic, certain_group, certain_union, certain_graph, certain_each_graph, certain_values, certain_join, certain_left_join, certain_minus, certain_extend, possible_basic, possible_group, possible_union, possible_graph, possible_each_graph, possible_values, possible_join, possible_left_join, possible_minus, possible_extend}
-use Rattle.qs_bindings.proofs.BoundCells.{Bound, Unbound, each_append, each_of, each_filter, each_map, each_flat_map, join_left, join_right, join_neither, left_join_left, left_join_neither, minus_each, unbound_at, maps_bind, maps_leave, take_bound, take_unbound, take_past}
+use Rattle.qs_bindings.proofs.Meaning.{certain_basic, certain_group, certain_union, certain_graph, certain_each_graph, certain_values, certain_join, certain_left_join, certain_minus, certain_extend, possible_basic, possible_group, possible_union, possible_graph, possible_each_graph, possible_values, possible_join, possible_left_join, possible_extend}
+use Rattle.qs_bindings.proofs.BoundCells.{Bound, Unbound, each_append, each_of, each_filter, each_map, join_left, join_right, join_neither, left_join_left, left_join_neither, minus_each, unbound_at, maps_bind, maps_leave, take_bound, take_unbound, take_past}
+use Rattle.qs_bindings.proofs.PathCells.{still_bound as paths_keep, paths_bind, paths_leave}
 use Rattle.qs_bindings.proofs.SetCells.{bound_keeps, unbound_keeps, named_bound, named_other, named_past, row_other, row_past}
 
 both_hold : (a b : Bool) → (a && b) ≡ true → (a ≡ true) × (b ≡ true)
@@ -50,12 +51,17 @@ module _ (width : ℕ) (quads : List Statement) (v : ℕ) where
 
   basic_binds : (b : BasicPattern) → Binds (Basic b)
   basic_binds b h graph =
-      let e = both_hold (nat_lt v width) (mentions b.triples v) (sym (certain_basic width v b) ∙ h) in
+      let e = both_hold (nat_lt v width) (occurs b v) (sym (certain_basic width v b) ∙ h) in
       let lt : v < width = ltb-true v width e.0 in
       subst (AllByRecursion (Bound v)) (sym (eval_basic width quads graph b))
-      (each_map (Bound v) (Bound v) (take width) (λ m. take_bound width v m lt) (matches (width + b.hidden) b.triples graph)
-      (each_filter (Bound v) (puts_into graph b.triples) (all_maps (mentions b.triples) (terms_of graph) 0 (width + b.hidden))
-      (maps_bind (mentions b.triples) (terms_of graph) v 0 (width + b.hidden) (omega (arith, lt)) (ap (mentions b.triples) (omega arith) ∙ e.1))))
+      (each_map (Bound v) (Bound v) (take width) (λ m. take_bound width v m lt) _ (by lt (mentions b.triples v) refl e.1))
+    where
+      by : v < width → (t : Bool) → mentions b.triples v ≡ t → (t || is_end b.paths v) ≡ true → AllByRecursion (Bound v) (with_paths (width + b.hidden) graph b.paths (matches (width + b.hidden) b.triples graph))
+      by lt true is k =
+          paths_keep v (width + b.hidden) graph b.paths (matches (width + b.hidden) b.triples graph)
+          (each_filter (Bound v) (puts_into graph b.triples) (all_maps (mentions b.triples) (terms_of graph) 0 (width + b.hidden))
+          (maps_bind (mentions b.triples) (terms_of graph) v 0 (width + b.hidden) (omega (arith, lt)) (ap (mentions b.triples) (omega arith) ∙ is)))
+      by lt false is k = paths_bind v (width + b.hidden) graph b.paths (matches (width + b.hidden) b.triples graph) (omega (arith, lt)) k
 
   join_binds : (part : Pattern) → Binds part → BindsOn (Join part)
   join_binds part ih graph left = (
@@ -166,13 +172,15 @@ module _ (width : ℕ) (quads : List Statement) (v : ℕ) where
   basic_leaves b h graph =
       subst (AllByRecursion (Unbound v)) (sym (eval_basic width quads graph b)) (by (nat_lt v width) refl (sym (possible_basic width v b) ∙ h))
     where
-      by : (t : Bool) → nat_lt v width ≡ t → (t && mentions b.triples v) ≡ false → AllByRecursion (Unbound v) (map (take width) (matches (width + b.hidden) b.triples graph))
+      by : (t : Bool) → nat_lt v width ≡ t → (t && occurs b v) ≡ false → AllByRecursion (Unbound v) (map (take width) (with_paths (width + b.hidden) graph b.paths (matches (width + b.hidden) b.triples graph)))
       by true is k =
-          each_map (Unbound v) (Unbound v) (take width) (λ m. take_unbound width v m) (matches (width + b.hidden) b.triples graph)
+          let e = neither (mentions b.triples v) (is_end b.paths v) k in
+          each_map (Unbound v) (Unbound v) (take width) (λ m. take_unbound width v m) _
+          (paths_leave v (width + b.hidden) graph b.paths (matches (width + b.hidden) b.triples graph) e.1
           (each_filter (Unbound v) (puts_into graph b.triples) (all_maps (mentions b.triples) (terms_of graph) 0 (width + b.hidden))
-          (maps_leave (mentions b.triples) (terms_of graph) v 0 (width + b.hidden) (ap (mentions b.triples) (omega arith) ∙ k)))
+          (maps_leave (mentions b.triples) (terms_of graph) v 0 (width + b.hidden) (ap (mentions b.triples) (omega arith) ∙ e.0))))
       by false is k =
-          each_map (λ (m : Solution). m ≡ m) (Unbound v) (take width) (λ m e. take_past width v m (ltb-false v width is)) (matches (width + b.hidden) b.triples graph) (each_of (λ (m : Solution). m ≡ m) (λ m. refl) _)
+          each_map (λ (m : Solution). m ≡ m) (Unbound v) (take width) (λ m e. take_past width v m (ltb-false v width is)) _ (each_of (λ (m : Solution). m ≡ m) (λ m. refl) _)
 
   join_leaves : (part : Pattern) → Leaves part → LeavesOn (Join part)
   join_leaves part ih h graph left n =

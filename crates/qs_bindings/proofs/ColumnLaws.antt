@@ -1,5 +1,5 @@
 -- The columns of a table, one more.
-use Rattle.std.proofs.Common.{◌≡◌, ℕ, ◌+◌, ◌<◌, Bool, ◌||◌, ◌&&◌, ◌==◌, List, length, take, get_or, slice_set, true, refl, sym, ap, ◌∙◌, arith}
+use Rattle.std.proofs.Common.{◌≡◌, ℕ, ◌+◌, ◌<◌, Bool, ◌||◌, ◌&&◌, ◌==◌, List, length, take, get_or, slice_set, true, sym, ap, ◌∙◌, arith}
 use Rattle.std.specs.List.{list_any}
 use Rattle.std.proofs.lemmas.List.Folds.{list_any_more}
 use Rattle.qs_bindings.specs.Flags.{flags_from, flag_at}
@@ -21,3 +21,9 @@ both_are f g n xs ys flags h k e =
     e ∙ same_flags _ _ 0 n (λ v low high.
     let below : v < n = omega (arith, high) in
     ap (λ l. flag_at l v && flag_at ys v) h ∙ ap (λ b. b && flag_at ys v) (flag_is f n v below) ∙ ap (λ b. f v && b) (ap (λ l. flag_at l v) k ∙ flag_is g n v below))
+
+pub either_are : (f g : ℕ → Bool) (n : ℕ) (xs ys flags : List Bool) → xs ≡ flags_from f 0 n → ys ≡ flags_from g 0 n → flags ≡ flags_from (λ v. flag_at xs v || flag_at ys v) 0 n → flags ≡ flags_from (λ v. f v || g v) 0 n
+either_are f g n xs ys flags h k e =
+    e ∙ same_flags _ _ 0 n (λ v low high.
+    let below : v < n = omega (arith, high) in
+    ap (λ l. flag_at l v || flag_at ys v) h ∙ ap (λ b. b || flag_at ys v) (flag_is f n v below) ∙ ap (λ b. f v || b) (ap (λ l. flag_at l v) k ∙ flag_is g n v below))

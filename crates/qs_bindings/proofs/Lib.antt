@@ -5,4 +5,5 @@ pub mod Meaning
 pub mod Arms
 pub mod BoundCells
 pub mod SetCells
+pub mod PathCells
 pub mod BoundLaws

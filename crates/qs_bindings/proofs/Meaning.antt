@@ -10,7 +10,7 @@ use Rattle.qs_patterns.specs.declared.pattern.Step.TheVariants.{Join, LeftJoin, 
 use Rattle.qs_patterns.specs.declared.pattern.Pattern.{Pattern, fold-roll-Pattern}
 use Rattle.qs_patterns.specs.declared.pattern.Pattern.TheOpen as level
 use Rattle.qs_patterns.specs.declared.pattern.Pattern.TheVariants.{Basic, Group, Union, Graph, EachGraph, Values, rolls-Basic, rolls-Group, rolls-Union, rolls-Graph, rolls-EachGraph, rolls-Values}
-use Rattle.qs_patterns.specs.Basic.{mentions}
+use Rattle.qs_patterns.specs.Basic.{occurs}
 use Rattle.qs_bindings.specs.Certain.{is_column, is_set, is_certain, is_certain_step, is_certain_level, is_certain_step_level}
 use Rattle.qs_bindings.specs.Possible.{is_possible, is_possible_step, is_possible_level, is_possible_step_level}
 
@@ -27,7 +27,7 @@ any_steps f v [] = refl
 any_steps f v (s ∷ steps) = ap (λ b. f s v || b) (any_steps f v steps)
 
 module _ (width v : ℕ) where
-  pub certain_basic : (b : BasicPattern) → is_certain width (Basic b) v ≡ (nat_lt v width && mentions b.triples v)
+  pub certain_basic : (b : BasicPattern) → is_certain width (Basic b) v ≡ (nat_lt v width && occurs b v)
   certain_basic b =
       ap (λ p. is_certain width p v) (sym (rolls-Basic b)) ∙ (ap (λ (f : ℕ → Bool). f v) (fold-roll-Pattern (ℕ → Bool) (ℕ → Bool) (is_certain_level width) is_certain_step_level (level.Basic b)))
 
@@ -63,7 +63,7 @@ module _ (width v : ℕ) where
   pub certain_extend : (w : ℕ) (e : Expr) → is_certain_step width (Extend w e) v ≡ false
   certain_extend w e = ap (λ s. is_certain_step width s v) (sym (rolls-Extend w e)) ∙ ap (λ (f : ℕ → Bool). f v) (fold-roll-Step (ℕ → Bool) (ℕ → Bool) (is_certain_level width) is_certain_step_level (level.Extend w e))
 
-  pub possible_basic : (b : BasicPattern) → is_possible width (Basic b) v ≡ (nat_lt v width && mentions b.triples v)
+  pub possible_basic : (b : BasicPattern) → is_possible width (Basic b) v ≡ (nat_lt v width && occurs b v)
   possible_basic b =
       ap (λ p. is_possible width p v) (sym (rolls-Basic b)) ∙ (ap (λ (f : ℕ → Bool). f v) (fold-roll-Pattern (ℕ → Bool) (ℕ → Bool) (is_possible_level width) is_possible_step_level (level.Basic b)))
 

@@ -1,12 +1,13 @@
--- The variables that triple patterns mention, one pattern more.
+-- The variables that triple patterns mention, and those at ends of path patterns: one pattern more.
 use Rattle.std.proofs.Common.{◌≡◌, ℕ, zero, suc, ◌+◌, ◌<◌, Bool, true, false, ◌||◌, ◌==◌, List, [], ◌∷◌, ◌++◌, length, take, get_or, slice_set, refl, sym, ap, ◌∙◌, arith, inl, inr}
 use Rattle.std.proofs.lemmas.List.{take_more}
 use Rattle.std.proofs.lemmas.Bool.Decides.{eqb_tells}
 use Rattle.qs_patterns.specs.declared.pattern.Slot.{Slot}
 use Rattle.qs_patterns.specs.declared.pattern.Slot.TheVariants as slot
 use Rattle.qs_patterns.specs.declared.pattern.TriplePattern.{TriplePattern}
-use Rattle.qs_patterns.specs.Basic.{is_variable, mentions}
-use Rattle.qs_bindings.specs.Flags.{flags_from, with_slot, with_triple}
+use Rattle.qs_patterns.specs.declared.pattern.PathPattern.{PathPattern}
+use Rattle.qs_patterns.specs.Basic.{is_variable, mentions, is_end}
+use Rattle.qs_bindings.specs.Flags.{flags_from, with_slot, with_triple, with_ends}
 use Rattle.qs_bindings.proofs.FlagLaws.{same_flags}
 
 or_true : (b : Bool) → (b || true) ≡ true
@@ -71,3 +72,23 @@ mentions_more triples i n p flags flags' lt is h e =
     e ∙ (ap (λ l. with_triple l p) h ∙ (triple_more (mentions (take i triples)) n p
     ∙ (same_flags _ _ 0 n (λ w low high. mentions_last (take i triples) p w)
     ∙ ap (λ l. flags_from (mentions l) 0 n) (ap (λ q. take i triples ++ q ∷ []) is ∙ sym (take_more triples i p lt)))))
+
+ends_here : (f : ℕ → Bool) (n : ℕ) (p : PathPattern) → with_ends (flags_from f 0 n) p ≡ flags_from (λ w. (f w || is_variable p.subject w) || is_variable p.object w) 0 n
+ends_here f n p = ap (λ l. with_slot l p.object) (slot_more f n p.subject) ∙ slot_more _ n p.object
+
+ends_last : (ps : List PathPattern) (p : PathPattern) (v : ℕ) → ((is_end ps v || is_variable p.subject v) || is_variable p.object v) ≡ is_end (ps ++ p ∷ []) v
+ends_last [] p v = ap (λ b. is_variable p.subject v || b) (sym (or_false (is_variable p.object v)))
+ends_last (q ∷ ps) p v = step (is_variable q.subject v) (is_variable q.object v) (is_end ps v) (is_variable p.subject v) (is_variable p.object v) _ (ends_last ps p v)
+  where
+    step : (a b c x y e : Bool) → ((c || x) || y) ≡ e → (((a || (b || c)) || x) || y) ≡ (a || (b || e))
+    step true b c x y e h = refl
+    step false true c x y e h = refl
+    step false false c x y e h = h
+
+-- one path pattern more
+pub ends_more : (paths : List PathPattern) (i n : ℕ) (p : PathPattern) (flags flags' : List Bool) → i < length paths → p ≡ get_or paths i p → flags ≡ flags_from (is_end (take i paths)) 0 n
+    → flags' ≡ with_ends flags p → flags' ≡ flags_from (is_end (take (i + 1) paths)) 0 n
+ends_more paths i n p flags flags' lt is h e =
+    e ∙ (ap (λ l. with_ends l p) h ∙ (ends_here (is_end (take i paths)) n p
+    ∙ (same_flags _ _ 0 n (λ w low high. ends_last (take i paths) p w)
+    ∙ ap (λ l. flags_from (is_end l) 0 n) (ap (λ q. take i paths ++ q ∷ []) is ∙ sym (take_more paths i p lt)))))

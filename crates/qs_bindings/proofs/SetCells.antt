@@ -14,7 +14,7 @@ set_at (suc n) zero t h = refl
 set_at (suc n) (suc v) t h = set_at n v t (omega (arith, h))
 
 -- another one
-set_other : (a : Solution) (w v : ℕ) (t : Option Term) → (w ≡ v → ⊥) → term_at (slice_set a w t) v ≡ term_at a v
+pub set_other : (a : Solution) (w v : ℕ) (t : Option Term) → (w ≡ v → ⊥) → term_at (slice_set a w t) v ≡ term_at a v
 set_other [] w v t h = refl
 set_other (x ∷ a) zero zero t h = absurd (h refl)
 set_other (x ∷ a) zero (suc v) t h = refl
@@ -29,19 +29,19 @@ set_past (x ∷ a) zero (suc v) t h = refl
 set_past (x ∷ a) (suc w) zero t h = absurd (omega (arith, h))
 set_past (x ∷ a) (suc w) (suc v) t h = set_past a w v t (omega (arith, h))
 
-set_length : (a : Solution) (w : ℕ) (t : Option Term) → length (slice_set a w t) ≡ length a
+pub set_length : (a : Solution) (w : ℕ) (t : Option Term) → length (slice_set a w t) ≡ length a
 set_length [] w t = refl
 set_length (x ∷ a) zero t = refl
 set_length (x ∷ a) (suc w) t = ap suc (set_length a w t)
 
-unbound_length : (n : ℕ) → length (unbound n) ≡ n
+pub unbound_length : (n : ℕ) → length (unbound n) ≡ n
 unbound_length zero = refl
 unbound_length (suc n) = ap suc (unbound_length n)
 
-same_number : (w v : ℕ) → (w == v) ≡ true → w ≡ v
+pub same_number : (w v : ℕ) → (w == v) ≡ true → w ≡ v
 same_number w v h = elim (eqb_tells w v) as (λ x. w ≡ v) [ inl p ↦ p.1 | inr p ↦ let f : false ≡ true = sym p.0 ∙ h in cc ]
 
-other_number : (w v : ℕ) → (w == v) ≡ false → w ≡ v → ⊥
+pub other_number : (w v : ℕ) → (w == v) ≡ false → w ≡ v → ⊥
 other_number w v h e = elim (eqb_tells w v) as (λ x. ⊥) [ inl p ↦ (let f : true ≡ false = sym p.0 ∙ h in cc) | inr p ↦ p.1 e ]
 
 pub named_bound : (n w v : ℕ) (t : Term) → v < n → (w == v) ≡ true → term_at (binding n (w ∷ []) (Some t ∷ [])) v ≡ Some t
@@ -53,7 +53,7 @@ named_other n w v t h = set_other (unbound n) w v (Some t) (other_number w v h) 
 pub named_past : (n w v : ℕ) (t : Term) → n ≤ v → term_at (binding n (w ∷ []) (Some t ∷ [])) v ≡ None
 named_past n w v t h = set_past (unbound n) w v (Some t) (omega (arith, unbound_length n)) ∙ unbound_at n v
 
-still_set : (a : Solution) (w v : ℕ) (t : Term) → IsSome (term_at a v) → IsSome (term_at (slice_set a w (Some t)) v)
+pub still_set : (a : Solution) (w v : ℕ) (t : Term) → IsSome (term_at a v) → IsSome (term_at (slice_set a w (Some t)) v)
 still_set [] w v t h = h
 still_set (x ∷ a) zero zero t h = refl
 still_set (x ∷ a) zero (suc v) t h = h

@@ -3,7 +3,7 @@ use Rattle.std.specs.Prelude.{ℕ, Bool, false, ◌&&◌, ◌||◌, ◌==◌, na
 use Rattle.std.specs.List.{list_any, list_all}
 use Rattle.std.specs.Option.{is_some}
 use Rattle.qs_solutions.specs.Solution.{term_at}
-use Rattle.qs_patterns.specs.Basic.{mentions}
+use Rattle.qs_patterns.specs.Basic.{occurs}
 use Rattle.qs_patterns.specs.Eval.{rows_of}
 use Rattle.qs_patterns.specs.declared.pattern.Table.{Table}
 use Rattle.qs_patterns.specs.declared.pattern.Step.{Step, fold-Step}
@@ -21,7 +21,7 @@ is_set width table v = list_all (λ m. is_some (term_at m v)) (rows_of width tab
 -- A step that is joined binds it, or each part of a union, or GRAPH its variable, or a table that has no UNDEF for it. What is optional,
 -- and what is taken away, binds none, nor does BIND, whose expression may err. Hidden variables are taken away from solutions.
 abbrev pub is_certain_level : ℕ → Pattern-F (ℕ → Bool) (ℕ → Bool) → ℕ → Bool
-is_certain_level width (Basic pattern) v = nat_lt v width && mentions pattern.triples v
+is_certain_level width (Basic pattern) v = nat_lt v width && occurs pattern v
 is_certain_level width (Group steps conditions) v = list_any (λ one. one v) steps
 is_certain_level width (Union parts) v = list_all (λ part. part v) parts
 is_certain_level width (Graph name part) v = part v

@@ -4,6 +4,7 @@ use Rattle.std.specs.Prelude.{ℕ, zero, suc, ◌+◌, Bool, true, false, List, 
 use Rattle.qs_patterns.specs.declared.pattern.Slot.{Slot}
 use Rattle.qs_patterns.specs.declared.pattern.Slot.TheVariants as slot
 use Rattle.qs_patterns.specs.declared.pattern.TriplePattern.{TriplePattern}
+use Rattle.qs_patterns.specs.declared.pattern.PathPattern.{PathPattern}
 
 -- the answers at n numbers from v on
 abbrev pub flags_from : (ℕ → Bool) → ℕ → ℕ → List Bool
@@ -22,3 +23,7 @@ with_slot flags (slot.Variable v) = slice_set flags v true
 -- the variables of a triple pattern are flagged too
 abbrev pub with_triple : List Bool → TriplePattern → List Bool
 with_triple flags p = with_slot (with_slot (with_slot flags p.subject) p.predicate) p.object
+
+-- the variables at the ends of a path pattern are flagged too
+abbrev pub with_ends : List Bool → PathPattern → List Bool
+with_ends flags p = with_slot (with_slot flags p.subject) p.object

@@ -12,7 +12,7 @@ use qs_patterns::{Pattern, Step};
 use std::alloc::{AllocError, Global};
 
 /// At the number of each of the `width` named variables whether it is bound in each solution of the pattern, as far as the pattern
-/// alone tells it (SPARQL 1.1 Query, 18.5): its triples mention it, or a step of a group that is joined binds it, or each part of a
+/// alone tells it (SPARQL 1.1 Query, 18.5): its triples mention it or it stands at an end of a path, or a step of a group that is joined binds it, or each part of a
 /// union, or it is the variable of GRAPH, or a table sets it in each row.
 #[cycle(certain)]
 pub fn certain(alloc: Global, width: usize, pattern: &Pattern) -> Result<Vec<bool>, AllocError>
@@ -20,7 +20,7 @@ pub fn certain(alloc: Global, width: usize, pattern: &Pattern) -> Result<Vec<boo
 {
     match pattern {
         Pattern::Basic(basic) => {
-            let flags = mentioned(alloc, width, basic.triples.as_slice())?;
+            let flags = mentioned(alloc, width, basic)?;
             Ok(flags)
         }
         Pattern::Group(steps, _) => {

@@ -19,7 +19,7 @@ pub fn possible(alloc: Global, width: usize, pattern: &Pattern) -> Result<Vec<bo
 {
     match pattern {
         Pattern::Basic(basic) => {
-            let flags = mentioned(alloc, width, basic.triples.as_slice())?;
+            let flags = mentioned(alloc, width, basic)?;
             Ok(flags)
         }
         Pattern::Group(steps, _) => {

@@ -11,6 +11,7 @@ pub mod Past
 pub mod Turns
 pub mod Mapped
 pub mod Operators
+pub mod Along
 pub mod Optional
 pub mod Written
 pub mod Arms

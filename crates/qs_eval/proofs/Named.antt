@@ -1,5 +1,5 @@
 -- A graph has a name exactly where a quad stands in it.
-use Rattle.std.proofs.Common.{◌≡◌, Bool, true, false, ◌||◌, List, [], ◌∷◌, Option, Some, None, refl, sym, ◌∙◌, ap, cond, not}
+use Rattle.std.proofs.Common.{◌≡◌, Bool, true, false, ◌||◌, List, [], ◌∷◌, Option, Some, None, refl, sym, ◌∙◌, ap, not}
 use Rattle.std.specs.Borrow.{Bor}
 use Rattle.std.specs.List.{filter, filter_map, list_any, cons_option}
 use Rattle.qs_terms.specs.Bag.{once}
@@ -9,7 +9,7 @@ use Rattle.qs_terms.specs.Term.{same_term}
 use Rattle.qs_terms.specs.declared.term.Term.{Term}
 use Rattle.qs_eval.specs.Lent.{lent}
 use Rattle.qs_terms.proofs.SameTerm.{same_term-Decides}
-use Rattle.qs_terms.proofs.FirstOnes.{any_kept, none_kept, or_second}
+use Rattle.qs_terms.proofs.FirstOnes.{any_kept, none_kept}
 
 both_ways : (a b : Bool) → (a ≡ true → b ≡ true) → (b ≡ true → a ≡ true) → a ≡ b
 both_ways true b f g = sym (f refl)

@@ -44,7 +44,7 @@ one_more holds left right i a lt is =
     ap (flat_map f) (take_more left i a lt)
     ∙ (flat_map-append f (take i left) (get_or left i a ∷ []) ∙ ap (λ l. flat_map f (take i left) ++ l) (append-nil (f (get_or left i a)) ∙ ap f (sym is)))
 
-is_none : (n : ℕ) → (n == 0) ≡ true → n ≡ 0
+pub is_none : (n : ℕ) → (n == 0) ≡ true → n ≡ 0
 is_none n h = elim (eqb_tells n 0) as (λ x. n ≡ 0) [ inl p ↦ p.1 | inr p ↦ let f : false ≡ true = sym p.0 ∙ h in cc ]
 
 -- without conditions all are kept

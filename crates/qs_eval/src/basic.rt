@@ -12,6 +12,7 @@ ghost use Rattle.qs_eval.specs.Found.{found};
 ghost use Rattle.qs_eval.specs.Lent.{lent};
 
 use crate::extend::extended;
+use crate::paths::with_paths;
 use crate::quads::Quads;
 use qs_patterns::{BasicPattern, Slot, TriplePattern};
 use qs_solutions::Row;
@@ -89,17 +90,18 @@ fn hide(rows: &mut Vec<Row>, width: usize)
 }
 
 /// The solutions of a basic graph pattern.
-pub(crate) fn solutions_of_basic(
+pub(crate) fn solutions_of_basic<'a>(
     alloc: Global,
     width: usize,
-    pattern: &BasicPattern,
-    quads: &Quads,
+    pattern: &'a BasicPattern,
+    quads: &Quads<'a>,
     graph: Option<&Term>,
 ) -> Result<Vec<Row>, AllocError>
     ensures { IfOk result (λ rows. SameBag rows.items (basic width pattern.now (graph_of quads.now (option_copied graph.entry)))) }
 {
     let whole = width.checked_add(pattern.hidden).ok_or(AllocError)?;
-    let mut rows = all_matches(alloc, whole, pattern.triples.as_slice(), quads, graph)?;
+    let rows = all_matches(alloc, whole, pattern.triples.as_slice(), quads, graph)?;
+    let mut rows = with_paths(alloc, whole, pattern.paths.as_slice(), quads, graph, rows)?;
     hide(&mut rows, width);
     Ok(rows)
 }

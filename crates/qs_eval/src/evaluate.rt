@@ -71,7 +71,8 @@ pub fn solutions(
 {
     match pattern {
         Pattern::Basic(basic) => {
-            let rows = solutions_of_basic(alloc, width, basic, quads, graph)?;
+            // (the quads are lent for as long as the pattern is: its terms may be ends of paths)
+            let rows = solutions_of_basic(alloc, width, basic, &*quads, graph)?;
             Ok(rows)
         }
         Pattern::Group(steps, conditions) => {

@@ -6,6 +6,7 @@ mod conditions;
 mod evaluate;
 mod extend;
 mod names;
+mod paths;
 mod quads;
 
 pub use evaluate::solutions;

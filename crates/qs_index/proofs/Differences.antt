@@ -9,7 +9,7 @@ use Rattle.std.proofs.lemmas.List.Sorted.{Contains-permutation, IsPermutation-sy
 use Rattle.std.proofs.lemmas.List.Elements.{Contains-append_left, Contains-append_right, Contains-append_cases}
 use Rattle.qs_index.specs.Entries.{IsDifference}
 use Rattle.qs_index.specs.Entry.{IsAscending, keep_before, skip_before, without_entry}
-use Rattle.qs_index.specs.Index.{IsOrderOf}
+use Rattle.qs_index.specs.OrderOf.{IsOrderOf}
 use Rattle.qs_index.specs.Permutation.{turned}
 use Rattle.qs_index.specs.declared.permutation.Permutation.{Permutation}
 use Rattle.qs_index.proofs.Distinct.{nothing_in_nil, map_has, member_of_map}

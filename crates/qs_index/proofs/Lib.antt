@@ -14,5 +14,8 @@ pub mod Turned
 pub mod Graphs
 pub mod Unions
 pub mod Differences
+pub mod NamedOrders
+pub mod Parted
+pub mod Filled
 pub mod Prefixes
 pub mod ScanSteps

@@ -14,7 +14,7 @@ beginning_few p (x ∷ xs) = at_test (begins p x) (beginning_few p xs)
     at_test true h = omega arith
     at_test false h = omega arith
 
-pub looks_fit : (p : List ℕ) (pages : List (List (List ℕ))) (looked rest : ℕ) → HasPageSizes pages → length pages < 2 ^ 64 → looked + rest ≤ length (beginning p (joined pages)) + 2 * digits (length (joined pages)) + 1 → looked + 1 < 2 ^ 128
+pub looks_fit : (p : List ℕ) (pages : List (List (List ℕ))) (looked rest : ℕ) → HasPageSizes pages → length pages < 2 ^ 64 → looked + rest ≤ length (beginning p (joined pages)) + 2 * digits (length (joined pages)) + 2 → looked + 1 < 2 ^ 128
 looks_fit p pages looked rest sizes h l =
     let a = beginning_few p (joined pages) in
     let b = joined_le pages sizes in

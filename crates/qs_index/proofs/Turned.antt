@@ -1,19 +1,19 @@
 -- The orders of one set: entries turned and restored, and what a scan of an order hands out.
 use Rattle.std.proofs.Common.{◌≡◌, ℕ, Bool, true, false, cond, ◌==◌, ◌&&◌, List, [], ◌∷◌, map, length, Option, Some, None, refl, ap, sym, ◌∙◌, subst, arith, ⊎_elim, IsTrue, ◌↔◌}
-use Rattle.std.specs.List.{Contains}
+use Rattle.std.specs.List.{Contains, filter}
 use Rattle.std.specs.Bool.{OnTrue}
 use Rattle.std.specs.List.Sorted.{IsPermutation}
 use Rattle.std.proofs.lemmas.Bool.{false≢true}
 use Rattle.std.proofs.lemmas.List.{length-map}
 use Rattle.std.proofs.lemmas.List.Sorted.{length_permutation}
-use Rattle.qs_index.specs.Agreeing.{agrees, agreeing}
+use Rattle.qs_index.specs.Agreeing.{agrees, agreeing, agrees_anywhere}
 use Rattle.qs_index.specs.Entry.{begins, beginning, IsAscending, with_entry, without_entry}
 use Rattle.qs_index.specs.Entries.{HaveFour, IsOrdered}
-use Rattle.qs_index.specs.Index.{IsOrderOf}
+use Rattle.qs_index.specs.OrderOf.{IsOrderOf}
 use Rattle.qs_index.specs.Entry.{IsEntry}
-use Rattle.qs_index.specs.Permutation.{turned, restored, order_used, prefix_of}
+use Rattle.qs_index.specs.Permutation.{turned, restored, order_used, prefix_of, named_order_used, named_prefix_of}
 use Rattle.qs_index.specs.declared.permutation.Permutation.{Permutation}
-use Rattle.qs_index.specs.declared.permutation.Permutation.TheVariants.{Gspo, Gpos, Gosp}
+use Rattle.qs_index.specs.declared.permutation.Permutation.TheVariants.{Gspo, Gpos, Gosp, Spog, Posg, Ospg}
 use Rattle.qs_index.proofs.Distinct.{IsDistinct-ascending, IsDistinct-filter, IsDistinct-map, IsAscending-filter, IsPermutation-distinct, member_of_filter, filter_has, member_of_map, map_has, map-map, nothing_in_nil}
 use Rattle.qs_index.proofs.Members.{head_or_tail, with_has_it, with_has_old, member_of_with, member_of_without, without_has_other, without_lacks_it, skip_of_member}
 
@@ -29,6 +29,21 @@ restored-turned Gosp (a ∷ []) = refl
 restored-turned Gosp (a ∷ b ∷ []) = refl
 restored-turned Gosp (a ∷ b ∷ c ∷ []) = refl
 restored-turned Gosp (a ∷ b ∷ c ∷ d ∷ rest) = refl
+restored-turned Spog [] = refl
+restored-turned Spog (a ∷ []) = refl
+restored-turned Spog (a ∷ b ∷ []) = refl
+restored-turned Spog (a ∷ b ∷ c ∷ []) = refl
+restored-turned Spog (a ∷ b ∷ c ∷ d ∷ rest) = refl
+restored-turned Posg [] = refl
+restored-turned Posg (a ∷ []) = refl
+restored-turned Posg (a ∷ b ∷ []) = refl
+restored-turned Posg (a ∷ b ∷ c ∷ []) = refl
+restored-turned Posg (a ∷ b ∷ c ∷ d ∷ rest) = refl
+restored-turned Ospg [] = refl
+restored-turned Ospg (a ∷ []) = refl
+restored-turned Ospg (a ∷ b ∷ []) = refl
+restored-turned Ospg (a ∷ b ∷ c ∷ []) = refl
+restored-turned Ospg (a ∷ b ∷ c ∷ d ∷ rest) = refl
 
 pub turned-restored : (permutation : Permutation) (x : List ℕ) → turned permutation (restored permutation x) ≡ x
 turned-restored Gspo x = refl
@@ -42,6 +57,21 @@ turned-restored Gosp (a ∷ []) = refl
 turned-restored Gosp (a ∷ b ∷ []) = refl
 turned-restored Gosp (a ∷ b ∷ c ∷ []) = refl
 turned-restored Gosp (a ∷ b ∷ c ∷ d ∷ rest) = refl
+turned-restored Spog [] = refl
+turned-restored Spog (a ∷ []) = refl
+turned-restored Spog (a ∷ b ∷ []) = refl
+turned-restored Spog (a ∷ b ∷ c ∷ []) = refl
+turned-restored Spog (a ∷ b ∷ c ∷ d ∷ rest) = refl
+turned-restored Posg [] = refl
+turned-restored Posg (a ∷ []) = refl
+turned-restored Posg (a ∷ b ∷ []) = refl
+turned-restored Posg (a ∷ b ∷ c ∷ []) = refl
+turned-restored Posg (a ∷ b ∷ c ∷ d ∷ rest) = refl
+turned-restored Ospg [] = refl
+turned-restored Ospg (a ∷ []) = refl
+turned-restored Ospg (a ∷ b ∷ []) = refl
+turned-restored Ospg (a ∷ b ∷ c ∷ []) = refl
+turned-restored Ospg (a ∷ b ∷ c ∷ d ∷ rest) = refl
 
 pub turned_same : (permutation : Permutation) (x y : List ℕ) → turned permutation x ≡ turned permutation y → x ≡ y
 turned_same permutation x y e = sym (restored-turned permutation x) ∙ ap (restored permutation) e ∙ restored-turned permutation y
@@ -166,26 +196,80 @@ begins-turned g None (Some p) (Some o) (a ∷ b ∷ c ∷ d ∷ []) h = tests_po
 begins-turned g None None (Some o) (a ∷ b ∷ c ∷ d ∷ []) h = tests_o (a == g) (d == o)
 begins-turned g (Some s) None (Some o) (a ∷ b ∷ c ∷ d ∷ []) h = tests_os (a == g) (d == o) (b == s)
 
--- what a scan of the order used hands out is what agrees
-pub scan_agrees : (graph : ℕ) (subject predicate object : Option ℕ) (xs ys : List (List ℕ)) → ((x : List ℕ) → Contains xs x → IsEntry x) → IsAscending xs → IsOrderOf (order_used subject predicate object) xs ys → IsPermutation (agreeing graph subject predicate object xs) (map (restored (order_used subject predicate object)) (beginning (prefix_of graph subject predicate object) ys))
-scan_agrees graph subject predicate object xs ys four u o =
-    let used = order_used subject predicate object in
-    let prefix = prefix_of graph subject predicate object in
+-- the same without a graph, in the orders of the named graphs
+any_s : (a : Bool) → cond a true false ≡ ((a && true) && true)
+any_s true = refl
+any_s false = refl
+
+any_p : (a : Bool) → cond a true false ≡ ((true && a) && true)
+any_p true = refl
+any_p false = refl
+
+any_o : (a : Bool) → cond a true false ≡ ((true && true) && a)
+any_o true = refl
+any_o false = refl
+
+any_sp : (a b : Bool) → cond a (cond b true false) false ≡ ((a && b) && true)
+any_sp true true = refl
+any_sp true false = refl
+any_sp false b = refl
+
+any_po : (a b : Bool) → cond a (cond b true false) false ≡ ((true && a) && b)
+any_po true true = refl
+any_po true false = refl
+any_po false b = refl
+
+any_os : (a b : Bool) → cond b (cond a true false) false ≡ ((a && true) && b)
+any_os true true = refl
+any_os true false = refl
+any_os false true = refl
+any_os false false = refl
+
+any_spo : (a b c : Bool) → cond a (cond b (cond c true false) false) false ≡ ((a && b) && c)
+any_spo true true true = refl
+any_spo true true false = refl
+any_spo true false c = refl
+any_spo false b c = refl
+
+pub begins-named : (subject predicate object : Option ℕ) (x : List ℕ) → length x ≡ 4 → begins (named_prefix_of subject predicate object) (turned (named_order_used subject predicate object) x) ≡ agrees_anywhere subject predicate object x
+begins-named subject predicate object [] h = absurd (omega arith)
+begins-named subject predicate object (a ∷ []) h = absurd (omega arith)
+begins-named subject predicate object (a ∷ b ∷ []) h = absurd (omega arith)
+begins-named subject predicate object (a ∷ b ∷ c ∷ []) h = absurd (omega arith)
+begins-named subject predicate object (a ∷ b ∷ c ∷ d ∷ e ∷ rest) h = absurd (omega arith)
+begins-named None None None (a ∷ b ∷ c ∷ d ∷ []) h = refl
+begins-named (Some s) None None (a ∷ b ∷ c ∷ d ∷ []) h = any_s (b == s)
+begins-named (Some s) (Some p) None (a ∷ b ∷ c ∷ d ∷ []) h = any_sp (b == s) (c == p)
+begins-named (Some s) (Some p) (Some o) (a ∷ b ∷ c ∷ d ∷ []) h = any_spo (b == s) (c == p) (d == o)
+begins-named None (Some p) None (a ∷ b ∷ c ∷ d ∷ []) h = any_p (c == p)
+begins-named None (Some p) (Some o) (a ∷ b ∷ c ∷ d ∷ []) h = any_po (c == p) (d == o)
+begins-named None None (Some o) (a ∷ b ∷ c ∷ d ∷ []) h = any_o (d == o)
+begins-named (Some s) None (Some o) (a ∷ b ∷ c ∷ d ∷ []) h = any_os (b == s) (d == o)
+
+-- what a scan of an order hands out is what passes a test, where the test tells which entries, turned, begin with the prefix
+pub found_agree : (used : Permutation) (prefix : List ℕ) (test : List ℕ → Bool) (xs ys : List (List ℕ)) → ((x : List ℕ) → Contains xs x → begins prefix (turned used x) ≡ test x) → IsAscending xs → IsOrderOf used xs ys → IsPermutation (filter test xs) (map (restored used) (beginning prefix ys))
+found_agree used prefix test xs ys tells u o =
     let found = beginning prefix ys in
-    let to : (x : List ℕ) → Contains (agreeing graph subject predicate object xs) x → Contains (map (restored used) found) x = λ x c.
-    let m = member_of_filter (agrees graph subject predicate object) x xs c in
-    let f = filter_has (begins prefix) (turned used x) ys (o.has x m.0) (begins-turned graph subject predicate object x (four x m.0).four ∙ m.1) in
+    let to : (x : List ℕ) → Contains (filter test xs) x → Contains (map (restored used) found) x = λ x c.
+    let m = member_of_filter test x xs c in
+    let f = filter_has (begins prefix) (turned used x) ys (o.has x m.0) (tells x m.0 ∙ m.1) in
     subst (Contains (map (restored used) found)) (restored-turned used x) (map_has (restored used) (turned used x) found f) in
-    let from : (x : List ℕ) → Contains (map (restored used) found) x → Contains (agreeing graph subject predicate object xs) x = λ x c.
+    let from : (x : List ℕ) → Contains (map (restored used) found) x → Contains (filter test xs) x = λ x c.
     let m = member_of_map (restored used) x found c in
     let n = member_of_filter (begins prefix) m.0 ys m.1 in
     let same : m.0 ≡ turned used x = sym (turned-restored used m.0) ∙ ap (turned used) m.2 in
     let stands = o.only x (subst (Contains ys) same n.0) in
-    filter_has (agrees graph subject predicate object) x xs stands (sym (begins-turned graph subject predicate object x (four x stands).four) ∙ ap (begins prefix) (sym same) ∙ n.1) in
-    IsPermutation-distinct (agreeing graph subject predicate object xs) (map (restored used) found)
-    (IsDistinct-filter (agrees graph subject predicate object) xs (IsDistinct-ascending xs u))
+    filter_has test x xs stands (sym (tells x stands) ∙ ap (begins prefix) (sym same) ∙ n.1) in
+    IsPermutation-distinct (filter test xs) (map (restored used) found)
+    (IsDistinct-filter test xs (IsDistinct-ascending xs u))
     (IsDistinct-map (restored used) (turned used) (turned-restored used) found (IsDistinct-filter (begins prefix) ys (IsDistinct-ascending ys o.ascending)))
     to from
+
+-- a scan of the order used hands out what agrees
+pub scan_agrees : (graph : ℕ) (subject predicate object : Option ℕ) (xs ys : List (List ℕ)) → ((x : List ℕ) → Contains xs x → IsEntry x) → IsAscending xs → IsOrderOf (order_used subject predicate object) xs ys → IsPermutation (agreeing graph subject predicate object xs) (map (restored (order_used subject predicate object)) (beginning (prefix_of graph subject predicate object) ys))
+scan_agrees graph subject predicate object xs ys four u o =
+    found_agree (order_used subject predicate object) (prefix_of graph subject predicate object) (agrees graph subject predicate object) xs ys
+    (λ x c. begins-turned graph subject predicate object x (four x c).four) u o
 
 -- it ascends in that order
 pub scan_ascends : (permutation : Permutation) (prefix : List ℕ) (ys : List (List ℕ)) → IsAscending ys → IsAscending (map (turned permutation) (map (restored permutation) (beginning prefix ys)))

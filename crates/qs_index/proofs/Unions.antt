@@ -8,7 +8,7 @@ use Rattle.std.proofs.lemmas.List.Sorted.{Contains-permutation, IsPermutation-sy
 use Rattle.std.proofs.lemmas.List.Elements.{Contains-append_left, Contains-append_right, Contains-append_cases}
 use Rattle.qs_index.specs.Entries.{IsUnion}
 use Rattle.qs_index.specs.Entry.{IsAscending, with_entry, beginning}
-use Rattle.qs_index.specs.Index.{IsOrderOf}
+use Rattle.qs_index.specs.OrderOf.{IsOrderOf}
 use Rattle.qs_index.specs.Entry.{IsEntry}
 use Rattle.qs_index.specs.Permutation.{turned, restored}
 use Rattle.qs_index.specs.declared.permutation.Permutation.{Permutation}
@@ -23,6 +23,15 @@ IsUnion-nil xs u = record {
   has_old = λ x c. c;
   has_added = λ x c. absurd (nothing_in_nil x c);
   only = λ x c. inl c;
+}
+
+-- one list after another
+pub IsUnion-then : (xs a b ys zs : List (List ℕ)) → IsUnion xs a ys → IsUnion ys b zs → IsUnion xs (a ++ b) zs
+IsUnion-then xs a b ys zs u v = record {
+  ascending = v.ascending;
+  has_old = λ x c. v.has_old x (u.has_old x c);
+  has_added = λ x c. ⊎_elim (λ l. v.has_old x (u.has_added x l)) (λ r. v.has_added x r) (Contains-append_cases a b x c);
+  only = λ x c. ⊎_elim (λ l. ⊎_elim (λ o. inl o) (λ f. inr (Contains-append_left a b x f)) (u.only x l)) (λ r. inr (Contains-append_right a b x r)) (v.only x c);
 }
 
 -- one more of the list was put in, or stood already

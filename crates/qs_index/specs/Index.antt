@@ -1,19 +1,20 @@
-use Rattle.std.specs.Prelude.{ℕ, List}
+use Rattle.std.specs.Prelude.{ℕ, Bool, List}
 use Rattle.std.specs.List.{Contains}
-use Rattle.qs_index.specs.Entry.{IsAscending, IsEntry}
-use Rattle.qs_index.specs.Permutation.{turned}
-use Rattle.qs_index.specs.declared.permutation.Permutation.{Permutation}
+use Rattle.qs_index.specs.Entry.{IsEntry}
+use Rattle.qs_index.specs.OrderOf.{IsOrderOf}
+use Rattle.qs_index.specs.Named.{NamedOrders, AreNamedOf}
 use Rattle.qs_index.specs.declared.permutation.Permutation.TheVariants.{Gspo, Gpos, Gosp}
 
--- an order has the same entries as the list, turned, in ascending order
-pub record IsOrderOf (permutation : Permutation) (entries order : List (List ℕ)) : Type 0 where
-  pub ascending : IsAscending order
-  pub has : (x : List ℕ) → Contains entries x → Contains order (turned permutation x)
-  pub only : (x : List ℕ) → Contains order (turned permutation x) → Contains entries x
+-- an ascending list of entries, how many inserts need no memory, and whether there are orders of the named graphs
+pub record IndexState : Type 0 where
+  pub entries : List (List ℕ)
+  pub spare : ℕ
+  pub has_named : Bool
 
--- three orders of one set of entries
-pub record IsOneSet (gspo gpos gosp : List (List ℕ)) : Type 0 where
+-- orders of one set of entries: three of all, and those of the named graphs
+pub record IsOneSet (gspo gpos gosp : List (List ℕ)) (named : NamedOrders) : Type 0 where
   pub entries : (x : List ℕ) → Contains gspo x → IsEntry x
   pub by_subject : IsOrderOf Gspo gspo gspo
   pub by_predicate : IsOrderOf Gpos gspo gpos
   pub by_object : IsOrderOf Gosp gspo gosp
+  pub of_named : AreNamedOf gspo named

@@ -1,4 +1,4 @@
-use Rattle.std.specs.Prelude.{ℕ, ◌+◌, ◌<◌, ◌≤◌, ◌≡◌, ◌-◌, ◌*◌, List, [], ◌∷◌, ◌++◌, length, drop, take, slice_index_or}
+use Rattle.std.specs.Prelude.{min, ℕ, ◌+◌, ◌<◌, ◌≤◌, ◌≡◌, ◌-◌, ◌*◌, List, [], ◌∷◌, ◌++◌, length, drop, take, slice_index_or}
 use Rattle.std.specs.List.{All}
 
 abbrev pub Page : Type 0
@@ -69,3 +69,7 @@ first_page (page ∷ pages) = 0
 -- how many inserts the pages set aside suffice for
 abbrev pub room_of : List (List (List ℕ)) → ℕ → ℕ
 room_of pages spare = 128 * spare - (over pages + first_page pages)
+
+-- how much of the room the pages have used up, where all but the last are full, and what the last one has room for below its half
+abbrev pub used_of : List (List (List ℕ)) → ℕ
+used_of pages = 128 * length pages + over pages + min 128 (length (page_at pages (length pages - 1)))

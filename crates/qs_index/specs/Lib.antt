@@ -7,6 +7,8 @@ pub mod Place
 pub mod Scan
 pub mod OrderScan
 pub mod Permutation
-pub mod Agreeing
-pub mod Index
 pub mod Graph
+pub mod Agreeing
+pub mod OrderOf
+pub mod Named
+pub mod Index

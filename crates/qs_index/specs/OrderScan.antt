@@ -35,4 +35,4 @@ pub record IsSound (pages : List (List (List ℕ))) (prefix : List ℕ) (page at
   pub left : length (run_of prefix (rest_at pages page at)) ≤ length (beginning prefix (joined pages))
   pub few : looked + length (run_of prefix (rest_at pages page at)) ≤ length (beginning prefix (joined pages)) + 2 * digits (length (joined pages)) + 2
   pub enough : length (beginning prefix (joined pages)) + waiting head ≤ looked + length (run_of prefix (rest_at pages page at))
-  pub going : page < length pages → looked + length (run_of prefix (rest_at pages page at)) ≤ length (beginning prefix (joined pages)) + 2 * digits (length (joined pages)) + 1
+  pub going : page < length pages → looked + length (run_of prefix (rest_at pages page at)) ≤ length (beginning prefix (joined pages)) + 2 * digits (length (joined pages)) + 1 + waiting head

@@ -1,4 +1,4 @@
-use Rattle.std.specs.Prelude.{◌≡◌, ℕ, ◌-◌, ◌<◌, ◌≤◌, List, [], length, false, slice_index_or}
+use Rattle.std.specs.Prelude.{◌≡◌, ℕ, ◌<◌, ◌≤◌, List, [], length, false, slice_index_or}
 use Rattle.std.specs.List.{Contains}
 use Rattle.qs_index.specs.Layout.{joined, page_at, rest_at}
 use Rattle.qs_index.specs.Entry.{is_before, skip_before}
@@ -17,9 +17,10 @@ pub record IsPlaceOf (x : List ℕ) (pages : List (List (List ℕ))) (page at : 
   pub before : rest_at pages page at ≡ skip_before x (joined pages)
   pub stands : Contains (joined pages) x
 
--- the last entry of a page, which isn't before the prefix
-pub record IsPageFound (prefix : List ℕ) (pages : List (List (List ℕ))) (page : ℕ) (entry : List ℕ) : Type 0 where
-  pub entry_is : entry ≡ slice_index_or (page_at pages page) (length (page_at pages page) - 1) []
+-- an entry of a page, which isn't before the prefix
+pub record IsReached (prefix : List ℕ) (pages : List (List (List ℕ))) (page at : ℕ) (entry : List ℕ) : Type 0 where
+  pub at_in : at < length (page_at pages page)
+  pub entry_is : entry ≡ slice_index_or (page_at pages page) at []
   pub reached : is_before entry prefix ≡ false
 
 -- the first entry that isn't before the prefix, and where it stands

@@ -1,6 +1,7 @@
 // Comparisons of entries with one another.
 ghost use Rattle.std.specs.Prelude.{◌≡◌, ◌+◌, ◌*◌, ◌^◌, ◌≤◌, length};
 ghost use Rattle.qs_index.specs.Entry.{is_before, begins};
+ghost use Rattle.qs_index.specs.Graph.{is_named};
 
 // Two numbers as one of 64 bits, the first before the second.
 #[inline(always)]
@@ -38,4 +39,12 @@ pub fn begins(prefix: &[u32], entry: &[u32; 4]) -> bool
         }
     }
     true
+}
+
+/// Whether `entry` is of a named graph.
+#[inline(always)]
+pub fn is_named(entry: &[u32; 4]) -> bool
+    ensures { result ≡ is_named entry.now }
+{
+    entry[0] != 0
 }

@@ -1,77 +1,85 @@
-// The set of entries in three orders.
-ghost use Rattle.std.specs.Prelude.{◌≡◌, ℕ, ◌+◌, ◌<◌, ◌≤◌, ◌↔◌, min, List, [], ◌∷◌, length, map, IsTrue, IfSome, IfNone};
+// The set of entries in three orders, and in three of the named graphs where they are asked for.
+ghost use Rattle.std.specs.Prelude.{◌≡◌, ℕ, ◌+◌, ◌<◌, ◌≤◌, ◌↔◌, min, Bool, true, false, List, [], ◌∷◌, length, map, IsTrue, IfSome, IfNone};
 ghost use Rattle.std.specs.Bool.{OnTrue, OnFalse};
 ghost use Rattle.std.specs.Result.{OnOk};
 ghost use Rattle.std.specs.List.{All, Contains};
 ghost use Rattle.std.specs.List.Sorted.{IsPermutation};
-ghost use Rattle.qs_index.specs.Agreeing.{agreeing};
-ghost use Rattle.qs_index.specs.Entries.{Entries, IsUnion, IsDifference};
+ghost use Rattle.qs_index.specs.Agreeing.{agreeing, agreeing_named};
+ghost use Rattle.qs_index.specs.Entries.{IsUnion, IsDifference};
 ghost use Rattle.qs_index.specs.Entry.{IsEntry, IsAscending, with_entry, without_entry};
-ghost use Rattle.qs_index.specs.Graph.{graph_of, IsNextGraph};
-ghost use Rattle.qs_index.specs.Index.{IsOneSet, IsOrderOf};
-ghost use Rattle.qs_index.specs.Permutation.{order_used, turned};
+ghost use Rattle.qs_index.specs.Graph.{graph_of, named_entries, IsNextGraph};
+ghost use Rattle.qs_index.specs.Index.{IndexState, IsOneSet};
+ghost use Rattle.qs_index.specs.Named.{held_by, least_room};
+ghost use Rattle.qs_index.specs.OrderOf.{IsOrderOf};
+ghost use Rattle.qs_index.specs.Permutation.{order_used, named_order_used, turned};
 
+use crate::batch::{insert_turned, remove_turned};
+use crate::named::Named;
 use crate::order::Order;
+use crate::pages::Place;
 use crate::permutation::{Lookup, Permutation};
 use crate::prefix::Prefix;
 use crate::scan::Scan;
+use crate::search::NOWHERE;
 use std::alloc::{AllocError, Global};
 use std::marker::Model;
 
-// Puts entries into an order, turned and sorted.
-fn insert_turned(order: &mut Order, permutation: Permutation, entries: &mut [[u32; 4]])
-    requires { length entries.old ≤ order.old.spare }
-    ensures union { IsUnion order.old.entries (map (turned permutation) entries.old) order.new.entries }
-    ensures entries { All IsEntry (map (turned permutation) entries.old) }
-    ensures spare { order.old.spare ≤ order.new.spare + length entries.old }
-    ensures permutation { IsPermutation entries.old entries.new }
-{
-    permutation.turn_all(entries);
-    entries.sort_unstable();
-    order.insert_all(entries);
-    permutation.restore_all(entries);
-}
-
-// Takes entries out of an order, turned and sorted.
-fn remove_turned(order: &mut Order, permutation: Permutation, entries: &mut [[u32; 4]])
-    ensures difference { IsDifference order.old.entries (map (turned permutation) entries.old) order.new.entries }
-    ensures spare { order.old.spare ≤ order.new.spare }
-    ensures permutation { IsPermutation entries.old entries.new }
-{
-    permutation.turn_all(entries);
-    entries.sort_unstable();
-    order.remove_all(entries);
-    permutation.restore_all(entries);
-}
-
 /// A set of entries `[graph, subject, predicate, object]`, and how many inserts need no memory. Graph number 0 is the default
-/// graph. Contracts see the set as its ascending list, so equal lists are equal sets.
+/// graph. An index has three more orders of the named graphs where it is made with them. Contracts see the set as its ascending list,
+/// so equal lists are equal sets.
 #[derive(Drop)]
 pub struct Index {
     gspo: Order,
     gpos: Order,
     gosp: Order,
+    named: Named,
 }
 
 impl Model for Index {
-    ghost Value = { Entries };
+    ghost Value = { IndexState };
 
-    ghost view = { λ s. record { entries = s.gspo.entries; spare = min s.gspo.spare (min s.gpos.spare s.gosp.spare) } };
+    ghost view = { λ s. record { entries = s.gspo.entries; spare = least_room (min s.gspo.spare (min s.gpos.spare s.gosp.spare)) s.named; has_named = s.named.kept } };
 
-    ghost invariant = { λ s. IsOneSet s.gspo.entries s.gpos.entries s.gosp.entries };
+    ghost invariant = { λ s. IsOneSet s.gspo.entries s.gpos.entries s.gosp.entries s.named };
 }
 
 impl Index {
-    /// An index without entries. It takes no memory.
-    pub fn new(alloc: Global) -> Index
+    fn made(alloc: Global, has_named: bool) -> Index
         ensures entries { result.entries ≡ [] }
         ensures spare { result.spare ≡ 0 }
+        ensures named { result.has_named ≡ has_named }
     {
         Index {
             gspo: Order::new(alloc),
             gpos: Order::new(alloc),
             gosp: Order::new(alloc),
+            named: Named::new(alloc, has_named),
         }
+    }
+
+    /// An index without entries, in three orders. It takes no memory.
+    pub fn new(alloc: Global) -> Index
+        ensures entries { result.entries ≡ [] }
+        ensures spare { result.spare ≡ 0 }
+        ensures named { result.has_named ≡ false }
+    {
+        Index::made(alloc, false)
+    }
+
+    /// An index without entries, with orders of the named graphs, too, for scans of all of these. It takes no memory.
+    pub fn with_named(alloc: Global) -> Index
+        ensures entries { result.entries ≡ [] }
+        ensures spare { result.spare ≡ 0 }
+        ensures named { result.has_named ≡ true }
+    {
+        Index::made(alloc, true)
+    }
+
+    /// Whether there are orders of the named graphs.
+    pub fn has_named(&self) -> bool
+        ensures { result ≡ self.now.has_named }
+    {
+        self.named.is_kept()
     }
 
     /// Makes room for `n` inserts. A refusal leaves the entries, and no less room than there was.
@@ -79,10 +87,12 @@ impl Index {
         ensures entries { self.new.entries ≡ self.old.entries }
         ensures kept { self.old.spare ≤ self.new.spare }
         ensures ok { OnOk result (n ≤ self.new.spare) }
+        ensures named { self.new.has_named ≡ self.old.has_named }
     {
         self.gspo.reserve(n)?;
         self.gpos.reserve(n)?;
-        self.gosp.reserve(n)
+        self.gosp.reserve(n)?;
+        self.named.reserve(n)
     }
 
     /// Puts an entry in, and tells whether it is new. It takes no memory, and asks that there is room.
@@ -95,12 +105,14 @@ impl Index {
         ensures kept { OnFalse result (self.new.entries ≡ self.old.entries) }
         ensures ascending { IsAscending self.new.entries }
         ensures spare { self.old.spare ≤ self.new.spare + 1 }
+        ensures named { self.new.has_named ≡ self.old.has_named }
     {
         if !self.gspo.insert(entry) {
             return false;
         }
         self.gpos.insert(Permutation::Gpos.turn(entry));
         self.gosp.insert(Permutation::Gosp.turn(entry));
+        self.named.insert(entry);
         true
     }
 
@@ -111,10 +123,12 @@ impl Index {
         ensures union { IsUnion self.old.entries entries.old self.new.entries }
         ensures spare { self.old.spare ≤ self.new.spare + length entries.old }
         ensures permutation { IsPermutation entries.old entries.new }
+        ensures named { self.new.has_named ≡ self.old.has_named }
     {
         insert_turned(&mut self.gspo, Permutation::Gspo, entries);
         insert_turned(&mut self.gpos, Permutation::Gpos, entries);
         insert_turned(&mut self.gosp, Permutation::Gosp, entries);
+        self.named.insert_all(entries);
     }
 
     /// Takes an entry out, and tells whether it stood there. It takes no memory, and leaves no less room than there was.
@@ -125,12 +139,14 @@ impl Index {
         ensures kept { OnFalse result (self.new.entries ≡ self.old.entries) }
         ensures ascending { IsAscending self.new.entries }
         ensures spare { self.old.spare ≤ self.new.spare }
+        ensures named { self.new.has_named ≡ self.old.has_named }
     {
         if !self.gspo.remove(entry) {
             return false;
         }
         self.gpos.remove(Permutation::Gpos.turn(entry));
         self.gosp.remove(Permutation::Gosp.turn(entry));
+        self.named.remove(entry);
         true
     }
 
@@ -140,10 +156,12 @@ impl Index {
         ensures difference { IsDifference self.old.entries entries.old self.new.entries }
         ensures spare { self.old.spare ≤ self.new.spare }
         ensures permutation { IsPermutation entries.old entries.new }
+        ensures named { self.new.has_named ≡ self.old.has_named }
     {
         remove_turned(&mut self.gspo, Permutation::Gspo, entries);
         remove_turned(&mut self.gpos, Permutation::Gpos, entries);
         remove_turned(&mut self.gosp, Permutation::Gosp, entries);
+        self.named.remove_all(entries);
     }
 
     /// How many entries there are. It takes no memory, and goes over none.
@@ -169,12 +187,12 @@ impl Index {
         ensures size { result.size ≡ length self.now.entries }
     {
         let order = &self.gspo;
-        Scan::new(order.scan([0, 0, 0, 0], 0), Permutation::Gspo)
+        Scan::new(order.scan(NOWHERE, [0, 0, 0, 0], 0), Permutation::Gspo)
     }
 
     /// The order of a permutation.
     fn order(&self, permutation: Permutation) -> &Order
-        ensures order { IsOrderOf permutation self.now.entries result.now.entries }
+        ensures order { IsOrderOf permutation (held_by permutation self.now.has_named self.now.entries) result.now.entries }
         ensures entries { (x : List ℕ) → Contains self.now.entries x → IsEntry x }
         ensures ascending { IsAscending self.now.entries }
     {
@@ -182,6 +200,9 @@ impl Index {
             Permutation::Gspo => &self.gspo,
             Permutation::Gpos => &self.gpos,
             Permutation::Gosp => &self.gosp,
+            Permutation::Spog => &self.named.spog,
+            Permutation::Posg => &self.named.posg,
+            Permutation::Ospg => &self.named.ospg,
         }
     }
 
@@ -200,9 +221,74 @@ impl Index {
         ensures handed { result.handed ≡ 0 }
         ensures size { result.size ≡ length self.now.entries }
     {
+        self.scan_from(NOWHERE, graph, subject, predicate, object)
+    }
+
+    /// The same as `scan`, looked for from a place of an earlier scan of the same order (`Scan::place`): where it begins in the same page,
+    /// at that place or behind it, the search takes two looks for each binary digit of the distance, and two more. Elsewhere it costs
+    /// two looks more than that of `scan`. A place is a hint alone: any place gives the same entries.
+    pub fn scan_from(
+        &self,
+        from: Place,
+        graph: u32,
+        subject: Option<u32>,
+        predicate: Option<u32>,
+        object: Option<u32>,
+    ) -> Scan<'_>
+        ensures agreeing { IsPermutation (agreeing graph subject predicate object self.now.entries) result.rest }
+        ensures ascending { IsAscending (map (turned (order_used subject predicate object)) result.rest) }
+        ensures handed { result.handed ≡ 0 }
+        ensures size { result.size ≡ length self.now.entries }
+    {
         let lookup = Lookup::new(graph, subject, predicate, object);
         let order = self.order(lookup.permutation);
-        Scan::new(order.scan(lookup.prefix, lookup.given), lookup.permutation)
+        Scan::new(
+            order.scan(from, lookup.prefix, lookup.given),
+            lookup.permutation,
+        )
+    }
+
+    /// The entries of all named graphs that have the subject, predicate and object that are given, each once. They ascend in the order
+    /// POSG where the predicate is the first place that is given or stands before the object, in OSPG where the object is given
+    /// without the predicate, and in SPOG elsewhere: entries that differ in their graph alone follow one another. It asks that the
+    /// index was made with orders of the named graphs.
+    pub fn scan_named(
+        &self,
+        subject: Option<u32>,
+        predicate: Option<u32>,
+        object: Option<u32>,
+    ) -> Scan<'_>
+        requires { IsTrue self.now.has_named }
+        ensures agreeing { IsPermutation (agreeing_named subject predicate object self.now.entries) result.rest }
+        ensures ascending { IsAscending (map (turned (named_order_used subject predicate object)) result.rest) }
+        ensures handed { result.handed ≡ 0 }
+        ensures size { result.size ≡ length (named_entries self.now.entries) }
+    {
+        self.scan_named_from(NOWHERE, subject, predicate, object)
+    }
+
+    /// The same as `scan_named`, looked for from a place of an earlier scan of the same order (`Scan::place`): where it begins in the same page,
+    /// at that place or behind it, the search takes two looks for each binary digit of the distance, and two more. Elsewhere it costs
+    /// two looks more than that of `scan_named`. A place is a hint alone: any place gives the same entries.
+    pub fn scan_named_from(
+        &self,
+        from: Place,
+        subject: Option<u32>,
+        predicate: Option<u32>,
+        object: Option<u32>,
+    ) -> Scan<'_>
+        requires { IsTrue self.now.has_named }
+        ensures agreeing { IsPermutation (agreeing_named subject predicate object self.now.entries) result.rest }
+        ensures ascending { IsAscending (map (turned (named_order_used subject predicate object)) result.rest) }
+        ensures handed { result.handed ≡ 0 }
+        ensures size { result.size ≡ length (named_entries self.now.entries) }
+    {
+        let lookup = Lookup::of_named(subject, predicate, object);
+        let order = self.order(lookup.permutation);
+        Scan::new(
+            order.scan(from, lookup.prefix, lookup.given),
+            lookup.permutation,
+        )
     }
 
     /// About how many entries of a graph have the subject, predicate and object that are given: a hint that promises nothing. It is
@@ -215,6 +301,19 @@ impl Index {
         object: Option<u32>,
     ) -> u64 {
         let lookup = Lookup::new(graph, subject, predicate, object);
+        let order = self.order(lookup.permutation);
+        order.estimate(lookup.prefix, lookup.given)
+    }
+
+    /// About how many entries of all named graphs have the subject, predicate and object that are given, as `estimate` does. It tells 0
+    /// where the index was made without orders of the named graphs.
+    pub fn estimate_named(
+        &self,
+        subject: Option<u32>,
+        predicate: Option<u32>,
+        object: Option<u32>,
+    ) -> u64 {
+        let lookup = Lookup::of_named(subject, predicate, object);
         let order = self.order(lookup.permutation);
         order.estimate(lookup.prefix, lookup.given)
     }

@@ -1,10 +1,14 @@
-//! A set of numbered quads `[graph, subject, predicate, object]`, kept in three orders of sorted pages. A scan of the set hands out
-//! the entries that agree with the places that are given, in ascending order, and looks at few more entries than it hands out.
+//! A set of numbered quads `[graph, subject, predicate, object]`, kept in three orders of sorted pages, and by choice in three more of
+//! the named graphs. A scan of the set hands out the entries that agree with the places that are given, in ascending order, and looks at
+//! few more entries than it hands out.
 #![tactic(auto)]
 
+mod batch;
 mod entry;
 mod estimate;
+mod fill;
 mod index;
+mod named;
 pub mod order;
 pub mod order_scan;
 pub mod pages;
@@ -14,4 +18,5 @@ mod scan;
 mod search;
 
 pub use index::Index;
+pub use pages::Place;
 pub use scan::Scan;

@@ -8,6 +8,7 @@ ghost use Rattle.qs_index.specs.Entries.{Entries, IsUnion, IsDifference, IsOrder
 ghost use Rattle.qs_index.specs.Entry.{IsAscending, skip_before, with_entry, without_entry, beginning};
 
 use crate::estimate::{distance, last_with};
+use crate::fill::fill;
 use crate::order_scan::OrderScan;
 use crate::pages::{HALF, PAGE, Pages, Place, Reader};
 use crate::prefix::Prefix;
@@ -111,7 +112,7 @@ impl Order {
     {
         let count = self.pages.len();
         if count == 0 {
-            self.pages.put_first(entry);
+            self.pages.put_last(entry);
             self.count = 1;
             return Edited {
                 is_done: true,
@@ -147,8 +148,24 @@ impl Order {
         edited.is_done
     }
 
-    /// Puts all of `entries` in. Ascending ones are put in fastest.
-    pub fn insert_all(&mut self, entries: &[[u32; 4]])
+    // Fills pages where there are none, and tells how many of `entries` were read.
+    fn fill_empty(&mut self, entries: &[[u32; 4]]) -> usize
+        requires { length entries.now ≤ self.old.spare }
+        ensures within { result ≤ length entries.now }
+        ensures union { IsUnion self.old.entries (take result entries.now) self.new.entries }
+        ensures spare { self.old.spare ≤ self.new.spare + result }
+    {
+        let count = self.pages.len();
+        if count != 0 {
+            return 0;
+        }
+        let filled = fill(&mut self.pages, entries);
+        self.count = filled.count;
+        filled.read
+    }
+
+    // Puts all of `entries` in, each looked for from the place of the last one.
+    fn insert_each(&mut self, entries: &[[u32; 4]])
         requires { length entries.now ≤ self.old.spare }
         ensures union { IsUnion self.old.entries entries.now self.new.entries }
         ensures spare { self.old.spare ≤ self.new.spare + length entries.now }
@@ -159,6 +176,16 @@ impl Order {
             let edited = self.insert_from(from, *entry);
             from = edited.place;
         }
+    }
+
+    /// Puts all of `entries` in. Ascending ones are put in fastest, and fill pages whole where the order is empty.
+    pub fn insert_all(&mut self, entries: &[[u32; 4]])
+        requires { length entries.now ≤ self.old.spare }
+        ensures union { IsUnion self.old.entries entries.now self.new.entries }
+        ensures spare { self.old.spare ≤ self.new.spare + length entries.now }
+    {
+        let read = self.fill_empty(entries);
+        self.insert_each(&entries[read..]);
     }
 
     // Takes an entry out, looked for from an earlier place on.
@@ -295,14 +322,14 @@ impl Order {
         u64::try_from(distance(&self.pages, from, to)).unwrap_or(u64::MAX)
     }
 
-    /// The entries that begin with the first `given` numbers of `prefix`.
-    pub fn scan(&self, prefix: [u32; 4], given: usize) -> OrderScan<'_>
+    /// The entries that begin with the first `given` numbers of `prefix`, which are looked for about `from` first.
+    pub fn scan(&self, from: Place, prefix: [u32; 4], given: usize) -> OrderScan<'_>
         requires { given ≤ 4 }
         ensures rest { result.rest ≡ beginning (take given prefix) self.now.entries }
         ensures handed { result.handed ≡ 0 }
         ensures size { result.size ≡ length self.now.entries }
         ensures ascending { IsAscending self.now.entries }
     {
-        OrderScan::new(Reader::new(&self.pages), Prefix::new(prefix, given))
+        OrderScan::new(Reader::new(&self.pages), Prefix::new(prefix, given), from)
     }
 }

@@ -10,10 +10,11 @@ ghost use Rattle.qs_index.specs.OrderScan.{state_of, waiting, IsHead, IsSound};
 
 use crate::pages::{Place, Reader};
 use crate::prefix::Prefix;
-use crate::search::find;
+use crate::search::find_from;
 use std::marker::Model;
 
 // The entry at a place: the one that the search found there, or the one that is read.
+#[inline(always)]
 fn read(reader: &mut Reader<'_>, head: Option<[u32; 4]>, place: Place) -> [u32; 4]
     requires page { place.page < length reader.old.pages }
     requires at { place.at < length (page_at reader.old.pages place.page) }
@@ -30,6 +31,7 @@ fn read(reader: &mut Reader<'_>, head: Option<[u32; 4]>, place: Place) -> [u32; 
 }
 
 // Where a scan goes on behind an entry that begins with its prefix: at the end where no other entry can.
+#[inline(always)]
 fn step(reader: &Reader<'_>, prefix: &Prefix, place: Place) -> Place
     requires page { place.page < length reader.now.pages }
     requires at { place.at < length (page_at reader.now.pages place.page) }
@@ -65,6 +67,8 @@ pub struct OrderScan<'a> {
     at: usize,
     // The first entry until it is handed out, as the search has looked at it.
     head: Option<[u32; 4]>,
+    // Where the search was told to begin, and at the end the place of the entry that was looked at last.
+    seen: Place,
 }
 
 impl<'a> Model for OrderScan<'a> {
@@ -76,8 +80,8 @@ impl<'a> Model for OrderScan<'a> {
 }
 
 impl<'a> OrderScan<'a> {
-    /// The scan of the entries that begin with `prefix`.
-    pub fn new(reader: Reader<'a>, prefix: Prefix) -> OrderScan<'a>
+    /// The scan of the entries that begin with `prefix`, which are looked for about `from` first.
+    pub fn new(reader: Reader<'a>, prefix: Prefix, from: Place) -> OrderScan<'a>
         requires ascending { IsAscending (joined reader.pages) }
         requires entries { HaveFour (joined reader.pages) }
         requires unread { reader.looked ≡ 0 }
@@ -87,13 +91,14 @@ impl<'a> OrderScan<'a> {
     {
         let mut reader = reader;
         let held = reader.len();
-        let Some(found) = find(&mut reader, &prefix) else {
+        let Some(found) = find_from(&mut reader, from, &prefix) else {
             return OrderScan {
                 reader,
                 prefix,
                 page: held,
                 at: 0,
                 head: None,
+                seen: from,
             };
         };
         OrderScan {
@@ -102,7 +107,19 @@ impl<'a> OrderScan<'a> {
             page: found.place.page,
             at: found.place.at,
             head: Some(found.entry),
+            seen: from,
         }
+    }
+
+    /// The place of the entry that is looked at next; at the end, of the one that was looked at last.
+    pub fn place(&self) -> Place {
+        if self.page < self.reader.len() {
+            return Place {
+                page: self.page,
+                at: self.at,
+            };
+        }
+        self.seen
     }
 
     /// How many entries were looked at since the scan began: those handed out, and few more.
@@ -136,9 +153,13 @@ impl<'a> Iterator for OrderScan<'a> {
         if !self.prefix.begins(&entry) {
             self.page = held;
             self.at = 0;
+            self.seen = place;
             return None;
         }
         let next = step(&self.reader, &self.prefix, place);
+        if next.page >= held {
+            self.seen = place;
+        }
         self.page = next.page;
         self.at = next.at;
         Some(entry)

@@ -2,14 +2,18 @@
 ghost use Rattle.std.specs.Prelude.{◌≡◌, ◌≤◌, take, map};
 ghost use Rattle.std.specs.List.{All};
 ghost use Rattle.qs_index.specs.Entry.{IsEntry};
-ghost use Rattle.qs_index.specs.Permutation.{turned, restored, order_used, prefix_of};
+ghost use Rattle.qs_index.specs.Permutation.{turned, restored, order_used, prefix_of, named_order_used, named_prefix_of};
 
-/// An order of the places of an entry: graph, subject, predicate and object, by their first letters.
+/// An order of the places of an entry: graph, subject, predicate and object, by their first letters. Orders with the graph in the last
+/// place have the entries of named graphs alone.
 #[derive(Debug, Clone, Copy)]
 pub enum Permutation {
     Gspo,
     Gpos,
     Gosp,
+    Spog,
+    Posg,
+    Ospg,
 }
 
 impl Permutation {
@@ -24,6 +28,9 @@ impl Permutation {
             Permutation::Gspo => [g, s, p, o],
             Permutation::Gpos => [g, p, o, s],
             Permutation::Gosp => [g, o, s, p],
+            Permutation::Spog => [s, p, o, g],
+            Permutation::Posg => [p, o, s, g],
+            Permutation::Ospg => [o, s, p, g],
         }
     }
 
@@ -32,11 +39,14 @@ impl Permutation {
     pub fn restore(self, turned: [u32; 4]) -> [u32; 4]
         ensures { result ≡ restored self turned }
     {
-        let [g, x, y, z] = turned;
+        let [x, y, z, w] = turned;
         match self {
-            Permutation::Gspo => [g, x, y, z],
-            Permutation::Gpos => [g, z, x, y],
-            Permutation::Gosp => [g, y, z, x],
+            Permutation::Gspo => [x, y, z, w],
+            Permutation::Gpos => [x, w, y, z],
+            Permutation::Gosp => [x, z, w, y],
+            Permutation::Spog => [w, x, y, z],
+            Permutation::Posg => [w, z, x, y],
+            Permutation::Ospg => [w, y, z, x],
         }
     }
 }
@@ -91,6 +101,28 @@ impl Lookup {
             (None, Some(p), Some(o)) => (Permutation::Gpos, [graph, p, o, 0], 3),
             (None, None, Some(o)) => (Permutation::Gosp, [graph, o, 0, 0], 2),
             (Some(s), None, Some(o)) => (Permutation::Gosp, [graph, o, s, 0], 3),
+        };
+        Lookup {
+            permutation,
+            prefix,
+            given,
+        }
+    }
+    /// The order of the named graphs in which the places that are given come first, and these places.
+    pub fn of_named(subject: Option<u32>, predicate: Option<u32>, object: Option<u32>) -> Lookup
+        ensures permutation { result.permutation ≡ named_order_used subject predicate object }
+        ensures short { result.given ≤ 4 }
+        ensures prefix { take result.given result.prefix ≡ named_prefix_of subject predicate object }
+    {
+        let (permutation, prefix, given) = match (subject, predicate, object) {
+            (None, None, None) => (Permutation::Spog, [0, 0, 0, 0], 0),
+            (Some(s), None, None) => (Permutation::Spog, [s, 0, 0, 0], 1),
+            (Some(s), Some(p), None) => (Permutation::Spog, [s, p, 0, 0], 2),
+            (Some(s), Some(p), Some(o)) => (Permutation::Spog, [s, p, o, 0], 3),
+            (None, Some(p), None) => (Permutation::Posg, [p, 0, 0, 0], 1),
+            (None, Some(p), Some(o)) => (Permutation::Posg, [p, o, 0, 0], 2),
+            (None, None, Some(o)) => (Permutation::Ospg, [o, 0, 0, 0], 1),
+            (Some(s), None, Some(o)) => (Permutation::Ospg, [o, s, 0, 0], 2),
         };
         Lookup {
             permutation,

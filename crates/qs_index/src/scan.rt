@@ -6,6 +6,7 @@ ghost use Rattle.qs_index.specs.Permutation.{restored};
 ghost use Rattle.qs_index.specs.Scan.{ScanState, NextOfScan};
 
 use crate::order_scan::OrderScan;
+use crate::pages::Place;
 use crate::permutation::Permutation;
 use std::marker::Model;
 
@@ -27,6 +28,12 @@ impl<'a> Scan<'a> {
         ensures { result ≡ record inner.entry { rest = map (restored permutation) inner.entry.rest } }
     {
         Scan { inner, permutation }
+    }
+
+    /// The place of the entry that is looked at next, and at the end of the one that was looked at last: a later scan of the same order
+    /// that has to begin near behind finds its first entry from there with few looks.
+    pub fn place(&self) -> Place {
+        self.inner.place()
     }
 
     /// How many entries were looked at since the scan began: compared or handed out. At every moment they are at least those

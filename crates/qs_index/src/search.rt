@@ -3,7 +3,7 @@ ghost use Rattle.std.specs.Prelude.{◌≡◌, ℕ, ◌+◌, ◌-◌, ◌*◌, �
 ghost use Rattle.qs_index.specs.Digits.{digits};
 ghost use Rattle.qs_index.specs.Layout.{Layout, Reading, joined, page_at, rest_at};
 ghost use Rattle.qs_index.specs.Entry.{is_before, IsAscending, skip_before};
-ghost use Rattle.qs_index.specs.Place.{IsPlaceFor, IsPlaceOf, IsFound, IsPageFound};
+ghost use Rattle.qs_index.specs.Place.{IsPlaceFor, IsPlaceOf, IsFound, IsReached};
 
 use crate::pages::{Pages, Place, Reader};
 use crate::prefix::Prefix;
@@ -35,7 +35,7 @@ fn first_page(reader: &mut Reader<'_>, prefix: &Prefix) -> Bound
     requires countable { reader.old.looked + digits (length reader.old.pages) < 2 ^ 128 }
     ensures within { result.at ≤ length reader.old.pages }
     ensures skips { skip_before prefix.now (joined reader.old.pages) ≡ skip_before prefix.now (joined (drop result.at reader.old.pages)) }
-    ensures reached { result.at < length reader.old.pages → IsPageFound prefix.now reader.old.pages result.at result.entry }
+    ensures reached { result.at < length reader.old.pages → IsReached prefix.now reader.old.pages result.at (length (page_at reader.old.pages result.at) - 1) result.entry }
     ensures looked { result.at < length reader.old.pages → reader.old.looked + 1 ≤ reader.new.looked }
     ensures pages { reader.new.pages ≡ reader.old.pages }
     ensures counted { reader.new.looked ≤ reader.old.looked + digits (length reader.old.pages) }
@@ -64,31 +64,31 @@ fn first_page(reader: &mut Reader<'_>, prefix: &Prefix) -> Bound
     }
 }
 
-// The first entry of a page that isn't before `prefix`, where those in front of `from` are, and its last, which is given, isn't.
+// The first entry of a page that isn't before `prefix`, where those in front of `from` are, and that of `to` isn't.
 #[inline(always)]
 fn first_in_page(
     reader: &mut Reader<'_>,
     page: usize,
     from: usize,
-    last: [u32; 4],
+    to: Bound,
     prefix: &Prefix,
 ) -> Bound
     requires ascending { IsAscending (joined reader.old.pages) }
     requires page_in { page < length reader.old.pages }
-    requires from_in { from < length (page_at reader.old.pages page) }
+    requires ordered { from ≤ to.at }
     requires passed { skip_before prefix.now (joined (drop page reader.old.pages)) ≡ skip_before prefix.now (rest_at reader.old.pages page from) }
-    requires reached { IsPageFound prefix.now reader.old.pages page last }
-    requires countable { reader.old.looked + digits (length (page_at reader.old.pages page)) < 2 ^ 128 }
+    requires reached { IsReached prefix.now reader.old.pages page to.at to.entry }
+    requires countable { reader.old.looked + digits (to.at - from) < 2 ^ 128 }
     ensures within { result.at < length (page_at reader.old.pages page) }
     ensures skips { skip_before prefix.now (joined (drop page reader.old.pages)) ≡ rest_at reader.old.pages page result.at }
     ensures entry { result.entry ≡ slice_index_or (page_at reader.old.pages page) result.at [] }
     ensures pages { reader.new.pages ≡ reader.old.pages }
     ensures looked { reader.old.looked ≤ reader.new.looked }
-    ensures counted { reader.new.looked ≤ reader.old.looked + digits (length (page_at reader.old.pages page)) }
+    ensures counted { reader.new.looked ≤ reader.old.looked + digits (to.at - from) }
 {
     let mut low = from;
-    let mut high = reader.page_len(page) - 1;
-    let mut bound = last;
+    let mut high = to.at;
+    let mut bound = to.entry;
     while low < high {
         let middle = low + (high - low) / 2;
         let place = Place { page, at: middle };
@@ -122,13 +122,60 @@ pub fn find(reader: &mut Reader<'_>, prefix: &Prefix) -> Option<Found>
     if page.at == held {
         return None;
     }
-    let bound = first_in_page(reader, page.at, 0, page.entry, prefix);
+    let at = reader.page_len(page.at) - 1;
+    let entry = page.entry;
+    let bound = first_in_page(reader, page.at, 0, Bound { at, entry }, prefix);
     let place = Place {
         page: page.at,
         at: bound.at,
     };
     let entry = bound.entry;
     Some(Found { place, entry })
+}
+
+// A part of a page: those in front of `from` are before a prefix, and that of `to` isn't.
+#[derive(Clone, Copy)]
+struct Part {
+    from: usize,
+    to: Bound,
+}
+
+// The part of a page in which the first entry that isn't before `prefix` stands, where those in front of `from` are before it and
+// the last isn't: by steps of 1, 2, 4 and so on entries from there.
+#[inline(always)]
+fn gallop(reader: &mut Reader<'_>, page: usize, from: usize, last: Bound, prefix: &Prefix) -> Part
+    requires ascending { IsAscending (joined reader.old.pages) }
+    requires page_in { page < length reader.old.pages }
+    requires size { length (page_at reader.old.pages page) ≤ 256 }
+    requires ordered { from ≤ last.at }
+    requires passed { skip_before prefix.now (joined (drop page reader.old.pages)) ≡ skip_before prefix.now (rest_at reader.old.pages page from) }
+    requires reached { IsReached prefix.now reader.old.pages page last.at last.entry }
+    requires countable { reader.old.looked + digits (length (page_at reader.old.pages page)) < 2 ^ 128 }
+    ensures ordered { result.from ≤ result.to.at }
+    ensures skips { skip_before prefix.now (joined (drop page reader.old.pages)) ≡ skip_before prefix.now (rest_at reader.old.pages page result.from) }
+    ensures reached { IsReached prefix.now reader.old.pages page result.to.at result.to.entry }
+    ensures pages { reader.new.pages ≡ reader.old.pages }
+    ensures looked { reader.old.looked ≤ reader.new.looked }
+    ensures counted { reader.new.looked + digits (result.to.at - result.from) ≤ reader.old.looked + 2 * digits (length (page_at reader.old.pages page)) }
+{
+    let mut low = from;
+    let mut step = 1;
+    while low + step <= last.at {
+        let at = low + step - 1;
+        let entry = reader.look(Place { page, at });
+        if !prefix.is_after(&entry) {
+            return Part {
+                from: low,
+                to: Bound { at, entry },
+            };
+        }
+        low = at + 1;
+        step = step * 2;
+    }
+    Part {
+        from: low,
+        to: last,
+    }
 }
 
 // The first entry that isn't before `prefix`, looked for in the page of an earlier place, whose entry is, before all pages are
@@ -143,32 +190,64 @@ fn find_behind(reader: &mut Reader<'_>, from: Place, prefix: &Prefix) -> Option<
     ensures some { IfSome result (λ found. IsFound prefix.now reader.old.pages found.place.page found.place.at found.entry) }
     ensures none { IfNone result (skip_before prefix.now (joined reader.old.pages) ≡ []) }
     ensures pages { reader.new.pages ≡ reader.old.pages }
+    ensures looked { IfSome result (λ _. reader.old.looked ≤ reader.new.looked) }
+    ensures counted { reader.new.looked ≤ reader.old.looked + 1 + 2 * digits (length (joined reader.old.pages)) }
 {
     let held = reader.len();
     let page = from.page;
-    let len = reader.page_len(page);
-    let end = Place { page, at: len - 1 };
-    let last = reader.look(end);
-    if prefix.is_after(&last) {
+    let end = reader.page_len(page) - 1;
+    let entry = reader.look(Place { page, at: end });
+    if prefix.is_after(&entry) {
         if page + 1 == held {
             return None;
         }
         return find(reader, prefix);
     }
-    let bound = first_in_page(reader, page, from.at + 1, last, prefix);
+    let part = gallop(reader, page, from.at + 1, Bound { at: end, entry }, prefix);
+    let bound = first_in_page(reader, page, part.from, part.to, prefix);
     let place = Place { page, at: bound.at };
     let entry = bound.entry;
     Some(Found { place, entry })
 }
 
-// The first entry that isn't before `prefix`, looked for from an earlier place on where it stands behind that.
+// The first entry that isn't before `prefix`, where that at `from` isn't: it stands there where the entry in front of it is before
+// `prefix`.
 #[inline(always)]
-fn find_from(reader: &mut Reader<'_>, from: Place, prefix: &Prefix) -> Option<Found>
+fn find_before(reader: &mut Reader<'_>, from: Found, prefix: &Prefix) -> Option<Found>
+    requires ascending { IsAscending (joined reader.old.pages) }
+    requires page { from.place.page < length reader.old.pages }
+    requires reached { IsReached prefix.now reader.old.pages from.place.page from.place.at from.entry }
+    requires countable { reader.old.looked + 1 + 2 * digits (length (joined reader.old.pages)) < 2 ^ 128 }
+    ensures some { IfSome result (λ found. IsFound prefix.now reader.old.pages found.place.page found.place.at found.entry) }
+    ensures none { IfNone result (skip_before prefix.now (joined reader.old.pages) ≡ []) }
+    ensures pages { reader.new.pages ≡ reader.old.pages }
+    ensures looked { IfSome result (λ _. reader.old.looked ≤ reader.new.looked) }
+    ensures counted { reader.new.looked ≤ reader.old.looked + 1 + 2 * digits (length (joined reader.old.pages)) }
+{
+    let place = from.place;
+    if place.at == 0 {
+        return find(reader, prefix);
+    }
+    let front = reader.look(Place {
+        page: place.page,
+        at: place.at - 1,
+    });
+    if prefix.is_after(&front) {
+        return Some(from);
+    }
+    find(reader, prefix)
+}
+
+/// The first entry that isn't before `prefix`, looked for about an earlier place where it stands near behind that.
+#[inline(always)]
+pub fn find_from(reader: &mut Reader<'_>, from: Place, prefix: &Prefix) -> Option<Found>
     requires ascending { IsAscending (joined reader.old.pages) }
     requires countable { reader.old.looked + 2 + 2 * digits (length (joined reader.old.pages)) < 2 ^ 128 }
     ensures some { IfSome result (λ found. IsFound prefix.now reader.old.pages found.place.page found.place.at found.entry) }
     ensures none { IfNone result (skip_before prefix.now (joined reader.old.pages) ≡ []) }
     ensures pages { reader.new.pages ≡ reader.old.pages }
+    ensures looked { IfSome result (λ _. reader.old.looked + 1 ≤ reader.new.looked) }
+    ensures counted { reader.new.looked ≤ reader.old.looked + 2 + 2 * digits (length (joined reader.old.pages)) }
 {
     let held = reader.len();
     if from.page >= held {
@@ -177,11 +256,11 @@ fn find_from(reader: &mut Reader<'_>, from: Place, prefix: &Prefix) -> Option<Fo
     if from.at >= reader.page_len(from.page) {
         return find(reader, prefix);
     }
-    let start = reader.look(from);
-    if prefix.is_after(&start) {
+    let entry = reader.look(from);
+    if prefix.is_after(&entry) {
         return find_behind(reader, from, prefix);
     }
-    find(reader, prefix)
+    find_before(reader, Found { place: from, entry }, prefix)
 }
 
 // Where an entry stands, or where it has to be put.

@@ -12,3 +12,19 @@ pub mod Larger
 pub mod NumbersBelow
 pub mod PlacesBelow
 pub mod ReadingsBelow
+pub mod ReadingsFrom
+mod WrittenRows
+pub mod Escaped
+pub mod WrittenFronts
+pub mod WrittenTokens
+pub mod TakenTokens
+pub mod TakenTags
+pub mod TakenEscapes
+pub mod Renumbering
+pub mod OneLine
+pub mod WholeText
+pub mod LawfulQuads
+pub mod Lines
+pub mod Sorting
+pub mod OneReading
+pub mod EachOnce

@@ -6,3 +6,8 @@ pub mod Part
 pub mod Place
 pub mod Reading
 pub mod Nquads
+pub mod Written
+pub mod Renumbered
+pub mod Joined
+pub mod WriteFault
+pub mod Backslashes

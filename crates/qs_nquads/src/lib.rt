@@ -1,21 +1,27 @@
-//! N-Quads: the quads that bytes say, or the first fault with its line (RDF 1.1 N-Quads, 3 and 4).
+//! N-Quads: the quads that bytes say, or the first fault with its line; and quads as bytes (RDF 1.1 N-Quads, 3 and 4).
 //!
-//! The definitions stand in `specs/`: the tokens in `Table.antt`, what each says in `Part.antt`, statements in `Place.antt`, the
-//! numbers of labels in `Labels.antt`, and what a whole text comes to in `Reading.antt` and `Nquads.antt`.
+//! The definitions stand in `specs/`. Of reading: the tokens in `Table.antt`, what each says in `Part.antt`, statements in `Place.antt`,
+//! the numbers of labels in `Labels.antt`, and what a whole text comes to in `Reading.antt` and `Nquads.antt`. Of writing: the text in
+//! `Written.antt`, and what reading it gives in `Renumbered.antt`.
 #![tactic(auto)]
 
 mod class;
 mod fault;
 mod gap;
 mod labels;
+pub mod lawful;
 pub mod laws;
+mod line;
 mod longest;
 mod node;
 mod nquads;
+mod output;
 mod part;
 mod place;
 mod reader;
 mod state;
+mod written;
 
 pub use crate::fault::{NqFault, NqFaultKind};
 pub use crate::nquads::read;
+pub use crate::output::{WriteFault, text, write};

@@ -1,6 +1,7 @@
 //! Patterns of the algebra (SPARQL 1.1 Query, 18.2). Variables have numbers: those with a name come first, and behind them the
 //! hidden ones of each basic graph pattern, which its blank nodes are.
 
+use qs_ast::path::Path;
 use qs_expr::Expr;
 use qs_shared::Shared;
 use qs_terms::Term;
@@ -22,11 +23,21 @@ pub struct TriplePattern {
     pub object: Slot,
 }
 
-/// A basic graph pattern (SPARQL 1.1 Query, 18.1.6).
+/// A property path pattern (SPARQL 1.1 Query, 18.1.7). Patterns of one path after another have it in common.
+#[derive(Drop)]
+pub struct PathPattern {
+    pub subject: Slot,
+    pub path: Shared<Path>,
+    pub object: Slot,
+}
+
+/// A basic graph pattern (SPARQL 1.1 Query, 18.1.6), and the property path patterns that stand among its triples.
 #[derive(Drop)]
 pub struct BasicPattern {
     pub triples: Items<TriplePattern>,
-    /// How many numbers behind those of the named variables are for hidden ones.
+    /// Those that are no triple pattern, as a path of one IRI is.
+    pub paths: Items<PathPattern>,
+    /// How many numbers behind those of the named variables are for hidden ones, which triples and paths have in common.
     pub hidden: usize,
 }
 

@@ -4,8 +4,8 @@ ghost use Rattle.qs_terms.specs.Outcome.{OneOrWantOfMemory};
 ghost use Rattle.qs_select.specs.Sequence.{dataset_of};
 ghost use Rattle.qs_query.specs.Outcome.{IsOutcomeOfText};
 
+use qs_answer::Answer;
 use qs_select::answer_query;
-use qs_solutions::Answer;
 use qs_syntax::parse_query;
 use qs_terms::{QFault, Quad};
 use std::alloc::Global;
@@ -14,9 +14,8 @@ use std::alloc::Global;
 /// Query, 16 and 18). The number is above those of all blank nodes of the quads.
 ///
 /// # Errors
-/// The fault of the text, as of `parse_query`. Of a text without fault: `QFault::Later` where a form of it has no meaning yet;
-/// `QFault::TooManyRows` where the solutions of a SELECT, behind OFFSET and LIMIT, are more than `max_rows`. `QFault::Memory` for want
-/// of memory, at any time.
+/// The fault of the text, as of `parse_query`. Of a text without fault: `QFault::TooManyRows` where the solutions of a SELECT or a CONSTRUCT, behind OFFSET and LIMIT, are more than `max_rows`;
+/// `QFault::Full` where there are no numbers for the fresh blank nodes of a CONSTRUCT. `QFault::Memory` for want of memory, at any time.
 pub fn answer(
     alloc: Global,
     text: &str,

@@ -1,14 +1,14 @@
 -- Answers as JSON (SPARQL 1.1 Query Results JSON Format, 3.1 to 3.3). The members of each object ascend by their bytes.
-use Rattle.std.specs.Prelude.{ℕ, List, [], ◌∷◌, ◌++◌, Option, Some, None, map, codes, decimal, if◌then◌else◌}
+use Rattle.std.specs.Prelude.{ℕ, Bool, true, false, List, [], ◌∷◌, ◌++◌, Option, Some, None, map, codes, decimal, if◌then◌else◌}
 use Rattle.std.specs.Str.{bytes_eq}
-use Rattle.serde_json.specs.Data.{Data, boolean, string, array, object, Members, no_members, member, put}
+use Rattle.serde_json.specs.Data.{Data, null, boolean, string, array, object, Members, no_members, member, put}
 use Rattle.serde_json.specs.View.{items_of}
 use Rattle.qs_terms.specs.Literal.{xsd_string}
 use Rattle.qs_terms.specs.declared.term.Term.{Term}
 use Rattle.qs_terms.specs.declared.term.Term.TheVariants as term
 use Rattle.qs_solutions.specs.Solution.{Solution}
-use Rattle.qs_solutions.specs.declared.answer.Answer.{Answer}
-use Rattle.qs_solutions.specs.declared.answer.Answer.TheVariants.{Solutions, Truth}
+use Rattle.qs_answer.specs.declared.answer.Answer.{Answer}
+use Rattle.qs_answer.specs.declared.answer.Answer.TheVariants.{Solutions, Truth, Graph}
 
 -- a type, a value, and what comes behind them (3.2.2)
 abbrev pub typed_value : List ℕ → List ℕ → Members → Members
@@ -57,10 +57,17 @@ names_data names = array (items_of (map string names))
 abbrev pub rows_data : List (List ℕ) → List Solution → Data
 rows_data names rows = array (items_of (map (binding_data names) rows))
 
--- the answer of a SELECT (3.1 and 3.2), or of an ASK (3.3)
+-- whether the answer has a JSON form
+abbrev pub has_json : Answer → Bool
+has_json (Solutions names rows) = true
+has_json (Truth b) = true
+has_json (Graph quads) = false
+
+-- the answer of a SELECT (3.1 and 3.2), or of an ASK (3.3); a graph has no form
 abbrev pub json_of : Answer → Data
 json_of (Solutions names rows) =
     object (member (codes "head") (object (member (codes "vars") (names_data names) no_members))
     (member (codes "results") (object (member (codes "bindings") (rows_data names rows) no_members)) no_members))
 json_of (Truth b) =
     object (member (codes "boolean") (boolean b) (member (codes "head") (object no_members) no_members))
+json_of (Graph quads) = null

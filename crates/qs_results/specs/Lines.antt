@@ -19,7 +19,6 @@ fault_line fault.GraphExists = codes "F7 graph exists"
 fault_line fault.TooManyRows = codes "F8 too many rows"
 fault_line fault.Memory = codes "F9 out of memory"
 fault_line fault.Full = codes "F10 full"
-fault_line fault.Later = codes "F11 later"
 
 -- what is wrong with data
 abbrev pub kind_text : NqFaultKind → List ℕ

@@ -1,12 +1,13 @@
 //! Answers as JSON (SPARQL 1.1 Query Results JSON Format, 3).
 
-ghost use Rattle.std.specs.Prelude.{◌≡◌, IfOk, string_bytes};
+ghost use Rattle.std.specs.Prelude.{◌≡◌, IfOk, true, string_bytes};
 ghost use Rattle.serde_json.specs.Written.{compact_text};
-ghost use Rattle.qs_results.specs.Json.{json_of};
-ghost use Rattle.qs_solutions.specs.declared.answer.Answer.TheVariants.{Solutions, Truth};
+ghost use Rattle.qs_results.specs.Json.{has_json, json_of};
+ghost use Rattle.qs_answer.specs.declared.answer.Answer.TheVariants.{Solutions, Truth};
 
 use crate::solution::{names_text, push_rows};
-use qs_solutions::{Answer, Row};
+use qs_answer::Answer;
+use qs_solutions::Row;
 use qs_terms::Text;
 use std::alloc::{AllocError, Global};
 
@@ -33,12 +34,14 @@ fn solutions_text(alloc: Global, vars: &[Text], rows: &[Row]) -> Result<String, 
 }
 
 /// The answer as JSON with no white space. The names and the solutions keep their order, and the members of each object ascend by
-/// their bytes. Beside the text itself, memory is taken for one solution at a time.
+/// their bytes. Beside the text itself, memory is taken for one solution at a time. It is asked of solutions and of a truth alone.
 pub fn json(alloc: Global, answer: &Answer) -> Result<String, AllocError>
+    requires { has_json answer.now ≡ true }
     ensures { IfOk result (λ s. string_bytes s ≡ compact_text (json_of answer.now)) }
 {
     match answer {
         Answer::Solutions { vars, rows } => solutions_text(alloc, vars.as_slice(), rows.as_slice()),
         Answer::Truth(truth) => truth_text(alloc, *truth),
+        Answer::Graph(_) => unreachable!(),
     }
 }

@@ -1,13 +1,15 @@
-//! Written forms: answers as JSON (SPARQL 1.1 Query Results JSON Format), faults as lines.
+//! Written forms: answers as JSON (SPARQL 1.1 Query Results JSON Format), graphs as N-Triples, faults as lines.
 //!
-//! What is written is defined in `specs/`: the JSON value of an answer in `Json.antt`, the lines of faults in `Lines.antt`. Want of
-//! memory is the only error of these calls.
+//! What is written is defined in `specs/`: the JSON value of an answer in `Json.antt`, the lines of faults in `Lines.antt`; the text of
+//! a graph is that of `qs_nquads`. Want of memory is the only error of these calls.
 #![tactic(auto)]
 
 mod answer;
 mod line;
 mod solution;
 mod term;
+mod triples;
 
 pub use answer::json;
 pub use line::{data_fault_line, fault_line, out_of_memory_line};
+pub use triples::ntriples;

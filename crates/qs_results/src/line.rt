@@ -24,7 +24,6 @@ pub fn fault_line(alloc: Global, fault: &QFault) -> Result<String, AllocError>
         QFault::TooManyRows => String::from_str(alloc, "F8 too many rows"),
         QFault::Memory => String::from_str(alloc, "F9 out of memory"),
         QFault::Full => String::from_str(alloc, "F10 full"),
-        QFault::Later => String::from_str(alloc, "F11 later"),
     }
 }
 

@@ -1,5 +1,5 @@
 -- Which elements are known already, by a set of keys that stand for those that were met.
-use Rattle.std.proofs.Common.{◌≡◌, ℕ, ◌+◌, ◌<◌, Bool, true, false, ◌||◌, not, if◌then◌else◌, List, [], ◌∷◌, ◌++◌, length, take, get_or, map, is_eq, refl, sym, ◌∙◌, ap}
+use Rattle.std.proofs.Common.{◌≡◌, ℕ, ◌+◌, ◌<◌, Bool, true, false, ◌||◌, if◌then◌else◌, List, [], ◌∷◌, ◌++◌, length, take, get_or, map, is_eq, refl, sym, ◌∙◌, ap}
 use Rattle.std.specs.Bool.{Decides}
 use Rattle.std.specs.Borrow.{Bor}
 use Rattle.std.specs.BTreeMap.{is_at}
@@ -76,10 +76,10 @@ module _ {K X : Type 0} (read : K → X) (same : X → X → Bool) (exact : (a b
     pub kept_known : list_any (is_at (order q)) ks ≡ true → fs' ≡ fs → fs' ≡ once same (xs ++ read q ∷ [])
     kept_known e f = f ∙ sym (one_more ∙ new_at true (read q) fs (had true e))
 
--- one element more
-pub taken_more : {X Y : Type 0} (f : X → Y) (xs : List X) (i : ℕ) (x : X) → i < length xs → x ≡ get_or xs i x → map f (take (i + 1) xs) ≡ map f (take i xs) ++ f x ∷ []
-taken_more f xs i x lt is = ap (map f) (take_more xs i x lt ∙ ap (λ r. take i xs ++ r ∷ []) (sym is)) ∙ map-append f (take i xs) (x ∷ [])
-
 pub lent_more : {X Y : Type 0} (f : X → Y) (xs ys : List (Bor X)) (x : Bor X) → ys ≡ xs ++ x ∷ [] → map f (lent ys) ≡ map f (lent xs) ++ f x.now ∷ []
 lent_more {X} f xs ys x e =
     ap (λ l. map f (lent l)) e ∙ (ap (map f) (map-append (λ (r : Bor X). r.now) xs (x ∷ [])) ∙ map-append f (lent xs) (x.now ∷ []))
+
+-- one element more
+pub lent_taken_more : {X Y : Type 0} (f : X → Y) (xs : List (Bor X)) (i : ℕ) (x : Bor X) → i < length xs → x ≡ get_or xs i x → map f (lent (take (i + 1) xs)) ≡ map f (lent (take i xs)) ++ f x.now ∷ []
+lent_taken_more f xs i x lt is = lent_more f (take i xs) (take (i + 1) xs) x (take_more xs i x lt ∙ ap (λ r. take i xs ++ r ∷ []) (sym is))

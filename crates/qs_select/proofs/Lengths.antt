@@ -1,5 +1,5 @@
 -- Sequences of the same solutions have one length.
-use Rattle.std.proofs.Common.{◌≡◌, ◌-◌, ℕ, Bool, true, false, List, [], ◌∷◌, length, take, drop, min, map, Option, Some, None, sym, ap, ◌∙◌}
+use Rattle.std.proofs.Common.{◌≡◌, ◌-◌, ℕ, Bool, true, false, List, length, drop, min, map, Option, Some, None, sym, ap, ◌∙◌}
 use Rattle.std.proofs.lemmas.List.{length-take, length-drop}
 use Rattle.std.proofs.lemmas.List.Sorted.{length_permutation, IsPermutation-map}
 use Rattle.qs_terms.specs.Bag.{SameBag}
@@ -7,14 +7,14 @@ use Rattle.qs_solutions.specs.Solution.{Solution, projected, same_solution}
 use Rattle.qs_eval.proofs.Same.{same_solution-Decides}
 use Rattle.qs_select.specs.Sequence.{limited, sliced, once_where, listed_rows, IsSequence, count}
 use Rattle.qs_select.specs.declared.selection.Selection.{Selection}
-use Rattle.qs_select.specs.declared.selection.Slice.{Slice}
+use Rattle.qs_select.specs.declared.modifiers.Slice.{Slice}
 use Rattle.qs_select.proofs.Once.{same_once}
 
 limited_length : (limit : Option ℕ) (xs ys : List Solution) → length xs ≡ length ys → length (limited limit xs) ≡ length (limited limit ys)
 limited_length None xs ys h = h
 limited_length (Some n) xs ys h = length-take n xs ∙ ap (min n) h ∙ sym (length-take n ys)
 
-sliced_length : (slice : Slice) (xs ys : List Solution) → length xs ≡ length ys → length (sliced slice xs) ≡ length (sliced slice ys)
+pub sliced_length : (slice : Slice) (xs ys : List Solution) → length xs ≡ length ys → length (sliced slice xs) ≡ length (sliced slice ys)
 sliced_length slice xs ys h =
     limited_length slice.limit (drop slice.offset xs) (drop slice.offset ys) (length-drop slice.offset xs ∙ ap (λ n. n - slice.offset) h ∙ sym (length-drop slice.offset ys))
 
@@ -32,4 +32,4 @@ counts_agree asked a b h =
     sliced_length asked.slice (listed_rows asked a) (listed_rows asked b) (sym (length_permutation (listed_rows asked a) (listed_rows asked b) (same_listed asked a b h)))
 
 pub length_of_sequence : (asked : Selection) (solutions rows : List Solution) → IsSequence asked solutions rows → length rows ≡ count asked solutions
-length_of_sequence asked solutions rows s = ap length s.2 ∙ counts_agree asked s.0 solutions s.1
+length_of_sequence asked solutions rows s = ap length s.2 ∙ counts_agree asked s.0 solutions s.1.0

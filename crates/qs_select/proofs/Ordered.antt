@@ -1,30 +1,35 @@
 -- From the solutions in the order in which they were found to an answer.
-use Rattle.std.proofs.Common.{◌≡◌, nat_lt, if◌then◌else◌, ◌<◌, ◌≤◌, ℕ, Bool, true, false, not, ◌==◌, List, [], ◌∷◌, take, drop, length, map, Option, Some, None, Ok, Err, refl, sym, ap, ◌∙◌, subst, inl, inr, arith}
+use Rattle.std.proofs.Common.{◌≡◌, nat_lt, if◌then◌else◌, ◌<◌, ◌≤◌, ℕ, Bool, true, false, not, ◌==◌, List, [], ◌∷◌, drop, length, map, Option, Some, None, Ok, Err, refl, sym, ap, ◌∙◌, subst, inl, inr, arith}
 use Rattle.std.specs.Borrow.{Bor}
 use Rattle.std.proofs.lemmas.Bool.{eqb-true, ltb-true, ltb-false}
 use Rattle.std.proofs.lemmas.List.{take-map, drop-map, length-map}
-use Rattle.std.proofs.lemmas.List.Sorted.{length_permutation}
+use Rattle.std.proofs.lemmas.List.Sorted.{length_permutation, IsPermutation-trans}
 use Rattle.qs_terms.specs.Bag.{SameBag}
 use Rattle.qs_terms.specs.Dataset.{Dataset, Triple}
 use Rattle.qs_terms.specs.Outcome.{Outcome, OneOrWantOfMemory}
+use Rattle.qs_terms.specs.Statement.{Statement}
 use Rattle.qs_terms.specs.declared.fault.QFault.{QFault}
 use Rattle.qs_terms.specs.declared.fault.QFault.TheVariants.{TooManyRows}
 use Rattle.qs_solutions.specs.Solution.{Solution, projected}
-use Rattle.qs_solutions.specs.declared.answer.Answer.{Answer}
-use Rattle.qs_solutions.specs.declared.answer.Answer.TheVariants.{Solutions}
+use Rattle.qs_answer.specs.declared.answer.Answer.{Answer}
+use Rattle.qs_answer.specs.declared.answer.Answer.TheVariants.{Solutions}
 use Rattle.qs_ast.specs.declared.query.Query.{Query}
 use Rattle.qs_scope.specs.Names.{Name}
 use Rattle.qs_algebra.specs.declared.named.NamedPattern.{NamedPattern}
 use Rattle.qs_eval.specs.Lent.{lent}
-use Rattle.qs_select.specs.InOrder.{IsRowsOf, IsRows, bounded, AreFew, with_vars}
-use Rattle.qs_select.specs.Outcome.{IsSelected, IsAllSolutions, IsOfRequest, IsOutcomeOfQuery}
+use Rattle.qs_order.specs.Order.{IsOrdered}
+use Rattle.qs_order.specs.declared.condition.OrderCondition.{OrderCondition}
+use Rattle.qs_template.specs.Instances.{made}
+use Rattle.qs_select.specs.InOrder.{IsRowsOf, IsRows, IsGraphOf, bounded, AreFew, with_vars}
+use Rattle.qs_select.specs.Outcome.{IsSelected, IsBuilt, IsConstructed, IsAnswered, IsAllSolutions, IsOutcomeOfQuery}
 use Rattle.qs_select.specs.Request.{request}
-use Rattle.qs_select.specs.Sequence.{whole, limited, sliced, listed_rows, count, has_solution}
+use Rattle.qs_select.specs.Sequence.{whole, limited, sliced, listed_rows, IsInOrder, count, has_solution}
+use Rattle.qs_select.specs.declared.construction.Construction.{Construction}
 use Rattle.qs_select.specs.declared.request.Request.{Request}
-use Rattle.qs_select.specs.declared.request.Request.TheVariants.{Select}
+use Rattle.qs_select.specs.declared.request.Request.TheVariants.{Select, Construct}
 use Rattle.qs_select.specs.declared.selection.Selection.{Selection}
-use Rattle.qs_select.specs.declared.selection.Slice.{Slice}
-use Rattle.qs_select.proofs.Lengths.{counts_agree}
+use Rattle.qs_select.specs.declared.modifiers.Slice.{Slice}
+use Rattle.qs_select.proofs.Lengths.{sliced_length, counts_agree}
 
 module _ {X Y : Type 0} (f : X → Y) where
   map_limited : (limit : Option ℕ) (xs : List X) → map f (limited limit xs) ≡ limited limit (map f xs)
@@ -50,16 +55,24 @@ module _ (asked : Selection) (all : List Solution) (listed part : List (Bor Solu
   pub few : (max_rows : ℕ) (rows : List Solution) → length part ≤ max_rows → rows ≡ map (projected asked.columns) (lent part) → IsRowsOf asked max_rows all (Ok rows)
   few max_rows rows h e = inr (subst (λ (n : ℕ). n ≤ max_rows) part_count h, ap Ok (e ∙ part_rows))
 
--- rows in the order of some list of the solutions are a sequence
+-- solutions that were put in order
+pub put_in_order : (conditions : List OrderCondition) (all found solutions : List Solution) → SameBag all found × IsOrdered conditions all → SameBag found solutions → IsInOrder conditions solutions all
+put_in_order conditions all found solutions h k = (IsPermutation-trans all found solutions h.0 k, h.1)
+
+-- rows in an order of the solutions are a sequence
 module _ (asked : Selection) (solutions : List Solution) (max_rows : ℕ) where
-  of_fault_at : (f : QFault) (all : List Solution) → SameBag all solutions → IsRowsOf asked max_rows all (Err f) → IsSelected asked solutions max_rows (Err f)
-  of_fault_at f all h (inl p) = inl (subst (λ (n : ℕ). max_rows < n) (counts_agree asked all solutions h) p.0, let e : f ≡ TooManyRows = cc in ap Err e)
+  pub rows_in_order : (all : List Solution) (rows : Outcome (List Solution)) → IsInOrder asked.order solutions all → OneOrWantOfMemory (IsRowsOf asked max_rows all) rows → OneOrWantOfMemory (IsRows asked solutions max_rows) rows
+  rows_in_order all (Ok rows) h due = (all, h, due)
+  rows_in_order all (Err f) h due = λ other. (all, h, due other)
+
+  of_fault_at : (f : QFault) (all : List Solution) → IsInOrder asked.order solutions all → IsRowsOf asked max_rows all (Err f) → IsSelected asked solutions max_rows (Err f)
+  of_fault_at f all h (inl p) = inl (subst (λ (n : ℕ). max_rows < n) (counts_agree asked all solutions h.0) p.0, let e : f ≡ TooManyRows = cc in ap Err e)
   of_fault_at f all h (inr p) = absurd (let e : Err f ≡ Ok (sliced asked.slice (listed_rows asked all)) = p.1 in cc)
 
-  of_rows_at : (rows all : List Solution) → SameBag all solutions → IsRowsOf asked max_rows all (Ok rows) → IsSelected asked solutions max_rows (Ok (Solutions asked.vars rows))
+  of_rows_at : (rows all : List Solution) → IsInOrder asked.order solutions all → IsRowsOf asked max_rows all (Ok rows) → IsSelected asked solutions max_rows (Ok (Solutions asked.vars rows))
   of_rows_at rows all h (inl p) = absurd (let e : Ok rows ≡ Err TooManyRows = p.1 in cc)
   of_rows_at rows all h (inr p) =
-      inr (subst (λ (n : ℕ). n ≤ max_rows) (counts_agree asked all solutions h) p.0, rows, (all, h, let e : rows ≡ sliced asked.slice (listed_rows asked all) = cc in e), refl)
+      inr (subst (λ (n : ℕ). n ≤ max_rows) (counts_agree asked all solutions h.0) p.0, rows, (all, h, let e : rows ≡ sliced asked.slice (listed_rows asked all) = cc in e), refl)
 
   pub selected_at : (rows : Outcome (List Solution)) → OneOrWantOfMemory (IsRows asked solutions max_rows) rows → OneOrWantOfMemory (IsSelected asked solutions max_rows) (with_vars asked.vars rows)
   selected_at (Ok rows) due = of_rows_at rows due.0 due.1 due.2
@@ -67,6 +80,30 @@ module _ (asked : Selection) (solutions : List Solution) (max_rows : ℕ) where
 
   pub selected : (rows : Outcome (List Solution)) (answer : Outcome Answer) → OneOrWantOfMemory (IsRows asked solutions max_rows) rows → answer ≡ with_vars asked.vars rows → OneOrWantOfMemory (IsSelected asked solutions max_rows) answer
   selected rows answer due is = subst (λ (o : Outcome Answer). OneOrWantOfMemory (IsSelected asked solutions max_rows) o) (sym is) (selected_at rows due)
+
+-- ---- the graph of a CONSTRUCT
+
+module _ (asked : Construction) (next max_rows : ℕ) where
+  pub built : (all part : List (Bor Solution)) (quads : List Statement) (answer : Answer) → part ≡ sliced asked.slice all → length part ≤ max_rows → made asked.template next (lent part) ≡ Ok quads → IsBuilt (Ok quads) (Ok answer)
+      → IsGraphOf asked next max_rows (lent all) (Ok answer)
+  built all part quads answer is few due b =
+      let same : lent part ≡ sliced asked.slice (lent all) = ap lent is ∙ map_sliced (λ (r : Bor Solution). r.now) asked.slice all in
+      inr (
+        subst (λ (n : ℕ). n ≤ max_rows) (sym (length-map part (λ (r : Bor Solution). r.now)) ∙ ap length same) few,
+        subst (λ (o : Outcome (List Statement)). IsBuilt o (Ok answer)) (sym (ap (made asked.template next) (sym same) ∙ due)) b,
+      )
+
+  module _ (solutions all : List Solution) (in_order : IsInOrder asked.order solutions all) where
+    lengths : length (sliced asked.slice all) ≡ length (sliced asked.slice solutions)
+    lengths = sliced_length asked.slice all solutions (sym (length_permutation all solutions in_order.0))
+
+    graph_at : (answer : Outcome Answer) → IsGraphOf asked next max_rows all answer → IsConstructed asked next solutions max_rows answer
+    graph_at answer (inl p) = inl (subst (λ (n : ℕ). max_rows < n) lengths p.0, p.1)
+    graph_at answer (inr p) = inr (subst (λ (n : ℕ). n ≤ max_rows) lengths p.0, sliced asked.slice all, (all, in_order, refl), p.1)
+
+    pub constructed : (answer : Outcome Answer) → OneOrWantOfMemory (IsGraphOf asked next max_rows all) answer → OneOrWantOfMemory (IsConstructed asked next solutions max_rows) answer
+    constructed (Ok a) due = graph_at (Ok a) due
+    constructed (Err f) due = λ other. graph_at (Err f) (due other)
 
 -- ---- whether there is a solution
 
@@ -119,5 +156,11 @@ module _ (pattern : NamedPattern) (solutions : List Solution) (max_rows : ℕ) w
 -- ---- the form of the query
 
 module _ (query : Query) (d : Dataset) (graph : List Triple) (max_rows : ℕ) (answer : Outcome Answer) where
-  pub of_select : (asked : Selection) → request query ≡ Ok (Select asked) → OneOrWantOfMemory (IsSelected asked (whole asked.pattern d.quads graph) max_rows) answer → OneOrWantOfMemory (IsOutcomeOfQuery query d graph max_rows) answer
-  of_select asked is due = subst (λ (r : Outcome Request). OneOrWantOfMemory (IsOfRequest r d graph max_rows) answer) (sym is) due
+  of_request : (asked : Request) → request query ≡ asked → OneOrWantOfMemory (IsAnswered asked d graph max_rows) answer → OneOrWantOfMemory (IsOutcomeOfQuery query d graph max_rows) answer
+  of_request asked is due = subst (λ (r : Request). OneOrWantOfMemory (IsAnswered r d graph max_rows) answer) (sym is) due
+
+  pub of_select : (asked : Selection) → request query ≡ Select asked → OneOrWantOfMemory (IsSelected asked (whole asked.pattern d.quads graph) max_rows) answer → OneOrWantOfMemory (IsOutcomeOfQuery query d graph max_rows) answer
+  of_select asked is due = of_request (Select asked) is due
+
+  pub of_construct : (asked : Construction) → request query ≡ Construct asked → OneOrWantOfMemory (IsConstructed asked d.next (whole asked.pattern d.quads graph) max_rows) answer → OneOrWantOfMemory (IsOutcomeOfQuery query d graph max_rows) answer
+  of_construct asked is due = of_request (Construct asked) is due

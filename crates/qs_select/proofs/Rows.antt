@@ -8,7 +8,6 @@ use Rattle.qs_patterns.specs.declared.pattern.BasicPattern.{BasicPattern}
 use Rattle.qs_patterns.specs.declared.pattern.Slot.TheVariants as slot
 use Rattle.qs_patterns.specs.Basic.{basic}
 use Rattle.qs_select.specs.Sequence.{dataset_of, sliced, once_where, has_solution}
-use Rattle.qs_select.specs.declared.selection.Slice.{Slice}
 
 abbrev says : ℕ → ℕ → ℕ → Statement
 says s p o = record { graph = None; subject = Blank s; predicate = Blank p; object = Blank o }
@@ -16,6 +15,7 @@ says s p o = record { graph = None; subject = Blank s; predicate = Blank p; obje
 abbrev whole_triple : ℕ → BasicPattern
 whole_triple first = record {
   triples = record { subject = slot.Variable first; predicate = slot.Variable (first + 1); object = slot.Variable (first + 2) } ∷ [];
+  paths = [];
   hidden = 0;
 }
 

@@ -5,10 +5,13 @@ use Rattle.qs_terms.specs.Bag.{SameBag}
 use Rattle.qs_terms.specs.Outcome.{Outcome, and_then}
 use Rattle.qs_terms.specs.declared.fault.QFault.TheVariants.{TooManyRows}
 use Rattle.qs_solutions.specs.Solution.{Solution}
-use Rattle.qs_solutions.specs.declared.answer.Answer.{Answer}
-use Rattle.qs_solutions.specs.declared.answer.Answer.TheVariants.{Solutions}
+use Rattle.qs_answer.specs.declared.answer.Answer.{Answer}
+use Rattle.qs_answer.specs.declared.answer.Answer.TheVariants.{Solutions}
 use Rattle.qs_scope.specs.Names.{Name}
-use Rattle.qs_select.specs.Sequence.{sliced, listed_rows, count}
+use Rattle.qs_template.specs.Instances.{made}
+use Rattle.qs_select.specs.Outcome.{IsBuilt}
+use Rattle.qs_select.specs.Sequence.{sliced, listed_rows, count, IsInOrder}
+use Rattle.qs_select.specs.declared.construction.Construction.{Construction}
 use Rattle.qs_select.specs.declared.selection.Selection.{Selection}
 
 -- the rows of the sequence of the solutions in this order, unless they are more than max_rows
@@ -17,9 +20,15 @@ IsRowsOf asked max_rows all outcome =
     ((max_rows < count asked all) × (outcome ≡ Err TooManyRows))
     ⊎ ((count asked all ≤ max_rows) × (outcome ≡ Ok (sliced asked.slice (listed_rows asked all))))
 
--- the same of the solutions in some order
+-- the same of the solutions in an order that the conditions allow
 abbrev pub IsRows : Selection → List Solution → ℕ → Outcome (List Solution) → Type 0
-IsRows asked solutions max_rows outcome = (all : List Solution) × SameBag all solutions × IsRowsOf asked max_rows all outcome
+IsRows asked solutions max_rows outcome = (all : List Solution) × IsInOrder asked.order solutions all × IsRowsOf asked max_rows all outcome
+
+-- the graph that a template makes of the solutions in this order, unless they are more than max_rows, or the numbers don't suffice
+abbrev pub IsGraphOf : Construction → ℕ → ℕ → List Solution → Outcome Answer → Type 0
+IsGraphOf asked next max_rows all outcome =
+    ((max_rows < length (sliced asked.slice all)) × (outcome ≡ Err TooManyRows))
+    ⊎ ((length (sliced asked.slice all) ≤ max_rows) × IsBuilt (made asked.template next (sliced asked.slice all)) outcome)
 
 -- the rows with their variables
 abbrev pub with_vars : List Name → Outcome (List Solution) → Outcome Answer

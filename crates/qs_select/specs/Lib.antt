@@ -1,5 +1,7 @@
+pub mod Modifiers
 pub mod Selection
+pub mod Construction
 pub mod Request
 pub mod Sequence
-pub mod InOrder
 pub mod Outcome
+pub mod InOrder

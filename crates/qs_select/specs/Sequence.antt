@@ -1,14 +1,17 @@
--- The sequence of a query's solutions (SPARQL 1.1 Query, 15, 18.2.4 and 18.2.5): its pattern's solutions in some order, and what the
--- modifiers make of them, one after another: projection, DISTINCT or REDUCED, OFFSET and LIMIT.
+-- The sequence of a query's solutions (SPARQL 1.1 Query, 15, 18.2.4 and 18.2.5): its pattern's solutions in an order that the
+-- conditions of ORDER BY allow, and what the other modifiers make of them, one after another: projection, DISTINCT or REDUCED, OFFSET
+-- and LIMIT.
 use Rattle.std.specs.Prelude.{◌≡◌, ℕ, Bool, true, false, List, [], ◌∷◌, map, take, drop, length, Option, Some, None}
 use Rattle.qs_terms.specs.Bag.{SameBag, once}
 use Rattle.qs_terms.specs.Dataset.{Dataset, Triple}
 use Rattle.qs_terms.specs.Statement.{Statement, same_statement}
 use Rattle.qs_solutions.specs.Solution.{Solution, projected, same_solution}
 use Rattle.qs_patterns.specs.Eval.{eval}
+use Rattle.qs_order.specs.Order.{IsOrdered}
+use Rattle.qs_order.specs.declared.condition.OrderCondition.{OrderCondition}
 use Rattle.qs_algebra.specs.declared.named.NamedPattern.{NamedPattern}
 use Rattle.qs_select.specs.declared.selection.Selection.{Selection}
-use Rattle.qs_select.specs.declared.selection.Slice.{Slice}
+use Rattle.qs_select.specs.declared.modifiers.Slice.{Slice}
 
 -- the dataset of some quads, of which each counts once, with the next blank node's number
 abbrev pub dataset_of : List Statement → ℕ → Dataset
@@ -35,9 +38,18 @@ once_where false rows = rows
 abbrev pub listed_rows : Selection → List Solution → List Solution
 listed_rows selection solutions = once_where selection.is_distinct (map (projected selection.columns) solutions)
 
--- the rows are the sequence of the solutions in some order
+-- the same solutions, none before one that the conditions put lower (ToList and OrderBy)
+abbrev pub IsInOrder : List OrderCondition → List Solution → List Solution → Type 0
+IsInOrder conditions solutions all = SameBag all solutions × IsOrdered conditions all
+
+-- the rows are a sequence of the solutions
 abbrev pub IsSequence : Selection → List Solution → List Solution → Type 0
-IsSequence selection solutions rows = (all : List Solution) × SameBag all solutions × (rows ≡ sliced selection.slice (listed_rows selection all))
+IsSequence selection solutions rows =
+    (all : List Solution) × IsInOrder selection.order solutions all × (rows ≡ sliced selection.slice (listed_rows selection all))
+
+-- the same where nothing is projected, as for a CONSTRUCT (16.2)
+abbrev pub IsPart : List OrderCondition → Slice → List Solution → List Solution → Type 0
+IsPart conditions slice solutions part = (all : List Solution) × IsInOrder conditions solutions all × (part ≡ sliced slice all)
 
 -- the length that all sequences of the solutions have
 abbrev pub count : Selection → List Solution → ℕ

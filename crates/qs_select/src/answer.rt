@@ -1,22 +1,27 @@
 //! Queries over quads.
 
-ghost use Rattle.std.specs.Prelude.{◌≡◌, IfOk};
+ghost use Rattle.std.specs.Prelude.{◌≡◌, IfOk, Ok};
 ghost use Rattle.std.specs.Option.{option_copied};
+ghost use Rattle.qs_eval.specs.Lent.{lent};
 ghost use Rattle.qs_terms.specs.Bag.{SameBag, once};
 ghost use Rattle.qs_terms.specs.Dataset.{graph_of};
 ghost use Rattle.qs_terms.specs.Outcome.{OneOrWantOfMemory};
 ghost use Rattle.qs_terms.specs.Statement.{same_statement};
 ghost use Rattle.qs_select.specs.InOrder as in_order;
-ghost use Rattle.qs_select.specs.Outcome.{IsSelected, IsAsked, IsAllSolutions, IsOutcomeOfQuery};
+ghost use Rattle.qs_select.specs.Outcome.{IsSelected, IsBuilt, IsConstructed, IsAsked, IsAllSolutions, IsOutcomeOfQuery};
 ghost use Rattle.qs_select.specs.Sequence.{dataset_of, whole};
 
+use crate::construction::Construction;
 use crate::request::{Request, request_of};
 use crate::selection::Selection;
 use crate::sequence::{listed_rows, projected, sliced};
 use qs_algebra::NamedPattern;
+use qs_answer::Answer;
 use qs_ast::query::Query;
 use qs_eval::{Quads, solutions};
-use qs_solutions::{Answer, Row};
+use qs_order::ordered;
+use qs_solutions::Row;
+use qs_template::{each_once, instances};
 use qs_terms::{QFault, Quad, Term, Text};
 use sqlite_items::Items;
 use std::alloc::{AllocError, Global};
@@ -36,10 +41,10 @@ fn all_solutions(
 fn rows_of(
     alloc: Global,
     asked: &Selection,
-    all: &[Row],
+    all: Vec<&Row>,
     max_rows: u64,
 ) -> Result<Items<Row>, QFault>
-    ensures { OneOrWantOfMemory (in_order.IsRowsOf asked.now max_rows all.now) result }
+    ensures { OneOrWantOfMemory (in_order.IsRowsOf asked.now max_rows (lent all.entry.items)) result }
 {
     let listed = listed_rows(alloc, asked, all)?;
     let part = sliced(listed.as_slice(), asked.slice);
@@ -60,7 +65,8 @@ fn sequence(
     ensures { OneOrWantOfMemory (in_order.IsRows asked.now (whole asked.now.pattern quads.now (graph_of quads.now (option_copied active.entry))) max_rows) result }
 {
     let all = all_solutions(alloc, &asked.pattern, quads, active)?;
-    rows_of(alloc, asked, all.as_slice(), max_rows)
+    let all = ordered(alloc, asked.order.as_slice(), all.as_slice())?;
+    rows_of(alloc, asked, all, max_rows)
 }
 
 // the rows with the names of the variables
@@ -86,6 +92,45 @@ fn selected(
     with_vars(asked.vars, rows)
 }
 
+fn graph(quads: Vec<Quad>) -> Answer
+    ensures { IsBuilt (Ok quads.items) (Ok result) }
+{
+    Answer::Graph(Items::from_vec(each_once(quads)))
+}
+
+// the graph that the template makes of the solutions in this order
+fn graph_of_rows(
+    alloc: Global,
+    asked: &Construction,
+    next_blank: u64,
+    all: &[&Row],
+    max_rows: u64,
+) -> Result<Answer, QFault>
+    ensures { OneOrWantOfMemory (in_order.IsGraphOf asked.now next_blank max_rows (lent all.now)) result }
+{
+    let part = sliced(all, asked.slice);
+    if part.len() as u64 > max_rows {
+        return Err(QFault::TooManyRows);
+    }
+    let quads = instances(alloc, &asked.template, part, next_blank)?;
+    Ok(graph(quads))
+}
+
+fn constructed(
+    alloc: Global,
+    asked: &Construction,
+    quads: &Quads<'_>,
+    next_blank: u64,
+    active: Option<&Term>,
+    max_rows: u64,
+) -> Result<Answer, QFault>
+    ensures { OneOrWantOfMemory (IsConstructed asked.now next_blank (whole asked.now.pattern quads.now (graph_of quads.now (option_copied active.entry))) max_rows) result }
+{
+    let all = all_solutions(alloc, &asked.pattern, quads, active)?;
+    let all = ordered(alloc, asked.order.as_slice(), all.as_slice())?;
+    graph_of_rows(alloc, asked, next_blank, all.as_slice(), max_rows)
+}
+
 fn truth(
     alloc: Global,
     pattern: &NamedPattern,
@@ -102,8 +147,8 @@ fn truth(
 /// of the name is active, or the default graph where none is given (SPARQL 1.1 Query, 16).
 ///
 /// # Errors
-/// `QFault::Later` where the query has a form that has no meaning yet; `QFault::TooManyRows` where the sequence of a SELECT has more
-/// than `max_rows` solutions, behind OFFSET and LIMIT; `QFault::Memory` for want of memory.
+/// `QFault::TooManyRows` where the sequence of a SELECT or a CONSTRUCT has more than `max_rows` solutions, behind OFFSET and LIMIT;
+/// `QFault::Full` where there are no numbers for the fresh blank nodes of a CONSTRUCT; `QFault::Memory` for want of memory.
 pub fn answer_query(
     alloc: Global,
     query: &Query,
@@ -114,10 +159,12 @@ pub fn answer_query(
 ) -> Result<Answer, QFault>
     ensures { let d = dataset_of quads.now next_blank in OneOrWantOfMemory (IsOutcomeOfQuery query.now d (graph_of d.quads (option_copied active.entry)) max_rows) result }
 {
-    let _ = next_blank;
     let quads = Quads::new(alloc, quads)?;
     match request_of(alloc, query)? {
         Request::Select(asked) => selected(alloc, asked, &quads, active, max_rows),
+        Request::Construct(asked) => {
+            constructed(alloc, &asked, &quads, next_blank, active, max_rows)
+        }
         Request::Ask(pattern) => truth(alloc, &pattern, &quads, active),
     }
 }

@@ -29,14 +29,14 @@ fn cells<'a>(
 /// The rows but those of which one before them has the same terms at these variables. It takes time by their count and its logarithm.
 pub fn firsts<'a>(
     alloc: Global,
-    rows: &'a [Row],
+    rows: &[&'a Row],
     columns: &[usize],
 ) -> Result<Vec<&'a Row>, AllocError>
-    ensures { IfOk result (λ firsts. map (projected columns.now) (lent firsts.items) ≡ once same_solution (map (projected columns.now) rows.now)) }
+    ensures { IfOk result (λ firsts. map (projected columns.now) (lent firsts.items) ≡ once same_solution (map (projected columns.now) (lent rows.now))) }
 {
     let mut known = BTreeSet::new(alloc);
     let mut firsts = Vec::new(alloc);
-    for row in rows {
+    for &row in rows {
         let cells = cells(alloc, row, columns)?;
         if known.insert(cells)? {
             firsts.push(row)?;

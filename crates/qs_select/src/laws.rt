@@ -6,7 +6,8 @@ ghost use Rattle.qs_terms.specs.Bag.{SameBag};
 ghost use Rattle.qs_terms.specs.Dataset.{is_above_blanks, IsDataset};
 ghost use Rattle.qs_terms.specs.Statement.{Statement};
 ghost use Rattle.qs_solutions.specs.Solution.{Solution};
-ghost use Rattle.qs_select.specs.Sequence.{dataset_of, IsSequence, count};
+ghost use Rattle.qs_select.specs.Sequence.{dataset_of, sliced, IsSequence, count};
+ghost use Rattle.qs_select.specs.declared.construction.Construction.{Construction};
 ghost use Rattle.qs_select.specs.declared.selection.Selection.{Selection};
 
 /// Quads are a dataset with each number that is above those of their blank nodes.
@@ -18,5 +19,6 @@ pub fn quads_are_a_dataset()
 /// depend on it.
 pub fn sequences_have_one_length()
     ensures order { (asked : Selection) (a b : List Solution) → SameBag a b → count asked a ≡ count asked b }
+    ensures part { (asked : Construction) (a b : List Solution) → SameBag a b → length (sliced asked.slice a) ≡ length (sliced asked.slice b) }
     ensures length { (asked : Selection) (solutions rows : List Solution) → IsSequence asked solutions rows → length rows ≡ count asked solutions }
 {}

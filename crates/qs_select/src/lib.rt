@@ -1,11 +1,14 @@
-//! SELECT and ASK over quads (SPARQL 1.1 Query, 15, 16 and 18).
+//! SELECT, CONSTRUCT and ASK over quads (SPARQL 1.1 Query, 15, 16 and 18).
 //!
-//! `request` has what a query asks for by its form, `selection` what a SELECT does, and `sequence` what becomes of its solutions.
+//! `request` has what a query asks for by its form, `selection` and `construction` what a SELECT and a CONSTRUCT do, and
+//! `sequence` what becomes of the solutions.
 #![tactic(auto)]
 
 mod answer;
+mod construction;
 mod distinct;
 pub mod laws;
+mod modifiers;
 mod request;
 mod selection;
 mod sequence;

@@ -6,25 +6,19 @@ ghost use Rattle.qs_scope.specs.Firsts.{names_of};
 ghost use Rattle.qs_scope.specs.KeepsScope.{trailing_names};
 ghost use Rattle.qs_scope.specs.Names.{contains};
 ghost use Rattle.qs_scope.specs.Places.{place_of};
-ghost use Rattle.qs_terms.specs.Outcome.{OrWantOfMemory, all};
 ghost use Rattle.qs_select.specs.Selection as spec;
 
+use crate::modifiers::{Slice, order_of, slice_of};
 use qs_algebra::{NamedPattern, translate};
 use qs_ast::pattern::{Group, InlineData};
-use qs_ast::query::{Projection, Query, Select, SelectItem, SolutionModifiers};
+use qs_ast::query::{Projection, Query, Select, SelectItem};
 use qs_ast::term::Variable;
+use qs_order::OrderCondition;
 use qs_scope::{Seen, first_variables, in_scope, numbered};
-use qs_terms::{QFault, Text};
+use qs_terms::Text;
 use qs_tree::query::Duplicates;
 use sqlite_items::Items;
 use std::alloc::{AllocError, Global};
-
-/// Which part of a list: so many are left out at its front, and so many are left of the rest.
-#[derive(Clone, Copy)]
-pub struct Slice {
-    pub offset: u64,
-    pub limit: Option<u64>,
-}
 
 /// What a SELECT asks for.
 #[derive(Drop)]
@@ -34,6 +28,8 @@ pub struct Selection {
     /// The numbers of these variables.
     pub columns: Items<usize>,
     pub pattern: NamedPattern,
+    /// The conditions of ORDER BY.
+    pub order: Items<OrderCondition>,
     /// Whether duplicates are eliminated.
     pub is_distinct: bool,
     pub slice: Slice,
@@ -89,20 +85,20 @@ fn all_listed<'a>(
     those_among(alloc, &scope, variables)
 }
 
-fn item_variable(alloc: Global, item: &SelectItem) -> Result<Variable, QFault>
-    ensures { OrWantOfMemory (spec.item_variable item.now) result }
+// the variable that an item lists
+fn item_variable(alloc: Global, item: &SelectItem) -> Result<Variable, AllocError>
+    ensures { IfOk result (λ v. v ≡ spec.item_variable item.now) }
 {
-    match item {
-        SelectItem::Variable(variable) => {
-            let name = variable.name.try_clone(alloc)?;
-            Ok(Variable { name })
-        }
-        SelectItem::As(_, _) => Err(QFault::Later),
-    }
+    let variable = match item {
+        SelectItem::Variable(variable) => variable,
+        SelectItem::As(_, variable) => variable,
+    };
+    let name = variable.name.try_clone(alloc)?;
+    Ok(Variable { name })
 }
 
-fn item_variables(alloc: Global, items: &[SelectItem]) -> Result<Items<Variable>, QFault>
-    ensures { OrWantOfMemory (all (map spec.item_variable items.now)) result }
+fn item_variables(alloc: Global, items: &[SelectItem]) -> Result<Items<Variable>, AllocError>
+    ensures { IfOk result (λ variables. variables ≡ map spec.item_variable items.now) }
 {
     let mut variables = Items::new(alloc);
     for item in items {
@@ -124,13 +120,12 @@ fn names(alloc: Global, variables: &[Variable]) -> Result<Items<Text>, AllocErro
     Ok(names)
 }
 
-fn items_listed(alloc: Global, items: &[SelectItem]) -> Result<Items<Text>, QFault>
-    ensures { OrWantOfMemory (spec.items_listed items.now) result }
+fn items_listed(alloc: Global, items: &[SelectItem]) -> Result<Items<Text>, AllocError>
+    ensures { IfOk result (λ vars. vars ≡ spec.items_listed items.now) }
 {
     let variables = item_variables(alloc, items)?;
     let variables = first_variables(alloc, variables.as_slice())?;
-    let vars = names(alloc, variables.as_slice())?;
-    Ok(vars)
+    names(alloc, variables.as_slice())
 }
 
 fn listed<'a>(
@@ -139,14 +134,11 @@ fn listed<'a>(
     group: &'a Group,
     values: &'a Option<InlineData>,
     projection: &Projection,
-) -> Result<Items<Text>, QFault>
-    ensures { OrWantOfMemory (spec.listed (names_of variables.now) group.now values.now projection.now) result }
+) -> Result<Items<Text>, AllocError>
+    ensures { IfOk result (λ vars. vars ≡ spec.listed (names_of variables.now) group.now values.now projection.now) }
 {
     match projection {
-        Projection::All => {
-            let vars = all_listed(alloc, variables, group, values)?;
-            Ok(vars)
-        }
+        Projection::All => all_listed(alloc, variables, group, values),
         Projection::Items(items) => items_listed(alloc, items.as_slice()),
     }
 }
@@ -187,27 +179,9 @@ fn is_distinct(duplicates: Duplicates) -> bool
     }
 }
 
-fn slice_of(modifiers: &SolutionModifiers) -> Slice
-    ensures { result ≡ spec.slice_of modifiers.now }
-{
-    let offset = match modifiers.offset {
-        None => 0,
-        Some(offset) => offset,
-    };
-    Slice {
-        offset,
-        limit: modifiers.limit,
-    }
-}
-
-fn is_unordered(select: &Select) -> bool
-    ensures { result ≡ spec.is_unordered select.now.modifiers.order }
-{
-    select.modifiers.order.is_empty()
-}
-
-fn meant_selection(alloc: Global, query: &Query, select: &Select) -> Result<Selection, QFault>
-    ensures { OrWantOfMemory (spec.meant_selection query.now select.now) result }
+/// What the SELECT of the query asks for.
+pub fn selection_of(alloc: Global, query: &Query, select: &Select) -> Result<Selection, AllocError>
+    ensures { IfOk result (λ s. s ≡ spec.selection query.now select.now) }
 {
     let variables = query.variables.as_slice();
     let vars = listed(
@@ -218,22 +192,14 @@ fn meant_selection(alloc: Global, query: &Query, select: &Select) -> Result<Sele
         &select.projection,
     )?;
     let columns = columns(alloc, variables, vars.as_slice())?;
+    let order = order_of(alloc, variables, &select.modifiers)?;
     let pattern = translate(alloc, query)?;
     Ok(Selection {
         vars,
         columns,
         pattern,
+        order,
         is_distinct: is_distinct(select.duplicates),
         slice: slice_of(&select.modifiers),
     })
-}
-
-/// What the SELECT of the query asks for, or Later where it has no meaning yet.
-pub fn selection_of(alloc: Global, query: &Query, select: &Select) -> Result<Selection, QFault>
-    ensures { OrWantOfMemory (spec.selection query.now select.now) result }
-{
-    if !is_unordered(select) {
-        return Err(QFault::Later);
-    }
-    meant_selection(alloc, query, select)
 }

@@ -1,4 +1,5 @@
-//! The sequence of a SELECT: its solutions projected, without duplicates where that is asked for, and sliced (SPARQL 1.1 Query, 18.2.5).
+//! The sequence of a SELECT: its solutions in order, projected, without duplicates where that is asked for, and sliced (SPARQL 1.1
+//! Query, 18.2.5).
 
 ghost use Rattle.std.specs.Prelude.{◌≡◌, length, map, take, drop, min, IfOk};
 ghost use Rattle.qs_solutions.specs.Solution.{projected};
@@ -6,32 +7,23 @@ ghost use Rattle.qs_eval.specs.Lent.{lent};
 ghost use Rattle.qs_select.specs.Sequence as spec;
 
 use crate::distinct::firsts;
-use crate::selection::{Selection, Slice};
+use crate::modifiers::Slice;
+use crate::selection::Selection;
 use qs_solutions::Row;
 use std::alloc::{AllocError, Global};
 
-fn lent_rows<'a>(alloc: Global, rows: &'a [Row]) -> Result<Vec<&'a Row>, AllocError>
-    ensures { IfOk result (λ all. lent all.items ≡ rows.now) }
-{
-    let mut all = Vec::new(alloc);
-    for row in rows {
-        all.push(row)?;
-    }
-    Ok(all)
-}
-
-/// The rows that are listed: all, or without duplicates the first ones. They aren't projected yet.
+/// The rows that are listed of those in order: all, or without duplicates the first ones. They aren't projected yet.
 pub fn listed_rows<'a>(
     alloc: Global,
     asked: &Selection,
-    all: &'a [Row],
+    all: Vec<&'a Row>,
 ) -> Result<Vec<&'a Row>, AllocError>
-    ensures { IfOk result (λ rows. map (projected asked.now.columns) (lent rows.items) ≡ spec.listed_rows asked.now all.now) }
+    ensures { IfOk result (λ rows. map (projected asked.now.columns) (lent rows.items) ≡ spec.listed_rows asked.now (lent all.entry.items)) }
 {
     if asked.is_distinct {
-        return firsts(alloc, all, asked.columns.as_slice());
+        return firsts(alloc, all.as_slice(), asked.columns.as_slice());
     }
-    lent_rows(alloc, all)
+    Ok(all)
 }
 
 fn limited<'r, 'a>(rows: &'r [&'a Row], limit: Option<u64>) -> &'r [&'a Row]

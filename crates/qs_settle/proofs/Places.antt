@@ -20,4 +20,3 @@ placed due (Err fault.NoGraph) large g = λ n. ap (λ o. by_place o large) (g (�
 placed due (Err fault.GraphExists) large g = λ n. ap (λ o. by_place o large) (g (λ e. absurd cc))
 placed due (Err fault.TooManyRows) large g = λ n. ap (λ o. by_place o large) (g (λ e. absurd cc))
 placed due (Err fault.Full) large g = λ n. ap (λ o. by_place o large) (g (λ e. absurd cc))
-placed due (Err fault.Later) large g = λ n. ap (λ o. by_place o large) (g (λ e. absurd cc))

@@ -1,10 +1,8 @@
-//! Solutions of patterns, and the answers of queries.
+//! Solutions of patterns.
 #![tactic(auto)]
 
-mod answer;
 mod operators;
 mod solution;
 
-pub use answer::Answer;
 pub use operators::{joined, without};
 pub use solution::Row;

@@ -80,9 +80,6 @@ pub enum QFault {
     /// A limit on terms or blank node numbers would be passed.
     #[error("F10 full")]
     Full,
-    /// A form of the grammar that has no meaning here yet.
-    #[error("F11 later")]
-    Later,
 }
 
 impl From<AllocError> for QFault {

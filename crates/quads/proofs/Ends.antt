@@ -5,7 +5,7 @@ use Rattle.qs_terms.specs.Outcome.{Outcome, OneOrWantOfMemory}
 use Rattle.qs_terms.specs.Statement.{Statement}
 use Rattle.qs_terms.specs.declared.fault.QFault.{QFault}
 use Rattle.qs_nquads.specs.Nquads.{IsNquads}
-use Rattle.qs_solutions.specs.declared.answer.Answer.{Answer}
+use Rattle.qs_answer.specs.declared.answer.Answer.{Answer}
 use Rattle.qs_select.specs.Sequence.{dataset_of}
 use Rattle.qs_query.specs.Outcome.{IsOutcomeOfText}
 use Rattle.quads.specs.Due.{max_rows, IsTextOf, IsTextOutcome, IsOverData}

@@ -1,5 +1,5 @@
--- What is due of a job: the bytes that are printed, and the exit status. A query is answered, or refused by the first fault, of the
--- data before the text.
+-- What is due of a job: the bytes that are printed, and the exit status. The data of a check are printed again as N-Quads, or refused; a
+-- query is answered, or refused by the first fault, of the data before the text.
 use Rattle.std.specs.Prelude.{◌≡◌, ◌⊎◌, ◌∷◌, ◌++◌, [], ℕ, List, Ok, Err}
 use Rattle.std.specs.Str.{IsUtf8, IsValidUpTo}
 use Rattle.serde_json.specs.Written.{compact_text}
@@ -9,13 +9,16 @@ use Rattle.qs_terms.specs.Statement.{Statement}
 use Rattle.qs_terms.specs.declared.fault.QFault.TheVariants as fault
 use Rattle.qs_nquads.specs.Nquads.{IsNquads, IsFault}
 use Rattle.qs_nquads.specs.declared.fault.NqFault.{NqFault}
-use Rattle.qs_solutions.specs.declared.answer.Answer.{Answer}
+use Rattle.qs_answer.specs.declared.answer.Answer.{Answer}
+use Rattle.qs_answer.specs.declared.answer.Answer.TheVariants.{Solutions, Truth, Graph}
+use Rattle.qs_nquads.specs.Written.{nquads_of}
 use Rattle.qs_select.specs.Sequence.{dataset_of}
 use Rattle.qs_query.specs.Outcome.{IsOutcomeOfText}
 use Rattle.qs_results.specs.Json.{json_of}
 use Rattle.qs_results.specs.Lines.{fault_line, data_fault_line}
+use Rattle.qs_results.specs.Triples.{ntriples_of}
 use Rattle.quads.specs.declared.job.Job.{Job}
-use Rattle.quads.specs.declared.job.Job.TheVariants.{Query}
+use Rattle.quads.specs.declared.job.Job.TheVariants.{Check, Query}
 
 -- the most solutions of a query
 abbrev pub max_rows : ℕ
@@ -47,9 +50,15 @@ IsOverData file text outcome =
 abbrev pub line : List ℕ → List ℕ
 line text = text ++ 10 ∷ []
 
--- an answer as JSON, or the line of the fault
+-- an answer: as a line of JSON, or a graph as N-Triples
+abbrev pub answer_text : Answer → List ℕ
+answer_text (Solutions vars rows) = line (compact_text (json_of (Solutions vars rows)))
+answer_text (Truth b) = line (compact_text (json_of (Truth b)))
+answer_text (Graph quads) = ntriples_of (Graph quads)
+
+-- an answer, or the line of the fault
 abbrev pub outcome_line : Outcome Answer → List ℕ
-outcome_line (Ok answer) = line (compact_text (json_of answer))
+outcome_line (Ok answer) = answer_text answer
 outcome_line (Err f) = line (fault_line f)
 
 abbrev pub outcome_status : Outcome Answer → ℕ
@@ -65,10 +74,21 @@ IsDueOfText file text bytes status =
 abbrev pub IsDueOfData : List ℕ → List ℕ → ℕ → Type 0
 IsDueOfData file bytes status = (f : NqFault) × IsFault file 0 f.kind f.line × (bytes ≡ line (data_fault_line f)) × (status ≡ 1)
 
+-- the data are a dataset, and this is its text
+abbrev pub IsDueOfDataset : List ℕ → List ℕ → ℕ → Type 0
+IsDueOfDataset file bytes status =
+    (quads : List Statement) × (next : ℕ) × IsNquads file 0 quads next × IsDataset (dataset_of quads next) × (bytes ≡ nquads_of quads) × (status ≡ 0)
+
+-- memory was wanting, and this is the line of that fault
+abbrev pub IsDueOfMemory : List ℕ → ℕ → Type 0
+IsDueOfMemory bytes status = (bytes ≡ line (fault_line fault.Memory)) × (status ≡ 1)
+
 -- these bytes, whole, and this status are due of the job
 abbrev pub IsDue : Job → List ℕ → ℕ → Type 0
+IsDue (Check file) bytes status = IsDueOfDataset file.items bytes status ⊎ (IsDueOfMemory bytes status ⊎ IsDueOfData file.items bytes status)
 IsDue (Query file text) bytes status = IsDueOfText file.items text.items bytes status ⊎ IsDueOfData file.items bytes status
 
--- the job may have begun to print these bytes: of a query those that are due
+-- the job may have begun to print these bytes: those that are due
 abbrev pub IsBegun : Job → List ℕ → Type 0
+IsBegun (Check file) bytes = (status : ℕ) × IsDue (Check file) bytes status
 IsBegun (Query file text) bytes = (status : ℕ) × IsDue (Query file text) bytes status

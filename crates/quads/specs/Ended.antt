@@ -1,30 +1,43 @@
--- How a job ends before anything is printed.
+-- How a job ends before anything is printed. A query ends with no dataset, and a check with nothing but a dataset or the fault of the data.
 -- (Inner: it serves proofs, and no promise of the product is read by it.)
 use Rattle.std.specs.Prelude.{ℕ, List, Ok, Err}
+use Rattle.qs_select.specs.Sequence.{dataset_of}
+use Rattle.qs_terms.specs.Dataset.{IsDataset}
 use Rattle.qs_terms.specs.Outcome.{OneOrWantOfMemory}
-use Rattle.qs_nquads.specs.Nquads.{IsFault}
+use Rattle.qs_nquads.specs.Nquads.{IsNquads, IsFault}
+use Rattle.qs_nquads.specs.Written.{nquads_of}
 use Rattle.qs_results.specs.Lines.{data_fault_line}
 use Rattle.quads.specs.Due.{IsOverData, line, outcome_line}
 use Rattle.quads.specs.declared.ended.Ended.{Ended}
-use Rattle.quads.specs.declared.ended.Ended.TheVariants.{Answered, DataRefused, Refused}
+use Rattle.quads.specs.declared.ended.Ended.TheVariants.{Answered, Checked, DataRefused, Refused}
 use Rattle.quads.specs.declared.job.Job.{Job}
-use Rattle.quads.specs.declared.job.Job.TheVariants.{Query}
+use Rattle.quads.specs.declared.job.Job.TheVariants.{Check, Query}
 
 abbrev pub IsQueryEnd : List ℕ → List ℕ → Ended → Type 0
 IsQueryEnd file text (Answered answer) = IsOverData file text (Ok answer)
+IsQueryEnd file text (Checked quads) = ⊥
 IsQueryEnd file text (DataRefused f) = IsFault file 0 f.kind f.line
 IsQueryEnd file text (Refused f) = OneOrWantOfMemory (IsOverData file text) (Err f)
 
+abbrev pub IsCheckEnd : List ℕ → Ended → Type 0
+IsCheckEnd file (Answered answer) = ⊥
+IsCheckEnd file (Checked quads) = (next : ℕ) × IsNquads file 0 quads.items next × IsDataset (dataset_of quads.items next)
+IsCheckEnd file (DataRefused f) = IsFault file 0 f.kind f.line
+IsCheckEnd file (Refused f) = ⊥
+
 abbrev pub IsEnd : Job → Ended → Type 0
+IsEnd (Check file) end = IsCheckEnd file.items end
 IsEnd (Query file text) end = IsQueryEnd file.items text.items end
 
--- the line of the end
+-- what is printed of the end
 abbrev pub printed : Ended → List ℕ
 printed (Answered answer) = outcome_line (Ok answer)
+printed (Checked quads) = nquads_of quads.items
 printed (DataRefused f) = line (data_fault_line f)
 printed (Refused f) = outcome_line (Err f)
 
 abbrev pub status : Ended → ℕ
 status (Answered answer) = 0
+status (Checked quads) = 0
 status (DataRefused f) = 1
 status (Refused f) = 1

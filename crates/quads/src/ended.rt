@@ -4,14 +4,14 @@ ghost use Rattle.std.specs.Prelude.{Ok, Err, MatchResult};
 ghost use Rattle.qs_terms.specs.Outcome.{OneOrWantOfMemory};
 ghost use Rattle.qs_select.specs.Sequence.{dataset_of};
 ghost use Rattle.quads.specs.Due.{IsTextOf, IsTextOutcome};
-ghost use Rattle.quads.specs.Ended.{IsQueryEnd, IsEnd};
+ghost use Rattle.quads.specs.Ended.{IsQueryEnd, IsCheckEnd, IsEnd};
 
 use crate::job::Job;
+use qs_answer::Answer;
 use qs_nquads::laws::next_number_is_fresh;
 use qs_nquads::{NqFault, read};
 use qs_query::answer;
 use qs_select::laws::quads_are_a_dataset;
-use qs_solutions::Answer;
 use qs_terms::{QFault, Quad};
 use std::alloc::Global;
 
@@ -23,6 +23,8 @@ const MAX_ROWS: u64 = 1_000_000;
 pub enum Ended {
     /// The query has this answer.
     Answered(Answer),
+    /// The data are these quads.
+    Checked(Vec<Quad>),
     /// The data are no N-Quads.
     DataRefused(NqFault),
     /// The text is refused, or memory is wanting.
@@ -68,11 +70,23 @@ fn query_ended(alloc: Global, file: &[u8], text: &[u8]) -> Ended
     }
 }
 
+fn check_ended(alloc: Global, file: &[u8]) -> Ended
+    ensures { IsCheckEnd file.now result }
+{
+    next_number_is_fresh();
+    quads_are_a_dataset();
+    match read(alloc, file, 0) {
+        Ok((quads, _)) => Ended::Checked(quads),
+        Err(fault) => Ended::DataRefused(fault),
+    }
+}
+
 /// What the job comes to.
 pub fn end_of(alloc: Global, job: &Job) -> Ended
     ensures { IsEnd job.now result }
 {
     match job {
+        Job::Check { data } => check_ended(alloc, data.as_slice()),
         Job::Query { data, text } => query_ended(alloc, data.as_slice(), text.as_slice()),
     }
 }

@@ -3,6 +3,8 @@
 /// A job, with the bytes of its files.
 #[derive(Drop)]
 pub enum Job {
+    /// The N-Quads of `data`, written again.
+    Check { data: Vec<u8> },
     /// The query of `text` over the N-Quads of `data`.
     Query { data: Vec<u8>, text: Vec<u8> },
 }

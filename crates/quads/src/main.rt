@@ -1,4 +1,4 @@
-//! The program: answers the query of a file over the quads of another.
+//! The program: checks the quads of a file, and answers the query of a file over the quads of another.
 //!
 //! What a job's bytes come to is proved of `run`. Here the command line is read, the files, and nothing else.
 #![tactic(auto)]
@@ -26,15 +26,27 @@ fn query_command<'a>(alloc: Global) -> Result<Command<'a>, AllocError> {
         .required(true)
         .help("the text of the query");
     Command::new(alloc, "query")
-        .about("Prints the answer of a query over the data of a file, as JSON")
+        .about(
+            "Prints the answer of a query over the data of a file: as JSON, or for CONSTRUCT as N-Triples",
+        )
         .arg(file)?
         .arg(query)
+}
+
+fn check_command<'a>(alloc: Global) -> Result<Command<'a>, AllocError> {
+    let file = Arg::new(alloc, "FILE")
+        .required(true)
+        .help("the data, as N-Quads");
+    Command::new(alloc, "check")
+        .about("Prints the data of a file as N-Quads, each quad once, in the order of the lines")
+        .arg(file)
 }
 
 fn command<'a>(alloc: Global) -> Result<Command<'a>, AllocError> {
     Command::new(alloc, "quads")
         .about("An RDF quad store with SPARQL")
         .subcommand_required(true)
+        .subcommand(check_command(alloc)?)?
         .subcommand(query_command(alloc)?)
 }
 
@@ -60,6 +72,16 @@ fn refuse_file<S: Sink>(out: &mut S, name: &str, error: &io::Error) -> u8 {
         }
     }
     1
+}
+
+/// `check FILE`: its exit status.
+fn check<S: Sink>(rt: &HostRuntime, out: &mut S, matches: &ArgMatches<'_>) -> u8 {
+    let file = matches.get_str("FILE").unwrap_or("");
+    let data = match fs::read(rt, file) {
+        Ok(data) => data,
+        Err(error) => return refuse_file(out, file, &error),
+    };
+    run(rt.alloc(), &Job::Check { data }, out).status
 }
 
 /// `query FILE QUERYFILE`: its exit status.
@@ -88,6 +110,7 @@ fn obey<S: Sink>(rt: &HostRuntime, out: &mut S, words: &[String]) -> u8 {
         }
     };
     match matches.subcommand() {
+        Some(("check", matches)) => check(rt, out, matches),
         Some(("query", matches)) => query(rt, out, matches),
         _ => 2,
     }

@@ -24,7 +24,7 @@ fn put<S: Sink>(out: &mut S, bytes: &[u8], status: u8) -> Ran
     }
 }
 
-// Puts the line, or the one of want of memory where it can't be made.
+// Puts what is printed, or the line of want of memory where it can't be made.
 fn put_line<S: Sink>(alloc: Global, end: &Ended, out: &mut S) -> Ran
     ensures { Prints (ended.printed end.now) (ended.status end.now) (S.taken out.old) (S.taken out.new) (S.faults out.old) (S.faults out.new) result
         ⊎ Prints (line (fault_line Memory)) 1 (S.taken out.old) (S.taken out.new) (S.faults out.old) (S.faults out.new) result }
@@ -35,8 +35,9 @@ fn put_line<S: Sink>(alloc: Global, end: &Ended, out: &mut S) -> Ran
     }
 }
 
-/// Does the job and prints what it comes to: the answer as JSON, or the line of the fault that is due, and LF. The status is 0 where a
-/// query is answered, and 1 where it is refused, where memory is wanting, or where the sink fails; nothing is put behind a failure.
+/// Does the job and prints what it comes to: the data as N-Quads, the answer as a line of JSON, a graph as N-Triples, or the line of the
+/// fault that is due. The status is 0 where the job is done, and 1 where it is refused, where memory is wanting, or where the sink fails;
+/// nothing is put behind a failure.
 pub fn run<S: Sink>(alloc: Global, job: &Job, out: &mut S) -> Ran
     ensures { IsRun job.now (S.taken out.old) (S.taken out.new) (S.faults out.old) (S.faults out.new) result }
 {

@@ -5,7 +5,7 @@ use crate::outcome::Outcome;
 use qs_algebra::translate;
 use qs_nquads::{NqFaultKind, read};
 use qs_query::{Answer, answer, solutions_of};
-use qs_results::json;
+use qs_results::{json, ntriples};
 use qs_syntax::parse_query;
 use qs_terms::{QFault, Quad, Term, TermFault};
 use std::alloc::Global;
@@ -31,7 +31,13 @@ fn limited_outcome(alloc: Global, quads: &[Quad]) -> Outcome {
             other => return other,
         }
     }
-    Outcome::Whole
+    // each of three solutions takes a number
+    let text = "CONSTRUCT { [] <u:p> ?o } { ?s ?p ?o }";
+    comes_to(
+        alloc,
+        answer(alloc, text, quads, u64::MAX - 2, 3),
+        "F10 full",
+    )
 }
 
 const DATA: &[u8] =
@@ -41,7 +47,8 @@ const DATA: &[u8] =
 ///
 /// Of the first: `<u:a> <u:p> <u:b>` and `_:c <u:p> "x\t"@en` by the left side of UNION; `<u:a> <u:q> "1"` by the right one, for each of
 /// two triples of `u:p`. Of the second: two solutions of `?x p:p ?y`, each twice; MINUS takes those of `_:c` away, which is the object in
-/// the named graph, and what is left is one row.
+/// the named graph, and what is left is one row. Of the third, by a path, descending: `"1"` to `<u:a>` by `^p:q`, and the two of `p:p`;
+/// the first is left out. Of the CONSTRUCT, ascending: `_:b0` with its literal, which is no subject, and then `<u:a>`.
 const ANSWERED: &[(&str, &str)] = &[
     (
         "PREFIX p: <u:> SELECT REDUCED ?x ?y ?z { { ?x p:p ?y } UNION { [] p:p _:n . ?x p:q ?y } { ?x ?p ?y . ?x ?p ?y } } LIMIT 9 OFFSET 0",
@@ -52,6 +59,14 @@ const ANSWERED: &[(&str, &str)] = &[
         r#"{"head":{"vars":["x","v","w"]},"results":{"bindings":[{"v":{"type":"literal","value":"1!"},"w":{"datatype":"http://www.w3.org/2001/XMLSchema#integer","type":"literal","value":"5"},"x":{"type":"uri","value":"u:a"}}]}}"#,
     ),
     (
+        "PREFIX p: <u:> SELECT (STR(?y) AS ?v) ?x { ?x p:p|^p:q ?y } ORDER BY DESC(?x) LIMIT 2 OFFSET 1",
+        r#"{"head":{"vars":["v","x"]},"results":{"bindings":[{"v":{"type":"literal","value":"u:b"},"x":{"type":"uri","value":"u:a"}},{"v":{"type":"literal","value":"x\t"},"x":{"type":"bnode","value":"b0"}}]}}"#,
+    ),
+    (
+        "CONSTRUCT { _:n <u:q> ?x . ?o <u:r> [] } { ?x <u:p> ?o } ORDER BY ?x",
+        "<u:b> <u:r> _:b4 .\n_:b1 <u:q> _:b0 .\n_:b3 <u:q> <u:a> .\n",
+    ),
+    (
         "ASK { ?s <u:q> ?o FILTER(?s = <u:a>) } OFFSET 1",
         r#"{"boolean":true,"head":{}}"#,
     ),
@@ -60,7 +75,11 @@ const ANSWERED: &[(&str, &str)] = &[
 fn written_answer(alloc: Global, answer: Result<Answer, QFault>, line: &str) -> Outcome {
     match answer {
         Ok(answer) => {
-            let text = json(alloc, &answer);
+            let text = match &answer {
+                Answer::Solutions { vars: _, rows: _ } => json(alloc, &answer),
+                Answer::Truth(_) => json(alloc, &answer),
+                Answer::Graph(_) => ntriples(alloc, &answer),
+            };
             drop(answer);
             written(text, line)
         }
@@ -129,13 +148,4 @@ pub fn outcome(alloc: Global) -> Outcome {
         Err(fault) if fault.kind == NqFaultKind::Memory => Outcome::Refused,
         Err(_) => Outcome::Wrong,
     }
-}
-
-/// A query with the forms that have no answer yet.
-const LATER: &str =
-    "PREFIX : <u:> SELECT DISTINCT (?a + 1 AS ?b) { ?a :p/:q 1 , 2 ; ^:r|!(^a) [] OPTIONAL { ?a :p* ?c } MINUS { ?a ?b2 ?c } GRAPH ?g { } BIND(CONCAT(\"a\"@en, STR(?a)) AS ?d) FILTER(!?a = 1 || ?c IN (1, -?d) && IF(?b2, ?c, ?d) < 2 * 3) VALUES (?a ?e) { (1 UNDEF) } } ORDER BY DESC(?a) LIMIT 1 VALUES ?f { :x }";
-
-/// Whether the text is read, and found to have no answer yet.
-pub fn later_outcome(alloc: Global) -> Outcome {
-    comes_to(alloc, answer(alloc, LATER, &[], 0, 9), "F11 later")
 }

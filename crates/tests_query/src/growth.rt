@@ -2,7 +2,7 @@
 //! memory for an answer, but no other.
 
 use crate::outcome::Outcome;
-use crate::{answers, lines, operations, patterns, quads, tokens};
+use crate::{answers, lines, operations, patterns, quads, tokens, written};
 
 #[test]
 fn tokens_strict(rt: HostRuntime) {
@@ -55,16 +55,6 @@ fn answers_tolerant(rt: HostRuntime) {
 }
 
 #[test]
-fn later_forms_strict(rt: HostRuntime) {
-    assert!(rt; answers::later_outcome(rt.alloc()) == Outcome::Whole);
-}
-
-#[test]
-fn later_forms_tolerant(rt: HostRuntime) {
-    assert!(rt; answers::later_outcome(rt.alloc()) != Outcome::Wrong);
-}
-
-#[test]
 fn lines_strict(rt: HostRuntime) {
     assert!(rt; lines::outcome(rt.alloc()) == Outcome::Whole);
 }
@@ -72,4 +62,14 @@ fn lines_strict(rt: HostRuntime) {
 #[test]
 fn lines_tolerant(rt: HostRuntime) {
     assert!(rt; lines::outcome(rt.alloc()) != Outcome::Wrong);
+}
+
+#[test]
+fn written_strict(rt: HostRuntime) {
+    assert!(rt; written::outcome(rt.alloc()) == Outcome::Whole);
+}
+
+#[test]
+fn written_tolerant(rt: HostRuntime) {
+    assert!(rt; written::outcome(rt.alloc()) != Outcome::Wrong);
 }

@@ -26,3 +26,5 @@ mod quads;
 mod tokens;
 #[cfg(test)]
 mod updates;
+#[cfg(test)]
+mod written;

@@ -43,8 +43,7 @@ fn fault(number: usize) -> QFault {
         6 => QFault::GraphExists,
         7 => QFault::TooManyRows,
         8 => QFault::Memory,
-        9 => QFault::Full,
-        _ => QFault::Later,
+        _ => QFault::Full,
     }
 }
 
@@ -59,7 +58,6 @@ const LINES: &[&str] = &[
     "F8 too many rows",
     "F9 out of memory",
     "F10 full",
-    "F11 later",
 ];
 
 fn is_printed(alloc: Global, number: usize, line: &str) -> bool {

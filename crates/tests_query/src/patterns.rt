@@ -7,7 +7,7 @@ use qs_bindings::{certain, possible};
 use qs_patterns::Pattern;
 use qs_syntax::parse_query;
 use qs_terms::QFault;
-use std::alloc::Global;
+use std::alloc::{AllocError, Global};
 
 /// Queries, and which of their variables, in the order of the text, each solution of the pattern binds, and which some solution may bind.
 const FLAGS: &[(&str, &[bool], &[bool])] = &[
@@ -44,12 +44,12 @@ const FLAGS: &[(&str, &[bool], &[bool])] = &[
 ];
 
 // the pattern of the WHERE by itself, where the query is a SELECT
-fn pattern_of_where(alloc: Global, query: &Query) -> Result<NamedPattern, QFault> {
+fn pattern_of_where(alloc: Global, query: &Query) -> Result<NamedPattern, AllocError> {
     match &query.form {
         QueryForm::Select(select) => {
             translate_where(alloc, query.variables.as_slice(), &select.pattern)
         }
-        _ => Err(QFault::Later),
+        _ => translate(alloc, query),
     }
 }
 

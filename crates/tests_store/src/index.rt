@@ -1,7 +1,7 @@
-//! The index: four entries, of graph 1 and of the last graph.
+//! The index with orders of the named graphs: five entries, of the default graph, of graph 1 and of the last graph.
 
 use crate::outcome::Outcome;
-use qs_index::{Index, Scan};
+use qs_index::{Index, Place, Scan};
 use std::alloc::{AllocError, Global};
 
 const A: [u32; 4] = [1, 2, 3, 4];
@@ -12,12 +12,14 @@ const C: [u32; 4] = [1, 1, 2, 4];
 
 const D: [u32; 4] = [4294967295, 1, 2, 4];
 
-/// Makes room twice, and puts in the entry of the last graph and then those of graph 1.
+const E: [u32; 4] = [0, 1, 2, 4];
+
+/// Makes room twice, and puts in the entry of the last graph and then the others.
 fn fill(index: &mut Index) -> Result<(), AllocError> {
     index.reserve(1)?;
     index.insert(D);
     index.reserve(300)?;
-    index.insert_all(&mut [A, B, C]);
+    index.insert_all(&mut [A, E, B, C]);
     Ok(())
 }
 
@@ -31,6 +33,17 @@ const SCANS: &[(Option<u32>, Option<u32>, Option<u32>, &[[u32; 4]])] = &[
     (Some(2), Some(2), None, &[]),
 ];
 
+/// Places that are given, and the entries of all named graphs that agree with them, in the order that is used.
+const NAMED_SCANS: &[(Option<u32>, Option<u32>, Option<u32>, &[[u32; 4]])] = &[
+    (None, None, None, &[C, D, B, A]),
+    (Some(1), Some(2), None, &[C, D]),
+    (None, Some(3), None, &[A, B]),
+    (None, None, Some(4), &[C, D, A]),
+    (Some(1), None, Some(4), &[C, D]),
+    (Some(2), Some(3), Some(4), &[A]),
+    (Some(2), Some(2), None, &[]),
+];
+
 /// Whether the scan hands out these entries, and looks at few more.
 fn hands_out(mut scan: Scan<'_>, wanted: &[[u32; 4]]) -> bool {
     for entry in wanted {
@@ -38,12 +51,51 @@ fn hands_out(mut scan: Scan<'_>, wanted: &[[u32; 4]]) -> bool {
             return false;
         }
     }
-    scan.next().is_none() && scan.looked() <= 11
+    scan.next().is_none() && scan.looked() <= 13
 }
 
 fn are_found(index: &Index) -> bool {
     for (subject, predicate, object, wanted) in SCANS {
         if !hands_out(index.scan(1, *subject, *predicate, *object), wanted) {
+            return false;
+        }
+    }
+    true
+}
+
+/// Places from which scans are looked for: of an entry, of the one that is looked for, and none.
+const PLACES: &[(usize, usize)] = &[(0, 0), (0, 2), (0, 5), (7, 0)];
+
+/// Whether the same is found from a place.
+fn is_found_from(index: &Index, place: Place) -> bool {
+    index.has_named()
+        && hands_out(index.scan_from(place, 1, None, Some(3), None), &[A, B])
+        && hands_out(
+            index.scan_named_from(place, Some(1), Some(2), None),
+            &[C, D],
+        )
+}
+
+/// Whether the same is found from each place.
+fn are_found_from(index: &Index) -> bool {
+    for (page, at) in PLACES {
+        let place = Place {
+            page: *page,
+            at: *at,
+        };
+        if !is_found_from(index, place) {
+            return false;
+        }
+    }
+    true
+}
+
+fn are_named_found(index: &Index) -> bool {
+    if !index.has_named() {
+        return false;
+    }
+    for (subject, predicate, object, wanted) in NAMED_SCANS {
+        if !hands_out(index.scan_named(*subject, *predicate, *object), wanted) {
             return false;
         }
     }
@@ -69,35 +121,40 @@ fn are_graphs_found(index: &Index) -> bool {
 
 /// Whether the entries are counted, known and estimated.
 fn are_known(index: &Index) -> bool {
-    index.len() == 4
+    index.len() == 5
         && index.contains(&A)
         && !index.contains(&[1, 2, 3, 5])
         && index.estimate(1, None, None, None) == 3
         && index.estimate(1, Some(2), Some(3), Some(4)) == 1
         && index.estimate(2, None, None, None) == 0
+        && index.estimate_named(Some(1), None, None) == 3
 }
 
 /// Whether two entries, and one that isn't there, are taken out at once.
 fn are_removed(index: &mut Index) -> bool {
     index.remove_all(&mut [A, C, [7, 7, 7, 7]]);
-    index.len() == 2 && hands_out(index.entries(), &[B, D])
+    index.len() == 3 && hands_out(index.entries(), &[E, B, D])
 }
 
 /// Whether all entries are found, and one is taken out, and then more.
 fn is_whole(index: &mut Index) -> bool {
     are_found(index)
+        && are_named_found(index)
+        && are_found_from(index)
         && are_graphs_found(index)
         && are_known(index)
-        && hands_out(index.entries(), &[C, B, A, D])
+        && hands_out(index.entries(), &[E, C, B, A, D])
         && are_removed(index)
         && index.remove(D)
         && !index.remove(D)
         && index.next_graph(1).is_none()
+        && index.has_named()
+        && hands_out(index.scan_named(None, None, None), &[B])
 }
 
 /// Whether the index is filled; where memory is wanting it has no entry of graph 1.
 pub fn outcome(alloc: Global) -> Outcome {
-    let mut index = Index::new(alloc);
+    let mut index = Index::with_named(alloc);
     let outcome = if fill(&mut index).is_err() {
         Outcome::Refused.or_wrong(hands_out(index.scan(1, None, None, None), &[]))
     } else {

@@ -1,6 +1,6 @@
 //! How many entries a scan looks at, in indexes of four sizes.
 
-use qs_index::{Index, Scan};
+use qs_index::{Index, Place, Scan};
 use std::alloc::{AllocError, Global};
 
 /// Sizes of an index, how many entries have its first predicate, and how many entries a scan looks at besides those that it hands out,
@@ -41,9 +41,26 @@ fn are_few(index: &Index, size: u32, first: u32, bound: u128) -> bool {
         && looks_at_few(index.scan(1, None, None, None), 0, bound)
 }
 
+/// How many entries are looked at where each of them is looked for from the place of the one before.
+fn looks_of_all(index: &Index, size: u32) -> u128 {
+    let mut place = Place { page: 0, at: 0 };
+    let mut looks: u128 = 0;
+    for i in 0..size {
+        let mut scan = index.scan_from(place, 0, Some(i / 16), Some(i % 16), Some(i));
+        if scan.next().is_none() {
+            return u128::MAX;
+        }
+        place = scan.place();
+        looks = looks.saturating_add(scan.looked());
+    }
+    looks
+}
+
 fn is_bound(alloc: Global, size: u32, first: u32, bound: u128) -> bool {
     let mut index = Index::new(alloc);
-    let is_few = fill(&mut index, size, alloc).is_ok() && are_few(&index, size, first, bound);
+    let is_few = fill(&mut index, size, alloc).is_ok()
+        && are_few(&index, size, first, bound)
+        && looks_of_all(&index, size) <= u128::from(size).saturating_mul(4);
     drop(index);
     is_few
 }

@@ -2,7 +2,7 @@
 
 use crate::line::line;
 use crate::timing::micros;
-use qs_index::Index;
+use qs_index::{Index, Place};
 use std::alloc::{AllocError, Global};
 use std::io;
 use std::time::Instant;
@@ -37,6 +37,21 @@ pub fn look_up(index: &Index, entries: &[[u32; 4]]) -> u64 {
     for entry in entries {
         let [graph, subject, predicate, object] = *entry;
         for _found in index.scan(graph, Some(subject), Some(predicate), Some(object)) {
+            count = count.wrapping_add(1);
+        }
+    }
+    count
+}
+
+/// The same, each looked for from the place of the one before.
+pub fn follow(index: &Index, entries: &[[u32; 4]]) -> u64 {
+    let mut count: u64 = 0;
+    let mut place = Place { page: 0, at: 0 };
+    for entry in entries {
+        let [graph, subject, predicate, object] = *entry;
+        let scan = index.scan_from(place, graph, Some(subject), Some(predicate), Some(object));
+        place = scan.place();
+        for _found in scan {
             count = count.wrapping_add(1);
         }
     }
@@ -79,7 +94,7 @@ fn worked(rt: &HostRuntime, index: &mut Index, entries: &[[u32; 4]]) -> io::Resu
     let inserted = scan_all(index);
     insert_copy(rt, index, entries);
     let again = scan_all(index);
-    let found = look_up(index, entries);
+    let found = look_up(index, entries).min(follow(index, entries));
     let removed = remove(index, entries, 3);
     line(
         rt,

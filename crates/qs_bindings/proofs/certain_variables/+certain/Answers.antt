@@ -1,5 +1,4 @@
 use Rattle.std.proofs.Common.{◌||◌, ◌&&◌, ap, ◌∙◌}
-use Rattle.qs_patterns.specs.Basic.{mentions}
 use Rattle.qs_bindings.specs.Flags.{flags_from, flag_at}
 use Rattle.qs_bindings.specs.Certain.{is_certain, is_certain_step}
 use Rattle.qs_bindings.proofs.Arms.{certain_basic_arm, certain_group_arm, certain_union_arm, certain_graph_arm, certain_each_arm, certain_values_arm, certain_join_arm, certain_left_join_arm, certain_minus_arm, certain_extend_arm, some_more, every_more}
@@ -7,12 +6,11 @@ use Rattle.qs_bindings.proofs.certain_variables.+certain.Goals as goal
 
 pub certain-returns-in_ok-flags-in-Basic : goal.certain-returns-in_ok-flags-in-Basic
 certain-returns-in_ok-flags-in-Basic t c =
-    certain_basic_arm c.args.width c.args.pattern.now c.in_ok-flags-in-Basic.flags.items c.in-Basic.basic c.in-Basic.is
-    (c.in_ok-flags-in-Basic.ensures ∙ ap (λ l. flags_from (mentions l) 0 c.args.width) c.as_slice.ensures)
+    certain_basic_arm c.args.width c.args.pattern.now c.in_ok-flags-in-Basic.flags.items c.in-Basic.basic c.in-Basic.is c.in_ok-flags-in-Basic.ensures
 
 pub certain-returns-in_ok-flags-in-Group : goal.certain-returns-in_ok-flags-in-Group
 certain-returns-in_ok-flags-in-Group t c =
-    certain_group_arm c.args.width c.args.pattern.now c.in_ok-flags-in-Group.flags.items c.in-Group.steps _ _ c.in-Group.is c.as_slice-in-Group.ensures c.in_ok-flags-in-Group.ensures
+    certain_group_arm c.args.width c.args.pattern.now c.in_ok-flags-in-Group.flags.items c.in-Group.steps _ _ c.in-Group.is c.as_slice.ensures c.in_ok-flags-in-Group.ensures
 
 pub certain-returns-in_ok-flags-in-Union : goal.certain-returns-in_ok-flags-in-Union
 certain-returns-in_ok-flags-in-Union t c =

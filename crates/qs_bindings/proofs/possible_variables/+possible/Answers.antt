@@ -1,19 +1,17 @@
-use Rattle.std.proofs.Common.{◌||◌, ◌&&◌, ◌==◌, ap, ◌∙◌}
+use Rattle.std.proofs.Common.{◌||◌, ◌==◌, ap, ◌∙◌}
 use Rattle.std.specs.List.{list_any}
-use Rattle.qs_patterns.specs.Basic.{mentions}
 use Rattle.qs_bindings.specs.Flags.{flags_from, flag_at}
 use Rattle.qs_bindings.specs.Possible.{is_possible, is_possible_step}
-use Rattle.qs_bindings.proofs.Arms.{possible_basic_arm, possible_group_arm, possible_union_arm, possible_graph_arm, possible_each_arm, possible_values_arm, possible_join_arm, possible_left_join_arm, possible_minus_arm, possible_extend_arm, some_more, every_more}
+use Rattle.qs_bindings.proofs.Arms.{possible_basic_arm, possible_group_arm, possible_union_arm, possible_graph_arm, possible_each_arm, possible_values_arm, possible_join_arm, possible_left_join_arm, possible_minus_arm, possible_extend_arm, some_more}
 use Rattle.qs_bindings.proofs.possible_variables.+possible.Goals as goal
 
 pub possible-returns-in_ok-flags-in-Basic : goal.possible-returns-in_ok-flags-in-Basic
 possible-returns-in_ok-flags-in-Basic t c =
-    possible_basic_arm c.args.width c.args.pattern.now c.in_ok-flags-in-Basic.flags.items c.in-Basic.basic c.in-Basic.is
-    (c.in_ok-flags-in-Basic.ensures ∙ ap (λ l. flags_from (mentions l) 0 c.args.width) c.as_slice.ensures)
+    possible_basic_arm c.args.width c.args.pattern.now c.in_ok-flags-in-Basic.flags.items c.in-Basic.basic c.in-Basic.is c.in_ok-flags-in-Basic.ensures
 
 pub possible-returns-in_ok-flags-in-Group : goal.possible-returns-in_ok-flags-in-Group
 possible-returns-in_ok-flags-in-Group t c =
-    possible_group_arm c.args.width c.args.pattern.now c.in_ok-flags-in-Group.flags.items c.in-Group.steps _ _ c.in-Group.is c.as_slice-in-Group.ensures c.in_ok-flags-in-Group.ensures
+    possible_group_arm c.args.width c.args.pattern.now c.in_ok-flags-in-Group.flags.items c.in-Group.steps _ _ c.in-Group.is c.as_slice.ensures c.in_ok-flags-in-Group.ensures
 
 pub possible-returns-in_ok-flags-in-Union : goal.possible-returns-in_ok-flags-in-Union
 possible-returns-in_ok-flags-in-Union t c =

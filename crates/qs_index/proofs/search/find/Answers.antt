@@ -1,7 +1,8 @@
-use Rattle.std.proofs.Common.{refl, [], ◌<◌, length, arith, ap, ◌∙◌, sym}
-use Rattle.qs_index.specs.Digits.{digits}
+use Rattle.std.proofs.Common.{◌≡◌, ◌-◌, ◌<◌, refl, length, arith, ap, ◌∙◌, sym, subst}
 use Rattle.qs_index.specs.Layout.{page_at}
 use Rattle.qs_index.specs.Entry.{skip_before}
+use Rattle.qs_index.specs.Place.{IsReached}
+use Rattle.qs_index.proofs.DigitLaws.{digits-le}
 use Rattle.qs_index.proofs.Looks.{page_looks, entry_looks}
 use Rattle.qs_index.proofs.Places.{rest_end}
 use Rattle.qs_index.proofs.search.find.Goals as goal
@@ -20,15 +21,19 @@ returns-then-page-held-clause-counted c =
 
 pub first_in_page-bound-requires : goal.first_in_page-bound-requires
 first_in_page-bound-requires c =
-    let a = page_looks c.args.reader.now.pages c.len-held.ensures.sizes in
-    let within : c.first_page-page.result.at < length c.args.reader.now.pages = omega (arith, c.first_page-page.ensures.within, c.if-page-held.false, c.len-held.ensures.len) in
-    let b = entry_looks c.args.reader.now.pages c.first_page-page.result.at within in
+    let pages = c.args.reader.now.pages in
+    let page = c.first_page-page.result.at in
+    let a = page_looks pages c.len-held.ensures.sizes in
+    let within : page < length pages = omega (arith, c.first_page-page.ensures.within, c.if-page-held.false, c.len-held.ensures.len) in
+    let b = entry_looks pages page within in
+    let len : c.page_len-at.result ≡ length (page_at pages page) = c.page_len-at.ensures.len ∙ ap (λ r. length (page_at r page)) c.first_page-page.ensures.pages in
+    let part = digits-le (c.page_len-at.result - 1 - 0) (length (page_at pages page)) (omega (arith, len)) in
     rw c.first_page-page.ensures.pages record {
       ascending = c.requires.ascending;
       page_in = within;
-      from_in = (c.len-held.ensures.sizes c.first_page-page.result.at [] within).0;
+      ordered = omega arith;
       passed = refl;
-      reached = c.first_page-page.ensures.reached within;
+      reached = subst (λ k. IsReached c.args.prefix.now pages page (k - 1) c.first_page-page.result.entry) (sym len) (c.first_page-page.ensures.reached within);
       countable = omega (arith, c.first_page-page.ensures.counted, c.requires.countable);
     }
 
@@ -50,8 +55,11 @@ returns-clause-looked c =
 
 pub returns-clause-counted : goal.returns-clause-counted
 returns-clause-counted c =
-    let a = page_looks c.args.reader.now.pages c.len-held.ensures.sizes in
-    let within : c.first_page-page.result.at < length c.args.reader.now.pages = omega (arith, c.first_page-page.ensures.within, c.if-page-held.false, c.len-held.ensures.len) in
-    let b = entry_looks c.args.reader.now.pages c.first_page-page.result.at within in
-    let same = ap (λ r. digits (length (page_at r c.first_page-page.result.at))) c.first_page-page.ensures.pages in
+    let pages = c.args.reader.now.pages in
+    let page = c.first_page-page.result.at in
+    let a = page_looks pages c.len-held.ensures.sizes in
+    let within : page < length pages = omega (arith, c.first_page-page.ensures.within, c.if-page-held.false, c.len-held.ensures.len) in
+    let b = entry_looks pages page within in
+    let len : c.page_len-at.result ≡ length (page_at pages page) = c.page_len-at.ensures.len ∙ ap (λ r. length (page_at r page)) c.first_page-page.ensures.pages in
+    let part = digits-le (c.page_len-at.result - 1 - 0) (length (page_at pages page)) (omega (arith, len)) in
     omega (arith, c.first_page-page.ensures.counted, c.first_in_page-bound.ensures.counted)

@@ -1,23 +1,21 @@
-use Rattle.std.proofs.Common.{◌≡◌, ◌+◌, ◌-◌, ◌/◌, [], length, get_or, refl, arith, ap, sym, ◌∙◌}
+use Rattle.std.proofs.Common.{◌≡◌, ◌+◌, ◌-◌, ◌/◌, [], get_or, refl, arith, ap, sym, ◌∙◌}
 use Rattle.qs_index.specs.Entry.{is_before}
 use Rattle.qs_index.specs.Layout.{page_at}
-use Rattle.qs_index.proofs.DigitLaws.{digits_left, digits_right, middle_below, digits-le}
+use Rattle.qs_index.proofs.DigitLaws.{digits_left, digits_right, middle_below}
 use Rattle.qs_index.proofs.Places.{skip_in_page, skip_done}
 use Rattle.qs_index.proofs.search.first_in_page.Goals as goal
 
 pub loop-low-init : goal.loop-low-init
-loop-low-init c =
-    let few = digits-le (c.page_len-high.result - 1 - c.args.from) (length (page_at c.args.reader.now.pages c.args.page)) (omega (arith, c.page_len-high.ensures.len)) in
-    record {
-      ordered = omega (arith, c.page_len-high.ensures.len, c.requires.from_in);
-      within = omega (arith, c.page_len-high.ensures.len, c.page_len-high.ensures.size.0);
-      skips = c.requires.passed;
-      entry_is = rw c.page_len-high.ensures.len c.requires.reached.entry_is;
-      reached = c.requires.reached.reached;
-      looked = omega arith;
-      few = omega arith;
-      same = refl;
-    }
+loop-low-init c = record {
+  ordered = c.requires.ordered;
+  within = c.requires.reached.at_in;
+  skips = c.requires.passed;
+  entry_is = c.requires.reached.entry_is;
+  reached = c.requires.reached.reached;
+  looked = omega arith;
+  few = omega arith;
+  same = refl;
+}
 
 pub look-entry-requires-clause-countable : goal.look-entry-requires-clause-countable
 look-entry-requires-clause-countable c =

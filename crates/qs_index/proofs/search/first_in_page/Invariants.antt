@@ -15,6 +15,6 @@ invariant-loop-low l = record {
   entry_is : l.bound ≡ get_or (page_at l.fn.reader.pages l.page) l.high [];
   reached : is_before l.bound l.prefix ≡ false;
   looked : l.fn.reader.looked ≤ l.reader.looked;
-  few : l.reader.looked + digits (l.high - l.low) ≤ l.fn.reader.looked + digits (length (page_at l.fn.reader.pages l.page));
+  few : l.reader.looked + digits (l.high - l.low) ≤ l.fn.reader.looked + digits (l.fn.to.at - l.from);
   same : l.reader.pages ≡ l.fn.reader.pages;
 }

@@ -41,7 +41,7 @@ loop-low-preserved c =
       ordered = omega arith;
       within = omega (arith, i.within);
       skips = i.skips;
-      reached = λ _. record { entry_is = read; reached = sym c.is_after.ensures ∙ c.if-is_after.false };
+      reached = λ _. record { at_in = omega (arith, (c.len-high.ensures.sizes middle [] (omega (arith, i.within))).0); entry_is = read; reached = sym c.is_after.ensures ∙ c.if-is_after.false };
       looked = λ _. omega (arith, i.rising, c.look-entry.ensures.counted);
       rising = omega (arith, i.rising, c.look-entry.ensures.counted);
       few = omega (arith, i.few, c.look-entry.ensures.counted);

@@ -11,4 +11,4 @@ returns c =
     let part : c.sliced-part.result.now ≡ sliced asked.slice c.in_ok-listed.listed.items = c.sliced-part.ensures ∙ ap (sliced asked.slice) c.as_slice.ensures.value in
     let rows : c.from_vec.result ≡ map (projected asked.columns) (lent c.sliced-part.result.now) =
     c.from_vec.ensures ∙ c.in_ok-rows.ensures ∙ ap (λ columns. map (projected columns) (lent c.sliced-part.result.now)) c.as_slice-2.ensures in
-    few asked c.args.all.now c.in_ok-listed.listed.items c.sliced-part.result.now c.in_ok-listed.ensures part c.args.max_rows c.from_vec.result c.if-part-max_rows.false rows
+    few asked (lent c.args.all.items) c.in_ok-listed.listed.items c.sliced-part.result.now c.in_ok-listed.ensures part c.args.max_rows c.from_vec.result c.if-part-max_rows.false rows

@@ -1,5 +1,5 @@
 use Rattle.std.proofs.Common.{ap, sym, Ok}
-use Rattle.qs_solutions.specs.declared.answer.Answer.TheVariants.{Truth}
+use Rattle.qs_answer.specs.declared.answer.Answer.TheVariants.{Truth}
 use Rattle.qs_select.proofs.Ordered.{has_any}
 use Rattle.qs_select.proofs.answer.truth.Goals as goal
 

@@ -1,23 +1,22 @@
 use Rattle.std.proofs.Common.{◌≡◌, ◌++◌, ◌∷◌, [], ◌∙◌, ap, map, take, sym, List, ◌+◌}
-use Rattle.std.specs.Borrow.{Bor}
 use Rattle.qs_terms.specs.Bag.{once}
 use Rattle.qs_solutions.specs.Solution.{Solution, projected, same_solution}
 use Rattle.qs_eval.specs.Lent.{lent}
 use Rattle.qs_eval.proofs.Same.{same_solution-Decides}
 use Rattle.qs_eval.proofs.Known.{was_new, was_known, on_false}
 use Rattle.qs_select.proofs.Cells.{read, order, reads}
-use Rattle.qs_select.proofs.Known.{kept_new, kept_known, knows_more, knows_still, taken_more, lent_more}
+use Rattle.qs_select.proofs.Known.{kept_new, kept_known, knows_more, knows_still, lent_taken_more, lent_more}
 use Rattle.qs_select.proofs.distinct.firsts.Goals.{then-branch+in_ok-push, else-branch}
 use Rattle.qs_select.proofs.distinct.firsts.Goals as goal
 
 pub loop-row-preserved : goal.loop-row-preserved
 loop-row-preserved c =
     let columns = c.args.columns.now in
-    let before : List Solution = map (projected columns) (take c.loop-row.row-index c.args.rows.now) in
+    let before : List Solution = map (projected columns) (lent (take c.loop-row.row-index c.args.rows.now)) in
     let firsts : List Solution = map (projected columns) (lent c.loop-row.firsts.items) in
     let cells = c.in_ok-cells.cells in
-    let after : before ++ read cells ∷ [] ≡ map (projected columns) (take (c.loop-row.row-index + 1) c.args.rows.now) =
-    ap (λ s. before ++ s ∷ []) c.in_ok-cells.ensures ∙ sym (taken_more (projected columns) c.args.rows.now c.loop-row.row-index c.row-item.result c.loop-row-test.true c.row-item.is) in
+    let after : before ++ read cells ∷ [] ≡ map (projected columns) (lent (take (c.loop-row.row-index + 1) c.args.rows.now)) =
+    ap (λ s. before ++ s ∷ []) c.in_ok-cells.ensures ∙ sym (lent_taken_more (projected columns) c.args.rows.now c.loop-row.row-index c.row-item.result c.loop-row-test.true c.row-item.is) in
     record {
       kept = elim c.if-branch.branch [
         | then-branch+in_ok-push w ↦

@@ -9,6 +9,6 @@ use Rattle.qs_select.proofs.distinct.firsts.Given as goal
 
 abbrev pub invariant-loop-row : goal.invariant-loop-row
 invariant-loop-row l = record {
-  kept : map (projected l.columns) (lent l.firsts.items) ≡ once same_solution (map (projected l.columns) (take l.row-index l.rows));
+  kept : map (projected l.columns) (lent l.firsts.items) ≡ once same_solution (map (projected l.columns) (lent (take l.row-index l.rows)));
   known : Knows read same_solution same_solution-Decides order reads l.known.keys (map (projected l.columns) (lent l.firsts.items));
 }

@@ -1,7 +1,7 @@
 use Rattle.std.proofs.Common.{map, subst}
 use Rattle.std.specs.List.{All}
 use Rattle.std.proofs.lemmas.List.Elements.{All-contains}
-use Rattle.std.proofs.lemmas.List.Sorted.{IsPermutation-map, IsPermutation-trans}
+use Rattle.std.proofs.lemmas.List.Sorted.{IsPermutation-map, IsPermutation-trans, IsPermutation-sym}
 use Rattle.qs_index.specs.Entries.{IsUnion}
 use Rattle.qs_index.specs.Entry.{IsEntry}
 use Rattle.qs_index.specs.Permutation.{turned}
@@ -22,11 +22,14 @@ invariant_of-self c =
     let second = IsUnion-permutation gpos (map (turned Gpos) all) (map (turned Gpos) c.insert_turned.new.entries) c.insert_turned-2.new.order.entries (IsPermutation-map (turned Gpos) all c.insert_turned.new.entries c.insert_turned.ensures.permutation) c.insert_turned-2.ensures.union in
     let moved = IsPermutation-trans all c.insert_turned.new.entries c.insert_turned-2.new.entries c.insert_turned.ensures.permutation c.insert_turned-2.ensures.permutation in
     let third = IsUnion-permutation gosp (map (turned Gosp) all) (map (turned Gosp) c.insert_turned-2.new.entries) c.insert_turned-3.new.order.entries (IsPermutation-map (turned Gosp) all c.insert_turned-2.new.entries moved) c.insert_turned-3.ensures.union in
+    let whole = IsPermutation-trans all c.insert_turned-2.new.entries c.insert_turned-3.new.entries moved c.insert_turned-3.ensures.permutation in
+    let last : IsUnion gspo c.insert_turned-3.new.entries c.insert_turned.new.order.entries = IsUnion-permutation gspo c.insert_turned-3.new.entries all c.insert_turned.new.order.entries (IsPermutation-sym all c.insert_turned-3.new.entries whole) first in
     record {
       entries = entries_of_union gspo all c.insert_turned.new.order.entries first i.entries (λ x m. All-contains IsEntry all x each m);
       by_subject = IsOrderOf-itself c.insert_turned.new.order.entries first.ascending;
       by_predicate = IsOrderOf-union Gpos gspo gpos all c.insert_turned.new.order.entries c.insert_turned-2.new.order.entries i.by_predicate first second;
       by_object = IsOrderOf-union Gosp gspo gosp all c.insert_turned.new.order.entries c.insert_turned-3.new.order.entries i.by_object first third;
+      of_named = c.insert_all.ensures.orders gspo c.insert_turned.new.order.entries last i.of_named;
     }
 
 pub returns-clause-union : goal.returns-clause-union
@@ -36,4 +39,4 @@ returns-clause-union c =
 
 pub returns-clause-permutation : goal.returns-clause-permutation
 returns-clause-permutation c =
-    IsPermutation-trans c.args.entries.now c.insert_turned-2.new.entries c.insert_turned-3.new.entries (IsPermutation-trans c.args.entries.now c.insert_turned.new.entries c.insert_turned-2.new.entries c.insert_turned.ensures.permutation c.insert_turned-2.ensures.permutation) c.insert_turned-3.ensures.permutation
+    IsPermutation-trans c.args.entries.now c.insert_turned-3.new.entries c.insert_all.new.entries (IsPermutation-trans c.args.entries.now c.insert_turned-2.new.entries c.insert_turned-3.new.entries (IsPermutation-trans c.args.entries.now c.insert_turned.new.entries c.insert_turned-2.new.entries c.insert_turned.ensures.permutation c.insert_turned-2.ensures.permutation) c.insert_turned-3.ensures.permutation) c.insert_all.ensures.permutation

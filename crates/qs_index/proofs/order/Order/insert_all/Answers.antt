@@ -1,9 +1,14 @@
-use Rattle.std.proofs.Common.{[], get_or, refl, arith}
-use Rattle.qs_index.proofs.Unions.{IsUnion-more}
+use Rattle.std.proofs.Common.{◌≡◌, ◌-◌, length, take, drop, length-drop, arith, subst}
+use Rattle.std.proofs.lemmas.List.{take-append-drop, take_all}
+use Rattle.qs_index.specs.Entries.{IsUnion}
+use Rattle.qs_index.proofs.Unions.{IsUnion-then}
 use Rattle.qs_index.proofs.order.Order.insert_all.Goals as goal
 
-pub loop-entry-preserved : goal.loop-entry-preserved
-loop-entry-preserved c = record {
-  spare = omega (arith, c.insert_from-edited.ensures.spare, c.loop-entry.invariant.spare);
-  union = IsUnion-more c.args.self.now.entries c.args.entries.now c.loop-entry.self.entries c.insert_from-edited.new.self.entries c.loop-entry.entry-index (get_or c.args.entries.now c.loop-entry.entry-index []) c.insert_from-edited.result.is_done (omega (arith, c.loop-entry-test.true)) refl c.loop-entry.invariant.union c.insert_from-edited.ensures.added c.insert_from-edited.ensures.kept c.insert_from-edited.ensures.stood c.insert_from-edited.ensures.ascending;
-}
+pub returns-clause-union : goal.returns-clause-union
+returns-clause-union c =
+    let all = c.args.entries.now in
+    let read = c.fill_empty-read.result in
+    let n = length-drop read all in
+    let rest : take (length all - read) (drop read all) ≡ drop read all = take_all (length all - read) (drop read all) (omega arith) in
+    subst (λ r. IsUnion c.args.self.now.entries r c.insert_each.new.self.entries) (take-append-drop read all)
+    (IsUnion-then c.args.self.now.entries (take read all) (drop read all) c.fill_empty-read.new.self.entries c.insert_each.new.self.entries c.fill_empty-read.ensures.union (subst (λ r. IsUnion c.fill_empty-read.new.self.entries r c.insert_each.new.self.entries) rest c.insert_each.ensures.union))

@@ -1,4 +1,5 @@
-use Rattle.std.proofs.Common.{◌≡◌, ◌+◌, length, arith, rules, sym, ap, ◌∙◌, subst}
+use Rattle.std.proofs.Common.{◌≡◌, ◌+◌, [], ◌∷◌, ◌++◌, length, arith, rules, sym, ap, ◌∙◌, subst}
+use Rattle.std.proofs.lemmas.List.{nil_from_length}
 use Rattle.qs_index.specs.Layout.{joined}
 use Rattle.qs_index.specs.Entries.{IsOrdered}
 use Rattle.qs_index.specs.Entry.{IsAscending, with_entry}
@@ -11,7 +12,8 @@ use Rattle.qs_index.proofs.order.Order.insert_from.Goals as goal
 pub invariant_of-self : goal.invariant_of-self
 invariant_of-self c =
     let four : length c.args.entry ≡ 4 = search rules in
-    subst (λ r. IsOrdered (joined r) 1) (sym c.put_first.ensures.pages) (only_entry c.args.entry four)
+    let none = nil_from_length c.self.inside.pages.pages (sym c.len-count.ensures.len ∙ c.if-count-eq0.true) in
+    subst (λ r. IsOrdered (joined r) 1) (sym (c.put_last.ensures.pages ∙ ap (λ r. r ++ (c.args.entry ∷ []) ∷ []) none)) (only_entry c.args.entry four)
 
 pub overflow_add-self : goal.overflow_add-self
 overflow_add-self c =

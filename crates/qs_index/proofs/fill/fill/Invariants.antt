@@ -1,0 +1,7 @@
+use Rattle.qs_index.proofs.Filled.{Filling}
+use Rattle.qs_index.proofs.fill.fill.Given as goal
+
+abbrev pub invariant-loop-read : goal.invariant-loop-read
+invariant-loop-read l = record {
+  filling : Filling l.entries l.fn.pages.spare l.read l.count l.last l.pages.pages l.pages.spare;
+}

@@ -1,0 +1,34 @@
+use Rattle.std.proofs.Common.{◌≡◌, map, sym, subst, ap, ◌∙◌}
+use Rattle.std.specs.List.Sorted.{IsPermutation}
+use Rattle.qs_index.specs.Agreeing.{agreeing_named}
+use Rattle.qs_index.specs.Entry.{beginning, IsAscending}
+use Rattle.qs_index.specs.Graph.{is_named, named_entries}
+use Rattle.qs_index.specs.OrderOf.{IsOrderOf}
+use Rattle.qs_index.specs.Permutation.{named_order_used, named_prefix_of, restored, turned}
+use Rattle.qs_index.proofs.Distinct.{IsAscending-filter}
+use Rattle.qs_index.proofs.NamedOrders.{order_of_named, scan_agrees_named}
+use Rattle.qs_index.proofs.Turned.{scan_ascends, order_length}
+use Rattle.qs_index.proofs.index.Index.scan_named_from.Goals as goal
+
+pub returns-clause-agreeing : goal.returns-clause-agreeing
+returns-clause-agreeing c =
+    let used = named_order_used c.args.subject c.args.predicate c.args.object in
+    let xs = c.args.self.now.entries in
+    let ys = c.order-order.result.now.entries in
+    let found = beginning (named_prefix_of c.args.subject c.args.predicate c.args.object) ys in
+    let made : c.new.result.rest ≡ map (restored used) found = ap (λ s. s.rest) c.new.ensures ∙ ap (λ k. map (restored k) c.scan.result.rest) c.of_named-lookup.ensures.permutation ∙ ap (map (restored used)) (c.scan.ensures.rest ∙ ap (λ p. beginning p ys) c.of_named-lookup.ensures.prefix) in
+    let order : IsOrderOf used (named_entries xs) ys = order_of_named c.args.subject c.args.predicate c.args.object _ xs ys _ c.requires c.of_named-lookup.ensures.permutation c.order-order.ensures.order in
+    subst (IsPermutation (agreeing_named c.args.subject c.args.predicate c.args.object xs)) (sym made)
+    (scan_agrees_named c.args.subject c.args.predicate c.args.object xs ys c.order-order.ensures.entries c.order-order.ensures.ascending order)
+
+pub returns-clause-ascending : goal.returns-clause-ascending
+returns-clause-ascending c =
+    let used = named_order_used c.args.subject c.args.predicate c.args.object in
+    let ys = c.order-order.result.now.entries in
+    let prefix = named_prefix_of c.args.subject c.args.predicate c.args.object in
+    let made : c.new.result.rest ≡ map (restored used) (beginning prefix ys) = ap (λ s. s.rest) c.new.ensures ∙ ap (λ k. map (restored k) c.scan.result.rest) c.of_named-lookup.ensures.permutation ∙ ap (map (restored used)) (c.scan.ensures.rest ∙ ap (λ p. beginning p ys) c.of_named-lookup.ensures.prefix) in
+    subst (λ r. IsAscending (map (turned used) r)) (sym made) (scan_ascends used prefix ys c.order-order.ensures.order.ascending)
+
+pub returns-clause-size : goal.returns-clause-size
+returns-clause-size c =
+    ap (λ s. s.size) c.new.ensures ∙ c.scan.ensures.size ∙ order_length (named_order_used c.args.subject c.args.predicate c.args.object) (named_entries c.args.self.now.entries) c.order-order.result.now.entries (IsAscending-filter is_named c.args.self.now.entries c.order-order.ensures.ascending) (order_of_named c.args.subject c.args.predicate c.args.object _ _ _ _ c.requires c.of_named-lookup.ensures.permutation c.order-order.ensures.order)

@@ -1,0 +1,65 @@
+// Pages that are filled whole, by entries that ascend.
+ghost use Rattle.std.specs.Prelude.{◌≡◌, ◌+◌, ◌-◌, ◌<◌, ◌≤◌, [], length, take};
+ghost use Rattle.qs_index.specs.Entries.{HaveFour, IsUnion};
+ghost use Rattle.qs_index.specs.Entry.{skip_before, with_entry};
+ghost use Rattle.qs_index.specs.Layout.{joined, page_at, room_of, used_of};
+
+use crate::entry::is_less;
+use crate::pages::{PAGE, Pages, Place};
+
+// Puts an entry behind all others: into the last page, or into a new one where that is full.
+fn append(pages: &mut Pages, entry: [u32; 4])
+    requires some { 0 < length pages.old.pages }
+    requires behind { skip_before entry (joined pages.old.pages) ≡ [] }
+    requires spare { 256 ≤ length (page_at pages.old.pages (length pages.old.pages - 1)) → 0 < pages.old.spare }
+    ensures some { 0 < length pages.new.pages }
+    ensures entries { joined pages.new.pages ≡ with_entry entry (joined pages.old.pages) }
+    ensures used { used_of pages.new.pages ≤ used_of pages.old.pages + 1 }
+    ensures all { length pages.new.pages + pages.new.spare ≡ length pages.old.pages + pages.old.spare }
+{
+    let page = pages.len() - 1;
+    let at = pages.page_len(page);
+    if at < PAGE {
+        pages.put(Place { page, at }, entry);
+        return;
+    }
+    pages.put_last(entry);
+}
+
+/// How many entries of a list were read, and how many were put in.
+#[derive(Clone, Copy)]
+pub struct Filled {
+    pub read: usize,
+    pub count: u128,
+}
+
+/// Puts the first of `entries` into pages, of which there are none, as far as they ascend: one whole page after another, and equal
+/// entries once.
+pub fn fill(pages: &mut Pages, entries: &[[u32; 4]]) -> Filled
+    requires none { pages.old.pages ≡ [] }
+    requires room { length entries.now ≤ room_of pages.old.pages pages.old.spare }
+    ensures within { result.read ≤ length entries.now }
+    ensures union { IsUnion [] (take result.read entries.now) (joined pages.new.pages) }
+    ensures four { HaveFour (joined pages.new.pages) }
+    ensures count { result.count ≡ length (joined pages.new.pages) }
+    ensures room { room_of pages.old.pages pages.old.spare ≤ room_of pages.new.pages pages.new.spare + result.read }
+{
+    if entries.is_empty() {
+        return Filled { read: 0, count: 0 };
+    }
+    let mut last = entries[0];
+    pages.put_last(last);
+    let mut count: u128 = 1;
+    for read in 1..entries.len() {
+        let entry = entries[read];
+        if is_less(&last, &entry) {
+            append(pages, entry);
+            last = entry;
+            count += 1;
+        } else if entry != last {
+            return Filled { read, count };
+        }
+    }
+    let read = entries.len();
+    Filled { read, count }
+}

@@ -1,0 +1,6 @@
+use Rattle.std.proofs.Common.{take}
+use Rattle.qs_nquads.specs.Renumbered.{AreQuads}
+use Rattle.qs_nquads.proofs.lawful.lawful_quads.Given as goal
+
+abbrev pub invariant-loop-quad : goal.invariant-loop-quad
+invariant-loop-quad l = AreQuads (take l.quad-index l.quads)

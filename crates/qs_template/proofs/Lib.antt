@@ -1,0 +1,5 @@
+pub mod Numbered
+pub mod Once
+pub mod Fresh
+pub mod Named
+pub mod Counted

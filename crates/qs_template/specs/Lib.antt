@@ -1,0 +1,6 @@
+pub mod Lent
+pub mod Blanks
+pub mod Numbered
+pub mod Template
+pub mod Instances
+pub mod Fresh
