@@ -2,6 +2,7 @@ pub mod CompareSteps
 pub mod Ascending
 pub mod DigitLaws
 pub mod Places
+pub mod Blocks
 pub mod Looks
 pub mod PageEdits
 pub mod EntryEdits

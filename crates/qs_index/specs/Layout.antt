@@ -43,6 +43,10 @@ pub record IsPage (entries : List (List ℕ)) (capacity : ℕ) (end : List ℕ) 
 abbrev pub HasPageSizes : List (List (List ℕ)) → Type 0
 HasPageSizes pages = All IsPageSize pages
 
+-- the entries are those of a page, if there is one of that number
+abbrev pub IsOpenAt : List (List (List ℕ)) → ℕ → List (List ℕ) → Type 0
+IsOpenAt pages page entries = page < length pages → entries ≡ page_at pages page
+
 -- the pages with page m in two halves
 abbrev pub split_at : List (List (List ℕ)) → ℕ → List (List (List ℕ))
 split_at pages m = take m pages ++ take 128 (page_at pages m) ∷ drop 128 (page_at pages m) ∷ drop (m + 1) pages

@@ -1,5 +1,6 @@
 pub mod Digits
 pub mod Layout
+pub mod Tiers
 pub mod Entry
 pub mod Entries
 pub mod Prefix

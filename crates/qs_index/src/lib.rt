@@ -11,11 +11,13 @@ mod index;
 mod named;
 pub mod order;
 pub mod order_scan;
+mod page;
 pub mod pages;
 pub mod permutation;
 pub mod prefix;
 mod scan;
 mod search;
+mod tiers;
 
 pub use index::Index;
 pub use pages::Place;

@@ -45,12 +45,7 @@ fn first_page(reader: &mut Reader<'_>, prefix: &Prefix) -> Bound
     let mut bound = [0; 4];
     while low < high {
         let middle = low + (high - low) / 2;
-        let last = reader.page_len(middle) - 1;
-        let place = Place {
-            page: middle,
-            at: last,
-        };
-        let entry = reader.look(place);
+        let entry = reader.look_last(middle);
         if prefix.is_after(&entry) {
             low = middle + 1;
         } else {

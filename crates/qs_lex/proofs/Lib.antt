@@ -5,3 +5,6 @@ pub mod Prefix
 pub mod TokenList
 pub mod Unique
 pub mod Places
+pub mod SomeReading
+pub mod Parts
+pub mod Sound

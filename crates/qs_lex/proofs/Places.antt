@@ -12,7 +12,7 @@ use Rattle.qs_lex.specs.Table.{IsToken}
 
 -- ---- white space and comments are a front
 
-abbrev Gap : Bool → List ℕ → Type 0
+abbrev pub Gap : Bool → List ℕ → Type 0
 Gap b cs = (g : List ℕ) × (cs ≡ g ++ skip b cs)
 
 gap_by : (c : ℕ) (cs : List ℕ) (a b : Bool) → Gap false cs → Gap true cs → (g : List ℕ) × (c ∷ cs ≡ g ++ cond a (skip false cs) (cond b (skip true cs) (c ∷ cs)))
@@ -20,7 +20,7 @@ gap_by c cs true b f t = (c ∷ f.0, ap (λ z. c ∷ z) f.1)
 gap_by c cs false true f t = (c ∷ t.0, ap (λ z. c ∷ z) t.1)
 gap_by c cs false false f t = ([], refl)
 
-gap : (b : Bool) (cs : List ℕ) → Gap b cs
+pub gap : (b : Bool) (cs : List ℕ) → Gap b cs
 gap true [] = ([], refl)
 gap false [] = ([], refl)
 gap true (c ∷ cs) = let r : Gap (not (is_line_end c)) cs = gap (not (is_line_end c)) cs in (c ∷ r.0, ap (λ z. c ∷ z) r.1)

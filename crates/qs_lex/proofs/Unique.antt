@@ -1,5 +1,7 @@
 -- A text has one reading.
-use Rattle.std.proofs.Common.{◌≡◌, ◌≤◌, ℕ, false, List, [], ◌∷◌, ◌++◌, length, refl, sym, ap, ◌∙◌, subst, arith, encode_utf8_all, chars}
+use Rattle.std.proofs.Common.{◌≡◌, ◌≤◌, ◌<◌, ℕ, false, List, [], ◌∷◌, ◌++◌, length, refl, sym, ap, ◌∙◌, subst, arith, encode_utf8_all, chars}
+use Rattle.std.proofs.lemmas.Str.{chars-nil}
+use Rattle.qs_lex.specs.Fault.{HasToken}
 use Rattle.qs_lex.specs.Table.{table, IsToken}
 use Rattle.qs_lex.specs.Lexes.{Lexeme, Lexes, StopsAt, Reads, HasNoToken, skip}
 use Rattle.qs_lex.specs.declared.token.Class.{Class}
@@ -66,3 +68,10 @@ one_place text place other (ts, rest, r, more, f, p) (us, left, s, more', g, q) 
     let same : rest ≡ left = (same_reading (length text) (chars text) ts rest us left r f s g).1 in
     let size : length (encode_utf8_all (skip false rest)) ≡ length (encode_utf8_all (skip false left)) = ap (λ z. length (encode_utf8_all (skip false z))) same in
     omega arith
+
+no_front : (ts : List Lexeme) (rest : List ℕ) → Reads 0 [] ts rest → 0 < length ts → ⊥
+no_front [] rest r l = omega arith
+no_front (t ∷ ts) rest (x, more, e, l, w, p, r) h = no_token_in_nothing t.class x more e l.token
+
+pub nothing_read : HasToken [] → ⊥
+nothing_read h = no_front h.0 h.1 (subst (λ z. Reads 0 z h.0 h.1) chars-nil h.2) h.3

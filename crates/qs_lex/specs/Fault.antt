@@ -1,5 +1,4 @@
--- When a text has no token list.
--- (Inner: it serves proofs, and no promise of the product is read by it.)
+-- When a text has no token list, and when memory may be wanting for it.
 use Rattle.std.specs.Prelude.{ℕ, ◌<◌, List, length}
 use Rattle.std.specs.Str.{chars}
 use Rattle.qs_lex.specs.Lexes.{Lexeme, Reads, StopsAt}

@@ -11,7 +11,7 @@ and-right : (a b : Bool) → (a && b) ≡ true → b ≡ true
 and-right true b h = h
 and-right false b h = absurd (true≢false (sym h))
 
-scalars_back : (x y : List ℕ) → all_scalars (x ++ y) ≡ true → all_scalars y ≡ true
+pub scalars_back : (x y : List ℕ) → all_scalars (x ++ y) ≡ true → all_scalars y ≡ true
 scalars_back [] y h = h
 scalars_back (c ∷ x) y h = scalars_back x y (and-right _ (all_scalars (x ++ y)) h)
 

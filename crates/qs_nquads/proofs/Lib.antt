@@ -8,6 +8,7 @@ pub mod Stops
 pub mod Numbers
 pub mod Readings
 pub mod Unique
+pub mod SomeOutcome
 pub mod Larger
 pub mod NumbersBelow
 pub mod PlacesBelow
@@ -18,8 +19,8 @@ pub mod Escaped
 pub mod WrittenFronts
 pub mod WrittenTokens
 pub mod TakenTokens
-pub mod TakenTags
 pub mod TakenEscapes
+pub mod TakenTags
 pub mod Renumbering
 pub mod OneLine
 pub mod WholeText

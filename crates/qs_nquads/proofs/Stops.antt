@@ -28,29 +28,29 @@ use Rattle.qs_regular.specs.Longest.{best}
 use Rattle.qs_nquads.specs.Table.{table}
 use Rattle.std.specs.Str.{chars}
 
--- ---- what is read is UTF-8
+-- ---- what is read is UTF-8, and reading by itself wants no memory
 
-is_utf8 : NqFaultKind → Bool
-is_utf8 fault.Utf8 = true
-is_utf8 fault.Token = false
-is_utf8 fault.Shape = false
-is_utf8 fault.Iri = false
-is_utf8 fault.Escape = false
-is_utf8 fault.Literal = false
-is_utf8 fault.Memory = false
-is_utf8 fault.Full = false
+is_never : NqFaultKind → Bool
+is_never fault.Utf8 = true
+is_never fault.Token = false
+is_never fault.Shape = false
+is_never fault.Iri = false
+is_never fault.Escape = false
+is_never fault.Literal = false
+is_never fault.Memory = true
+is_never fault.Full = false
 
 is_err : {A : Type 0} → Result A NqFaultKind → Bool
 is_err (Ok a) = false
-is_err (Err f) = is_utf8 f
+is_err (Err f) = is_never f
 
 unless_full : (b : Bool) (x : ℕ × Numbering) → is_err (if b then (Ok x) else (Err fault.Full)) ≡ false
-unfolding is_err is_utf8
+unfolding is_err is_never
 unless_full true x = refl
 unless_full false x = refl
 
 known_never : (n : Numbering) (label : List ℕ) (o : Option ℕ) → is_err (known_or_new n label o) ≡ false
-unfolding is_err is_utf8
+unfolding is_err is_never
 known_never n label (Some number) = refl
 known_never n label None = unless_full (nat_lt (n.next + 1) (2 ^ 64)) (n.next, record { numbers = insert_entry (slice_cmp nat_cmp) n.numbers label n.next; next = n.next + 1 })
 
@@ -60,28 +60,28 @@ blank_never (Ok numbered) e = refl
 blank_never (Err f) e = e
 
 label_never : (n : Numbering) (b : Bool) (label : List ℕ) → is_err (label_part n b label) ≡ false
-unfolding is_err is_utf8
+unfolding is_err is_never
 label_never n true label = blank_never (number n label) (known_never n label _)
 label_never n false label = refl
 
 iri_never : (n : Numbering) (r : Result (List ℕ) TermFault) → is_err (iri_part n r) ≡ false
-unfolding is_err is_utf8
+unfolding is_err is_never
 iri_never n (Ok i) = refl
 iri_never n (Err f) = refl
 
 part_never : (p : Place) (n : Numbering) (k : Class) (t : List ℕ) → is_err (part_of p n k t) ≡ false
-unfolding is_err is_utf8
+unfolding is_err is_never
 part_never p n class.Iri t = iri_never n _
 part_never p n class.Label t = label_never n (takes_label p) (behind t 2)
 part_never p n k t = refl
 
 literal_never : (s : Node) (p : List ℕ) (r : Result Literal TermFault) → is_err (with_literal s p r) ≡ false
-unfolding is_err is_utf8
+unfolding is_err is_never
 literal_never s p (Ok l) = refl
 literal_never s p (Err f) = refl
 
 after_never : (p : Place) (t : Part) → is_err (after p t) ≡ false
-unfolding is_err is_utf8
+unfolding is_err is_never
 after_never (place.Form s p form) (part.Tag t) = literal_never s p _
 after_never (place.Typed s p form) (part.Iri i) = literal_never s p _
 after_never place.Start (part.Iri i) = refl
@@ -153,7 +153,7 @@ taken_never p quads (Err f) e = e
 is_stop : Step → Bool
 is_stop (goes s) = false
 is_stop ends = false
-is_stop (stops f rest) = is_utf8 f
+is_stop (stops f rest) = is_never f
 
 stepped_never : (front rest : List ℕ) (r : Result Reading NqFaultKind) → is_err r ≡ false → is_stop (stepped front rest r) ≡ false
 unfolding is_err is_stop
@@ -161,12 +161,12 @@ stepped_never front rest (Ok r) e = refl
 stepped_never front rest (Err f) e = e
 
 over_never : (r : Reading) (front : List ℕ) (o : Option (Class × ℕ)) → is_stop (step_over r front o) ≡ false
-unfolding is_stop is_utf8
+unfolding is_stop is_never
 over_never r front None = refl
 over_never r front (Some t) = stepped_never front _ (read r t.0 _) (taken_never r.place r.quads _ (part_never r.place r.labels t.0 _))
 
 end_never : (b : Bool) → is_stop (if b then ends else stops fault.Shape []) ≡ false
-unfolding is_stop is_utf8
+unfolding is_stop is_never
 end_never true = refl
 end_never false = refl
 
@@ -175,11 +175,29 @@ from_never r [] = end_never (may_end r.place)
 from_never r (b ∷ bs) = over_never r (b ∷ bs) (best table (chars (b ∷ bs)))
 
 utf8_stops : (rest : List ℕ) → is_stop (stops fault.Utf8 rest) ≡ true
-unfolding is_stop is_utf8
+unfolding is_stop is_never
 utf8_stops rest = refl
 
 never_utf8 : (s : State) (rest : List ℕ) → step s ≡ stops fault.Utf8 rest → ⊥
 never_utf8 s rest e = true≢false (sym (utf8_stops rest) ∙ (ap is_stop (sym e) ∙ from_never s.reading (behind_gap s.rest)))
+
+memory_stops : (rest : List ℕ) → is_stop (stops fault.Memory rest) ≡ true
+unfolding is_stop is_never
+memory_stops rest = refl
+
+never_memory : (s : State) (rest : List ℕ) → step s ≡ stops fault.Memory rest → ⊥
+never_memory s rest e = true≢false (sym (memory_stops rest) ∙ (ap is_stop (sym e) ∙ from_never s.reading (behind_gap s.rest)))
+
+-- where reading stops, a fault other than want of memory is due
+pub due_at_stop : (from : State) (kind : NqFaultKind) (left : ℕ) → StopsAt from kind left → (kind ≢ fault.Memory) × IsStop from kind left
+due_at_stop from fault.Memory left s = absurd (never_memory s.0 s.1 s.3)
+due_at_stop from fault.Utf8 left s = absurd (never_utf8 s.0 s.1 s.3)
+due_at_stop from fault.Token left s = (λ e. cc, s)
+due_at_stop from fault.Shape left s = (λ e. cc, s)
+due_at_stop from fault.Iri left s = (λ e. cc, s)
+due_at_stop from fault.Escape left s = (λ e. cc, s)
+due_at_stop from fault.Literal left s = (λ e. cc, s)
+due_at_stop from fault.Full left s = (λ e. cc, s)
 
 -- ---- the fault that is due
 

@@ -1,71 +1,60 @@
--- A language tag that was taken is one.
-use Rattle.std.proofs.Common.{◌≡◌, ℕ, Bool, true, false, ◌==◌, List, [], ◌∷◌, ◌++◌, take, refl, sym, ap, ap₂, ◌∙◌, subst, arith, eqb-true, IsUtf8}
+-- A language tag and the label of a blank node that were taken, behind their marks.
+use Rattle.std.proofs.Common.{◌≡◌, ℕ, true, List, ◌∷◌, ◌++◌, take, refl, sym, ap, ap₂, ◌∙◌, subst, arith, IsUtf8}
 use Rattle.std.specs.Str.{chars}
-use Rattle.std.proofs.lemmas.Str.{encode_ascii}
-use lib.Utf8.{scalars, encodes}
-use Rattle.qs_regular.specs.Character.{is_letter, is_letter_or_digit}
-use Rattle.qs_regular.specs.Form.{Form, Spells, Pieces, none, more, one, many, plus, char, ◌⨾◌}
+use Rattle.std.proofs.lemmas.Bool.{and_parts}
+use Rattle.std.proofs.lemmas.Str.{encode_ascii, scalars-chars}
+use lib.Utf8.{scalar, scalars, encodes}
+use Rattle.qs_regular.specs.Form.{Spells, one, many, maybe, char, ◌⨾◌}
 use Rattle.qs_regular.specs.Longest.{LongestFront}
-use Rattle.qs_terms.specs.Tag.{is_tag, is_tag_rest, is_subtag_char}
+use Rattle.qs_terms.specs.Tag.{is_tag}
+use Rattle.qs_forms.proofs.Tags.{tag_form, lawful_tag}
 use Rattle.qs_nquads.specs.Part.{behind}
-use Rattle.qs_nquads.specs.Table.{table}
+use Rattle.qs_nquads.specs.Table.{table, is_label_start, is_label_inner, is_label_char}
+use Rattle.qs_nquads.specs.declared.class.Class.{Class}
 use Rattle.qs_nquads.specs.declared.class.Class.TheVariants as class
-use Rattle.qs_nquads.proofs.Apart as apart
+use Rattle.qs_nquads.proofs.TakenEscapes.{this_char, scalars_front}
 use Rattle.qs_nquads.proofs.TakenTokens.{token_bytes, spelled}
-use Rattle.qs_nquads.proofs.WrittenTokens.{behind_one, all_ascii, tag_chars, tag_small}
+use Rattle.qs_nquads.proofs.WrittenTokens.{behind_one, behind_two}
 
-abbrev tag_form : Form
-tag_form = plus (one is_letter) ⨾ many (char 45 ⨾ plus (one is_letter_or_digit))
+scalars_of : (text : List ℕ) (k : Class) (n : ℕ) → IsUtf8 text → (l : LongestFront table (chars text) k n) → scalars l.front ≡ true
+scalars_of text k n u l = scalars_front l.front l.rest (subst (λ z. scalars z ≡ true) l.text (scalars-chars text u))
 
--- ---- letters and digits
+tail_scalars : (c : ℕ) (x y : List ℕ) → x ≡ c ∷ y → scalars x ≡ true → scalars y ≡ true
+tail_scalars c x y e h = let t : scalars (c ∷ y) ≡ true = subst (λ z. scalars z ≡ true) e h in let p : (scalar c ≡ true) × (scalars y ≡ true) = and_parts _ _ t in p.1
 
--- characters of a subtag, behind one of them
-goes_through : (first : Bool) (p : ℕ → Bool) → ((c : ℕ) → p c ≡ true → (is_subtag_char first c ≡ true) × ((c == 45) ≡ false)) → (x y : List ℕ) → Pieces (Spells (one p)) x
-    → is_tag_rest first false y ≡ true → is_tag_rest first false (x ++ y) ≡ true
-goes_through first p f _ y none h = h
-goes_through first p f _ y (more u v s ps) h =
-    let c : ℕ = s.0 in
-    let q : (is_subtag_char first c ≡ true) × ((c == 45) ≡ false) = f c s.1 in
-    let next : is_tag_rest first false (v ++ y) ≡ true = goes_through first p f v y ps h in
-    let a : (c == 45) ≡ false = q.1 in let b : is_subtag_char first c ≡ true = q.0 in
-    subst (λ z. is_tag_rest first false ((z ++ v) ++ y) ≡ true) (sym s.2) (rw (a, b) next)
+module _ (text : List ℕ) (n : ℕ) (u : IsUtf8 text) where
+  -- ---- tags
 
--- the same with the first of them
-begins : (first : Bool) (p : ℕ → Bool) → ((c : ℕ) → p c ≡ true → (is_subtag_char first c ≡ true) × ((c == 45) ≡ false)) → (x y : List ℕ) → Spells (plus (one p)) x
-    → is_tag_rest first false y ≡ true → is_tag_rest first true (x ++ y) ≡ true
-begins first p f x y s h =
-    let u : List ℕ = s.0 in let v : List ℕ = s.1 in let c : ℕ = s.2.0 in
-    let q : (is_subtag_char first c ≡ true) × ((c == 45) ≡ false) = f c s.2.1 in
-    let a : (c == 45) ≡ false = q.1 in let b : is_subtag_char first c ≡ true = q.0 in
-    let next : is_tag_rest first false (v ++ y) ≡ true = goes_through first p f v y s.3 h in
-    let is : x ≡ c ∷ v = s.4 ∙ ap (λ z. z ++ v) s.2.2 in
-    subst (λ z. is_tag_rest first true (z ++ y) ≡ true) (sym is) (rw (a, b) next)
+  record Tag : Type 0 where
+    tag : List ℕ
+    form : Spells tag_form tag
+    whole : take n text ≡ 64 ∷ encodes tag
+    rest : behind (take n text) 1 ≡ encodes tag
 
-letters : (c : ℕ) → is_letter c ≡ true → (is_subtag_char true c ≡ true) × ((c == 45) ≡ false)
-unfolding is_letter
-letters c h = (h, apart.letter_dash c h)
+  taken_tag : LongestFront table (chars text) class.Tag n → Tag
+  taken_tag l =
+      let s : Spells (char 64 ⨾ tag_form) l.front = spelled class.Tag l.front l.token in
+      let t : List ℕ = s.1 in
+      let is : l.front ≡ 64 ∷ t = s.4 ∙ ap (λ z. z ++ t) (this_char 64 s.0 s.2) in
+      let ok : scalars t ≡ true = tail_scalars 64 l.front t is (scalars_of text class.Tag n u l) in
+      let bytes : take n text ≡ 64 ∷ encodes t = token_bytes text class.Tag n u l ∙ (ap encodes is ∙ ap (λ z. z ++ encodes t) (encode_ascii 64 (omega arith))) in
+      record { tag = t; form = s.3; whole = bytes; rest = ap (λ z. behind z 1) bytes ∙ behind_one 64 (encodes t) (omega arith) (t, (ok, refl)) }
 
-letters_or_digits : (c : ℕ) → is_letter_or_digit c ≡ true → (is_subtag_char false c ≡ true) × ((c == 45) ≡ false)
-unfolding is_letter_or_digit
-letters_or_digits c h = (h, apart.letter_or_digit_dash c h)
+  pub lawful : LongestFront table (chars text) class.Tag n → is_tag (behind (take n text) 1) ≡ true
+  lawful l = let t : Tag = taken_tag l in ap is_tag t.rest ∙ lawful_tag t.tag t.form
 
--- ---- subtags
+  pub tag_parted : LongestFront table (chars text) class.Tag n → take n text ≡ 64 ∷ behind (take n text) 1
+  tag_parted l = let t : Tag = taken_tag l in t.whole ∙ ap (λ z. 64 ∷ z) (sym t.rest)
 
-subtags : (first : Bool) (x : List ℕ) → Pieces (Spells (char 45 ⨾ plus (one is_letter_or_digit))) x → is_tag_rest first false x ≡ true
-subtags first _ none = refl
-subtags first _ (more u v s ps) =
-    let is : u ≡ 45 ∷ s.1 = s.4 ∙ ap (λ z. z ++ s.1) (s.2.2 ∙ ap (λ c. c ∷ []) (eqb-true s.2.0 45 s.2.1)) in
-    subst (λ z. is_tag_rest first false (z ++ v) ≡ true) (sym is) (begins false is_letter_or_digit letters_or_digits s.1 v s.3 (subtags false v ps))
+  -- ---- labels
 
-whole_tag : (x : List ℕ) → Spells tag_form x → is_tag x ≡ true
-whole_tag x s = subst (λ z. is_tag z ≡ true) (sym s.4) (begins true is_letter letters s.0 s.1 s.2 (subtags true s.1 s.3))
-
-pub lawful : (text : List ℕ) (n : ℕ) → IsUtf8 text → LongestFront table (chars text) class.Tag n → is_tag (behind (take n text) 1) ≡ true
-lawful text n u l =
-    let s : Spells (char 64 ⨾ tag_form) l.front = spelled class.Tag l.front l.token in
-    let t : List ℕ = s.1 in
-    let tag : is_tag t ≡ true = whole_tag t s.3 in
-    let is : l.front ≡ 64 ∷ t = s.4 ∙ ap (λ z. z ++ t) (s.2.2 ∙ ap (λ c. c ∷ []) (eqb-true s.2.0 64 s.2.1)) in
-    let a : (scalars t ≡ true) × (encodes t ≡ t) = all_ascii _ tag_small t (tag_chars t true true tag) in
-    let bytes : take n text ≡ 64 ∷ t = token_bytes text class.Tag n u l ∙ (ap encodes is ∙ ap₂ (λ (x y : List ℕ). x ++ y) (encode_ascii 64 (omega arith)) a.1) in
-    subst (λ z. is_tag z ≡ true) (sym (ap (λ z. behind z 1) bytes ∙ behind_one 64 t (omega arith) (t, a))) tag
+  pub label_parted : LongestFront table (chars text) class.Label n → take n text ≡ 95 ∷ 58 ∷ behind (take n text) 2
+  label_parted l =
+      let s : Spells (char 95 ⨾ char 58 ⨾ one is_label_start ⨾ maybe (many (one is_label_inner) ⨾ one is_label_char)) l.front = spelled class.Label l.front l.token in
+      let t : List ℕ = s.3.1 in
+      let is : l.front ≡ 95 ∷ 58 ∷ t = s.4 ∙ ap₂ (λ (a b : List ℕ). a ++ b) (this_char 95 s.0 s.2) (s.3.4 ∙ ap (λ z. z ++ t) (this_char 58 s.3.0 s.3.2)) in
+      let ok : scalars t ≡ true = tail_scalars 58 (58 ∷ t) t refl (tail_scalars 95 l.front (58 ∷ t) is (scalars_of text class.Label n u l)) in
+      let bytes : take n text ≡ 95 ∷ 58 ∷ encodes t =
+      token_bytes text class.Label n u l ∙ (ap encodes is ∙ ap₂ (λ (a b : List ℕ). a ++ b) (encode_ascii 95 (omega arith)) (ap (λ z. z ++ encodes t) (encode_ascii 58 (omega arith)))) in
+      let inner : behind (take n text) 2 ≡ encodes t = ap (λ z. behind z 2) bytes ∙ behind_two 95 58 (encodes t) (omega arith) (omega arith) (t, (ok, refl)) in
+      bytes ∙ ap (λ z. 95 ∷ 58 ∷ z) (sym inner)

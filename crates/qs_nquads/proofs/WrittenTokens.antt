@@ -95,7 +95,7 @@ behind_one a x ha u =
     let found : x ≡ slice_range (a ∷ x) 1 (length (a ∷ x)) = sym (ap (λ k. take k x) n ∙ take_all (length x) x (omega arith)) in
     sym (pieces.some (a ∷ x) x 1 (length (a ∷ x)) (ascii_text a ha x u) u found (omega arith) (omega arith))
 
-behind_two : (a b : ℕ) (x : List ℕ) → a < 128 → b < 128 → IsUtf8 x → behind (a ∷ b ∷ x) 2 ≡ x
+pub behind_two : (a b : ℕ) (x : List ℕ) → a < 128 → b < 128 → IsUtf8 x → behind (a ∷ b ∷ x) 2 ≡ x
 behind_two a b x ha hb u =
     let n : length (a ∷ b ∷ x) - 2 ≡ length x = omega arith in
     let found : x ≡ slice_range (a ∷ b ∷ x) 2 (length (a ∷ b ∷ x)) = sym (ap (λ k. take k x) n ∙ take_all (length x) x (omega arith)) in

@@ -10,4 +10,3 @@ pub mod Written
 pub mod Renumbered
 pub mod Joined
 pub mod WriteFault
-pub mod Backslashes

@@ -1,7 +1,7 @@
-//! The laws of N-Quads: bytes come to one thing at most, but for want of memory, and the next blank node's number is fresh; quads that
-//! are written are read back, each once.
+//! The laws of N-Quads: bytes come to one thing, but for want of memory, and the next blank node's number is fresh; tokens are what
+//! statements take for granted; quads that are written are read back, each once.
 
-ghost use Rattle.std.specs.Prelude.{◌≡◌, ◌≢◌, ◌≤◌, ◌↔◌, ℕ, List, IsTrue, Some, map, take};
+ghost use Rattle.std.specs.Prelude.{◌≡◌, ◌≢◌, ◌≤◌, ◌↔◌, ◌⊎◌, ◌++◌, ℕ, List, [], ◌∷◌, IsTrue, Some, map, take};
 ghost use Rattle.std.specs.Cmp.Lexicographic.{slice_cmp};
 ghost use Rattle.std.specs.List.{All, Contains, flat_map};
 ghost use Rattle.std.specs.List.Sorted.{IsStrictlySortedBy};
@@ -12,7 +12,7 @@ ghost use Rattle.qs_terms.specs.Dataset.{is_above_blanks};
 ghost use Rattle.qs_terms.specs.Statement.{Statement};
 ghost use Rattle.qs_terms.specs.Tag.{is_tag};
 ghost use Rattle.qs_escapes.specs.Escape.{uchar, string_escape};
-ghost use Rattle.qs_nquads.specs.Backslashes.{escapes_begin};
+ghost use Rattle.qs_forms.specs.Backslashes.{escapes_begin};
 ghost use Rattle.qs_nquads.specs.Nquads.{IsNquads, IsFault};
 ghost use Rattle.qs_nquads.specs.Part.{behind, inside};
 ghost use Rattle.qs_nquads.specs.Renumbered.{blanks_of, IsQuad, AreQuads, ReadsBack};
@@ -33,6 +33,11 @@ pub fn one_outcome()
     ensures fault { (bytes : List ℕ) (first : ℕ) (kind other : NqFaultKind) (line place : ℕ) → kind ≢ Memory → other ≢ Memory → IsFault bytes first kind line → IsFault bytes first other place → (kind ≡ other) × (line ≡ place) }
 {}
 
+/// Bytes are N-Quads of some list of statements, or a fault other than want of memory is due.
+pub fn some_outcome()
+    ensures { (bytes : List ℕ) (first : ℕ) → ((quads : List Statement) × (next : ℕ) × IsNquads bytes first quads next) ⊎ ((kind : NqFaultKind) × (line : ℕ) × (kind ≢ Memory) × IsFault bytes first kind line) }
+{}
+
 /// The next number of what is read as N-Quads is above the numbers of all blank nodes of its statements; it and they are at least the
 /// number that the first new label would get.
 pub fn next_number_is_fresh()
@@ -40,6 +45,17 @@ pub fn next_number_is_fresh()
     ensures at_least { (bytes : List ℕ) (first : ℕ) (quads : List Statement) (next : ℕ) → IsNquads bytes first quads next → first ≤ next }
     ensures from_first { (bytes : List ℕ) (first : ℕ) (quads : List Statement) (next : ℕ) → IsNquads bytes first quads next → All (λ b. first ≤ b) (flat_map blanks_of quads) }
 {}
+
+/// A token of an IRI, a string, a tag or a label is what a statement reads of it, and its marks: so what a piece is in the place of one
+/// that is none of the text never applies.
+pub fn tokens_stand_with_their_marks()
+    ensures iri { (text : List ℕ) (n : ℕ) → IsUtf8 text → best table (chars text) ≡ Some (class.Iri, n) → take n text ≡ 60 ∷ (inside (take n text) ++ 62 ∷ []) }
+    ensures string { (text : List ℕ) (n : ℕ) → IsUtf8 text → best table (chars text) ≡ Some (class.String, n) → take n text ≡ 34 ∷ (inside (take n text) ++ 34 ∷ []) }
+    ensures tag { (text : List ℕ) (n : ℕ) → IsUtf8 text → best table (chars text) ≡ Some (class.Tag, n) → take n text ≡ 64 ∷ behind (take n text) 1 }
+    ensures label { (text : List ℕ) (n : ℕ) → IsUtf8 text → best table (chars text) ≡ Some (class.Label, n) → take n text ≡ 95 ∷ 58 ∷ behind (take n text) 2 }
+{
+    best_is_longest::<Class>();
+}
 
 /// The tag in a token of its class is a language tag in the eyes of the terms too.
 pub fn tags_are_lawful()

@@ -23,7 +23,7 @@ pub(crate) struct Keyed<'a> {
 }
 
 // each solution with its keys
-fn keyed_rows<'a>(
+pub(crate) fn keyed_rows<'a>(
     alloc: Global,
     conditions: &[OrderCondition],
     rows: &'a [Row],
@@ -39,7 +39,7 @@ fn keyed_rows<'a>(
     Ok(keyed)
 }
 
-fn order_of(conditions: &[OrderCondition], a: &Keyed<'_>, b: &Keyed<'_>) -> Ordering
+pub(crate) fn order_of(conditions: &[OrderCondition], a: &Keyed<'_>, b: &Keyed<'_>) -> Ordering
     ensures { result ≡ compare_keys conditions.now a.now.keys.items b.now.keys.items }
 {
     compared(conditions, a.keys.as_slice(), b.keys.as_slice())
@@ -53,7 +53,7 @@ fn sort(conditions: &[OrderCondition], keyed: &mut Vec<Keyed<'_>>)
     keyed.sort_unstable_by(|a, b| order_of(conditions, a, b));
 }
 
-fn rows_of<'a>(alloc: Global, keyed: &[Keyed<'a>]) -> Result<Vec<&'a Row>, AllocError>
+pub(crate) fn rows_of<'a>(alloc: Global, keyed: &[Keyed<'a>]) -> Result<Vec<&'a Row>, AllocError>
     ensures { IfOk result (λ rows. lent rows.items ≡ map row_of keyed.now) }
 {
     let mut rows = Vec::new(alloc);
@@ -63,7 +63,7 @@ fn rows_of<'a>(alloc: Global, keyed: &[Keyed<'a>]) -> Result<Vec<&'a Row>, Alloc
     Ok(rows)
 }
 
-fn lent_rows<'a>(alloc: Global, rows: &'a [Row]) -> Result<Vec<&'a Row>, AllocError>
+pub(crate) fn lent_rows<'a>(alloc: Global, rows: &'a [Row]) -> Result<Vec<&'a Row>, AllocError>
     ensures { IfOk result (λ all. lent all.items ≡ rows.now) }
 {
     let mut all = Vec::new(alloc);

@@ -4,8 +4,10 @@
 #![tactic(auto)]
 
 mod condition;
+mod first;
 mod keyed;
 mod keys;
 
 pub use condition::OrderCondition;
+pub use first::first_ordered;
 pub use keyed::ordered;

@@ -1,4 +1,5 @@
 pub mod Cells
+pub mod Fronts
 pub mod Known
 pub mod Lengths
 pub mod Once

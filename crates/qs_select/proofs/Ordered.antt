@@ -32,7 +32,7 @@ use Rattle.qs_select.specs.declared.modifiers.Slice.{Slice}
 use Rattle.qs_select.proofs.Lengths.{sliced_length, counts_agree}
 
 module _ {X Y : Type 0} (f : X → Y) where
-  map_limited : (limit : Option ℕ) (xs : List X) → map f (limited limit xs) ≡ limited limit (map f xs)
+  pub map_limited : (limit : Option ℕ) (xs : List X) → map f (limited limit xs) ≡ limited limit (map f xs)
   map_limited None xs = refl
   map_limited (Some n) xs = sym (take-map f n xs)
 

@@ -1,18 +1,32 @@
 -- The sequence of solutions that stand in some order already.
 -- (Inner: it serves proofs, and no promise of the product is read by it.)
-use Rattle.std.specs.Prelude.{◌≡◌, ◌⊎◌, ◌<◌, ◌≤◌, ℕ, nat_lt, List, length, Ok, Err, if◌then◌else◌}
+use Rattle.std.specs.Prelude.{◌≡◌, ◌⊎◌, ◌<◌, ◌≤◌, ℕ, nat_lt, List, length, Option, Ok, Err, if◌then◌else◌}
 use Rattle.qs_terms.specs.Bag.{SameBag}
 use Rattle.qs_terms.specs.Outcome.{Outcome, and_then}
 use Rattle.qs_terms.specs.declared.fault.QFault.TheVariants.{TooManyRows}
 use Rattle.qs_solutions.specs.Solution.{Solution}
 use Rattle.qs_answer.specs.declared.answer.Answer.{Answer}
 use Rattle.qs_answer.specs.declared.answer.Answer.TheVariants.{Solutions}
+use Rattle.qs_order.specs.declared.condition.OrderCondition.{OrderCondition}
 use Rattle.qs_scope.specs.Names.{Name}
 use Rattle.qs_template.specs.Instances.{made}
 use Rattle.qs_select.specs.Outcome.{IsBuilt}
-use Rattle.qs_select.specs.Sequence.{sliced, listed_rows, count, IsInOrder}
+use Rattle.qs_select.specs.Sequence.{limited, sliced, listed_rows, count, IsInOrder}
 use Rattle.qs_select.specs.declared.construction.Construction.{Construction}
+use Rattle.qs_select.specs.declared.modifiers.Slice.{Slice}
 use Rattle.qs_select.specs.declared.selection.Selection.{Selection}
+
+-- all solutions in an order that the conditions allow, or so many at its front
+abbrev pub IsFront : List OrderCondition → List Solution → Option ℕ → List Solution → Type 0
+IsFront conditions solutions count front = (all : List Solution) × IsInOrder conditions solutions all × (front ≡ limited count all)
+
+-- so many have the same slice as all have
+abbrev pub Suffices : Slice → Option ℕ → Type 0
+Suffices slice count = (all : List Solution) → sliced slice (limited count all) ≡ sliced slice all
+
+-- and so many have the same sequence
+abbrev pub SufficesToSelect : Selection → Option ℕ → Type 0
+SufficesToSelect asked count = (all : List Solution) → sliced asked.slice (listed_rows asked (limited count all)) ≡ sliced asked.slice (listed_rows asked all)
 
 -- the rows of the sequence of the solutions in this order, unless they are more than max_rows
 abbrev pub IsRowsOf : Selection → ℕ → List Solution → Outcome (List Solution) → Type 0

@@ -14,12 +14,11 @@ ghost use Rattle.qs_select.specs.Sequence.{dataset_of, whole};
 use crate::construction::Construction;
 use crate::request::{Request, request_of};
 use crate::selection::Selection;
-use crate::sequence::{listed_rows, projected, sliced};
+use crate::sequence::{listed_rows, needed, needed_to_select, projected, put_in_order, sliced};
 use qs_algebra::NamedPattern;
 use qs_answer::Answer;
 use qs_ast::query::Query;
 use qs_eval::{Quads, solutions};
-use qs_order::ordered;
 use qs_solutions::Row;
 use qs_template::{each_once, instances};
 use qs_terms::{QFault, Quad, Term, Text};
@@ -65,8 +64,9 @@ fn sequence(
     ensures { OneOrWantOfMemory (in_order.IsRows asked.now (whole asked.now.pattern quads.now (graph_of quads.now (option_copied active.entry))) max_rows) result }
 {
     let all = all_solutions(alloc, &asked.pattern, quads, active)?;
-    let all = ordered(alloc, asked.order.as_slice(), all.as_slice())?;
-    rows_of(alloc, asked, all, max_rows)
+    let count = needed_to_select(asked);
+    let front = put_in_order(alloc, asked.order.as_slice(), all.as_slice(), count)?;
+    rows_of(alloc, asked, front, max_rows)
 }
 
 // the rows with the names of the variables
@@ -127,8 +127,9 @@ fn constructed(
     ensures { OneOrWantOfMemory (IsConstructed asked.now next_blank (whole asked.now.pattern quads.now (graph_of quads.now (option_copied active.entry))) max_rows) result }
 {
     let all = all_solutions(alloc, &asked.pattern, quads, active)?;
-    let all = ordered(alloc, asked.order.as_slice(), all.as_slice())?;
-    graph_of_rows(alloc, asked, next_blank, all.as_slice(), max_rows)
+    let count = needed(asked.slice);
+    let front = put_in_order(alloc, asked.order.as_slice(), all.as_slice(), count)?;
+    graph_of_rows(alloc, asked, next_blank, front.as_slice(), max_rows)
 }
 
 fn truth(

@@ -4,13 +4,50 @@
 ghost use Rattle.std.specs.Prelude.{◌≡◌, length, map, take, drop, min, IfOk};
 ghost use Rattle.qs_solutions.specs.Solution.{projected};
 ghost use Rattle.qs_eval.specs.Lent.{lent};
+ghost use Rattle.qs_select.specs.InOrder.{IsFront, Suffices, SufficesToSelect};
 ghost use Rattle.qs_select.specs.Sequence as spec;
 
 use crate::distinct::firsts;
 use crate::modifiers::Slice;
 use crate::selection::Selection;
+use qs_order::{OrderCondition, first_ordered, ordered};
 use qs_solutions::Row;
 use std::alloc::{AllocError, Global};
+
+/// How many of the solutions in order suffice for the slice, where not all are needed.
+pub fn needed(slice: Slice) -> Option<u64>
+    ensures { Suffices slice result }
+{
+    match slice.limit {
+        None => None,
+        Some(limit) => slice.offset.checked_add(limit),
+    }
+}
+
+/// How many of them suffice for the SELECT. Without duplicates all are needed: any of them may be one.
+pub fn needed_to_select(asked: &Selection) -> Option<u64>
+    ensures { SufficesToSelect asked.now result }
+{
+    if asked.is_distinct {
+        return None;
+    }
+    needed(asked.slice)
+}
+
+/// The rows in an order of the conditions: all, or so many of the first ones.
+pub fn put_in_order<'a>(
+    alloc: Global,
+    conditions: &[OrderCondition],
+    rows: &'a [Row],
+    needed: Option<u64>,
+) -> Result<Vec<&'a Row>, AllocError>
+    ensures { IfOk result (λ front. IsFront conditions.now rows.now needed (lent front.items)) }
+{
+    match needed {
+        None => ordered(alloc, conditions, rows),
+        Some(count) => first_ordered(alloc, conditions, rows, count),
+    }
+}
 
 /// The rows that are listed of those in order: all, or without duplicates the first ones. They aren't projected yet.
 pub fn listed_rows<'a>(

@@ -1,3 +1,8 @@
 pub mod Slices
 pub mod OneOutcome
+pub mod Remembers
+pub mod SomeOutcome
+pub mod NoTokens
+pub mod Granted
 pub mod Listed
+pub mod FirstPlace

@@ -1,3 +1,5 @@
 pub mod Kinds
 pub mod Text
+pub mod Granted
 pub mod Outcome
+pub mod FirstPlace

@@ -1,7 +1,7 @@
 -- The tokens of a text, and the places of their faults (SPARQL 1.1 Query, 19.8).
 use Rattle.std.specs.Prelude.{◌≡◌, ℕ, List, map, Option, Some, None, slice_get}
 use Rattle.qs_grammar.specs.Grammar.{Spells, IsDue}
-use Rattle.qs_lex.specs.Lexes.{Lexeme, Lexes, StopsAt}
+use Rattle.qs_lex.specs.Lexes.{Lexeme, Lexes}
 use Rattle.qs_terms.specs.declared.fault.QFault.{QFault}
 use Rattle.qs_terms.specs.declared.fault.QFault.TheVariants.{Syntax, Memory}
 use Rattle.qs_tree.specs.declared.token.Token.{Token}
@@ -12,12 +12,6 @@ use Rattle.qs_syntax.specs.Kinds.{token_of}
 -- the tokens are those of the text
 abbrev pub AreTokensOf : List ℕ → List Token → Type 0
 AreTokensOf text tokens = (ts : List Lexeme) × Lexes text ts × (tokens ≡ map token_of ts)
-
--- no token begins at the place
-abbrev pub IsTokenFault : List ℕ → QFault → Type 0
-IsTokenFault text (Syntax place) = StopsAt text place
-IsTokenFault text Memory = Unit {0}
-IsTokenFault text fault = ⊥
 
 -- the place of a token, or the end where there is none
 abbrev pub place_or_end : ℕ → Option Token → ℕ

@@ -1,14 +1,31 @@
 //! What holds of all texts.
 
-ghost use Rattle.std.specs.Prelude.{◌≡◌, List, ℕ, Ok};
+ghost use Rattle.std.specs.Prelude.{◌≡◌, List, ℕ, [], Some, Ok, Err};
+ghost use Rattle.std.specs.List.{AllByRecursion};
+ghost use Rattle.std.specs.Str.{IsUtf8};
 ghost use Rattle.qs_ast.specs.declared.query.Query.{Query};
 ghost use Rattle.qs_ast.specs.declared.update.Update.{Update};
 ghost use Rattle.qs_scope.specs.Laws.{AreListed};
 ghost use Rattle.qs_scope.specs.VariablesIn.{in_query, in_update};
+ghost use Rattle.qs_escapes.specs.Piece.{piece};
+ghost use Rattle.qs_limits.specs.Large as large;
+ghost use Rattle.qs_resolve.specs.Resolved.{resolved_query, resolved_update};
+ghost use Rattle.qs_settle.specs.Settled.{query_outcome, update_outcome, variables_of};
+ghost use Rattle.qs_lex.specs.Fault.{HasToken};
+ghost use Rattle.qs_lex.specs.Lexes.{Lexeme, Lexes};
 ghost use Rattle.qs_terms.specs.Outcome.{Outcome};
+ghost use Rattle.qs_terms.specs.declared.fault.QFault.{QFault};
+ghost use Rattle.qs_terms.specs.declared.fault.QFault.TheVariants.{Syntax};
+ghost use Rattle.qs_tree.specs.declared.query.Query.{Query as WrittenQuery};
+ghost use Rattle.qs_tree.specs.declared.update.Update.{Update as WrittenUpdate};
+ghost use Rattle.qs_tree.specs.declared.token.Token.{Token};
+ghost use Rattle.qs_syntax.specs.FirstPlace.{IsOfName, IsFirst};
+ghost use Rattle.qs_syntax.specs.Granted.{IsGrantedToken};
+ghost use Rattle.qs_syntax.specs.Kinds.{token_of};
 ghost use Rattle.qs_syntax.specs.Outcome.{IsQueryOutcome, IsUpdateOutcome};
+ghost use Rattle.qs_syntax.specs.Text.{AreTokensOf};
 
-use qs_lex::laws::one_token_list;
+use qs_lex::laws::{one_token_list, some_token_list, tokens_are_sound};
 use qs_settle::laws::settled_variables_are_listed;
 use qs_tree::laws::one_tree;
 
@@ -20,6 +37,40 @@ pub fn one_outcome()
     one_token_list();
     one_tree();
 }
+
+/// A text comes to something: to a query, or to a fault that is due; and so does it as an update.
+pub fn some_outcome()
+    ensures of_query { (text : List ℕ) → IsUtf8 text → (outcome : Outcome Query) × IsQueryOutcome text outcome }
+    ensures of_update { (text : List ℕ) → IsUtf8 text → (outcome : Outcome Update) × IsUpdateOutcome text outcome }
+{
+    some_token_list();
+}
+
+/// The tokens of a text are what the layers above take for granted: the span of each is the piece of the text that the token is; what
+/// is read of an IRI, a name, a variable, a label, a string or a tag is a piece of it; an escape begins at each backslash in a string or an
+/// IRI; a decoded IRI, and a local name without its backslashes, have no character that IRIs exclude; and a tag is one in the eyes of the
+/// terms. So what the definitions say of other pieces, backslashes, IRIs and tags never applies.
+pub fn tokens_are_granted()
+    ensures pieces { (text : List ℕ) (ts : List Lexeme) → IsUtf8 text → Lexes text ts → AllByRecursion (λ t. piece text (token_of t).span.start (token_of t).span.end ≡ t.text) ts }
+    ensures parts { (text : List ℕ) (tokens : List Token) → IsUtf8 text → AreTokensOf text tokens → AllByRecursion (IsGrantedToken text) tokens }
+{
+    tokens_are_sound();
+}
+
+/// The empty text comes to a fault of syntax at 0, and has no token: so `parse_query` answers that fault, and no want of memory.
+pub fn empty_text_is_no_query()
+    ensures fault { IsQueryOutcome [] (Err (Syntax 0)) }
+    ensures no_token { HasToken [] → ⊥ }
+{
+    one_token_list();
+}
+
+/// Of a name that can't be resolved and of a limit that is passed the one with the first place in the text is told, and at one place
+/// the name's.
+pub fn first_place_is_told()
+    ensures of_query { (text : List ℕ) (tokens : List Token) (tree : WrittenQuery) (f : QFault) (at limit : ℕ) → resolved_query text (variables_of text tokens) tree ≡ Err f → IsOfName f at → large.query tree ≡ Some limit → IsFirst f at limit (query_outcome text tokens tree) }
+    ensures of_update { (text : List ℕ) (tokens : List Token) (tree : WrittenUpdate) (f : QFault) (at limit : ℕ) → resolved_update text (variables_of text tokens) tree ≡ Err f → IsOfName f at → large.update tree ≡ Some limit → IsFirst f at limit (update_outcome text tokens tree) }
+{}
 
 /// Each variable that stands anywhere in the query of a text is among the variables that the query lists; and so in an update.
 pub fn variables_are_listed()

@@ -2,10 +2,12 @@
 
 ghost use Rattle.std.specs.Prelude.{◌≡◌, IfOk, IfErr, length};
 ghost use Rattle.qs_grammar.specs.Grammar.{Spells};
+ghost use Rattle.qs_lex.specs.Fault.{HasToken};
 ghost use Rattle.qs_tree.specs.Rules as rules;
 ghost use Rattle.qs_tree.specs.Table.{grammar};
 ghost use Rattle.qs_settle.specs.Settled.{query_outcome, update_outcome};
 ghost use Rattle.qs_terms.specs.Outcome.{OneOrWantOfMemory};
+ghost use Rattle.qs_terms.specs.declared.fault.QFault.TheVariants.{Memory};
 ghost use Rattle.qs_syntax.specs.Outcome.{IsOutcomeOfTokens, IsQueryOutcome, IsUpdateOutcome};
 
 use crate::token::tokens;
@@ -42,18 +44,22 @@ fn update_of(alloc: Global, text: &str, tokens: &[Token]) -> Result<Update, QFau
 /// Whichever has the first place of `QFault::Prefix` at a name whose prefix isn't declared, `QFault::RelativeIri` at an IRI without a
 /// scheme, and `QFault::TooLarge` at the 257th element of a group or operand of a chain; at one place in this order.
 /// `QFault::Scope` where a rule of scope is broken (SPARQL 1.1 Query, the notes in 19.8). `QFault::Memory` for want of memory, at
-/// any time.
+/// any time once there is a token.
 pub fn parse_query(alloc: Global, text: &str) -> Result<Query, QFault>
-    ensures { OneOrWantOfMemory (IsQueryOutcome text.now) result }
+    ensures outcome { OneOrWantOfMemory (IsQueryOutcome text.now) result }
+    ensures kept { IfErr result (λ fault. fault ≡ Memory → HasToken text.now) }
 {
     let tokens = tokens(alloc, text)?;
+    if tokens.is_empty() {
+        return Err(QFault::Syntax { place: text.len() });
+    }
     query_of(alloc, text, &tokens)
 }
 
 /// The update of a text, with its names resolved (SPARQL 1.1 Query, 19.8, [3]).
 ///
 /// # Errors
-/// As of `parse_query`.
+/// As of `parse_query`, with `QFault::Memory` also for a text without tokens, which is an update.
 pub fn parse_update(alloc: Global, text: &str) -> Result<Update, QFault>
     ensures { OneOrWantOfMemory (IsUpdateOutcome text.now) result }
 {

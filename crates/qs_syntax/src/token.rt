@@ -1,10 +1,11 @@
 //! The tokens of a text, by kind.
 
-ghost use Rattle.std.specs.Prelude.{◌≡◌, map, All, IfOk, MatchResult};
+ghost use Rattle.std.specs.Prelude.{◌≡◌, ◌<◌, length, map, All, IfOk, IfErr, MatchResult};
+ghost use Rattle.qs_lex.specs.Fault.{IsFaultOf};
 ghost use Rattle.qs_lex.specs.Lexes.{lexeme};
 ghost use Rattle.qs_lex.specs.Place.{IsSliceOf};
 ghost use Rattle.qs_syntax.specs.Kinds.{kind_of, token_of};
-ghost use Rattle.qs_syntax.specs.Text.{AreTokensOf, IsTokenFault};
+ghost use Rattle.qs_syntax.specs.Text.{AreTokensOf};
 
 use qs_lex::Class;
 use qs_terms::QFault;
@@ -53,7 +54,8 @@ fn tokens_of(
     lexemes: &[qs_lex::Token<'_>],
 ) -> Result<Vec<Token>, AllocError>
     requires { All (IsSliceOf text.now) lexemes.now }
-    ensures { IfOk result (λ v. v.items ≡ map token_of (map lexeme lexemes.now)) }
+    ensures kinds { IfOk result (λ v. v.items ≡ map token_of (map lexeme lexemes.now)) }
+    ensures kept { IfErr result (λ _. 0 < length lexemes.now) }
 {
     let mut tokens = Vec::with_capacity(alloc, lexemes.len())?;
     for i in 0..lexemes.len() {
@@ -67,9 +69,9 @@ fn tokens_of(
 ///
 /// # Errors
 /// `QFault::Syntax` with the first byte place, behind white space and comments, at which no token begins. `QFault::Memory` for
-/// want of memory.
+/// want of memory, which comes only where the text begins with a token.
 pub fn tokens(alloc: Global, text: &str) -> Result<Vec<Token>, QFault>
-    ensures { MatchResult result (λ v. AreTokensOf text.now v.items) (λ fault. IsTokenFault text.now fault) }
+    ensures { MatchResult result (λ v. AreTokensOf text.now v.items) (λ fault. IsFaultOf text.now fault) }
 {
     let lexemes = qs_lex::tokens(alloc, text)?;
     Ok(tokens_of(alloc, text, &lexemes)?)

@@ -1,4 +1,5 @@
-use Rattle.std.proofs.Common.{◌≡◌, ◌++◌, [], ◌∷◌, length, Some, arith, rules, sym, ap, ◌∙◌, subst}
+use Rattle.std.proofs.Common.{◌≡◌, ◌++◌, [], ◌∷◌, length, Some, arith, sym, ap, ◌∙◌, subst}
+use Rattle.std.proofs.lemmas.List.{length_push}
 use Rattle.std.proofs.lemmas.List.Elements.{All-append, All-cons, All-nil, All-pop}
 use Rattle.qs_index.specs.Layout.{IsPageSize, HasPageSizes, over}
 use Rattle.qs_index.proofs.Filled.{insert_last}
@@ -14,14 +15,14 @@ invariant_of-self c =
     let fewer = lengths_pop _ _ _ c.in-Some.ensures.items in
     let none : c.in-Some.page ≡ [] = (All-pop (λ page. page ≡ []) _ _ (Some c.in-Some.page) c.in-Some.ensures.items i.empty).1 in
     let one : c.insert.new.self ≡ x ∷ [] = c.insert.ensures ∙ ap (λ r. x ∷ r) none in
-    let end : c.len-end.result ≡ length pages = search (rules, c.len-end.ensures) in
-    let made : c.add_page.new.list.items ≡ pages ++ (x ∷ []) ∷ [] = c.add_page.ensures.items ∙ insert_last pages c.len-end.result c.insert.new.self end ∙ ap (λ r. pages ++ r ∷ []) one in
+    let made : c.insert-in-Some.new.self.items ≡ pages ++ (x ∷ []) ∷ [] = c.insert-in-Some.ensures.items ∙ insert_last pages c.len-end.result c.insert.new.self c.len-end.ensures ∙ ap (λ r. pages ++ r ∷ []) one in
+    let longer = ap length made ∙ length_push pages (x ∷ []) in
     let o = ap over made ∙ over-append pages ((x ∷ []) ∷ []) in
     record {
       sizes = subst HasPageSizes (sym made) (All-append IsPageSize pages ((x ∷ []) ∷ []) i.sizes (All-cons IsPageSize (x ∷ []) [] (omega arith, omega arith) (All-nil IsPageSize)));
       empty = (All-pop (λ page. page ≡ []) _ _ (Some c.in-Some.page) c.in-Some.ensures.items i.empty).0;
-      room_in_use = omega (arith, i.room_in_use, c.add_page.ensures.longer, c.add_page.ensures.capacity);
-      room_aside = omega (arith, i.room_aside, c.add_page.ensures.longer, c.in-Some.ensures.capacity);
+      room_in_use = omega (arith, i.room_in_use, c.insert-in-Some.ensures.room);
+      room_aside = omega (arith, i.room_aside, c.in-Some.ensures.capacity);
       above = omega (arith, i.above);
     }
 
@@ -32,6 +33,5 @@ returns-in-Some-clause-pages c =
     let x = c.args.entry in
     let none : c.in-Some.page ≡ [] = (All-pop (λ page. page ≡ []) _ _ (Some c.in-Some.page) c.in-Some.ensures.items i.empty).1 in
     let one : c.insert.new.self ≡ x ∷ [] = c.insert.ensures ∙ ap (λ r. x ∷ r) none in
-    let end : c.len-end.result ≡ length pages = search (rules, c.len-end.ensures) in
-    let made : c.add_page.new.list.items ≡ pages ++ (x ∷ []) ∷ [] = c.add_page.ensures.items ∙ insert_last pages c.len-end.result c.insert.new.self end ∙ ap (λ r. pages ++ r ∷ []) one in
-    subst (λ s. c.add_page.new.list.items ≡ s.pages ++ (x ∷ []) ∷ []) c.self.view_is made
+    let made : c.insert-in-Some.new.self.items ≡ pages ++ (x ∷ []) ∷ [] = c.insert-in-Some.ensures.items ∙ insert_last pages c.len-end.result c.insert.new.self c.len-end.ensures ∙ ap (λ r. pages ++ r ∷ []) one in
+    subst (λ s. c.insert-in-Some.new.self.items ≡ s.pages ++ (x ∷ []) ∷ []) c.self.view_is made

@@ -1,7 +1,7 @@
 use Rattle.std.proofs.Common.{◌≡◌, ◌-◌, take, length, drop, arith, [], ap, ◌∙◌}
 use Rattle.std.proofs.lemmas.List.{length-drop, take_rest}
 use Rattle.qs_index.proofs.PageEdits.{kept_of_ok}
-use Rattle.qs_index.proofs.pages.Page.split_into.Goals as goal
+use Rattle.qs_index.proofs.page.Page.split_into.Goals as goal
 
 pub returns-clause-upper : goal.returns-clause-upper
 returns-clause-upper c =

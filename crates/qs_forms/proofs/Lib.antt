@@ -1,0 +1,5 @@
+pub mod Bytes
+pub mod Spelled
+pub mod Escapes
+pub mod Tags
+pub mod Pieces

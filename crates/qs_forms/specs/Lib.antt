@@ -1,0 +1,2 @@
+pub mod Backslashes
+pub mod StandsFor

@@ -1,0 +1,108 @@
+// A page: a short list of entries.
+ghost use Rattle.std.specs.Prelude.{◌≡◌, ℕ, ◌-◌, ◌<◌, ◌≤◌, List, [], length, take, drop, IfOk, slice_index_or, vec_capacity};
+ghost use Rattle.std.specs.List.{insert, remove};
+ghost use Rattle.qs_index.specs.Layout.{IsPage, IsLastOf};
+
+use std::alloc::{AllocError, Global};
+use std::marker::Model;
+
+/// How many entries a page holds at most.
+pub const PAGE: usize = 256;
+
+/// How many entries each half of a split page has.
+pub const HALF: usize = 128;
+
+// A page has its last entry beside its list, too: a search among the pages reads only these, which lie side by side.
+#[derive(Drop)]
+pub struct Page {
+    entries: Vec<[u32; 4]>,
+    last: [u32; 4],
+}
+
+impl Model for Page {
+    ghost Value = { List (List ℕ) };
+
+    ghost view = { λ p. p.entries.items };
+
+    ghost invariant = { λ p. IsPage p.entries.items (vec_capacity p.entries) p.last };
+}
+
+// The last entry, or the given one where there is none.
+fn last_of(entries: &Vec<[u32; 4]>, none: [u32; 4]) -> [u32; 4]
+    ensures { IsLastOf entries.now.items result }
+{
+    match entries.last() {
+        Some(last) => *last,
+        None => none,
+    }
+}
+
+impl Page {
+    pub fn new(alloc: Global) -> Result<Page, AllocError>
+        ensures { IfOk result (λ p. p ≡ []) }
+    {
+        let entries = Vec::with_capacity(alloc, PAGE)?;
+        Ok(Page {
+            entries,
+            last: [0; 4],
+        })
+    }
+
+    pub fn len(&self) -> usize
+        ensures len { result ≡ length self.now }
+        ensures small { result ≤ 256 }
+    {
+        self.entries.len()
+    }
+
+    // How many entries there are above a half.
+    pub fn above_half(&self) -> usize
+        ensures above { result ≡ length self.now - 128 }
+        ensures small { result ≤ 128 }
+    {
+        self.entries.len().saturating_sub(HALF)
+    }
+
+    pub fn entries(&self) -> &[[u32; 4]]
+        ensures { result.now ≡ self.now }
+    {
+        &self.entries
+    }
+
+    pub fn last(&self) -> &[u32; 4]
+        requires { 0 < length self.now }
+        ensures { result.now ≡ slice_index_or self.now (length self.now - 1) [] }
+    {
+        &self.last
+    }
+
+    pub fn insert(&mut self, at: usize, entry: [u32; 4])
+        requires room { length self.old < 256 }
+        requires within { at ≤ length self.old }
+        ensures { self.new ≡ insert self.old at entry }
+    {
+        let _ = self.entries.insert(at, entry);
+        self.last = last_of(&self.entries, entry);
+    }
+
+    pub fn remove(&mut self, at: usize)
+        requires { at < length self.old }
+        ensures { self.new ≡ remove self.old at }
+    {
+        let taken = self.entries.remove(at);
+        self.last = last_of(&self.entries, taken);
+    }
+
+    // Moves the upper half of a full page into an empty one.
+    pub fn split_into(&mut self, upper: &mut Page)
+        requires full { length self.old ≡ 256 }
+        requires empty { upper.old ≡ [] }
+        ensures lower { self.new ≡ take 128 self.old }
+        ensures upper { upper.new ≡ drop 128 self.old }
+    {
+        let _ = upper.entries.extend_from_slice(&self.entries[HALF..]);
+        upper.last = last_of(&upper.entries, self.last);
+        self.entries.truncate(HALF);
+        self.last = last_of(&self.entries, self.last);
+    }
+}

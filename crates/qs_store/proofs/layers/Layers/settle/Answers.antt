@@ -1,0 +1,16 @@
+use Rattle.std.proofs.Common.{[], ap, subst, ◌∙◌}
+use Rattle.qs_store.specs.Layers.{drafted}
+use Rattle.qs_store.specs.Same.{SameSet}
+use Rattle.qs_store.proofs.Drafted.{settled, drafted_none}
+use Rattle.qs_store.proofs.layers.Layers.settle.Goals as goal
+
+pub returns-clause-base : goal.returns-clause-base
+returns-clause-base c =
+    let s = c.self.inside in
+    subst (λ v. SameSet c.put_all.new.index.entries v.draft) c.self.view_is
+    (settled s.index.entries c.take_all.new.index.entries c.put_all.new.index.entries s.removed.entries s.added.entries c.take_all.ensures.difference c.put_all.ensures.union)
+
+pub returns-clause-draft : goal.returns-clause-draft
+returns-clause-draft c =
+    let base = c.put_all.new.index.entries in
+    ap (λ r. drafted base r c.empty-2.result.entries) c.empty.ensures.entries ∙ ap (λ a. drafted base [] a) c.empty-2.ensures.entries ∙ drafted_none base

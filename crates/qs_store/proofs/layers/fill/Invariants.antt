@@ -1,0 +1,9 @@
+use Rattle.std.proofs.Common.{◌≡◌, ◌++◌, length, take}
+use Rattle.qs_store.proofs.layers.fill.Given as goal
+
+abbrev pub invariant-loop-entry : goal.invariant-loop-entry
+invariant-loop-entry l = record {
+  whole : l.yielded ++ l.entry-iterator.rest ≡ l.fn.index.entries;
+  done : take l.count l.batch ≡ l.yielded;
+  count : l.count ≡ length l.yielded;
+}

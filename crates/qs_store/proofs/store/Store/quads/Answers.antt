@@ -1,0 +1,10 @@
+use Rattle.std.proofs.Common.{◌≡◌, sym, subst, ◌∙◌}
+use Rattle.qs_store.specs.Entries.{AreEntries}
+use Rattle.qs_store.proofs.Entries.{whole_entries}
+use Rattle.qs_store.proofs.store.Store.quads.Goals as goal
+
+pub quads_of-requires : goal.quads_of-requires
+quads_of-requires c =
+    let s = c.self.inside in
+    let i = c.self.invariant in
+    subst (AreEntries s.dict.terms) (sym (c.deref.ensures.value ∙ c.in_ok-entries.ensures)) (whole_entries s.dict.terms s.known s.layers.base i.within i.known_base)

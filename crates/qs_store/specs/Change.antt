@@ -1,0 +1,38 @@
+-- A change: quads are removed, and then others are added.
+use Rattle.std.specs.Prelude.{◌≡◌, ℕ, ◌<◌, ◌≤◌, List, [], ◌∷◌, length, take, Result, Ok, Err}
+use Rattle.std.specs.List.{cons_option, flat_map}
+use Rattle.qs_terms.specs.Bag.{SameBag, with_new}
+use Rattle.qs_terms.specs.Term.{same_term}
+use Rattle.qs_terms.specs.Statement.{Statement}
+use Rattle.qs_terms.specs.declared.term.Term.{Term}
+use Rattle.qs_store.specs.declared.fault.StoreFault.{StoreFault}
+use Rattle.qs_store.specs.declared.fault.StoreFault.TheVariants.{Full, Memory}
+
+-- the terms of a quad
+abbrev pub terms_of : Statement → List Term
+terms_of q = cons_option q.graph (q.subject ∷ q.predicate ∷ q.object ∷ [])
+
+-- the terms with these behind them, each once
+abbrev pub with_terms : List Term → List Term → List Term
+with_terms known [] = known
+with_terms known (term ∷ terms) = with_terms (with_new same_term known term) terms
+
+-- the known terms and the other terms of the quads, each once
+abbrev pub with_terms_of : List Term → List Statement → List Term
+with_terms_of known quads = with_terms known (flat_map terms_of quads)
+
+-- the known terms, followed in some order by the other terms of the quads, each once
+pub record KnowsTermsOf (old : List Term) (quads : List Statement) (new : List Term) : Type 0 where
+  pub front : take (length old) new ≡ old
+  pub same : SameBag new (with_terms_of old quads)
+
+-- a change that needs so many terms is done only where they are no more than the limit, and refused as full only where they are more
+abbrev pub IsFullExactly : {X : Type 0} → ℕ → ℕ → Result X StoreFault → Type 0
+IsFullExactly limit wanted (Ok done) = wanted ≤ limit
+IsFullExactly limit wanted (Err Full) = limit < wanted
+IsFullExactly limit wanted (Err Memory) = Unit {0}
+
+-- only full where the terms that are wanted are more than the limit
+abbrev pub IsFullAt : StoreFault → ℕ → ℕ → Type 0
+IsFullAt Full limit wanted = limit < wanted
+IsFullAt Memory limit wanted = Unit {0}

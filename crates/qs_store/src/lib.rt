@@ -1,0 +1,14 @@
+//! A store of quads: a set of quads, a next blank node's number and a list of known terms, kept as entries of numbers over a dictionary
+//! and an index. A draft of a store has quads added and removed apart, and becomes the store by a commit, which takes no memory.
+#![tactic(auto)]
+
+mod default_graph;
+mod fault;
+mod layers;
+mod numbers;
+mod quads;
+mod store;
+
+pub use default_graph::DefaultGraph;
+pub use fault::StoreFault;
+pub use store::{Draft, Store};

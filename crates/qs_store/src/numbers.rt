@@ -1,0 +1,116 @@
+//! Quads as entries of the numbers of their terms.
+
+ghost use Rattle.std.specs.Prelude.{◌≡◌, Some, [], length, map, IsTrue, IfOk, OnOk, IfErr};
+ghost use Rattle.std.specs.List.{cons_option, filter_map};
+ghost use Rattle.std.specs.Option.{option_copied};
+ghost use Rattle.qs_terms.specs.Bag.{with_new};
+ghost use Rattle.qs_terms.specs.Statement.{fits_places};
+ghost use Rattle.qs_terms.specs.Term.{same_term};
+ghost use Rattle.qs_dict.specs.Dict.{IsDictionary, number_of};
+ghost use Rattle.qs_store.specs.Change.{terms_of, with_terms, with_terms_of, IsFullAt};
+ghost use Rattle.qs_store.specs.Entries.{entry_of, graph_number};
+ghost use Rattle.qs_store.specs.Store.{AreLawful, IsFront};
+
+use crate::fault::StoreFault;
+use qs_dict::Dict;
+use qs_terms::{Quad, Term};
+use std::alloc::{AllocError, Global};
+
+fn graph_number(dict: &Dict, graph: Option<&Term>) -> Option<u32>
+    ensures { result ≡ graph_number dict.now.terms (option_copied graph.entry) }
+{
+    match graph {
+        None => Some(0),
+        Some(name) => dict.find(name),
+    }
+}
+
+/// The entry of the quad, where all its terms have numbers.
+pub fn entry_of(dict: &Dict, quad: &Quad) -> Option<[u32; 4]>
+    ensures { result ≡ entry_of dict.now.terms quad.now }
+{
+    let g = graph_number(dict, quad.graph())?;
+    let s = dict.find(quad.subject())?;
+    let p = dict.find(quad.predicate())?;
+    let o = dict.find(quad.object())?;
+    Some([g, s, p, o])
+}
+
+/// The entries of those of the quads whose terms all have numbers.
+pub fn entries_of(alloc: Global, dict: &Dict, quads: &[Quad]) -> Result<Vec<[u32; 4]>, AllocError>
+    ensures { IfOk result (λ entries. entries.items ≡ filter_map (entry_of dict.now.terms) quads.now) }
+{
+    quads
+        .iter()
+        .filter_map(|quad| entry_of(dict, quad))
+        .collect(alloc)
+}
+
+/// The number of the term, which is put behind the others where it is new.
+fn put(dict: &mut Dict, term: &Term) -> Result<u32, StoreFault>
+    ensures number { IfOk result (λ n. number_of dict.new.terms term.now ≡ Some n) }
+    ensures terms { OnOk result (dict.new.terms ≡ with_new same_term dict.old.terms term.now) }
+    ensures front { IsFront dict.old.terms dict.new.terms }
+    ensures full { IfErr result (λ fault. IsFullAt fault dict.old.limit (length (with_new same_term dict.old.terms term.now))) }
+    ensures limit { dict.new.limit ≡ dict.old.limit }
+    ensures lawful { IsDictionary dict.new }
+{
+    match dict.number(term) {
+        Ok(number) => Ok(number),
+        Err(fault) => Err(StoreFault::from(fault)),
+    }
+}
+
+/// The same of the name of a graph; the default graph has number 0.
+fn put_graph(dict: &mut Dict, graph: Option<&Term>) -> Result<u32, StoreFault>
+    ensures number { IfOk result (λ n. graph_number dict.new.terms (option_copied graph.entry) ≡ Some n) }
+    ensures terms { OnOk result (dict.new.terms ≡ with_terms dict.old.terms (cons_option (option_copied graph.entry) [])) }
+    ensures front { IsFront dict.old.terms dict.new.terms }
+    ensures full { IfErr result (λ fault. IsFullAt fault dict.old.limit (length (with_terms dict.old.terms (cons_option (option_copied graph.entry) [])))) }
+    ensures limit { dict.new.limit ≡ dict.old.limit }
+{
+    match graph {
+        None => Ok(0),
+        Some(name) => put(dict, name),
+    }
+}
+
+/// The entry of the quad, whose new terms are put behind the others in the dictionary.
+fn numbered(dict: &mut Dict, quad: &Quad) -> Result<[u32; 4], StoreFault>
+    ensures entry { IfOk result (λ entry. entry_of dict.new.terms quad.now ≡ Some entry) }
+    ensures terms { OnOk result (dict.new.terms ≡ with_terms dict.old.terms (terms_of quad.now)) }
+    ensures front { IsFront dict.old.terms dict.new.terms }
+    ensures full { IfErr result (λ fault. IsFullAt fault dict.old.limit (length (with_terms dict.old.terms (terms_of quad.now)))) }
+    ensures limit { dict.new.limit ≡ dict.old.limit }
+    ensures lawful { OnOk result (IsDictionary dict.new) }
+    ensures fits { IsTrue (fits_places quad.now.graph quad.now.subject quad.now.predicate) }
+{
+    let g = put_graph(dict, quad.graph())?;
+    let s = put(dict, quad.subject())?;
+    let p = put(dict, quad.predicate())?;
+    let o = put(dict, quad.object())?;
+    Ok([g, s, p, o])
+}
+
+/// The entries of the quads, whose new terms are put behind the others in the dictionary.
+pub fn numbered_all(
+    alloc: Global,
+    dict: &mut Dict,
+    quads: &[Quad],
+) -> Result<Vec<[u32; 4]>, StoreFault>
+    ensures entries { IfOk result (λ entries. map (entry_of dict.new.terms) quads.now ≡ map Some entries.items) }
+    ensures terms { OnOk result (dict.new.terms ≡ with_terms_of dict.old.terms quads.now) }
+    ensures front { IsFront dict.old.terms dict.new.terms }
+    ensures full { IfErr result (λ fault. IsFullAt fault dict.old.limit (length (with_terms_of dict.old.terms quads.now))) }
+    ensures limit { dict.new.limit ≡ dict.old.limit }
+    ensures lawful { OnOk result (IsDictionary dict.new) }
+    ensures fits { OnOk result (AreLawful quads.now) }
+{
+    let _count = dict.len();
+    let mut entries = Vec::new(alloc);
+    for quad in quads {
+        let entry = numbered(dict, quad)?;
+        entries.push(entry)?;
+    }
+    Ok(entries)
+}

@@ -1,0 +1,367 @@
+//! The store, and drafts of it.
+
+ghost use Rattle.std.specs.Prelude.{◌≡◌, ◌↔◌, ◌≤◌, [], Some, length, take, Contains, IsTrue, IfOk, IfErr, OnOk, OnErr};
+ghost use Rattle.std.specs.List.Sorted.{IsSorted};
+ghost use Rattle.qs_terms.specs.Bag.{SameBag};
+ghost use Rattle.qs_terms.specs.Dataset.{is_above_blanks};
+ghost use Rattle.qs_dict.specs.Dict.{IsInUse, IsDictionary, term_at, number_of};
+ghost use Rattle.qs_store.specs.Change.{KnowsTermsOf, IsFullExactly, IsFullAt, with_terms_of};
+ghost use Rattle.qs_store.specs.Content.{Content, Held, IsContent, default_of};
+ghost use Rattle.qs_store.specs.Entries.{said, AreEntries};
+ghost use Rattle.qs_store.specs.Layers.{IsChanged};
+ghost use Rattle.qs_store.specs.Same.{SameSet};
+ghost use Rattle.qs_store.specs.Store.{IsFront};
+ghost use Rattle.qs_store.specs.declared.default_graph.DefaultGraph.TheVariants.{Stored};
+ghost use Rattle.qs_store.specs.declared.fault.StoreFault.TheVariants.{Memory};
+
+use crate::default_graph::DefaultGraph;
+use crate::fault::StoreFault;
+use crate::layers::Layers;
+use crate::numbers::{entries_of, entry_of, numbered_all};
+use crate::quads::quads_of;
+use qs_dict::Dict;
+use qs_terms::{Quad, Term};
+use std::alloc::Global;
+use std::hash::RandomState;
+use std::marker::Model;
+
+/// A set of quads, a next blank node's number and a list of known terms (RDF 1.1 Concepts, 4: a dataset without empty named graphs).
+/// While a draft is open its terms stand behind those that the store knows, and its entries apart from those of the store.
+#[derive(Drop)]
+pub struct Store {
+    alloc: Global,
+    dict: Dict,
+    layers: Layers,
+    known: u32,
+    next: u64,
+    draft_next: u64,
+}
+
+impl Model for Store {
+    ghost use Rattle.std.specs.Prelude.{take};
+    ghost use Rattle.qs_store.specs.Content.{Content, Held, default_of};
+    ghost use Rattle.qs_store.specs.Entries.{said};
+    ghost use Rattle.qs_store.specs.Store.{IsStore};
+
+    ghost Value = { Held };
+
+    ghost view = { λ s. record {
+      base = record { quads = said s.dict.terms s.layers.base; next = s.next; known = take s.known s.dict.terms };
+      draft = record { quads = said s.dict.terms s.layers.draft; next = s.draft_next; known = s.dict.terms };
+      limit = s.dict.limit;
+      default_graph = default_of s.layers.has_named;
+    } };
+
+    ghost invariant = { λ s. IsStore s.dict.terms s.layers.base s.layers.draft s.known s.next s.draft_next };
+}
+
+/// Makes a change of quads in a dictionary and in the entries of a draft. Where it is refused the draft's entries stay, and the
+/// dictionary may have terms behind those that it had.
+fn change(
+    alloc: Global,
+    dict: &mut Dict,
+    layers: &mut Layers,
+    remove: &[Quad],
+    add: &[Quad],
+) -> Result<(), StoreFault>
+    requires { AreEntries dict.old.terms layers.old.draft }
+    ensures quads { OnOk result (IsChanged (said dict.old.terms layers.old.draft) remove.now add.now (said dict.new.terms layers.new.draft)) }
+    ensures terms { OnOk result (dict.new.terms ≡ with_terms_of dict.old.terms add.now) }
+    ensures entries { OnOk result (AreEntries dict.new.terms layers.new.draft) }
+    ensures lawful { OnOk result (IsDictionary dict.new) }
+    ensures full { IfErr result (λ fault. IsFullAt fault dict.old.limit (length (with_terms_of dict.old.terms add.now))) }
+    ensures refused { OnErr result (layers.new.draft ≡ layers.old.draft) }
+    ensures front { IsFront dict.old.terms dict.new.terms }
+    ensures limit { dict.new.limit ≡ dict.old.limit }
+    ensures base { layers.new.base ≡ layers.old.base }
+    ensures named { layers.new.has_named ≡ layers.old.has_named }
+{
+    let mut ins = numbered_all(alloc, dict, add)?;
+    let mut outs = entries_of(alloc, dict, remove)?;
+    layers.change(outs.as_mut_slice(), ins.as_mut_slice())?;
+    Ok(())
+}
+
+impl Store {
+    /// An empty store, which will know as many terms as the limit allows, and whose queries see this default graph. The terms are hashed
+    /// by `hasher`, since strangers choose them. It takes no memory.
+    pub fn with_default(
+        alloc: Global,
+        term_limit: u32,
+        hasher: RandomState,
+        default_graph: DefaultGraph,
+    ) -> Store
+        ensures quads { result.base.quads ≡ [] }
+        ensures next { result.base.next ≡ 0 }
+        ensures known { result.base.known ≡ [] }
+        ensures limit { result.limit ≡ term_limit }
+        ensures default_graph { result.default_graph ≡ default_graph }
+    {
+        let has_named = match default_graph {
+            DefaultGraph::Stored => false,
+            DefaultGraph::Union => true,
+        };
+        Store {
+            alloc,
+            dict: Dict::new(alloc, term_limit, hasher),
+            layers: Layers::new(alloc, has_named),
+            known: 0,
+            next: 0,
+            draft_next: 0,
+        }
+    }
+
+    /// An empty store whose queries see the stored default graph. It takes no memory.
+    pub fn new(alloc: Global, term_limit: u32, hasher: RandomState) -> Store
+        ensures quads { result.base.quads ≡ [] }
+        ensures next { result.base.next ≡ 0 }
+        ensures known { result.base.known ≡ [] }
+        ensures limit { result.limit ≡ term_limit }
+        ensures default_graph { result.default_graph ≡ Stored }
+    {
+        Store::with_default(alloc, term_limit, hasher, DefaultGraph::Stored)
+    }
+
+    /// Which default graph queries see.
+    pub fn default_graph(&self) -> DefaultGraph
+        ensures { result ≡ self.now.default_graph }
+    {
+        if self.layers.has_named() {
+            DefaultGraph::Union
+        } else {
+            DefaultGraph::Stored
+        }
+    }
+
+    /// How many quads there are. It takes no memory, and goes over none.
+    pub fn count(&self) -> u128
+        ensures count { result ≡ length self.now.base.quads }
+        ensures lawful { IsContent self.now.base }
+    {
+        self.layers.len()
+    }
+
+    /// The next blank node's number, which is above those of all blank nodes of the quads.
+    pub fn next_blank(&self) -> u64
+        ensures next { result ≡ self.now.base.next }
+        ensures above { IsTrue (is_above_blanks result self.now.base.quads) }
+    {
+        self.next
+    }
+
+    /// How many terms are known: the numbers in use are those from 1 to it.
+    pub fn terms(&self) -> u32
+        ensures { result ≡ length self.now.base.known }
+    {
+        self.known
+    }
+
+    /// The term with the number, which is in use.
+    pub fn term(&self, number: u32) -> &Term
+        requires { IsInUse self.now.base.known number }
+        ensures { term_at self.now.base.known number ≡ Some result.now }
+    {
+        self.dict.term(number)
+    }
+
+    /// The number of the term, where it is known.
+    pub fn find(&self, term: &Term) -> Option<u32>
+        ensures { result ≡ number_of self.now.base.known term.now }
+    {
+        let number = self.dict.find(term)?;
+        if number <= self.known {
+            Some(number)
+        } else {
+            None
+        }
+    }
+
+    /// Whether the quad stands in the store. It takes no memory.
+    pub fn contains(&self, quad: &Quad) -> bool
+        ensures { IsTrue result ↔ Contains self.now.base.quads quad.now }
+    {
+        match entry_of(&self.dict, quad) {
+            None => false,
+            Some(entry) => self.layers.contains(&entry),
+        }
+    }
+}
+
+impl Store {
+    /// The quads, each once, in the order of quads (`Quad::order`), as copies. Its one refusal is want of memory.
+    pub fn quads(&self) -> Result<Vec<Quad>, StoreFault>
+        ensures same { IfOk result (λ quads. SameBag self.now.base.quads quads.items) }
+        ensures ascending { IfOk result (λ quads. IsSorted ⟦<Quad as Ord>⟧.cmp quads.items) }
+        ensures memory { IfErr result (λ fault. fault ≡ Memory) }
+    {
+        let entries = self.layers.base()?;
+        let quads = quads_of(self.alloc, &self.dict, &entries)?;
+        Ok(quads)
+    }
+
+    // The quads of the draft.
+    fn draft_quads(&self) -> Result<Vec<Quad>, StoreFault>
+        ensures same { IfOk result (λ quads. SameBag self.now.draft.quads quads.items) }
+        ensures ascending { IfOk result (λ quads. IsSorted ⟦<Quad as Ord>⟧.cmp quads.items) }
+        ensures memory { IfErr result (λ fault. fault ≡ Memory) }
+    {
+        let entries = self.layers.draft()?;
+        let quads = quads_of(self.alloc, &self.dict, &entries)?;
+        Ok(quads)
+    }
+
+    // Forgets what a draft has left.
+    fn reset(&mut self)
+        ensures base { self.new.base ≡ self.old.base }
+        ensures draft { self.new.draft ≡ self.old.base }
+        ensures limit { self.new.limit ≡ self.old.limit }
+        ensures default_graph { self.new.default_graph ≡ self.old.default_graph }
+    {
+        self.dict.cut(self.known);
+        self.layers.reset();
+        self.draft_next = self.next;
+    }
+
+    // Makes the draft the store.
+    fn settle(&mut self)
+        ensures quads { SameSet self.new.base.quads self.old.draft.quads }
+        ensures next { self.new.base.next ≡ self.old.draft.next }
+        ensures known { self.new.base.known ≡ self.old.draft.known }
+        ensures limit { self.new.limit ≡ self.old.limit }
+        ensures default_graph { self.new.default_graph ≡ self.old.default_graph }
+    {
+        self.layers.settle();
+        self.known = self.dict.len();
+        self.next = self.draft_next;
+    }
+
+    // Makes a change of the draft.
+    fn change_draft(&mut self, remove: &[Quad], add: &[Quad], next: u64) -> Result<(), StoreFault>
+        requires next { self.old.draft.next ≤ next }
+        requires above { IsTrue (is_above_blanks next add.now) }
+        ensures base { self.new.base ≡ self.old.base }
+        ensures quads { OnOk result (IsChanged self.old.draft.quads remove.now add.now self.new.draft.quads) }
+        ensures next { OnOk result (self.new.draft.next ≡ next) }
+        ensures known { OnOk result (KnowsTermsOf self.old.draft.known add.now self.new.draft.known) }
+        ensures full { IsFullExactly self.old.limit (length (with_terms_of self.old.draft.known add.now)) result }
+        ensures refused { OnErr result (self.new.draft ≡ self.old.draft) }
+        ensures limit { self.new.limit ≡ self.old.limit }
+        ensures default_graph { self.new.default_graph ≡ self.old.default_graph }
+    {
+        let len = self.dict.len();
+        match change(self.alloc, &mut self.dict, &mut self.layers, remove, add) {
+            Ok(()) => {
+                self.draft_next = next;
+                Ok(())
+            }
+            Err(fault) => {
+                self.dict.cut(len);
+                Err(fault)
+            }
+        }
+    }
+
+    /// A draft of the store. What it becomes is the store's by `commit` alone. It takes no memory.
+    pub fn draft(&mut self) -> Draft<'_>
+        ensures same_reference { result.store.ghost_name ≡ self.entry.ghost_name }
+        ensures base { result.store.now.base ≡ self.old.base }
+        ensures draft { result.store.now.draft ≡ self.old.base }
+        ensures limit { result.store.now.limit ≡ self.old.limit }
+        ensures default_graph { result.store.now.default_graph ≡ self.old.default_graph }
+    {
+        self.reset();
+        Draft { store: self }
+    }
+
+    /// Removes the quads of `remove` and then adds those of `add`; `next` becomes the next blank node's number, which is no less than
+    /// the present one and above those of the blank nodes of `add`. `Full` is answered exactly where the known terms and the other terms
+    /// of `add` are more than the limit, as far as there is memory. Where it is refused the store stays as it was, its known terms included.
+    pub fn change(&mut self, remove: &[Quad], add: &[Quad], next: u64) -> Result<(), StoreFault>
+        requires next { self.old.base.next ≤ next }
+        requires above { IsTrue (is_above_blanks next add.now) }
+        ensures quads { OnOk result (IsChanged self.old.base.quads remove.now add.now self.new.base.quads) }
+        ensures next { OnOk result (self.new.base.next ≡ next) }
+        ensures known { OnOk result (KnowsTermsOf self.old.base.known add.now self.new.base.known) }
+        ensures full { IsFullExactly self.old.limit (length (with_terms_of self.old.base.known add.now)) result }
+        ensures refused { OnErr result (self.new.base ≡ self.old.base) }
+        ensures limit { self.new.limit ≡ self.old.limit }
+        ensures default_graph { self.new.default_graph ≡ self.old.default_graph }
+    {
+        self.reset();
+        match self.change_draft(remove, add, next) {
+            Ok(()) => {
+                self.settle();
+                Ok(())
+            }
+            Err(fault) => {
+                self.reset();
+                Err(fault)
+            }
+        }
+    }
+}
+
+/// A store with quads added and removed, which has to be spent by `commit` or `abandon`.
+pub struct Draft<'a> {
+    store: &'a mut Store,
+}
+
+impl<'a> Draft<'a> {
+    /// The quads of the draft, each once, in the order of quads (`Quad::order`), as copies. Its one refusal is want of memory.
+    pub fn quads(&self) -> Result<Vec<Quad>, StoreFault>
+        ensures same { IfOk result (λ quads. SameBag self.now.store.now.draft.quads quads.items) }
+        ensures ascending { IfOk result (λ quads. IsSorted ⟦<Quad as Ord>⟧.cmp quads.items) }
+        ensures memory { IfErr result (λ fault. fault ≡ Memory) }
+    {
+        let store: &Store = self.store;
+        store.draft_quads()
+    }
+
+    /// The next blank node's number of the draft.
+    pub fn next_blank(&self) -> u64
+        ensures { result ≡ self.now.store.now.draft.next }
+    {
+        let store: &Store = self.store;
+        store.draft_next
+    }
+
+    /// Changes the draft as `Store::change` does the store, and makes each growth that a commit will need. Where it is refused the draft
+    /// stays as it was, its known terms included.
+    pub fn change(&mut self, remove: &[Quad], add: &[Quad], next: u64) -> Result<(), StoreFault>
+        requires next { self.old.store.now.draft.next ≤ next }
+        requires above { IsTrue (is_above_blanks next add.now) }
+        ensures same_reference { self.new.store.ghost_name ≡ self.old.store.ghost_name }
+        ensures base { self.new.store.now.base ≡ self.old.store.now.base }
+        ensures quads { OnOk result (IsChanged self.old.store.now.draft.quads remove.now add.now self.new.store.now.draft.quads) }
+        ensures next { OnOk result (self.new.store.now.draft.next ≡ next) }
+        ensures known { OnOk result (KnowsTermsOf self.old.store.now.draft.known add.now self.new.store.now.draft.known) }
+        ensures full { IsFullExactly self.old.store.now.limit (length (with_terms_of self.old.store.now.draft.known add.now)) result }
+        ensures refused { OnErr result (self.new.store.now.draft ≡ self.old.store.now.draft) }
+        ensures limit { self.new.store.now.limit ≡ self.old.store.now.limit }
+        ensures default_graph { self.new.store.now.default_graph ≡ self.old.store.now.default_graph }
+    {
+        self.store.change_draft(remove, add, next)
+    }
+
+    /// Makes the draft's quads, next number and known terms those of the store. It takes no memory.
+    pub fn commit(self)
+        ensures quads { SameSet self.exit.0.now.base.quads self.entry.store.now.draft.quads }
+        ensures next { self.exit.0.now.base.next ≡ self.entry.store.now.draft.next }
+        ensures known { self.exit.0.now.base.known ≡ self.entry.store.now.draft.known }
+        ensures limit { self.exit.0.now.limit ≡ self.entry.store.now.limit }
+        ensures default_graph { self.exit.0.now.default_graph ≡ self.entry.store.now.default_graph }
+    {
+        let Draft { store } = self;
+        store.settle();
+    }
+
+    /// Leaves the store as it was, its known terms included. It takes no memory.
+    pub fn abandon(self)
+        ensures base { self.exit.0.now.base ≡ self.entry.store.now.base }
+        ensures limit { self.exit.0.now.limit ≡ self.entry.store.now.limit }
+        ensures default_graph { self.exit.0.now.default_graph ≡ self.entry.store.now.default_graph }
+    {
+        let Draft { store } = self;
+        store.reset();
+    }
+}

@@ -1,0 +1,43 @@
+-- A text without tokens is no query, and its end is to blame.
+use Rattle.std.proofs.Common.{◌≡◌, inr, ℕ, List, [], length, Ok, Err, refl, subst, arith}
+use Rattle.std.proofs.lemmas.List.{nil_from_length}
+use Rattle.qs_grammar.specs.Grammar.{read, whole}
+use Rattle.qs_grammar.specs.declared.fault.Fault.TheVariants as reading
+use Rattle.qs_grammar.proofs.Whole.{is_due, none_spelt}
+use Rattle.std.proofs.lemmas.Str.{chars-nil}
+use Rattle.qs_settle.specs.Settled.{screened}
+use Rattle.qs_terms.specs.declared.fault.QFault.TheVariants as fault
+use Rattle.qs_tree.specs.declared.token.Token.{Token}
+use Rattle.qs_tree.specs.Rules.{prologue, query_form, select, construct, ask, select_clause, prefix_declaration, query, values}
+use Rattle.qs_tree.specs.Sparql.{sparql}
+use Rattle.qs_tree.specs.Table.{grammar}
+use Rattle.qs_tree.proofs.Sure.{lawful, passes_each, examples, query_starts}
+use Rattle.qs_syntax.specs.Outcome.{IsQueryOutcome}
+use Rattle.qs_syntax.specs.Text.{AreTokensOf, IsBlamed}
+
+nothing_read : whole (read grammar 0 query []) ≡ Err (reading.Syntax 0)
+unfolding query prologue query_form select construct ask select_clause prefix_declaration values
+nothing_read = refl
+
+blamed : (end : ℕ) → IsBlamed query end [] end
+blamed end = (
+  none_spelt sparql lawful grammar passes_each 2 examples _ query query_starts 0 [] (reading.Syntax 0) (omega arith) nothing_read,
+  0,
+  is_due sparql lawful grammar passes_each 2 examples _ query query_starts 0 [] 0 0 nothing_read refl,
+  refl,
+)
+
+screened_nothing : (text : List ℕ) → screened text [] ≡ Ok tt
+unfolding screened
+screened_nothing text = refl
+
+pub without_tokens : (text : List ℕ) (tokens : List Token) → AreTokensOf text tokens → length tokens ≡ 0 → IsQueryOutcome text (Err (fault.Syntax (length text)))
+without_tokens text tokens a z =
+    let none : tokens ≡ [] = nil_from_length tokens z in
+    let b : AreTokensOf text [] = subst (AreTokensOf text) none a in
+    inr ([], b, (let s : screened text [] ≡ Ok tt = screened_nothing text in rw s (inr (length text, blamed (length text), refl))))
+
+-- ---- the empty text
+
+pub empty_text : IsQueryOutcome [] (Err (fault.Syntax 0))
+empty_text = without_tokens [] [] ([], ([], chars-nil, refl), refl) refl
