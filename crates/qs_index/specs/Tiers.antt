@@ -1,3 +1,5 @@
+-- The pages of an order in blocks.
+-- (Inner: it serves proofs, and no promise of the product is read by it.)
 use Rattle.std.specs.Prelude.{min, ℕ, ◌≡◌, ◌+◌, ◌-◌, ◌*◌, ◌≤◌, zero, suc, List, [], ◌∷◌, ◌++◌, length, slice_index_or}
 
 -- a list of pages, and how many it has room for

@@ -6,7 +6,8 @@ use Rattle.std.proofs.lemmas.List.{take_more}
 use Rattle.std.proofs.lemmas.List.Elements.{filter-append}
 use Rattle.std.proofs.lemmas.List.Elements.{Contains-append_left, Contains-append_right, Contains-append_cases}
 use Rattle.qs_index.specs.Entries.{IsUnion, IsDifference}
-use Rattle.qs_store.specs.Layers.{drafted, IsDraft, IsChanged, IsPartOf}
+use Rattle.qs_store.specs.Change.{IsChanged}
+use Rattle.qs_store.specs.Layers.{drafted, IsDraft, IsPartOf}
 use Rattle.qs_store.proofs.Members.{Entries, nothing, lacking, lacks, Stays, is_in, not_true, only_if, any_if, ascending_fits, head_or_tail}
 
 -- the members of a draft

@@ -16,10 +16,9 @@ use Rattle.qs_terms.specs.Term.{same_term}
 use Rattle.qs_terms.specs.Statement.{Statement, same_statement}
 use Rattle.qs_terms.specs.declared.term.Term.{Term}
 use Rattle.qs_terms.specs.declared.term.Term.TheVariants.{Iri, Blank, Literal}
-use Rattle.qs_store.specs.Change.{with_terms_of, KnowsTermsOf}
+use Rattle.qs_store.specs.Change.{IsChanged, with_terms_of, KnowsTermsOf}
 use Rattle.qs_store.specs.Content.{Content}
 use Rattle.qs_store.specs.Entries.{AreEntries, said, statement_of, entry_of}
-use Rattle.qs_store.specs.Layers.{IsChanged}
 use Rattle.qs_store.specs.Same.{SameSet}
 use Rattle.qs_store.specs.Store.{IsStore, IsFront}
 use Rattle.qs_store.proofs.Members.{Entries, nothing, here, there, head_or_tail, not_before_itself, before_member}

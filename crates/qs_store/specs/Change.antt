@@ -1,12 +1,16 @@
--- A change: quads are removed, and then others are added.
-use Rattle.std.specs.Prelude.{◌≡◌, ℕ, ◌<◌, ◌≤◌, List, [], ◌∷◌, length, take, Result, Ok, Err}
-use Rattle.std.specs.List.{cons_option, flat_map}
+-- A change: quads are removed, and then others are added (SPARQL 1.1 Update, 4.3.1).
+use Rattle.std.specs.Prelude.{◌≡◌, ◌⊎◌, ◌↔◌, ℕ, ◌<◌, ◌≤◌, List, [], ◌∷◌, length, take, Result, Ok, Err}
+use Rattle.std.specs.List.{Contains, cons_option, flat_map}
 use Rattle.qs_terms.specs.Bag.{SameBag, with_new}
 use Rattle.qs_terms.specs.Term.{same_term}
 use Rattle.qs_terms.specs.Statement.{Statement}
 use Rattle.qs_terms.specs.declared.term.Term.{Term}
 use Rattle.qs_store.specs.declared.fault.StoreFault.{StoreFault}
 use Rattle.qs_store.specs.declared.fault.StoreFault.TheVariants.{Full, Memory}
+
+-- the old ones that aren't removed, together with those that are added
+abbrev pub IsChanged : {X : Type 0} → List X → List X → List X → List X → Type 0
+IsChanged {X} old removed added new = (x : X) → Contains new x ↔ ((Contains old x × (¬ Contains removed x)) ⊎ Contains added x)
 
 -- the terms of a quad
 abbrev pub terms_of : Statement → List Term

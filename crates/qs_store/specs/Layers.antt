@@ -1,6 +1,7 @@
 -- The entries of a store, and those that a draft of it adds and removes.
+-- (Inner: it serves proofs, and no promise of the product is read by it.)
 use Rattle.std.specs.Str.{bytes_eq}
-use Rattle.std.specs.Prelude.{◌≡◌, ◌⊎◌, ◌↔◌, ℕ, ◌≤◌, Bool, List, ◌++◌, length, not}
+use Rattle.std.specs.Prelude.{◌≡◌, ℕ, ◌≤◌, Bool, List, ◌++◌, length, not}
 use Rattle.std.specs.List.{Contains, filter, list_any}
 use Rattle.qs_index.specs.Entry.{IsAscending}
 use Rattle.qs_index.specs.Index.{IndexState}
@@ -31,10 +32,6 @@ pub record AreLayers (index removed added : IndexState) (room : ℕ) : Type 0 wh
   pub added_room : length added.entries ≤ room
   pub removed_named : removed.has_named ≡ index.has_named
   pub added_named : added.has_named ≡ index.has_named
-
--- the entries that aren't taken out, and those that are put in
-abbrev pub IsChanged : {X : Type 0} → List X → List X → List X → List X → Type 0
-IsChanged {X} old removed added new = (x : X) → Contains new x ↔ ((Contains old x × (¬ Contains removed x)) ⊎ Contains added x)
 
 -- those of a list that stand in another, or those that don't
 pub record IsPartOf (entries part : List (List ℕ)) (Chosen : List ℕ → Type 0) : Type 0 where

@@ -3,7 +3,8 @@
 ghost use Rattle.std.specs.Prelude.{◌≡◌, ℕ, ◌≤◌, ◌+◌, ◌++◌, ◌↔◌, Bool, List, [], length, take, IsTrue, IfOk, OnOk, OnErr, Contains, cond};
 ghost use Rattle.qs_index.specs.Entry.{IsAscending};
 ghost use Rattle.qs_index.specs.Entries.{IsUnion, IsDifference};
-ghost use Rattle.qs_store.specs.Layers.{drafted, IsChanged, IsPartOf};
+ghost use Rattle.qs_store.specs.Change.{IsChanged};
+ghost use Rattle.qs_store.specs.Layers.{drafted, IsPartOf};
 ghost use Rattle.qs_store.specs.Same.{SameSet};
 
 use qs_index::Index;

@@ -5,10 +5,9 @@ ghost use Rattle.std.specs.List.Sorted.{IsSorted};
 ghost use Rattle.qs_terms.specs.Bag.{SameBag};
 ghost use Rattle.qs_terms.specs.Dataset.{is_above_blanks};
 ghost use Rattle.qs_dict.specs.Dict.{IsInUse, IsDictionary, term_at, number_of};
-ghost use Rattle.qs_store.specs.Change.{KnowsTermsOf, IsFullExactly, IsFullAt, with_terms_of};
+ghost use Rattle.qs_store.specs.Change.{IsChanged, KnowsTermsOf, IsFullExactly, IsFullAt, with_terms_of};
 ghost use Rattle.qs_store.specs.Content.{Content, Held, IsContent, default_of};
 ghost use Rattle.qs_store.specs.Entries.{said, AreEntries};
-ghost use Rattle.qs_store.specs.Layers.{IsChanged};
 ghost use Rattle.qs_store.specs.Same.{SameSet};
 ghost use Rattle.qs_store.specs.Store.{IsFront};
 ghost use Rattle.qs_store.specs.declared.default_graph.DefaultGraph.TheVariants.{Stored};
@@ -185,9 +184,7 @@ impl Store {
             Some(entry) => self.layers.contains(&entry),
         }
     }
-}
 
-impl Store {
     /// The quads, each once, in the order of quads (`Quad::order`), as copies. Its one refusal is want of memory.
     pub fn quads(&self) -> Result<Vec<Quad>, StoreFault>
         ensures same { IfOk result (λ quads. SameBag self.now.base.quads quads.items) }

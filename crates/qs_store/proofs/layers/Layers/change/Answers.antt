@@ -1,5 +1,6 @@
 use Rattle.std.proofs.Common.{length, ap, sym, subst, arith, ◌∙◌}
-use Rattle.qs_store.specs.Layers.{drafted, IsDraft, IsChanged}
+use Rattle.qs_store.specs.Change.{IsChanged}
+use Rattle.qs_store.specs.Layers.{drafted, IsDraft}
 use Rattle.qs_store.proofs.Drafted.{steps_of, parted_after, members_after, union_fits, difference_fits}
 use Rattle.qs_store.proofs.layers.Layers.change.Goals as goal
 

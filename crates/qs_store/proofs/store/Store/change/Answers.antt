@@ -1,5 +1,5 @@
 use Rattle.std.proofs.Common.{subst}
-use Rattle.qs_store.specs.Layers.{IsChanged}
+use Rattle.qs_store.specs.Change.{IsChanged}
 use Rattle.qs_store.proofs.store.Store.change.Goals as goal
 
 pub returns-in-Ok-clause-quads : goal.returns-in-Ok-clause-quads
