@@ -6,6 +6,7 @@
 
 mod dict;
 mod endpoint;
+mod expr;
 mod index;
 mod lex;
 mod line;
@@ -19,7 +20,7 @@ mod timing;
 use std::{env, io};
 
 const PARTS: &[&str] = &[
-    "dict", "http", "index", "lex", "nquads", "results", "syntax",
+    "dict", "expr", "http", "index", "lex", "nquads", "results", "syntax",
 ];
 
 fn main(rt: HostRuntime) -> io::Result<()> {
@@ -43,6 +44,7 @@ fn one(rt: &HostRuntime, part: &str, argument: Option<&String>, is_memory: bool)
     let size = size_of(argument);
     match part {
         "dict" => dict::run(rt, size, is_memory),
+        "expr" => expr::run(rt, size, is_memory),
         "http" => endpoint::run(rt, size),
         "index" => index::run(rt, size),
         "lex" => texts::run(rt, lex::SAMPLES, size),

@@ -2,10 +2,12 @@
 
 use crate::line::line;
 use crate::texts::Reading;
-use crate::{dict, endpoint, index, nquads, results, texts};
+use crate::{dict, endpoint, expr, index, nquads, results, texts};
 use qs_answer::Answer;
 use qs_dict::Dict;
+use qs_expr::Expr;
 use qs_index::Index;
+use qs_solutions::Row;
 use qs_terms::{Quad, Term};
 use std::alloc::Global;
 use std::io;
@@ -27,6 +29,7 @@ pub enum Work<'a> {
     ReadQuads(&'a [u8]),
     WriteQuads(&'a [Quad]),
     Write(&'a Answer),
+    Filter(&'a Expr, &'a [Row]),
 }
 
 // Does the work, and gives a count that comes of it.
@@ -42,6 +45,7 @@ fn done(alloc: Global, work: Work) -> u64 {
         Work::ReadQuads(bytes) => nquads::read_all(alloc, bytes).0,
         Work::WriteQuads(quads) => nquads::write_all(alloc, quads),
         Work::Write(answer) => results::text_len(alloc, answer),
+        Work::Filter(condition, rows) => expr::holding(alloc, condition, rows),
     }
 }
 

@@ -1,7 +1,8 @@
 -- What a draft has once entries are taken out and put in.
-use Rattle.std.proofs.Common.{◌≡◌, ◌⊎◌, ◌↔◌, ℕ, ◌+◌, ◌≤◌, Bool, not, List, [], ◌∷◌, ◌++◌, append-nil, append_assoc, length, take, get_or, ◌<◌, refl, ap, sym, ◌∙◌, subst, arith, inl, inr, ⊎_elim, length-append}
+use Rattle.std.proofs.Common.{◌≡◌, ◌⊎◌, ◌↔◌, ℕ, ◌+◌, ◌≤◌, Bool, true, false, not, IsTrue, List, [], ◌∷◌, ◌++◌, append-nil, append_assoc, length, take, get_or, ◌<◌, refl, ap, sym, ◌∙◌, subst, arith, inl, inr, ⊎_elim, length-append}
 use Rattle.std.specs.Str.{bytes_eq}
 use Rattle.std.specs.List.{Contains, filter, list_any}
+use Rattle.std.proofs.lemmas.Bool.{false≢true}
 use Rattle.std.proofs.lemmas.List.{take_more}
 use Rattle.std.proofs.lemmas.List.Elements.{filter-append}
 use Rattle.std.proofs.lemmas.List.Elements.{Contains-append_left, Contains-append_right, Contains-append_cases}
@@ -20,6 +21,15 @@ stays i r a x m n = Contains-append_left (filter (λ y. not (list_any (bytes_eq 
 
 pub is_added : (i r a : Entries) (x : List ℕ) → Contains a x → Contains (drafted i r a) x
 is_added i r a x m = Contains-append_right (filter (λ y. not (list_any (bytes_eq y) r)) i) a x m
+
+-- whether an entry of the store is one of the draft, by whether it is removed
+pub kept_exactly : (i r a : Entries) (x : List ℕ) (b : Bool) → Contains i x → (Contains a x → ⊥) → IsTrue b ↔ Contains r x → IsTrue (not b) ↔ Contains (drafted i r a) x
+kept_exactly i r a x true c n h = (λ f. absurd (false≢true f), λ m. ⊎_elim (λ s. absurd (s.left (h.0 refl))) (λ t. absurd (n t)) (parts i r a x m))
+kept_exactly i r a x false c n h = (λ f. stays i r a x c (λ m. false≢true (h.1 m)), λ m. refl)
+
+-- an entry that neither the store has nor is added
+pub not_drafted : (i r a : Entries) (x : List ℕ) (b : Bool) → (Contains a x → ⊥) → IsTrue b ↔ Contains i x → b ≡ false → IsTrue b ↔ Contains (drafted i r a) x
+not_drafted i r a x b n h e = (λ f. absurd (false≢true (sym e ∙ f)), λ m. ⊎_elim (λ s. h.1 s.stands) (λ t. absurd (n t)) (parts i r a x m))
 
 keeps_all : (xs : Entries) → filter (λ x. not (list_any (bytes_eq x) [])) xs ≡ xs
 keeps_all [] = refl

@@ -56,7 +56,7 @@ entry_says terms q e u h =
     ∙ ap (λ x. made q.graph q.subject q.predicate x) (term_there terms u q.object f.d f.object)
 
 -- a number that is in use has a term
-in_use : (terms : List Term) (n : ℕ) → IsInUse terms n → term_at terms n ≡ Some (term_or terms n)
+pub in_use : (terms : List Term) (n : ℕ) → IsInUse terms n → term_at terms n ≡ Some (term_or terms n)
 in_use terms zero h = absurd (omega (arith, h.0))
 in_use terms (suc i) h = let e = slice_get-get_or terms i (Blank 0) (omega (arith, h.1)) in e ∙ ap Some (sym (ap or_blank e))
 

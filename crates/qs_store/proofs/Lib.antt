@@ -5,3 +5,8 @@ pub mod Terms
 pub mod Faults
 pub mod Changed
 pub mod Stored
+pub mod Merging
+pub mod Scanned
+pub mod TriplesSaid
+pub mod Holding
+pub mod GraphsSaid

@@ -5,3 +5,8 @@ pub mod Content
 pub mod Change
 pub mod Fault
 pub mod Store
+pub mod Triples
+pub mod Scans
+pub mod Sources
+pub mod Graphs
+pub mod Holding

@@ -2,11 +2,17 @@
 
 ghost use Rattle.std.specs.Prelude.{◌≡◌, ℕ, ◌≤◌, ◌+◌, ◌++◌, ◌↔◌, Bool, List, [], length, take, IsTrue, IfOk, OnOk, OnErr, Contains, cond};
 ghost use Rattle.qs_index.specs.Entry.{IsAscending};
-ghost use Rattle.qs_index.specs.Entries.{IsUnion, IsDifference};
+ghost use Rattle.qs_index.specs.Entries.{HaveFour, IsUnion, IsDifference};
 ghost use Rattle.qs_store.specs.Change.{IsChanged};
+ghost use Rattle.qs_store.specs.Holding.{AreGraphsOf};
 ghost use Rattle.qs_store.specs.Layers.{drafted, IsPartOf};
 ghost use Rattle.qs_store.specs.Same.{SameSet};
+ghost use Rattle.qs_store.specs.Scans.{AreTriplesOf};
+ghost use Rattle.qs_store.specs.declared.graphs.Graphs.TheVariants.{Named};
 
+use crate::graphs::Graphs;
+use crate::named_graphs::{graphs_in, graphs_in_draft};
+use crate::triples::Triples;
 use qs_index::Index;
 use std::alloc::{AllocError, Global};
 use std::marker::Model;
@@ -204,6 +210,31 @@ impl Layers {
         self.index.len()
     }
 
+    /// Whether the entry is one of the draft's.
+    pub fn draft_contains(&self, entry: &[u32; 4]) -> bool
+        ensures { IsTrue result ↔ Contains self.now.draft entry.now }
+    {
+        if self.added.contains(entry) {
+            return true;
+        }
+        self.index.contains(entry) && !self.removed.contains(entry)
+    }
+
+    /// The numbers of the named graphs that have entries of the store, ascending.
+    pub fn graphs(&self) -> Result<Vec<u32>, AllocError>
+        ensures { IfOk result (λ graphs. AreGraphsOf self.now.base graphs.items) }
+    {
+        graphs_in(self.alloc, &self.index)
+    }
+
+    /// The same of the draft.
+    pub fn draft_graphs(&self) -> Result<Vec<u32>, AllocError>
+        requires { HaveFour self.now.draft }
+        ensures { IfOk result (λ graphs. AreGraphsOf self.now.draft graphs.items) }
+    {
+        graphs_in_draft(self.alloc, &self.index, &self.removed, &self.added)
+    }
+
     /// The entries of the store.
     pub fn base(&self) -> Result<Vec<[u32; 4]>, AllocError>
         ensures { IfOk result (λ list. list.items ≡ self.now.base) }
@@ -220,6 +251,42 @@ impl Layers {
         let mut list = kept(self.alloc, &self.index, &self.removed)?;
         put_behind(&mut list, &self.added)?;
         Ok(list)
+    }
+
+    /// The triples of the store's entries in these graphs. All named ones are read only where there are orders of them.
+    pub fn scan(
+        &self,
+        graphs: Graphs,
+        subject: Option<u32>,
+        predicate: Option<u32>,
+        object: Option<u32>,
+    ) -> Triples<'_>
+        requires { graphs ≡ Named → IsTrue self.now.has_named }
+        ensures { AreTriplesOf graphs subject predicate object self.now.base result }
+    {
+        Triples::of_store(&self.index, graphs, subject, predicate, object)
+    }
+
+    /// The same of the draft's entries.
+    pub fn scan_draft(
+        &self,
+        graphs: Graphs,
+        subject: Option<u32>,
+        predicate: Option<u32>,
+        object: Option<u32>,
+    ) -> Triples<'_>
+        requires { graphs ≡ Named → IsTrue self.now.has_named }
+        ensures { AreTriplesOf graphs subject predicate object self.now.draft result }
+    {
+        Triples::of_draft(
+            &self.index,
+            &self.removed,
+            &self.added,
+            graphs,
+            subject,
+            predicate,
+            object,
+        )
     }
 
     /// Forgets what the draft has added and removed.

@@ -2,13 +2,23 @@
 //! and an index. A draft of a store has quads added and removed apart, and becomes the store by a commit, which takes no memory.
 #![tactic(auto)]
 
+mod active;
 mod default_graph;
 mod fault;
+mod graphs;
+mod kept;
 mod layers;
+mod merged;
+mod named_graphs;
 mod numbers;
 mod quads;
 mod store;
+mod triples;
+mod view;
 
+pub use active::Active;
 pub use default_graph::DefaultGraph;
 pub use fault::StoreFault;
 pub use store::{Draft, Store};
+pub use triples::Triples;
+pub use view::View;

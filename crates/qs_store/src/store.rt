@@ -8,16 +8,21 @@ ghost use Rattle.qs_dict.specs.Dict.{IsInUse, IsDictionary, term_at, number_of};
 ghost use Rattle.qs_store.specs.Change.{IsChanged, KnowsTermsOf, IsFullExactly, IsFullAt, with_terms_of};
 ghost use Rattle.qs_store.specs.Content.{Content, Held, IsContent, default_of};
 ghost use Rattle.qs_store.specs.Entries.{said, AreEntries};
+ghost use Rattle.qs_store.specs.Graphs.{AreGraphs};
 ghost use Rattle.qs_store.specs.Same.{SameSet};
 ghost use Rattle.qs_store.specs.Store.{IsFront};
+ghost use Rattle.qs_store.specs.Triples.{AreTriples};
 ghost use Rattle.qs_store.specs.declared.default_graph.DefaultGraph.TheVariants.{Stored};
 ghost use Rattle.qs_store.specs.declared.fault.StoreFault.TheVariants.{Memory};
 
+use crate::active::Active;
 use crate::default_graph::DefaultGraph;
 use crate::fault::StoreFault;
+use crate::graphs::graphs_of;
 use crate::layers::Layers;
 use crate::numbers::{entries_of, entry_of, numbered_all};
 use crate::quads::quads_of;
+use crate::triples::Triples;
 use qs_dict::Dict;
 use qs_terms::{Quad, Term};
 use std::alloc::Global;
@@ -185,6 +190,64 @@ impl Store {
         }
     }
 
+    /// The triples of a graph that have the numbers that are given, each once. They ascend by predicate, object and subject where the
+    /// predicate is the first that is given or stands before the object, by object, subject and predicate where the object is given
+    /// without the predicate, and by subject, predicate and object elsewhere. It takes no memory.
+    pub fn scan(
+        &self,
+        active: Active,
+        subject: Option<u32>,
+        predicate: Option<u32>,
+        object: Option<u32>,
+    ) -> Triples<'_>
+        ensures { AreTriples self.now.base self.now.default_graph active subject predicate object result }
+    {
+        let graphs = graphs_of(active, self.layers.has_named());
+        self.layers.scan(graphs, subject, predicate, object)
+    }
+
+    // The same of the draft.
+    fn scan_draft(
+        &self,
+        active: Active,
+        subject: Option<u32>,
+        predicate: Option<u32>,
+        object: Option<u32>,
+    ) -> Triples<'_>
+        ensures { AreTriples self.now.draft self.now.default_graph active subject predicate object result }
+    {
+        let graphs = graphs_of(active, self.layers.has_named());
+        self.layers.scan_draft(graphs, subject, predicate, object)
+    }
+
+    /// The numbers of the names of the graphs that have quads, ascending. Its one refusal is want of memory.
+    pub fn graphs(&self) -> Result<Vec<u32>, StoreFault>
+        ensures graphs { IfOk result (λ graphs. AreGraphs self.now.base graphs.items) }
+        ensures memory { IfErr result (λ fault. fault ≡ Memory) }
+    {
+        let graphs = self.layers.graphs()?;
+        Ok(graphs)
+    }
+
+    // The same of the draft.
+    fn draft_graphs(&self) -> Result<Vec<u32>, StoreFault>
+        ensures graphs { IfOk result (λ graphs. AreGraphs self.now.draft graphs.items) }
+        ensures memory { IfErr result (λ fault. fault ≡ Memory) }
+    {
+        let graphs = self.layers.draft_graphs()?;
+        Ok(graphs)
+    }
+
+    // Whether the quad stands in the draft.
+    fn draft_contains(&self, quad: &Quad) -> bool
+        ensures { IsTrue result ↔ Contains self.now.draft.quads quad.now }
+    {
+        match entry_of(&self.dict, quad) {
+            None => false,
+            Some(entry) => self.layers.draft_contains(&entry),
+        }
+    }
+
     /// The quads, each once, in the order of quads (`Quad::order`), as copies. Its one refusal is want of memory.
     pub fn quads(&self) -> Result<Vec<Quad>, StoreFault>
         ensures same { IfOk result (λ quads. SameBag self.now.base.quads quads.items) }
@@ -304,6 +367,21 @@ pub struct Draft<'a> {
 }
 
 impl<'a> Draft<'a> {
+    /// The triples of a graph of the draft that have the numbers that are given, each once, in the order in which `Store::scan` gives
+    /// those of a store. It takes no memory.
+    pub fn scan(
+        &self,
+        active: Active,
+        subject: Option<u32>,
+        predicate: Option<u32>,
+        object: Option<u32>,
+    ) -> Triples<'_>
+        ensures { AreTriples self.now.store.now.draft self.now.store.now.default_graph active subject predicate object result }
+    {
+        let store: &Store = self.store;
+        store.scan_draft(active, subject, predicate, object)
+    }
+
     /// The quads of the draft, each once, in the order of quads (`Quad::order`), as copies. Its one refusal is want of memory.
     pub fn quads(&self) -> Result<Vec<Quad>, StoreFault>
         ensures same { IfOk result (λ quads. SameBag self.now.store.now.draft.quads quads.items) }
@@ -312,6 +390,56 @@ impl<'a> Draft<'a> {
     {
         let store: &Store = self.store;
         store.draft_quads()
+    }
+
+    /// The numbers of the names of the graphs that have quads in the draft, ascending. Its one refusal is want of memory.
+    pub fn graphs(&self) -> Result<Vec<u32>, StoreFault>
+        ensures graphs { IfOk result (λ graphs. AreGraphs self.now.store.now.draft graphs.items) }
+        ensures memory { IfErr result (λ fault. fault ≡ Memory) }
+    {
+        let store: &Store = self.store;
+        store.draft_graphs()
+    }
+
+    /// Whether the quad stands in the draft. It takes no memory.
+    pub fn contains(&self, quad: &Quad) -> bool
+        ensures { IsTrue result ↔ Contains self.now.store.now.draft.quads quad.now }
+    {
+        let store: &Store = self.store;
+        store.draft_contains(quad)
+    }
+
+    /// How many terms the draft knows: the numbers in use are those from 1 to it.
+    pub fn terms(&self) -> u32
+        ensures { result ≡ length self.now.store.now.draft.known }
+    {
+        let store: &Store = self.store;
+        store.dict.len()
+    }
+
+    /// The term with the number, which is in use.
+    pub fn term(&self, number: u32) -> &Term
+        requires { IsInUse self.now.store.now.draft.known number }
+        ensures { term_at self.now.store.now.draft.known number ≡ Some result.now }
+    {
+        let store: &Store = self.store;
+        store.dict.term(number)
+    }
+
+    /// The number of the term, where the draft knows it.
+    pub fn find(&self, term: &Term) -> Option<u32>
+        ensures { result ≡ number_of self.now.store.now.draft.known term.now }
+    {
+        let store: &Store = self.store;
+        store.dict.find(term)
+    }
+
+    /// Which default graph queries see.
+    pub fn default_graph(&self) -> DefaultGraph
+        ensures { result ≡ self.now.store.now.default_graph }
+    {
+        let store: &Store = self.store;
+        store.default_graph()
     }
 
     /// The next blank node's number of the draft.

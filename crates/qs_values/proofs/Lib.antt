@@ -1,6 +1,8 @@
 pub mod Numbers
 pub mod Terms
 pub mod Texts
+pub mod Characters
+pub mod CodePoints
 pub mod Ranges
 pub mod Keys
 pub mod KeyOrder

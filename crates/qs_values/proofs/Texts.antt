@@ -9,10 +9,10 @@ use Rattle.std.proofs.lemmas.List.{take-append-drop}
 use Rattle.std.proofs.Math.Seq.{take-append_seam}
 use Rattle.qs_values.specs.Text.{stands_in}
 
-abbrev HasFront : List ℕ → List ℕ → Type 0
+abbrev pub HasFront : List ℕ → List ℕ → Type 0
 HasFront s n = (b : List ℕ) × (s ≡ n ++ b)
 
-front : (n s : List ℕ) → Decides (starts_with nat_eq s n) (HasFront s n)
+pub front : (n s : List ℕ) → Decides (starts_with nat_eq s n) (HasFront s n)
 front n s =
     Decides-like (starts_with nat_eq s n)
     (λ (e : n ≡ take (length n) s). (drop (length n) s, sym (take-append-drop (length n) s) ∙ ap (λ l. l ++ drop (length n) s) (sym e)))
@@ -31,7 +31,7 @@ found : (n : List ℕ) (c : ℕ) (cs : List ℕ) → HasFront (c ∷ cs) n ⊎ H
 found n c cs (inl (b, e)) = ([], b, e)
 found n c cs (inr (a, b, e)) = (c ∷ a, b, ap (λ l. c ∷ l) e)
 
-standing : (n s : List ℕ) → Decides (stands_in n s) (HasSubslice s n)
+pub standing : (n s : List ℕ) → Decides (stands_in n s) (HasSubslice s n)
 standing n [] = Decides-like (starts_with nat_eq [] n) (λ (h : HasFront [] n). ([], h.0, h.1)) (λ (h : HasSubslice [] n). in_none n h.0 h.1 h.2) (front n [])
 standing n (c ∷ cs) =
     Decides-like (starts_with nat_eq (c ∷ cs) n || stands_in n cs) (found n c cs) (λ (h : HasSubslice (c ∷ cs) n). in_some n c cs h.0 h.1 h.2)

@@ -1,4 +1,4 @@
-use Rattle.std.proofs.Common.{◌≡◌, ◌++◌, [], ◌≤◌}
+use Rattle.std.proofs.Common.{◌≡◌, ◌++◌, []}
 use Rattle.qs_store.specs.Layers.{drafted}
 use Rattle.qs_store.proofs.layers.kept.Given as goal
 

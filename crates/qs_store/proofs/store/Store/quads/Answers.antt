@@ -1,4 +1,4 @@
-use Rattle.std.proofs.Common.{◌≡◌, sym, subst, ◌∙◌}
+use Rattle.std.proofs.Common.{sym, subst, ◌∙◌}
 use Rattle.qs_store.specs.Entries.{AreEntries}
 use Rattle.qs_store.proofs.Entries.{whole_entries}
 use Rattle.qs_store.proofs.store.Store.quads.Goals as goal

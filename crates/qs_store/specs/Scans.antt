@@ -1,0 +1,93 @@
+-- Scans of the entries of a store and of its draft.
+-- (Inner: it serves proofs, and no promise of the product is read by it.)
+use Rattle.std.specs.Prelude.{◌≡◌, ℕ, Bool, true, false, cond, List, [], ◌∷◌, map, drop, Option, Some, None}
+use Rattle.std.specs.Str.{bytes_eq}
+use Rattle.std.specs.List.{Contains}
+use Rattle.qs_index.specs.Agreeing.{agrees, agrees_anywhere}
+use Rattle.qs_index.specs.Entry.{IsAscending, is_before}
+use Rattle.qs_index.specs.Graph.{is_named}
+use Rattle.qs_index.specs.Permutation.{order_used, named_order_used}
+use Rattle.qs_index.specs.declared.permutation.Permutation.{Permutation}
+use Rattle.qs_store.specs.Triples.{turned_triple}
+use Rattle.qs_store.specs.declared.active.Active.{Active}
+use Rattle.qs_store.specs.declared.active.Active.TheVariants.{Default, Graph, Empty}
+use Rattle.qs_store.specs.declared.graphs.Graphs.{Graphs}
+use Rattle.qs_store.specs.declared.graphs.Graphs.TheVariants.{Nothing, One, Named}
+
+-- the graphs that are read
+abbrev pub graphs_of : Bool → Active → Graphs
+graphs_of has_named Empty = Nothing
+graphs_of has_named (Graph number) = One number
+graphs_of true Default = Named
+graphs_of false Default = One 0
+
+-- an entry of these graphs has the numbers that are given
+abbrev pub IsRead : Graphs → Option ℕ → Option ℕ → Option ℕ → List ℕ → Type 0
+IsRead Nothing subject predicate object x = ⊥
+IsRead (One graph) subject predicate object x = agrees graph subject predicate object x ≡ true
+IsRead Named subject predicate object x = (is_named x ≡ true) × (agrees_anywhere subject predicate object x ≡ true)
+
+-- the order in which the entries of these graphs are handed out
+abbrev pub order_in : Graphs → Option ℕ → Option ℕ → Option ℕ → Permutation
+order_in Nothing subject predicate object = order_used subject predicate object
+order_in (One graph) subject predicate object = order_used subject predicate object
+order_in Named subject predicate object = named_order_used subject predicate object
+
+-- those of a list's entries of which P holds, each once, ascending by their keys
+pub record IsScanOf (P : List ℕ → Type 0) (key : List ℕ → List ℕ) (entries rest : List (List ℕ)) : Type 0 where
+  pub ascending : IsAscending (map key rest)
+  pub has : (x : List ℕ) → Contains entries x → P x → Contains rest x
+  pub only : (x : List ℕ) → Contains rest x → Contains entries x × P x
+
+-- an entry that was taken from a list, and what follows it there; none is the list's end
+abbrev pub led : Option (List ℕ) → List (List ℕ) → List (List ℕ)
+led None rest = []
+led (Some x) rest = x ∷ rest
+
+-- the first list without the entries of the second, which stand in it in the same order
+abbrev pub without : List (List ℕ) → List (List ℕ) → List (List ℕ)
+without [] ys = []
+without (x ∷ xs) [] = x ∷ xs
+without (x ∷ xs) (y ∷ ys) = cond (bytes_eq y x) (without xs ys) (x ∷ without xs (y ∷ ys))
+
+-- x in front of xs, and ys, where `on` has what comes of xs
+abbrev pub merged_from : (List ℕ → List ℕ) → List ℕ → List (List ℕ) → (List (List ℕ) → List (List ℕ)) → List (List ℕ) → List (List ℕ)
+merged_from key x xs on [] = x ∷ xs
+merged_from key x xs on (y ∷ ys) = cond (is_before (key x) (key y)) (x ∷ on (y ∷ ys)) (y ∷ merged_from key x xs on ys)
+
+-- two lists, each ascending by its keys, as one
+abbrev pub merged : (List ℕ → List ℕ) → List (List ℕ) → List (List ℕ) → List (List ℕ)
+merged key [] ys = ys
+merged key (x ∷ xs) ys = merged_from key x xs (merged key xs) ys
+
+-- the triple of an entry
+abbrev pub triple_of : List ℕ → List ℕ
+triple_of entry = drop 1 entry
+
+-- whether x is the last that was handed out
+abbrev pub is_last : Option (List ℕ) → List ℕ → Bool
+is_last None x = false
+is_last (Some last) x = bytes_eq last x
+
+-- a list without what equals the one in front of it
+abbrev pub unrepeated : Option (List ℕ) → List (List ℕ) → List (List ℕ)
+unrepeated last [] = []
+unrepeated last (x ∷ xs) = cond (is_last last x) (unrepeated last xs) (x ∷ unrepeated (Some x) xs)
+
+-- the triples of entries, of which those that follow one another in several graphs are handed out once
+abbrev pub triples_left : Bool → Option (List ℕ) → List (List ℕ) → List (List ℕ)
+triples_left false last entries = map triple_of entries
+triples_left true last entries = unrepeated last (map triple_of entries)
+
+-- an entry that is read and has the triple
+pub record HasTriple (graphs : Graphs) (subject predicate object : Option ℕ) (entries : List (List ℕ)) (t : List ℕ) : Type 0 where
+  pub entry : List ℕ
+  pub stands : Contains entries entry
+  pub read : IsRead graphs subject predicate object entry
+  pub is : triple_of entry ≡ t
+
+-- the triples of the entries that are read, each once, ascending
+pub record AreTriplesOf (graphs : Graphs) (subject predicate object : Option ℕ) (entries triples : List (List ℕ)) : Type 0 where
+  pub ascending : IsAscending (map (turned_triple (order_used subject predicate object)) triples)
+  pub has : (x : List ℕ) → Contains entries x → IsRead graphs subject predicate object x → Contains triples (triple_of x)
+  pub only : (t : List ℕ) → Contains triples t → HasTriple graphs subject predicate object entries t

@@ -1,0 +1,175 @@
+// A scan of the triples of a store or of a draft.
+ghost use Rattle.std.specs.Prelude.{◌≡◌, ◌∷◌, [], map, None, IfSome, IfNone, IsTrue};
+ghost use Rattle.std.specs.Iterator.{YieldsFirst, item_count};
+ghost use Rattle.qs_store.specs.Layers.{IsDraft, drafted};
+ghost use Rattle.qs_store.specs.Scans.{AreTriplesOf, is_last, triple_of, triples_left, unrepeated};
+ghost use Rattle.qs_store.specs.Sources.{entries_left};
+ghost use Rattle.qs_store.specs.declared.graphs.Graphs.TheVariants.{Named};
+
+use crate::graphs::Graphs;
+use crate::merged::Merged;
+use qs_index::permutation::Lookup;
+use qs_index::{Index, Scan};
+use std::marker::Model;
+
+/// Where the entries come from: nowhere, from a store, or from a draft.
+#[derive(Drop)]
+pub enum Source<'a> {
+    Nothing,
+    Stored(Scan<'a>),
+    Drafted(Merged<'a>),
+}
+
+/// The next entry.
+fn next_entry(source: &mut Source<'_>) -> Option<[u32; 4]>
+    ensures { YieldsFirst entries_left source.old result source.new }
+{
+    match source {
+        Source::Nothing => None,
+        Source::Stored(scan) => scan.next(),
+        Source::Drafted(merged) => merged.next(),
+    }
+}
+
+fn triple_of(entry: [u32; 4]) -> [u32; 3]
+    ensures { result ≡ triple_of entry }
+{
+    let [_, s, p, o] = entry;
+    [s, p, o]
+}
+
+/// Whether the triple is the last one, if there is one.
+fn is_last(last: &Option<[u32; 3]>, triple: &[u32; 3]) -> bool
+    ensures { result ≡ is_last last.now triple.now }
+{
+    match last {
+        None => false,
+        Some(last) => *last == *triple,
+    }
+}
+
+/// The next triple that differs from the last one.
+fn next_other(source: &mut Source<'_>, last: &mut Option<[u32; 3]>) -> Option<[u32; 3]>
+    ensures none { IfNone result ((unrepeated last.old (map triple_of (entries_left source.old)) ≡ []) × (unrepeated last.new (map triple_of (entries_left source.new)) ≡ [])) }
+    ensures some { IfSome result (λ triple. unrepeated last.old (map triple_of (entries_left source.old)) ≡ triple ∷ unrepeated last.new (map triple_of (entries_left source.new))) }
+{
+    'entries: while let Some(entry) = next_entry(source) {
+        let triple = triple_of(entry);
+        if !is_last(last, &triple) {
+            *last = Some(triple);
+            return Some(triple);
+        }
+    }
+    None
+}
+
+/// The triples `[subject, predicate, object]` of a graph that have the numbers that are given, ascending in the order used, each once.
+/// It takes no memory.
+#[derive(Drop)]
+pub struct Triples<'a> {
+    source: Source<'a>,
+    // Whether a triple of several graphs may follow itself, and is left out then.
+    repeats: bool,
+    last: Option<[u32; 3]>,
+}
+
+impl<'a> Model for Triples<'a> {
+    ghost use Rattle.std.specs.Prelude.{ℕ, List};
+    ghost use Rattle.qs_store.specs.Scans.{triples_left};
+    ghost use Rattle.qs_store.specs.Sources.{entries_left};
+
+    ghost Value = { List (List ℕ) };
+
+    ghost view = { λ t. triples_left t.repeats t.last (entries_left t.source) };
+}
+
+impl<'a> Triples<'a> {
+    fn new(source: Source<'a>, repeats: bool) -> Triples<'a>
+        ensures { result ≡ triples_left repeats None (entries_left source.entry) }
+    {
+        Triples {
+            source,
+            repeats,
+            last: None,
+        }
+    }
+
+    /// The triples of an index.
+    pub fn of_store(
+        index: &'a Index,
+        graphs: Graphs,
+        subject: Option<u32>,
+        predicate: Option<u32>,
+        object: Option<u32>,
+    ) -> Triples<'a>
+        requires { graphs ≡ Named → IsTrue index.now.has_named }
+        ensures { AreTriplesOf graphs subject predicate object index.now.entries result }
+    {
+        match graphs {
+            Graphs::Nothing => Triples::new(Source::Nothing, false),
+            Graphs::One(graph) => {
+                let scan = index.scan(graph, subject, predicate, object);
+                Triples::new(Source::Stored(scan), false)
+            }
+            Graphs::Named => {
+                let scan = index.scan_named(subject, predicate, object);
+                Triples::new(Source::Stored(scan), true)
+            }
+        }
+    }
+
+    /// The triples of an index without the removed, and with the added.
+    pub fn of_draft(
+        index: &'a Index,
+        removed: &'a Index,
+        added: &'a Index,
+        graphs: Graphs,
+        subject: Option<u32>,
+        predicate: Option<u32>,
+        object: Option<u32>,
+    ) -> Triples<'a>
+        requires draft { IsDraft index.now.entries removed.now.entries added.now.entries }
+        requires named { graphs ≡ Named → IsTrue index.now.has_named × IsTrue removed.now.has_named × IsTrue added.now.has_named }
+        ensures { AreTriplesOf graphs subject predicate object (drafted index.now.entries removed.now.entries added.now.entries) result }
+    {
+        match graphs {
+            Graphs::Nothing => Triples::new(Source::Nothing, false),
+            Graphs::One(graph) => {
+                let lookup = Lookup::new(graph, subject, predicate, object);
+                let entries = Merged::new(
+                    lookup.permutation,
+                    index.scan(graph, subject, predicate, object),
+                    removed.scan(graph, subject, predicate, object),
+                    added.scan(graph, subject, predicate, object),
+                );
+                Triples::new(Source::Drafted(entries), false)
+            }
+            Graphs::Named => {
+                let lookup = Lookup::of_named(subject, predicate, object);
+                let entries = Merged::new(
+                    lookup.permutation,
+                    index.scan_named(subject, predicate, object),
+                    removed.scan_named(subject, predicate, object),
+                    added.scan_named(subject, predicate, object),
+                );
+                Triples::new(Source::Drafted(entries), true)
+            }
+        }
+    }
+}
+
+impl<'a> Iterator for Triples<'a> {
+    type Item = [u32; 3];
+
+    ghost next_gives = { YieldsFirst (λ rest. rest) };
+
+    ghost remaining = { item_count (λ rest. rest) };
+
+    fn next(&mut self) -> Option<[u32; 3]> {
+        if self.repeats {
+            return next_other(&mut self.source, &mut self.last);
+        }
+        let entry = next_entry(&mut self.source)?;
+        Some(triple_of(entry))
+    }
+}

@@ -1,0 +1,167 @@
+//! What can be read of a store and of a draft.
+
+ghost use Rattle.std.specs.Prelude.{◌≡◌, ◌↔◌, Some, length, Contains, IsTrue, IfOk, IfErr};
+ghost use Rattle.std.specs.List.Sorted.{IsSorted};
+ghost use Rattle.qs_terms.specs.Bag.{SameBag};
+ghost use Rattle.qs_dict.specs.Dict.{IsInUse, term_at, number_of};
+ghost use Rattle.qs_store.specs.Content.{Content};
+ghost use Rattle.qs_store.specs.Graphs.{AreGraphs};
+ghost use Rattle.qs_store.specs.Triples.{AreTriples};
+ghost use Rattle.qs_store.specs.declared.default_graph.DefaultGraph.{DefaultGraph};
+ghost use Rattle.qs_store.specs.declared.fault.StoreFault.TheVariants.{Memory};
+
+use crate::active::Active;
+use crate::default_graph::DefaultGraph;
+use crate::fault::StoreFault;
+use crate::store::{Draft, Store};
+use crate::triples::Triples;
+use qs_terms::{Quad, Term};
+
+/// What a reader sees of a store or of a draft: its content, and which default graph queries see.
+pub trait View {
+    ghost content: { Self → Content };
+
+    ghost default_seen: { Self → DefaultGraph };
+
+    /// Which default graph queries see.
+    fn default_graph(&self) -> DefaultGraph
+        ensures { result ≡ default_seen self.now };
+
+    /// The next blank node's number.
+    fn next_blank(&self) -> u64
+        ensures { result ≡ (content self.now).next };
+
+    /// How many terms are known: the numbers in use are those from 1 to it.
+    fn terms(&self) -> u32
+        ensures { result ≡ length (content self.now).known };
+
+    /// The term with the number, which is in use.
+    fn term(&self, number: u32) -> &Term
+        requires { IsInUse (content self.now).known number }
+        ensures { term_at (content self.now).known number ≡ Some result.now };
+
+    /// The number of the term, where it is known.
+    fn find(&self, term: &Term) -> Option<u32>
+        ensures { result ≡ number_of (content self.now).known term.now };
+
+    /// Whether the quad is there. It takes no memory.
+    fn contains(&self, quad: &Quad) -> bool
+        ensures { IsTrue result ↔ Contains (content self.now).quads quad.now };
+
+    /// The triples of a graph that have the numbers that are given, each once, in the order that `Store::scan` tells. It takes no memory.
+    fn scan(
+        &self,
+        active: Active,
+        subject: Option<u32>,
+        predicate: Option<u32>,
+        object: Option<u32>,
+    ) -> Triples<'_>
+        ensures { AreTriples (content self.now) (default_seen self.now) active subject predicate object result };
+
+    /// The numbers of the names of the graphs that have quads, ascending. Its one refusal is want of memory.
+    fn graphs(&self) -> Result<Vec<u32>, StoreFault>
+        ensures graphs { IfOk result (λ graphs. AreGraphs (content self.now) graphs.items) }
+        ensures memory { IfErr result (λ fault. fault ≡ Memory) };
+
+    /// The quads, each once, in the order of quads (`Quad::order`), as copies. Its one refusal is want of memory.
+    fn quads(&self) -> Result<Vec<Quad>, StoreFault>
+        ensures same { IfOk result (λ quads. SameBag (content self.now).quads quads.items) }
+        ensures ascending { IfOk result (λ quads. IsSorted ⟦<Quad as Ord>⟧.cmp quads.items) }
+        ensures memory { IfErr result (λ fault. fault ≡ Memory) };
+}
+
+impl View for Store {
+    ghost content = { λ s. s.base };
+
+    ghost default_seen = { λ s. s.default_graph };
+
+    fn default_graph(&self) -> DefaultGraph {
+        Store::default_graph(self)
+    }
+
+    fn next_blank(&self) -> u64 {
+        Store::next_blank(self)
+    }
+
+    fn terms(&self) -> u32 {
+        Store::terms(self)
+    }
+
+    fn term(&self, number: u32) -> &Term {
+        Store::term(self, number)
+    }
+
+    fn find(&self, term: &Term) -> Option<u32> {
+        Store::find(self, term)
+    }
+
+    fn contains(&self, quad: &Quad) -> bool {
+        Store::contains(self, quad)
+    }
+
+    fn scan(
+        &self,
+        active: Active,
+        subject: Option<u32>,
+        predicate: Option<u32>,
+        object: Option<u32>,
+    ) -> Triples<'_> {
+        Store::scan(self, active, subject, predicate, object)
+    }
+
+    fn graphs(&self) -> Result<Vec<u32>, StoreFault> {
+        Store::graphs(self)
+    }
+
+    fn quads(&self) -> Result<Vec<Quad>, StoreFault> {
+        Store::quads(self)
+    }
+}
+
+impl<'a> View for Draft<'a> {
+    ghost content = { λ d. d.store.now.draft };
+
+    ghost default_seen = { λ d. d.store.now.default_graph };
+
+    fn default_graph(&self) -> DefaultGraph {
+        Draft::default_graph(self)
+    }
+
+    fn next_blank(&self) -> u64 {
+        Draft::next_blank(self)
+    }
+
+    fn terms(&self) -> u32 {
+        Draft::terms(self)
+    }
+
+    fn term(&self, number: u32) -> &Term {
+        Draft::term(self, number)
+    }
+
+    fn find(&self, term: &Term) -> Option<u32> {
+        Draft::find(self, term)
+    }
+
+    fn contains(&self, quad: &Quad) -> bool {
+        Draft::contains(self, quad)
+    }
+
+    fn scan(
+        &self,
+        active: Active,
+        subject: Option<u32>,
+        predicate: Option<u32>,
+        object: Option<u32>,
+    ) -> Triples<'_> {
+        Draft::scan(self, active, subject, predicate, object)
+    }
+
+    fn graphs(&self) -> Result<Vec<u32>, StoreFault> {
+        Draft::graphs(self)
+    }
+
+    fn quads(&self) -> Result<Vec<Quad>, StoreFault> {
+        Draft::quads(self)
+    }
+}
