@@ -1,4 +1,5 @@
-// The entries of a scan that aren't removed.
+//! The entries of a scan that aren't removed.
+
 ghost use Rattle.std.specs.Prelude.{◌≡◌, None, Some};
 ghost use Rattle.std.specs.Iterator.{YieldsFirst};
 ghost use Rattle.qs_store.specs.Scans.{without, is_last};

@@ -1,4 +1,5 @@
-// The entries of a draft.
+//! The entries of a draft.
+
 ghost use Rattle.std.specs.Prelude.{◌≡◌, None, Some};
 ghost use Rattle.std.specs.Iterator.{YieldsFirst};
 ghost use Rattle.qs_index.specs.Entry.{is_before};

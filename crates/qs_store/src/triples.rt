@@ -1,4 +1,5 @@
-// A scan of the triples of a store or of a draft.
+//! A scan of the triples of a store or of a draft.
+
 ghost use Rattle.std.specs.Prelude.{◌≡◌, ◌∷◌, [], map, None, IfSome, IfNone, IsTrue};
 ghost use Rattle.std.specs.Iterator.{YieldsFirst, item_count};
 ghost use Rattle.qs_store.specs.Layers.{IsDraft, drafted};
