@@ -18,6 +18,7 @@ use Rattle.qs_ast.specs.declared.query.SelectItem.TheVariants as item
 use Rattle.qs_ast.specs.declared.term.Variable.{Variable}
 use Rattle.qs_ast.specs.declared.term.VarOrIri.{VarOrIri}
 use Rattle.qs_ast.specs.declared.term.VarOrIri.TheVariants as name
+use Rattle.qs_ast.specs.declared.update.QuadBlock.{QuadBlock}
 use Rattle.qs_scope.specs.Firsts.{names_of}
 use Rattle.qs_scope.specs.Names.{Name}
 use Rattle.qs_scope.specs.Places.{place_of}
@@ -155,3 +156,16 @@ translated query = named query.variables (query_pattern query)
 -- the pattern of a WHERE by itself, with the variables of its text
 abbrev pub translated_where : List Variable → Group → NamedPattern
 translated_where variables group = named variables (group_pattern (names_of variables) group)
+
+-- ---- the pattern of DELETE WHERE: the quads of its template (SPARQL 1.1 Update, 3.1.3.3)
+
+abbrev pub in_block : List Name → Option VarOrIri → Pattern → Pattern
+in_block names None part = part
+in_block names (Some graph) part = in_graph names graph part
+
+abbrev pub block_step : List Name → QuadBlock → Step
+block_step names b = step.Join (in_block names b.graph (pattern.Basic (basic_pattern names b.triples)))
+
+-- the pattern of blocks of triples, each of the default graph or of the graph that it names, with the variables of its text
+abbrev pub translated_blocks : List Variable → List QuadBlock → NamedPattern
+translated_blocks variables blocks = named variables (unfiltered (map (block_step (names_of variables)) blocks))

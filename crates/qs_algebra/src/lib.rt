@@ -2,6 +2,7 @@
 #![tactic(auto)]
 
 mod basic;
+mod blocks;
 mod expression;
 mod hidden;
 mod named;
@@ -12,6 +13,7 @@ mod query;
 mod table;
 mod translation;
 
+pub use blocks::translate_blocks;
 pub use expression::expr_of;
 pub use named::NamedPattern;
 pub use query::{translate, translate_where};

@@ -147,7 +147,8 @@ fn names_of(alloc: Global, variables: &[Variable]) -> Result<Items<Text>, AllocE
     Ok(names)
 }
 
-fn named(
+/// The pattern with the names of these variables.
+pub fn named(
     alloc: Global,
     variables: &[Variable],
     pattern: Pattern,

@@ -74,7 +74,7 @@ fn one_or_union(mut parts: Items<Pattern>) -> Pattern
 }
 
 /// The pattern in the graph of the name, or in each graph.
-fn in_graph<'a>(
+pub fn in_graph<'a>(
     alloc: Global,
     names: &Seen<'a>,
     name: &'a VarOrIri,

@@ -1,0 +1,77 @@
+//! The patterns of DELETE WHERE (SPARQL 1.1 Update, 3.1.3.3).
+
+ghost use Rattle.std.specs.Prelude.{◌≡◌, map, IfOk};
+ghost use Rattle.qs_scope.specs.Firsts as first;
+ghost use Rattle.qs_algebra.specs.Translation as spec;
+
+use crate::basic::basic_pattern;
+use crate::named::NamedPattern;
+use crate::query::named;
+use crate::translation::{in_graph, unfiltered};
+use qs_ast::term::{VarOrIri, Variable};
+use qs_ast::update::QuadBlock;
+use qs_patterns::{Pattern, Step};
+use qs_scope::{Seen, numbered};
+use sqlite_items::Items;
+use std::alloc::{AllocError, Global};
+
+fn in_block<'a>(
+    alloc: Global,
+    names: &Seen<'a>,
+    graph: &'a Option<VarOrIri>,
+    part: Pattern,
+) -> Result<Pattern, AllocError>
+    ensures { IfOk result (λ p. p ≡ spec.in_block names.now graph.now part) }
+{
+    match graph {
+        None => Ok(part),
+        Some(name) => in_graph(alloc, names, name, part),
+    }
+}
+
+fn block_step<'a>(alloc: Global, names: &Seen<'a>, block: &'a QuadBlock) -> Result<Step, AllocError>
+    ensures { IfOk result (λ s. s ≡ spec.block_step names.now block.now) }
+{
+    let basic = basic_pattern(alloc, names, block.triples.as_slice())?;
+    let part = in_block(alloc, names, &block.graph, Pattern::Basic(basic))?;
+    Ok(Step::Join(part))
+}
+
+fn block_steps<'a>(
+    alloc: Global,
+    names: &Seen<'a>,
+    blocks: &'a [QuadBlock],
+) -> Result<Items<Step>, AllocError>
+    ensures { IfOk result (λ steps. steps ≡ map (spec.block_step names.now) blocks.now) }
+{
+    let mut steps = Items::new(alloc);
+    for block in blocks {
+        let step = block_step(alloc, names, block)?;
+        steps.push(step)?;
+    }
+    Ok(steps)
+}
+
+fn blocks_pattern(
+    alloc: Global,
+    variables: &[Variable],
+    blocks: &[QuadBlock],
+) -> Result<Pattern, AllocError>
+    ensures { IfOk result (λ p. p ≡ spec.unfiltered (map (spec.block_step (first.names_of variables.now)) blocks.now)) }
+{
+    let names = numbered(alloc, variables)?;
+    let steps = block_steps(alloc, &names, blocks)?;
+    unfiltered(alloc, steps)
+}
+
+/// The pattern of a DELETE WHERE, whose blocks of triples are its template and its pattern, with the variables of the text.
+pub fn translate_blocks(
+    alloc: Global,
+    variables: &[Variable],
+    blocks: &[QuadBlock],
+) -> Result<NamedPattern, AllocError>
+    ensures { IfOk result (λ p. p ≡ spec.translated_blocks variables.now blocks.now) }
+{
+    let pattern = blocks_pattern(alloc, variables, blocks)?;
+    named(alloc, variables, pattern)
+}
