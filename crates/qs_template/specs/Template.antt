@@ -1,6 +1,6 @@
 -- Templates of quads with their variables as numbers (SPARQL 1.1 Query, 16.2; SPARQL 1.1 Update, 3.1.3). By the grammar no path stands
 -- as a verb in a template; a triple with one is left out.
-use Rattle.std.specs.Prelude.{List, [], ◌∷◌, length, Option, Some, None}
+use Rattle.std.specs.Prelude.{ℕ, List, [], ◌∷◌, length, map, Option, Some, None}
 use Rattle.std.specs.List.{flat_map}
 use Rattle.std.specs.Option.{unwrap_or}
 use Rattle.qs_terms.specs.declared.term.Term.TheVariants as value
@@ -68,3 +68,17 @@ abbrev pub template_of_blocks : List Name → List QuadBlock → Template
 template_of_blocks names blocks =
     let blanks = firsts (blocks_blanks blocks) in
     with_blanks blanks (flat_map (block_quads names blanks) blocks)
+
+-- ---- WITH: the graph of the quads that name none (SPARQL 1.1 Update, 3.1.3)
+
+abbrev pub graph_or : Slot → Option Slot → Slot
+graph_or name None = name
+graph_or name (Some graph) = graph
+
+abbrev pub quad_in : Slot → QuadTemplate → QuadTemplate
+quad_in name q = record { graph = Some (graph_or name q.graph); subject = q.subject; predicate = q.predicate; object = q.object }
+
+-- the template, where the quads of the default graph stand in the graph of this IRI, if one is given
+abbrev pub template_in : Option (List ℕ) → Template → Template
+template_in None t = t
+template_in (Some iri) t = record { quads = map (quad_in (slot.Term (value.Iri iri))) t.quads; blanks = t.blanks }

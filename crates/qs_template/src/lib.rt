@@ -1,7 +1,7 @@
 //! Templates of CONSTRUCT and of updates, and the quads that they make of solutions (SPARQL 1.1 Query, 16.2; SPARQL 1.1 Update, 3.1.3).
 //!
-//! `template` has a template with its variables and blank nodes as numbers, `blanks` how its blank nodes are numbered, `made` the quads
-//! that it makes of solutions, and `set` quads as a set. `laws` says which blank nodes are fresh.
+//! `template` has a template with its variables and blank nodes as numbers, `blanks` how its blank nodes are numbered, `with` the template
+//! under WITH, `made` the quads that it makes of solutions, and `set` quads as a set. `laws` says which blank nodes are fresh.
 #![tactic(auto)]
 
 mod blanks;
@@ -9,7 +9,9 @@ pub mod laws;
 mod made;
 mod set;
 mod template;
+mod with;
 
 pub use made::{instances, next_after};
 pub use set::each_once;
 pub use template::{QuadTemplate, Slot, Template, template_of, template_of_blocks};
+pub use with::template_in;

@@ -47,7 +47,7 @@ pub struct Template {
 
 impl Slot {
     // the same one; its term isn't copied
-    fn share(&self) -> Result<Slot, AllocError>
+    pub(crate) fn share(&self) -> Result<Slot, AllocError>
         ensures { IfOk result (λ s. s ≡ self.now) }
     {
         match self {
@@ -58,7 +58,7 @@ impl Slot {
     }
 }
 
-fn iri_slot(alloc: Global, iri: &Iri) -> Result<Slot, AllocError>
+pub(crate) fn iri_slot(alloc: Global, iri: &Iri) -> Result<Slot, AllocError>
     ensures { IfOk result (λ s. s ≡ slot.Term (value.Iri iri.now)) }
 {
     let iri = Term::Iri(iri.try_clone(alloc)?);
