@@ -1,5 +1,5 @@
 // The set of entries in three orders, and in three of the named graphs where they are asked for.
-ghost use Rattle.std.specs.Prelude.{◌≡◌, ℕ, ◌+◌, ◌<◌, ◌≤◌, ◌↔◌, min, Bool, true, false, List, [], ◌∷◌, length, map, IsTrue, IfSome, IfNone};
+ghost use Rattle.std.specs.Prelude.{◌≡◌, ℕ, ◌+◌, ◌<◌, ◌≤◌, ◌^◌, ◌↔◌, min, Bool, true, false, List, [], ◌∷◌, length, map, IsTrue, IfSome, IfNone};
 ghost use Rattle.std.specs.Bool.{OnTrue, OnFalse};
 ghost use Rattle.std.specs.Result.{OnOk};
 ghost use Rattle.std.specs.List.{All, Contains};
@@ -164,9 +164,10 @@ impl Index {
         self.named.remove_all(entries);
     }
 
-    /// How many entries there are. It takes no memory, and goes over none.
+    /// How many entries there are: fewer than memory can hold. It takes no memory, and goes over none.
     pub fn len(&self) -> u128
-        ensures { result ≡ length self.now.entries }
+        ensures count { result ≡ length self.now.entries }
+        ensures small { result < 2 ^ 72 }
     {
         self.gspo.len()
     }

@@ -1,5 +1,5 @@
 // One order of the entries: sorted pages seen as one ascending list.
-ghost use Rattle.std.specs.Prelude.{◌≡◌, ℕ, ◌+◌, ◌-◌, ◌<◌, ◌≤◌, List, [], ◌∷◌, length, take, drop, IsTrue, ◌↔◌, MatchOption};
+ghost use Rattle.std.specs.Prelude.{◌≡◌, ℕ, ◌+◌, ◌-◌, ◌<◌, ◌≤◌, ◌^◌, List, [], ◌∷◌, length, take, drop, IsTrue, ◌↔◌, MatchOption};
 ghost use Rattle.std.specs.Bool.{OnTrue, OnFalse};
 ghost use Rattle.std.specs.Result.{OnOk};
 ghost use Rattle.std.specs.List.{Contains};
@@ -245,10 +245,12 @@ impl Order {
         }
     }
 
-    /// How many entries there are.
+    /// How many entries there are. Pages are counted in 64 bits, and have 256 entries at most.
     pub fn len(&self) -> u128
-        ensures { result ≡ length self.now.entries }
+        ensures count { result ≡ length self.now.entries }
+        ensures small { result < 2 ^ 72 }
     {
+        let _pages = self.pages.len();
         self.count
     }
 
