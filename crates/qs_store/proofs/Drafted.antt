@@ -9,7 +9,9 @@ use Rattle.std.proofs.lemmas.List.Elements.{Contains-append_left, Contains-appen
 use Rattle.qs_index.specs.Entries.{IsUnion, IsDifference}
 use Rattle.qs_store.specs.Change.{IsChanged}
 use Rattle.qs_store.specs.Layers.{drafted, IsDraft, IsPartOf}
-use Rattle.qs_store.proofs.Members.{Entries, nothing, lacking, lacks, Stays, is_in, not_true, only_if, any_if, ascending_fits, head_or_tail}
+use Rattle.std.proofs.lemmas.List.Filters.{length-filter_both}
+use Rattle.qs_terms.specs.Bag.{Distinct}
+use Rattle.qs_store.proofs.Members.{Entries, nothing, lacking, lacks, Stays, is_in, not_true, only_if, any_if, ascending_fits, head_or_tail, member_of_filter, filter_has, ascending_once, both_once, filter_ascends}
 
 -- the members of a draft
 pub parts : (i r a : Entries) (x : List ℕ) → Contains (drafted i r a) x → Stays i r x ⊎ Contains a x
@@ -142,3 +144,23 @@ kept_less xs r x n =
 
 pub one_done : (done rest after whole : Entries) (e : List ℕ) → done ++ rest ≡ whole → rest ≡ e ∷ after → (done ++ e ∷ []) ++ after ≡ whole
 one_done done rest after whole e h n = append_assoc done (e ∷ []) after ∙ ap (λ r. done ++ r) (sym n) ∙ h
+
+-- a draft has each entry once
+pub drafted_once : (i r a : Entries) → IsDraft i r a → Distinct bytes_eq (drafted i r a)
+drafted_once i r a d =
+    let p : List ℕ → Bool = λ x. not (list_any (bytes_eq x) r) in
+    both_once (filter p i) a (ascending_once (filter p i) (filter_ascends p i d.once)) (ascending_once a d.added_once) (λ x m n. d.apart x n (member_of_filter p x i m).0)
+
+-- as many as are removed are gone from the store's, and as many as are added are there
+pub drafted_count : (i r a : Entries) → IsDraft i r a → length (drafted i r a) + length r ≡ length i + length a
+drafted_count i r a d =
+    let is_removed : List ℕ → Bool = λ x. list_any (bytes_eq x) r in
+    let is_kept : List ℕ → Bool = λ x. not (list_any (bytes_eq x) r) in
+    let whole = length-filter_both is_removed is_kept (λ x. refl) i in
+    let few = ascending_fits (filter is_removed i) r (filter_ascends is_removed i d.once) (λ x m. only_if x r (member_of_filter is_removed x i m).1) in
+    let all = ascending_fits r (filter is_removed i) d.removed_once (λ x m. filter_has is_removed x i (d.taken x m) (any_if x r m)) in
+    omega (arith, whole, few, all, length-append (filter is_kept i) a)
+
+-- no more are removed than the store has
+pub removed_few : (i r a : Entries) → IsDraft i r a → length r ≤ length i
+removed_few i r a d = ascending_fits r i d.removed_once d.taken

@@ -10,3 +10,4 @@ pub mod Scanned
 pub mod TriplesSaid
 pub mod Holding
 pub mod GraphsSaid
+pub mod Sets

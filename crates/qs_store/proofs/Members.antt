@@ -7,6 +7,7 @@ use Rattle.std.proofs.lemmas.Bool.Decides.{nat_tests}
 use Rattle.std.proofs.lemmas.Slice.Eq.{bytes_eq-Decides}
 use Rattle.std.proofs.lemmas.List.Elements.{Contains-get_or, Contains-push_cases, Contains-append_left, Contains-append_right, Contains-append_cases}
 use Rattle.qs_index.specs.Entry.{IsAscending, IsBeforeAll, is_before}
+use Rattle.qs_terms.specs.Bag.{Distinct}
 
 abbrev pub Entries : Type 0
 Entries = List (List ℕ)
@@ -118,3 +119,40 @@ is_in x r = at_test (list_any (bytes_eq x) r) refl
     at_test : (b : Bool) → list_any (bytes_eq x) r ≡ b → Contains r x ⊎ (Contains r x → ⊥)
     at_test true e = inl (only_if x r e)
     at_test false e = inr (λ m. false≢true (sym e ∙ any_if x r m))
+
+not_any : (x : List ℕ) (xs : Entries) → (Contains xs x → ⊥) → list_any (bytes_eq x) xs ≡ false
+not_any x xs n = at_test (list_any (bytes_eq x) xs) refl
+  where
+    at_test : (b : Bool) → list_any (bytes_eq x) xs ≡ b → b ≡ false
+    at_test true e = absurd (n (only_if x xs e))
+    at_test false e = refl
+
+-- an ascending list has each entry once
+pub ascending_once : (xs : Entries) → IsAscending xs → Distinct bytes_eq xs
+ascending_once [] u = tt
+ascending_once (x ∷ xs) u = (not_any x xs (λ m. false≢true (sym (not_before_itself x) ∙ before_member x xs x u.0 m)), ascending_once xs u.1)
+
+-- and so have two lists that have none in common
+pub both_once : (xs ys : Entries) → Distinct bytes_eq xs → Distinct bytes_eq ys → ((x : List ℕ) → Contains xs x → Contains ys x → ⊥) → Distinct bytes_eq (xs ++ ys)
+both_once [] ys u v n = v
+both_once (x ∷ xs) ys u v n = (
+  not_any x (xs ++ ys) (λ m. ⊎_elim (λ c. false≢true (sym u.0 ∙ any_if x xs c)) (λ c. n x (here x xs) c) (Contains-append_cases xs ys x m)),
+  both_once xs ys u.1 v (λ y c. n y (there x y xs c)),
+)
+
+-- a test leaves an ascending list ascending
+before_those : (p : List ℕ → Bool) (x : List ℕ) (xs : Entries) → IsBeforeAll x xs → IsBeforeAll x (filter p xs)
+before_those p x [] u = tt
+before_those p x (y ∷ ys) u = at_test (p y) (before_those p x ys u.1)
+  where
+    at_test : (b : Bool) → IsBeforeAll x (filter p ys) → IsBeforeAll x (cond b (y ∷ filter p ys) (filter p ys))
+    at_test true h = (u.0, h)
+    at_test false h = h
+
+pub filter_ascends : (p : List ℕ → Bool) (xs : Entries) → IsAscending xs → IsAscending (filter p xs)
+filter_ascends p [] u = tt
+filter_ascends p (x ∷ xs) u = at_test (p x) (filter_ascends p xs u.1)
+  where
+    at_test : (b : Bool) → IsAscending (filter p xs) → IsAscending (cond b (x ∷ filter p xs) (filter p xs))
+    at_test true h = (before_those p x xs u.0, h)
+    at_test false h = h

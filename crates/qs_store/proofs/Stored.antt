@@ -1,9 +1,10 @@
 -- What holds of a store stays so.
-use Rattle.std.proofs.Common.{◌≡◌, ℕ, ◌≤◌, Bool, true, false, ◌&&◌, List, [], ◌∷◌, length, take, Option, Some, None, IsTrue, refl, ap, sym, ◌∙◌, subst, arith, ⊎_elim}
+use Rattle.std.proofs.Common.{◌≡◌, ℕ, zero, suc, get_or, ◌≤◌, Bool, true, false, ◌&&◌, List, [], ◌∷◌, length, take, Option, Some, None, IsTrue, refl, ap, sym, ◌∙◌, subst, arith, ⊎_elim}
 use Rattle.std.proofs.Common.{◌||◌}
 use Rattle.std.specs.List.{Contains, list_all, list_any}
-use Rattle.std.proofs.lemmas.Option.{same_Some}
-use Rattle.qs_index.specs.Entry.{IsAscending}
+use Rattle.std.specs.Str.{bytes_eq}
+use Rattle.std.proofs.lemmas.Option.{same_Some, none-some, slice_get-get_or, slice_get_within}
+use Rattle.std.proofs.lemmas.List.Elements.{Contains-get_or}
 use Rattle.qs_terms.proofs.SameStatement.{same_statement-Decides}
 use Rattle.std.proofs.Math.Seq.{take-length}
 use Rattle.std.proofs.lemmas.Bool.{false≢true}
@@ -17,12 +18,13 @@ use Rattle.qs_terms.specs.Statement.{Statement, same_statement}
 use Rattle.qs_terms.specs.declared.term.Term.{Term}
 use Rattle.qs_terms.specs.declared.term.Term.TheVariants.{Iri, Blank, Literal}
 use Rattle.qs_store.specs.Change.{IsChanged, with_terms_of, KnowsTermsOf}
-use Rattle.qs_store.specs.Content.{Content}
-use Rattle.qs_store.specs.Entries.{AreEntries, said, statement_of, entry_of}
+use Rattle.qs_dict.specs.Dict.{term_at}
+use Rattle.qs_store.specs.Content.{Content, HasKnownTerms, KnowsItsTerms}
+use Rattle.qs_store.specs.Entries.{AreEntries, IsEntryOf, said, statement_of, entry_of, term_or}
 use Rattle.qs_store.specs.Same.{SameSet}
 use Rattle.qs_store.specs.Store.{IsStore, IsFront}
-use Rattle.qs_store.proofs.Members.{Entries, nothing, here, there, head_or_tail, not_before_itself, before_member}
-use Rattle.qs_store.proofs.Entries.{member_of_said, entry_found, said_more, still_said, whole_entries, said_front, twice_front, Distinct-front}
+use Rattle.qs_store.proofs.Members.{Entries, nothing, here, there, head_or_tail, any_if}
+use Rattle.qs_store.proofs.Entries.{in_use, member_of_said, entry_found, said_more, still_said, whole_entries, said_front, twice_front, Distinct-front}
 use Rattle.qs_store.proofs.Terms.{front_keeps, front_length, front_take, front_take_less}
 
 both : (a b : Bool) → (a && b) ≡ true → (a ≡ true) × (b ≡ true)
@@ -143,7 +145,7 @@ passes_at p (q ∷ qs) h = at_test (p q) refl (λ k. passes_at p qs k) h
     at_test false e i k = let m = i k in record { one = m.one; stands = there q m.one qs m.stands; passes = m.passes }
 
 -- entries that stand once say quads that stand once
-pub said_once : (terms : List Term) (entries : Entries) → Distinct same_term terms → IsAscending entries → AreEntries terms entries → Distinct same_statement (said terms entries)
+pub said_once : (terms : List Term) (entries : Entries) → Distinct same_term terms → Distinct bytes_eq entries → AreEntries terms entries → Distinct same_statement (said terms entries)
 said_once terms [] u o h = tt
 said_once terms (x ∷ xs) u o h = (at_test (list_any (same_statement (statement_of terms x)) (said terms xs)) refl, said_once terms xs u o.1 (λ y c. h y (there x y xs c)))
   where
@@ -153,5 +155,33 @@ said_once terms (x ∷ xs) u o h = (at_test (list_any (same_statement (statement
         let q = (same_statement-Decides (statement_of terms x) m.one).0 m.passes in
         let s = member_of_said terms m.one xs m.stands in
         let y : s.entry ≡ x = same_Some s.entry x (sym (entry_found terms s.entry u (h s.entry (there x s.entry xs s.stands))) ∙ ap (entry_of terms) (s.says ∙ sym q) ∙ entry_found terms x u (h x (here x xs))) in
-        absurd (false≢true (sym (not_before_itself x) ∙ before_member x xs x o.0 (subst (Contains xs) y s.stands)))
+        absurd (false≢true (sym o.0 ∙ any_if x xs (subst (Contains xs) y s.stands)))
     at_test false e = refl
+
+known_at : (terms : List Term) (n : ℕ) (t : Term) → term_at terms n ≡ Some t → Contains terms t
+known_at terms zero t h = absurd (none-some t h)
+known_at terms (suc i) t h =
+    let w = slice_get_within terms i t h in
+    let e = slice_get-get_or terms i (Blank 0) w in
+    subst (Contains terms) (same_Some (get_or terms i (Blank 0)) t (sym e ∙ h)) (Contains-get_or terms i (Blank 0) w)
+
+entry_known : (terms : List Term) (x : List ℕ) → IsEntryOf terms x → HasKnownTerms terms (statement_of terms x)
+entry_known terms [] e = absurd e
+entry_known terms (g ∷ []) e = absurd e
+entry_known terms (g ∷ s ∷ []) e = absurd e
+entry_known terms (g ∷ s ∷ p ∷ []) e = absurd e
+entry_known terms (g ∷ s ∷ p ∷ o ∷ x ∷ rest) e = absurd e
+entry_known terms (g ∷ s ∷ p ∷ o ∷ []) e = record {
+  graph = λ name h. known_at terms g name h;
+  subject = known_at terms s (term_or terms s) (in_use terms s e.subject);
+  predicate = known_at terms p (term_or terms p) (in_use terms p e.predicate);
+  object = known_at terms o (term_or terms o) (in_use terms o e.object);
+}
+
+-- the terms of what entries say are known
+pub draft_known : (terms : List Term) (entries : Entries) (next : ℕ) → AreEntries terms entries → KnowsItsTerms (content (said terms entries) next terms)
+draft_known terms entries next all q c = let f = member_of_said terms q entries c in subst (HasKnownTerms terms) f.says (entry_known terms f.entry (all f.entry f.stands))
+
+pub base_known : (terms : List Term) (entries : Entries) (known next : ℕ) → known ≤ length terms → AreEntries (take known terms) entries → KnowsItsTerms (content (said terms entries) next (take known terms))
+base_known terms entries known next l all =
+    subst (λ quads. KnowsItsTerms (content quads next (take known terms))) (said_front terms known entries l all) (draft_known (take known terms) entries next all)

@@ -1,6 +1,7 @@
 -- What a store or a draft holds.
-use Rattle.std.specs.Prelude.{ℕ, List, Bool, if◌then◌else◌}
+use Rattle.std.specs.Prelude.{◌≡◌, ℕ, List, Some, Bool, if◌then◌else◌}
 use Rattle.std.specs.Bool.{IsTrue}
+use Rattle.std.specs.List.{Contains}
 use Rattle.qs_terms.specs.Bag.{Distinct}
 use Rattle.qs_terms.specs.Dataset.{is_above_blanks}
 use Rattle.qs_terms.specs.Term.{same_term}
@@ -31,3 +32,14 @@ pub record IsContent (c : Content) : Type 0 where
   pub quads_once : Distinct same_statement c.quads
   pub above : IsTrue (is_above_blanks c.next c.quads)
   pub terms_once : Distinct same_term c.known
+
+-- the terms of a quad are known: the name of its graph, where it has one, and its subject, predicate and object
+pub record HasKnownTerms (known : List Term) (q : Statement) : Type 0 where
+  pub graph : (name : Term) → q.graph ≡ Some name → Contains known name
+  pub subject : Contains known q.subject
+  pub predicate : Contains known q.predicate
+  pub object : Contains known q.object
+
+-- the terms of each quad are known
+abbrev pub KnowsItsTerms : Content → Type 0
+KnowsItsTerms c = (q : Statement) → Contains c.quads q → HasKnownTerms c.known q

@@ -1,7 +1,8 @@
 //! The entries of a store in one index, and apart in two others those that a draft removes and adds.
 
 ghost use Rattle.std.specs.Prelude.{◌≡◌, ℕ, ◌≤◌, ◌+◌, ◌++◌, ◌↔◌, Bool, List, [], length, take, IsTrue, IfOk, OnOk, OnErr, Contains, cond};
-ghost use Rattle.qs_index.specs.Entry.{IsAscending};
+ghost use Rattle.std.specs.Str.{bytes_eq};
+ghost use Rattle.qs_terms.specs.Bag.{Distinct};
 ghost use Rattle.qs_index.specs.Entries.{HaveFour, IsUnion, IsDifference};
 ghost use Rattle.qs_store.specs.Change.{IsChanged};
 ghost use Rattle.qs_store.specs.Holding.{AreGraphsOf};
@@ -205,9 +206,18 @@ impl Layers {
     /// How many entries the store has.
     pub fn len(&self) -> u128
         ensures count { result ≡ length self.now.base }
-        ensures ascending { IsAscending self.now.base }
+        ensures once { Distinct bytes_eq self.now.base }
     {
         self.index.len()
+    }
+
+    /// How many entries the draft has.
+    pub fn draft_len(&self) -> u128
+        ensures count { result ≡ length self.now.draft }
+        ensures once { Distinct bytes_eq self.now.draft }
+    {
+        let kept = self.index.len() - self.removed.len();
+        kept + self.added.len()
     }
 
     /// Whether the entry is one of the draft's.

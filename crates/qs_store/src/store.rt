@@ -6,7 +6,7 @@ ghost use Rattle.qs_terms.specs.Bag.{SameBag};
 ghost use Rattle.qs_terms.specs.Dataset.{is_above_blanks};
 ghost use Rattle.qs_dict.specs.Dict.{IsInUse, IsDictionary, term_at, number_of};
 ghost use Rattle.qs_store.specs.Change.{IsChanged, KnowsTermsOf, IsFullExactly, IsFullAt, with_terms_of};
-ghost use Rattle.qs_store.specs.Content.{Content, Held, IsContent, default_of};
+ghost use Rattle.qs_store.specs.Content.{Content, Held, IsContent, KnowsItsTerms, default_of};
 ghost use Rattle.qs_store.specs.Entries.{said, AreEntries};
 ghost use Rattle.qs_store.specs.Graphs.{AreGraphs};
 ghost use Rattle.qs_store.specs.Same.{SameSet};
@@ -153,11 +153,28 @@ impl Store {
         self.next
     }
 
-    /// How many terms are known: the numbers in use are those from 1 to it.
+    // How many quads the draft has.
+    fn draft_count(&self) -> u128
+        ensures count { result ≡ length self.now.draft.quads }
+        ensures lawful { IsContent self.now.draft }
+    {
+        self.layers.draft_len()
+    }
+
+    /// How many terms are known: the numbers in use are those from 1 to it. The terms of the quads are among them.
     pub fn terms(&self) -> u32
-        ensures { result ≡ length self.now.base.known }
+        ensures count { result ≡ length self.now.base.known }
+        ensures known { KnowsItsTerms self.now.base }
     {
         self.known
+    }
+
+    // The same of the draft.
+    fn draft_terms(&self) -> u32
+        ensures count { result ≡ length self.now.draft.known }
+        ensures known { KnowsItsTerms self.now.draft }
+    {
+        self.dict.len()
     }
 
     /// The term with the number, which is in use.
@@ -409,12 +426,22 @@ impl<'a> Draft<'a> {
         store.draft_contains(quad)
     }
 
-    /// How many terms the draft knows: the numbers in use are those from 1 to it.
-    pub fn terms(&self) -> u32
-        ensures { result ≡ length self.now.store.now.draft.known }
+    /// How many quads the draft has. It takes no memory, and goes over none.
+    pub fn count(&self) -> u128
+        ensures count { result ≡ length self.now.store.now.draft.quads }
+        ensures lawful { IsContent self.now.store.now.draft }
     {
         let store: &Store = self.store;
-        store.dict.len()
+        store.draft_count()
+    }
+
+    /// How many terms the draft knows: the numbers in use are those from 1 to it. The terms of the quads are among them.
+    pub fn terms(&self) -> u32
+        ensures count { result ≡ length self.now.store.now.draft.known }
+        ensures known { KnowsItsTerms self.now.store.now.draft }
+    {
+        let store: &Store = self.store;
+        store.draft_terms()
     }
 
     /// The term with the number, which is in use.

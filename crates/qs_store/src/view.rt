@@ -4,7 +4,7 @@ ghost use Rattle.std.specs.Prelude.{◌≡◌, ◌↔◌, Some, length, Contains
 ghost use Rattle.std.specs.List.Sorted.{IsSorted};
 ghost use Rattle.qs_terms.specs.Bag.{SameBag};
 ghost use Rattle.qs_dict.specs.Dict.{IsInUse, term_at, number_of};
-ghost use Rattle.qs_store.specs.Content.{Content};
+ghost use Rattle.qs_store.specs.Content.{Content, IsContent, KnowsItsTerms};
 ghost use Rattle.qs_store.specs.Graphs.{AreGraphs};
 ghost use Rattle.qs_store.specs.Triples.{AreTriples};
 ghost use Rattle.qs_store.specs.declared.default_graph.DefaultGraph.{DefaultGraph};
@@ -31,9 +31,15 @@ pub trait View {
     fn next_blank(&self) -> u64
         ensures { result ≡ (content self.now).next };
 
-    /// How many terms are known: the numbers in use are those from 1 to it.
+    /// How many quads there are. It takes no memory, and goes over none.
+    fn count(&self) -> u128
+        ensures count { result ≡ length (content self.now).quads }
+        ensures lawful { IsContent (content self.now) };
+
+    /// How many terms are known: the numbers in use are those from 1 to it. The terms of the quads are among them.
     fn terms(&self) -> u32
-        ensures { result ≡ length (content self.now).known };
+        ensures count { result ≡ length (content self.now).known }
+        ensures known { KnowsItsTerms (content self.now) };
 
     /// The term with the number, which is in use.
     fn term(&self, number: u32) -> &Term
@@ -83,6 +89,10 @@ impl View for Store {
         Store::next_blank(self)
     }
 
+    fn count(&self) -> u128 {
+        Store::count(self)
+    }
+
     fn terms(&self) -> u32 {
         Store::terms(self)
     }
@@ -129,6 +139,10 @@ impl<'a> View for Draft<'a> {
 
     fn next_blank(&self) -> u64 {
         Draft::next_blank(self)
+    }
+
+    fn count(&self) -> u128 {
+        Draft::count(self)
     }
 
     fn terms(&self) -> u32 {

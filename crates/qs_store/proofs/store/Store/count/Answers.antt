@@ -9,7 +9,7 @@ returns-clause-lawful c =
     let i = c.self.invariant in
     let s = c.self.inside in
     subst (λ v. IsContent v.base) c.self.view_is record {
-      quads_once = said_once s.dict.terms s.layers.base i.distinct c.len.ensures.ascending (whole_entries s.dict.terms s.known s.layers.base i.within i.known_base);
+      quads_once = said_once s.dict.terms s.layers.base i.distinct c.len.ensures.once (whole_entries s.dict.terms s.known s.layers.base i.within i.known_base);
       above = i.below;
       terms_once = Distinct-front s.known s.dict.terms i.distinct;
     }

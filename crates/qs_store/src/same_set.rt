@@ -1,0 +1,21 @@
+//! Laws of lists of quads that are read as sets.
+
+ghost use Rattle.std.specs.Prelude.{List, Contains};
+ghost use Rattle.qs_terms.specs.Bag.{SameBag};
+ghost use Rattle.qs_terms.specs.Statement.{Statement};
+ghost use Rattle.qs_store.specs.Change.{IsChanged};
+ghost use Rattle.qs_store.specs.Same.{SameSet};
+
+/// A law: to be the same set is an equivalence, and carries what stands in one to the other. The same bags are the same sets.
+pub fn same_set_is_an_equivalence()
+    ensures reflexive { (a : List Statement) → SameSet a a }
+    ensures symmetric { (a b : List Statement) → SameSet a b → SameSet b a }
+    ensures transitive { (a b c : List Statement) → SameSet a b → SameSet b c → SameSet a c }
+    ensures carries { (a b : List Statement) (q : Statement) → SameSet a b → Contains a q → Contains b q }
+    ensures of_bags { (a b : List Statement) → SameBag a b → SameSet a b }
+{}
+
+/// A law: the same changes of the same sets are the same sets.
+pub fn same_sets_change_alike()
+    ensures { (old removed added new old2 removed2 added2 new2 : List Statement) → SameSet old old2 → SameSet removed removed2 → SameSet added added2 → IsChanged old removed added new → IsChanged old2 removed2 added2 new2 → SameSet new new2 }
+{}
