@@ -164,7 +164,8 @@ impl Index {
         self.named.remove_all(entries);
     }
 
-    /// How many entries there are: fewer than memory can hold. It takes no memory, and goes over none.
+    /// How many entries there are, which is below 2^72, as pages are counted in 64 bits and have 256 entries at most. It takes no
+    /// memory, and goes over none.
     pub fn len(&self) -> u128
         ensures count { result ≡ length self.now.entries }
         ensures small { result < 2 ^ 72 }

@@ -245,7 +245,7 @@ impl Order {
         }
     }
 
-    /// How many entries there are. Pages are counted in 64 bits, and have 256 entries at most.
+    /// How many entries there are: pages are counted in 64 bits, and have 256 entries at most.
     pub fn len(&self) -> u128
         ensures count { result ≡ length self.now.entries }
         ensures small { result < 2 ^ 72 }
