@@ -1,6 +1,7 @@
 //! How faults are printed.
 
 use qs_dict::DictFault;
+use qs_store::StoreFault;
 use qs_terms::TermFault;
 use std::alloc::Global;
 use std::fmt::Display;
@@ -40,7 +41,16 @@ const DICT_FAULTS: &[(DictFault, &str)] = &[
     (DictFault::Memory, "out of memory"),
 ];
 
+const STORE_FAULTS: &[(StoreFault, &str)] = &[
+    (StoreFault::Full, "the store is full"),
+    (StoreFault::Memory, "out of memory"),
+];
+
 #[test]
 fn prints_faults(rt: HostRuntime) {
-    assert!(rt; are_printed(rt.alloc(), TERM_FAULTS) && are_printed(rt.alloc(), DICT_FAULTS));
+    assert!(rt;
+        are_printed(rt.alloc(), TERM_FAULTS)
+            && are_printed(rt.alloc(), DICT_FAULTS)
+            && are_printed(rt.alloc(), STORE_FAULTS)
+    );
 }

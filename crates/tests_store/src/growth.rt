@@ -2,7 +2,8 @@
 //! memory for an answer, and then everything is as it was.
 
 use crate::outcome::Outcome;
-use crate::{dict, index, terms};
+use crate::{dict, index, store, terms};
+use qs_store::DefaultGraph;
 use std::hash::RandomState;
 
 #[test]
@@ -33,4 +34,30 @@ fn entries_strict(rt: HostRuntime) {
 #[test]
 fn entries_tolerant(rt: HostRuntime) {
     assert!(rt; index::outcome(rt.alloc()) != Outcome::Wrong);
+}
+
+#[test]
+fn changes_strict(rt: HostRuntime) {
+    assert!(rt; store::changes(rt.alloc(), RandomState::new(&rt).ok()) == Outcome::Whole);
+}
+
+#[test]
+fn changes_tolerant(rt: HostRuntime) {
+    assert!(rt; store::changes(rt.alloc(), RandomState::new(&rt).ok()) != Outcome::Wrong);
+}
+
+#[test]
+fn drafts_strict(rt: HostRuntime) {
+    assert!(rt;
+        store::drafts(rt.alloc(), RandomState::new(&rt).ok(), DefaultGraph::Stored)
+            == Outcome::Whole
+    );
+}
+
+#[test]
+fn drafts_tolerant(rt: HostRuntime) {
+    assert!(rt;
+        store::drafts(rt.alloc(), RandomState::new(&rt).ok(), DefaultGraph::Stored)
+            != Outcome::Wrong
+    );
 }
