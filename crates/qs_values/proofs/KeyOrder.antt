@@ -1,5 +1,5 @@
 -- The order of ORDER BY is total, since the derived order of keys is.
-use Rattle.std.proofs.Common.{◌≡◌, ap, sym, ◌∙◌}
+use Rattle.std.proofs.Common.{ap, sym, ◌∙◌}
 use Rattle.std.specs.Cmp.{IsTotalOrder}
 use Rattle.std.specs.Ordering.{ordering_reverse}
 use Rattle.qs_values.specs.Sorting.{compare_keys}

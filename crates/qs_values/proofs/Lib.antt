@@ -1,4 +1,5 @@
 pub mod Numbers
+pub mod Reading
 pub mod Terms
 pub mod Texts
 pub mod Characters

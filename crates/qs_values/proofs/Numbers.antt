@@ -30,7 +30,7 @@ ranged : (b c : Bool) (x : ℤ) → is_in_range x ≡ c → in_range (if b then 
 ranged true c x e = ap (λ d. if d then Some x else None) e
 ranged false c x e = refl
 
-below : (n m : ℕ) → n < m → nat_lt n m ≡ true
+pub below : (n m : ℕ) → n < m → nat_lt n m ≡ true
 below n m h = grind (arith, nat_tests)
 
 above : (n m : ℕ) → nat_lt n m ≡ true → n < m
@@ -109,7 +109,7 @@ module _ (n : ℕ) (small : n ≤ 2 ^ 127) where
   signed_back : (sign : ℕ → ℤ) → signed sign (decimal n) ≡ Some (sign n)
   signed_back sign = ap (λ b. if b then Some (sign (value_behind 0 (decimal n))) else None) (numeral (decimal n) digits written.0.0) ∙ ap (λ m. Some (sign m)) valued
 
-no_sign : (ds : List ℕ) → all_ascii_digits ds ≡ true → whole_number ds ≡ signed pos ds
+pub no_sign : (ds : List ℕ) → all_ascii_digits ds ≡ true → whole_number ds ≡ signed pos ds
 no_sign [] h = refl
 no_sign (c ∷ cs) h = by (c == 43) refl (c == 45) refl
   where
