@@ -5,5 +5,6 @@ pub mod Joining
 pub mod Steps
 pub mod Chains
 pub mod Arms
+pub mod Truths
 pub mod Rows
 pub mod Words

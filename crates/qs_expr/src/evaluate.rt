@@ -138,9 +138,30 @@ pub fn value<'a, B: Bindings>(
     }
 }
 
-/// The effective boolean value of the expression (SPARQL 1.1 Query, 17.2.2).
+/// The effective boolean value of the expression (SPARQL 1.1 Query, 17.2.2). Conditions tell theirs without a value between.
 #[cycle(value)]
+#[tactic(auto, using(crate::proofs::Truths::truth_of, crate::proofs::Truths::truth_told))]
 pub fn truth<B: Bindings>(alloc: Global, expr: &Expr, bindings: &B) -> Result<bool, ExprFault>
+    ensures { Comes (makes expr.now) (spec.truth (spec.meaning (B.solution bindings.now) expr.now)) result }
+{
+    match expr {
+        Expr::Or(parts) => is_any(alloc, parts.as_slice(), bindings),
+        Expr::And(parts) => is_every(alloc, parts.as_slice(), bindings),
+        Expr::Compare(comparison, a, b) => {
+            let x = value(alloc, a.get(), bindings)?;
+            is_related(alloc, *comparison, &x, b.get(), bindings)
+        }
+        Expr::Binary(function, a, b) => {
+            let x = value(alloc, a.get(), bindings)?;
+            is_tested(alloc, *function, &x, b.get(), bindings)
+        }
+        _ => truth_of_value(alloc, expr, bindings),
+    }
+}
+
+#[cycle(value)]
+#[inline(never)]
+fn truth_of_value<B: Bindings>(alloc: Global, expr: &Expr, bindings: &B) -> Result<bool, ExprFault>
     ensures { Comes (makes expr.now) (spec.truth (spec.meaning (B.solution bindings.now) expr.now)) result }
 {
     let value = value(alloc, expr, bindings)?;
@@ -149,6 +170,7 @@ pub fn truth<B: Bindings>(alloc: Global, expr: &Expr, bindings: &B) -> Result<bo
 
 /// `||`
 #[cycle(value)]
+#[inline(never)]
 fn is_any<B: Bindings>(alloc: Global, parts: &[Expr], bindings: &B) -> Result<bool, ExprFault>
     ensures { Comes (some (map makes parts.now)) (of.any (map spec.truth (map (spec.meaning (B.solution bindings.now)) parts.now))) result }
 {
@@ -170,6 +192,7 @@ fn is_any<B: Bindings>(alloc: Global, parts: &[Expr], bindings: &B) -> Result<bo
 
 /// `&&`
 #[cycle(value)]
+#[inline(never)]
 fn is_every<B: Bindings>(alloc: Global, parts: &[Expr], bindings: &B) -> Result<bool, ExprFault>
     ensures { Comes (some (map makes parts.now)) (of.every (map spec.truth (map (spec.meaning (B.solution bindings.now)) parts.now))) result }
 {
@@ -191,6 +214,7 @@ fn is_every<B: Bindings>(alloc: Global, parts: &[Expr], bindings: &B) -> Result<
 
 /// A comparison, behind its first operand
 #[cycle(value)]
+#[inline(never)]
 fn is_related<B: Bindings>(
     alloc: Global,
     comparison: Comparison,
@@ -206,6 +230,7 @@ fn is_related<B: Bindings>(
 
 /// A function of two arguments, behind the first
 #[cycle(value)]
+#[inline(never)]
 fn is_tested<B: Bindings>(
     alloc: Global,
     function: BinaryFunction,
@@ -221,6 +246,7 @@ fn is_tested<B: Bindings>(
 
 /// A function of one argument.
 #[cycle(value)]
+#[inline(never)]
 fn function_of<'a, B: Bindings>(
     alloc: Global,
     function: UnaryFunction,
@@ -240,6 +266,7 @@ fn function_of<'a, B: Bindings>(
 
 /// IN, behind the first operand
 #[cycle(value)]
+#[inline(never)]
 fn is_among<B: Bindings>(
     alloc: Global,
     x: &Value<'_>,
@@ -300,6 +327,7 @@ fn signed<B: Bindings>(
 }
 
 #[cycle(value)]
+#[inline(never)]
 fn with_addends<B: Bindings>(
     alloc: Global,
     first: i128,
@@ -332,6 +360,7 @@ fn summed<B: Bindings>(
 }
 
 #[cycle(value)]
+#[inline(never)]
 fn with_factors<B: Bindings>(
     alloc: Global,
     first: i128,
@@ -365,6 +394,7 @@ fn timed<B: Bindings>(
 
 /// COALESCE
 #[cycle(value)]
+#[inline(never)]
 fn first_of<'a, B: Bindings>(
     alloc: Global,
     parts: &'a [Expr],
@@ -384,6 +414,7 @@ fn first_of<'a, B: Bindings>(
 
 /// CONCAT
 #[cycle(value)]
+#[inline(never)]
 fn concatenation<'a, B: Bindings>(
     alloc: Global,
     parts: &'a [Expr],
