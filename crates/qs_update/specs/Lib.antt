@@ -1,0 +1,5 @@
+pub mod Graphs
+pub mod Effect
+pub mod Request
+pub mod Outcome
+pub mod Rows

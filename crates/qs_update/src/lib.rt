@@ -1,0 +1,14 @@
+//! Updates of a store, whole or not at all (SPARQL 1.1 Update, 3 and 4).
+//!
+//! `effect` is what an operation does: `modified` by templates and solutions, `graphs` by whole graphs, `operation` by its form.
+//! `request` carries operations out over a draft, and `update` commits it or leaves the store as it was.
+#![tactic(auto)]
+
+mod effect;
+mod graphs;
+mod modified;
+mod operation;
+mod templates;
+
+pub use effect::Effect;
+pub use operation::effect_of;

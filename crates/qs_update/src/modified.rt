@@ -1,0 +1,206 @@
+//! What DELETE and INSERT do under solutions (SPARQL 1.1 Update, 3.1.1 to 3.1.3).
+
+ghost use Rattle.std.specs.Prelude.{◌≡◌, None, IfOk};
+ghost use Rattle.std.specs.Option.{option_copied, option_map};
+ghost use Rattle.qs_terms.specs.Outcome.{OrWantOfMemory, OneOrWantOfMemory};
+ghost use Rattle.qs_terms.specs.declared.term.Term.TheVariants as value;
+ghost use Rattle.qs_scope.specs.Firsts.{names_of};
+ghost use Rattle.qs_template.specs.Lent.{lent};
+ghost use Rattle.qs_template.specs.Template as made;
+ghost use Rattle.qs_algebra.specs.Translation.{translated_where, translated_blocks};
+ghost use Rattle.qs_update.specs.Effect as spec;
+ghost use Rattle.qs_update.specs.Rows.{AreAllRows};
+
+use crate::effect::Effect;
+use crate::graphs::seen;
+use crate::templates::{deletion, template_with};
+use qs_algebra::{NamedPattern, translate_blocks, translate_where};
+use qs_answer::Answer;
+use qs_ast::term::Variable;
+use qs_ast::update::{Modify, QuadBlock};
+use qs_scope::numbered;
+use qs_select::solutions_of;
+use qs_solutions::Row;
+use qs_store::DefaultGraph;
+use qs_template::{Template, instances, next_after};
+use qs_terms::{Iri, QFault, Quad, Term};
+use sqlite_items::Items;
+use std::alloc::{AllocError, Global};
+
+fn modified(
+    alloc: Global,
+    delete: Template,
+    insert: &Template,
+    next: u64,
+    rows: &[&Row],
+) -> Result<Effect, QFault>
+    ensures { OrWantOfMemory (spec.modified delete insert.now next (lent rows.now)) result }
+{
+    let delete = deletion(delete);
+    let after = next_after(insert, next, rows.len())?;
+    let added = instances(alloc, insert, rows, next)?;
+    let removed = instances(alloc, &delete, rows, next)?;
+    Ok(Effect {
+        removed: Items::from_vec(removed),
+        added: Items::from_vec(added),
+        next: after,
+    })
+}
+
+// What blocks of quads do under these solutions, where the graph of WITH is the default graph.
+fn modified_by(
+    alloc: Global,
+    variables: &[Variable],
+    with: &Option<Iri>,
+    delete: &[QuadBlock],
+    insert: &[QuadBlock],
+    next: u64,
+    rows: &[&Row],
+) -> Result<Effect, QFault>
+    ensures { OrWantOfMemory (spec.modified (made.template_in with.now (made.template_of_blocks (names_of variables.now) delete.now)) (made.template_in with.now (made.template_of_blocks (names_of variables.now) insert.now)) next (lent rows.now)) result }
+{
+    let names = numbered(alloc, variables)?;
+    let delete = template_with(alloc, &names, with, delete)?;
+    let insert = template_with(alloc, &names, with, insert)?;
+    modified(alloc, delete, &insert, next, rows)
+}
+
+/// What INSERT DATA and DELETE DATA do.
+pub fn data(
+    alloc: Global,
+    delete: &[QuadBlock],
+    insert: &[QuadBlock],
+    next: u64,
+) -> Result<Effect, QFault>
+    ensures { OrWantOfMemory (spec.of_data delete.now insert.now next) result }
+{
+    let row = Row::unbound(alloc, 0)?;
+    modified_by(alloc, &[], &None, delete, insert, next, &[&row])
+}
+
+fn lent_rows<'a>(alloc: Global, rows: &'a [Row]) -> Result<Vec<&'a Row>, AllocError>
+    ensures { IfOk result (λ all. lent all.items ≡ rows.now) }
+{
+    let mut all = Vec::new(alloc);
+    for row in rows {
+        all.push(row)?;
+    }
+    Ok(all)
+}
+
+// All solutions of a WHERE over the quads, in any order.
+fn solutions(
+    alloc: Global,
+    pattern: &NamedPattern,
+    default: DefaultGraph,
+    with: Option<&Term>,
+    quads: Vec<Quad>,
+    max_rows: u64,
+) -> Result<Items<Row>, QFault>
+    ensures { OneOrWantOfMemory (AreAllRows max_rows (spec.solutions pattern.now default (option_copied with.entry) quads.items)) result }
+{
+    let quads = seen(alloc, default, quads)?;
+    let answer = solutions_of(alloc, pattern, quads.as_slice(), with, max_rows)?;
+    match answer {
+        Answer::Solutions { vars: _, rows } => Ok(rows),
+        Answer::Truth(_) => Ok(Items::new(alloc)),
+        Answer::Graph(_) => Ok(Items::new(alloc)),
+    }
+}
+
+#[tactic(auto, using(crate::proofs::Under::same_rows))]
+fn deleted_rows(
+    alloc: Global,
+    variables: &[Variable],
+    default: DefaultGraph,
+    blocks: &[QuadBlock],
+    quads: Vec<Quad>,
+    max_rows: u64,
+) -> Result<Items<Row>, QFault>
+    ensures { OneOrWantOfMemory (AreAllRows max_rows (spec.solutions (translated_blocks variables.now blocks.now) default None quads.items)) result }
+{
+    let pattern = translate_blocks(alloc, variables, blocks)?;
+    solutions(alloc, &pattern, default, None, quads, max_rows)
+}
+
+/// What DELETE WHERE does over the quads.
+#[tactic(auto, using(crate::proofs::Under::under, crate::proofs::Under::not_under))]
+pub fn deleted_where(
+    alloc: Global,
+    variables: &[Variable],
+    default: DefaultGraph,
+    blocks: &[QuadBlock],
+    quads: Vec<Quad>,
+    next: u64,
+    max_rows: u64,
+) -> Result<Effect, QFault>
+    ensures { OneOrWantOfMemory (spec.IsDeletedWhere max_rows variables.now default blocks.now quads.items next) result }
+{
+    let rows = deleted_rows(alloc, variables, default, blocks, quads, max_rows)?;
+    let rows = lent_rows(alloc, rows.as_slice())?;
+    modified_by(alloc, variables, &None, blocks, &[], next, rows.as_slice())
+}
+
+fn with_term(alloc: Global, with: &Option<Iri>) -> Result<Option<Term>, AllocError>
+    ensures { IfOk result (λ t. t ≡ option_map value.Iri with.now) }
+{
+    match with {
+        None => Ok(None),
+        Some(name) => Ok(Some(Term::Iri(name.try_clone(alloc)?))),
+    }
+}
+
+fn rows_with(
+    alloc: Global,
+    pattern: &NamedPattern,
+    default: DefaultGraph,
+    with: &Option<Iri>,
+    quads: Vec<Quad>,
+    max_rows: u64,
+) -> Result<Items<Row>, QFault>
+    ensures { OneOrWantOfMemory (AreAllRows max_rows (spec.solutions pattern.now default (option_map value.Iri with.now) quads.items)) result }
+{
+    let with = with_term(alloc, with)?;
+    solutions(alloc, pattern, default, with.as_ref(), quads, max_rows)
+}
+
+#[tactic(auto, using(crate::proofs::Under::same_rows))]
+fn where_rows(
+    alloc: Global,
+    variables: &[Variable],
+    default: DefaultGraph,
+    modify: &Modify,
+    quads: Vec<Quad>,
+    max_rows: u64,
+) -> Result<Items<Row>, QFault>
+    ensures { OneOrWantOfMemory (AreAllRows max_rows (spec.solutions (translated_where variables.now modify.now.pattern) default (option_map value.Iri modify.now.with) quads.items)) result }
+{
+    let pattern = translate_where(alloc, variables, &modify.pattern)?;
+    rows_with(alloc, &pattern, default, &modify.with, quads, max_rows)
+}
+
+/// What DELETE and INSERT with a WHERE do over the quads.
+#[tactic(auto, using(crate::proofs::Under::not_under))]
+pub fn modified_where(
+    alloc: Global,
+    variables: &[Variable],
+    default: DefaultGraph,
+    modify: &Modify,
+    quads: Vec<Quad>,
+    next: u64,
+    max_rows: u64,
+) -> Result<Effect, QFault>
+    ensures { OneOrWantOfMemory (spec.IsModifiedWhere max_rows variables.now default modify.now quads.items next) result }
+{
+    let rows = where_rows(alloc, variables, default, modify, quads, max_rows)?;
+    let rows = lent_rows(alloc, rows.as_slice())?;
+    modified_by(
+        alloc,
+        variables,
+        &modify.with,
+        modify.delete.as_slice(),
+        modify.insert.as_slice(),
+        next,
+        rows.as_slice(),
+    )
+}
