@@ -1,0 +1,46 @@
+//! Where the blank nodes of solutions and of instances come from.
+
+ghost use Rattle.std.specs.Prelude.{◌≡◌, ◌≤◌, ℕ, List, Option, length, IsTrue, true};
+ghost use Rattle.std.specs.List.{All};
+ghost use Rattle.qs_terms.specs.Dataset.{is_above_blanks, graph_of};
+ghost use Rattle.qs_terms.specs.Statement.{Statement};
+ghost use Rattle.qs_terms.specs.declared.term.Term.{Term};
+ghost use Rattle.qs_solutions.specs.Solution.{Solution};
+ghost use Rattle.qs_ast.specs.declared.pattern.Group.{Group};
+ghost use Rattle.qs_ast.specs.declared.term.Variable.{Variable};
+ghost use Rattle.qs_ast.specs.declared.update.QuadBlock.{QuadBlock};
+ghost use Rattle.qs_scope.specs.Names.{Name};
+ghost use Rattle.qs_patterns.specs.Basic.{Graph};
+ghost use Rattle.qs_patterns.specs.Eval.{eval};
+ghost use Rattle.qs_patterns.specs.declared.pattern.Pattern.{Pattern};
+ghost use Rattle.qs_algebra.specs.Translation.{translated_where};
+ghost use Rattle.qs_template.specs.Instances.{instances, next_after};
+ghost use Rattle.qs_template.specs.Template.{template_of_blocks};
+ghost use Rattle.qs_blanks.specs.Below.{is_solution_below, are_triples_below, have_iri_predicates};
+ghost use Rattle.qs_blanks.specs.NoBlank.{has_no_blank};
+ghost use Rattle.qs_blanks.specs.Written.{values_have_no_blank};
+
+use qs_template::laws::{blanks_are_fresh, templates_name_no_blanks};
+
+/// The solutions of a pattern that names no blank node bind blank nodes of the data alone: where those of the quads and of the active
+/// graph have numbers below one, so do those of the solutions. The predicates of quads are IRIs, so that a variable in their place is
+/// bound to no blank node. Of the quads, each graph is such a graph.
+pub fn solutions_bind_no_other_blanks()
+    ensures any { (next width : ℕ) (quads : List Statement) (pattern : Pattern) (graph : Graph) → IsTrue (has_no_blank pattern) → IsTrue (is_above_blanks next quads) → IsTrue (have_iri_predicates quads) → IsTrue (are_triples_below next graph) → All (λ (m : Solution). is_solution_below next m ≡ true) (eval width quads pattern graph) }
+    ensures one { (next width : ℕ) (quads : List Statement) (pattern : Pattern) (name : Option Term) → IsTrue (has_no_blank pattern) → IsTrue (is_above_blanks next quads) → IsTrue (have_iri_predicates quads) → All (λ (m : Solution). is_solution_below next m ≡ true) (eval width quads pattern (graph_of quads name)) }
+{}
+
+/// The pattern of a text's WHERE names no blank node, where no row of a VALUES in it has one.
+pub fn texts_name_no_blanks()
+    ensures { (variables : List Variable) (group : Group) → IsTrue (values_have_no_blank group) → IsTrue (has_no_blank (translated_where variables group).pattern) }
+{}
+
+/// The quads that a template of a text makes of solutions: where the blank nodes of the solutions have numbers below the next one, those
+/// of the quads have numbers below the one behind all fresh ones. Numbers above those of some quads' blank nodes stay so as they grow.
+pub fn instances_are_below()
+    ensures made { (names : List Name) (blocks : List QuadBlock) (next : ℕ) (rows : List Solution) → All (λ (m : Solution). is_solution_below next m ≡ true) rows → IsTrue (is_above_blanks (next_after (template_of_blocks names blocks) next (length rows)) (instances (template_of_blocks names blocks) next rows)) }
+    ensures later { (quads : List Statement) (next later : ℕ) → next ≤ later → IsTrue (is_above_blanks next quads) → IsTrue (is_above_blanks later quads) }
+{
+    blanks_are_fresh();
+    templates_name_no_blanks();
+}
