@@ -6,3 +6,7 @@ mod Solutions
 mod WrittenExpressions
 mod Translated
 mod Instances
+mod InstancePredicates
+mod Resolving
+mod ResolvedGroups
+mod ResolvedUpdates

@@ -5,6 +5,9 @@ use Rattle.qs_ast.specs.declared.pattern.Group.{Group, fold-Group}
 use Rattle.qs_ast.specs.declared.pattern.GraphPattern.{GraphPattern, fold-GraphPattern}
 use Rattle.qs_ast.specs.declared.pattern.GraphPattern.TheOpen.{Group-F, GraphPattern-F, Triples, Union, Optional, Minus, Graph, Bind, Values}
 use Rattle.qs_ast.specs.declared.pattern.InlineData.{InlineData}
+use Rattle.qs_ast.specs.declared.update.Operation.{Operation}
+use Rattle.qs_ast.specs.declared.update.Operation.TheVariants as operation
+use Rattle.qs_ast.specs.declared.update.Update.{Update}
 use Rattle.qs_blanks.specs.NoBlank.{all, row_has_no_blank}
 
 abbrev pub data_have_no_blank : InlineData → Bool
@@ -29,3 +32,12 @@ values_have_no_blank = fold-Group Bool Bool values_level group_level
 -- the same of one pattern
 abbrev pub pattern_values_have_no_blank : GraphPattern → Bool
 pattern_values_have_no_blank = fold-GraphPattern Bool Bool values_level group_level
+
+-- the same of the WHERE of an operation, if it has one
+abbrev pub operation_values_have_no_blank : Operation → Bool
+operation_values_have_no_blank (operation.Modify m) = values_have_no_blank m.pattern
+operation_values_have_no_blank other = true
+
+-- the same of each WHERE of an update
+abbrev pub update_values_have_no_blank : Update → Bool
+update_values_have_no_blank update = list_all operation_values_have_no_blank update.operations

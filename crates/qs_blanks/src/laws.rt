@@ -1,6 +1,6 @@
 //! Where the blank nodes of solutions and of instances come from.
 
-ghost use Rattle.std.specs.Prelude.{◌≡◌, ◌≤◌, ℕ, List, Option, length, IsTrue, true};
+ghost use Rattle.std.specs.Prelude.{◌≡◌, ◌≤◌, ℕ, List, Option, length, IsTrue, true, Ok};
 ghost use Rattle.std.specs.List.{All};
 ghost use Rattle.qs_terms.specs.Dataset.{is_above_blanks, graph_of};
 ghost use Rattle.qs_terms.specs.Statement.{Statement};
@@ -9,6 +9,7 @@ ghost use Rattle.qs_solutions.specs.Solution.{Solution};
 ghost use Rattle.qs_ast.specs.declared.pattern.Group.{Group};
 ghost use Rattle.qs_ast.specs.declared.term.Variable.{Variable};
 ghost use Rattle.qs_ast.specs.declared.update.QuadBlock.{QuadBlock};
+ghost use Rattle.qs_ast.specs.declared.update.Update.{Update};
 ghost use Rattle.qs_scope.specs.Names.{Name};
 ghost use Rattle.qs_patterns.specs.Basic.{Graph};
 ghost use Rattle.qs_patterns.specs.Eval.{eval};
@@ -16,9 +17,11 @@ ghost use Rattle.qs_patterns.specs.declared.pattern.Pattern.{Pattern};
 ghost use Rattle.qs_algebra.specs.Translation.{translated_where};
 ghost use Rattle.qs_template.specs.Instances.{instances, next_after};
 ghost use Rattle.qs_template.specs.Template.{template_of_blocks};
+ghost use Rattle.qs_template.specs.declared.template.Template.{Template};
+ghost use Rattle.qs_syntax.specs.Outcome.{IsUpdateOutcome};
 ghost use Rattle.qs_blanks.specs.Below.{is_solution_below, are_triples_below, have_iri_predicates};
 ghost use Rattle.qs_blanks.specs.NoBlank.{has_no_blank};
-ghost use Rattle.qs_blanks.specs.Written.{values_have_no_blank};
+ghost use Rattle.qs_blanks.specs.Written.{values_have_no_blank, update_values_have_no_blank};
 
 use qs_template::laws::{blanks_are_fresh, templates_name_no_blanks};
 
@@ -35,6 +38,11 @@ pub fn texts_name_no_blanks()
     ensures { (variables : List Variable) (group : Group) → IsTrue (values_have_no_blank group) → IsTrue (has_no_blank (translated_where variables group).pattern) }
 {}
 
+/// No row of a VALUES in the update of a text has a blank node: none can be written there (SPARQL 1.1 Query, 19.8, DataBlockValue).
+pub fn updates_write_no_blank_rows()
+    ensures { (text : List ℕ) (update : Update) → IsUpdateOutcome text (Ok update) → IsTrue (update_values_have_no_blank update) }
+{}
+
 /// The quads that a template of a text makes of solutions: where the blank nodes of the solutions have numbers below the next one, those
 /// of the quads have numbers below the one behind all fresh ones. Numbers above those of some quads' blank nodes stay so as they grow.
 pub fn instances_are_below()
@@ -44,3 +52,8 @@ pub fn instances_are_below()
     blanks_are_fresh();
     templates_name_no_blanks();
 }
+
+/// The predicate of each quad that a template makes is an IRI.
+pub fn instances_have_iri_predicates()
+    ensures { (template : Template) (next : ℕ) (rows : List Solution) → IsTrue (have_iri_predicates (instances template next rows)) }
+{}
