@@ -1,6 +1,7 @@
 -- What holds of each element of a list.
-use Rattle.std.proofs.Common.{◌≡◌, Bool, true, false, ◌&&◌, cond, if◌then◌else◌, not, List, [], ◌∷◌, ◌++◌, map, refl}
-use Rattle.std.specs.List.{AllByRecursion, filter, flat_map, list_all}
+use Rattle.std.proofs.Common.{◌≡◌, Bool, true, false, ◌&&◌, cond, if◌then◌else◌, not, List, [], ◌∷◌, ◌++◌, map, ◌↔◌, suc, refl, arith}
+use Rattle.std.specs.List.{AllByRecursion, Contains, filter, flat_map, list_all}
+use Rattle.std.proofs.lemmas.List.Elements.{All-from_recursion, All-contains}
 use Rattle.qs_terms.specs.Bag.{once}
 
 pub both_hold : (a b : Bool) → (a && b) ≡ true → (a ≡ true) × (b ≡ true)
@@ -51,3 +52,16 @@ module _ {X : Type 0} (test : X → Bool) where
   pub all_pass : (xs : List X) → AllByRecursion (λ x. test x ≡ true) xs → list_all test xs ≡ true
   all_pass [] h = refl
   all_pass (x ∷ xs) h = and_both (test x) (list_all test xs) h.0 (all_pass xs h.1)
+
+-- ---- elements
+
+module _ {X : Type 0} (P : X → Type 0) where
+  pub each_contained : (xs : List X) → ((x : X) → Contains xs x → P x) → AllByRecursion P xs
+  each_contained [] h = tt
+  each_contained (x ∷ xs) h = (h x (0, omega arith, refl), each_contained xs (λ y c. h y (suc c.0, omega (arith, c.1), c.2)))
+
+-- a test of all is one of each
+pub all_or_each : {X : Type 0} (test : X → Bool) (xs : List X) → (list_all test xs ≡ true) ↔ ((x : X) → Contains xs x → test x ≡ true)
+all_or_each {X} test xs =
+    let P : X → Type 0 = λ x. test x ≡ true in
+    (λ h x c. All-contains P xs x (All-from_recursion P xs (each_passes test xs h)) c, λ h. all_pass test xs (each_contained P xs h))

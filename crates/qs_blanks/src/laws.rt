@@ -1,9 +1,9 @@
 //! Where the blank nodes of solutions and of instances come from.
 
-ghost use Rattle.std.specs.Prelude.{◌≡◌, ◌≤◌, ℕ, List, Option, length, IsTrue, true, Ok};
-ghost use Rattle.std.specs.List.{All};
-ghost use Rattle.qs_terms.specs.Dataset.{is_above_blanks, graph_of};
-ghost use Rattle.qs_terms.specs.Statement.{Statement};
+ghost use Rattle.std.specs.Prelude.{◌≡◌, ◌↔◌, ◌≤◌, ℕ, List, Option, length, IsTrue, true, false, Ok};
+ghost use Rattle.std.specs.List.{All, Contains};
+ghost use Rattle.qs_terms.specs.Dataset.{is_statement_below, is_above_blanks, graph_of};
+ghost use Rattle.qs_terms.specs.Statement.{Statement, is_iri};
 ghost use Rattle.qs_terms.specs.declared.term.Term.{Term};
 ghost use Rattle.qs_solutions.specs.Solution.{Solution};
 ghost use Rattle.qs_ast.specs.declared.pattern.Group.{Group};
@@ -15,6 +15,7 @@ ghost use Rattle.qs_patterns.specs.Basic.{Graph};
 ghost use Rattle.qs_patterns.specs.Eval.{eval};
 ghost use Rattle.qs_patterns.specs.declared.pattern.Pattern.{Pattern};
 ghost use Rattle.qs_algebra.specs.Translation.{translated_where};
+ghost use Rattle.qs_template.specs.Fresh.{names_blank};
 ghost use Rattle.qs_template.specs.Instances.{instances, next_after};
 ghost use Rattle.qs_template.specs.Template.{template_of_blocks};
 ghost use Rattle.qs_template.specs.declared.template.Template.{Template};
@@ -43,11 +44,11 @@ pub fn updates_write_no_blank_rows()
     ensures { (text : List ℕ) (update : Update) → IsUpdateOutcome text (Ok update) → IsTrue (update_values_have_no_blank update) }
 {}
 
-/// The quads that a template of a text makes of solutions: where the blank nodes of the solutions have numbers below the next one, those
-/// of the quads have numbers below the one behind all fresh ones. Numbers above those of some quads' blank nodes stay so as they grow.
+/// The quads that a template makes of solutions, where no term of the template itself is a blank node, as in templates of a text: if the
+/// blank nodes of the solutions have numbers below the next one, those of the quads have numbers below the one behind all fresh ones.
 pub fn instances_are_below()
-    ensures made { (names : List Name) (blocks : List QuadBlock) (next : ℕ) (rows : List Solution) → All (λ (m : Solution). is_solution_below next m ≡ true) rows → IsTrue (is_above_blanks (next_after (template_of_blocks names blocks) next (length rows)) (instances (template_of_blocks names blocks) next rows)) }
-    ensures later { (quads : List Statement) (next later : ℕ) → next ≤ later → IsTrue (is_above_blanks next quads) → IsTrue (is_above_blanks later quads) }
+    ensures any { (template : Template) (next : ℕ) (rows : List Solution) → ((n : ℕ) → names_blank n template ≡ false) → All (λ (m : Solution). is_solution_below next m ≡ true) rows → IsTrue (is_above_blanks (next_after template next (length rows)) (instances template next rows)) }
+    ensures of_text { (names : List Name) (blocks : List QuadBlock) (next : ℕ) (rows : List Solution) → All (λ (m : Solution). is_solution_below next m ≡ true) rows → IsTrue (is_above_blanks (next_after (template_of_blocks names blocks) next (length rows)) (instances (template_of_blocks names blocks) next rows)) }
 {
     blanks_are_fresh();
     templates_name_no_blanks();
@@ -57,3 +58,13 @@ pub fn instances_are_below()
 pub fn instances_have_iri_predicates()
     ensures { (template : Template) (next : ℕ) (rows : List Solution) → IsTrue (have_iri_predicates (instances template next rows)) }
 {}
+
+/// Whether a number is above those of all blank nodes of quads, and whether all predicates are IRIs, is told by each quad alone: so both
+/// hold of whichever quads stand among those of which they hold. A number above those of all blank nodes stays so as it grows.
+pub fn quads_are_told_one_by_one()
+    ensures above { (next : ℕ) (quads : List Statement) → IsTrue (is_above_blanks next quads) ↔ ((q : Statement) → Contains quads q → IsTrue (is_statement_below next q)) }
+    ensures predicates { (quads : List Statement) → IsTrue (have_iri_predicates quads) ↔ ((q : Statement) → Contains quads q → IsTrue (is_iri q.predicate)) }
+    ensures later { (quads : List Statement) (next later : ℕ) → next ≤ later → IsTrue (is_above_blanks next quads) → IsTrue (is_above_blanks later quads) }
+{
+    blanks_are_fresh();
+}
