@@ -6,6 +6,7 @@ mod Solutions
 mod WrittenExpressions
 mod Translated
 mod Instances
+mod TemplatesUnderWith
 mod InstancePredicates
 mod Resolving
 mod ResolvedGroups

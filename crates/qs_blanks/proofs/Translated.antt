@@ -1,5 +1,5 @@
 -- The pattern of a text's group names no blank node, where no row of a VALUES has one: by induction on the group.
-use Rattle.std.proofs.Common.{◌≡◌, Bool, true, List, [], ◌∷◌, map, option_map, refl, sym, subst, ◌∙◌}
+use Rattle.std.proofs.Common.{◌≡◌, Bool, true, List, [], ◌∷◌, map, Option, Some, None, option_map, refl, sym, subst, ◌∙◌}
 use Rattle.std.specs.List.{filter_map, cons_option, list_all}
 use Rattle.qs_terms.specs.declared.term.Term.TheVariants as value
 use Rattle.qs_expr.specs.declared.expr.Expr.{Expr}
@@ -15,6 +15,7 @@ use Rattle.qs_ast.specs.declared.term.TermPattern.TheVariants as term
 use Rattle.qs_ast.specs.declared.term.VarOrIri.{VarOrIri}
 use Rattle.qs_ast.specs.declared.term.VarOrIri.TheVariants as name
 use Rattle.qs_ast.specs.declared.term.Variable.{Variable}
+use Rattle.qs_ast.specs.declared.update.QuadBlock.{QuadBlock}
 use Rattle.qs_scope.specs.Names.{Name}
 use Rattle.qs_scope.specs.Firsts.{names_of}
 use Rattle.qs_scope.specs.Places.{place_of}
@@ -28,7 +29,7 @@ use Rattle.qs_patterns.specs.declared.pattern.Pattern.TheVariants.{rolls-Basic, 
 use Rattle.qs_algebra.specs.Numbers.{hidden_of}
 use Rattle.qs_algebra.specs.Basic.{term_slot, verb_slot, path_of, triple_between, path_between, triple_pattern, path_pattern, basic_of, basic_pattern}
 use Rattle.qs_algebra.specs.Expressions.{expr_of}
-use Rattle.qs_algebra.specs.Translation.{one_or_union, in_graph, number_of, table_of, alone, unfiltered, filtered, closed, step_level as translated_level, group_level as translated_group, group_parts, step_of, translated_where}
+use Rattle.qs_algebra.specs.Translation.{one_or_union, in_graph, number_of, table_of, alone, unfiltered, filtered, closed, step_level as translated_level, group_level as translated_group, group_parts, step_of, translated_where, in_block, block_step, translated_blocks}
 use Rattle.qs_algebra.specs.declared.hidden.Hidden.{Hidden}
 use Rattle.qs_algebra.specs.declared.parts.GroupParts.{GroupParts}
 use Rattle.qs_blanks.specs.NoBlank.{all, expr_has_no_blank, all_have_no_blank, slot_has_no_blank, triple_has_no_blank, path_has_no_blank, basic_has_no_blank, pattern_level, step_level, has_no_blank, step_has_no_blank}
@@ -187,3 +188,24 @@ module _ (names : List Name) where
 -- the pattern of a WHERE by itself
 pub where_free : (variables : List Variable) (group : Group) → values_have_no_blank group ≡ true → has_no_blank (translated_where variables group).pattern ≡ true
 where_free variables group h = closed_free (names_of variables) (group, each_group_free (names_of variables) group) h
+
+-- ---- blocks of quads
+
+module _ (names : List Name) where
+  in_block_free : (graph : Option VarOrIri) (p : Pattern) → NoBlank p → NoBlank (in_block names graph p)
+  in_block_free None p h = h
+  in_block_free (Some n) p h = in_graph_free names n p h
+
+  block_free : (b : QuadBlock) → NoBlankStep (block_step names b)
+  block_free b =
+      let triples = pattern.Basic (basic_pattern names b.triples) in
+      join_free (in_block names b.graph triples)
+      (in_block_free b.graph triples (subst NoBlank (rolls-Basic (basic_pattern names b.triples)) (made (Basic (basic_pattern names b.triples)) (basic_free names (hidden_of b.triples) b.triples))))
+
+  block_steps_free : (bs : List QuadBlock) → all (map step_has_no_blank (map (block_step names) bs)) ≡ true
+  block_steps_free [] = refl
+  block_steps_free (b ∷ bs) = and_both (step_has_no_blank (block_step names b)) (all (map step_has_no_blank (map (block_step names) bs))) (block_free b) (block_steps_free bs)
+
+-- the pattern of blocks of quads
+pub blocks_free : (variables : List Variable) (blocks : List QuadBlock) → has_no_blank (translated_blocks variables blocks).pattern ≡ true
+blocks_free variables blocks = unfiltered_free (map (block_step (names_of variables)) blocks) (block_steps_free (names_of variables) blocks)

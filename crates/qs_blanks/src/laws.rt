@@ -14,10 +14,10 @@ ghost use Rattle.qs_scope.specs.Names.{Name};
 ghost use Rattle.qs_patterns.specs.Basic.{Graph};
 ghost use Rattle.qs_patterns.specs.Eval.{eval};
 ghost use Rattle.qs_patterns.specs.declared.pattern.Pattern.{Pattern};
-ghost use Rattle.qs_algebra.specs.Translation.{translated_where};
+ghost use Rattle.qs_algebra.specs.Translation.{translated_where, translated_blocks};
 ghost use Rattle.qs_template.specs.Fresh.{names_blank};
 ghost use Rattle.qs_template.specs.Instances.{instances, next_after};
-ghost use Rattle.qs_template.specs.Template.{template_of_blocks};
+ghost use Rattle.qs_template.specs.Template.{template_of_blocks, template_in};
 ghost use Rattle.qs_template.specs.declared.template.Template.{Template};
 ghost use Rattle.qs_syntax.specs.Outcome.{IsUpdateOutcome};
 ghost use Rattle.qs_blanks.specs.Below.{is_solution_below, are_triples_below, have_iri_predicates};
@@ -39,6 +39,11 @@ pub fn texts_name_no_blanks()
     ensures { (variables : List Variable) (group : Group) → IsTrue (values_have_no_blank group) → IsTrue (has_no_blank (translated_where variables group).pattern) }
 {}
 
+/// The pattern of a text's DELETE WHERE names no blank node.
+pub fn blocks_name_no_blanks()
+    ensures { (variables : List Variable) (blocks : List QuadBlock) → IsTrue (has_no_blank (translated_blocks variables blocks).pattern) }
+{}
+
 /// No row of a VALUES in the update of a text has a blank node: none can be written there (SPARQL 1.1 Query, 19.8, DataBlockValue).
 pub fn updates_write_no_blank_rows()
     ensures { (text : List ℕ) (update : Update) → IsUpdateOutcome text (Ok update) → IsTrue (update_values_have_no_blank update) }
@@ -49,6 +54,7 @@ pub fn updates_write_no_blank_rows()
 pub fn instances_are_below()
     ensures any { (template : Template) (next : ℕ) (rows : List Solution) → ((n : ℕ) → names_blank n template ≡ false) → All (λ (m : Solution). is_solution_below next m ≡ true) rows → IsTrue (is_above_blanks (next_after template next (length rows)) (instances template next rows)) }
     ensures of_text { (names : List Name) (blocks : List QuadBlock) (next : ℕ) (rows : List Solution) → All (λ (m : Solution). is_solution_below next m ≡ true) rows → IsTrue (is_above_blanks (next_after (template_of_blocks names blocks) next (length rows)) (instances (template_of_blocks names blocks) next rows)) }
+    ensures of_text_with { (graph : Option (List ℕ)) (names : List Name) (blocks : List QuadBlock) (next : ℕ) (rows : List Solution) → let template = template_in graph (template_of_blocks names blocks) in All (λ (m : Solution). is_solution_below next m ≡ true) rows → IsTrue (is_above_blanks (next_after template next (length rows)) (instances template next rows)) }
 {
     blanks_are_fresh();
     templates_name_no_blanks();
