@@ -1,2 +1,4 @@
 pub mod Under
 pub mod Quads
+mod Tested
+mod AboveBlanks

@@ -1,5 +1,6 @@
 pub mod Graphs
 pub mod Effect
+pub mod Lawful
 pub mod Request
 pub mod Outcome
 pub mod Rows

@@ -1,11 +1,13 @@
 //! Updates of a store, whole or not at all (SPARQL 1.1 Update, 3 and 4).
 //!
-//! `effect` is what an operation does: `modified` by templates and solutions, `graphs` by whole graphs, `operation` by its form.
+//! `effect` is what an operation does: `modified` by templates and solutions, `graphs` by whole graphs, `operation` by its form. `lawful`
+//! says why the numbers of blank nodes suffice behind it.
 //! `request` carries operations out over a draft, and `update` commits it or leaves the store as it was.
 #![tactic(auto)]
 
 mod effect;
 mod graphs;
+mod lawful;
 mod modified;
 mod operation;
 mod templates;

@@ -9,10 +9,12 @@ ghost use Rattle.qs_template.specs.Lent.{lent};
 ghost use Rattle.qs_template.specs.Template as made;
 ghost use Rattle.qs_algebra.specs.Translation.{translated_where, translated_blocks};
 ghost use Rattle.qs_update.specs.Effect as spec;
+ghost use Rattle.qs_update.specs.Lawful.{IsLawful};
 ghost use Rattle.qs_update.specs.Rows.{AreAllRows};
 
 use crate::effect::Effect;
 use crate::graphs::seen;
+use crate::lawful::effects_are_lawful;
 use crate::templates::{deletion, template_with};
 use qs_algebra::{NamedPattern, translate_blocks, translate_where};
 use qs_answer::Answer;
@@ -65,8 +67,8 @@ fn modified_by(
     modified(alloc, delete, &insert, next, rows)
 }
 
-/// What INSERT DATA and DELETE DATA do.
-pub fn data(
+// What blocks of quads without variables do.
+pub fn changed_by_data(
     alloc: Global,
     delete: &[QuadBlock],
     insert: &[QuadBlock],
@@ -76,6 +78,21 @@ pub fn data(
 {
     let row = Row::unbound(alloc, 0)?;
     modified_by(alloc, &[], &None, delete, insert, next, &[&row])
+}
+
+/// What INSERT DATA and DELETE DATA do. They read no quads, so the number behind is above the blank nodes of the added ones, whichever it
+/// was before.
+pub fn data(
+    alloc: Global,
+    delete: &[QuadBlock],
+    insert: &[QuadBlock],
+    next: u64,
+) -> Result<Effect, QFault>
+    ensures effect { OrWantOfMemory (spec.of_data delete.now insert.now next) result }
+    ensures lawful { IfOk result (IsLawful next) }
+{
+    effects_are_lawful();
+    changed_by_data(alloc, delete, insert, next)
 }
 
 fn lent_rows<'a>(alloc: Global, rows: &'a [Row]) -> Result<Vec<&'a Row>, AllocError>
