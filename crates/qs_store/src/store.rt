@@ -153,6 +153,14 @@ impl Store {
         self.next
     }
 
+    // The next blank node's number of the draft.
+    fn draft_next_blank(&self) -> u64
+        ensures next { result ≡ self.now.draft.next }
+        ensures above { IsTrue (is_above_blanks result self.now.draft.quads) }
+    {
+        self.draft_next
+    }
+
     // How many quads the draft has.
     fn draft_count(&self) -> u128
         ensures count { result ≡ length self.now.draft.quads }
@@ -469,12 +477,13 @@ impl<'a> Draft<'a> {
         store.default_graph()
     }
 
-    /// The next blank node's number of the draft.
+    /// The next blank node's number of the draft, which is above those of all blank nodes of its quads.
     pub fn next_blank(&self) -> u64
-        ensures { result ≡ self.now.store.now.draft.next }
+        ensures next { result ≡ self.now.store.now.draft.next }
+        ensures above { IsTrue (is_above_blanks result self.now.store.now.draft.quads) }
     {
         let store: &Store = self.store;
-        store.draft_next
+        store.draft_next_blank()
     }
 
     /// Changes the draft as `Store::change` does the store, and makes each growth that a commit will need. Where it is refused the draft

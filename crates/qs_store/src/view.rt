@@ -3,6 +3,7 @@
 ghost use Rattle.std.specs.Prelude.{◌≡◌, ◌↔◌, Some, length, Contains, IsTrue, IfOk, IfErr};
 ghost use Rattle.std.specs.List.Sorted.{IsSorted};
 ghost use Rattle.qs_terms.specs.Bag.{SameBag};
+ghost use Rattle.qs_terms.specs.Dataset.{is_above_blanks};
 ghost use Rattle.qs_dict.specs.Dict.{IsInUse, term_at, number_of};
 ghost use Rattle.qs_store.specs.Content.{Content, IsContent, KnowsItsTerms};
 ghost use Rattle.qs_store.specs.Graphs.{AreGraphs};
@@ -27,9 +28,10 @@ pub trait View {
     fn default_graph(&self) -> DefaultGraph
         ensures { result ≡ default_seen self.now };
 
-    /// The next blank node's number.
+    /// The next blank node's number, which is above those of all blank nodes of the quads.
     fn next_blank(&self) -> u64
-        ensures { result ≡ (content self.now).next };
+        ensures next { result ≡ (content self.now).next }
+        ensures above { IsTrue (is_above_blanks result (content self.now).quads) };
 
     /// How many quads there are. It takes no memory, and goes over none.
     fn count(&self) -> u128
