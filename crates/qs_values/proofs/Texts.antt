@@ -1,12 +1,16 @@
 -- A text that stands in a text.
-use Rattle.std.proofs.Common.{◌≡◌, ◌↔◌, ◌⊎◌, inl, inr, ℕ, Bool, true, ◌||◌, nat_eq, List, [], ◌∷◌, ◌++◌, take, drop, length, ap, sym, ◌∙◌}
+use Rattle.std.proofs.Common.{◌≡◌, ◌↔◌, ◌⊎◌, inl, inr, ℕ, Bool, true, ◌||◌, nat_eq, List, [], ◌∷◌, ◌++◌, ◌<◌, ◌+◌, Option, None, Some, take, drop, length, refl, ap, sym, ◌∙◌, arith}
 use Rattle.std.specs.Bool.{Decides}
 use Rattle.std.specs.List.{starts_with}
 use Rattle.std.specs.Str.Iter.{HasSubslice}
 use Rattle.std.specs.Cmp.Lexicographic.{bytes_decides}
+use Rattle.std.proofs.lemmas.Bool.{false≢true}
 use Rattle.std.proofs.lemmas.Bool.Decides.{same_from_decides, Decides-like, Decides-or}
-use Rattle.std.proofs.lemmas.List.{take-append-drop}
-use Rattle.std.proofs.Math.Seq.{take-append_seam}
+use Rattle.std.proofs.lemmas.List.{take-append-drop, length-append}
+use Rattle.std.specs.Option.{is_some}
+use Rattle.std.proofs.Math.Seq.{take-append_seam, drop-append_seam}
+use Rattle.memchr.specs.Find.{OccursAt, FindsNeedle}
+use Rattle.memchr.proofs.lemmas.MatchLemmas.{OccursAt-from_part, OccursAt-split}
 use Rattle.qs_values.specs.Text.{stands_in}
 
 abbrev pub HasFront : List ℕ → List ℕ → Type 0
@@ -39,3 +43,19 @@ standing n (c ∷ cs) =
 
 pub stands : (r : Bool) (n s : List ℕ) → (r ≡ true) ↔ HasSubslice s n → r ≡ stands_in n s
 stands r n s h = same_from_decides r (stands_in n s) h (standing n s)
+
+occurs : (s n a b : List ℕ) → s ≡ a ++ (n ++ b) → OccursAt s n (length a)
+occurs s n a b e =
+    let long : length s ≡ length a + (length n + length b) = ap length e ∙ (length-append a (n ++ b) ∙ ap (λ x. length a + x) (length-append n b)) in
+    OccursAt-from_part s n (length a) (omega (arith, long))
+    (ap (λ l. take (length n) (drop (length a) l)) e ∙ (ap (take (length n)) (drop-append_seam a (n ++ b)) ∙ take-append_seam n b))
+
+fits : (s n : List ℕ) (k : ℕ) → OccursAt s n k → k < length s + 1
+fits s n k h = omega (arith, h.fits)
+
+by_search : (s n : List ℕ) (r : Option ℕ) → FindsNeedle s n 0 r → (is_some r ≡ true) ↔ HasSubslice s n
+by_search s n None h = (λ no. absurd (false≢true no), λ (g : HasSubslice s n). let at = occurs s n g.0 g.1 g.2 in absurd (h (length g.0) (omega arith) (fits s n (length g.0) at) at))
+by_search s n (Some k) h = (λ yes. (take k s, drop (k + length n) s, sym (take-append-drop k s) ∙ ap (λ l. take k s ++ l) (OccursAt-split s n k h.1)), λ g. refl)
+
+pub found_by : (s n : List ℕ) (r : Option ℕ) → FindsNeedle s n 0 r → is_some r ≡ stands_in n s
+found_by s n r h = stands (is_some r) n s (by_search s n r h)

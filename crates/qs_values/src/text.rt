@@ -6,11 +6,20 @@ ghost use Rattle.std.specs.Str.{chars};
 ghost use Rattle.qs_terms.specs.Tag.{lowered};
 ghost use Rattle.qs_values.specs.Text as spec;
 
+use memchr::memmem;
+
+// The search of `memchr` takes less time than that of `str`.
+fn stands_in(needle: &[u8], text: &[u8]) -> bool
+    ensures { result ≡ spec.stands_in needle.now text.now }
+{
+    memmem::find(text, needle).is_some()
+}
+
 /// Whether the needle stands in the text (SPARQL 1.1 Query, 17.4.3.10).
 pub fn contains(text: &str, needle: &str) -> bool
     ensures { result ≡ spec.stands_in needle.now text.now }
 {
-    text.contains(needle)
+    stands_in(needle.as_bytes(), text.as_bytes())
 }
 
 /// Whether the text begins with the front (SPARQL 1.1 Query, 17.4.3.8).
