@@ -77,6 +77,26 @@ pub fn value<'a, B: Bindings>(
             None => Err(ExprFault::TypeError),
         },
         Expr::Term(term) => Ok(Value::Term(term)),
+        _ => composed(alloc, expr, bindings),
+    }
+}
+
+// The value of an expression of parts. A function of its own, so that variables and constants don't pay for the room of its values.
+#[cycle(value)]
+#[inline(never)]
+fn composed<'a, B: Bindings>(
+    alloc: Global,
+    expr: &'a Expr,
+    bindings: &'a B,
+) -> Result<Value<'a>, ExprFault>
+    ensures { ComesAs (makes expr.entry.now) (spec.meaning (B.solution bindings.entry.now) expr.entry.now) result }
+{
+    match expr {
+        Expr::Variable(variable) => match bindings.term(*variable) {
+            Some(term) => Ok(Value::Term(term)),
+            None => Err(ExprFault::TypeError),
+        },
+        Expr::Term(term) => Ok(Value::Term(term)),
         Expr::Or(parts) => as_boolean(is_any(alloc, parts.as_slice(), bindings)),
         Expr::And(parts) => as_boolean(is_every(alloc, parts.as_slice(), bindings)),
         Expr::Compare(comparison, a, b) => {

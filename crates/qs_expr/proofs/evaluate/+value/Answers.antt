@@ -38,35 +38,35 @@ with_factors-returns-in-Err g t c =
     subst (λ z. Errs (some (map makes c.args.more.now)) (product_from (g.B.Bindings.solution c.args.bindings.now) (Some z) c.args.more.now 0) c.in-Err.fault) (to_z-of_z w128 c.args.first c.ranges.first)
     (product_error (g.B.Bindings.solution c.args.bindings.now) c.args.more.now c.loop-part.part-index c.part-item.result _ _ c.in-Err.fault c.loop-part-test.true c.part-item.is c.loop-part.invariant c.in-Err.ensures)
 
-pub value-returns-then-is_empty : goal.value-returns-then-is_empty
-value-returns-then-is_empty g t c =
+pub composed-returns-then-is_empty : goal.composed-returns-then-is_empty
+composed-returns-then-is_empty g t c =
     in_none (g.B.Bindings.solution c.args.bindings.now) c.args.expr.now c.in-In.inner c.in-In.parts c.in-In.is
     (as_parts c.as_slice-in-In.result.now c.in-In.parts c.is_empty.result _ c.as_slice-in-In.ensures c.is_empty.ensures c.if-is_empty.true)
 
-pub value-returns-then-is_empty-2 : goal.value-returns-then-is_empty-2
-value-returns-then-is_empty-2 g t c =
+pub composed-returns-then-is_empty-2 : goal.composed-returns-then-is_empty-2
+composed-returns-then-is_empty-2 g t c =
     not_in_none (g.B.Bindings.solution c.args.bindings.now) c.args.expr.now c.in-NotIn.inner c.in-NotIn.parts c.in-NotIn.is
     (as_parts c.as_slice-in-NotIn.result.now c.in-NotIn.parts c.is_empty-in-NotIn.result _ c.as_slice-in-NotIn.ensures c.is_empty-in-NotIn.ensures c.if-is_empty-2.true)
 
-pub value-returns-in-Err : goal.value-returns-in-Err
-value-returns-in-Err g t c =
+pub composed-returns-in-Err : goal.composed-returns-in-Err
+composed-returns-in-Err g t c =
     in_error (g.B.Bindings.solution c.args.bindings.now) c.args.expr.now c.in-In.inner c.in-In.parts c.in-Err.fault c.in-In.is
     (as_parts c.as_slice-in-In.result.now c.in-In.parts c.is_empty.result _ c.as_slice-in-In.ensures c.is_empty.ensures c.if-is_empty.false)
     (subst (λ x. Errs (makes x) (meaning (g.B.Bindings.solution c.args.bindings.now) x) c.in-Err.fault) c.get-in-In.ensures c.in-Err.ensures)
 
-pub value-returns-in-Err-value : goal.value-returns-in-Err-value
-value-returns-in-Err-value g t c =
+pub composed-returns-in-Err-value : goal.composed-returns-in-Err-value
+composed-returns-in-Err-value g t c =
     not_in_error (g.B.Bindings.solution c.args.bindings.now) c.args.expr.now c.in-NotIn.inner c.in-NotIn.parts c.in-Err-value.fault c.in-NotIn.is
     (as_parts c.as_slice-in-NotIn.result.now c.in-NotIn.parts c.is_empty-in-NotIn.result _ c.as_slice-in-NotIn.ensures c.is_empty-in-NotIn.ensures c.if-is_empty-2.false)
     (subst (λ x. Errs (makes x) (meaning (g.B.Bindings.solution c.args.bindings.now) x) c.in-Err-value.fault) c.get-in-NotIn.ensures c.in-Err-value.ensures)
 
-pub value-returns-in-Err-integer : goal.value-returns-in-Err-integer
-value-returns-in-Err-integer g t c =
+pub composed-returns-in-Err-integer : goal.composed-returns-in-Err-integer
+composed-returns-in-Err-integer g t c =
     sum_error_first (g.B.Bindings.solution c.args.bindings.now) c.args.expr.now c.in-Sum.first c.in-Sum.more c.in-Err-integer.fault c.in-Sum.is
     (subst (λ x. Errs (makes x) (number (meaning (g.B.Bindings.solution c.args.bindings.now) x)) c.in-Err-integer.fault) c.get-in-Sum.ensures c.in-Err-integer.ensures)
 
-pub value-returns-in-Err-integer-2 : goal.value-returns-in-Err-integer-2
-value-returns-in-Err-integer-2 g t c =
+pub composed-returns-in-Err-integer-2 : goal.composed-returns-in-Err-integer-2
+composed-returns-in-Err-integer-2 g t c =
     product_error_first (g.B.Bindings.solution c.args.bindings.now) c.args.expr.now c.in-Product.first c.in-Product.more c.in-Err-integer-2.fault c.in-Product.is
     (subst (λ x. Errs (makes x) (number (meaning (g.B.Bindings.solution c.args.bindings.now) x)) c.in-Err-integer-2.fault) c.get-in-Product.ensures c.in-Err-integer-2.ensures)
 
