@@ -118,6 +118,7 @@ fn are_numbers<V: View>(view: &V) -> bool {
 /// Whether this is seen by calls that take no memory.
 pub fn is_seen<V: View>(view: &V, quads: &[Quad], seen: &Seen) -> bool {
     view.terms() == seen.terms
+        && view.count() == seen.quads.len() as u128
         && view.next_blank() == seen.next
         && are_numbers(view)
         && has(view, quads, seen.quads)
