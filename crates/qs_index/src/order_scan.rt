@@ -139,6 +139,7 @@ impl<'a> Iterator for OrderScan<'a> {
 
     ghost remaining = { item_count (λ s. s.rest) };
 
+    #[inline(always)]
     fn next(&mut self) -> Option<[u32; 4]> {
         let held = self.reader.len();
         if self.page >= held {

@@ -54,6 +54,7 @@ impl<'a> Iterator for Scan<'a> {
 
     ghost remaining = { item_count (λ s. s.rest) };
 
+    #[inline(always)]
     fn next(&mut self) -> Option<[u32; 4]> {
         let entry = self.inner.next()?;
         Some(self.permutation.restore(entry))

@@ -8,6 +8,7 @@ use qs_index::Scan;
 use std::marker::Model;
 
 /// Whether the entry is the other one, if there is one.
+#[inline(always)]
 fn is_entry(other: &Option<[u32; 4]>, entry: &[u32; 4]) -> bool
     ensures { result ≡ is_last other.now entry.now }
 {
@@ -49,6 +50,7 @@ impl<'a> Kept<'a> {
     }
 
     /// The next entry.
+    #[inline(always)]
     pub fn next(&mut self) -> Option<[u32; 4]>
         ensures { YieldsFirst (λ rest. rest) self.old result self.new }
     {

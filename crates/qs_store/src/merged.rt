@@ -13,6 +13,7 @@ use qs_index::prefix::Prefix;
 use std::marker::Model;
 
 /// Whether an entry stands before another one in an order.
+#[inline(always)]
 fn is_before(order: Permutation, entry: [u32; 4], other: [u32; 4]) -> bool
     ensures { result ≡ is_before (turned order entry) (turned order other) }
 {
@@ -64,6 +65,7 @@ impl<'a> Merged<'a> {
     }
 
     /// The next entry.
+    #[inline(always)]
     pub fn next(&mut self) -> Option<[u32; 4]>
         ensures { YieldsFirst (λ rest. rest) self.old result self.new }
     {

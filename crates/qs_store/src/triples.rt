@@ -22,6 +22,7 @@ pub enum Source<'a> {
 }
 
 /// The next entry.
+#[inline(always)]
 fn next_entry(source: &mut Source<'_>) -> Option<[u32; 4]>
     ensures { YieldsFirst entries_left source.old result source.new }
 {
@@ -32,6 +33,7 @@ fn next_entry(source: &mut Source<'_>) -> Option<[u32; 4]>
     }
 }
 
+#[inline(always)]
 fn triple_of(entry: [u32; 4]) -> [u32; 3]
     ensures { result ≡ triple_of entry }
 {
@@ -40,6 +42,7 @@ fn triple_of(entry: [u32; 4]) -> [u32; 3]
 }
 
 /// Whether the triple is the last one, if there is one.
+#[inline(always)]
 fn is_last(last: &Option<[u32; 3]>, triple: &[u32; 3]) -> bool
     ensures { result ≡ is_last last.now triple.now }
 {
@@ -166,6 +169,7 @@ impl<'a> Iterator for Triples<'a> {
 
     ghost remaining = { item_count (λ rest. rest) };
 
+    #[inline(always)]
     fn next(&mut self) -> Option<[u32; 3]> {
         if self.repeats {
             return next_other(&mut self.source, &mut self.last);
