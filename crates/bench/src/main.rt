@@ -1,7 +1,7 @@
 //! Measures the parts of the store. The first argument names a part, and the second its size: then the part's times are printed, or
-//! its memory where a word stands behind the size. N-Quads have a file's name for a size: then the time of reading is printed, or that
-//! of writing where a word stands behind the name. Without a size a part works at a small size, and what it prints is always the same;
-//! with no argument all parts do so in turn.
+//! its memory where a word stands behind the size, which for the store is the number of changes by which its quads are added. N-Quads
+//! have a file's name for a size: then the time of reading is printed, or that of writing where a word stands behind the name. Without
+//! a size a part works at a small size, and what it prints is always the same; with no argument all parts do so in turn.
 #![tactic(auto)]
 
 mod dict;
@@ -11,7 +11,9 @@ mod index;
 mod lex;
 mod line;
 mod nquads;
+mod resident;
 mod results;
+mod store;
 mod syntax;
 mod terms;
 mod texts;
@@ -20,13 +22,13 @@ mod timing;
 use std::{env, io};
 
 const PARTS: &[&str] = &[
-    "dict", "expr", "http", "index", "lex", "nquads", "results", "syntax",
+    "dict", "expr", "http", "index", "lex", "nquads", "results", "store", "syntax",
 ];
 
 fn main(rt: HostRuntime) -> io::Result<()> {
     let words: Vec<String> = env::args(&rt)?.collect(rt.alloc())?;
     match words.get(1) {
-        Some(part) => one(&rt, part, words.get(2), words.get(3).is_some()),
+        Some(part) => one(&rt, part, words.get(2), words.get(3)),
         None => all(&rt),
     }
 }
@@ -34,14 +36,20 @@ fn main(rt: HostRuntime) -> io::Result<()> {
 /// All parts at a small size.
 fn all(rt: &HostRuntime) -> io::Result<()> {
     for part in PARTS {
-        one(rt, part, None, false)?;
+        one(rt, part, None, None)?;
     }
     Ok(())
 }
 
-/// The part of that name, with the argument behind it, and whether one more is there.
-fn one(rt: &HostRuntime, part: &str, argument: Option<&String>, is_memory: bool) -> io::Result<()> {
+/// The part of that name, with the argument behind it, and the one behind that.
+fn one(
+    rt: &HostRuntime,
+    part: &str,
+    argument: Option<&String>,
+    word: Option<&String>,
+) -> io::Result<()> {
     let size = size_of(argument);
+    let is_memory = word.is_some();
     match part {
         "dict" => dict::run(rt, size, is_memory),
         "expr" => expr::run(rt, size, is_memory),
@@ -50,6 +58,7 @@ fn one(rt: &HostRuntime, part: &str, argument: Option<&String>, is_memory: bool)
         "lex" => texts::run(rt, lex::SAMPLES, size),
         "nquads" => nquads::run(rt, argument, is_memory),
         "results" => results::run(rt, size, is_memory),
+        "store" => store::run(rt, size, size_of(word)),
         "syntax" => texts::run(rt, syntax::SAMPLES, size),
         _ => Err(io::Error::from(io::ErrorKind::InvalidInput)),
     }
