@@ -2,3 +2,4 @@ pub mod Under
 pub mod Quads
 mod Tested
 mod AboveBlanks
+pub mod Turns

@@ -4,3 +4,4 @@ pub mod Lawful
 pub mod Request
 pub mod Outcome
 pub mod Rows
+pub mod Carried

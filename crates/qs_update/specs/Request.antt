@@ -6,7 +6,7 @@ use Rattle.qs_terms.specs.declared.fault.QFault.TheVariants.{Full}
 use Rattle.qs_ast.specs.declared.term.Variable.{Variable}
 use Rattle.qs_ast.specs.declared.update.Operation.{Operation}
 use Rattle.qs_store.specs.Change.{IsChanged, KnowsTermsOf, with_terms_of}
-use Rattle.qs_store.specs.Content.{Content}
+use Rattle.qs_store.specs.Content.{Content, Held}
 use Rattle.qs_store.specs.Same.{SameSet}
 use Rattle.qs_store.specs.declared.default_graph.DefaultGraph.{DefaultGraph}
 use Rattle.qs_update.specs.Effect.{IsEffect}
@@ -17,6 +17,10 @@ pub record Bounds : Type 0 where
   pub terms : ℕ
   pub rows : ℕ
   pub default_graph : DefaultGraph
+
+-- those of a store
+abbrev pub bounds_of : ℕ → Held → Bounds
+bounds_of max_rows held = record { terms = held.limit; rows = max_rows; default_graph = held.default_graph }
 
 -- the content behind an effect: the old quads that aren't removed together with those that are added, the next blank node's number, and
 -- the known terms with those of the added quads, which are no more than the limit

@@ -29,7 +29,8 @@ pub enum Removal {
     Both,
 }
 
-fn iri_term(alloc: Global, name: &Iri) -> Result<Term, AllocError>
+/// The IRI as a term.
+pub fn iri_term(alloc: Global, name: &Iri) -> Result<Term, AllocError>
     ensures { IfOk result (λ t. t ≡ value.Iri name.now) }
 {
     Ok(Term::Iri(name.try_clone(alloc)?))

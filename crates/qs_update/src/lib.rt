@@ -2,15 +2,18 @@
 //!
 //! `effect` is what an operation does: `modified` by templates and solutions, `graphs` by whole graphs, `operation` by its form. `lawful`
 //! says why the numbers of blank nodes suffice behind it.
-//! `request` carries operations out over a draft, and `update` commits it or leaves the store as it was.
+//! `draft` carries operations out over a draft of the store, and `request` commits it or leaves the store as it was.
 #![tactic(auto)]
 
+mod draft;
 mod effect;
 mod graphs;
 mod lawful;
 mod modified;
 mod operation;
+mod request;
 mod templates;
 
 pub use effect::Effect;
 pub use operation::effect_of;
+pub use request::update;

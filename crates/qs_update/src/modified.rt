@@ -13,7 +13,7 @@ ghost use Rattle.qs_update.specs.Lawful.{IsLawful};
 ghost use Rattle.qs_update.specs.Rows.{AreAllRows};
 
 use crate::effect::Effect;
-use crate::graphs::seen;
+use crate::graphs::{iri_term, seen};
 use crate::lawful::effects_are_lawful;
 use crate::templates::{deletion, template_with};
 use qs_algebra::{NamedPattern, translate_blocks, translate_where};
@@ -163,7 +163,7 @@ fn with_term(alloc: Global, with: &Option<Iri>) -> Result<Option<Term>, AllocErr
 {
     match with {
         None => Ok(None),
-        Some(name) => Ok(Some(Term::Iri(name.try_clone(alloc)?))),
+        Some(name) => Ok(Some(iri_term(alloc, name)?)),
     }
 }
 
