@@ -1,5 +1,5 @@
 -- What templates do under all solutions of a WHERE.
-use Rattle.std.proofs.Common.{◌≡◌, ◌⊎◌, ◌<◌, ◌≤◌, ℕ, List, length, Option, Ok, Err, refl, sym, ap, subst, inl, inr}
+use Rattle.std.proofs.Common.{◌≡◌, ℕ, List, Option, Ok, Err, sym, ap, subst, inl, inr}
 use Rattle.qs_terms.specs.Bag.{SameBag}
 use Rattle.qs_terms.specs.Outcome.{Outcome, OrWantOfMemory, OneOrWantOfMemory}
 use Rattle.qs_terms.specs.Statement.{Statement}

@@ -16,12 +16,7 @@ use qs_terms::QFault;
 use std::alloc::Global;
 
 // The operations of an update, all or none.
-fn taken(
-    alloc: Global,
-    update: &Update,
-    store: &mut Store,
-    max_rows: u64,
-) -> Result<(), QFault>
+fn taken(alloc: Global, update: &Update, store: &mut Store, max_rows: u64) -> Result<(), QFault>
     requires { IsTrue (update_values_have_no_blank update.now) }
     ensures accepted { OnOk result (AreTaken (bounds_of max_rows store.old) update.now.variables update.now.operations store.old.base store.new.base) }
     ensures refused { OnErr result (store.new.base ≡ store.old.base) }
@@ -52,12 +47,7 @@ fn taken(
 /// (SPARQL 1.1 Update, 3.2); `QFault::TooManyRows` where a WHERE has more solutions; `QFault::Full` where the numbers of blank nodes
 /// don't suffice, or where the known terms and those of the quads inserted so far in the request are more than the store's limit.
 /// `QFault::Memory` for want of memory, at any time.
-pub fn update(
-    alloc: Global,
-    text: &str,
-    store: &mut Store,
-    max_rows: u64,
-) -> Result<(), QFault>
+pub fn update(alloc: Global, text: &str, store: &mut Store, max_rows: u64) -> Result<(), QFault>
     ensures accepted { OnOk result (IsAccepted (bounds_of max_rows store.old) text.now store.old.base store.new.base) }
     ensures refused { OnErr result (store.new.base ≡ store.old.base) }
     ensures fault { IfErr result (λ f. f ≢ Memory → IsOutcomeOfText (bounds_of max_rows store.old) text.now store.old.base (Err f)) }

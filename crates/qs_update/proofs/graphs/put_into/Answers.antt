@@ -1,4 +1,4 @@
-use Rattle.std.proofs.Common.{◌∙◌, ap, subst, IsTrue}
+use Rattle.std.proofs.Common.{◌∙◌, subst, IsTrue}
 use Rattle.std.specs.Option.{option_copied}
 use Rattle.qs_terms.specs.Statement.{is_graph}
 use Rattle.qs_update.proofs.Quads.{fits_default, fits_named}
