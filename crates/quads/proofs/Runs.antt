@@ -9,30 +9,36 @@ use Rattle.quads.specs.Due.{line, IsDue, IsBegun}
 use Rattle.quads.specs.Ended.{IsEnd, printed, status}
 use Rattle.quads.specs.Run.{Prints, IsRun}
 use Rattle.quads.specs.declared.ended.Ended.{Ended}
-use Rattle.quads.specs.declared.ended.Ended.TheVariants.{Answered, Checked, DataRefused, Refused}
+use Rattle.quads.specs.declared.ended.Ended.TheVariants.{Answered, Quads, DataRefused, Refused}
 use Rattle.quads.specs.declared.job.Job.{Job}
-use Rattle.quads.specs.declared.job.Job.TheVariants.{Check, Query}
+use Rattle.quads.specs.declared.job.Job.TheVariants.{Check, Query, Update}
 use Rattle.quads.specs.declared.job.Ran.{Ran}
 
 -- what is printed of a job's end is due
 due_of : (job : Job) (end : Ended) → IsEnd job end → IsDue job (printed end) (status end)
 due_of (Check file) (Answered answer) is = absurd is
-due_of (Check file) (Checked quads) is = inl (quads.items, is.0, is.1, is.2, refl, refl)
+due_of (Check file) (Quads quads) is = inl (quads.items, is.0, is.1, is.2, refl, refl)
 due_of (Check file) (DataRefused f) is = inr (inr (f, is, refl, refl))
 due_of (Check file) (Refused f) is = absurd is
 due_of (Query file text) (Answered answer) is = inl (Ok answer, is, refl, refl)
-due_of (Query file text) (Checked quads) is = absurd is
+due_of (Query file text) (Quads quads) is = absurd is
 due_of (Query file text) (DataRefused f) is = inr (f, is, refl, refl)
 due_of (Query file text) (Refused f) is = inl (Err f, is, refl, refl)
+due_of (Update file text) (Answered answer) is = absurd is
+due_of (Update file text) (Quads quads) is = inl (Ok is.0, is.1, (quads.items, is.2, refl), refl)
+due_of (Update file text) (DataRefused f) is = inr (f, is, refl, refl)
+due_of (Update file text) (Refused f) is = inl (Err f, is, refl, refl)
 
 begun : (job : Job) (bytes : List ℕ) (s : ℕ) → IsDue job bytes s → IsBegun job bytes
 begun (Check file) bytes s due = (s, due)
 begun (Query file text) bytes s due = (s, due)
+begun (Update file text) bytes s due = (s, due)
 
 -- memory may always be wanting
 memory : (job : Job) → IsDue job (line (fault_line fault.Memory)) 1
 memory (Check file) = inr (inl (refl, refl))
 memory (Query file text) = inl (Err fault.Memory, (λ other. absurd (other refl)), refl, refl)
+memory (Update file text) = inl (Err fault.Memory, (λ other. absurd (other refl)), refl, refl)
 
 whole : (n : ℕ) (bytes : List ℕ) → n ≡ length bytes → take n bytes ≡ bytes
 whole n bytes is = take_all n bytes (omega (arith, is))

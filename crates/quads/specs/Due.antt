@@ -1,5 +1,5 @@
 -- What is due of a job: the bytes that are printed, and the exit status. The data of a check are printed again as N-Quads, or refused; a
--- query is answered, or refused by the first fault, of the data before the text.
+-- query is answered, or refused by the first fault, of the data before the text; of an update the dataset behind it is printed as N-Quads.
 use Rattle.std.specs.Prelude.{◌≡◌, ◌⊎◌, ◌∷◌, ◌++◌, [], ℕ, List, Ok, Err}
 use Rattle.std.specs.Str.{IsUtf8, IsValidUpTo}
 use Rattle.serde_json.specs.Written.{compact_text}
@@ -9,16 +9,22 @@ use Rattle.qs_terms.specs.Statement.{Statement}
 use Rattle.qs_terms.specs.declared.fault.QFault.TheVariants as fault
 use Rattle.qs_nquads.specs.Nquads.{IsNquads, IsFault}
 use Rattle.qs_nquads.specs.declared.fault.NqFault.{NqFault}
+use Rattle.qs_store.specs.Content.{Content}
+use Rattle.qs_store.specs.Same.{SameSet}
+use Rattle.qs_store.specs.declared.default_graph.DefaultGraph.TheVariants.{Stored}
 use Rattle.qs_answer.specs.declared.answer.Answer.{Answer}
 use Rattle.qs_answer.specs.declared.answer.Answer.TheVariants.{Solutions, Truth, Graph}
 use Rattle.qs_nquads.specs.Written.{nquads_of}
 use Rattle.qs_select.specs.Sequence.{dataset_of}
 use Rattle.qs_query.specs.Outcome.{IsOutcomeOfText}
+use Rattle.qs_update.specs.Outcome as update
+use Rattle.qs_update.specs.Request.{Bounds, IsCarriedOut, IsBehind}
+use Rattle.qs_update.specs.declared.effect.Effect.{Effect}
 use Rattle.qs_results.specs.Json.{json_of}
 use Rattle.qs_results.specs.Lines.{fault_line, data_fault_line}
 use Rattle.qs_results.specs.Triples.{ntriples_of}
 use Rattle.quads.specs.declared.job.Job.{Job}
-use Rattle.quads.specs.declared.job.Job.TheVariants.{Check, Query}
+use Rattle.quads.specs.declared.job.Job.TheVariants.{Check, Query, Update}
 
 -- the most solutions of a query
 abbrev pub max_rows : ℕ
@@ -44,6 +50,40 @@ abbrev pub IsOverData : List ℕ → List ℕ → Outcome Answer → Type 0
 IsOverData file text outcome =
     (quads : List Statement) × (next : ℕ) × IsNquads file 0 quads next × IsDataset (dataset_of quads next) × IsTextOutcome text (dataset_of quads next) outcome
 
+-- ---- what an update comes to
+
+-- the most terms that the store knows: as many as there are numbers for them
+abbrev pub max_terms : ℕ
+max_terms = 4294967295
+
+abbrev pub bounds : Bounds
+bounds = record { terms = max_terms; rows = max_rows; default_graph = Stored }
+
+-- what a new store holds
+abbrev pub empty : Content
+empty = record { quads = []; next = 0; known = [] }
+
+-- quads that are put into it
+abbrev pub addition : List Statement → ℕ → Effect
+addition quads next = record { removed = []; added = quads; next = next }
+
+abbrev pub IsUpdateOfRead : Outcome (List ℕ) → Content → Outcome Content → Type 0
+IsUpdateOfRead (Ok text) old outcome = update.IsOutcomeOfText bounds text old outcome
+IsUpdateOfRead (Err f) old outcome = outcome ≡ Err f
+
+-- what the bytes of an update's file come to over what a store holds
+abbrev pub IsUpdateOutcome : List ℕ → Content → Outcome Content → Type 0
+IsUpdateOutcome bytes old outcome = (text : Outcome (List ℕ)) × IsTextOf bytes text × IsUpdateOfRead text old outcome
+
+-- the same over quads, which are put into a new store before; or the fault that this finds no room for their terms
+abbrev pub IsUpdateOver : List Statement → ℕ → List ℕ → Outcome Content → Type 0
+IsUpdateOver quads next text outcome =
+    (first : Outcome Content) × IsCarriedOut max_terms empty (Ok (addition quads next)) first × IsBehind (IsUpdateOutcome text) first outcome
+
+-- the same over the dataset that N-Quads are, whose blank nodes are numbered from 0
+abbrev pub IsUpdateOfData : List ℕ → List ℕ → Outcome Content → Type 0
+IsUpdateOfData file text outcome = (quads : List Statement) × (next : ℕ) × IsNquads file 0 quads next × IsUpdateOver quads next text outcome
+
 -- ---- what is printed of it
 
 -- the text with LF
@@ -65,10 +105,24 @@ abbrev pub outcome_status : Outcome Answer → ℕ
 outcome_status (Ok answer) = 0
 outcome_status (Err f) = 1
 
+-- the quads of a store, whose order means nothing, since lines of N-Quads ascend; or the line of the fault
+abbrev pub IsContentText : Outcome Content → List ℕ → Type 0
+IsContentText (Ok c) bytes = (quads : List Statement) × SameSet quads c.quads × (bytes ≡ nquads_of quads)
+IsContentText (Err f) bytes = bytes ≡ line (fault_line f)
+
+abbrev pub content_status : Outcome Content → ℕ
+content_status (Ok c) = 0
+content_status (Err f) = 1
+
 -- the data are quads, and this is printed of what the text comes to over them, or of want of memory
 abbrev pub IsDueOfText : List ℕ → List ℕ → List ℕ → ℕ → Type 0
 IsDueOfText file text bytes status =
     (outcome : Outcome Answer) × OneOrWantOfMemory (IsOverData file text) outcome × (bytes ≡ outcome_line outcome) × (status ≡ outcome_status outcome)
+
+-- the data are quads, and this is printed of what the update makes of them, or of want of memory
+abbrev pub IsDueOfUpdate : List ℕ → List ℕ → List ℕ → ℕ → Type 0
+IsDueOfUpdate file text bytes status =
+    (outcome : Outcome Content) × OneOrWantOfMemory (IsUpdateOfData file text) outcome × IsContentText outcome bytes × (status ≡ content_status outcome)
 
 -- the data are none, and this is the line of their fault
 abbrev pub IsDueOfData : List ℕ → List ℕ → ℕ → Type 0
@@ -87,8 +141,10 @@ IsDueOfMemory bytes status = (bytes ≡ line (fault_line fault.Memory)) × (stat
 abbrev pub IsDue : Job → List ℕ → ℕ → Type 0
 IsDue (Check file) bytes status = IsDueOfDataset file.items bytes status ⊎ (IsDueOfMemory bytes status ⊎ IsDueOfData file.items bytes status)
 IsDue (Query file text) bytes status = IsDueOfText file.items text.items bytes status ⊎ IsDueOfData file.items bytes status
+IsDue (Update file text) bytes status = IsDueOfUpdate file.items text.items bytes status ⊎ IsDueOfData file.items bytes status
 
 -- the job may have begun to print these bytes: those that are due
 abbrev pub IsBegun : Job → List ℕ → Type 0
 IsBegun (Check file) bytes = (status : ℕ) × IsDue (Check file) bytes status
 IsBegun (Query file text) bytes = (status : ℕ) × IsDue (Query file text) bytes status
+IsBegun (Update file text) bytes = (status : ℕ) × IsDue (Update file text) bytes status

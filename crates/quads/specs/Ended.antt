@@ -1,43 +1,53 @@
--- How a job ends before anything is printed. A query ends with no dataset, and a check with nothing but a dataset or the fault of the data.
+-- How a job ends before anything is printed. A query ends with no dataset, a check with nothing but a dataset or the fault of the data, and
+-- an update with no answer.
 -- (Inner: it serves proofs, and no promise of the product is read by it.)
 use Rattle.std.specs.Prelude.{ℕ, List, Ok, Err}
+use Rattle.qs_store.specs.Content.{Content}
+use Rattle.qs_store.specs.Same.{SameSet}
 use Rattle.qs_select.specs.Sequence.{dataset_of}
 use Rattle.qs_terms.specs.Dataset.{IsDataset}
 use Rattle.qs_terms.specs.Outcome.{OneOrWantOfMemory}
 use Rattle.qs_nquads.specs.Nquads.{IsNquads, IsFault}
 use Rattle.qs_nquads.specs.Written.{nquads_of}
 use Rattle.qs_results.specs.Lines.{data_fault_line}
-use Rattle.quads.specs.Due.{IsOverData, line, outcome_line}
+use Rattle.quads.specs.Due.{IsOverData, IsUpdateOfData, line, outcome_line}
 use Rattle.quads.specs.declared.ended.Ended.{Ended}
-use Rattle.quads.specs.declared.ended.Ended.TheVariants.{Answered, Checked, DataRefused, Refused}
+use Rattle.quads.specs.declared.ended.Ended.TheVariants.{Answered, Quads, DataRefused, Refused}
 use Rattle.quads.specs.declared.job.Job.{Job}
-use Rattle.quads.specs.declared.job.Job.TheVariants.{Check, Query}
+use Rattle.quads.specs.declared.job.Job.TheVariants.{Check, Query, Update}
 
 abbrev pub IsQueryEnd : List ℕ → List ℕ → Ended → Type 0
 IsQueryEnd file text (Answered answer) = IsOverData file text (Ok answer)
-IsQueryEnd file text (Checked quads) = ⊥
+IsQueryEnd file text (Quads quads) = ⊥
 IsQueryEnd file text (DataRefused f) = IsFault file 0 f.kind f.line
 IsQueryEnd file text (Refused f) = OneOrWantOfMemory (IsOverData file text) (Err f)
 
 abbrev pub IsCheckEnd : List ℕ → Ended → Type 0
 IsCheckEnd file (Answered answer) = ⊥
-IsCheckEnd file (Checked quads) = (next : ℕ) × IsNquads file 0 quads.items next × IsDataset (dataset_of quads.items next)
+IsCheckEnd file (Quads quads) = (next : ℕ) × IsNquads file 0 quads.items next × IsDataset (dataset_of quads.items next)
 IsCheckEnd file (DataRefused f) = IsFault file 0 f.kind f.line
 IsCheckEnd file (Refused f) = ⊥
+
+abbrev pub IsUpdateEnd : List ℕ → List ℕ → Ended → Type 0
+IsUpdateEnd file text (Answered answer) = ⊥
+IsUpdateEnd file text (Quads quads) = (c : Content) × IsUpdateOfData file text (Ok c) × SameSet quads.items c.quads
+IsUpdateEnd file text (DataRefused f) = IsFault file 0 f.kind f.line
+IsUpdateEnd file text (Refused f) = OneOrWantOfMemory (IsUpdateOfData file text) (Err f)
 
 abbrev pub IsEnd : Job → Ended → Type 0
 IsEnd (Check file) end = IsCheckEnd file.items end
 IsEnd (Query file text) end = IsQueryEnd file.items text.items end
+IsEnd (Update file text) end = IsUpdateEnd file.items text.items end
 
 -- what is printed of the end
 abbrev pub printed : Ended → List ℕ
 printed (Answered answer) = outcome_line (Ok answer)
-printed (Checked quads) = nquads_of quads.items
+printed (Quads quads) = nquads_of quads.items
 printed (DataRefused f) = line (data_fault_line f)
 printed (Refused f) = outcome_line (Err f)
 
 abbrev pub status : Ended → ℕ
 status (Answered answer) = 0
-status (Checked quads) = 0
+status (Quads quads) = 0
 status (DataRefused f) = 1
 status (Refused f) = 1

@@ -1,3 +1,4 @@
 pub mod Due
 pub mod Ended
 pub mod Run
+pub mod Updated

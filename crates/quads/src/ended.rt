@@ -7,6 +7,7 @@ ghost use Rattle.quads.specs.Due.{IsTextOf, IsTextOutcome};
 ghost use Rattle.quads.specs.Ended.{IsQueryEnd, IsCheckEnd, IsEnd};
 
 use crate::job::Job;
+use crate::updated::update_ended;
 use qs_answer::Answer;
 use qs_nquads::laws::next_number_is_fresh;
 use qs_nquads::{NqFault, read};
@@ -14,24 +15,26 @@ use qs_query::answer;
 use qs_select::laws::quads_are_a_dataset;
 use qs_terms::{QFault, Quad};
 use std::alloc::Global;
+use std::hash::RandomState;
 
-/// The most solutions that a query may have, behind OFFSET and LIMIT.
-const MAX_ROWS: u64 = 1_000_000;
+/// The most solutions that a query may have, behind OFFSET and LIMIT, and a WHERE of an update.
+pub const MAX_ROWS: u64 = 1_000_000;
 
 /// What a job comes to.
 #[derive(Drop)]
 pub enum Ended {
     /// The query has this answer.
     Answered(Answer),
-    /// The data are these quads.
-    Checked(Vec<Quad>),
+    /// The data are these quads, or these are what an update makes of them.
+    Quads(Vec<Quad>),
     /// The data are no N-Quads.
     DataRefused(NqFault),
     /// The text is refused, or memory is wanting.
     Refused(QFault),
 }
 
-fn text_of(bytes: &[u8]) -> Result<&str, QFault>
+/// The text that bytes are, or the fault at the first that is no part of one.
+pub fn text_of(bytes: &[u8]) -> Result<&str, QFault>
     ensures { MatchResult result (λ s. IsTextOf bytes.now (Ok s.now)) (λ f. IsTextOf bytes.now (Err f)) }
 {
     match std::str::from_utf8(bytes) {
@@ -76,17 +79,20 @@ fn check_ended(alloc: Global, file: &[u8]) -> Ended
     next_number_is_fresh();
     quads_are_a_dataset();
     match read(alloc, file, 0) {
-        Ok((quads, _)) => Ended::Checked(quads),
+        Ok((quads, _)) => Ended::Quads(quads),
         Err(fault) => Ended::DataRefused(fault),
     }
 }
 
-/// What the job comes to.
-pub fn end_of(alloc: Global, job: &Job) -> Ended
+/// What the job comes to. Terms of a store are hashed by `hasher`.
+pub fn end_of(alloc: Global, hasher: RandomState, job: &Job) -> Ended
     ensures { IsEnd job.now result }
 {
     match job {
         Job::Check { data } => check_ended(alloc, data.as_slice()),
         Job::Query { data, text } => query_ended(alloc, data.as_slice(), text.as_slice()),
+        Job::Update { data, text } => {
+            update_ended(alloc, hasher, data.as_slice(), text.as_slice())
+        }
     }
 }

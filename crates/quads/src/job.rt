@@ -7,6 +7,8 @@ pub enum Job {
     Check { data: Vec<u8> },
     /// The query of `text` over the N-Quads of `data`.
     Query { data: Vec<u8>, text: Vec<u8> },
+    /// The update of `text` over the N-Quads of `data`.
+    Update { data: Vec<u8>, text: Vec<u8> },
 }
 
 /// The exit status, and how many bytes the sink took.

@@ -1,4 +1,5 @@
-//! The program: checks the quads of a file, and answers the query of a file over the quads of another.
+//! The program: checks the quads of a file, answers the query of a file over the quads of another, and carries the update of a file out
+//! over them.
 //!
 //! What a job's bytes come to is proved of `run`. Here the command line is read, the files, and nothing else.
 #![tactic(auto)]
@@ -7,6 +8,7 @@ mod ended;
 mod job;
 mod printed;
 mod run;
+mod updated;
 
 use crate::job::Job;
 use crate::run::run;
@@ -15,6 +17,7 @@ use clap::{Arg, ArgMatches, Command};
 use qs_results::out_of_memory_line;
 use qs_terms::{Counted, Sink, put_all};
 use std::alloc::{AllocError, Global};
+use std::hash::RandomState;
 use std::process::ExitCode;
 use std::{env, fs, io};
 
@@ -33,6 +36,21 @@ fn query_command<'a>(alloc: Global) -> Result<Command<'a>, AllocError> {
         .arg(query)
 }
 
+fn update_command<'a>(alloc: Global) -> Result<Command<'a>, AllocError> {
+    let file = Arg::new(alloc, "FILE")
+        .required(true)
+        .help("the data, as N-Quads");
+    let update = Arg::new(alloc, "UPDATEFILE")
+        .required(true)
+        .help("the text of the update");
+    Command::new(alloc, "update")
+        .about(
+            "Prints what an update makes of the data of a file, as N-Quads; where a part of it is refused, the fault alone",
+        )
+        .arg(file)?
+        .arg(update)
+}
+
 fn check_command<'a>(alloc: Global) -> Result<Command<'a>, AllocError> {
     let file = Arg::new(alloc, "FILE")
         .required(true)
@@ -47,7 +65,8 @@ fn command<'a>(alloc: Global) -> Result<Command<'a>, AllocError> {
         .about("An RDF quad store with SPARQL")
         .subcommand_required(true)
         .subcommand(check_command(alloc)?)?
-        .subcommand(query_command(alloc)?)
+        .subcommand(query_command(alloc)?)?
+        .subcommand(update_command(alloc)?)
 }
 
 /// The words of a command line, taken apart.
@@ -74,29 +93,46 @@ fn refuse_file<S: Sink>(out: &mut S, name: &str, error: &io::Error) -> u8 {
     1
 }
 
-/// `check FILE`: its exit status.
-fn check<S: Sink>(rt: &HostRuntime, out: &mut S, matches: &ArgMatches<'_>) -> u8 {
-    let file = matches.get_str("FILE").unwrap_or("");
-    let data = match fs::read(rt, file) {
-        Ok(data) => data,
-        Err(error) => return refuse_file(out, file, &error),
-    };
-    run(rt.alloc(), &Job::Check { data }, out).status
+/// The bytes of the file that the command line names so, or the exit status where they can't be read.
+fn file<S: Sink>(
+    rt: &HostRuntime,
+    out: &mut S,
+    matches: &ArgMatches<'_>,
+    argument: &str,
+) -> Result<Vec<u8>, u8> {
+    let name = matches.get_str(argument).unwrap_or("");
+    match fs::read(rt, name) {
+        Ok(bytes) => Ok(bytes),
+        Err(error) => Err(refuse_file(out, name, &error)),
+    }
 }
 
-/// `query FILE QUERYFILE`: its exit status.
-fn query<S: Sink>(rt: &HostRuntime, out: &mut S, matches: &ArgMatches<'_>) -> u8 {
-    let file = matches.get_str("FILE").unwrap_or("");
-    let data = match fs::read(rt, file) {
-        Ok(data) => data,
-        Err(error) => return refuse_file(out, file, &error),
-    };
-    let file = matches.get_str("QUERYFILE").unwrap_or("");
-    let text = match fs::read(rt, file) {
-        Ok(text) => text,
-        Err(error) => return refuse_file(out, file, &error),
-    };
-    run(rt.alloc(), &Job::Query { data, text }, out).status
+/// Does the job: its exit status.
+fn done<S: Sink>(rt: &HostRuntime, out: &mut S, job: &Job) -> u8 {
+    match RandomState::new(rt) {
+        Ok(hasher) => run(rt.alloc(), hasher, job, out).status,
+        Err(error) => refuse_file(out, "random bytes", &error),
+    }
+}
+
+/// `check FILE`: its exit status, or that of a file that can't be read.
+fn check<S: Sink>(rt: &HostRuntime, out: &mut S, matches: &ArgMatches<'_>) -> Result<u8, u8> {
+    let data = file(rt, out, matches, "FILE")?;
+    Ok(done(rt, out, &Job::Check { data }))
+}
+
+/// `query FILE QUERYFILE`: the same.
+fn query<S: Sink>(rt: &HostRuntime, out: &mut S, matches: &ArgMatches<'_>) -> Result<u8, u8> {
+    let data = file(rt, out, matches, "FILE")?;
+    let text = file(rt, out, matches, "QUERYFILE")?;
+    Ok(done(rt, out, &Job::Query { data, text }))
+}
+
+/// `update FILE UPDATEFILE`: the same.
+fn update<S: Sink>(rt: &HostRuntime, out: &mut S, matches: &ArgMatches<'_>) -> Result<u8, u8> {
+    let data = file(rt, out, matches, "FILE")?;
+    let text = file(rt, out, matches, "UPDATEFILE")?;
+    Ok(done(rt, out, &Job::Update { data, text }))
 }
 
 /// Does what the words say: the exit status. What is wrong with the words goes to standard error.
@@ -109,11 +145,13 @@ fn obey<S: Sink>(rt: &HostRuntime, out: &mut S, words: &[String]) -> u8 {
             return error.exit_code() as u8;
         }
     };
-    match matches.subcommand() {
+    let status = match matches.subcommand() {
         Some(("check", matches)) => check(rt, out, matches),
         Some(("query", matches)) => query(rt, out, matches),
-        _ => 2,
-    }
+        Some(("update", matches)) => update(rt, out, matches),
+        _ => Ok(2),
+    };
+    status.unwrap_or_else(|refused| refused)
 }
 
 fn words_of(rt: &HostRuntime) -> Result<Vec<String>, io::Error> {

@@ -55,7 +55,7 @@ pub fn printed(alloc: Global, end: &Ended) -> Result<String, AllocError>
 {
     match end {
         Ended::Answered(answer) => answered(alloc, answer),
-        Ended::Checked(quads) => text(alloc, quads.as_slice()),
+        Ended::Quads(quads) => text(alloc, quads.as_slice()),
         Ended::DataRefused(fault) => data_fault_text(alloc, fault),
         Ended::Refused(fault) => fault_text(alloc, fault),
     }
@@ -67,7 +67,7 @@ pub fn status(end: &Ended) -> u8
 {
     match end {
         Ended::Answered(_) => 0,
-        Ended::Checked(_) => 0,
+        Ended::Quads(_) => 0,
         Ended::DataRefused(_) => 1,
         Ended::Refused(_) => 1,
     }

@@ -13,6 +13,7 @@ use crate::printed::{printed, status};
 use qs_results::out_of_memory_line;
 use qs_terms::{Sink, put_all};
 use std::alloc::Global;
+use std::hash::RandomState;
 
 fn put<S: Sink>(out: &mut S, bytes: &[u8], status: u8) -> Ran
     ensures { Prints bytes.now status (S.taken out.old) (S.taken out.new) (S.faults out.old) (S.faults out.new) result }
@@ -35,12 +36,12 @@ fn put_line<S: Sink>(alloc: Global, end: &Ended, out: &mut S) -> Ran
     }
 }
 
-/// Does the job and prints what it comes to: the data as N-Quads, the answer as a line of JSON, a graph as N-Triples, or the line of the
-/// fault that is due. The status is 0 where the job is done, and 1 where it is refused, where memory is wanting, or where the sink fails;
+/// Does the job and prints what it comes to: the data as N-Quads, the answer as a line of JSON, a graph as N-Triples, what an update makes
+/// of the data as N-Quads, or the line of the fault that is due. The terms of a store are hashed by `hasher`. The status is 0 where the job is done, and 1 where it is refused, where memory is wanting, or where the sink fails;
 /// nothing is put behind a failure.
-pub fn run<S: Sink>(alloc: Global, job: &Job, out: &mut S) -> Ran
+pub fn run<S: Sink>(alloc: Global, hasher: RandomState, job: &Job, out: &mut S) -> Ran
     ensures { IsRun job.now (S.taken out.old) (S.taken out.new) (S.faults out.old) (S.faults out.new) result }
 {
-    let end = end_of(alloc, job);
+    let end = end_of(alloc, hasher, job);
     put_line(alloc, &end, out)
 }

@@ -2,7 +2,7 @@
 //! memory for an answer, and then everything is as it was.
 
 use crate::outcome::Outcome;
-use crate::{dict, index, store, terms};
+use crate::{dict, index, requests, store, terms};
 use qs_store::DefaultGraph;
 use std::hash::RandomState;
 
@@ -60,4 +60,14 @@ fn drafts_tolerant(rt: HostRuntime) {
         store::drafts(rt.alloc(), RandomState::new(&rt).ok(), DefaultGraph::Stored)
             != Outcome::Wrong
     );
+}
+
+#[test]
+fn requests_strict(rt: HostRuntime) {
+    assert!(rt; requests::requests(rt.alloc(), RandomState::new(&rt).ok()) == Outcome::Whole);
+}
+
+#[test]
+fn requests_tolerant(rt: HostRuntime) {
+    assert!(rt; requests::requests(rt.alloc(), RandomState::new(&rt).ok()) != Outcome::Wrong);
 }

@@ -1,4 +1,4 @@
-//! Tests of terms, the dictionary, the index and the store: they stand in a crate of their own, since a crate with tests is proved twice.
+//! Tests of terms, the dictionary, the index, the store and requests over it: they stand in a crate of their own, since a crate with tests is proved twice.
 //!
 //! Here is what no clause says and no run of the program shows: calls that the program doesn't make, each once where it succeeds, at
 //! values worked out by hand from the standard, and what is printed. `growth` has the pairs for refused allocations. What is made is held
@@ -21,6 +21,8 @@ mod looks;
 mod outcome;
 #[cfg(test)]
 mod quads;
+#[cfg(test)]
+mod requests;
 #[cfg(test)]
 mod seen;
 #[cfg(test)]

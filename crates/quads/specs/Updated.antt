@@ -1,0 +1,29 @@
+-- The steps of an update of a file's data.
+-- (Inner: it serves proofs, and no promise of the product is read by it.)
+use Rattle.std.specs.Prelude.{◌≢◌, ℕ, List, Ok, Err}
+use Rattle.qs_terms.specs.Outcome.{Outcome}
+use Rattle.qs_terms.specs.Statement.{Statement}
+use Rattle.qs_terms.specs.declared.fault.QFault.TheVariants.{Memory}
+use Rattle.qs_store.specs.Content.{Content}
+use Rattle.qs_store.specs.Same.{SameSet}
+use Rattle.qs_update.specs.Outcome.{IsSameContent}
+use Rattle.qs_update.specs.Request.{IsCarriedOut}
+use Rattle.quads.specs.Due.{addition, empty, max_terms, IsUpdateOutcome, IsUpdateOver}
+
+-- the quads were put into a new store
+abbrev pub BecomesLoaded : List Statement → ℕ → Outcome (Unit {0}) → Content → Type 0
+BecomesLoaded quads next (Ok done) new = IsCarriedOut max_terms empty (Ok (addition quads next)) (Ok new)
+BecomesLoaded quads next (Err f) new = f ≢ Memory → IsCarriedOut max_terms empty (Ok (addition quads next)) (Err f)
+
+-- the store holds what the update of the bytes makes of what it held
+abbrev pub BecomesUpdated : List ℕ → Content → Outcome (Unit {0}) → Content → Type 0
+BecomesUpdated text old (Ok done) new = (c : Content) × IsUpdateOutcome text old (Ok c) × IsSameContent new c
+BecomesUpdated text old (Err f) new = f ≢ Memory → IsUpdateOutcome text old (Err f)
+
+-- the quads that stand behind the update of the bytes
+abbrev pub AreQuadsBehind : List ℕ → Content → List Statement → Type 0
+AreQuadsBehind text old all = (c : Content) × IsUpdateOutcome text old (Ok c) × SameSet all c.quads
+
+-- the same over quads that are put into a new store before
+abbrev pub AreQuadsOver : List Statement → ℕ → List ℕ → List Statement → Type 0
+AreQuadsOver quads next text all = (c : Content) × IsUpdateOver quads next text (Ok c) × SameSet all c.quads

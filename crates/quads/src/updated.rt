@@ -1,0 +1,112 @@
+//! What an update makes of the data of a file.
+
+ghost use Rattle.std.specs.Prelude.{◌≡◌, ◌≢◌, Ok, Err, IfOk, IfErr, IsTrue};
+ghost use Rattle.qs_terms.specs.Dataset.{is_above_blanks};
+ghost use Rattle.qs_terms.specs.declared.fault.QFault.TheVariants.{Memory};
+ghost use Rattle.qs_store.specs.Same.{SameSet};
+ghost use Rattle.qs_store.specs.declared.default_graph.DefaultGraph.TheVariants.{Stored};
+ghost use Rattle.quads.specs.Due.{empty, max_terms, IsUpdateOutcome, IsUpdateOver};
+ghost use Rattle.quads.specs.Ended.{IsUpdateEnd};
+ghost use Rattle.quads.specs.Updated.{BecomesLoaded, BecomesUpdated, AreQuadsBehind, AreQuadsOver};
+
+use crate::ended::{Ended, MAX_ROWS, text_of};
+use qs_nquads::laws::next_number_is_fresh;
+use qs_nquads::read;
+use qs_store::{Store, StoreFault, same_set_is_an_equivalence};
+use qs_terms::{QFault, Quad};
+use qs_update::update;
+use std::alloc::Global;
+use std::hash::RandomState;
+
+/// The most terms that the store knows: as many as there are numbers for them.
+const MAX_TERMS: u32 = 4_294_967_295;
+
+fn load(store: &mut Store, quads: &[Quad], next: u64) -> Result<(), QFault>
+    requires empty { store.old.base ≡ empty }
+    requires limit { store.old.limit ≡ max_terms }
+    requires default_graph { store.old.default_graph ≡ Stored }
+    requires above { IsTrue (is_above_blanks next quads.now) }
+    ensures loaded { BecomesLoaded quads.now next result store.new.base }
+    ensures limit { store.new.limit ≡ max_terms }
+    ensures default_graph { store.new.default_graph ≡ Stored }
+{
+    match store.change(&[], quads, next) {
+        Ok(()) => Ok(()),
+        Err(StoreFault::Full) => Err(QFault::Full),
+        Err(StoreFault::Memory) => Err(QFault::Memory),
+    }
+}
+
+fn text_update(alloc: Global, text: &[u8], store: &mut Store) -> Result<(), QFault>
+    requires limit { store.old.limit ≡ max_terms }
+    requires default_graph { store.old.default_graph ≡ Stored }
+    ensures { BecomesUpdated text.now store.old.base result store.new.base }
+{
+    match text_of(text) {
+        Ok(text) => update(alloc, text, store, MAX_ROWS),
+        Err(fault) => Err(fault),
+    }
+}
+
+// The quads that the store holds.
+fn held(store: &Store) -> Result<Vec<Quad>, QFault>
+    ensures same { IfOk result (λ quads. SameSet quads.items store.now.base.quads) }
+    ensures memory { IfErr result (λ fault. fault ≡ Memory) }
+{
+    same_set_is_an_equivalence();
+    match store.quads() {
+        Ok(quads) => Ok(quads),
+        Err(_) => Err(QFault::Memory),
+    }
+}
+
+// The quads that the store holds behind the update.
+fn behind(alloc: Global, store: &mut Store, text: &[u8]) -> Result<Vec<Quad>, QFault>
+    requires limit { store.old.limit ≡ max_terms }
+    requires default_graph { store.old.default_graph ≡ Stored }
+    ensures done { IfOk result (λ all. AreQuadsBehind text.now store.old.base all.items) }
+    ensures refused { IfErr result (λ fault. fault ≢ Memory → IsUpdateOutcome text.now store.old.base (Err fault)) }
+{
+    same_set_is_an_equivalence();
+    match text_update(alloc, text, store) {
+        Ok(()) => held(store),
+        Err(fault) => Err(fault),
+    }
+}
+
+// What the update makes of the quads, which are put into the store before.
+fn updated(
+    alloc: Global,
+    store: &mut Store,
+    quads: &[Quad],
+    next: u64,
+    text: &[u8],
+) -> Result<Vec<Quad>, QFault>
+    requires empty { store.old.base ≡ empty }
+    requires limit { store.old.limit ≡ max_terms }
+    requires default_graph { store.old.default_graph ≡ Stored }
+    requires above { IsTrue (is_above_blanks next quads.now) }
+    ensures done { IfOk result (λ all. AreQuadsOver quads.now next text.now all.items) }
+    ensures refused { IfErr result (λ fault. fault ≢ Memory → IsUpdateOver quads.now next text.now (Err fault)) }
+{
+    match load(store, quads, next) {
+        Ok(()) => behind(alloc, store, text),
+        Err(fault) => Err(fault),
+    }
+}
+
+/// How the job of an update ends.
+pub fn update_ended(alloc: Global, hasher: RandomState, file: &[u8], text: &[u8]) -> Ended
+    ensures { IsUpdateEnd file.now text.now result }
+{
+    let (quads, next) = match read(alloc, file, 0) {
+        Ok(parts) => parts,
+        Err(fault) => return Ended::DataRefused(fault),
+    };
+    next_number_is_fresh();
+    let mut store = Store::new(alloc, MAX_TERMS, hasher);
+    match updated(alloc, &mut store, quads.as_slice(), next, text) {
+        Ok(quads) => Ended::Quads(quads),
+        Err(fault) => Ended::Refused(fault),
+    }
+}
