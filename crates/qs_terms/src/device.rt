@@ -1,8 +1,8 @@
 //! Devices that take and give bytes, and count their faults.
 
-ghost use Rattle.std.specs.Prelude.{◌≡◌, ◌≤◌, ◌<◌, ℕ, List, Option, take, length};
+ghost use Rattle.std.specs.Prelude.{◌≡◌, ◌≤◌, ◌<◌, ℕ, List, Option, None, take, length};
 ghost use Rattle.std.specs.Io.{ReadsAtMost, WritesAtMost};
-ghost use Rattle.std.specs.Io.KnownBytes.{Appends, ReadConsumes, WriteAppends};
+ghost use Rattle.std.specs.Io.KnownBytes.{Appends, Keeps, ReadConsumes, WriteAppends};
 ghost use Rattle.qs_terms.specs.Device.{CountsRead, CountsWrite, one_more};
 
 use std::io;
@@ -28,11 +28,16 @@ pub trait Stream: Sink {
     // The bytes that it still has to give, where they are known.
     ghost left: { Self → Option (List ℕ) };
 
+    // The bytes that it has taken, where they are known and reading leaves them: a queue that gives what it took has none.
+    ghost sent: { Self → Option (List ℕ) } = { λ _. None };
+
     /// Puts the next bytes at the front of the buffer, and answers how many: as std's `Read::read`. No bytes in a
     /// buffer that isn't empty are the end of the input. An interrupted call is a fault.
     fn get(&mut self, buf: &mut [u8]) -> io::Result<usize>
         ensures bound { ReadsAtMost result buf.new }
         ensures bytes { ReadConsumes (left self.old) (left self.new) result buf.new }
+        ensures sent { Keeps (sent self.old) (sent self.new) }
+        ensures taken { Keeps (sent self.old) (Self.taken self.new) }
         ensures faults { CountsRead (Self.faults self.old) (Self.faults self.new) result };
 }
 
