@@ -1,5 +1,5 @@
 -- What holds of the definitions themselves.
-use Rattle.std.specs.Prelude.{◌≡◌, ◌≢◌, ℕ, List, [], ◌∷◌, ◌++◌}
+use Rattle.std.specs.Prelude.{◌≡◌, ◌≢◌, ℕ, ◌<◌, List, [], ◌∷◌, ◌++◌, length}
 use Rattle.qs_http.specs.Outcome.{Outcome, More}
 use Rattle.qs_http.specs.RequestOf.{IsRequestOf}
 use Rattle.qs_http.specs.Feeding.{Seen, Reading, StandsAt, FeedsAll}
@@ -11,6 +11,10 @@ RequestsAreUnique = (bytes : List ℕ) (a b : Outcome) → IsRequestOf bytes a �
 -- once they come to something, further bytes don't change it
 abbrev pub RequestsAreKept : Type 0
 RequestsAreKept = (bytes more : List ℕ) (outcome : Outcome) → IsRequestOf bytes outcome → outcome ≢ More → IsRequestOf (bytes ++ more) outcome
+
+-- bytes of which more are wanted are fewer than the longest head and the longest body have together
+abbrev pub UnfinishedRequestsAreShort : Type 0
+UnfinishedRequestsAreShort = (bytes : List ℕ) → IsRequestOf bytes More → length bytes < 4210688
 
 -- the pieces, joined
 abbrev pub joined : List (List ℕ) → List ℕ

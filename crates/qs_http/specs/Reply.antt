@@ -27,17 +27,24 @@ status_line status phrase = line (codes "HTTP/1.1 " ++ decimal status ++ codes "
 unfoldable pub closing : List ℕ
 closing = line (codes "Connection: close")
 
--- the type and the length of the body, an empty line, and the body
-unfoldable pub with_body : Media → List ℕ → List ℕ
-with_body media body =
+-- the type and the length of a body of so many bytes, and an empty line
+unfoldable pub body_fields : Media → ℕ → List ℕ
+body_fields media size =
     line (codes "Content-Type: " ++ media_text media)
-    ++ line (codes "Content-Length: " ++ decimal (length body))
+    ++ line (codes "Content-Length: " ++ decimal size)
     ++ line []
-    ++ body
+
+-- these and the body
+abbrev pub with_body : Media → List ℕ → List ℕ
+with_body media body = body_fields media (length body) ++ body
+
+-- all that stands before the body in a reply with that status and type, and a body of so many bytes
+unfoldable pub front_of : ℕ → Media → ℕ → List ℕ
+front_of status media size = status_line status (phrase_of status) ++ closing ++ body_fields media size
 
 -- a reply with that status, type and body
 unfoldable pub reply_of : ℕ → Media → List ℕ → List ℕ
-reply_of status media body = status_line status (phrase_of status) ++ closing ++ with_body media body
+reply_of status media body = front_of status media (length body) ++ body
 
 -- the statuses of such a reply
 abbrev pub IsReplyStatus : ℕ → Type 0

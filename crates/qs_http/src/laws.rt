@@ -1,4 +1,4 @@
-ghost use Rattle.qs_http.specs.Laws.{RequestsAreUnique, RequestsAreKept, CutsDoNotMatter};
+ghost use Rattle.qs_http.specs.Laws.{RequestsAreUnique, RequestsAreKept, UnfinishedRequestsAreShort, CutsDoNotMatter};
 
 /// Bytes come to one thing at most: a request, a refusal, or more bytes are wanted.
 pub fn requests_are_unique()
@@ -8,6 +8,11 @@ pub fn requests_are_unique()
 /// Once bytes come to a request or a refusal, further bytes don't change it.
 pub fn requests_are_kept()
     ensures { RequestsAreKept }
+{}
+
+/// Bytes of which more are wanted are fewer than 4,210,688, which the longest head and the longest body have together.
+pub fn unfinished_requests_are_short()
+    ensures { UnfinishedRequestsAreShort }
 {}
 
 /// However bytes are cut into pieces, a session comes to what they come to joined.

@@ -21,8 +21,10 @@ mod session;
 mod stage;
 
 pub use fixed_reply::Fixed;
-pub use laws::{cuts_do_not_matter, requests_are_kept, requests_are_unique};
+pub use laws::{
+    cuts_do_not_matter, requests_are_kept, requests_are_unique, unfinished_requests_are_short,
+};
 pub use media::Media;
-pub use replies::{fixed, reply};
+pub use replies::{fixed, front, reply};
 pub use request::Request;
 pub use session::{Progress, Session};

@@ -1,13 +1,12 @@
-ghost use Rattle.std.specs.Prelude.{◌≡◌, ◌++◌, IfOk, codes, length};
-ghost use Rattle.std.specs.Fmt.{decimal};
-ghost use Rattle.qs_http.specs.Reply.{line, phrase_of, media_text, status_line, closing, with_body, reply_of, fixed_of, IsReplyStatus};
+ghost use Rattle.std.specs.Prelude.{◌≡◌, ◌++◌, IfOk};
+ghost use Rattle.qs_http.specs.Reply.{line, phrase_of, status_line, body_fields, front_of, reply_of, fixed_of, IsReplyStatus};
 
 use crate::fixed_reply::Fixed;
 use crate::media::Media;
 use http::StatusCode;
 use std::alloc::{AllocError, Global};
 
-/// The whole bytes of a reply with that status, type and body. The one error is want of memory.
+/// The whole bytes of a reply with that status, type and body: its `front` and the body. The one error is want of memory.
 pub fn reply(
     alloc: Global,
     status: StatusCode,
@@ -17,10 +16,26 @@ pub fn reply(
     requires { IsReplyStatus status }
     ensures { IfOk result (λ bytes. bytes.items ≡ reply_of status media body.now) }
 {
+    let mut bytes = front(alloc, status, media, body.len())?;
+    bytes.extend_from_slice(body)?;
+    Ok(bytes)
+}
+
+/// The bytes of a reply with that status and type up to its body, which has so many bytes: behind them the body can go out from where
+/// it stands, without a copy. `reply` is these bytes and the body. The one error is want of memory.
+pub fn front(
+    alloc: Global,
+    status: StatusCode,
+    media: Media,
+    length: usize,
+) -> Result<Vec<u8>, AllocError>
+    requires { IsReplyStatus status }
+    ensures { IfOk result (λ bytes. bytes.items ≡ front_of status media length) }
+{
     let mut bytes = Vec::new(alloc);
     bytes.extend_from_slice(status_text(status).as_bytes())?;
     bytes.extend_from_slice(b"Connection: close\r\n")?;
-    put_body(alloc, &mut bytes, media, body)?;
+    put_body_fields(alloc, &mut bytes, media, length)?;
     Ok(bytes)
 }
 
@@ -39,15 +54,19 @@ fn status_text(status: StatusCode) -> &'static str
     }
 }
 
-/// The type and the length of the body, an empty line, and the body.
-fn put_body(alloc: Global, bytes: &mut Vec<u8>, media: Media, body: &[u8]) -> Result<(), AllocError>
-    ensures { IfOk result (λ _. bytes.new.items ≡ bytes.old.items ++ with_body media body.now) }
+/// The type and the length of the body, and an empty line.
+fn put_body_fields(
+    alloc: Global,
+    bytes: &mut Vec<u8>,
+    media: Media,
+    length: usize,
+) -> Result<(), AllocError>
+    ensures { IfOk result (λ _. bytes.new.items ≡ bytes.old.items ++ body_fields media length) }
 {
     put_line(bytes, b"Content-Type: ", media.text().as_bytes())?;
-    let length = format!(in alloc; "{}", body.len())?;
-    put_line(bytes, b"Content-Length: ", length.as_bytes())?;
+    let digits = format!(in alloc; "{length}")?;
+    put_line(bytes, b"Content-Length: ", digits.as_bytes())?;
     bytes.extend_from_slice(b"\r\n")?;
-    bytes.extend_from_slice(body)?;
     Ok(())
 }
 

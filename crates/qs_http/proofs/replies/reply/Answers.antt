@@ -1,12 +1,7 @@
-use Rattle.std.proofs.Common.{◌≡◌, ◌∙◌, ap, ℕ, List, ◌++◌, []}
-use Rattle.qs_http.specs.Reply.{status_line, phrase_of, closing, reply_of}
-use Rattle.qs_http.proofs.Parts.{three_parts}
+use Rattle.std.proofs.Common.{◌∙◌, ap, ℕ, List, ◌++◌}
+use Rattle.qs_http.specs.Reply.{reply_of}
 use Rattle.qs_http.proofs.replies.reply.Goals as goal
 
 pub returns : goal.returns
-unfolding reply_of closing
-returns c =
-    let first : c.as_bytes.result.now ≡ status_line c.args.status (phrase_of c.args.status) = c.as_bytes.ensures.value ∙ c.status_text.ensures in
-    three_parts [] _ _ _ _ _ _
-    (c.in_ok-extend_from_slice.ensures.items ∙ ap (λ (l : List ℕ). l ++ c.as_bytes.result.now) c.new-bytes.ensures.items ∙ first)
-    c.in_ok-extend_from_slice-2.ensures.items c.in_ok-put_body.ensures
+unfolding reply_of
+returns c = c.in_ok-extend_from_slice.ensures.items ∙ ap (λ (l : List ℕ). l ++ c.args.body.now) c.in_ok-bytes.ensures
