@@ -2,7 +2,7 @@
 
 use crate::outcome::Outcome;
 use http::StatusCode;
-use qs_http::{Fixed, Media, fixed, reply};
+use qs_http::{Fixed, Media, fixed, front, reply};
 use std::alloc::{AllocError, Global};
 
 /// Fixed replies, with the status and the line of it, and what stands behind `Connection: close`.
@@ -136,4 +136,20 @@ pub fn outcome(alloc: Global) -> Outcome {
         }
     }
     Outcome::Whole
+}
+
+/// What stands before a body of 176,000,000 bytes.
+const FRONT: &[u8] =
+    b"HTTP/1.1 200 OK\r\nConnection: close\r\nContent-Type: application/n-quads\r\nContent-Length: 176000000\r\n\r\n";
+
+fn is_front_written(alloc: Global) -> bool {
+    match front(alloc, StatusCode::OK, Media::NQuads, 176_000_000) {
+        Ok(bytes) => bytes.as_slice() == FRONT,
+        Err(_) => false,
+    }
+}
+
+#[test]
+fn writes_a_front(rt: HostRuntime) {
+    assert!(rt; is_front_written(rt.alloc()));
 }
