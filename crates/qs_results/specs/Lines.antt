@@ -20,6 +20,20 @@ fault_line fault.TooManyRows = codes "F8 too many rows"
 fault_line fault.Memory = codes "F9 out of memory"
 fault_line fault.Full = codes "F10 full"
 
+-- the status of a reply with that line: the request is at fault, or the server is (SPARQL 1.1 Protocol, 2.1.7 and 2.2.5)
+abbrev pub fault_status : QFault → ℕ
+fault_status (fault.Syntax place) = 400
+fault_status (fault.Prefix place) = 400
+fault_status (fault.RelativeIri place) = 400
+fault_status (fault.LeftOut word) = 400
+fault_status fault.Scope = 400
+fault_status (fault.TooLarge place) = 400
+fault_status fault.NoGraph = 500
+fault_status fault.GraphExists = 500
+fault_status fault.TooManyRows = 500
+fault_status fault.Memory = 500
+fault_status fault.Full = 500
+
 -- what is wrong with data
 abbrev pub kind_text : NqFaultKind → List ℕ
 kind_text kind.Utf8 = codes "N1 utf8"

@@ -11,5 +11,5 @@ mod term;
 mod triples;
 
 pub use answer::json;
-pub use line::{data_fault_line, fault_line, out_of_memory_line};
+pub use line::{data_fault_line, fault_line, fault_status, out_of_memory_line};
 pub use triples::ntriples;

@@ -27,6 +27,25 @@ pub fn fault_line(alloc: Global, fault: &QFault) -> Result<String, AllocError>
     }
 }
 
+/// The status of a reply that tells of the fault: 400 where the request is at fault, 500 where the server or what it holds is.
+pub fn fault_status(fault: &QFault) -> u16
+    ensures { result ≡ spec.fault_status fault.now }
+{
+    match fault {
+        QFault::Syntax { .. } => 400,
+        QFault::Prefix { .. } => 400,
+        QFault::RelativeIri { .. } => 400,
+        QFault::LeftOut { .. } => 400,
+        QFault::Scope => 400,
+        QFault::TooLarge { .. } => 400,
+        QFault::NoGraph => 500,
+        QFault::GraphExists => 500,
+        QFault::TooManyRows => 500,
+        QFault::Memory => 500,
+        QFault::Full => 500,
+    }
+}
+
 /// The line of want of memory with its LF. It takes no memory.
 pub fn out_of_memory_line() -> &'static str
     ensures { result.now ≡ spec.fault_line Memory ++ 10 ∷ [] }
