@@ -293,7 +293,8 @@ fn seen_of_named(alloc: Global, quads: &[Quad]) -> Result<Vec<Quad>, AllocError>
     Ok(found)
 }
 
-/// The quads as a WHERE sees them.
+/// The quads as a WHERE sees them, and a query: where the default graph is the union of the named ones, the quads of these stand in it too,
+/// and those of the stored default graph don't. The one error is want of memory.
 pub fn seen(alloc: Global, default: DefaultGraph, quads: Vec<Quad>) -> Result<Vec<Quad>, AllocError>
     ensures { IfOk result (λ found. found.items ≡ spec.seen default quads.items) }
 {

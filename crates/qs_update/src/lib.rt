@@ -15,5 +15,6 @@ mod request;
 mod templates;
 
 pub use effect::Effect;
+pub use graphs::seen;
 pub use operation::effect_of;
 pub use request::update;
