@@ -32,7 +32,7 @@ four_some (Some g) (Some s) None o e h = absurd (let f : None ≡ Some e = h in 
 four_some (Some g) (Some s) (Some p) None e h = absurd (let f : None ≡ Some e = h in cc)
 four_some (Some g) (Some s) (Some p) (Some o) e h = record { a = g; b = s; c = p; d = o; graph = refl; subject = refl; predicate = refl; object = refl; entry = sym (same_Some _ _ h) }
 
-graph_at : (terms : List Term) → Distinct same_term terms → (g : Option Term) (n : ℕ) → graph_number terms g ≡ Some n → term_at terms n ≡ g
+pub graph_at : (terms : List Term) → Distinct same_term terms → (g : Option Term) (n : ℕ) → graph_number terms g ≡ Some n → term_at terms n ≡ g
 graph_at terms u None zero h = refl
 graph_at terms u None (suc n) h = absurd (omega (arith, same_Some _ _ h))
 graph_at terms u (Some t) n h = (exact_number terms t u n).0 h
@@ -63,7 +63,7 @@ in_use terms (suc i) h = let e = slice_get-get_or terms i (Blank 0) (omega (arit
 number_back : (terms : List Term) → Distinct same_term terms → (n : ℕ) → IsInUse terms n → number_of terms (term_or terms n) ≡ Some n
 number_back terms u n h = (exact_number terms (term_or terms n) u n).1 (in_use terms n h)
 
-graph_back : (terms : List Term) → Distinct same_term terms → (n : ℕ) → n ≤ length terms → graph_number terms (term_at terms n) ≡ Some n
+pub graph_back : (terms : List Term) → Distinct same_term terms → (n : ℕ) → n ≤ length terms → graph_number terms (term_at terms n) ≡ Some n
 graph_back terms u zero h = refl
 graph_back terms u (suc n) h =
     let i : IsInUse terms (suc n) = (omega arith, h) in
@@ -212,7 +212,7 @@ pub number_in_use : (terms : List Term) → Distinct same_term terms → (t : Te
 number_in_use terms u t zero h = absurd (none-some t ((exact_number terms t u zero).0 h))
 number_in_use terms u t (suc i) h = let w = slice_get_within terms i t ((exact_number terms t u (suc i)).0 h) in (omega arith, omega (arith, w))
 
-graph_in_use : (terms : List Term) → Distinct same_term terms → (g : Option Term) (n : ℕ) → graph_number terms g ≡ Some n → n ≤ length terms
+pub graph_in_use : (terms : List Term) → Distinct same_term terms → (g : Option Term) (n : ℕ) → graph_number terms g ≡ Some n → n ≤ length terms
 graph_in_use terms u None n h = omega (arith, same_Some _ _ h)
 graph_in_use terms u (Some t) n h = (number_in_use terms u t n h).1
 

@@ -41,7 +41,7 @@ name_of terms (g ∷ s ∷ p ∷ []) e l = absurd e
 name_of terms (g ∷ s ∷ p ∷ o ∷ x ∷ rest) e l = absurd e
 name_of terms (g ∷ s ∷ p ∷ o ∷ []) e l = let i = in_use terms g (l, e.graph) in record { name = term_or terms g; graph = i; number_is = i }
 
-graph_number_is : (terms : List Term) (x : List ℕ) → IsEntryOf terms x → (statement_of terms x).graph ≡ term_at terms (graph_of x)
+pub graph_number_is : (terms : List Term) (x : List ℕ) → IsEntryOf terms x → (statement_of terms x).graph ≡ term_at terms (graph_of x)
 graph_number_is terms [] e = absurd e
 graph_number_is terms (g ∷ []) e = absurd e
 graph_number_is terms (g ∷ s ∷ []) e = absurd e

@@ -108,7 +108,7 @@ pub within_draft : (i r a : Entries) (after : ℕ) → AreWithin (i ++ a) after 
 within_draft i r a after w x c = w x (of_both i r a x c)
 
 -- an entry of the graph agrees where nothing else is given
-agrees_with_graph : (g : ℕ) (x : List ℕ) → length x ≡ 4 → graph_of x ≡ g → agrees g None None None x ≡ true
+pub agrees_with_graph : (g : ℕ) (x : List ℕ) → length x ≡ 4 → graph_of x ≡ g → agrees g None None None x ≡ true
 agrees_with_graph g [] h e = absurd (omega arith)
 agrees_with_graph g (a ∷ []) h e = absurd (omega arith)
 agrees_with_graph g (a ∷ b ∷ []) h e = absurd (omega arith)

@@ -11,3 +11,6 @@ pub mod TriplesSaid
 pub mod Holding
 pub mod GraphsSaid
 pub mod Sets
+pub mod Copied
+pub mod CopiedTerms
+pub mod Emptied

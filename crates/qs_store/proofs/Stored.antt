@@ -27,11 +27,11 @@ use Rattle.qs_store.proofs.Members.{Entries, nothing, here, there, head_or_tail,
 use Rattle.qs_store.proofs.Entries.{in_use, member_of_said, entry_found, said_more, still_said, whole_entries, said_front, twice_front, Distinct-front}
 use Rattle.qs_store.proofs.Terms.{front_keeps, front_length, front_take, front_take_less}
 
-both : (a b : Bool) → (a && b) ≡ true → (a ≡ true) × (b ≡ true)
+pub both : (a b : Bool) → (a && b) ≡ true → (a ≡ true) × (b ≡ true)
 both true b h = (refl, h)
 both false b h = absurd (false≢true h)
 
-and_both : (a b : Bool) → a ≡ true → b ≡ true → (a && b) ≡ true
+pub and_both : (a b : Bool) → a ≡ true → b ≡ true → (a && b) ≡ true
 and_both a b h g = rw (h, g) refl
 
 term_below_more : (n m : ℕ) (t : Term) → n ≤ m → is_term_below n t ≡ true → is_term_below m t ≡ true

@@ -90,7 +90,7 @@ number_later a b t n f u h =
     let ua = distinct_front a b f u in
     (exact_number b t u n).1 (front_keeps a b f n (number_in_use a ua t n h).1 ∙ (exact_number a t ua n).0 h)
 
-graph_later : (a b : List Term) (g : Option Term) (n : ℕ) → IsFront a b → Distinct same_term b → graph_number a g ≡ Some n → graph_number b g ≡ Some n
+pub graph_later : (a b : List Term) (g : Option Term) (n : ℕ) → IsFront a b → Distinct same_term b → graph_number a g ≡ Some n → graph_number b g ≡ Some n
 graph_later a b None n f u h = h
 graph_later a b (Some t) n f u h = number_later a b t n f u h
 

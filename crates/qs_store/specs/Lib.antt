@@ -8,5 +8,7 @@ pub mod Store
 pub mod Triples
 pub mod Scans
 pub mod Sources
+pub mod WholeGraphs
 pub mod Graphs
 pub mod Holding
+pub mod Copied

@@ -1,18 +1,19 @@
 //! The entries of a store in one index, and apart in two others those that a draft removes and adds.
 
-ghost use Rattle.std.specs.Prelude.{◌≡◌, ℕ, ◌≤◌, ◌+◌, ◌++◌, ◌↔◌, Bool, List, [], length, take, IsTrue, IfOk, OnOk, OnErr, Contains, cond};
+ghost use Rattle.std.specs.Prelude.{◌≡◌, ℕ, ◌≤◌, ◌+◌, ◌++◌, ◌∷◌, ◌↔◌, Bool, List, [], length, map, take, IsTrue, IfOk, OnOk, OnErr, Contains, cond};
 ghost use Rattle.std.specs.Str.{bytes_eq};
 ghost use Rattle.qs_terms.specs.Bag.{Distinct};
 ghost use Rattle.qs_index.specs.Entries.{HaveFour, IsUnion, IsDifference};
 ghost use Rattle.qs_store.specs.Change.{IsChanged};
-ghost use Rattle.qs_store.specs.Holding.{AreGraphsOf};
+ghost use Rattle.qs_store.specs.Copied.{AreCopies, AreNamed};
+ghost use Rattle.qs_store.specs.Holding.{AreGraphsOf, HasGraph};
 ghost use Rattle.qs_store.specs.Layers.{drafted, IsPartOf};
 ghost use Rattle.qs_store.specs.Same.{SameSet};
 ghost use Rattle.qs_store.specs.Scans.{AreTriplesOf};
 ghost use Rattle.qs_store.specs.declared.graphs.Graphs.TheVariants.{Named};
 
 use crate::graphs::Graphs;
-use crate::named_graphs::{graphs_in, graphs_in_draft};
+use crate::named_graphs::{graphs_in, graphs_in_draft, holds};
 use crate::triples::Triples;
 use qs_index::Index;
 use std::alloc::{AllocError, Global};
@@ -141,6 +142,17 @@ fn put_behind(list: &mut Vec<[u32; 4]>, index: &Index) -> Result<(), AllocError>
     Ok(())
 }
 
+/// The triples as entries of a graph.
+fn put_into(alloc: Global, triples: Triples<'_>, graph: u32) -> Result<Vec<[u32; 4]>, AllocError>
+    ensures { IfOk result (λ found. found.items ≡ map (λ t. graph ∷ t) triples.entry) }
+{
+    let mut found = Vec::new(alloc);
+    for [s, p, o] in triples {
+        found.push([graph, s, p, o])?;
+    }
+    Ok(found)
+}
+
 /// Makes room for `n` inserts, where there are any.
 fn reserve(index: &mut Index, n: u64) -> Result<(), AllocError>
     ensures entries { index.new.entries ≡ index.old.entries }
@@ -261,6 +273,38 @@ impl Layers {
         let mut list = kept(self.alloc, &self.index, &self.removed)?;
         put_behind(&mut list, &self.added)?;
         Ok(list)
+    }
+
+    /// Whether the draft has an entry of the graph.
+    pub fn draft_holds(&self, graph: u32) -> bool
+        requires { HaveFour self.now.draft }
+        ensures held { IsTrue result → HasGraph self.now.draft graph }
+        ensures empty { HasGraph self.now.draft graph → IsTrue result }
+    {
+        holds(&self.index, &self.removed, &self.added, graph)
+    }
+
+    /// The draft's entries of one graph, put into another one.
+    pub fn draft_copies(&self, from: u32, to: u32) -> Result<Vec<[u32; 4]>, AllocError>
+        requires { HaveFour self.now.draft }
+        ensures { IfOk result (λ found. AreCopies self.now.draft from to found.items) }
+    {
+        let triples = self.scan_draft(Graphs::One(from), None, None, None);
+        put_into(self.alloc, triples, to)
+    }
+
+    /// The draft's entries of the named graphs.
+    pub fn draft_named(&self) -> Result<Vec<[u32; 4]>, AllocError>
+        requires { HaveFour self.now.draft }
+        ensures { IfOk result (λ found. AreNamed self.now.draft found.items) }
+    {
+        let graphs = self.draft_graphs()?;
+        let mut found = Vec::new(self.alloc);
+        for graph in &graphs {
+            let mut more = self.draft_copies(*graph, *graph)?;
+            found.append(&mut more)?;
+        }
+        Ok(found)
     }
 
     /// The triples of the store's entries in these graphs. All named ones are read only where there are orders of them.

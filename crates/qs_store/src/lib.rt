@@ -12,14 +12,17 @@ mod merged;
 mod named_graphs;
 mod numbers;
 mod quads;
+mod removal;
 mod same_set;
 mod store;
 mod triples;
 mod view;
+mod whole_graphs;
 
 pub use active::Active;
 pub use default_graph::DefaultGraph;
 pub use fault::StoreFault;
+pub use removal::Removal;
 pub use same_set::{same_set_is_an_equivalence, same_sets_change_alike};
 pub use store::{Draft, Store};
 pub use triples::Triples;

@@ -42,7 +42,7 @@ fn next_of_both(index: &Index, added: &Index, after: u32) -> Option<u32>
 }
 
 /// Whether an entry of a draft has the graph.
-fn holds(index: &Index, removed: &Index, added: &Index, graph: u32) -> bool
+pub fn holds(index: &Index, removed: &Index, added: &Index, graph: u32) -> bool
     requires draft { IsDraft index.now.entries removed.now.entries added.now.entries }
     requires four { HaveFour (drafted index.now.entries removed.now.entries added.now.entries) }
     ensures held { IsTrue result → HasGraph (drafted index.now.entries removed.now.entries added.now.entries) graph }

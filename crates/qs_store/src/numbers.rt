@@ -16,7 +16,8 @@ use qs_dict::Dict;
 use qs_terms::{Quad, Term};
 use std::alloc::{AllocError, Global};
 
-fn graph_number(dict: &Dict, graph: Option<&Term>) -> Option<u32>
+/// The number of a graph's name, where it has one; the default graph has number 0.
+pub fn graph_number(dict: &Dict, graph: Option<&Term>) -> Option<u32>
     ensures { result ≡ graph_number dict.now.terms (option_copied graph.entry) }
 {
     match graph {
@@ -62,7 +63,7 @@ fn put(dict: &mut Dict, term: &Term) -> Result<u32, StoreFault>
 }
 
 /// The same of the name of a graph; the default graph has number 0.
-fn put_graph(dict: &mut Dict, graph: Option<&Term>) -> Result<u32, StoreFault>
+pub fn put_graph(dict: &mut Dict, graph: Option<&Term>) -> Result<u32, StoreFault>
     ensures number { IfOk result (λ n. graph_number dict.new.terms (option_copied graph.entry) ≡ Some n) }
     ensures terms { OnOk result (dict.new.terms ≡ with_terms dict.old.terms (cons_option (option_copied graph.entry) [])) }
     ensures front { IsFront dict.old.terms dict.new.terms }

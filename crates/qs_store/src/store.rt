@@ -1,9 +1,12 @@
 //! The store, and drafts of it.
 
 ghost use Rattle.std.specs.Prelude.{◌≡◌, ◌↔◌, ◌≤◌, [], Some, length, take, Contains, IsTrue, IfOk, IfErr, OnOk, OnErr};
+ghost use Rattle.std.specs.List.{filter};
 ghost use Rattle.std.specs.List.Sorted.{IsSorted};
+ghost use Rattle.std.specs.Option.{option_copied};
 ghost use Rattle.qs_terms.specs.Bag.{SameBag};
-ghost use Rattle.qs_terms.specs.Dataset.{is_above_blanks};
+ghost use Rattle.qs_terms.specs.Dataset.{is_above_blanks, is_graph_below};
+ghost use Rattle.qs_terms.specs.Statement.{is_graph};
 ghost use Rattle.qs_dict.specs.Dict.{IsInUse, IsDictionary, term_at, number_of};
 ghost use Rattle.qs_store.specs.Change.{IsChanged, KnowsTermsOf, IsFullExactly, IsFullAt, with_terms_of};
 ghost use Rattle.qs_store.specs.Content.{Content, Held, IsContent, KnowsItsTerms, default_of};
@@ -12,6 +15,7 @@ ghost use Rattle.qs_store.specs.Graphs.{AreGraphs};
 ghost use Rattle.qs_store.specs.Same.{SameSet};
 ghost use Rattle.qs_store.specs.Store.{IsFront};
 ghost use Rattle.qs_store.specs.Triples.{AreTriples};
+ghost use Rattle.qs_store.specs.WholeGraphs.{copies, exists, in_graph, is_named, removed_by};
 ghost use Rattle.qs_store.specs.declared.default_graph.DefaultGraph.TheVariants.{Stored};
 ghost use Rattle.qs_store.specs.declared.fault.StoreFault.TheVariants.{Memory};
 
@@ -22,7 +26,9 @@ use crate::graphs::graphs_of;
 use crate::layers::Layers;
 use crate::numbers::{entries_of, entry_of, numbered_all};
 use crate::quads::quads_of;
+use crate::removal::Removal;
 use crate::triples::Triples;
+use crate::whole_graphs::{entries_in, entries_named, filled, remove, transfer};
 use qs_dict::Dict;
 use qs_terms::{Quad, Term};
 use std::alloc::Global;
@@ -346,6 +352,102 @@ impl Store {
         }
     }
 
+    // Whether the draft has quads in the graph of this name.
+    fn draft_has_graph(&self, name: &Term) -> bool
+        ensures { result ≡ exists (Some name.now) self.now.draft.quads }
+    {
+        match filled(&self.dict, &self.layers, Some(name)) {
+            None => false,
+            Some(_) => true,
+        }
+    }
+
+    // Removes the draft's quads in a graph.
+    fn clear_draft_graph(&mut self, name: Option<&Term>) -> Result<(), StoreFault>
+        ensures base { self.new.base ≡ self.old.base }
+        ensures quads { OnOk result (IsChanged self.old.draft.quads (in_graph (option_copied name.entry) self.old.draft.quads) [] self.new.draft.quads) }
+        ensures next { self.new.draft.next ≡ self.old.draft.next }
+        ensures known { self.new.draft.known ≡ self.old.draft.known }
+        ensures room { OnOk result (length self.old.draft.known ≤ self.old.limit) }
+        ensures memory { IfErr result (λ fault. fault ≡ Memory) }
+        ensures refused { OnErr result (self.new.draft ≡ self.old.draft) }
+        ensures limit { self.new.limit ≡ self.old.limit }
+        ensures default_graph { self.new.default_graph ≡ self.old.default_graph }
+    {
+        let mut outs = entries_in(self.alloc, &self.dict, &self.layers, name)?;
+        remove(&self.dict, &mut self.layers, outs.as_mut_slice())?;
+        Ok(())
+    }
+
+    // Removes the draft's quads in all named graphs.
+    fn clear_draft_named(&mut self) -> Result<(), StoreFault>
+        ensures base { self.new.base ≡ self.old.base }
+        ensures quads { OnOk result (IsChanged self.old.draft.quads (filter is_named self.old.draft.quads) [] self.new.draft.quads) }
+        ensures next { self.new.draft.next ≡ self.old.draft.next }
+        ensures known { self.new.draft.known ≡ self.old.draft.known }
+        ensures room { OnOk result (length self.old.draft.known ≤ self.old.limit) }
+        ensures memory { IfErr result (λ fault. fault ≡ Memory) }
+        ensures refused { OnErr result (self.new.draft ≡ self.old.draft) }
+        ensures limit { self.new.limit ≡ self.old.limit }
+        ensures default_graph { self.new.default_graph ≡ self.old.default_graph }
+    {
+        let mut outs = entries_named(&self.dict, &self.layers)?;
+        remove(&self.dict, &mut self.layers, outs.as_mut_slice())?;
+        Ok(())
+    }
+
+    // Removes all quads of the draft.
+    fn clear_draft_all(&mut self) -> Result<(), StoreFault>
+        ensures base { self.new.base ≡ self.old.base }
+        ensures quads { OnOk result (IsChanged self.old.draft.quads self.old.draft.quads [] self.new.draft.quads) }
+        ensures next { self.new.draft.next ≡ self.old.draft.next }
+        ensures known { self.new.draft.known ≡ self.old.draft.known }
+        ensures room { OnOk result (length self.old.draft.known ≤ self.old.limit) }
+        ensures memory { IfErr result (λ fault. fault ≡ Memory) }
+        ensures refused { OnErr result (self.new.draft ≡ self.old.draft) }
+        ensures limit { self.new.limit ≡ self.old.limit }
+        ensures default_graph { self.new.default_graph ≡ self.old.default_graph }
+    {
+        let mut outs = self.layers.draft()?;
+        remove(&self.dict, &mut self.layers, outs.as_mut_slice())?;
+        Ok(())
+    }
+
+    // Puts the draft's quads in a graph into another one.
+    fn transfer_draft(
+        &mut self,
+        removal: Removal,
+        from: Option<&Term>,
+        to: Option<&Term>,
+    ) -> Result<(), StoreFault>
+        requires lawful { IsTrue (is_graph (option_copied to)) }
+        requires above { IsTrue (is_graph_below self.old.draft.next (option_copied to)) }
+        ensures base { self.new.base ≡ self.old.base }
+        ensures quads { OnOk result (IsChanged self.old.draft.quads (removed_by removal (option_copied from.entry) (option_copied to.entry) self.old.draft.quads) (copies (option_copied from.entry) (option_copied to.entry) self.old.draft.quads) self.new.draft.quads) }
+        ensures next { self.new.draft.next ≡ self.old.draft.next }
+        ensures known { OnOk result (KnowsTermsOf self.old.draft.known (copies (option_copied from.entry) (option_copied to.entry) self.old.draft.quads) self.new.draft.known) }
+        ensures full { IsFullExactly self.old.limit (length (with_terms_of self.old.draft.known (copies (option_copied from.entry) (option_copied to.entry) self.old.draft.quads))) result }
+        ensures refused { OnErr result (self.new.draft ≡ self.old.draft) }
+        ensures limit { self.new.limit ≡ self.old.limit }
+        ensures default_graph { self.new.default_graph ≡ self.old.default_graph }
+    {
+        let known = self.dict.len();
+        match transfer(
+            self.alloc,
+            &mut self.dict,
+            &mut self.layers,
+            removal,
+            from,
+            to,
+        ) {
+            Ok(()) => Ok(()),
+            Err(fault) => {
+                self.dict.cut(known);
+                Err(fault)
+            }
+        }
+    }
+
     /// A draft of the store. What it becomes is the store's by `commit` alone. It takes no memory.
     pub fn draft(&mut self) -> Draft<'_>
         ensures same_reference { result.store.ghost_name ≡ self.entry.ghost_name }
@@ -502,6 +604,90 @@ impl<'a> Draft<'a> {
         ensures default_graph { self.new.store.now.default_graph ≡ self.old.store.now.default_graph }
     {
         self.store.change_draft(remove, add, next)
+    }
+
+    /// Whether the draft has quads in the graph of this name. It takes no memory.
+    pub fn has_graph(&self, name: &Term) -> bool
+        ensures { result ≡ exists (Some name.now) self.now.store.now.draft.quads }
+    {
+        let store: &Store = self.store;
+        store.draft_has_graph(name)
+    }
+
+    /// Removes the quads in the graph of this name, or in the default graph, in a time that goes by these (SPARQL 1.1 Update, 3.1.5). The
+    /// known terms stay, and the next number does; each growth that a commit will need is made. Its one refusal is want of memory, which
+    /// leaves the draft as it was.
+    pub fn clear_graph(&mut self, name: Option<&Term>) -> Result<(), StoreFault>
+        ensures same_reference { self.new.store.ghost_name ≡ self.old.store.ghost_name }
+        ensures base { self.new.store.now.base ≡ self.old.store.now.base }
+        ensures quads { OnOk result (IsChanged self.old.store.now.draft.quads (in_graph (option_copied name.entry) self.old.store.now.draft.quads) [] self.new.store.now.draft.quads) }
+        ensures next { self.new.store.now.draft.next ≡ self.old.store.now.draft.next }
+        ensures known { self.new.store.now.draft.known ≡ self.old.store.now.draft.known }
+        ensures room { OnOk result (length self.old.store.now.draft.known ≤ self.old.store.now.limit) }
+        ensures memory { IfErr result (λ fault. fault ≡ Memory) }
+        ensures refused { OnErr result (self.new.store.now.draft ≡ self.old.store.now.draft) }
+        ensures limit { self.new.store.now.limit ≡ self.old.store.now.limit }
+        ensures default_graph { self.new.store.now.default_graph ≡ self.old.store.now.default_graph }
+    {
+        self.store.clear_draft_graph(name)
+    }
+
+    /// Removes the quads in all named graphs, as `clear_graph` does those in one.
+    pub fn clear_named(&mut self) -> Result<(), StoreFault>
+        ensures same_reference { self.new.store.ghost_name ≡ self.old.store.ghost_name }
+        ensures base { self.new.store.now.base ≡ self.old.store.now.base }
+        ensures quads { OnOk result (IsChanged self.old.store.now.draft.quads (filter is_named self.old.store.now.draft.quads) [] self.new.store.now.draft.quads) }
+        ensures next { self.new.store.now.draft.next ≡ self.old.store.now.draft.next }
+        ensures known { self.new.store.now.draft.known ≡ self.old.store.now.draft.known }
+        ensures room { OnOk result (length self.old.store.now.draft.known ≤ self.old.store.now.limit) }
+        ensures memory { IfErr result (λ fault. fault ≡ Memory) }
+        ensures refused { OnErr result (self.new.store.now.draft ≡ self.old.store.now.draft) }
+        ensures limit { self.new.store.now.limit ≡ self.old.store.now.limit }
+        ensures default_graph { self.new.store.now.default_graph ≡ self.old.store.now.default_graph }
+    {
+        self.store.clear_draft_named()
+    }
+
+    /// Removes all quads, as `clear_graph` does those in one graph.
+    pub fn clear_all(&mut self) -> Result<(), StoreFault>
+        ensures same_reference { self.new.store.ghost_name ≡ self.old.store.ghost_name }
+        ensures base { self.new.store.now.base ≡ self.old.store.now.base }
+        ensures quads { OnOk result (IsChanged self.old.store.now.draft.quads self.old.store.now.draft.quads [] self.new.store.now.draft.quads) }
+        ensures next { self.new.store.now.draft.next ≡ self.old.store.now.draft.next }
+        ensures known { self.new.store.now.draft.known ≡ self.old.store.now.draft.known }
+        ensures room { OnOk result (length self.old.store.now.draft.known ≤ self.old.store.now.limit) }
+        ensures memory { IfErr result (λ fault. fault ≡ Memory) }
+        ensures refused { OnErr result (self.new.store.now.draft ≡ self.old.store.now.draft) }
+        ensures limit { self.new.store.now.limit ≡ self.old.store.now.limit }
+        ensures default_graph { self.new.store.now.default_graph ≡ self.old.store.now.default_graph }
+    {
+        self.store.clear_draft_all()
+    }
+
+    /// Removes the quads that `removal` names, and then puts those that stood in the graph `from` into the graph `to` too (SPARQL 1.1
+    /// Update, 3.2.3 to 3.2.5), in a time that goes by the quads of the two graphs. `None` is the default graph. Only where there are
+    /// quads in `from` the name of `to` becomes a known term, and `Full` is answered exactly where it is then one more than the limit, as
+    /// far as there is memory. The next number stays; each growth that a commit will need is made. Where it is refused the draft stays as
+    /// it was, its known terms included.
+    pub fn transfer(
+        &mut self,
+        removal: Removal,
+        from: Option<&Term>,
+        to: Option<&Term>,
+    ) -> Result<(), StoreFault>
+        requires lawful { IsTrue (is_graph (option_copied to)) }
+        requires above { IsTrue (is_graph_below self.old.store.now.draft.next (option_copied to)) }
+        ensures same_reference { self.new.store.ghost_name ≡ self.old.store.ghost_name }
+        ensures base { self.new.store.now.base ≡ self.old.store.now.base }
+        ensures quads { OnOk result (IsChanged self.old.store.now.draft.quads (removed_by removal (option_copied from.entry) (option_copied to.entry) self.old.store.now.draft.quads) (copies (option_copied from.entry) (option_copied to.entry) self.old.store.now.draft.quads) self.new.store.now.draft.quads) }
+        ensures next { self.new.store.now.draft.next ≡ self.old.store.now.draft.next }
+        ensures known { OnOk result (KnowsTermsOf self.old.store.now.draft.known (copies (option_copied from.entry) (option_copied to.entry) self.old.store.now.draft.quads) self.new.store.now.draft.known) }
+        ensures full { IsFullExactly self.old.store.now.limit (length (with_terms_of self.old.store.now.draft.known (copies (option_copied from.entry) (option_copied to.entry) self.old.store.now.draft.quads))) result }
+        ensures refused { OnErr result (self.new.store.now.draft ≡ self.old.store.now.draft) }
+        ensures limit { self.new.store.now.limit ≡ self.old.store.now.limit }
+        ensures default_graph { self.new.store.now.default_graph ≡ self.old.store.now.default_graph }
+    {
+        self.store.transfer_draft(removal, from, to)
     }
 
     /// Makes the draft's quads, next number and known terms those of the store. It takes no memory.

@@ -40,8 +40,8 @@ use Rattle.qs_update.specs.Effect.{nothing, deletion, modified, of_data, solutio
 use Rattle.qs_update.specs.Graphs.{is_in, is_named, in_graph, exists, put_into, copies, graph_name, seen}
 use Rattle.qs_update.specs.Lawful.{IsLawful}
 use Rattle.qs_update.specs.declared.effect.Effect.{Effect}
-use Rattle.qs_update.specs.declared.graphs.Removal.{Removal}
-use Rattle.qs_update.specs.declared.graphs.Removal.TheVariants as removal
+use Rattle.qs_store.specs.declared.removal.Removal.{Removal}
+use Rattle.qs_store.specs.declared.removal.Removal.TheVariants as removal
 use Rattle.qs_update.proofs.Tested.{both_hold, and_both, all_filtered, all_once, all_appended, all_mapped}
 
 module _ (next : ℕ) where

@@ -6,6 +6,7 @@ use Rattle.qs_terms.specs.Dataset.{is_statement_below, is_above_blanks}
 use Rattle.qs_terms.specs.Outcome.{Outcome, OrWantOfMemory, OneOrWantOfMemory}
 use Rattle.qs_terms.specs.Statement.{Statement}
 use Rattle.qs_terms.specs.declared.fault.QFault.{QFault}
+use Rattle.qs_tree.specs.declared.update.OnMissing.{OnMissing}
 use Rattle.qs_ast.specs.declared.term.Variable.{Variable}
 use Rattle.qs_ast.specs.declared.update.Operation.{Operation}
 use Rattle.qs_ast.specs.declared.update.Operation.TheVariants as operation
@@ -15,7 +16,7 @@ use Rattle.qs_store.specs.Content.{Content, Held}
 use Rattle.qs_store.specs.Same.{SameSet}
 use Rattle.qs_store.specs.declared.default_graph.DefaultGraph.{DefaultGraph}
 use Rattle.qs_update.specs.Carried.{IsEffectOver, Standing}
-use Rattle.qs_update.specs.Effect.{of_data, IsEffect}
+use Rattle.qs_update.specs.Effect.{of_data, created, IsEffect}
 use Rattle.qs_update.specs.Lawful.{IsLawful}
 use Rattle.qs_update.specs.Outcome.{IsSameContent}
 use Rattle.qs_update.specs.Request.{Bounds, bounds_of, IsApplied, IsOperation, AreOperations, IsBehind}
@@ -70,6 +71,10 @@ module _ (max_rows : ℕ) (variables : List Variable) (held : Held) where
       (listed (operation.DeleteData blocks) held.draft.quads result same
       (one_due (of_data blocks [] held.draft.next) result
       (subst (λ (b : List QuadBlock). OrWantOfMemory (of_data b [] held.draft.next) result) w (subst (λ (m : ℕ). OrWantOfMemory (of_data written [] m) result) n h))))
+
+  pub creates : (o : Operation) (on_exists : OnMissing) (name : List ℕ) (result : Outcome Effect) → o ≡ operation.Create on_exists name → OrWantOfMemory (created on_exists name held.draft.quads held.draft.next) result → Due o result
+  creates o on_exists name result is h =
+      subst (λ (x : Operation). Due x result) (sym is) (listed (operation.Create on_exists name) held.draft.quads result (λ q. (λ c. c, λ c. c)) (one_due (created on_exists name held.draft.quads held.draft.next) result h))
 
 -- the number before an effect is that of the draft
 pub lawful_too : (next draft_next : ℕ) (result : Outcome Effect) → next ≡ draft_next → IfOk result (IsLawful next) → IfOk result (IsLawful draft_next)

@@ -1,6 +1,6 @@
 -- What an operation does (SPARQL 1.1 Update, 3.1, 3.2 and 4.3): it removes quads and then adds others, and takes numbers for fresh blank
 -- nodes; or the fault that is due.
-use Rattle.std.specs.Prelude.{◌≡◌, ◌⊎◌, ◌<◌, ◌≤◌, ℕ, List, [], ◌∷◌, ◌++◌, length, Option, Some, None, option_map, Ok, Err, if◌then◌else◌}
+use Rattle.std.specs.Prelude.{◌≡◌, ◌⊎◌, ◌<◌, ◌≤◌, ℕ, List, [], ◌∷◌, length, Option, Some, None, option_map, Ok, Err, if◌then◌else◌}
 use Rattle.std.specs.List.{filter}
 use Rattle.qs_terms.specs.Bag.{SameBag, once}
 use Rattle.qs_terms.specs.Dataset.{graph_of}
@@ -27,11 +27,12 @@ use Rattle.qs_template.specs.declared.template.Template.{Template}
 use Rattle.qs_algebra.specs.Translation.{translated_where, translated_blocks}
 use Rattle.qs_algebra.specs.declared.named.NamedPattern.{NamedPattern}
 use Rattle.qs_select.specs.Sequence.{whole}
+pub use Rattle.qs_store.specs.WholeGraphs.{removed_by}
 use Rattle.qs_store.specs.declared.default_graph.DefaultGraph.{DefaultGraph}
-use Rattle.qs_update.specs.Graphs.{is_target, in_graph, copies, exists, graph_name, seen}
+use Rattle.qs_store.specs.declared.removal.Removal.{Removal}
+use Rattle.qs_store.specs.declared.removal.Removal.TheVariants as removal
+use Rattle.qs_update.specs.Graphs.{is_target, copies, exists, graph_name, seen}
 use Rattle.qs_update.specs.declared.effect.Effect.{Effect}
-use Rattle.qs_update.specs.declared.graphs.Removal.{Removal}
-use Rattle.qs_update.specs.declared.graphs.Removal.TheVariants as removal
 
 abbrev pub nothing : ℕ → Effect
 nothing next = record { removed = []; added = []; next = next }
@@ -95,12 +96,6 @@ created on_exists name quads next = if exists (Some (value.Iri name)) quads then
 -- a graph put into another, where these quads are removed before; into itself, which does nothing
 abbrev pub put_over : List Statement → Option Term → Option Term → List Statement → ℕ → Effect
 put_over removed from to quads next = if same_graph from to then nothing next else record { removed = removed; added = copies from to quads; next = next }
-
--- the quads that are removed before: ADD removes none, COPY those of its target, MOVE those of its target and of its source
-abbrev pub removed_by : Removal → Option Term → Option Term → List Statement → List Statement
-removed_by removal.Nothing from to quads = []
-removed_by removal.Target from to quads = in_graph to quads
-removed_by removal.Both from to quads = in_graph to quads ++ in_graph from quads
 
 -- the same where there is such a graph
 abbrev pub transferred : Removal → Transfer → List Statement → ℕ → Outcome Effect

@@ -13,21 +13,11 @@ ghost use Rattle.qs_update.specs.Graphs as spec;
 
 use crate::effect::Effect;
 use qs_ast::update::{GraphOrDefault, GraphTarget, Transfer};
-use qs_store::DefaultGraph;
+use qs_store::{DefaultGraph, Removal};
 use qs_terms::{Iri, QFault, Quad, Term};
 use qs_tree::update::OnMissing;
 use sqlite_items::Items;
 use std::alloc::{AllocError, Global};
-
-/// Which quads are removed before those of a graph are put into another.
-#[derive(Clone, Copy)]
-pub enum Removal {
-    Nothing,
-    /// Those of the graph that they are put into.
-    Target,
-    /// Those of both graphs.
-    Both,
-}
 
 /// The IRI as a term.
 pub fn iri_term(alloc: Global, name: &Iri) -> Result<Term, AllocError>
@@ -36,7 +26,7 @@ pub fn iri_term(alloc: Global, name: &Iri) -> Result<Term, AllocError>
     Ok(Term::Iri(name.try_clone(alloc)?))
 }
 
-fn graph_name(alloc: Global, graph: &GraphOrDefault) -> Result<Option<Term>, AllocError>
+pub fn graph_name(alloc: Global, graph: &GraphOrDefault) -> Result<Option<Term>, AllocError>
     ensures name { IfOk result (λ name. name ≡ spec.graph_name graph.now) }
     ensures lawful { IfOk result (λ name. IsTrue (is_graph name)) }
 {
@@ -149,7 +139,7 @@ fn in_target(alloc: Global, quads: &[Quad], target: &GraphTarget) -> Result<Vec<
     }
 }
 
-fn nothing(alloc: Global, next: u64) -> Effect
+pub fn nothing(alloc: Global, next: u64) -> Effect
     ensures { result ≡ effect.nothing next }
 {
     Effect {
@@ -159,7 +149,7 @@ fn nothing(alloc: Global, next: u64) -> Effect
     }
 }
 
-fn fault_or_nothing(
+pub fn fault_or_nothing(
     alloc: Global,
     on_missing: OnMissing,
     fault: QFault,
@@ -228,7 +218,7 @@ fn removed_by(
     }
 }
 
-fn is_same(from: Option<&Term>, to: Option<&Term>) -> bool
+pub fn is_same(from: Option<&Term>, to: Option<&Term>) -> bool
     ensures { result ≡ Rattle.qs_terms.specs.Statement.same_graph (option_copied from.entry) (option_copied to.entry) }
 {
     match (from, to) {

@@ -5,6 +5,7 @@
 //! `draft` carries operations out over a draft of the store, and `request` commits it or leaves the store as it was.
 #![tactic(auto)]
 
+mod carried;
 mod draft;
 mod effect;
 mod graphs;
@@ -13,6 +14,7 @@ mod modified;
 mod operation;
 mod request;
 mod templates;
+mod whole_graphs;
 
 pub use effect::Effect;
 pub use graphs::seen;

@@ -8,13 +8,13 @@ ghost use Rattle.qs_update.specs.Effect.{IsEffect};
 ghost use Rattle.qs_update.specs.Lawful.{IsLawful};
 
 use crate::effect::Effect;
-use crate::graphs::{Removal, cleared, created, transferred};
+use crate::graphs::{cleared, created, transferred};
 use crate::lawful::effects_are_lawful;
 use crate::modified::{changed_by_data, deleted_where, modified_where};
 use qs_ast::term::Variable;
 use qs_ast::update::Operation;
 use qs_blanks::predicates_are_iris;
-use qs_store::DefaultGraph;
+use qs_store::{DefaultGraph, Removal};
 use qs_terms::{QFault, Quad};
 use std::alloc::Global;
 

@@ -1,5 +1,5 @@
 use Rattle.qs_update.proofs.Turns.{applied}
-use Rattle.qs_update.proofs.draft.carry_out.Goals as goal
+use Rattle.qs_update.proofs.carried.carry_out.Goals as goal
 
 pub returns-in-Ok-clause-outcome : goal.returns-in-Ok-clause-outcome
 returns-in-Ok-clause-outcome c =
