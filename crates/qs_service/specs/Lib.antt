@@ -1,0 +1,10 @@
+pub mod Message
+pub mod Meaning
+pub mod Carried
+pub mod State
+pub mod Step
+pub mod Serve
+pub mod Kept
+pub mod Bytes
+pub mod Table
+pub mod Talk

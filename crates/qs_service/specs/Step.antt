@@ -1,0 +1,82 @@
+-- A run of connection events over one store: each event is one step (SPARQL 1.1 Protocol, 2).
+use Rattle.std.specs.Prelude.{◌≡◌, ◌<◌, ◌⊎◌, ℕ, List, [], ◌∷◌, ◌++◌, length, Option, None, Some, Ok, Err, Result}
+use Rattle.std.specs.Borrow.{Bor}
+use Rattle.qs_http.specs.declared.fixed_reply.Fixed.TheVariants.{Memory}
+use Rattle.qs_http.specs.Outcome.{Outcome, More, Ready, Refused}
+use Rattle.qs_http.specs.RequestOf.{IsRequestOf}
+use Rattle.qs_store.specs.Content.{Content}
+use Rattle.qs_update.specs.Request.{Bounds}
+use Rattle.qs_service.specs.Carried.{Carries}
+use Rattle.qs_service.specs.Meaning.{Meaning}
+use Rattle.qs_service.specs.Message.{Message, fixed_message}
+use Rattle.qs_service.specs.State.{Exchange, Reading, Answered, Joined, State, exchange_of, put_exchange, without_id, next_bytes, with_taken}
+use Rattle.qs_service.specs.declared.service.ServiceFault.{ServiceFault}
+use Rattle.qs_service.specs.declared.service.ServiceFault.TheVariants.{Busy, KnownId, UnknownId}
+
+-- a connection joins, a piece of bytes comes on one, or one ends
+pub data Event : Type 0 where
+  Join : (id : ℕ) → Event
+  Piece : (id : ℕ) → (bytes : List ℕ) → Event
+  End : (id : ℕ) → Event
+
+-- a reply that stands, of which nothing was taken
+abbrev pub IsReply : Message → Exchange → Type 0
+IsReply reply exchange = exchange ≡ Answered reply 0
+
+-- what a connection's bytes come to at this step: a request alone touches what is stored
+abbrev pub ComesTo : Meaning → Bounds → Content → List ℕ → Outcome → Content → Exchange → Type 0
+ComesTo m bounds old bytes More new exchange = (new ≡ old) × (exchange ≡ Reading bytes)
+ComesTo m bounds old bytes (Refused fixed) new exchange = (new ≡ old) × IsReply (fixed_message fixed) exchange
+ComesTo m bounds old bytes (Ready request) new exchange = (reply : Message) × Carries m bounds old request new reply × IsReply reply exchange
+
+-- a connection and what is stored, before and after a piece: what its joined bytes come to, or memory was wanting and what is stored stays
+abbrev pub Hears : Meaning → Bounds → Content → Exchange → List ℕ → Content → Exchange → Type 0
+Hears m bounds old (Answered reply taken) piece new exchange = (new ≡ old) × (exchange ≡ Answered reply taken)
+Hears m bounds old (Reading bytes) piece new exchange =
+    ((outcome : Outcome) × IsRequestOf (bytes ++ piece) outcome × ComesTo m bounds old (bytes ++ piece) outcome new exchange)
+    ⊎ ((new ≡ old) × IsReply (fixed_message Memory) exchange)
+
+abbrev pub IsJoined : State → ℕ → Type 0
+IsJoined old id = (exchange : Exchange) × (exchange_of id old.joined ≡ Some exchange)
+
+-- from old, the event may have that outcome and lead to new; at most 64 connections are joined at once
+abbrev pub Step : Meaning → State → Event → Option ServiceFault → State → Type 0
+Step m old (Join id) None new =
+    (exchange_of id old.joined ≡ None) × (length old.joined < 64) × (new ≡ record old { joined = old.joined ++ record { id = id; exchange = Reading [] } ∷ [] })
+Step m old (Join id) (Some Busy) new = (exchange_of id old.joined ≡ None) × (length old.joined ≡ 64) × (new ≡ old)
+Step m old (Join id) (Some KnownId) new = IsJoined old id × (new ≡ old)
+Step m old (Join id) (Some UnknownId) new = ⊥
+Step m old (Piece id piece) None new =
+    (exchange heard : Exchange) × (stored : Content) × (exchange_of id old.joined ≡ Some exchange) × Hears m old.bounds old.stored exchange piece stored heard
+    × (new ≡ record old { stored = stored; joined = put_exchange id heard old.joined })
+Step m old (Piece id piece) (Some UnknownId) new = (exchange_of id old.joined ≡ None) × (new ≡ old)
+Step m old (Piece id piece) (Some Busy) new = ⊥
+Step m old (Piece id piece) (Some KnownId) new = ⊥
+Step m old (End id) None new = IsJoined old id × (new ≡ record old { joined = without_id id old.joined })
+Step m old (End id) (Some UnknownId) new = (exchange_of id old.joined ≡ None) × (new ≡ old)
+Step m old (End id) (Some Busy) new = ⊥
+Step m old (End id) (Some KnownId) new = ⊥
+
+-- one step after another
+abbrev pub Run : Meaning → State → List Event → List (Option ServiceFault) → State → Type 0
+Run m old [] [] new = new ≡ old
+Run m old (event ∷ events) (outcome ∷ outcomes) new =
+    (mid : State) × Step m old event outcome mid × Run m mid events outcomes new
+Run m old [] (outcome ∷ outcomes) new = ⊥
+Run m old (event ∷ events) [] new = ⊥
+
+-- the bytes that are taken of the reply of that id
+abbrev pub TakesBytes : State → ℕ → ℕ → Result (Bor (List ℕ)) ServiceFault → Type 0
+TakesBytes old id n (Ok bytes) = (exchange : Exchange) × (exchange_of id old.joined ≡ Some exchange) × (bytes.now ≡ next_bytes n exchange)
+TakesBytes old id n (Err UnknownId) = exchange_of id old.joined ≡ None
+TakesBytes old id n (Err Busy) = ⊥
+TakesBytes old id n (Err KnownId) = ⊥
+
+-- the connections once they are taken: only their count changes
+abbrev pub joined_taken : ℕ → ℕ → Option Exchange → List Joined → List Joined
+joined_taken id n None joined = joined
+joined_taken id n (Some exchange) joined = put_exchange id (with_taken n exchange) joined
+
+-- the state once they are taken
+abbrev pub TakesTo : State → ℕ → ℕ → State → Type 0
+TakesTo old id n new = new ≡ record old { joined = joined_taken id n (exchange_of id old.joined) old.joined }

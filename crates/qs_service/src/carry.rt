@@ -1,0 +1,131 @@
+//! A request, carried out over what is stored.
+
+ghost use Rattle.std.specs.Prelude.{◌≡◌, IfOk, string_bytes, true};
+ghost use Rattle.serde_json.specs.Written.{compact_text};
+ghost use Rattle.qs_http.specs.Reply.{IsReplyStatus};
+ghost use Rattle.qs_http.specs.declared.media.Media.TheVariants.{Results, NTriples};
+ghost use Rattle.qs_http.specs.declared.request.Request.TheVariants.{Query, Update, Dump};
+ghost use Rattle.qs_results.specs.Json.{has_json, json_of};
+ghost use Rattle.qs_results.specs.Triples.{is_graph, ntriples_of};
+ghost use Rattle.qs_service.specs.Carried.{Carries, answer_reply, fault_reply};
+ghost use Rattle.qs_service.specs.Meaning.{sparql};
+ghost use Rattle.qs_service.specs.Message.{message};
+ghost use Rattle.qs_service.specs.Talk.{CarriesOrMemory, MadeOf};
+ghost use Rattle.qs_update.specs.Request.{Bounds, bounds_of};
+
+use crate::kept::Kept;
+use crate::reply::Reply;
+use http::StatusCode;
+use qs_answer::Answer;
+use qs_http::{Fixed, Media, Request, front};
+use qs_results::{fault_line, fault_status, json, ntriples};
+use qs_terms::QFault;
+use std::alloc::{AllocError, Global};
+
+/// A reply with that status, type and body.
+fn made(alloc: Global, status: u16, media: Media, body: String) -> Result<Reply, AllocError>
+    requires { IsReplyStatus status }
+    ensures { IfOk result (λ reply. reply ≡ message status media (string_bytes body)) }
+{
+    let code = if status == 200 {
+        StatusCode::OK
+    } else if status == 400 {
+        StatusCode::BAD_REQUEST
+    } else {
+        StatusCode::INTERNAL_SERVER_ERROR
+    };
+    let front = front(alloc, code, media, body.len())?;
+    Ok(Reply::made(status, front, body))
+}
+
+/// The reply of a fault.
+fn refusal(alloc: Global, fault: &QFault) -> Result<Reply, AllocError>
+    ensures { IfOk result (λ reply. reply ≡ fault_reply fault.now) }
+{
+    let mut line = fault_line(alloc, fault)?;
+    line.push_str("\n")?;
+    made(alloc, fault_status(fault), Media::Text, line)
+}
+
+fn json_reply(alloc: Global, answer: &Answer) -> Result<Reply, AllocError>
+    requires { has_json answer.now ≡ true }
+    ensures { IfOk result (λ reply. reply ≡ message 200 Results (compact_text (json_of answer.now))) }
+{
+    let body = json(alloc, answer)?;
+    made(alloc, 200, Media::Results, body)
+}
+
+fn graph_reply(alloc: Global, answer: &Answer) -> Result<Reply, AllocError>
+    requires { is_graph answer.now ≡ true }
+    ensures { IfOk result (λ reply. reply ≡ message 200 NTriples (ntriples_of answer.now)) }
+{
+    let body = ntriples(alloc, answer)?;
+    made(alloc, 200, Media::NTriples, body)
+}
+
+/// The reply of an answer.
+fn answered(alloc: Global, answer: &Answer) -> Result<Reply, AllocError>
+    ensures { IfOk result (λ reply. reply ≡ answer_reply answer.now) }
+{
+    match answer {
+        Answer::Solutions { vars: _, rows: _ } => json_reply(alloc, answer),
+        Answer::Truth(_) => json_reply(alloc, answer),
+        Answer::Graph(_) => graph_reply(alloc, answer),
+    }
+}
+
+/// A query's reply, as far as memory is there.
+fn asked(alloc: Global, text: &str, kept: &mut Kept, max_rows: u64) -> Result<Reply, AllocError>
+    ensures carried { IfOk result (Carries sparql (bounds_of max_rows kept.old) kept.old.base (Query text.now) kept.old.base) }
+    ensures kept { kept.new ≡ kept.old }
+{
+    match kept.answer(alloc, text, max_rows) {
+        Ok(answer) => answered(alloc, &answer),
+        Err(QFault::Memory) => Err(AllocError),
+        Err(fault) => refusal(alloc, &fault),
+    }
+}
+
+/// The reply with the whole dataset, as far as memory is there.
+fn dumped(alloc: Global, kept: &Kept) -> Result<Reply, AllocError>
+    ensures { IfOk result (λ reply. (bounds : Bounds) → Carries sparql bounds kept.now.base Dump kept.now.base reply) }
+{
+    let body = kept.dump(alloc)?;
+    made(alloc, 200, Media::NQuads, body)
+}
+
+/// The reply, or that of want of memory, which takes none.
+fn or_memory(made: Result<Reply, AllocError>) -> Reply
+    ensures { MadeOf made result }
+{
+    match made {
+        Ok(reply) => reply,
+        Err(_) => Reply::fixed(Fixed::Memory),
+    }
+}
+
+/// An update's reply. An accepted one has a fixed reply, so that want of memory never follows a change.
+fn changed(alloc: Global, text: &str, kept: &mut Kept, max_rows: u64) -> Reply
+    ensures carried { CarriesOrMemory sparql (bounds_of max_rows kept.old) kept.old.base (Update text.now) kept.new.base result }
+    ensures limit { kept.new.limit ≡ kept.old.limit }
+    ensures default_graph { kept.new.default_graph ≡ kept.old.default_graph }
+{
+    match kept.update(alloc, text, max_rows) {
+        Ok(()) => Reply::fixed(Fixed::NoContent),
+        Err(QFault::Memory) => Reply::fixed(Fixed::Memory),
+        Err(fault) => or_memory(refusal(alloc, &fault)),
+    }
+}
+
+/// The request is carried out, and its reply is made. Where memory is wanting, what is stored stays.
+pub fn carry_out(alloc: Global, request: &Request, kept: &mut Kept, max_rows: u64) -> Reply
+    ensures carried { CarriesOrMemory sparql (bounds_of max_rows kept.old) kept.old.base request.now kept.new.base result }
+    ensures limit { kept.new.limit ≡ kept.old.limit }
+    ensures default_graph { kept.new.default_graph ≡ kept.old.default_graph }
+{
+    match request {
+        Request::Query(text) => or_memory(asked(alloc, text.as_str(), kept, max_rows)),
+        Request::Update(text) => changed(alloc, text.as_str(), kept, max_rows),
+        Request::Dump => or_memory(dumped(alloc, kept)),
+    }
+}
