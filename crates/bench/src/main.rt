@@ -13,6 +13,7 @@ mod line;
 mod nquads;
 mod resident;
 mod results;
+mod serve;
 mod store;
 mod syntax;
 mod terms;
@@ -22,7 +23,7 @@ mod timing;
 use std::{env, io};
 
 const PARTS: &[&str] = &[
-    "dict", "expr", "http", "index", "lex", "nquads", "results", "store", "syntax",
+    "dict", "expr", "http", "index", "lex", "nquads", "results", "serve", "store", "syntax",
 ];
 
 fn main(rt: HostRuntime) -> io::Result<()> {
@@ -58,6 +59,7 @@ fn one(
         "lex" => texts::run(rt, lex::SAMPLES, size),
         "nquads" => nquads::run(rt, argument, is_memory),
         "results" => results::run(rt, size, is_memory),
+        "serve" => serve::run(rt, size),
         "store" => store::run(rt, size, size_of(word)),
         "syntax" => texts::run(rt, syntax::SAMPLES, size),
         _ => Err(io::Error::from(io::ErrorKind::InvalidInput)),

@@ -2,8 +2,8 @@
 
 mod measure;
 mod memory;
-mod quads;
-mod work;
+pub mod quads;
+pub mod work;
 
 use std::hash::RandomState;
 use std::io;

@@ -1,0 +1,16 @@
+//! Pairs of tests that run with each allocation refused in turn: the strict one wants the whole answer, the tolerant one takes want of
+//! memory for the answer of one connection, and then the others have theirs and what is stored is as it was.
+
+use crate::interleaved::interleaved;
+use crate::outcome::Outcome;
+use std::hash::RandomState;
+
+#[test]
+fn connections_strict(rt: HostRuntime) {
+    assert!(rt; interleaved(rt.alloc(), RandomState::new(&rt).ok()) == Outcome::Whole);
+}
+
+#[test]
+fn connections_tolerant(rt: HostRuntime) {
+    assert!(rt; interleaved(rt.alloc(), RandomState::new(&rt).ok()) != Outcome::Wrong);
+}

@@ -1,0 +1,155 @@
+//! Connections whose pieces come in turn.
+
+use crate::outcome::Outcome;
+use qs_http::{Fixed, fixed};
+use qs_service::Service;
+use qs_store::Store;
+use std::alloc::Global;
+use std::hash::RandomState;
+
+pub const ASK: &[u8] = b"GET /query?query=ASK%7B%3Fs+%3Fp+%3Fo%7D HTTP/1.1\r\nHost: e\r\n\r\n";
+
+pub const INSERT: &[u8] =
+    b"POST /update HTTP/1.1\r\nHost: e\r\nContent-Type: application/sparql-update\r\nContent-Length: 54\r\n\r\nINSERT DATA { <http://e/a> <http://e/p> <http://e/b> }";
+
+const DUMP: &[u8] = b"GET /data HTTP/1.1\r\nHost: e\r\n\r\n";
+
+pub const TRUE: &[u8] =
+    b"HTTP/1.1 200 OK\r\nConnection: close\r\nContent-Type: application/sparql-results+json\r\nContent-Length: 26\r\n\r\n{\"boolean\":true,\"head\":{}}";
+
+const FALSE: &[u8] =
+    b"HTTP/1.1 200 OK\r\nConnection: close\r\nContent-Type: application/sparql-results+json\r\nContent-Length: 27\r\n\r\n{\"boolean\":false,\"head\":{}}";
+
+const ONE_QUAD: &[u8] =
+    b"HTTP/1.1 200 OK\r\nConnection: close\r\nContent-Type: application/n-quads\r\nContent-Length: 41\r\n\r\n<http://e/a> <http://e/p> <http://e/b> .\n";
+
+const NO_QUAD: &[u8] =
+    b"HTTP/1.1 200 OK\r\nConnection: close\r\nContent-Type: application/n-quads\r\nContent-Length: 0\r\n\r\n";
+
+/// A service over an empty store.
+pub fn service(alloc: Global, hasher: Option<RandomState>) -> Option<Service> {
+    let store = Store::new(alloc, 100, hasher?);
+    match Service::new(alloc, store, 10) {
+        Ok(service) => Some(service),
+        Err(store) => {
+            drop(store);
+            None
+        }
+    }
+}
+
+fn is_reply(service: &Service, id: u64, due: &[u8]) -> bool {
+    match service.reply(id) {
+        Some(reply) => match due.strip_prefix(reply.front()) {
+            Some(body) => body == reply.body(),
+            None => false,
+        },
+        None => false,
+    }
+}
+
+fn is_wanting(service: &Service, id: u64) -> bool {
+    is_reply(service, id, fixed(Fixed::Memory))
+}
+
+/// Whether the events are taken: a query whose last bytes come behind an update of another connection, and then a dump.
+fn is_told(service: &mut Service) -> bool {
+    service.join_conn(1).is_ok()
+        && service.join_conn(2).is_ok()
+        && service.join_conn(3).is_ok()
+        && service.piece(1, &ASK[..ASK.len() - 3]).is_ok()
+        && service.piece(2, INSERT).is_ok()
+        && service.piece(1, &ASK[ASK.len() - 3..]).is_ok()
+        && service.piece(3, DUMP).is_ok()
+}
+
+/// Whether the store holds the quad of the update, or nothing.
+fn is_kept(service: &Service, is_stored: bool) -> bool {
+    let store = service.store();
+    let (quads, terms) = if is_stored { (1, 3) } else { (0, 0) };
+    store.count() == quads && store.terms() == terms && store.next_blank() == 0
+}
+
+fn replies(service: &Service) -> Outcome {
+    let is_stored = is_reply(service, 2, fixed(Fixed::NoContent));
+    let asked = is_reply(service, 1, if is_stored { TRUE } else { FALSE });
+    let dumped = is_reply(service, 3, if is_stored { ONE_QUAD } else { NO_QUAD });
+    if !is_kept(service, is_stored) {
+        return Outcome::Wrong;
+    }
+    if is_stored && asked && dumped {
+        return Outcome::Whole;
+    }
+    // (one growth is refused, so one connection is told of it, and the others have their replies)
+    if (is_wanting(service, 2) && asked && dumped)
+        || (is_stored && is_wanting(service, 1) && dumped)
+        || (is_stored && asked && is_wanting(service, 3))
+    {
+        return Outcome::Refused;
+    }
+    Outcome::Wrong
+}
+
+/// What the replies and the store come to.
+pub fn interleaved(alloc: Global, hasher: Option<RandomState>) -> Outcome {
+    match service(alloc, hasher) {
+        Some(mut service) => {
+            let outcome = if is_told(&mut service) {
+                replies(&service)
+            } else {
+                Outcome::Wrong
+            };
+            drop(service);
+            outcome
+        }
+        None => Outcome::Refused,
+    }
+}
+
+/// Sends byte i of the bytes on the connections.
+fn send(service: &mut Service, ids: std::ops::Range<u64>, bytes: &[u8], i: usize) {
+    let Some(byte) = bytes.get(i..i + 1) else {
+        return;
+    };
+    for id in ids {
+        let _ = service.piece(id, byte);
+    }
+}
+
+/// 63 connections send a query, byte by byte in turn, and another an update, whose last byte comes between their last bytes: each is
+/// answered over what is stored when its own last byte comes.
+fn are_answered_in_turn(service: &mut Service) -> bool {
+    for id in 0..64u64 {
+        if service.join_conn(id).is_err() {
+            return false;
+        }
+    }
+    for i in 0..ASK.len() - 1 {
+        send(service, 0..63, ASK, i);
+    }
+    for i in 0..INSERT.len() - 1 {
+        send(service, 63..64, INSERT, i);
+    }
+    send(service, 0..31, ASK, ASK.len() - 1);
+    send(service, 63..64, INSERT, INSERT.len() - 1);
+    send(service, 31..63, ASK, ASK.len() - 1);
+    for id in 0..63u64 {
+        if !is_reply(service, id, if id < 31 { FALSE } else { TRUE }) {
+            return false;
+        }
+    }
+    is_reply(service, 63, fixed(Fixed::NoContent)) && is_kept(service, true)
+}
+
+#[test]
+fn sixty_three_and_an_update_between_them(rt: HostRuntime) {
+    let is = match service(rt.alloc(), RandomState::new(&rt).ok()) {
+        Some(mut service) => {
+            let is = are_answered_in_turn(&mut service);
+            drop(service);
+            is
+        }
+        None => false,
+    };
+    assert!(rt; is);
+}

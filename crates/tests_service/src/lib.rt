@@ -1,0 +1,19 @@
+//! Tests of connections over one store: they stand in a crate of their own, since a crate with tests is proved twice.
+//!
+//! Replies that are taken, connections over streams in memory and over sockets. `growth` has the pairs for refused allocations.
+#![tactic(auto)]
+
+#[cfg(test)]
+mod growth;
+#[cfg(test)]
+mod interleaved;
+#[cfg(test)]
+mod memory;
+#[cfg(test)]
+mod outcome;
+#[cfg(test)]
+mod sockets;
+#[cfg(test)]
+mod streams;
+#[cfg(test)]
+mod taken;
