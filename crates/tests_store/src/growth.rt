@@ -2,7 +2,7 @@
 //! memory for an answer, and then everything is as it was.
 
 use crate::outcome::Outcome;
-use crate::{dict, index, requests, store, terms};
+use crate::{dict, index, requests, store, terms, whole_graphs};
 use qs_store::DefaultGraph;
 use std::hash::RandomState;
 
@@ -70,4 +70,14 @@ fn requests_strict(rt: HostRuntime) {
 #[test]
 fn requests_tolerant(rt: HostRuntime) {
     assert!(rt; requests::requests(rt.alloc(), RandomState::new(&rt).ok()) != Outcome::Wrong);
+}
+
+#[test]
+fn whole_graphs_strict(rt: HostRuntime) {
+    assert!(rt; whole_graphs::outcome(rt.alloc(), RandomState::new(&rt).ok()) == Outcome::Whole);
+}
+
+#[test]
+fn whole_graphs_tolerant(rt: HostRuntime) {
+    assert!(rt; whole_graphs::outcome(rt.alloc(), RandomState::new(&rt).ok()) != Outcome::Wrong);
 }

@@ -29,3 +29,5 @@ mod seen;
 mod store;
 #[cfg(test)]
 mod terms;
+#[cfg(test)]
+mod whole_graphs;

@@ -17,7 +17,7 @@ const TEXT: &str = "DELETE { ?s ?p ?o } INSERT { ?s ?p ?o } WHERE { ?s ?p ?o }
 ; DELETE WHERE { GRAPH <e:g> { ?s ?p ?o } }
 ; INSERT DATA { GRAPH <e:h> { <e:b> <e:p> <e:a> } GRAPH <e:k> { <e:b> <e:p> <e:a> } }";
 
-const BEFORE: Seen = Seen {
+pub const BEFORE: Seen = Seen {
     quads: &[0, 1, 2, 3],
     union: &[],
     graphs: &[(0, &[0]), (1, &[1, 2]), (3, &[3]), (5, &[])],
@@ -36,7 +36,7 @@ const BEHIND: Seen = Seen {
 };
 
 /// Puts the four first quads into the store.
-fn is_filled(store: &mut Store, quads: &[Quad]) -> Option<bool> {
+pub fn is_filled(store: &mut Store, quads: &[Quad]) -> Option<bool> {
     let add = quads.get(..4)?;
     if store.next_blank() <= 8 && is_above_blanks(8, add) {
         Some(store.change(&[], add, 8).is_ok())
