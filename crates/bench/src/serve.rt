@@ -23,6 +23,7 @@ const CONNECTIONS: u64 = 64;
 const HEADS: &[usize] = &[2048, 4096, 8192];
 
 /// Gives the input, takes all bytes, and remembers when the first came.
+#[derive(Drop)]
 struct Memory<'a> {
     rt: &'a HostRuntime,
     input: &'a [u8],
