@@ -1,0 +1,6 @@
+mod Digits
+mod Lines
+mod Reading
+mod Runs
+mod Tellings
+mod Unique

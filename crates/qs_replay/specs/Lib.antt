@@ -1,0 +1,5 @@
+pub mod Script
+pub mod Happenings
+pub mod Replay
+pub mod Replayed
+pub mod Told
