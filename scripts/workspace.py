@@ -82,11 +82,15 @@ def is_large(root, crate):
     return lines >= 300
 
 
+def free_memory():
+    """Returns how many bytes of memory can still be taken."""
+    with open("/proc/meminfo", encoding="utf-8") as it:
+        return next(1024 * int(line.split()[1]) for line in it if line.startswith("MemAvailable"))
+
+
 def lanes():
     """Returns how many checks run side by side: one a processor, as many as memory holds."""
-    with open("/proc/meminfo", encoding="utf-8") as it:
-        free = next(1024 * int(line.split()[1]) for line in it if line.startswith("MemAvailable"))
-    return max(1, min(len(os.sched_getaffinity(0)), free // EACH))
+    return max(1, min(len(os.sched_getaffinity(0)), free_memory() // EACH))
 
 
 def refresh(source, to, link):
