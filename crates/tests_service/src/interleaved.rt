@@ -106,13 +106,17 @@ pub fn interleaved(alloc: Global, hasher: Option<RandomState>) -> Outcome {
     }
 }
 
-/// Sends byte i of the bytes on the connections.
-fn send(service: &mut Service, ids: std::ops::Range<u64>, bytes: &[u8], i: usize) {
-    let Some(byte) = bytes.get(i..i + 1) else {
-        return;
-    };
+/// Sends the byte on the connections.
+fn send(service: &mut Service, ids: std::ops::Range<u64>, byte: &[u8]) {
     for id in ids {
         let _ = service.piece(id, byte);
+    }
+}
+
+/// Sends the bytes on the connections, byte by byte in turn.
+fn send_all(service: &mut Service, from: u64, to: u64, bytes: &[u8]) {
+    for byte in bytes.chunks(1) {
+        send(service, from..to, byte);
     }
 }
 
@@ -124,15 +128,11 @@ fn are_answered_in_turn(service: &mut Service) -> bool {
             return false;
         }
     }
-    for i in 0..ASK.len() - 1 {
-        send(service, 0..63, ASK, i);
-    }
-    for i in 0..INSERT.len() - 1 {
-        send(service, 63..64, INSERT, i);
-    }
-    send(service, 0..31, ASK, ASK.len() - 1);
-    send(service, 63..64, INSERT, INSERT.len() - 1);
-    send(service, 31..63, ASK, ASK.len() - 1);
+    send_all(service, 0, 63, &ASK[..ASK.len() - 1]);
+    send_all(service, 63, 64, &INSERT[..INSERT.len() - 1]);
+    send(service, 0..31, &ASK[ASK.len() - 1..]);
+    send(service, 63..64, &INSERT[INSERT.len() - 1..]);
+    send(service, 31..63, &ASK[ASK.len() - 1..]);
     for id in 0..63u64 {
         if !is_reply(service, id, if id < 31 { FALSE } else { TRUE }) {
             return false;
