@@ -112,10 +112,10 @@ fn show_dump(rt: &HostRuntime, service: &mut Service, is_timed: bool) -> io::Res
     line(rt, &[("dump of bytes", len), ("written:", least)])
 }
 
-/// A query with a head of that length.
+/// A request with a head of that length, whose path is none, so that nothing is evaluated.
 fn request_of(alloc: Global, head: usize) -> Result<Vec<u8>, AllocError> {
     let mut bytes = Vec::new(alloc);
-    bytes.extend_from_slice(b"GET /query?query=ASK%7B%7D HTTP/1.1\r\nHost: e\r\nA: ")?;
+    bytes.extend_from_slice(b"GET /no HTTP/1.1\r\nHost: e\r\nA: ")?;
     bytes.resize(head.saturating_sub(4), b'a')?;
     bytes.extend_from_slice(b"\r\n\r\n")?;
     Ok(bytes)
