@@ -1,3 +1,4 @@
 pub mod Ends
+pub mod Replays
 pub mod Runs
 pub mod Updates

@@ -1,17 +1,18 @@
 -- From a job's end, and what the sink took of its line, to the run.
-use Rattle.std.proofs.Common.{◌≡◌, ◌<◌, ℕ, List, Option, ◌⊎◌, inl, inr, Ok, Err, length, take, refl, sym, subst, arith}
+use Rattle.std.proofs.Common.{◌≡◌, ◌<◌, ℕ, List, Option, Vec, Global, ◌⊎◌, inl, inr, Ok, Err, length, take, refl, sym, subst, arith}
 use Rattle.std.proofs.lemmas.List.{take_all}
 use Rattle.std.specs.Io.KnownBytes.{Appends}
 use Rattle.qs_terms.specs.Device.{one_more}
 use Rattle.qs_terms.specs.declared.fault.QFault.TheVariants as fault
 use Rattle.qs_results.specs.Lines.{fault_line}
 use Rattle.quads.specs.Due.{line, IsDue, IsBegun}
-use Rattle.quads.specs.Ended.{IsEnd, printed, status}
-use Rattle.quads.specs.Run.{Prints, IsRun}
+use Rattle.quads.specs.Ended.{IsCheckEnd, IsQueryEnd, IsUpdateEnd, IsEnd, printed, status}
+use Rattle.quads.specs.Replayed.{IsReplayDue, IsReplayBegun}
+use Rattle.quads.specs.Run.{Prints, IsRun, Runs}
 use Rattle.quads.specs.declared.ended.Ended.{Ended}
 use Rattle.quads.specs.declared.ended.Ended.TheVariants.{Answered, Quads, DataRefused, Refused}
 use Rattle.quads.specs.declared.job.Job.{Job}
-use Rattle.quads.specs.declared.job.Job.TheVariants.{Check, Query, Update}
+use Rattle.quads.specs.declared.job.Job.TheVariants.{Check, Query, Update, Replay}
 use Rattle.quads.specs.declared.job.Ran.{Ran}
 
 -- what is printed of a job's end is due
@@ -28,17 +29,20 @@ due_of (Update file text) (Answered answer) is = absurd is
 due_of (Update file text) (Quads quads) is = inl (Ok is.0, is.1, (quads.items, is.2, refl), refl)
 due_of (Update file text) (DataRefused f) is = inr (f, is, refl, refl)
 due_of (Update file text) (Refused f) is = inl (Err f, is, refl, refl)
+due_of (Replay file script) end is = absurd is
 
 begun : (job : Job) (bytes : List ℕ) (s : ℕ) → IsDue job bytes s → IsBegun job bytes
 begun (Check file) bytes s due = (s, due)
 begun (Query file text) bytes s due = (s, due)
 begun (Update file text) bytes s due = (s, due)
+begun (Replay file script) bytes s due = inl (s, due)
 
 -- memory may always be wanting
 memory : (job : Job) → IsDue job (line (fault_line fault.Memory)) 1
 memory (Check file) = inr (inl (refl, refl))
 memory (Query file text) = inl (Err fault.Memory, (λ other. absurd (other refl)), refl, refl)
 memory (Update file text) = inl (Err fault.Memory, (λ other. absurd (other refl)), refl, refl)
+memory (Replay file script) = inr (inl (refl, refl))
 
 whole : (n : ℕ) (bytes : List ℕ) → n ≡ length bytes → take n bytes ≡ bytes
 whole n bytes is = take_all n bytes (omega (arith, is))
@@ -55,3 +59,25 @@ module _ (job : Job) (taken taken2 : Option (List ℕ)) (faults faults2 : ℕ) (
   pub ran : (end : Ended) → IsEnd job end → (Prints (printed end) (status end) taken taken2 faults faults2 r) ⊎ (Prints (line (fault_line fault.Memory)) 1 taken taken2 faults faults2 r) → IsRun job taken taken2 faults faults2 r
   ran end is (inl p) = ran_of (printed end) (status end) (due_of job end is) p
   ran end is (inr p) = ran_of (line (fault_line fault.Memory)) 1 (memory job) p
+
+-- the end of the job's bytes is that of the job
+module _ (job : Job) (end : Ended) (file : List ℕ) where
+  pub check_end : (kept : Vec ℕ Global) → job ≡ Check kept → file ≡ kept.items → IsCheckEnd file end → IsEnd job end
+  check_end kept is lent e = subst (λ (j : Job). IsEnd j end) (sym is) (subst (λ (l : List ℕ). IsCheckEnd l end) lent e)
+
+  module _ (text : List ℕ) (kept other : Vec ℕ Global) where
+    pub query_end : job ≡ Query kept other → file ≡ kept.items → text ≡ other.items → IsQueryEnd file text end → IsEnd job end
+    query_end is lent also e =
+        subst (λ (j : Job). IsEnd j end) (sym is) (subst (λ (l : List ℕ). IsQueryEnd l other.items end) lent (subst (λ (l : List ℕ). IsQueryEnd file l end) also e))
+
+    pub update_end : job ≡ Update kept other → file ≡ kept.items → text ≡ other.items → IsUpdateEnd file text end → IsEnd job end
+    update_end is lent also e =
+        subst (λ (j : Job). IsEnd j end) (sym is) (subst (λ (l : List ℕ). IsUpdateEnd l other.items end) lent (subst (λ (l : List ℕ). IsUpdateEnd file l end) also e))
+
+-- the run of a replay of the job's bytes is that of the job
+pub replay_ran : (job : Job) (file script : List ℕ) (taken taken2 : Option (List ℕ)) (faults faults2 : ℕ) (r : Ran) (kept other : Vec ℕ Global) → job ≡ Replay kept other → file ≡ kept.items → script ≡ other.items
+    → Runs (IsReplayDue file script) (IsReplayBegun file script) taken taken2 faults faults2 r → IsRun job taken taken2 faults faults2 r
+replay_ran job file script taken taken2 faults faults2 r kept other is lent also ran =
+    subst (λ (j : Job). IsRun j taken taken2 faults faults2 r) (sym is)
+    (subst (λ (l : List ℕ). Runs (IsReplayDue l other.items) (IsReplayBegun l other.items) taken taken2 faults faults2 r) lent
+    (subst (λ (l : List ℕ). Runs (IsReplayDue file l) (IsReplayBegun file l) taken taken2 faults faults2 r) also ran))

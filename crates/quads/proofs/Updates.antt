@@ -12,7 +12,7 @@ use Rattle.qs_store.specs.declared.default_graph.DefaultGraph.{DefaultGraph}
 use Rattle.qs_store.specs.declared.default_graph.DefaultGraph.TheVariants.{Stored}
 use Rattle.qs_update.specs.Outcome as update
 use Rattle.qs_update.specs.Request.{Bounds, bounds_of, IsCarriedOut}
-use Rattle.quads.specs.Due.{max_rows, max_terms, bounds, empty, addition, IsTextOf, IsUpdateOutcome, IsUpdateOver, IsUpdateOfData}
+use Rattle.quads.specs.Due.{max_rows, max_terms, bounds, empty, addition, IsTextOf, IsUpdateOutcome, IsUpdateOver, IsUpdateOfData, IsLoaded}
 use Rattle.quads.specs.Updated.{BecomesUpdated, AreQuadsBehind, AreQuadsOver}
 
 -- quads that are put into a new store
@@ -71,3 +71,8 @@ not_loaded quads next text f h = (Err f, h, refl)
 -- the same quads as those of the data
 pub of_data : (file text : List ℕ) (quads lent : List Statement) (next : ℕ) (f : QFault) → IsNquads file 0 quads next → lent ≡ quads → IsUpdateOver lent next text (Err f) → IsUpdateOfData file text (Err f)
 of_data file text quads lent next f read is h = (quads, next, read, subst (λ (l : List Statement). IsUpdateOver l next text (Err f)) is h)
+
+-- the data's quads find no room
+pub none_loaded : (file : List ℕ) (quads lent : List Statement) (next : ℕ) (f : QFault) → IsNquads file 0 quads next → lent ≡ quads
+    → IsCarriedOut max_terms empty (Ok (addition lent next)) (Err f) → IsLoaded file (Err f)
+none_loaded file quads lent next f read is h = (quads, next, read, subst (λ (l : List Statement). IsCarriedOut max_terms empty (Ok (addition l next)) (Err f)) is h)

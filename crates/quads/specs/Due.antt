@@ -1,6 +1,7 @@
 -- What is due of a job: the bytes that are printed, and the exit status. The data of a check are printed again as N-Quads, or refused; a
--- query is answered, or refused by the first fault, of the data before the text; of an update the dataset behind it is printed as N-Quads.
-use Rattle.std.specs.Prelude.{◌≡◌, ◌⊎◌, ◌∷◌, ◌++◌, [], ℕ, List, Ok, Err}
+-- query is answered, or refused by the first fault, of the data before the text; of an update the dataset behind it is printed as N-Quads;
+-- of a replay the lines of a run of its events, or the fault of the data before that of the script.
+use Rattle.std.specs.Prelude.{◌≡◌, ◌⊎◌, ◌∷◌, ◌++◌, [], ℕ, List, Ok, Err, codes, decimal}
 use Rattle.std.specs.Str.{IsUtf8, IsValidUpTo}
 use Rattle.serde_json.specs.Written.{compact_text}
 use Rattle.qs_terms.specs.Dataset.{Dataset, IsDataset}
@@ -23,8 +24,14 @@ use Rattle.qs_update.specs.declared.effect.Effect.{Effect}
 use Rattle.qs_results.specs.Json.{json_of}
 use Rattle.qs_results.specs.Lines.{fault_line, data_fault_line}
 use Rattle.qs_results.specs.Triples.{ntriples_of}
+use Rattle.qs_service.specs.Meaning.{sparql}
+use Rattle.qs_service.specs.State.{State}
+use Rattle.qs_service.specs.Step.{Event}
+use Rattle.qs_replay.specs.Replay.{Replays}
+use Rattle.qs_replay.specs.Replayed.{StopsAt}
+use Rattle.qs_replay.specs.Script.{IsScript, IsOtherLine}
 use Rattle.quads.specs.declared.job.Job.{Job}
-use Rattle.quads.specs.declared.job.Job.TheVariants.{Check, Query, Update}
+use Rattle.quads.specs.declared.job.Job.TheVariants.{Check, Query, Update, Replay}
 
 -- the most solutions of a query
 abbrev pub max_rows : ℕ
@@ -137,14 +144,61 @@ IsDueOfDataset file bytes status =
 abbrev pub IsDueOfMemory : List ℕ → ℕ → Type 0
 IsDueOfMemory bytes status = (bytes ≡ line (fault_line fault.Memory)) × (status ≡ 1)
 
+-- ---- what a replay comes to
+
+-- what a new store holds once the quads are put into it that N-Quads are, whose blank nodes are numbered from 0; or the fault that this
+-- finds no room for their terms
+abbrev pub IsLoaded : List ℕ → Outcome Content → Type 0
+IsLoaded file first = (quads : List Statement) × (next : ℕ) × IsNquads file 0 quads next × IsCarriedOut max_terms empty (Ok (addition quads next)) first
+
+-- a service over it, with no connection
+abbrev pub service_over : Content → State
+service_over c = record { stored = c; bounds = bounds; joined = [] }
+
+-- the line of a text that is no script
+abbrev pub script_line : ℕ → List ℕ
+script_line n = codes "script line " ++ decimal n
+
+-- what is printed of events that are carried out: all that a run of them writes; or what those before some event write, and the line of
+-- want of memory, which was wanting for what that one writes
+abbrev pub IsDueOfEvents : State → List Event → List ℕ → ℕ → Type 0
+IsDueOfEvents old events bytes status =
+    ((new : State) × Replays sparql old 1 events new bytes × (status ≡ 0))
+    ⊎ ((new : State) × (text rest : List ℕ) × StopsAt sparql old events new text rest × (bytes ≡ text ++ line (fault_line fault.Memory)) × (status ≡ 1))
+
+-- the text is a script, and this is printed of its events; or it is none, nothing is run, and this is the line of the first line that
+-- tells no event
+abbrev pub IsDueOfScript : State → List ℕ → List ℕ → ℕ → Type 0
+IsDueOfScript old script bytes status =
+    ((events : List Event) × IsScript script events × IsDueOfEvents old events bytes status)
+    ⊎ ((n : ℕ) × IsOtherLine script n × (bytes ≡ line (script_line n)) × (status ≡ 1))
+
+abbrev pub IsDueOver : List ℕ → Outcome Content → List ℕ → ℕ → Type 0
+IsDueOver script (Ok c) bytes status = IsDueOfScript (service_over c) script bytes status
+IsDueOver script (Err f) bytes status = (bytes ≡ line (fault_line f)) × (status ≡ 1)
+
+-- the data are quads, and this is printed of the script over a store that they are put into
+abbrev pub IsDueOfReplay : List ℕ → List ℕ → List ℕ → ℕ → Type 0
+IsDueOfReplay file script bytes status = (first : Outcome Content) × IsLoaded file first × IsDueOver script first bytes status
+
+-- some events of the script, from the front, were carried out, and these bytes are what they write
+abbrev pub IsBegunOfReplay : List ℕ → List ℕ → List ℕ → Type 0
+IsBegunOfReplay file script bytes =
+    (c : Content) × (events : List Event) × (new : State) × (text rest : List ℕ) × IsLoaded file (Ok c) × IsScript script events
+    × StopsAt sparql (service_over c) events new text rest × (bytes ≡ text ++ rest)
+
+-- ---- what is due of a job
+
 -- these bytes, whole, and this status are due of the job
 abbrev pub IsDue : Job → List ℕ → ℕ → Type 0
 IsDue (Check file) bytes status = IsDueOfDataset file.items bytes status ⊎ (IsDueOfMemory bytes status ⊎ IsDueOfData file.items bytes status)
 IsDue (Query file text) bytes status = IsDueOfText file.items text.items bytes status ⊎ IsDueOfData file.items bytes status
 IsDue (Update file text) bytes status = IsDueOfUpdate file.items text.items bytes status ⊎ IsDueOfData file.items bytes status
+IsDue (Replay file script) bytes status = IsDueOfReplay file.items script.items bytes status ⊎ (IsDueOfMemory bytes status ⊎ IsDueOfData file.items bytes status)
 
--- the job may have begun to print these bytes: those that are due
+-- the job may have begun to print these bytes: those that are due; of a replay, what some of its events write
 abbrev pub IsBegun : Job → List ℕ → Type 0
 IsBegun (Check file) bytes = (status : ℕ) × IsDue (Check file) bytes status
 IsBegun (Query file text) bytes = (status : ℕ) × IsDue (Query file text) bytes status
 IsBegun (Update file text) bytes = (status : ℕ) × IsDue (Update file text) bytes status
+IsBegun (Replay file script) bytes = ((status : ℕ) × IsDue (Replay file script) bytes status) ⊎ IsBegunOfReplay file.items script.items bytes

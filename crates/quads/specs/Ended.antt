@@ -1,5 +1,5 @@
 -- How a job ends before anything is printed. A query ends with no dataset, a check with nothing but a dataset or the fault of the data, and
--- an update with no answer.
+-- an update with no answer; a replay prints while it runs.
 -- (Inner: it serves proofs, and no promise of the product is read by it.)
 use Rattle.std.specs.Prelude.{ℕ, List, Ok, Err}
 use Rattle.qs_store.specs.Content.{Content}
@@ -14,7 +14,7 @@ use Rattle.quads.specs.Due.{IsOverData, IsUpdateOfData, line, outcome_line}
 use Rattle.quads.specs.declared.ended.Ended.{Ended}
 use Rattle.quads.specs.declared.ended.Ended.TheVariants.{Answered, Quads, DataRefused, Refused}
 use Rattle.quads.specs.declared.job.Job.{Job}
-use Rattle.quads.specs.declared.job.Job.TheVariants.{Check, Query, Update}
+use Rattle.quads.specs.declared.job.Job.TheVariants.{Check, Query, Update, Replay}
 
 abbrev pub IsQueryEnd : List ℕ → List ℕ → Ended → Type 0
 IsQueryEnd file text (Answered answer) = IsOverData file text (Ok answer)
@@ -38,6 +38,7 @@ abbrev pub IsEnd : Job → Ended → Type 0
 IsEnd (Check file) end = IsCheckEnd file.items end
 IsEnd (Query file text) end = IsQueryEnd file.items text.items end
 IsEnd (Update file text) end = IsUpdateEnd file.items text.items end
+IsEnd (Replay file script) end = ⊥
 
 -- what is printed of the end
 abbrev pub printed : Ended → List ℕ

@@ -27,3 +27,10 @@ Prints bytes s taken taken2 faults faults2 ran =
     (ran.written ≤ length bytes) × Appends taken taken2 (take ran.written bytes)
     × (((ran.written ≡ length bytes) × (ran.status ≡ s) × (faults2 ≡ faults))
     ⊎ ((ran.written < length bytes) × (ran.status ≡ 1) × (faults2 ≡ one_more faults)))
+
+-- the same of whatever is due, and may have been begun
+-- (Inner: it serves proofs, and no promise of the product is read by it.)
+abbrev pub Runs : (List ℕ → ℕ → Type 0) → (List ℕ → Type 0) → Option (List ℕ) → Option (List ℕ) → ℕ → ℕ → Ran → Type 0
+Runs Due Begun taken taken2 faults faults2 ran =
+    ((bytes : List ℕ) × Due bytes ran.status × (ran.written ≡ length bytes) × Appends taken taken2 bytes × (faults2 ≡ faults))
+    ⊎ ((bytes : List ℕ) × Begun bytes × (ran.written < length bytes) × Appends taken taken2 (take ran.written bytes) × (ran.status ≡ 1) × (faults2 ≡ one_more faults))

@@ -10,11 +10,6 @@ use Rattle.qs_update.specs.Outcome.{IsSameContent}
 use Rattle.qs_update.specs.Request.{IsCarriedOut}
 use Rattle.quads.specs.Due.{addition, empty, max_terms, IsUpdateOutcome, IsUpdateOver}
 
--- the quads were put into a new store
-abbrev pub BecomesLoaded : List Statement → ℕ → Outcome (Unit {0}) → Content → Type 0
-BecomesLoaded quads next (Ok done) new = IsCarriedOut max_terms empty (Ok (addition quads next)) (Ok new)
-BecomesLoaded quads next (Err f) new = f ≢ Memory → IsCarriedOut max_terms empty (Ok (addition quads next)) (Err f)
-
 -- the store holds what the update of the bytes makes of what it held
 abbrev pub BecomesUpdated : List ℕ → Content → Outcome (Unit {0}) → Content → Type 0
 BecomesUpdated text old (Ok done) new = (c : Content) × IsUpdateOutcome text old (Ok c) × IsSameContent new c

@@ -4,10 +4,8 @@ ghost use Rattle.std.specs.Prelude.{Ok, Err, MatchResult};
 ghost use Rattle.qs_terms.specs.Outcome.{OneOrWantOfMemory};
 ghost use Rattle.qs_select.specs.Sequence.{dataset_of};
 ghost use Rattle.quads.specs.Due.{IsTextOf, IsTextOutcome};
-ghost use Rattle.quads.specs.Ended.{IsQueryEnd, IsCheckEnd, IsEnd};
+ghost use Rattle.quads.specs.Ended.{IsQueryEnd, IsCheckEnd};
 
-use crate::job::Job;
-use crate::updated::update_ended;
 use qs_answer::Answer;
 use qs_nquads::laws::next_number_is_fresh;
 use qs_nquads::{NqFault, read};
@@ -15,7 +13,6 @@ use qs_query::answer;
 use qs_select::laws::quads_are_a_dataset;
 use qs_terms::{QFault, Quad};
 use std::alloc::Global;
-use std::hash::RandomState;
 
 /// The most solutions that a query may have, behind OFFSET and LIMIT, and a WHERE of an update.
 pub const MAX_ROWS: u64 = 1_000_000;
@@ -58,7 +55,8 @@ fn text_answer(
     answer(alloc, text, quads, next_blank, MAX_ROWS)
 }
 
-fn query_ended(alloc: Global, file: &[u8], text: &[u8]) -> Ended
+/// How the job of a query ends.
+pub fn query_ended(alloc: Global, file: &[u8], text: &[u8]) -> Ended
     ensures { IsQueryEnd file.now text.now result }
 {
     let (quads, next_blank) = match read(alloc, file, 0) {
@@ -73,7 +71,8 @@ fn query_ended(alloc: Global, file: &[u8], text: &[u8]) -> Ended
     }
 }
 
-fn check_ended(alloc: Global, file: &[u8]) -> Ended
+/// How the job of a check ends.
+pub fn check_ended(alloc: Global, file: &[u8]) -> Ended
     ensures { IsCheckEnd file.now result }
 {
     next_number_is_fresh();
@@ -81,18 +80,5 @@ fn check_ended(alloc: Global, file: &[u8]) -> Ended
     match read(alloc, file, 0) {
         Ok((quads, _)) => Ended::Quads(quads),
         Err(fault) => Ended::DataRefused(fault),
-    }
-}
-
-/// What the job comes to. Terms of a store are hashed by `hasher`.
-pub fn end_of(alloc: Global, hasher: RandomState, job: &Job) -> Ended
-    ensures { IsEnd job.now result }
-{
-    match job {
-        Job::Check { data } => check_ended(alloc, data.as_slice()),
-        Job::Query { data, text } => query_ended(alloc, data.as_slice(), text.as_slice()),
-        Job::Update { data, text } => {
-            update_ended(alloc, hasher, data.as_slice(), text.as_slice())
-        }
     }
 }

@@ -9,6 +9,8 @@ pub enum Job {
     Query { data: Vec<u8>, text: Vec<u8> },
     /// The update of `text` over the N-Quads of `data`.
     Update { data: Vec<u8>, text: Vec<u8> },
+    /// The connection events of `script` over the N-Quads of `data`.
+    Replay { data: Vec<u8>, script: Vec<u8> },
 }
 
 /// The exit status, and how many bytes the sink took.

@@ -1,73 +1,35 @@
-//! The program: checks the quads of a file, answers the query of a file over the quads of another, and carries the update of a file out
-//! over them.
+//! The program: checks the quads of a file, answers the query of a file over the quads of another, carries the update of a file out over
+//! them, or the connection events of a script, and serves them to clients.
 //!
-//! What a job's bytes come to is proved of `run`. Here the command line is read, the files, and nothing else.
+//! What a job's bytes come to is proved of `run`. Here the words of the command line are taken, the files read, and the port is bound.
 #![tactic(auto)]
 
+mod command;
 mod ended;
 mod job;
 mod printed;
+mod put;
+mod refusal;
+mod replayed;
 mod run;
+mod stored;
 mod updated;
 
+use crate::command::command;
 use crate::job::Job;
+use crate::refusal::put_refusal;
 use crate::run::run;
+use crate::stored::{let_go, service_of};
+use clap::ArgMatches;
 use clap::error::ErrorKind;
-use clap::{Arg, ArgMatches, Command};
 use qs_results::out_of_memory_line;
+use qs_service::{Service, serve};
 use qs_terms::{Counted, Sink, put_all};
-use std::alloc::{AllocError, Global};
+use std::alloc::Global;
 use std::hash::RandomState;
+use std::net::{Ipv4Addr, TcpListener};
 use std::process::ExitCode;
 use std::{env, fs, io};
-
-fn query_command<'a>(alloc: Global) -> Result<Command<'a>, AllocError> {
-    let file = Arg::new(alloc, "FILE")
-        .required(true)
-        .help("the data, as N-Quads");
-    let query = Arg::new(alloc, "QUERYFILE")
-        .required(true)
-        .help("the text of the query");
-    Command::new(alloc, "query")
-        .about(
-            "Prints the answer of a query over the data of a file: as JSON, or for CONSTRUCT as N-Triples",
-        )
-        .arg(file)?
-        .arg(query)
-}
-
-fn update_command<'a>(alloc: Global) -> Result<Command<'a>, AllocError> {
-    let file = Arg::new(alloc, "FILE")
-        .required(true)
-        .help("the data, as N-Quads");
-    let update = Arg::new(alloc, "UPDATEFILE")
-        .required(true)
-        .help("the text of the update");
-    Command::new(alloc, "update")
-        .about(
-            "Prints what an update makes of the data of a file, as N-Quads; where a part of it is refused, the fault alone",
-        )
-        .arg(file)?
-        .arg(update)
-}
-
-fn check_command<'a>(alloc: Global) -> Result<Command<'a>, AllocError> {
-    let file = Arg::new(alloc, "FILE")
-        .required(true)
-        .help("the data, as N-Quads");
-    Command::new(alloc, "check")
-        .about("Prints the data of a file as N-Quads, each quad once, in the order of the lines")
-        .arg(file)
-}
-
-fn command<'a>(alloc: Global) -> Result<Command<'a>, AllocError> {
-    Command::new(alloc, "quads")
-        .about("An RDF quad store with SPARQL")
-        .subcommand_required(true)
-        .subcommand(check_command(alloc)?)?
-        .subcommand(query_command(alloc)?)?
-        .subcommand(update_command(alloc)?)
-}
 
 /// The words of a command line, taken apart.
 fn matches_of<'a>(alloc: Global, words: &'a [String]) -> Result<ArgMatches<'a>, clap::Error> {
@@ -107,32 +69,102 @@ fn file<S: Sink>(
     }
 }
 
-/// Does the job: its exit status.
-fn done<S: Sink>(rt: &HostRuntime, out: &mut S, job: &Job) -> u8 {
+/// What terms of a store are hashed by, or the exit status where it can't be made.
+fn hasher<S: Sink>(rt: &HostRuntime, out: &mut S) -> Result<RandomState, u8> {
     match RandomState::new(rt) {
-        Ok(hasher) => run(rt.alloc(), hasher, job, out).status,
-        Err(error) => refuse_file(out, "random bytes", &error),
+        Ok(hasher) => Ok(hasher),
+        Err(error) => Err(refuse_file(out, "random bytes", &error)),
     }
+}
+
+/// Does the job: its exit status, or that of a hasher that can't be made.
+fn done<S: Sink>(rt: &HostRuntime, out: &mut S, job: &Job) -> Result<u8, u8> {
+    let hasher = hasher(rt, out)?;
+    Ok(run(rt.alloc(), hasher, job, out).status)
 }
 
 /// `check FILE`: its exit status, or that of a file that can't be read.
 fn check<S: Sink>(rt: &HostRuntime, out: &mut S, matches: &ArgMatches<'_>) -> Result<u8, u8> {
     let data = file(rt, out, matches, "FILE")?;
-    Ok(done(rt, out, &Job::Check { data }))
+    done(rt, out, &Job::Check { data })
 }
 
 /// `query FILE QUERYFILE`: the same.
 fn query<S: Sink>(rt: &HostRuntime, out: &mut S, matches: &ArgMatches<'_>) -> Result<u8, u8> {
     let data = file(rt, out, matches, "FILE")?;
     let text = file(rt, out, matches, "QUERYFILE")?;
-    Ok(done(rt, out, &Job::Query { data, text }))
+    done(rt, out, &Job::Query { data, text })
 }
 
 /// `update FILE UPDATEFILE`: the same.
 fn update<S: Sink>(rt: &HostRuntime, out: &mut S, matches: &ArgMatches<'_>) -> Result<u8, u8> {
     let data = file(rt, out, matches, "FILE")?;
     let text = file(rt, out, matches, "UPDATEFILE")?;
-    Ok(done(rt, out, &Job::Update { data, text }))
+    done(rt, out, &Job::Update { data, text })
+}
+
+/// `replay FILE SCRIPT`: the same.
+fn replay<S: Sink>(rt: &HostRuntime, out: &mut S, matches: &ArgMatches<'_>) -> Result<u8, u8> {
+    let data = file(rt, out, matches, "FILE")?;
+    let script = file(rt, out, matches, "SCRIPT")?;
+    done(rt, out, &Job::Replay { data, script })
+}
+
+/// A service over the data of the file that the command line names, or the exit status where there is none.
+fn service<S: Sink>(
+    rt: &HostRuntime,
+    out: &mut S,
+    matches: &ArgMatches<'_>,
+) -> Result<Service, u8> {
+    let data = file(rt, out, matches, "FILE")?;
+    let hasher = hasher(rt, out)?;
+    match service_of(rt.alloc(), hasher, data.as_slice()) {
+        Ok(service) => Ok(service),
+        Err(refusal) => Err(put_refusal(rt.alloc(), &refusal, out).status),
+    }
+}
+
+/// Prints a line of that text and the port, or that memory is wanting: whether it went out.
+fn said<S: Sink>(alloc: Global, out: &mut S, text: &str, port: u16) -> bool {
+    match format!(in alloc; "{text}{port}\n") {
+        Ok(line) => put_all(out, line.as_bytes()) == line.len(),
+        Err(_) => {
+            refuse_for_memory(out);
+            false
+        }
+    }
+}
+
+/// Listens, says so, and serves so many connections: the exit status.
+fn serve_on<S: Sink>(
+    rt: &HostRuntime,
+    out: &mut S,
+    port: u16,
+    requests: u32,
+    service: &mut Service,
+) -> u8 {
+    let Ok(listener) = TcpListener::bind(rt, (Ipv4Addr::LOCALHOST, port)) else {
+        said(rt.alloc(), out, "cannot listen on ", port);
+        return 1;
+    };
+    if !said(rt.alloc(), out, "listening on 127.0.0.1:", port) {
+        return 1;
+    }
+    if serve(&listener, requests, service).is_err() {
+        said(rt.alloc(), out, "cannot listen on ", port);
+        return 1;
+    }
+    0
+}
+
+/// `serve --port P --data FILE --requests N`: its exit status. The file is read before the port is bound.
+fn serve_data<S: Sink>(rt: &HostRuntime, out: &mut S, matches: &ArgMatches<'_>) -> Result<u8, u8> {
+    let port = matches.get_one::<u16>("P").unwrap_or(0);
+    let requests = matches.get_one::<u32>("N").unwrap_or(0);
+    let mut service = service(rt, out, matches)?;
+    let status = serve_on(rt, out, port, requests, &mut service);
+    let_go(service);
+    Ok(status)
 }
 
 /// Does what the words say: the exit status. What is wrong with the words goes to standard error.
@@ -149,6 +181,8 @@ fn obey<S: Sink>(rt: &HostRuntime, out: &mut S, words: &[String]) -> u8 {
         Some(("check", matches)) => check(rt, out, matches),
         Some(("query", matches)) => query(rt, out, matches),
         Some(("update", matches)) => update(rt, out, matches),
+        Some(("replay", matches)) => replay(rt, out, matches),
+        Some(("serve", matches)) => serve_data(rt, out, matches),
         _ => Ok(2),
     };
     status.unwrap_or_else(|refused| refused)

@@ -14,7 +14,8 @@ use qs_results::{data_fault_line, fault_line, json, ntriples};
 use qs_terms::QFault;
 use std::alloc::{AllocError, Global};
 
-fn data_fault_text(alloc: Global, fault: &NqFault) -> Result<String, AllocError>
+/// The line of a fault of the data.
+pub fn data_fault_text(alloc: Global, fault: &NqFault) -> Result<String, AllocError>
     ensures { IfOk result (λ s. string_bytes s ≡ line (lines.data_fault_line fault.now)) }
 {
     let mut text = data_fault_line(alloc, fault)?;
@@ -22,7 +23,8 @@ fn data_fault_text(alloc: Global, fault: &NqFault) -> Result<String, AllocError>
     Ok(text)
 }
 
-fn fault_text(alloc: Global, fault: &QFault) -> Result<String, AllocError>
+/// The line of a fault.
+pub fn fault_text(alloc: Global, fault: &QFault) -> Result<String, AllocError>
     ensures { IfOk result (λ s. string_bytes s ≡ line (lines.fault_line fault.now)) }
 {
     let mut text = fault_line(alloc, fault)?;

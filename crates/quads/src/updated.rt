@@ -7,35 +7,17 @@ ghost use Rattle.qs_store.specs.Same.{SameSet};
 ghost use Rattle.qs_store.specs.declared.default_graph.DefaultGraph.TheVariants.{Stored};
 ghost use Rattle.quads.specs.Due.{empty, max_terms, IsUpdateOutcome, IsUpdateOver};
 ghost use Rattle.quads.specs.Ended.{IsUpdateEnd};
-ghost use Rattle.quads.specs.Updated.{BecomesLoaded, BecomesUpdated, AreQuadsBehind, AreQuadsOver};
+ghost use Rattle.quads.specs.Updated.{BecomesUpdated, AreQuadsBehind, AreQuadsOver};
 
 use crate::ended::{Ended, MAX_ROWS, text_of};
+use crate::stored::{MAX_TERMS, let_go, load};
 use qs_nquads::laws::next_number_is_fresh;
 use qs_nquads::read;
-use qs_store::{Store, StoreFault, same_set_is_an_equivalence};
+use qs_store::{Store, same_set_is_an_equivalence};
 use qs_terms::{QFault, Quad};
 use qs_update::update;
 use std::alloc::Global;
 use std::hash::RandomState;
-
-/// The most terms that the store knows: as many as there are numbers for them.
-const MAX_TERMS: u32 = 4_294_967_295;
-
-fn load(store: &mut Store, quads: &[Quad], next: u64) -> Result<(), QFault>
-    requires empty { store.old.base ≡ empty }
-    requires limit { store.old.limit ≡ max_terms }
-    requires default_graph { store.old.default_graph ≡ Stored }
-    requires above { IsTrue (is_above_blanks next quads.now) }
-    ensures loaded { BecomesLoaded quads.now next result store.new.base }
-    ensures limit { store.new.limit ≡ max_terms }
-    ensures default_graph { store.new.default_graph ≡ Stored }
-{
-    match store.change(&[], quads, next) {
-        Ok(()) => Ok(()),
-        Err(StoreFault::Full) => Err(QFault::Full),
-        Err(StoreFault::Memory) => Err(QFault::Memory),
-    }
-}
 
 fn text_update(alloc: Global, text: &[u8], store: &mut Store) -> Result<(), QFault>
     requires limit { store.old.limit ≡ max_terms }
@@ -105,7 +87,10 @@ pub fn update_ended(alloc: Global, hasher: RandomState, file: &[u8], text: &[u8]
     };
     next_number_is_fresh();
     let mut store = Store::new(alloc, MAX_TERMS, hasher);
-    match updated(alloc, &mut store, quads.as_slice(), next, text) {
+    let outcome = updated(alloc, &mut store, quads.as_slice(), next, text);
+    let_go(store);
+    let_go(quads);
+    match outcome {
         Ok(quads) => Ended::Quads(quads),
         Err(fault) => Ended::Refused(fault),
     }

@@ -3,10 +3,10 @@ use Rattle.qs_terms.specs.Dataset.{is_above_blanks}
 use Rattle.quads.proofs.Updates.{of_data}
 use Rattle.quads.proofs.updated.update_ended.Goals as goal
 
-pub updated-requires-clause-above : goal.updated-requires-clause-above
-updated-requires-clause-above c =
+pub updated-outcome-requires-clause-above : goal.updated-outcome-requires-clause-above
+updated-outcome-requires-clause-above c =
     subst (λ quads. is_above_blanks c.in-Ok.parts.1 quads ≡ true) (sym c.as_slice.ensures.value) (c.next_number_is_fresh.ensures.above c.args.file.now 0 c.in-Ok.parts.0.items c.in-Ok.parts.1 c.in-Ok.ensures)
 
-pub returns : goal.returns
-returns c = λ n.
-    of_data c.args.file.now c.args.text.now c.in-Ok.parts.0.items c.as_slice.result.now c.in-Ok.parts.1 c.in-Err-updated.fault c.in-Ok.ensures c.as_slice.ensures.value (c.in-Err-updated.ensures.refused n)
+pub returns-in-Err-outcome : goal.returns-in-Err-outcome
+returns-in-Err-outcome c = λ n.
+    of_data c.args.file.now c.args.text.now c.in-Ok.parts.0.items c.as_slice.result.now c.in-Ok.parts.1 c.in-Err-outcome.fault c.in-Ok.ensures c.as_slice.ensures.value (c.in-Err-outcome.ensures.refused n)

@@ -1,6 +1,6 @@
 use Rattle.std.proofs.Common.{[], refl}
 use Rattle.quads.proofs.Updates.{loaded}
-use Rattle.quads.proofs.updated.load.Goals as goal
+use Rattle.quads.proofs.stored.load.Goals as goal
 
 pub returns-in-Ok-clause-loaded : goal.returns-in-Ok-clause-loaded
 returns-in-Ok-clause-loaded c =

@@ -1,0 +1,19 @@
+use Rattle.quads.specs.Refusal.{refusal_text}
+use Rattle.quads.specs.Replayed.{IsScriptDue, IsScriptBegun, IsReplayDue, IsReplayBegun}
+use Rattle.quads.proofs.Replays.{refused, runs_on, replay_due, replay_begun, refusal_due, memory_due, begun_of_replay}
+use Rattle.quads.proofs.replayed.script_ran.Goals as goal
+
+pub returns-in-Ok : goal.returns-in-Ok
+returns-in-Ok g c =
+    let file = c.args.file.now in
+    let script = c.args.script.now in
+    let state = c.in-Ok.service in
+    let loaded = c.in-Ok.ensures in
+    runs_on (IsScriptDue state script) (IsScriptBegun state script) _ _ _ _ c.script_over-ran.result (IsReplayDue file script) (IsReplayBegun file script) (replay_due file script loaded.0 state loaded.2 loaded.1) (replay_begun file script loaded.0 state loaded.2 loaded.1)
+    c.script_over-ran.ensures
+
+pub returns-in-Err : goal.returns-in-Err
+returns-in-Err g c =
+    let file = c.args.file.now in
+    let script = c.args.script.now in
+    refused (IsReplayDue file script) (IsReplayBegun file script) _ _ _ _ c.put_refusal.result (refusal_text c.in-Err.refusal) (refusal_due file script c.in-Err.refusal c.in-Err.ensures) (memory_due file script) (begun_of_replay file script) c.put_refusal.ensures
