@@ -1,14 +1,11 @@
 -- From the steps of a replay to its run.
-use Rattle.std.proofs.Common.{◌≡◌, ◌≢◌, ◌<◌, ◌+◌, ℕ, List, [], ◌∷◌, ◌++◌, Option, None, Some, ◌⊎◌, inl, inr, Ok, Err, length, take, refl, sym, ◌∙◌, ap, subst, arith, append_assoc, length-append}
+use Rattle.std.proofs.Common.{◌≡◌, ◌≢◌, ◌<◌, ◌+◌, ℕ, List, ◌++◌, Option, None, Some, ◌⊎◌, inl, inr, Ok, Err, length, take, refl, sym, ◌∙◌, ap, subst, arith, append_assoc, length-append}
 use Rattle.std.proofs.Math.Seq.{take-append-add}
 use Rattle.std.proofs.lemmas.List.{take_all}
 use Rattle.std.specs.Io.KnownBytes.{Appends}
 use Rattle.qs_terms.specs.Device.{one_more}
-use Rattle.qs_terms.specs.Outcome.{Outcome}
-use Rattle.qs_terms.specs.Statement.{Statement}
 use Rattle.qs_terms.specs.declared.fault.QFault.{QFault}
 use Rattle.qs_terms.specs.declared.fault.QFault.TheVariants as fault
-use Rattle.qs_nquads.specs.Nquads.{IsNquads}
 use Rattle.qs_results.specs.Lines.{fault_line}
 use Rattle.qs_store.specs.Content.{Content}
 use Rattle.qs_service.specs.Meaning.{sparql}

@@ -7,8 +7,7 @@ use Rattle.qs_terms.specs.declared.fault.QFault.TheVariants.{Memory}
 use Rattle.qs_store.specs.Content.{Content}
 use Rattle.qs_store.specs.Same.{SameSet}
 use Rattle.qs_update.specs.Outcome.{IsSameContent}
-use Rattle.qs_update.specs.Request.{IsCarriedOut}
-use Rattle.quads.specs.Due.{addition, empty, max_terms, IsUpdateOutcome, IsUpdateOver}
+use Rattle.quads.specs.Due.{IsUpdateOutcome, IsUpdateOver}
 
 -- the store holds what the update of the bytes makes of what it held
 abbrev pub BecomesUpdated : List ℕ → Content → Outcome (Unit {0}) → Content → Type 0

@@ -1,7 +1,6 @@
 //! The run of a script over the data of a file.
 
-ghost use Rattle.std.specs.Prelude.{◌≡◌, ◌<◌, ◌+◌, ◌^◌, map};
-ghost use Rattle.qs_terms.specs.declared.fault.QFault.TheVariants.{Memory};
+ghost use Rattle.std.specs.Prelude.{map};
 ghost use Rattle.qs_replay.specs.Happenings.{event_of};
 ghost use Rattle.quads.specs.Due.{IsDueOfEvents};
 ghost use Rattle.quads.specs.Replayed.{IsBegunOfEvents, IsScriptDue, IsScriptBegun, IsReplayDue, IsReplayBegun};

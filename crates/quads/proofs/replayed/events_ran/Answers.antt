@@ -1,4 +1,4 @@
-use Rattle.std.proofs.Common.{map, subst, ◌∙◌}
+use Rattle.std.proofs.Common.{map, ◌∙◌}
 use Rattle.qs_replay.specs.Happenings.{event_of}
 use Rattle.quads.proofs.Replays.{ran_short, ran_wanting}
 use Rattle.quads.proofs.replayed.events_ran.Goals as goal

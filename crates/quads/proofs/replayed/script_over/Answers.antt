@@ -1,4 +1,4 @@
-use Rattle.std.proofs.Common.{List, ℕ, map, subst, sym}
+use Rattle.std.proofs.Common.{List, map, subst, sym}
 use Rattle.qs_replay.specs.Happenings.{event_of}
 use Rattle.qs_replay.specs.Script.{IsScript, IsScriptFault}
 use Rattle.qs_replay.specs.declared.script.ScriptFault.{ScriptFault}
