@@ -1,0 +1,13 @@
+mod Walks
+mod Quiet
+mod Ways
+mod Terms
+mod Paths
+mod Triples
+mod Expressions
+mod Groups
+mod Queries
+mod Updates
+mod Knot
+mod Ascending
+mod First
