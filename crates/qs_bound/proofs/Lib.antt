@@ -1,0 +1,3 @@
+mod Possible
+mod Numbers
+mod Groups
