@@ -1,9 +1,9 @@
 //! A dictionary of terms.
 
-ghost use Rattle.std.specs.Prelude.{◌≡◌, ◌↔◌, ◌≤◌, ℕ, None, Some, Ok, Err, [], length, take, IfOk, OnOk, OnErr};
+ghost use Rattle.std.specs.Prelude.{◌≡◌, ◌↔◌, ◌<◌, ◌≤◌, ℕ, None, Some, Ok, Err, [], length, take, IfOk, IfErr, OnOk, OnErr};
 ghost use Rattle.qs_terms.specs.Bag.{with_new};
 ghost use Rattle.qs_terms.specs.Term.{same_term};
-ghost use Rattle.qs_dict.specs.declared.fault.DictFault.TheVariants.{Full};
+ghost use Rattle.qs_dict.specs.declared.fault.DictFault.TheVariants.{Full, Memory};
 ghost use Rattle.qs_dict.specs.Dict.{IsDictionary, IsInUse, KeepsNumbers, term_at, number_of};
 
 use crate::fault::DictFault;
@@ -72,7 +72,40 @@ impl Dict {
         &self.terms.as_slice()[number as usize - 1]
     }
 
-    /// The number of the term, which is put last where it is new. Only a new term takes memory.
+    // The number of the term, where it is there. A new one finds no room where the limit is reached.
+    fn known(&self, term: &Term) -> Result<Option<u32>, DictFault>
+        ensures known { IfOk result (λ known. known ≡ number_of self.now.terms term.now) }
+        ensures room { result ≡ Ok None → length self.now.terms < self.now.limit }
+        ensures full { IfErr result (λ fault. (fault ≡ Full) × (number_of self.now.terms term.now ≡ None) × (length self.now.terms ≡ self.now.limit)) }
+        ensures lawful { IsDictionary self.now }
+    {
+        let len = self.len();
+        if let Some(number) = self.find(term) {
+            return Ok(Some(number));
+        }
+        if len == self.limit {
+            return Err(DictFault::Full);
+        }
+        Ok(None)
+    }
+
+    // Puts a new term last.
+    fn put(&mut self, term: Term) -> Result<u32, DictFault>
+        requires new { number_of self.old.terms term ≡ None }
+        requires room { length self.old.terms < self.old.limit }
+        ensures number { IfOk result (λ n. number_of self.new.terms term ≡ Some n) }
+        ensures terms { OnOk result (self.new.terms ≡ with_new same_term self.old.terms term) }
+        ensures limit { self.new.limit ≡ self.old.limit }
+        ensures lawful { IsDictionary self.new }
+        ensures refused { OnErr result (self.new ≡ self.old) }
+        ensures memory { IfErr result (λ fault. fault ≡ Memory) }
+        ensures kept { KeepsNumbers (length self.old.terms) self.old.terms self.new.terms }
+    {
+        let (place, _) = self.terms.insert_full(term)?;
+        Ok(place as u32 + 1)
+    }
+
+    /// The number of the term, which is put last where it is new. Only a new term takes memory: a copy of it is put in.
     pub fn number(&mut self, term: &Term) -> Result<u32, DictFault>
         ensures number { IfOk result (λ n. number_of self.new.terms term.now ≡ Some n) }
         ensures terms { OnOk result (self.new.terms ≡ with_new same_term self.old.terms term.now) }
@@ -85,15 +118,36 @@ impl Dict {
         ensures full { (result ≡ Err Full) ↔ ((number_of self.old.terms term.now ≡ None) × (length self.old.terms ≡ self.old.limit)) }
         ensures kept { KeepsNumbers (length self.old.terms) self.old.terms self.new.terms }
     {
-        if let Some(number) = self.find(term) {
+        if let Some(number) = self.known(term)? {
             return Ok(number);
         }
-        if self.len() == self.limit {
-            return Err(DictFault::Full);
-        }
         let own = term.try_clone(self.alloc)?;
-        let (place, _) = self.terms.insert_full(own)?;
-        Ok(place as u32 + 1)
+        self.put(own)
+    }
+
+    /// The same of a term that is handed over: where it is new it is put last as it is, and no copy is made. A term that is there is
+    /// hashed once, and a new one twice.
+    pub fn number_owned(&mut self, term: Term) -> Result<u32, DictFault>
+        ensures number { IfOk result (λ n. number_of self.new.terms term ≡ Some n) }
+        ensures terms { OnOk result (self.new.terms ≡ with_new same_term self.old.terms term) }
+        ensures limit { self.new.limit ≡ self.old.limit }
+        ensures lawful { IsDictionary self.new }
+        ensures refused { OnErr result (self.new ≡ self.old) }
+        ensures present { (n : ℕ) → number_of self.old.terms term ≡ Some n → (result ≡ Ok n) × (self.new ≡ self.old) }
+        ensures full { (result ≡ Err Full) ↔ ((number_of self.old.terms term ≡ None) × (length self.old.terms ≡ self.old.limit)) }
+        ensures kept { KeepsNumbers (length self.old.terms) self.old.terms self.new.terms }
+    {
+        match self.known(&term) {
+            Ok(None) => self.put(term),
+            Ok(Some(number)) => {
+                drop(term);
+                Ok(number)
+            }
+            Err(fault) => {
+                drop(term);
+                Err(fault)
+            }
+        }
     }
 
     /// Takes the last terms out, so that `len` are left, or all where there are no more.

@@ -6,6 +6,7 @@ pub mod Part
 pub mod Place
 pub mod Reading
 pub mod Nquads
+pub mod Unread
 pub mod Written
 pub mod Renumbered
 pub mod Joined

@@ -1,8 +1,8 @@
 //! N-Quads: the quads that bytes say, or the first fault with its line; and quads as bytes (RDF 1.1 N-Quads, 3 and 4).
 //!
 //! The definitions stand in `specs/`. Of reading: the tokens in `Table.antt`, what each says in `Part.antt`, statements in `Place.antt`,
-//! the numbers of labels in `Labels.antt`, and what a whole text comes to in `Reading.antt` and `Nquads.antt`. Of writing: the text in
-//! `Written.antt`, and what reading it gives in `Renumbered.antt`.
+//! the numbers of labels in `Labels.antt`, what a whole text comes to in `Reading.antt` and `Nquads.antt`, and a text that is read a
+//! statement at a time in `Unread.antt`. Of writing: the text in `Written.antt`, and what reading it gives in `Renumbered.antt`.
 #![tactic(auto)]
 
 mod class;
@@ -25,3 +25,4 @@ mod written;
 pub use crate::fault::{NqFault, NqFaultKind};
 pub use crate::nquads::read;
 pub use crate::output::{WriteFault, text, write};
+pub use crate::reader::Reader;

@@ -1,58 +1,34 @@
 //! From bytes to quads.
 
-ghost use Rattle.std.specs.Prelude.{◌≡◌, ◌≤◌, length, MatchResult};
-ghost use Rattle.qs_nquads.specs.Reading.{State};
-ghost use Rattle.qs_nquads.specs.Nquads.{Ends, IsNquads, IsFault, IsStop, line_at};
+ghost use Rattle.std.specs.Prelude.{◌≡◌, ◌∷◌, ◌++◌, ℕ, [], MatchResult, OnOk};
+ghost use Rattle.qs_nquads.specs.Nquads.{IsNquads, IsFault};
+ghost use Rattle.qs_nquads.specs.Unread.{HasRead};
 
-use crate::fault::{NqFault, NqFaultKind};
-use crate::gap::behind_gap;
-use crate::longest::longest;
+use crate::fault::NqFault;
 use crate::reader::Reader;
 use qs_terms::Quad;
-use std::alloc::Global;
+use std::alloc::{AllocError, Global};
 
-/// What is wrong, and how many bytes are left there.
-#[derive(Clone, Copy)]
-struct Stop {
-    kind: NqFaultKind,
-    left: usize,
+fn push<T: Drop>(items: &mut Vec<T>, item: T) -> Result<(), AllocError>
+    ensures { OnOk result (items.new.items ≡ items.old.items ++ item ∷ []) }
+{
+    items.push(item)?;
+    Ok(())
 }
 
-fn line_at(bytes: &[u8], place: usize) -> usize
-    requires { place ≤ length bytes.now }
-    ensures { result ≡ line_at bytes.now place }
+// Puts the statements that are left behind the quads, and tells the number that the next new label would get.
+fn read_into(reader: &mut Reader<'_>, quads: &mut Vec<Quad>) -> Result<u64, NqFault>
+    ensures { (first : ℕ) → HasRead first quads.old.items reader.old → MatchResult result (λ next. IsNquads reader.old.bytes first quads.new.items next) (λ fault. IsFault reader.old.bytes first fault.kind fault.line) }
 {
-    1 + bytes[..place].iter().filter(|b| **b == b'\n').count()
-}
-
-// Reads a text to its end.
-fn read_text(reader: &mut Reader, text: &str) -> Result<(), Stop>
-    ensures { let from : State = record { reading = reader.old; rest = text.now } in MatchResult result (λ _. Ends from reader.new) (λ stop. IsStop from stop.kind stop.left) }
-{
-    let mut rest = text;
-    'tokens: loop {
-        let front = behind_gap(rest);
-        let left = front.len();
-        if front.is_empty() {
-            return if reader.may_end() {
-                Ok(())
-            } else {
-                Err(Stop {
-                    kind: NqFaultKind::Shape,
-                    left,
-                })
-            };
-        }
-        let Some((class, len)) = longest(front) else {
-            return Err(Stop {
-                kind: NqFaultKind::Token,
-                left,
-            });
-        };
-        let (token, behind) = front.split_at(len);
-        match reader.read(class, token) {
-            Ok(()) => rest = behind,
-            Err(kind) => return Err(Stop { kind, left }),
+    'statements: loop {
+        match reader.next() {
+            Ok(Some(quad)) => {
+                if push(quads, quad).is_err() {
+                    return Err(reader.want_of_memory());
+                }
+            }
+            Ok(None) => return Ok(reader.next_blank()),
+            Err(fault) => return Err(fault),
         }
     }
 }
@@ -66,24 +42,18 @@ fn read_text(reader: &mut Reader, text: &str) -> Result<(), Stop>
 pub fn read(alloc: Global, bytes: &[u8], first_blank: u64) -> Result<(Vec<Quad>, u64), NqFault>
     ensures { MatchResult result (λ r. IsNquads bytes.now first_blank r.0.items r.1) (λ fault. IsFault bytes.now first_blank fault.kind fault.line) }
 {
-    let text = match std::str::from_utf8(bytes) {
-        Ok(text) => text,
-        Err(error) => {
-            return Err(NqFault {
-                line: line_at(bytes, error.valid_up_to()),
-                kind: NqFaultKind::Utf8,
-            });
-        }
+    let mut reader = match Reader::new(alloc, bytes, first_blank) {
+        Ok(reader) => reader,
+        Err(fault) => return Err(fault),
     };
-    let mut reader = Reader::new(alloc, first_blank);
-    match read_text(&mut reader, text) {
-        Ok(()) => Ok(reader.into_parts()),
-        Err(stop) => {
-            drop(reader);
-            Err(NqFault {
-                line: line_at(bytes, bytes.len().saturating_sub(stop.left)),
-                kind: stop.kind,
-            })
+    let mut quads = Vec::new(alloc);
+    let outcome = read_into(&mut reader, &mut quads);
+    drop(reader);
+    match outcome {
+        Ok(next) => Ok((quads, next)),
+        Err(fault) => {
+            drop(quads);
+            Err(fault)
         }
     }
 }

@@ -1,15 +1,17 @@
-//! What was read of a text.
+//! A text that is read a statement at a time.
 
-ghost use Rattle.std.specs.Prelude.{◌≡◌, Ok};
-ghost use Rattle.qs_terms.specs.OrWantOf.{BecomesOrWantOf};
-ghost use Rattle.qs_nquads.specs.declared.fault.NqFaultKind.TheVariants.{Memory};
-ghost use Rattle.qs_nquads.specs.Labels.{from};
-ghost use Rattle.qs_nquads.specs.Reading.{at_first, placed, read};
-ghost use Rattle.qs_nquads.specs.Place.{may_end};
+ghost use Rattle.std.specs.Prelude.{◌≡◌, ◌≢◌, ◌<◌, ◌≤◌, ◌-◌, ℕ, List, [], Ok, Err, length, IfOk, IfErr, OnSome, MatchResult};
+ghost use Rattle.qs_terms.specs.Statement.{Statement};
+ghost use Rattle.qs_nquads.specs.declared.fault.NqFaultKind.TheVariants.{Memory, Utf8};
+ghost use Rattle.qs_nquads.specs.Nquads.{IsFault, IsStop, line_at};
+ghost use Rattle.qs_nquads.specs.Reading.{read, placed, Comes, State};
+ghost use Rattle.qs_nquads.specs.Unread.{HasRead, HasComeTo, reading, state, with_next, IsNextOf};
 
 use crate::class::Class;
-use crate::fault::NqFaultKind;
+use crate::fault::{NqFault, NqFaultKind};
+use crate::gap::behind_gap;
 use crate::labels::Labels;
+use crate::longest::longest;
 use crate::part::part_of;
 use crate::place::{Next, Place, after};
 use qs_terms::Quad;
@@ -17,21 +19,36 @@ use std::alloc::Global;
 use std::marker::Model;
 use std::mem;
 
-/// The place in a statement, the labels and the whole statements so far.
-#[derive(Drop)]
-pub(crate) struct Reader {
-    alloc: Global,
-    place: Place,
-    labels: Labels,
-    quads: Vec<Quad>,
+/// What is wrong, and how many bytes are left there.
+#[derive(Clone, Copy)]
+struct Stop {
+    kind: NqFaultKind,
+    left: usize,
 }
 
-impl Model for Reader {
-    ghost use Rattle.qs_nquads.specs.Reading.{Reading};
+/// A text of N-Quads that is read a statement at a time: nothing of a statement that was read is kept but the numbers of its labels.
+#[derive(Drop)]
+pub struct Reader<'a> {
+    alloc: Global,
+    text: &'a str,
+    rest: &'a str,
+    place: Place,
+    labels: Labels,
+}
 
-    ghost Value = { Reading };
+impl<'a> Model for Reader<'a> {
+    ghost use Rattle.qs_nquads.specs.Unread.{Unread};
 
-    ghost view = { λ r. record { place = r.place; labels = r.labels; quads = r.quads.items } };
+    ghost Value = { Unread };
+
+    ghost view = { λ r. record { bytes = r.text.now; place = r.place; labels = r.labels; rest = r.rest.now } };
+}
+
+fn line_at(bytes: &[u8], place: usize) -> usize
+    requires { place ≤ length bytes.now }
+    ensures { result ≡ line_at bytes.now place }
+{
+    1 + bytes[..place].iter().filter(|b| **b == b'\n').count()
 }
 
 fn set<T: Drop>(slot: &mut T, value: T)
@@ -40,66 +57,153 @@ fn set<T: Drop>(slot: &mut T, value: T)
     *slot = value;
 }
 
-impl Reader {
-    /// Nothing was read, and the next new label gets this number. Takes no memory.
-    pub(crate) fn new(alloc: Global, first: u64) -> Reader
-        ensures { result ≡ at_first first }
+// Goes on with what a part made of the place; hands out the statement that is whole, if one is.
+fn put(place: &mut Place, next: Next) -> Option<Quad>
+    ensures { (quads : List Statement) (labels : _) → placed quads labels (Ok next) ≡ Ok (reading place.new labels (with_next quads result)) }
+{
+    match next {
+        Next::Place(next) => {
+            set(place, next);
+            None
+        }
+        Next::Quad(quad) => {
+            set(place, Place::Done);
+            Some(quad)
+        }
+    }
+}
+
+// Reads one front more, and hands out the statement that is whole then, if one is.
+fn read_front(
+    alloc: Global,
+    place: &mut Place,
+    labels: &mut Labels,
+    class: Class,
+    token: &str,
+) -> Result<Option<Quad>, NqFaultKind>
+    ensures read { IfOk result (λ next. (quads : List Statement) → read (reading place.old labels.old quads) class token.now ≡ Ok (reading place.new labels.new (with_next quads next))) }
+    ensures fault { IfErr result (λ fault. (quads : List Statement) → fault ≢ Memory → read (reading place.old labels.old quads) class token.now ≡ Err fault) }
+{
+    let part = part_of(alloc, place, labels, class, token)?;
+    let before = mem::replace(place, Place::Start);
+    match after(alloc, before, part) {
+        Ok(next) => Ok(put(place, next)),
+        Err(fault) => Err(fault),
+    }
+}
+
+// Reads to the end of the next statement, or of the text, and hands out what is left behind it.
+fn read_statement<'a>(
+    alloc: Global,
+    place: &mut Place,
+    labels: &mut Labels,
+    text: &'a str,
+) -> Result<(Option<Quad>, &'a str), Stop>
+    ensures shorter { IfOk result (λ r. OnSome r.0 (length r.1.now < length text.now)) }
+    ensures read { MatchResult result
+        (λ r. (from : State) (quads : List Statement) → Comes from (state place.old labels.old text.now quads) → IsNextOf from quads r.0 place.new labels.new r.1.now)
+        (λ stop. (from : State) (quads : List Statement) → Comes from (state place.old labels.old text.now quads) → IsStop from stop.kind stop.left) }
+{
+    let mut rest = text;
+    'tokens: loop {
+        let front = behind_gap(rest);
+        let left = front.len();
+        if front.is_empty() {
+            return if place.may_end() {
+                Ok((None, rest))
+            } else {
+                Err(Stop {
+                    kind: NqFaultKind::Shape,
+                    left,
+                })
+            };
+        }
+        let Some((class, len)) = longest(front) else {
+            return Err(Stop {
+                kind: NqFaultKind::Token,
+                left,
+            });
+        };
+        let (token, behind) = front.split_at(len);
+        match read_front(alloc, place, labels, class, token) {
+            Ok(None) => rest = behind,
+            Ok(Some(quad)) => return Ok((Some(quad), behind)),
+            Err(kind) => return Err(Stop { kind, left }),
+        }
+    }
+}
+
+impl<'a> Reader<'a> {
+    /// A reader of the bytes, which has read nothing. The next new label gets the number `first_blank`. It takes no memory.
+    ///
+    /// # Errors
+    /// `NqFaultKind::Utf8` with the line of the first bad byte, where the bytes aren't UTF-8.
+    pub fn new(alloc: Global, bytes: &'a [u8], first_blank: u64) -> Result<Reader<'a>, NqFault>
+        ensures bytes { IfOk result (λ reader. reader.bytes ≡ bytes.now) }
+        ensures read { IfOk result (λ reader. HasRead first_blank [] reader) }
+        ensures fault { IfErr result (λ fault. (fault.kind ≡ Utf8) × IsFault bytes.now first_blank fault.kind fault.line) }
     {
-        Reader {
-            alloc,
-            place: Place::Start,
-            labels: Labels::new(alloc, first),
-            quads: Vec::new(alloc),
+        match std::str::from_utf8(bytes) {
+            Ok(text) => Ok(Reader {
+                alloc,
+                text,
+                rest: text,
+                place: Place::Start,
+                labels: Labels::new(alloc, first_blank),
+            }),
+            Err(error) => Err(NqFault {
+                line: line_at(bytes, error.valid_up_to()),
+                kind: NqFaultKind::Utf8,
+            }),
         }
     }
 
-    // Goes on with what a part made of the place.
-    fn put(&mut self, next: Next) -> Result<(), NqFaultKind>
-        ensures { BecomesOrWantOf Memory (placed self.old.quads self.old.labels (Ok next)) result self.new }
+    // The line where so many bytes are left.
+    fn line(&self, left: usize) -> usize
+        ensures { result ≡ line_at self.now.bytes (length self.now.bytes - left) }
     {
-        match next {
-            Next::Place(place) => set(&mut self.place, place),
-            Next::Quad(quad) => {
-                self.quads.push(quad)?;
-                set(&mut self.place, Place::Done);
+        let bytes = self.text.as_bytes();
+        line_at(bytes, bytes.len().saturating_sub(left))
+    }
+
+    /// The quad of the next statement, or `None` behind the last one (RDF 1.1 N-Quads, 3 and 4). Behind a fault the reader is of no use.
+    ///
+    /// # Errors
+    /// The first fault from left to right, with its line. `NqFaultKind::Memory` may come at any token, with the line of that token.
+    pub fn next(&mut self) -> Result<Option<Quad>, NqFault>
+        ensures bytes { self.new.bytes ≡ self.old.bytes }
+        ensures next { IfOk result (λ next. (first : ℕ) (quads : List Statement) → HasRead first quads self.old → HasComeTo first quads next self.new) }
+        ensures shorter { IfOk result (λ next. OnSome next (length self.new.rest < length self.old.rest)) }
+        ensures fault { IfErr result (λ fault. (first : ℕ) (quads : List Statement) → HasRead first quads self.old → IsFault self.old.bytes first fault.kind fault.line) }
+    {
+        match read_statement(self.alloc, &mut self.place, &mut self.labels, self.rest) {
+            Ok((next, rest)) => {
+                self.rest = rest;
+                Ok(next)
             }
-        }
-        Ok(())
-    }
-
-    /// Reads one front more.
-    pub(crate) fn read(&mut self, class: Class, token: &str) -> Result<(), NqFaultKind>
-        ensures { BecomesOrWantOf Memory (read self.old class token.now) result self.new }
-    {
-        let part = part_of(self.alloc, &self.place, &mut self.labels, class, token)?;
-        let place = mem::replace(&mut self.place, Place::Start);
-        match after(self.alloc, place, part) {
-            Ok(next) => self.put(next),
-            Err(fault) => Err(fault),
+            Err(stop) => Err(NqFault {
+                line: self.line(stop.left),
+                kind: stop.kind,
+            }),
         }
     }
 
-    /// Whether the text may end here.
-    pub(crate) fn may_end(&self) -> bool
-        ensures { result ≡ may_end self.now.place }
+    /// Want of memory, with the line of the next token: for a caller that finds no room for what was read.
+    pub fn want_of_memory(&self) -> NqFault
+        ensures kind { result.kind ≡ Memory }
+        ensures fault { (first : ℕ) (quads : List Statement) → HasRead first quads self.now → IsFault self.now.bytes first result.kind result.line }
     {
-        self.place.may_end()
+        let left = behind_gap(self.rest).len();
+        NqFault {
+            line: self.line(left),
+            kind: NqFaultKind::Memory,
+        }
     }
 
-    /// The whole statements, and the number that the next new label would get.
-    pub(crate) fn into_parts(self) -> (Vec<Quad>, u64)
-        ensures quads { result.0.items ≡ self.quads }
-        ensures next { result.1 ≡ self.labels.next }
+    /// The number that the next new label would get.
+    pub fn next_blank(&self) -> u64
+        ensures { result ≡ self.now.labels.next }
     {
-        let Reader {
-            alloc: _,
-            place,
-            labels,
-            quads,
-        } = self;
-        let next = labels.next();
-        drop(place);
-        drop(labels);
-        (quads, next)
+        self.labels.next()
     }
 }

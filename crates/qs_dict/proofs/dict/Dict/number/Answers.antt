@@ -1,32 +1,6 @@
-use Rattle.std.proofs.Common.{◌≡◌, length, sym, ap, arith}
-use Rattle.qs_dict.proofs.Numbers.{distinct_terms, keeps_with, keys_with, with_known, place_at, at_most_one}
+use Rattle.std.proofs.Common.{sym, ◌∙◌}
+use Rattle.qs_dict.proofs.Numbers.{with_known}
 use Rattle.qs_dict.proofs.dict.Dict.number.Goals as goal
 
 pub returns-in-Some-clause-terms : goal.returns-in-Some-clause-terms
-returns-in-Some-clause-terms c = with_known c.args.self.now.terms c.args.term.now c.in-Some.number (sym c.in-Some.ensures.place)
-
-pub invariant_of-self-2 : goal.invariant_of-self-2
-invariant_of-self-2 c =
-    let counted : length c.self.inside.terms.keys ≡ length c.args.self.now.terms = ap (λ d. length d.terms) c.self.view_is in
-    let more = at_most_one _ _ c.in_ok-place.field-0-1 c.in_ok-place.ensures.len in
-    record {
-      distinct = distinct_terms _ c.insert_full.ensures.unique;
-      within = omega (arith, more, counted, c.len.ensures.count, c.self.invariant.within, c.if-len-self.false);
-      bound = c.self.invariant.bound;
-    }
-
-pub returns-clause-terms : goal.returns-clause-terms
-returns-clause-terms c =
-    let keys = rw c.in_ok-own.ensures at c.in_ok-place.ensures.keys in
-    rw (keys, ← c.self.view_is) (keys_with c.self.inside.terms.keys c.args.term.now)
-
-pub returns-clause-number : goal.returns-clause-number
-returns-clause-number c =
-    let stored = rw c.in_ok-own.ensures at c.in_ok-place.ensures.stored in
-    place_at _ _ _ (distinct_terms _ c.insert_full.ensures.unique) stored
-
-pub returns-clause-lawful : goal.returns-clause-lawful
-returns-clause-lawful c = invariant_of-self-2 c
-
-pub returns-clause-kept : goal.returns-clause-kept
-returns-clause-kept c = rw (returns-clause-terms c) (keeps_with c.args.self.now.terms c.args.term.now)
+returns-in-Some-clause-terms c = with_known c.args.self.now.terms c.args.term.now c.in-Some.number (sym c.in_ok-number.ensures.known ∙ c.in-Some.is)
