@@ -5,6 +5,7 @@ pub mod Terms
 pub mod Faults
 pub mod Changed
 pub mod Stored
+pub mod Loaded
 pub mod Merging
 pub mod Scanned
 pub mod TriplesSaid

@@ -1,5 +1,5 @@
 -- Quads as entries of the numbers of their terms.
-use Rattle.std.specs.Prelude.{ℕ, ◌≤◌, List, [], ◌∷◌, length, map, Option, Some, None}
+use Rattle.std.specs.Prelude.{◌≡◌, ℕ, ◌≤◌, ◌++◌, List, [], ◌∷◌, length, map, Option, Some, None}
 use Rattle.std.specs.Bool.{IsTrue}
 use Rattle.std.specs.List.{Contains}
 use Rattle.qs_terms.specs.Statement.{Statement, fits_places}
@@ -54,3 +54,8 @@ said terms entries = map (statement_of terms) entries
 -- each is an entry over these terms
 abbrev pub AreEntries : List Term → List (List ℕ) → Type 0
 AreEntries terms entries = (x : List ℕ) → Contains entries x → IsEntryOf terms x
+
+-- with an entry behind them, entries over more terms say what they said, with its quad behind it
+pub record IsSaidBehind (terms : List Term) (entries : List (List ℕ)) (q : Statement) (more : List Term) (entry : List ℕ) : Type 0 where
+  pub entries_are : AreEntries more (entries ++ entry ∷ [])
+  pub says : said more (entries ++ entry ∷ []) ≡ said terms entries ++ q ∷ []

@@ -4,6 +4,7 @@ ghost use Rattle.std.specs.Prelude.{◌≡◌, ℕ, ◌≤◌, ◌+◌, ◌++◌
 ghost use Rattle.std.specs.Str.{bytes_eq};
 ghost use Rattle.qs_terms.specs.Bag.{Distinct};
 ghost use Rattle.qs_index.specs.Entries.{HaveFour, IsUnion, IsDifference};
+ghost use Rattle.qs_index.specs.Entry.{IsAscending};
 ghost use Rattle.qs_store.specs.Change.{IsChanged};
 ghost use Rattle.qs_store.specs.Copied.{AreCopies, AreNamed};
 ghost use Rattle.qs_store.specs.Holding.{AreGraphsOf, HasGraph};
@@ -87,10 +88,43 @@ fn put_all(index: &mut Index, added: &Index, batch: &mut [[u32; 4]])
     requires batch { length added.now.entries ≤ length batch.old }
     requires spare { length added.now.entries ≤ index.old.spare }
     ensures union { IsUnion index.old.entries added.now.entries index.new.entries }
+    ensures spare { index.old.spare ≤ index.new.spare + length added.now.entries }
     ensures named { index.new.has_named ≡ index.old.has_named }
 {
     let count = fill(batch, added);
     index.insert_all(&mut batch[..count]);
+}
+
+/// Makes the index what a draft of it would make it, by way of `batch`, and puts the entries in, too. Where it is refused the entries of
+/// the index stay.
+fn put_together(
+    index: &mut Index,
+    removed: &Index,
+    added: &Index,
+    batch: &mut [[u32; 4]],
+    entries: &mut [[u32; 4]],
+) -> Result<(), AllocError>
+    requires removed { length removed.now.entries ≤ length batch.old }
+    requires added { length added.now.entries ≤ length batch.old }
+    ensures changed { OnOk result (IsChanged (drafted index.old.entries removed.now.entries added.now.entries) [] entries.old index.new.entries) }
+    ensures once { OnOk result (IsAscending index.new.entries) }
+    ensures refused { OnErr result (index.new.entries ≡ index.old.entries) }
+    ensures spare { OnErr result (index.old.spare ≤ index.new.spare) }
+    ensures named { index.new.has_named ≡ index.old.has_named }
+{
+    let most = with_more(added, entries.len())?;
+    reserve(index, most as u64)?;
+    take_all(index, removed, batch);
+    put_all(index, added, batch);
+    index.insert_all(entries);
+    Ok(())
+}
+
+/// Puts a value in the place of another, which is let go by one call.
+fn set<T: Drop>(slot: &mut T, value: T)
+    ensures { slot.new ≡ value }
+{
+    *slot = value;
 }
 
 /// Those of the entries that stand in the index.
@@ -367,6 +401,28 @@ impl Layers {
         self.removed = empty(self.alloc, has_named);
         self.added = empty(self.alloc, has_named);
         self.batch = Vec::new(self.alloc);
+    }
+
+    /// Makes the draft's entries those of the store, and puts these in, too, which it leaves in some order. Where it is refused the
+    /// store and the draft stay as they were.
+    pub fn settle_with(&mut self, entries: &mut [[u32; 4]]) -> Result<(), AllocError>
+        ensures base { OnOk result (IsChanged self.old.draft [] entries.old self.new.base) }
+        ensures draft { OnOk result (self.new.draft ≡ self.new.base) }
+        ensures refused { OnErr result (self.new.base ≡ self.old.base) }
+        ensures draft_refused { OnErr result (self.new.draft ≡ self.old.draft) }
+        ensures named { self.new.has_named ≡ self.old.has_named }
+    {
+        let batch = self.batch.as_mut_slice();
+        match put_together(&mut self.index, &self.removed, &self.added, batch, entries) {
+            Ok(()) => {
+                let has_named = self.index.has_named();
+                set(&mut self.removed, empty(self.alloc, has_named));
+                set(&mut self.added, empty(self.alloc, has_named));
+                set(&mut self.batch, Vec::new(self.alloc));
+                Ok(())
+            }
+            Err(error) => Err(error),
+        }
     }
 
     /// Takes the first entries out of the draft, and puts the others in. It leaves both in some order. Where it is refused the draft

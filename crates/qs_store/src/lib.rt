@@ -23,7 +23,9 @@ pub use active::Active;
 pub use default_graph::DefaultGraph;
 pub use fault::StoreFault;
 pub use removal::Removal;
-pub use same_set::{same_set_is_an_equivalence, same_sets_change_alike};
+pub use same_set::{
+    quads_make_their_terms_known, same_set_is_an_equivalence, same_sets_change_alike,
+};
 pub use store::{Draft, Store};
 pub use triples::Triples;
 pub use view::View;

@@ -77,7 +77,7 @@ pub fn put_graph(dict: &mut Dict, graph: Option<&Term>) -> Result<u32, StoreFaul
 }
 
 /// The entry of the quad, whose new terms are put behind the others in the dictionary.
-fn numbered(dict: &mut Dict, quad: &Quad) -> Result<[u32; 4], StoreFault>
+pub fn numbered(dict: &mut Dict, quad: &Quad) -> Result<[u32; 4], StoreFault>
     ensures entry { IfOk result (λ entry. entry_of dict.new.terms quad.now ≡ Some entry) }
     ensures terms { OnOk result (dict.new.terms ≡ with_terms dict.old.terms (terms_of quad.now)) }
     ensures front { IsFront dict.old.terms dict.new.terms }

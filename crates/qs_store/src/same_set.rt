@@ -1,9 +1,10 @@
-//! Laws of lists of quads that are read as sets.
+//! Laws of lists of quads that are read as sets, and of their terms.
 
 ghost use Rattle.std.specs.Prelude.{List, Contains};
 ghost use Rattle.qs_terms.specs.Bag.{SameBag};
 ghost use Rattle.qs_terms.specs.Statement.{Statement};
-ghost use Rattle.qs_store.specs.Change.{IsChanged};
+ghost use Rattle.qs_terms.specs.declared.term.Term.{Term};
+ghost use Rattle.qs_store.specs.Change.{IsChanged, KnowsTermsOf, with_terms_of};
 ghost use Rattle.qs_store.specs.Same.{SameSet};
 
 /// A law: to be the same set is an equivalence, and carries what stands in one to the other. The same bags are the same sets.
@@ -18,4 +19,9 @@ pub fn same_set_is_an_equivalence()
 /// A law: the same changes of the same sets are the same sets.
 pub fn same_sets_change_alike()
     ensures { (old removed added new old2 removed2 added2 new2 : List Statement) → SameSet old old2 → SameSet removed removed2 → SameSet added added2 → IsChanged old removed added new → IsChanged old2 removed2 added2 new2 → SameSet new new2 }
+{}
+
+/// A law: the known terms with those of quads behind them are what a change that adds the quads makes known.
+pub fn quads_make_their_terms_known()
+    ensures { (known : List Term) (quads : List Statement) → KnowsTermsOf known quads (with_terms_of known quads) }
 {}

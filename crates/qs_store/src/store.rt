@@ -1,16 +1,17 @@
 //! The store, and drafts of it.
 
-ghost use Rattle.std.specs.Prelude.{◌≡◌, ◌↔◌, ◌≤◌, [], Some, length, take, Contains, IsTrue, IfOk, IfErr, OnOk, OnErr};
+ghost use Rattle.std.specs.Prelude.{◌≡◌, ◌↔◌, ◌≤◌, ◌++◌, ◌∷◌, ℕ, List, [], Some, length, take, Contains, IsTrue, IfOk, IfErr, OnOk, OnErr};
 ghost use Rattle.std.specs.List.{filter};
 ghost use Rattle.std.specs.List.Sorted.{IsSorted};
 ghost use Rattle.std.specs.Option.{option_copied};
 ghost use Rattle.qs_terms.specs.Bag.{SameBag};
 ghost use Rattle.qs_terms.specs.Dataset.{is_above_blanks, is_graph_below};
-ghost use Rattle.qs_terms.specs.Statement.{is_graph};
+ghost use Rattle.qs_terms.specs.Statement.{Statement, is_graph};
+ghost use Rattle.qs_terms.specs.declared.term.Term.{Term};
 ghost use Rattle.qs_dict.specs.Dict.{IsInUse, IsDictionary, term_at, number_of};
 ghost use Rattle.qs_store.specs.Change.{IsChanged, KnowsTermsOf, IsFullExactly, IsFullAt, with_terms_of};
 ghost use Rattle.qs_store.specs.Content.{Content, Held, IsContent, KnowsItsTerms, default_of};
-ghost use Rattle.qs_store.specs.Entries.{said, AreEntries};
+ghost use Rattle.qs_store.specs.Entries.{said, AreEntries, IsSaidBehind};
 ghost use Rattle.qs_store.specs.Graphs.{AreGraphs};
 ghost use Rattle.qs_store.specs.Same.{SameSet};
 ghost use Rattle.qs_store.specs.Store.{IsFront};
@@ -24,7 +25,7 @@ use crate::default_graph::DefaultGraph;
 use crate::fault::StoreFault;
 use crate::graphs::graphs_of;
 use crate::layers::Layers;
-use crate::numbers::{entries_of, entry_of, numbered_all};
+use crate::numbers::{entries_of, entry_of, numbered, numbered_all};
 use crate::quads::quads_of;
 use crate::removal::Removal;
 use crate::triples::Triples;
@@ -324,6 +325,56 @@ impl Store {
         self.layers.settle();
         self.known = self.dict.len();
         self.next = self.draft_next;
+    }
+
+    // The entry of the quad, whose new terms the draft knows then.
+    fn number_in_draft(&mut self, quad: &Quad) -> Result<[u32; 4], StoreFault>
+        ensures base { self.new.base ≡ self.old.base }
+        ensures quads { self.new.draft.quads ≡ self.old.draft.quads }
+        ensures next { self.new.draft.next ≡ self.old.draft.next }
+        ensures said { IfOk result (λ entry. (entries : List (List ℕ)) → AreEntries self.old.draft.known entries → IsSaidBehind self.old.draft.known entries quad.now self.new.draft.known entry) }
+        ensures known { OnOk result ((first : List Term) (quads : List Statement) → self.old.draft.known ≡ with_terms_of first quads → self.new.draft.known ≡ with_terms_of first (quads ++ quad.now ∷ [])) }
+        ensures full { IfErr result (λ fault. (first : List Term) (quads more : List Statement) → self.old.draft.known ≡ with_terms_of first quads → IsFullAt fault self.old.limit (length (with_terms_of first (quads ++ quad.now ∷ more)))) }
+        ensures refused { OnErr result (self.new.draft ≡ self.old.draft) }
+        ensures limit { self.new.limit ≡ self.old.limit }
+        ensures default_graph { self.new.default_graph ≡ self.old.default_graph }
+    {
+        let len = self.dict.len();
+        match numbered(&mut self.dict, quad) {
+            Ok(entry) => Ok(entry),
+            Err(fault) => {
+                self.dict.cut(len);
+                Err(fault)
+            }
+        }
+    }
+
+    // Makes the draft the store, with the quads of the entries, too.
+    fn settle_with(&mut self, entries: &mut [[u32; 4]], next: u64) -> Result<(), StoreFault>
+        requires entries { AreEntries self.old.draft.known entries.old }
+        requires next { self.old.draft.next ≤ next }
+        requires above { IsTrue (is_above_blanks next (said self.old.draft.known entries.old)) }
+        ensures quads { OnOk result (IsChanged self.old.draft.quads [] (said self.old.draft.known entries.old) self.new.base.quads) }
+        ensures next { OnOk result (self.new.base.next ≡ next) }
+        ensures known { OnOk result (self.new.base.known ≡ self.old.draft.known) }
+        ensures room { OnOk result (length self.new.base.known ≤ self.old.limit) }
+        ensures memory { IfErr result (λ fault. fault ≡ Memory) }
+        ensures refused { OnErr result (self.new.base ≡ self.old.base) }
+        ensures limit { self.new.limit ≡ self.old.limit }
+        ensures default_graph { self.new.default_graph ≡ self.old.default_graph }
+    {
+        match self.layers.settle_with(entries) {
+            Ok(()) => {
+                self.known = self.dict.len();
+                self.next = next;
+                self.draft_next = next;
+                Ok(())
+            }
+            Err(_) => {
+                self.reset();
+                Err(StoreFault::Memory)
+            }
+        }
     }
 
     // Makes a change of the draft.
@@ -688,6 +739,46 @@ impl<'a> Draft<'a> {
         ensures default_graph { self.new.store.now.default_graph ≡ self.old.store.now.default_graph }
     {
         self.store.transfer_draft(removal, from, to)
+    }
+
+    /// The entry of the quad: the numbers of its graph's name, or 0 for the default graph, and of its subject, predicate and object. The
+    /// quad's new terms become known to the draft, and the quad itself isn't put in. `Full` is answered only where the known terms and
+    /// the other ones of the quad are more than the limit. Where it is refused the draft stays as it was.
+    pub fn number(&mut self, quad: &Quad) -> Result<[u32; 4], StoreFault>
+        ensures same_reference { self.new.store.ghost_name ≡ self.old.store.ghost_name }
+        ensures base { self.new.store.now.base ≡ self.old.store.now.base }
+        ensures quads { self.new.store.now.draft.quads ≡ self.old.store.now.draft.quads }
+        ensures next { self.new.store.now.draft.next ≡ self.old.store.now.draft.next }
+
+        // Entries over the terms that were known, with this one behind them, say what they said, with the quad behind it.
+        ensures said { IfOk result (λ entry. (entries : List (List ℕ)) → AreEntries self.old.store.now.draft.known entries → IsSaidBehind self.old.store.now.draft.known entries quad.now self.new.store.now.draft.known entry) }
+        ensures known { OnOk result ((first : List Term) (quads : List Statement) → self.old.store.now.draft.known ≡ with_terms_of first quads → self.new.store.now.draft.known ≡ with_terms_of first (quads ++ quad.now ∷ [])) }
+        ensures full { IfErr result (λ fault. (first : List Term) (quads more : List Statement) → self.old.store.now.draft.known ≡ with_terms_of first quads → IsFullAt fault self.old.store.now.limit (length (with_terms_of first (quads ++ quad.now ∷ more)))) }
+        ensures refused { OnErr result (self.new.store.now.draft ≡ self.old.store.now.draft) }
+        ensures limit { self.new.store.now.limit ≡ self.old.store.now.limit }
+        ensures default_graph { self.new.store.now.default_graph ≡ self.old.store.now.default_graph }
+    {
+        self.store.number_in_draft(quad)
+    }
+
+    /// Makes the draft's quads and those of the entries those of the store, and its known terms those of the store; `next` becomes the
+    /// next blank node's number. The entries are left in some order. It puts them in without a draft of them, which makes this the fast
+    /// way to load many quads. Its one refusal is want of memory, which leaves the store as it was, its known terms included.
+    pub fn commit_with(self, entries: &mut [[u32; 4]], next: u64) -> Result<(), StoreFault>
+        requires entries { AreEntries self.store.now.draft.known entries.old }
+        requires next { self.store.now.draft.next ≤ next }
+        requires above { IsTrue (is_above_blanks next (said self.store.now.draft.known entries.old)) }
+        ensures quads { OnOk result (IsChanged self.entry.store.now.draft.quads [] (said self.entry.store.now.draft.known entries.old) self.exit.0.now.base.quads) }
+        ensures next { OnOk result (self.exit.0.now.base.next ≡ next) }
+        ensures known { OnOk result (self.exit.0.now.base.known ≡ self.entry.store.now.draft.known) }
+        ensures room { OnOk result (length self.exit.0.now.base.known ≤ self.entry.store.now.limit) }
+        ensures memory { IfErr result (λ fault. fault ≡ Memory) }
+        ensures refused { OnErr result (self.exit.0.now.base ≡ self.entry.store.now.base) }
+        ensures limit { self.exit.0.now.limit ≡ self.entry.store.now.limit }
+        ensures default_graph { self.exit.0.now.default_graph ≡ self.entry.store.now.default_graph }
+    {
+        let Draft { store } = self;
+        store.settle_with(entries, next)
     }
 
     /// Makes the draft's quads, next number and known terms those of the store. It takes no memory.

@@ -1,0 +1,14 @@
+use Rattle.std.proofs.Common.{[], ap, subst, ◌∙◌}
+use Rattle.qs_store.specs.Change.{IsChanged}
+use Rattle.qs_store.specs.Layers.{drafted}
+use Rattle.qs_store.proofs.Drafted.{drafted_none}
+use Rattle.qs_store.proofs.layers.Layers.settle_with.Goals as goal
+
+pub returns-in-Ok-clause-base : goal.returns-in-Ok-clause-base
+returns-in-Ok-clause-base c =
+    subst (λ v. IsChanged v.draft [] c.args.entries.now c.put_together.new.index.entries) c.self.view_is c.in-Ok.ensures.changed
+
+pub returns-in-Ok-clause-draft : goal.returns-in-Ok-clause-draft
+returns-in-Ok-clause-draft c =
+    let base = c.put_together.new.index.entries in
+    ap (λ r. drafted base r c.set-in-Ok.new.slot.entries) (ap (λ i. i.entries) c.set.ensures ∙ c.empty.ensures.entries) ∙ (ap (λ a. drafted base [] a) (ap (λ i. i.entries) c.set-in-Ok.ensures ∙ c.empty-in-Ok.ensures.entries) ∙ drafted_none base)
