@@ -1,0 +1,6 @@
+pub mod Lists
+pub mod Cells
+pub mod Active
+pub mod Scanned
+pub mod Moves
+pub mod Known

@@ -1,0 +1,5 @@
+pub mod Row
+pub mod Graph
+pub mod Place
+pub mod Steps
+pub mod Coming

@@ -1,0 +1,26 @@
+-- Rows of numbers, and the solutions that they stand for (SPARQL 1.1 Query, 18.1.8).
+use Rattle.std.specs.Prelude.{ℕ, zero, suc, List, [], ◌∷◌, Option, None, Some, map, slice_index_or}
+use Rattle.qs_terms.specs.declared.term.Term.{Term}
+use Rattle.qs_dict.specs.Dict.{term_at}
+use Rattle.qs_solutions.specs.Solution.{Solution}
+
+-- at each variable's number that of its term, or none where it is not bound
+abbrev pub Cells : Type 0
+Cells = List (Option ℕ)
+
+abbrev pub cell_at : Cells → ℕ → Option ℕ
+cell_at m v = slice_index_or m v None
+
+-- n variables, none of them bound
+abbrev pub no_cells : ℕ → Cells
+no_cells zero = []
+no_cells (suc n) = None ∷ no_cells n
+
+-- the term of a cell; none also where its number is not in use
+abbrev pub cell_term : List Term → Option ℕ → Option Term
+cell_term known None = None
+cell_term known (Some n) = term_at known n
+
+-- the solution that a row stands for
+abbrev pub row_solution : List Term → Cells → Solution
+row_solution known m = map (cell_term known) m

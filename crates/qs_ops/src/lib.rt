@@ -1,0 +1,14 @@
+//! Streaming cursors over a store: the solutions of triple patterns, row by row. Rows hold the numbers of terms, and each scan starts
+//! from the row at hand, so that it goes over those triples alone that agree with it.
+#![tactic(auto)]
+
+mod bind;
+mod cursor;
+mod matches;
+mod place;
+mod row;
+mod search;
+
+pub use matches::Matches;
+pub use place::{Place, Seek, seek_of, seeks_of};
+pub use row::Row;

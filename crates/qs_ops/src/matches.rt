@@ -1,0 +1,98 @@
+//! The matches of triple patterns as a stream.
+
+ghost use Rattle.std.specs.Prelude.{◌≡◌, IfOk};
+ghost use Rattle.std.specs.Option.{option_map};
+ghost use Rattle.qs_terms.specs.Bag.{SameBag};
+ghost use Rattle.qs_solutions.specs.Solution.{unbound};
+ghost use Rattle.qs_ops.specs.Coming.{GivesOne, coming, made};
+ghost use Rattle.qs_ops.specs.Graph.{IsSeen, active_graph};
+ghost use Rattle.qs_ops.specs.Row.{row_solution};
+
+use crate::cursor::open_at;
+use crate::place::Seek;
+use crate::row::Row;
+use crate::search::{Level, next_of};
+use qs_store::{Active, View};
+use std::alloc::{AllocError, Global};
+use std::marker::Model;
+
+/// The content of a view is lawful.
+fn is_seen<V: View>(view: &V)
+    ensures { IsSeen (V.content view.now) }
+{
+    let _count = view.count();
+    let _terms = view.terms();
+}
+
+/// The rows that triple patterns by numbers make of the row that binds nothing, one by one; contracts see the solutions that are still
+/// to come, and the known terms. Between two rows it holds a row and a scan for each pattern.
+#[derive(Drop)]
+pub struct Matches<'a, V: View> {
+    view: &'a V,
+    active: Active,
+    seeks: Vec<Seek>,
+    levels: Vec<Level<'a>>,
+    spare: Vec<Row>,
+}
+
+impl<'a, V: View> Model for Matches<'a, V> {
+    ghost use Rattle.qs_ops.specs.Coming.{Left, coming};
+    ghost use Rattle.qs_ops.specs.Graph.{IsSeen, active_graph};
+
+    ghost Value = { Left };
+
+    ghost view = { λ m. record { known = (V.content m.view.now).known; rows = coming (V.content m.view.now).known (active_graph (V.content m.view.now) (V.default_seen m.view.now) m.active) m.seeks.items m.levels.items } };
+
+    ghost invariant = { λ m. IsSeen (V.content m.view.now) };
+}
+
+impl<'a, V: View> Matches<'a, V> {
+    /// The search at its start, where the graph is active and there are so many variables.
+    #[tactic(auto, using(crate::proofs::Moves::started))]
+    pub fn start(
+        alloc: Global,
+        view: &'a V,
+        active: Active,
+        seeks: Vec<Seek>,
+        width: usize,
+    ) -> Result<Matches<'a, V>, AllocError>
+        ensures known { IfOk result (λ m. m.known ≡ (V.content view.now).known) }
+        ensures rows { IfOk result (λ m. SameBag m.rows (made (V.content view.now).known (active_graph (V.content view.now) (V.default_seen view.now) active) seeks.items (unbound width))) }
+    {
+        is_seen(view);
+        let row = Row::unbound(alloc, width)?;
+        let cursor = open_at(view, active, seeks.as_slice(), 0, &row);
+        let mut levels = Vec::new(alloc);
+        levels.push(Level { at: 0, row, cursor })?;
+        Ok(Matches {
+            view,
+            active,
+            seeks,
+            levels,
+            spare: Vec::new(alloc),
+        })
+    }
+
+    /// The next row, or none where there is none left.
+    pub fn next(&mut self, alloc: Global) -> Result<Option<Row>, AllocError>
+        ensures rows { IfOk result (λ o. GivesOne self.old.rows (option_map (row_solution self.old.known) o) self.new.rows) }
+        ensures known { self.new.known ≡ self.old.known }
+    {
+        next_of(
+            alloc,
+            self.view,
+            self.active,
+            self.seeks.as_slice(),
+            &mut self.levels,
+            &mut self.spare,
+        )
+    }
+
+    /// Takes a row back, whose memory may serve again.
+    pub fn give_back(&mut self, row: Row) -> Result<(), AllocError>
+        ensures { self.new ≡ self.old }
+    {
+        self.spare.push(row)?;
+        Ok(())
+    }
+}
