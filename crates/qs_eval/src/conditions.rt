@@ -37,7 +37,7 @@ fn put_kept(
 }
 
 /// The rows in which all conditions hold.
-pub(crate) fn kept(
+pub fn kept(
     alloc: Global,
     conditions: &[Expr],
     rows: Vec<Row>,
@@ -96,7 +96,7 @@ fn put_optional(
 /// Each row of the left merged with each row of the right that it is compatible with, as far as all conditions hold in the merged one;
 /// and alone where there is no such.
 #[tactic(auto, using(crate::proofs::Optional::one_more))]
-pub(crate) fn left_joined(
+pub fn left_joined(
     alloc: Global,
     left: &[Row],
     right: &[Row],
@@ -140,7 +140,7 @@ fn extend_all(
 }
 
 /// The rows with the variable bound to the value of the expression, where it has one.
-pub(crate) fn extended(
+pub fn extended(
     alloc: Global,
     variable: usize,
     expr: &Expr,

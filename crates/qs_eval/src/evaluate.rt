@@ -20,7 +20,7 @@ use qs_terms::Term;
 use std::alloc::{AllocError, Global};
 
 /// A solution for each row of the table.
-fn solutions_of_table(alloc: Global, width: usize, table: &Table) -> Result<Vec<Row>, AllocError>
+pub fn solutions_of_table(alloc: Global, width: usize, table: &Table) -> Result<Vec<Row>, AllocError>
     ensures { IfOk result (λ rows. rows.items ≡ rows_of width table.now) }
 {
     let mut rows = Vec::new(alloc);
@@ -42,7 +42,7 @@ fn named_row(alloc: Global, width: usize, variable: usize, name: &Term) -> Resul
 }
 
 /// The rows, joined with the one that binds the variable to the name.
-fn with_name(
+pub fn with_name(
     alloc: Global,
     width: usize,
     variable: usize,

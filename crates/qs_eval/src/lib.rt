@@ -9,5 +9,6 @@ mod names;
 mod paths;
 mod quads;
 
-pub use evaluate::solutions;
+pub use conditions::{extended, kept, left_joined};
+pub use evaluate::{solutions, solutions_of_table, with_name};
 pub use quads::Quads;

@@ -33,7 +33,7 @@ slot_case : (o : Option ℕ) (s : Slot) → (slot_if o s ≡ Some s) ⊎ (slot_i
 slot_case None s = inr refl
 slot_case (Some n) s = inl refl
 
-known_case : (known : List Term) (s : Slot) → (known_slot known s ≡ Some s) ⊎ (known_slot known s ≡ None)
+pub known_case : (known : List Term) (s : Slot) → (known_slot known s ≡ Some s) ⊎ (known_slot known s ≡ None)
 known_case known (slot.Term t) = slot_case (number_of known t) (slot.Term t)
 known_case known (slot.Variable v) = inl refl
 

@@ -4,3 +4,5 @@ pub mod Active
 pub mod Scanned
 pub mod Moves
 pub mod Known
+pub mod Orders
+pub mod Fronts

@@ -1,8 +1,8 @@
 -- Rows of numbers, and the solutions that they stand for (SPARQL 1.1 Query, 18.1.8).
-use Rattle.std.specs.Prelude.{ℕ, zero, suc, List, [], ◌∷◌, Option, None, Some, map, slice_index_or}
+use Rattle.std.specs.Prelude.{ℕ, zero, suc, List, [], ◌∷◌, Option, None, Some, map, slice_index_or, slice_set}
 use Rattle.qs_terms.specs.declared.term.Term.{Term}
 use Rattle.qs_dict.specs.Dict.{term_at}
-use Rattle.qs_solutions.specs.Solution.{Solution}
+use Rattle.qs_solutions.specs.Solution.{Solution, unbound}
 
 -- at each variable's number that of its term, or none where it is not bound
 abbrev pub Cells : Type 0
@@ -24,3 +24,15 @@ cell_term known (Some n) = term_at known n
 -- the solution that a row stands for
 abbrev pub row_solution : List Term → Cells → Solution
 row_solution known m = map (cell_term known) m
+
+-- n variables, of which the first i are bound as in m, and the others are unbound
+abbrev pub front : ℕ → ℕ → Solution → Solution
+front zero n m = unbound n
+front (suc i) zero m = []
+front (suc i) (suc n) [] = unbound (suc n)
+front (suc i) (suc n) (t ∷ m) = t ∷ front i n m
+
+-- m with the variable bound to the term, if there is one
+abbrev pub with_term : Solution → ℕ → Option Term → Solution
+with_term m v None = m
+with_term m v (Some t) = slice_set m v (Some t)

@@ -5,10 +5,13 @@
 mod bind;
 mod cursor;
 mod matches;
+mod order;
 mod place;
 mod row;
 mod search;
+mod terms;
 
 pub use matches::Matches;
 pub use place::{Place, Seek, seek_of, seeks_of};
 pub use row::Row;
+pub use terms::{solution, term};

@@ -1,17 +1,21 @@
 //! The matches of triple patterns as a stream.
 
-ghost use Rattle.std.specs.Prelude.{◌≡◌, IfOk};
+ghost use Rattle.std.specs.Prelude.{◌≡◌, [], IfOk};
 ghost use Rattle.std.specs.Option.{option_map};
 ghost use Rattle.qs_terms.specs.Bag.{SameBag};
 ghost use Rattle.qs_solutions.specs.Solution.{unbound};
+ghost use Rattle.qs_patterns.specs.Basic.{matches};
+ghost use Rattle.qs_eval.specs.Below.{slot_below, triple_below, all_below};
 ghost use Rattle.qs_ops.specs.Coming.{GivesOne, coming, made};
 ghost use Rattle.qs_ops.specs.Graph.{IsSeen, active_graph};
 ghost use Rattle.qs_ops.specs.Row.{row_solution};
 
 use crate::cursor::open_at;
-use crate::place::Seek;
+use crate::order::reorder;
+use crate::place::{Seek, seeks_of};
 use crate::row::Row;
 use crate::search::{Level, next_of};
+use qs_patterns::{Slot, TriplePattern};
 use qs_store::{Active, View};
 use std::alloc::{AllocError, Global};
 use std::marker::Model;
@@ -46,10 +50,49 @@ impl<'a, V: View> Model for Matches<'a, V> {
     ghost invariant = { λ m. IsSeen (V.content m.view.now) };
 }
 
+fn is_slot_below(slot: &Slot, width: usize) -> bool
+    ensures { result ≡ slot_below width slot.now }
+{
+    match slot {
+        Slot::Term(_) => true,
+        Slot::Variable(variable) => *variable < width,
+    }
+}
+
+fn is_triple_below(pattern: &TriplePattern, width: usize) -> bool
+    ensures { result ≡ triple_below width pattern.now }
+{
+    is_slot_below(&pattern.subject, width)
+        && is_slot_below(&pattern.predicate, width)
+        && is_slot_below(&pattern.object, width)
+}
+
+fn are_below(triples: &[TriplePattern], width: usize) -> bool
+    ensures { result ≡ all_below width triples.now }
+{
+    triples
+        .iter()
+        .all(|pattern| is_triple_below(pattern, width))
+}
+
 impl<'a, V: View> Matches<'a, V> {
+    fn nothing(alloc: Global, view: &'a V, active: Active) -> Matches<'a, V>
+        requires { IsSeen (V.content view.now) }
+        ensures known { result.known ≡ (V.content view.now).known }
+        ensures rows { result.rows ≡ [] }
+    {
+        Matches {
+            view,
+            active,
+            seeks: Vec::new(alloc),
+            levels: Vec::new(alloc),
+            spare: Vec::new(alloc),
+        }
+    }
+
     /// The search at its start, where the graph is active and there are so many variables.
     #[tactic(auto, using(crate::proofs::Moves::started))]
-    pub fn start(
+    fn start(
         alloc: Global,
         view: &'a V,
         active: Active,
@@ -71,6 +114,28 @@ impl<'a, V: View> Matches<'a, V> {
             levels,
             spare: Vec::new(alloc),
         })
+    }
+
+    /// The matches of triple patterns of so many variables, where this graph is active; a pattern of a variable that is not among them
+    /// has none. The patterns are searched in an order of the search's own.
+    pub fn of(
+        alloc: Global,
+        view: &'a V,
+        active: Active,
+        width: usize,
+        triples: &[TriplePattern],
+    ) -> Result<Matches<'a, V>, AllocError>
+        ensures known { IfOk result (λ m. m.known ≡ (V.content view.now).known) }
+        ensures rows { IfOk result (λ m. SameBag m.rows (matches width triples.now (active_graph (V.content view.now) (V.default_seen view.now) active))) }
+    {
+        is_seen(view);
+        if !are_below(triples, width) {
+            return Ok(Matches::nothing(alloc, view, active));
+        }
+        let mut seeks = seeks_of(alloc, view, triples)?;
+        reorder(seeks.as_mut_slice());
+        let matches = Matches::start(alloc, view, active, seeks, width)?;
+        Ok(matches)
     }
 
     /// The next row, or none where there is none left.
