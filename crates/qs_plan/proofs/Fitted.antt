@@ -1,0 +1,93 @@
+-- Solutions cut to the named variables.
+use Rattle.std.proofs.Common.{◌≡◌, ℕ, zero, suc, ◌+◌, ◌<◌, ◌≤◌, Bool, true, false, cond, Option, Some, None, if◌then◌else◌, List, [], ◌∷◌, ◌++◌, length, map, take, refl, sym, ◌∙◌, ap, subst, arith, append-nil}
+use Rattle.std.specs.List.{filter, flat_map}
+use Rattle.std.specs.Option.{option_map}
+use Rattle.std.proofs.lemmas.List.Sorted.{IsPermutation-refl, IsPermutation-sym, IsPermutation-trans, IsPermutation-map, IsPermutation-append_right, IsPermutation-middle, length_permutation}
+use Rattle.qs_terms.specs.Bag.{SameBag}
+use Rattle.qs_terms.specs.declared.term.Term.{Term}
+use Rattle.qs_solutions.specs.Solution.{Solution}
+use Rattle.qs_patterns.specs.declared.pattern.BasicPattern.{BasicPattern}
+use Rattle.qs_patterns.specs.declared.pattern.PathPattern.{PathPattern}
+use Rattle.qs_patterns.specs.declared.pattern.TriplePattern.{TriplePattern}
+use Rattle.qs_patterns.specs.Basic.{Graph, mentions, puts_into, terms_of, all_maps, matches, with_paths, basic}
+use Rattle.qs_ops.specs.Coming.{GivesOne}
+use Rattle.qs_ops.specs.Row.{Cells, row_solution, front}
+use Rattle.qs_ops.proofs.Fronts.{front_all}
+
+-- all solutions have n variables
+abbrev Long : ℕ → List Solution → Type 0
+Long n [] = Unit {0}
+Long n (m ∷ ms) = (length m ≡ n) × Long n ms
+
+long_append : (n : ℕ) (xs ys : List Solution) → Long n xs → Long n ys → Long n (xs ++ ys)
+long_append n [] ys h k = k
+long_append n (x ∷ xs) ys h k = (h.0, long_append n xs ys h.1 k)
+
+long_cons : (n : ℕ) (c : Option Term) (xs : List Solution) → Long n xs → Long (suc n) (map (λ m. c ∷ m) xs)
+long_cons n c [] h = tt
+long_cons n c (x ∷ xs) h = (ap suc h.0, long_cons n c xs h.1)
+
+long_flat : (n : ℕ) (f : Term → List Solution) → ((t : Term) → Long n (f t)) → (ts : List Term) → Long n (flat_map f ts)
+long_flat n f h [] = tt
+long_flat n f h (t ∷ ts) = long_append n (f t) (flat_map f ts) (h t) (long_flat n f h ts)
+
+long_if : (n : ℕ) (b : Bool) (xs ys : List Solution) → Long n xs → Long n ys → Long n (if b then xs else ys)
+long_if n true xs ys h k = h
+long_if n false xs ys h k = k
+
+long_maps : (bound : ℕ → Bool) (ts : List Term) (v n : ℕ) → Long n (all_maps bound ts v n)
+long_maps bound ts v zero = (refl, tt)
+long_maps bound ts v (suc n) =
+    long_if (suc n) (bound v) (flat_map (λ t. map (λ m. Some t ∷ m) (all_maps bound ts (v + 1) n)) ts) (map (λ m. None ∷ m) (all_maps bound ts (v + 1) n))
+    (long_flat (suc n) (λ t. map (λ m. Some t ∷ m) (all_maps bound ts (v + 1) n)) (λ t. long_cons n (Some t) (all_maps bound ts (v + 1) n) (long_maps bound ts (v + 1) n)) ts)
+    (long_cons n None (all_maps bound ts (v + 1) n) (long_maps bound ts (v + 1) n))
+
+long_filter : (n : ℕ) (p : Solution → Bool) (xs : List Solution) → Long n xs → Long n (filter p xs)
+long_filter n p [] h = tt
+long_filter n p (x ∷ xs) h = at (p x) (long_filter n p xs h.1)
+  where
+    at : (b : Bool) → Long n (filter p xs) → Long n (cond b (x ∷ filter p xs) (filter p xs))
+    at true k = (h.0, k)
+    at false k = k
+
+cut : (w n : ℕ) (xs : List Solution) → w ≤ n → Long n xs → map (front w w) xs ≡ map (take w) xs
+cut w n [] h l = refl
+cut w n (x ∷ xs) h l =
+    ap (λ m. m ∷ map (front w w) xs) (front_all w x (omega (arith, h, l.0))) ∙ ap (λ ms. take w x ∷ ms) (cut w n xs h l.1)
+
+-- the rows of a basic graph pattern without paths
+pub basic_rows : (width whole : ℕ) (pattern : BasicPattern) (graph : Graph) (found rows : List Solution) → whole ≡ width + pattern.hidden → pattern.paths ≡ [] → SameBag found (matches whole pattern.triples graph) → SameBag rows (map (front width width) found) → SameBag rows (basic width pattern graph)
+basic_rows width whole pattern graph found rows e none h k =
+    let n : ℕ = width + pattern.hidden in
+    let all : List Solution = matches n pattern.triples graph in
+    let f : SameBag found all = subst (λ (x : ℕ). SameBag found (matches x pattern.triples graph)) e h in
+    let g : SameBag rows (map (front width width) all) = IsPermutation-trans _ _ _ k (IsPermutation-map (front width width) found all f) in
+    let c : map (front width width) all ≡ map (take width) all =
+    cut width n all (omega arith) (long_filter n (puts_into graph pattern.triples) (all_maps (mentions pattern.triples) (terms_of graph) 0 n) (long_maps (mentions pattern.triples) (terms_of graph) 0 n)) in
+    let p : map (take width) all ≡ basic width pattern graph = ap (λ (ps : List PathPattern). map (take width) (with_paths n graph ps all)) (sym none) in
+    subst (SameBag rows) (c ∙ p) g
+
+-- ---- one row more
+
+pub last_row : (known : List Term) (f : Solution → Solution) (first rows left new : List Solution) (o : Option Cells) → SameBag (map f first) (rows ++ map f left) → o ≡ None → GivesOne left (option_map (row_solution known) o) new → SameBag rows (map f first)
+last_row known f first rows left new o h n g =
+    let e : GivesOne left None new = subst (λ (x : Option Cells). GivesOne left (option_map (row_solution known) x) new) n g in
+    IsPermutation-sym _ _ (subst (SameBag (map f first)) (ap (λ l. rows ++ map f l) e.0 ∙ append-nil rows) h)
+
+assoc : (xs : List Solution) (y : Solution) (zs : List Solution) → (xs ++ y ∷ []) ++ zs ≡ xs ++ y ∷ zs
+assoc [] y zs = refl
+assoc (x ∷ xs) y zs = ap (λ l. x ∷ l) (assoc xs y zs)
+
+given : (known : List Term) (left new : List Solution) (o : Option Cells) (row : Cells) → o ≡ Some row → GivesOne left (option_map (row_solution known) o) new → SameBag left (row_solution known row ∷ new)
+given known left new o row e g = subst (λ (x : Option Cells). GivesOne left (option_map (row_solution known) x) new) e g
+
+pub next_row : (known seen : List Term) (f : Solution → Solution) (first rows left mid new more : List Solution) (o : Option Cells) (row : Cells) (m : Solution) → known ≡ seen → SameBag (map f first) (rows ++ map f left) → o ≡ Some row → GivesOne left (option_map (row_solution known) o) mid → m ≡ f (row_solution seen row) → more ≡ rows ++ m ∷ [] → new ≡ mid → SameBag (map f first) (more ++ map f new)
+next_row known seen f first rows left mid new more o row m k h is g e i j =
+    let r : Solution = row_solution known row in
+    let n : SameBag left (r ∷ new) = subst (λ (l : List Solution). SameBag left (r ∷ l)) (sym j) (given known left mid o row is g) in
+    let w : SameBag (rows ++ map f left) (rows ++ f r ∷ map f new) = IsPermutation-append_right rows (map f left) (f r ∷ map f new) (IsPermutation-map f left (r ∷ new) n) in
+    let x : more ≡ rows ++ f r ∷ [] = i ∙ ap (λ (y : Solution). rows ++ y ∷ []) (e ∙ ap (λ (t : List Term). f (row_solution t row)) (sym k)) in
+    subst (SameBag (map f first)) (sym (ap (λ l. l ++ map f new) x ∙ assoc rows (f r) (map f new))) (IsPermutation-trans _ _ _ h w)
+
+pub fewer : (known : List Term) (left mid new : List Solution) (o : Option Cells) (row : Cells) → o ≡ Some row → GivesOne left (option_map (row_solution known) o) mid → new ≡ mid → length new < length left
+fewer known left mid new o row is g j = omega (arith, length_permutation left (row_solution known row ∷ mid) (given known left mid o row is g), ap length j)
