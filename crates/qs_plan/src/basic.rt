@@ -37,7 +37,7 @@ fn rows_of<V: View>(
 }
 
 /// The solutions of a basic graph pattern without paths.
-pub fn solutions_of_basic<V: View>(
+pub(crate) fn solutions_of_basic<V: View>(
     alloc: Global,
     width: usize,
     pattern: &BasicPattern,
@@ -47,7 +47,7 @@ pub fn solutions_of_basic<V: View>(
     ensures { IfOk result (λ rows. SameBag rows.items (basic width pattern.now (active_graph (V.content view.now) (V.default_seen view.now) active))) }
 {
     if !pattern.paths.is_empty() {
-        return Err(Miss::Path);
+        return Err(Miss::Unplanned);
     }
     let whole = width.checked_add(pattern.hidden).ok_or(AllocError)?;
     let mut matches = Matches::of(alloc, view, active, whole, pattern.triples.as_slice())?;

@@ -2,7 +2,8 @@
 #![tactic(auto)]
 
 mod basic;
+mod evaluate;
 mod miss;
 
-pub use basic::solutions_of_basic;
+pub use evaluate::solutions;
 pub use miss::Miss;

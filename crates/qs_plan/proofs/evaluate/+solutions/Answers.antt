@@ -1,0 +1,61 @@
+use Rattle.std.proofs.Common.{rules, List, [], ◌∷◌, Some, ap, ◌∙◌}
+use Rattle.qs_ops.specs.Graph.{active_graph}
+use Rattle.qs_solutions.specs.Operators.{join, left_join, minus}
+use Rattle.qs_solutions.specs.Solution.{Solution}
+use Rattle.qs_patterns.specs.Eval.{all_hold}
+use Rattle.qs_eval.proofs.Arms.{basic_arm, group_arm, union_arm, values_arm, join_arm, left_join_arm, minus_arm, extend_arm, step_more, union_more}
+use Rattle.qs_patterns.specs.declared.pattern.Pattern.{the_lemmas}
+use Rattle.qs_plan.proofs.evaluate.+solutions.Goals as goal
+
+pub solutions-solutions_of_all-requires : goal.solutions-solutions_of_all-requires
+solutions-solutions_of_all-requires g t c = search (rules, the_lemmas)
+
+pub solutions-solutions_of_group-requires : goal.solutions-solutions_of_group-requires
+solutions-solutions_of_group-requires g t c = search (rules, the_lemmas)
+
+pub solutions-returns-in_ok-rows-in-Basic : goal.solutions-returns-in_ok-rows-in-Basic
+solutions-returns-in_ok-rows-in-Basic g t c =
+    basic_arm c.args.width (g.V.View.content c.args.view.now).quads (active_graph (g.V.View.content c.args.view.now) (g.V.View.default_seen c.args.view.now) c.args.active) c.args.pattern.now _ c.in_ok-rows-in-Basic.rows.items c.in-Basic.is c.in_ok-rows-in-Basic.ensures
+
+pub solutions-returns-in_ok-rows-in-Union : goal.solutions-returns-in_ok-rows-in-Union
+solutions-returns-in_ok-rows-in-Union g t c =
+    union_arm c.args.width (g.V.View.content c.args.view.now).quads (active_graph (g.V.View.content c.args.view.now) (g.V.View.default_seen c.args.view.now) c.args.active) c.args.pattern.now c.in-Union.parts _ c.in_ok-rows-in-Union.rows.items c.in-Union.is c.as_slice-in-Union.ensures c.in_ok-rows-in-Union.ensures
+
+pub solutions-returns-in_ok-rows-in-Values : goal.solutions-returns-in_ok-rows-in-Values
+solutions-returns-in_ok-rows-in-Values g t c =
+    values_arm c.args.width (g.V.View.content c.args.view.now).quads (active_graph (g.V.View.content c.args.view.now) (g.V.View.default_seen c.args.view.now) c.args.active) c.args.pattern.now c.in-Values.table c.in_ok-rows-in-Values.rows.items c.in-Values.is c.in_ok-rows-in-Values.ensures
+
+pub solutions-returns-in_ok-rows-in-Group-2 : goal.solutions-returns-in_ok-rows-in-Group-2
+solutions-returns-in_ok-rows-in-Group-2 g t c =
+    group_arm c.args.width (g.V.View.content c.args.view.now).quads (active_graph (g.V.View.content c.args.view.now) (g.V.View.default_seen c.args.view.now) c.args.active) c.args.pattern.now c.in-Group.steps _ c.in-Group.conditions _ c.in_ok-rows-in-Group.rows.items c.in_ok-rows-in-Group-2.rows.items
+    c.in-Group.is c.as_slice.ensures c.as_slice-in-Group.ensures c.in_ok-rows-in-Group.ensures c.in_ok-rows-in-Group-2.ensures
+
+pub stepped-returns-in_ok-rows-in-Join : goal.stepped-returns-in_ok-rows-in-Join
+stepped-returns-in_ok-rows-in-Join g t c xs h =
+    join_arm c.args.width (g.V.View.content c.args.view.now).quads (active_graph (g.V.View.content c.args.view.now) (g.V.View.default_seen c.args.view.now) c.args.active) c.args.one.now _ c.args.left.items c.in_ok-right-in-Join.right.items c.in_ok-rows-in-Join.rows.items xs
+    c.in-Join.is c.in_ok-right-in-Join.ensures (c.in_ok-rows-in-Join.ensures ∙ (ap (λ l. join l c.as_slice-in-Join.result.now) c.as_slice.ensures.value ∙ ap (join c.args.left.items) c.as_slice-in-Join.ensures.value)) h
+
+pub stepped-returns-in_ok-rows-in-LeftJoin : goal.stepped-returns-in_ok-rows-in-LeftJoin
+stepped-returns-in_ok-rows-in-LeftJoin g t c xs h =
+    left_join_arm c.args.width (g.V.View.content c.args.view.now).quads (active_graph (g.V.View.content c.args.view.now) (g.V.View.default_seen c.args.view.now) c.args.active) c.args.one.now _ c.args.left.items c.in_ok-right-in-LeftJoin.right.items c.in_ok-rows-in-LeftJoin.rows.items xs _ _
+    c.in-LeftJoin.is c.as_slice-in-LeftJoin-3.ensures c.in_ok-right-in-LeftJoin.ensures
+    (c.in_ok-rows-in-LeftJoin.ensures
+    ∙ (ap (λ l. left_join (all_hold c.as_slice-in-LeftJoin-3.result.now) l c.as_slice-in-LeftJoin-2.result.now) c.as_slice-in-LeftJoin.ensures.value
+    ∙ ap (left_join (all_hold c.as_slice-in-LeftJoin-3.result.now) c.args.left.items) c.as_slice-in-LeftJoin-2.ensures.value)) h
+
+pub stepped-returns-in_ok-rows-in-Minus : goal.stepped-returns-in_ok-rows-in-Minus
+stepped-returns-in_ok-rows-in-Minus g t c xs h =
+    minus_arm c.args.width (g.V.View.content c.args.view.now).quads (active_graph (g.V.View.content c.args.view.now) (g.V.View.default_seen c.args.view.now) c.args.active) c.args.one.now _ c.args.left.items c.in_ok-right-in-Minus.right.items c.in_ok-rows-in-Minus.rows.items xs
+    c.in-Minus.is c.in_ok-right-in-Minus.ensures (c.in_ok-rows-in-Minus.ensures ∙ (ap (λ l. minus l c.as_slice-in-Minus-2.result.now) c.as_slice-in-Minus.ensures.value ∙ ap (minus c.args.left.items) c.as_slice-in-Minus-2.ensures.value)) h
+
+pub stepped-returns-in_ok-rows-in-Extend : goal.stepped-returns-in_ok-rows-in-Extend
+stepped-returns-in_ok-rows-in-Extend g t c xs h =
+    extend_arm c.args.width (g.V.View.content c.args.view.now).quads (active_graph (g.V.View.content c.args.view.now) (g.V.View.default_seen c.args.view.now) c.args.active) c.args.one.now _ _ c.args.left.items c.in_ok-rows-in-Extend.rows.items xs c.in-Extend.is c.in_ok-rows-in-Extend.ensures h
+
+pub solutions_of_group-loop-one-preserved : goal.solutions_of_group-loop-one-preserved
+solutions_of_group-loop-one-preserved g t c =
+    step_more _ _ c.args.steps.now c.loop-one.one-index c.one-item.result c.loop-one.rows.items c.in_ok-rows.rows.items c.loop-one-test.true c.one-item.is c.loop-one.invariant c.in_ok-rows.ensures
+
+pub solutions_of_all-loop-part-preserved : goal.solutions_of_all-loop-part-preserved
+solutions_of_all-loop-part-preserved g t c =
+    union_more _ c.args.parts.now c.loop-part.part-index c.part-item.result _ _ _ c.loop-part-test.true c.part-item.is c.loop-part.invariant c.in_ok-more.ensures c.in_ok-append.ensures.items

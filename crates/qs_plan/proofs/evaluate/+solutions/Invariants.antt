@@ -1,0 +1,15 @@
+use Rattle.std.proofs.Common.{[], ◌∷◌, take}
+use Rattle.std.specs.List.{flat_map, fold}
+use Rattle.qs_terms.specs.Bag.{SameBag}
+use Rattle.qs_solutions.specs.Solution.{unbound}
+use Rattle.qs_patterns.specs.Eval.{eval, step}
+use Rattle.qs_ops.specs.Graph.{active_graph}
+use Rattle.qs_plan.proofs.evaluate.+solutions.Given as goal
+
+abbrev pub invariant-solutions_of_group-loop-one : goal.invariant-solutions_of_group-loop-one
+invariant-solutions_of_group-loop-one g l =
+    SameBag l.rows.items (fold (λ left s. step l.width (g.V.View.content l.view).quads s (active_graph (g.V.View.content l.view) (g.V.View.default_seen l.view) l.active) left) (unbound l.width ∷ []) (take l.one-index l.steps))
+
+abbrev pub invariant-solutions_of_all-loop-part : goal.invariant-solutions_of_all-loop-part
+invariant-solutions_of_all-loop-part g l =
+    SameBag l.rows.items (flat_map (λ part. eval l.width (g.V.View.content l.view).quads part (active_graph (g.V.View.content l.view) (g.V.View.default_seen l.view) l.active)) (take l.part-index l.parts))

@@ -1,0 +1,132 @@
+//! Patterns (SPARQL 1.1 Query, 18.5 and 18.6).
+
+ghost use Rattle.std.specs.Prelude.{◌≡◌, List, [], ◌∷◌, IfOk};
+ghost use Rattle.std.specs.List.{flat_map, fold};
+ghost use Rattle.qs_terms.specs.Bag.{SameBag};
+ghost use Rattle.qs_solutions.specs.Solution.{Solution, unbound};
+ghost use Rattle.qs_patterns.specs.Eval.{eval, step};
+ghost use Rattle.qs_ops.specs.Graph.{active_graph};
+
+use crate::basic::solutions_of_basic;
+use crate::miss::Miss;
+use qs_eval::{extended, kept, left_joined, solutions_of_table};
+use qs_patterns::{Pattern, Step};
+use qs_solutions::{Row, joined, without};
+use qs_store::{Active, View};
+use std::alloc::Global;
+
+/// The solutions of a pattern of `width` named variables over a view, where this graph is active (SPARQL 1.1 Query, 18.6). A variable
+/// whose number is past them is bound nowhere.
+///
+/// # Errors
+/// `Miss::Unplanned` where a property path or GRAPH stands in the pattern; `Miss::Memory` for want of memory.
+#[cycle(solutions)]
+pub fn solutions<V: View>(
+    alloc: Global,
+    width: usize,
+    pattern: &Pattern,
+    view: &V,
+    active: Active,
+) -> Result<Vec<Row>, Miss>
+    ensures { IfOk result (λ rows. SameBag rows.items (eval width (V.content view.now).quads pattern.now (active_graph (V.content view.now) (V.default_seen view.now) active))) }
+{
+    match pattern {
+        Pattern::Basic(basic) => {
+            let rows = solutions_of_basic(alloc, width, basic, view, active)?;
+            Ok(rows)
+        }
+        Pattern::Group(steps, conditions) => {
+            let rows = solutions_of_group(alloc, width, steps.as_slice(), view, active)?;
+            let rows = kept(alloc, conditions.as_slice(), rows)?;
+            Ok(rows)
+        }
+        Pattern::Union(parts) => {
+            let rows = solutions_of_all(alloc, width, parts.as_slice(), view, active)?;
+            Ok(rows)
+        }
+        Pattern::Values(table) => {
+            let rows = solutions_of_table(alloc, width, table)?;
+            Ok(rows)
+        }
+        Pattern::Graph(_, _) | Pattern::EachGraph(_, _) => Err(Miss::Unplanned),
+    }
+}
+
+/// What the steps make of the one solution that binds nothing, from left to right.
+#[cycle(solutions)]
+fn solutions_of_group<V: View>(
+    alloc: Global,
+    width: usize,
+    steps: &[Step],
+    view: &V,
+    active: Active,
+) -> Result<Vec<Row>, Miss>
+    ensures { IfOk result (λ rows. SameBag rows.items (fold (λ left s. step width (V.content view.now).quads s (active_graph (V.content view.now) (V.default_seen view.now) active) left) (unbound width ∷ []) steps.now)) }
+{
+    let unit = Row::unbound(alloc, width)?;
+    let mut rows = Vec::new(alloc);
+    rows.push(unit)?;
+    for one in steps {
+        rows = stepped(alloc, width, one, view, active, rows)?;
+    }
+    Ok(rows)
+}
+
+/// What a step makes of the solutions before it, in whichever order these stand.
+#[cycle(solutions)]
+fn stepped<V: View>(
+    alloc: Global,
+    width: usize,
+    one: &Step,
+    view: &V,
+    active: Active,
+    left: Vec<Row>,
+) -> Result<Vec<Row>, Miss>
+    ensures { IfOk result (λ rows. (xs : List Solution) → SameBag left.items xs → SameBag rows.items (step width (V.content view.now).quads one.now (active_graph (V.content view.now) (V.default_seen view.now) active) xs)) }
+{
+    match one {
+        Step::Join(part) => {
+            let right = solutions(alloc, width, part, view, active)?;
+            let rows = joined(alloc, left.as_slice(), right.as_slice())?;
+            Ok(rows)
+        }
+        Step::LeftJoin(part, conditions) => {
+            let right = solutions(alloc, width, part, view, active)?;
+            let rows = left_joined(
+                alloc,
+                left.as_slice(),
+                right.as_slice(),
+                conditions.as_slice(),
+            )?;
+            Ok(rows)
+        }
+        Step::Minus(part) => {
+            let right = solutions(alloc, width, part, view, active)?;
+            let rows = without(alloc, left.as_slice(), right.as_slice())?;
+            Ok(rows)
+        }
+        Step::Extend(variable, expr) => {
+            let rows = extended(alloc, *variable, expr, left)?;
+            Ok(rows)
+        }
+    }
+}
+
+/// The solutions of all the patterns, one after another.
+#[cycle(solutions)]
+fn solutions_of_all<V: View>(
+    alloc: Global,
+    width: usize,
+    parts: &[Pattern],
+    view: &V,
+    active: Active,
+) -> Result<Vec<Row>, Miss>
+    ensures { IfOk result (λ rows. SameBag rows.items (flat_map (λ part. eval width (V.content view.now).quads part (active_graph (V.content view.now) (V.default_seen view.now) active)) parts.now)) }
+{
+    let mut rows = Vec::new(alloc);
+    for part in parts {
+        let mut more = solutions(alloc, width, part, view, active)?;
+        rows.append(&mut more)?;
+    }
+    Ok(rows)
+}
