@@ -12,6 +12,5 @@ mod search;
 mod terms;
 
 pub use matches::Matches;
-pub use place::{Place, Seek, seek_of, seeks_of};
 pub use row::Row;
 pub use terms::{solution, term};

@@ -9,14 +9,14 @@ use qs_store::View;
 use std::alloc::{AllocError, Global};
 
 /// What stands in one place of a triple pattern: the number of a term, where 0 is that of no known one, or a variable.
-#[derive(Clone, Copy, Debug)]
+#[derive(Clone, Copy)]
 pub enum Place {
     Fixed(u32),
     Variable(usize),
 }
 
 /// A triple pattern by numbers.
-#[derive(Clone, Copy, Debug)]
+#[derive(Clone, Copy)]
 pub struct Seek {
     pub subject: Place,
     pub predicate: Place,
@@ -38,7 +38,7 @@ fn place_of<V: View>(view: &V, slot: &Slot) -> Place
 }
 
 /// The triple pattern with its terms by their numbers.
-pub fn seek_of<V: View>(view: &V, pattern: &TriplePattern) -> Seek
+fn seek_of<V: View>(view: &V, pattern: &TriplePattern) -> Seek
     requires { IsSeen (V.content view.now) }
     ensures { pattern_of (V.content view.now).known result ≡ known_pattern (V.content view.now).known pattern.now }
 {
@@ -50,7 +50,7 @@ pub fn seek_of<V: View>(view: &V, pattern: &TriplePattern) -> Seek
 }
 
 /// The triple patterns with their terms by their numbers.
-pub fn seeks_of<V: View>(
+pub(crate) fn seeks_of<V: View>(
     alloc: Global,
     view: &V,
     patterns: &[TriplePattern],

@@ -7,7 +7,7 @@ use std::alloc::{AllocError, Global};
 use std::marker::Model;
 
 /// A solution by numbers: at each variable's number that of its term, or none where it is not bound.
-#[derive(Debug, Drop)]
+#[derive(Drop)]
 pub struct Row {
     cells: Vec<Option<u32>>,
 }
@@ -23,7 +23,7 @@ impl Model for Row {
 impl Row {
     /// So many variables, none of them bound.
     #[tactic(auto, using(crate::proofs::Cells::no_cells_more))]
-    pub fn unbound(alloc: Global, width: usize) -> Result<Row, AllocError>
+    pub(crate) fn unbound(alloc: Global, width: usize) -> Result<Row, AllocError>
         ensures { IfOk result (λ r. r ≡ no_cells width) }
     {
         let mut cells = Vec::new(alloc);
@@ -34,7 +34,7 @@ impl Row {
     }
 
     /// The number of a variable's term; none for a variable past the last.
-    pub fn cell(&self, variable: usize) -> Option<u32>
+    pub(crate) fn cell(&self, variable: usize) -> Option<u32>
         ensures { result ≡ cell_at self.now variable }
     {
         match self.cells.get(variable) {
@@ -43,7 +43,7 @@ impl Row {
         }
     }
 
-    pub fn try_clone(&self, alloc: Global) -> Result<Row, AllocError>
+    fn try_clone(&self, alloc: Global) -> Result<Row, AllocError>
         ensures { IfOk result (λ r. r ≡ self.now) }
     {
         let cells = Vec::from_slice(alloc, self.cells.as_slice())?;
@@ -51,7 +51,7 @@ impl Row {
     }
 
     /// A copy, in a spare row's memory where there is one.
-    pub fn copy(&self, alloc: Global, spare: &mut Vec<Row>) -> Result<Row, AllocError>
+    pub(crate) fn copy(&self, alloc: Global, spare: &mut Vec<Row>) -> Result<Row, AllocError>
         ensures { IfOk result (λ r. r ≡ self.now) }
     {
         let Some(Row { mut cells }) = spare.pop() else {
@@ -63,7 +63,7 @@ impl Row {
     }
 
     /// Binds the variable; one past the last stays as it is.
-    pub fn bind(&mut self, variable: usize, number: u32)
+    pub(crate) fn bind(&mut self, variable: usize, number: u32)
         ensures { self.new ≡ slice_set self.old variable (Some number) }
     {
         if let Some(cell) = self.cells.get_mut(variable) {

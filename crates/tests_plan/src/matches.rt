@@ -1,0 +1,74 @@
+//! Matches of triple patterns, one by one.
+
+use crate::patterns::basic;
+use crate::stores::store;
+use qs_ops::{Matches, solution, term};
+use qs_patterns::TriplePattern;
+use qs_store::{Active, Store};
+use qs_terms::{Term, TermFault};
+use std::alloc::{AllocError, Global};
+use std::hash::RandomState;
+
+/// Whether the term is the IRI.
+pub fn is_iri(term: Option<&Term>, text: &str) -> bool {
+    match term {
+        Some(Term::Iri(iri)) => iri.text() == text,
+        _ => false,
+    }
+}
+
+/// Whether the next match binds the first variable to `subject` and the second to `object`.
+fn gives(
+    alloc: Global,
+    store: &Store,
+    matches: &mut Matches<'_, Store>,
+    subject: &str,
+    object: &str,
+) -> Result<bool, AllocError> {
+    let Some(row) = matches.next(alloc)? else {
+        return Ok(false);
+    };
+    let is_it = is_iri(term(store, &row, 0), subject) && is_iri(term(store, &row, 1), object);
+    let own = solution(alloc, store, &row, 1)?;
+    let is_own = own.len() == 1 && is_iri(own.term(0), subject);
+    drop(own);
+    matches.give_back(row)?;
+    Ok(is_it && is_own)
+}
+
+fn ends(alloc: Global, matches: &mut Matches<'_, Store>) -> Result<bool, AllocError> {
+    let row = matches.next(alloc)?;
+    Ok(row.is_none())
+}
+
+/// Whether the matches of `?0 e:p ?1` are those two, in the order of the index, and no more.
+fn are_matches(
+    alloc: Global,
+    store: &Store,
+    triples: &[TriplePattern],
+) -> Result<bool, AllocError> {
+    let mut matches = Matches::of(alloc, store, Active::Default, 2, triples)?;
+    let first = gives(alloc, store, &mut matches, "e:a", "e:b");
+    let second = gives(alloc, store, &mut matches, "e:c", "e:d");
+    let third = ends(alloc, &mut matches);
+    Ok(first == Ok(true) && second == Ok(true) && third == Ok(true))
+}
+
+fn does(alloc: Global, hasher: RandomState) -> bool {
+    let Some(store) = store(alloc, hasher) else {
+        return false;
+    };
+    match basic(alloc, 0, "e:p", 1) {
+        Ok(pattern) => are_matches(alloc, &store, pattern.triples.as_slice()) == Ok(true),
+        Err(_) => false,
+    }
+}
+
+#[test]
+fn matches_come_one_by_one(rt: HostRuntime) {
+    let is_right = match RandomState::new(&rt) {
+        Ok(hasher) => does(rt.alloc(), hasher),
+        Err(_) => false,
+    };
+    assert!(rt; is_right);
+}
