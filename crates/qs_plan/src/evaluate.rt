@@ -4,22 +4,24 @@ ghost use Rattle.std.specs.Prelude.{◌≡◌, List, [], ◌∷◌, IfOk};
 ghost use Rattle.std.specs.List.{flat_map, fold};
 ghost use Rattle.qs_terms.specs.Bag.{SameBag};
 ghost use Rattle.qs_solutions.specs.Solution.{Solution, unbound};
-ghost use Rattle.qs_patterns.specs.Eval.{eval, step};
+ghost use Rattle.qs_patterns.specs.Eval.{eval, step, in_named};
 ghost use Rattle.qs_ops.specs.Graph.{active_graph};
 
 use crate::basic::solutions_of_basic;
+use crate::graphs::graph_named;
 use crate::miss::Miss;
 use qs_eval::{extended, kept, left_joined, solutions_of_table};
 use qs_patterns::{Pattern, Step};
 use qs_solutions::{Row, joined, without};
 use qs_store::{Active, View};
+use qs_terms::Term;
 use std::alloc::Global;
 
 /// The solutions of a pattern of `width` named variables over a view, where this graph is active (SPARQL 1.1 Query, 18.6). A variable
 /// whose number is past them is bound nowhere.
 ///
 /// # Errors
-/// `Miss::Unplanned` where a property path or GRAPH stands in the pattern; `Miss::Memory` for want of memory.
+/// `Miss::Unplanned` where a property path, or GRAPH with a variable, stands in the pattern; `Miss::Memory` for want of memory.
 #[cycle(solutions)]
 pub fn solutions<V: View>(
     alloc: Global,
@@ -48,7 +50,11 @@ pub fn solutions<V: View>(
             let rows = solutions_of_table(alloc, width, table)?;
             Ok(rows)
         }
-        Pattern::Graph(_, _) | Pattern::EachGraph(_, _) => Err(Miss::Unplanned),
+        Pattern::Graph(name, part) => {
+            let rows = solutions_in(alloc, width, name, part.get(), view)?;
+            Ok(rows)
+        }
+        Pattern::EachGraph(_, _) => Err(Miss::Unplanned),
     }
 }
 
@@ -129,4 +135,24 @@ fn solutions_of_all<V: View>(
         rows.append(&mut more)?;
     }
     Ok(rows)
+}
+
+/// The solutions of the pattern in the graph of this name, if there is one.
+#[cycle(solutions)]
+fn solutions_in<V: View>(
+    alloc: Global,
+    width: usize,
+    name: &Term,
+    part: &Pattern,
+    view: &V,
+) -> Result<Vec<Row>, Miss>
+    ensures { IfOk result (λ rows. SameBag rows.items (in_named (V.content view.now).quads name.now (eval width (V.content view.now).quads part.now))) }
+{
+    match graph_named(view, name) {
+        Some(number) => {
+            let rows = solutions(alloc, width, part, view, Active::Graph(number))?;
+            Ok(rows)
+        }
+        None => Ok(Vec::new(alloc)),
+    }
 }

@@ -3,6 +3,7 @@
 
 mod basic;
 mod evaluate;
+mod graphs;
 mod miss;
 
 pub use evaluate::solutions;

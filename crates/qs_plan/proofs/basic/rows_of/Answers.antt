@@ -1,4 +1,4 @@
-use Rattle.std.proofs.Common.{rules, ap, sym, ◌∙◌}
+use Rattle.std.proofs.Common.{ap, ◌∙◌}
 use Rattle.qs_ops.specs.Coming.{Left}
 use Rattle.qs_ops.specs.Row.{front}
 use Rattle.qs_plan.proofs.Fitted.{last_row, next_row, fewer}

@@ -1,4 +1,4 @@
-use Rattle.std.proofs.Common.{rules, ap, sym, ◌∙◌, ◌≡◌, ◌+◌, []}
+use Rattle.std.proofs.Common.{rules}
 use Rattle.qs_ops.specs.Graph.{active_graph}
 use Rattle.qs_plan.proofs.Fitted.{basic_rows}
 use Rattle.qs_plan.proofs.basic.solutions_of_basic.Goals as goal

@@ -1,9 +1,9 @@
-use Rattle.std.proofs.Common.{rules, List, [], ◌∷◌, Some, ap, ◌∙◌}
+use Rattle.std.proofs.Common.{rules, ap, ◌∙◌}
 use Rattle.qs_ops.specs.Graph.{active_graph}
+use Rattle.qs_plan.proofs.Names.{in_graph, in_none}
 use Rattle.qs_solutions.specs.Operators.{join, left_join, minus}
-use Rattle.qs_solutions.specs.Solution.{Solution}
-use Rattle.qs_patterns.specs.Eval.{all_hold}
-use Rattle.qs_eval.proofs.Arms.{basic_arm, group_arm, union_arm, values_arm, join_arm, left_join_arm, minus_arm, extend_arm, step_more, union_more}
+use Rattle.qs_patterns.specs.Eval.{all_hold, eval}
+use Rattle.qs_eval.proofs.Arms.{basic_arm, group_arm, union_arm, graph_arm, values_arm, join_arm, left_join_arm, minus_arm, extend_arm, step_more, union_more}
 use Rattle.qs_patterns.specs.declared.pattern.Pattern.{the_lemmas}
 use Rattle.qs_plan.proofs.evaluate.+solutions.Goals as goal
 
@@ -59,3 +59,15 @@ solutions_of_group-loop-one-preserved g t c =
 pub solutions_of_all-loop-part-preserved : goal.solutions_of_all-loop-part-preserved
 solutions_of_all-loop-part-preserved g t c =
     union_more _ c.args.parts.now c.loop-part.part-index c.part-item.result _ _ _ c.loop-part-test.true c.part-item.is c.loop-part.invariant c.in_ok-more.ensures c.in_ok-append.ensures.items
+
+pub solutions-returns-in_ok-rows-in-Graph : goal.solutions-returns-in_ok-rows-in-Graph
+solutions-returns-in_ok-rows-in-Graph g t c =
+    graph_arm c.args.width (g.V.View.content c.args.view.now).quads (active_graph (g.V.View.content c.args.view.now) (g.V.View.default_seen c.args.view.now) c.args.active) c.args.pattern.now _ c.in-Graph.part _ c.in_ok-rows-in-Graph.rows.items c.in-Graph.is c.get.ensures c.in_ok-rows-in-Graph.ensures
+
+pub solutions_in-returns-in_ok-rows-in-Some : goal.solutions_in-returns-in_ok-rows-in-Some
+solutions_in-returns-in_ok-rows-in-Some g t c =
+    in_graph (g.V.View.content c.args.view.now) (g.V.View.default_seen c.args.view.now) c.args.name.now (eval c.args.width (g.V.View.content c.args.view.now).quads c.args.part.now) c.in-Some.number c.graph_named.result c.in_ok-rows-in-Some.rows.items c.graph_named.ensures c.in-Some.is c.in_ok-rows-in-Some.ensures
+
+pub solutions_in-returns-in-None : goal.solutions_in-returns-in-None
+solutions_in-returns-in-None g t c =
+    in_none (g.V.View.content c.args.view.now) c.args.name.now (eval c.args.width (g.V.View.content c.args.view.now).quads c.args.part.now) c.graph_named.result _ c.graph_named.ensures c.in-None.is c.new.ensures.items
