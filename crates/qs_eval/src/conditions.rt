@@ -37,11 +37,7 @@ fn put_kept(
 }
 
 /// The rows in which all conditions hold.
-pub fn kept(
-    alloc: Global,
-    conditions: &[Expr],
-    rows: Vec<Row>,
-) -> Result<Vec<Row>, AllocError>
+pub fn kept(alloc: Global, conditions: &[Expr], rows: Vec<Row>) -> Result<Vec<Row>, AllocError>
     ensures { IfOk result (λ all. all.items ≡ spec.kept conditions.now rows.items) }
 {
     if conditions.is_empty() {

@@ -20,7 +20,11 @@ use qs_terms::Term;
 use std::alloc::{AllocError, Global};
 
 /// A solution for each row of the table.
-pub fn solutions_of_table(alloc: Global, width: usize, table: &Table) -> Result<Vec<Row>, AllocError>
+pub fn solutions_of_table(
+    alloc: Global,
+    width: usize,
+    table: &Table,
+) -> Result<Vec<Row>, AllocError>
     ensures { IfOk result (λ rows. rows.items ≡ rows_of width table.now) }
 {
     let mut rows = Vec::new(alloc);
