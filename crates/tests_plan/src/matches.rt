@@ -1,13 +1,11 @@
 //! Matches of triple patterns, one by one.
 
 use crate::patterns::basic;
-use crate::stores::store;
 use qs_ops::{Matches, solution, term};
 use qs_patterns::TriplePattern;
 use qs_store::{Active, Store};
 use qs_terms::{Term, TermFault};
 use std::alloc::{AllocError, Global};
-use std::hash::RandomState;
 
 /// Whether the term is the IRI.
 pub fn is_iri(term: Option<&Term>, text: &str) -> bool {
@@ -54,21 +52,14 @@ fn are_matches(
     Ok(first == Ok(true) && second == Ok(true) && third == Ok(true))
 }
 
-fn does(alloc: Global, hasher: RandomState) -> bool {
-    let Some(store) = store(alloc, hasher) else {
-        return false;
-    };
+/// Whether the matches are right.
+pub fn are_right(alloc: Global, store: &Store) -> bool {
     match basic(alloc, 0, "e:p", 1) {
-        Ok(pattern) => are_matches(alloc, &store, pattern.triples.as_slice()) == Ok(true),
+        Ok(pattern) => {
+            let are_right = are_matches(alloc, store, pattern.triples.as_slice()) == Ok(true);
+            drop(pattern);
+            are_right
+        }
         Err(_) => false,
     }
-}
-
-#[test]
-fn matches_come_one_by_one(rt: HostRuntime) {
-    let is_right = match RandomState::new(&rt) {
-        Ok(hasher) => does(rt.alloc(), hasher),
-        Err(_) => false,
-    };
-    assert!(rt; is_right);
 }

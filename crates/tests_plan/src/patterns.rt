@@ -1,17 +1,15 @@
 //! A pattern over the store.
 
 use crate::matches::is_iri;
-use crate::stores::store;
 use qs_expr::Expr;
 use qs_patterns::{BasicPattern, Pattern, Slot, Step, TriplePattern};
 use qs_plan::solutions;
 use qs_shared::Shared;
 use qs_solutions::Row;
-use qs_store::Active;
+use qs_store::{Active, Store};
 use qs_terms::{Term, TermFault};
 use sqlite_items::{Boxed, Items};
 use std::alloc::{AllocError, Global};
-use std::hash::RandomState;
 
 fn one<T: Drop>(alloc: Global, item: T) -> Result<Items<T>, AllocError> {
     let mut items = Vec::new(alloc);
@@ -88,24 +86,21 @@ fn are_wanted(rows: &[Row]) -> bool {
     is_iri(row.term(0), "e:c") && is_iri(row.term(1), "e:d") && row.term(2).is_none()
 }
 
-fn does(alloc: Global, hasher: RandomState) -> bool {
-    let Some(store) = store(alloc, hasher) else {
-        return false;
-    };
-    let Ok(pattern) = pattern(alloc) else {
-        return false;
-    };
-    match solutions(alloc, 3, &pattern, &store, Active::Default) {
+fn is_answered(alloc: Global, store: &Store, pattern: &Pattern) -> bool {
+    match solutions(alloc, 3, pattern, store, Active::Default) {
         Ok(rows) => are_wanted(rows.as_slice()),
         Err(_) => false,
     }
 }
 
-#[test]
-fn optional_and_not_bound(rt: HostRuntime) {
-    let is_right = match RandomState::new(&rt) {
-        Ok(hasher) => does(rt.alloc(), hasher),
+/// Whether the solutions of an optional part and a condition are right.
+pub fn are_right(alloc: Global, store: &Store) -> bool {
+    match pattern(alloc) {
+        Ok(pattern) => {
+            let is_answered = is_answered(alloc, store, &pattern);
+            drop(pattern);
+            is_answered
+        }
         Err(_) => false,
-    };
-    assert!(rt; is_right);
+    }
 }

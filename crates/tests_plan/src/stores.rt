@@ -1,5 +1,6 @@
 //! A store of three triples: `e:a e:p e:b`, `e:c e:p e:d` and `e:a e:q 7`.
 
+use crate::{matches, patterns};
 use qs_store::Store;
 use qs_terms::dataset::is_above_blanks;
 use qs_terms::{Quad, Term, TermFault};
@@ -64,12 +65,28 @@ fn filled(store: &mut Store, quads: &[Quad]) -> bool {
     store.next_blank() == 0 && is_above_blanks(0, quads) && store.change(&[], quads, 0).is_ok()
 }
 
-/// The store.
-pub fn store(alloc: Global, hasher: RandomState) -> Option<Store> {
-    let mut store = Store::new(alloc, 100, hasher);
-    let is_filled = match quads(alloc) {
-        Ok(quads) => filled(&mut store, quads.as_slice()),
+fn is_filled(alloc: Global, store: &mut Store) -> bool {
+    match quads(alloc) {
+        Ok(quads) => filled(store, quads.as_slice()),
         Err(_) => false,
+    }
+}
+
+fn are_right(alloc: Global, store: &Store) -> bool {
+    matches::are_right(alloc, store) && patterns::are_right(alloc, store)
+}
+
+fn does(alloc: Global, hasher: Option<RandomState>) -> bool {
+    let Some(hasher) = hasher else {
+        return false;
     };
-    if is_filled { Some(store) } else { None }
+    let mut store = Store::new(alloc, 100, hasher);
+    let does = is_filled(alloc, &mut store) && are_right(alloc, &store);
+    drop(store);
+    does
+}
+
+#[test]
+fn cursors_and_plans(rt: HostRuntime) {
+    assert!(rt; does(rt.alloc(), RandomState::new(&rt).ok()));
 }
