@@ -16,8 +16,6 @@ mod growth;
 #[cfg(test)]
 mod index;
 #[cfg(test)]
-mod loads;
-#[cfg(test)]
 mod looks;
 #[cfg(test)]
 mod outcome;
