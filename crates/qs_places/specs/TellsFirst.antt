@@ -22,7 +22,7 @@ pub record IsLimitFirst (names : List QFault) (limit : Option ℕ) (place : ℕ)
   pub is_passed : limit ≡ Some place
   pub no_name : AllByRecursion (λ g. place < place_of g) names
 
--- whichever is first is told, and at one place the name's; or there is none
+-- whichever is first is told, and at one place the name's; where there is none, nothing is said of what is told
 abbrev pub TellsFirst : {A : Type 0} → List QFault → Option ℕ → Outcome A → Type 0
 TellsFirst names limit outcome =
     ((f : QFault) × (outcome ≡ Err f) × IsNameFirst names limit f)
