@@ -12,11 +12,11 @@ use Rattle.qs_terms.specs.declared.fault.QFault.TheVariants as fault
 use Rattle.qs_terms.specs.declared.fault.TermFault.{TermFault}
 use Rattle.qs_names.specs.Names.{Names, absolute, joined, is_colon, full, prefixed, declare, with_prefix}
 use Rattle.qs_resolve.specs.declared.resolver.Resolver.{Resolver}
-use Rattle.qs_settle.specs.Settled.{by_place, earlier, nearer}
+use Rattle.qs_settle.specs.Settled.{by_place, earlier, nearer, in_scope}
 use Rattle.qs_tree.specs.declared.token.Span.{Span}
 use Rattle.qs_tree.specs.declared.token.Token.{Token}
 use Rattle.qs_places.specs.NameFaults.{Role, iri, name, prefix, keyword, nothing, role, Before, anything, declares, declared, at_token, kept, fault_of, Place, look, behind, faults_from, at}
-use Rattle.qs_places.specs.TellsFirst.{place_of, IsNameFirst, IsLimitFirst, TellsFirst}
+use Rattle.qs_places.specs.TellsFirst.{place_of, IsNameFirst, IsLimitFirst, IsBeyond, TellsFirst}
 use Rattle.qs_places.proofs.Ascending.{Ascends}
 use Rattle.qs_places.proofs.Walks.{Comes}
 
@@ -105,14 +105,29 @@ abbrev pub Met : {A : Type 0} → List QFault → Outcome (A × Resolver) → Ty
 Met faults (Ok r) = faults ≡ []
 Met faults (Err f) = (rest : List QFault) × (faults ≡ f ∷ rest)
 
-module _ {A B : Type 0} (settle : A → Outcome B) (list : B → B) where
+scope_tested : {A : Type 0} (b : Bool) (a : A) → IsBeyond (if b then Ok a else Err fault.Scope)
+scope_tested true a = tt
+scope_tested false a = refl
+
+pub scope_is_beyond : {A : Type 0} (keeps : A → Bool) (a : A) → IsBeyond (in_scope keeps a)
+scope_is_beyond keeps a = scope_tested (keeps a) a
+
+listed_is_beyond : {B : Type 0} (list : B → B) (o : Outcome B) → IsBeyond o → IsBeyond (and_then o (λ b. Ok (list b)))
+listed_is_beyond list (Ok b) h = tt
+listed_is_beyond list (Err f) h = h
+
+module _ {A B : Type 0} (settle : A → Outcome B) (list : B → B) (beyond : (a : A) → IsBeyond (settle a)) where
   abbrev pub Told : Outcome (Option A) → Option ℕ → Outcome B
   Told resolved limit = and_then (and_then (by_place resolved limit) settle) (λ b. Ok (list b))
 
   module _ (faults : List QFault) (limit : Option ℕ) where
+    told_beyond : (found : Option A) → IsBeyond (Told (Ok found) None)
+    told_beyond None = refl
+    told_beyond (Some a) = listed_is_beyond list (settle a) (beyond a)
+
     -- no name is faulty
     no_fault : (found : Option A) → faults ≡ [] → (l : Option ℕ) → limit ≡ l → TellsFirst faults limit (Told (Ok found) l)
-    no_fault found e None q = inr (inr (e, q))
+    no_fault found e None q = inr (inr (e, q, told_beyond found))
     no_fault found e (Some place) q = inr (inl (place, refl, record { is_passed = q; no_name = subst (AllByRecursion (λ (g : QFault). place < place_of g)) (sym e) tt }))
 
     module _ (f : QFault) (rest : List QFault) (is : faults ≡ f ∷ rest) (least : AllFrom (place_of f) rest) where

@@ -1,5 +1,5 @@
 -- Of all faults of a text that have places, the first is told.
-use Rattle.std.specs.Prelude.{◌≡◌, ◌⊎◌, ◌≤◌, ◌<◌, ℕ, List, [], Option, Some, None, Err}
+use Rattle.std.specs.Prelude.{◌≡◌, ◌⊎◌, ◌≤◌, ◌<◌, ℕ, List, [], Option, Some, None, Ok, Err}
 use Rattle.std.specs.List.{AllByRecursion, Contains}
 use Rattle.qs_terms.specs.Outcome.{Outcome}
 use Rattle.qs_terms.specs.declared.fault.QFault.{QFault}
@@ -22,9 +22,14 @@ pub record IsLimitFirst (names : List QFault) (limit : Option ℕ) (place : ℕ)
   pub is_passed : limit ≡ Some place
   pub no_name : AllByRecursion (λ g. place < place_of g) names
 
--- whichever is first is told, and at one place the name's; where there is none, nothing is said of what is told
+-- what comes behind names and limits: a meaning, or the fault of scope
+abbrev pub IsBeyond : {A : Type 0} → Outcome A → Type 0
+IsBeyond (Ok a) = Unit {0}
+IsBeyond (Err f) = f ≡ fault.Scope
+
+-- whichever is first is told, and at one place the name's; where there is none, neither is
 abbrev pub TellsFirst : {A : Type 0} → List QFault → Option ℕ → Outcome A → Type 0
 TellsFirst names limit outcome =
     ((f : QFault) × (outcome ≡ Err f) × IsNameFirst names limit f)
     ⊎ ((place : ℕ) × (outcome ≡ Err (fault.TooLarge place)) × IsLimitFirst names limit place)
-    ⊎ ((names ≡ []) × (limit ≡ None))
+    ⊎ ((names ≡ []) × (limit ≡ None) × IsBeyond outcome)
