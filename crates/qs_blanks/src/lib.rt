@@ -2,6 +2,3 @@
 #![tactic(auto)]
 
 pub mod laws;
-mod predicates;
-
-pub use predicates::predicates_are_iris;

@@ -27,6 +27,14 @@ module _ {X : Type 0} where
   lent_last [] ys x e = ap lent e
   lent_last (z ∷ xs) ys x e = ap lent e ∙ ap (λ l. z.now ∷ l) (lent_last xs (xs ++ x ∷ []) x refl)
 
+pub lent-append : {X : Type 0} (xs ys : List (Bor X)) → lent (xs ++ ys) ≡ lent xs ++ lent ys
+lent-append [] ys = refl
+lent-append (x ∷ xs) ys = ap (λ l. x.now ∷ l) (lent-append xs ys)
+
+-- one element more
+pub lent_next : {X : Type 0} (xs : List (Bor X)) (i : ℕ) (x : Bor X) → i < length xs → x ≡ get_or xs i x → lent (take (i + 1) xs) ≡ lent (take i xs) ++ x.now ∷ []
+lent_next xs i x lt is = ap lent (take_more xs i x lt ∙ ap (λ z. take i xs ++ z ∷ []) (sym is)) ∙ lent-append (take i xs) (x ∷ [])
+
 -- ---- the names of graphs
 
 joined_at : (o : Option Term) (a b c : List Term) → c ≡ a ++ b → cons_option o c ≡ cons_option o a ++ b

@@ -20,3 +20,5 @@ pub mod KnownQuads
 pub mod KnownTerms
 pub mod Named
 pub mod LentLaws
+pub mod KeyedRows
+pub mod Joins

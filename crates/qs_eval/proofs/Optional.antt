@@ -7,6 +7,9 @@ use Rattle.std.proofs.lemmas.List.Elements.{filter-append}
 use Rattle.std.proofs.lemmas.Grind.{flat_map-append}
 use Rattle.qs_solutions.specs.Solution.{Solution, compatible, merge}
 use Rattle.qs_solutions.specs.Operators.{merges, or_alone, left_join}
+use Rattle.std.specs.Borrow.{Bor}
+use Rattle.qs_eval.specs.Lent.{lent}
+use Rattle.qs_eval.proofs.LentLaws.{lent_next}
 use Rattle.qs_expr.specs.declared.expr.Expr.{Expr}
 use Rattle.qs_patterns.specs.Eval.{kept}
 
@@ -15,27 +18,11 @@ merges_behind holds a xs ys =
     ap (filter holds) (ap (map (merge a)) (filter-append (compatible a) xs ys) ∙ map-append (merge a) (filter (compatible a) xs) (filter (compatible a) ys))
     ∙ filter-append holds (merges xs a) (merges ys a)
 
-next : (right : List Solution) (i : ℕ) (b : Solution) → i < length right → b ≡ get_or right i b → take (i + 1) right ≡ take i right ++ b ∷ []
-next right i b lt is = take_more right i b lt ∙ ap (λ x. take i right ++ x ∷ []) (sym is)
-
 one_merge : (holds : Solution → Bool) (a b : Solution) → compatible a b ≡ true → filter holds (merges (b ∷ []) a) ≡ filter holds (merge a b ∷ [])
 one_merge holds a b h = rw h refl
 
 no_merge : (holds : Solution → Bool) (a b : Solution) → compatible a b ≡ false → filter holds (merges (b ∷ []) a) ≡ []
 no_merge holds a b h = rw h refl
-
--- the next row of the right is compatible
-pub merge_more : (holds : Solution → Bool) (right : List Solution) (i : ℕ) (a b : Solution) → i < length right → b ≡ get_or right i b → compatible a b ≡ true
-    → filter holds (merges (take (i + 1) right) a) ≡ filter holds (merges (take i right) a) ++ filter holds (merge a b ∷ [])
-merge_more holds right i a b lt is h =
-    ap (λ l. filter holds (merges l a)) (next right i b lt is) ∙ (merges_behind holds a (take i right) (b ∷ []) ∙ ap (λ l. filter holds (merges (take i right) a) ++ l) (one_merge holds a b h))
-
--- it isn't
-pub merge_less : (holds : Solution → Bool) (right : List Solution) (i : ℕ) (a b : Solution) → i < length right → b ≡ get_or right i b → compatible a b ≡ false
-    → filter holds (merges (take (i + 1) right) a) ≡ filter holds (merges (take i right) a)
-merge_less holds right i a b lt is h =
-    ap (λ l. filter holds (merges l a)) (next right i b lt is)
-    ∙ (merges_behind holds a (take i right) (b ∷ []) ∙ (ap (λ l. filter holds (merges (take i right) a) ++ l) (no_merge holds a b h) ∙ append-nil (filter holds (merges (take i right) a))))
 
 pub one_more : (holds : Solution → Bool) (left right : List Solution) (i : ℕ) (a : Solution) → i < length left → a ≡ get_or left i a
     → left_join holds (take (i + 1) left) right ≡ left_join holds (take i left) right ++ or_alone a (filter holds (merges right a))
@@ -52,3 +39,17 @@ pub none_kept_out : (conditions : List Expr) (rows : List Solution) → (length 
 none_kept_out [] [] h = refl
 none_kept_out [] (m ∷ rows) h = ap (λ l. m ∷ l) (none_kept_out [] rows h)
 none_kept_out (e ∷ es) rows h = let k : length (e ∷ es) ≡ 0 = is_none (length (e ∷ es)) h in absurd (omega (arith, k))
+
+-- ---- the rows of the right, lent
+
+pub lent_merge_more : (holds : Solution → Bool) (right : List (Bor Solution)) (i : ℕ) (a : Solution) (b : Bor Solution) → i < length right → b ≡ get_or right i b → compatible a b.now ≡ true
+    → filter holds (merges (lent (take (i + 1) right)) a) ≡ filter holds (merges (lent (take i right)) a) ++ filter holds (merge a b.now ∷ [])
+lent_merge_more holds right i a b lt is h =
+    ap (λ l. filter holds (merges l a)) (lent_next right i b lt is)
+    ∙ (merges_behind holds a (lent (take i right)) (b.now ∷ []) ∙ ap (λ l. filter holds (merges (lent (take i right)) a) ++ l) (one_merge holds a b.now h))
+
+pub lent_merge_less : (holds : Solution → Bool) (right : List (Bor Solution)) (i : ℕ) (a : Solution) (b : Bor Solution) → i < length right → b ≡ get_or right i b → compatible a b.now ≡ false
+    → filter holds (merges (lent (take (i + 1) right)) a) ≡ filter holds (merges (lent (take i right)) a)
+lent_merge_less holds right i a b lt is h =
+    ap (λ l. filter holds (merges l a)) (lent_next right i b lt is)
+    ∙ (merges_behind holds a (lent (take i right)) (b.now ∷ []) ∙ (ap (λ l. filter holds (merges (lent (take i right)) a) ++ l) (no_merge holds a b.now h) ∙ append-nil (filter holds (merges (lent (take i right)) a))))

@@ -1,3 +1,4 @@
 pub mod Below
 pub mod Found
 pub mod Lent
+pub mod Keyed

@@ -1,10 +1,13 @@
 //! Conditions of groups and of optional patterns, and values that are bound (SPARQL 1.1 Query, 18.5: Filter, LeftJoin, Extend).
 
-ghost use Rattle.std.specs.Prelude.{◌≡◌, ◌++◌, ◌∷◌, [], map, IfOk, OnOk};
-ghost use Rattle.std.specs.List.{filter};
-ghost use Rattle.qs_solutions.specs.Operators.{merges, or_alone, left_join};
+ghost use Rattle.std.specs.Prelude.{◌≡◌, ◌++◌, ◌∷◌, [], true, map, IfOk, OnOk};
+ghost use Rattle.std.specs.List.{list_any};
+ghost use Rattle.qs_solutions.specs.Operators.{merges, or_alone, join, left_join, excludes, minus};
+ghost use Rattle.qs_eval.specs.Keyed.{is_short};
+ghost use Rattle.qs_eval.specs.Lent.{lent};
 ghost use Rattle.qs_patterns.specs.Eval as spec;
 
+use crate::keyed::Keyed;
 use qs_expr::{Expr, ExprFault, eval, holds};
 use qs_solutions::Row;
 use std::alloc::{AllocError, Global};
@@ -51,17 +54,17 @@ pub fn kept(alloc: Global, conditions: &[Expr], rows: Vec<Row>) -> Result<Vec<Ro
 }
 
 /// Puts the row merged with each compatible one of the right behind the others, as far as all conditions hold in it.
-#[tactic(auto, using(crate::proofs::Optional::merge_more, crate::proofs::Optional::merge_less))]
+#[tactic(auto, using(crate::proofs::Optional::lent_merge_more, crate::proofs::Optional::lent_merge_less))]
 fn put_merges(
     alloc: Global,
     row: &Row,
-    right: &[Row],
+    right: &[&Row],
     conditions: &[Expr],
     rows: &mut Vec<Row>,
 ) -> Result<(), AllocError>
-    ensures { OnOk result (rows.new.items ≡ rows.old.items ++ spec.kept conditions.now (merges right.now row.now)) }
+    ensures { OnOk result (rows.new.items ≡ rows.old.items ++ spec.kept conditions.now (merges (lent right.now) row.now)) }
 {
-    for other in right {
+    for &other in right {
         if row.is_compatible(other) {
             let merged = row.merged(alloc, other)?;
             put_kept(alloc, merged, conditions, rows)?;
@@ -74,11 +77,11 @@ fn put_merges(
 fn put_optional(
     alloc: Global,
     row: &Row,
-    right: &[Row],
+    right: &[&Row],
     conditions: &[Expr],
     rows: &mut Vec<Row>,
 ) -> Result<(), AllocError>
-    ensures { OnOk result (rows.new.items ≡ rows.old.items ++ or_alone row.now (spec.kept conditions.now (merges right.now row.now))) }
+    ensures { OnOk result (rows.new.items ≡ rows.old.items ++ or_alone row.now (spec.kept conditions.now (merges (lent right.now) row.now))) }
 {
     let before = rows.len();
     put_merges(alloc, row, right, conditions, rows)?;
@@ -90,8 +93,9 @@ fn put_optional(
 }
 
 /// Each row of the left merged with each row of the right that it is compatible with, as far as all conditions hold in the merged one;
-/// and alone where there is no such.
-#[tactic(auto, using(crate::proofs::Optional::one_more))]
+/// and alone where there is no such. Where a variable is bound in all rows, it takes time by the merges and the logarithm of the right's
+/// count for each row.
+#[tactic(auto, using(crate::proofs::Joins::optional_more))]
 pub fn left_joined(
     alloc: Global,
     left: &[Row],
@@ -100,9 +104,80 @@ pub fn left_joined(
 ) -> Result<Vec<Row>, AllocError>
     ensures { IfOk result (λ rows. rows.items ≡ left_join (spec.all_hold conditions.now) left.now right.now) }
 {
+    let keyed = Keyed::new(alloc, left, right)?;
     let mut rows = Vec::new(alloc);
     for row in left {
-        put_optional(alloc, row, right, conditions, &mut rows)?;
+        put_optional(alloc, row, keyed.candidates(row), conditions, &mut rows)?;
+    }
+    Ok(rows)
+}
+
+/// Each row of the left merged with each row of the right that it is compatible with (SPARQL 1.1 Query, 18.5: Join). It takes time as
+/// `left_joined` does.
+#[tactic(auto, using(crate::proofs::Joins::join_more))]
+pub fn joined(alloc: Global, left: &[Row], right: &[Row]) -> Result<Vec<Row>, AllocError>
+    ensures { IfOk result (λ rows. rows.items ≡ join left.now right.now) }
+{
+    let keyed = Keyed::new(alloc, left, right)?;
+    let mut rows = Vec::new(alloc);
+    for row in left {
+        put_merges(alloc, row, keyed.candidates(row), &[], &mut rows)?;
+    }
+    Ok(rows)
+}
+
+fn has_short(rows: &[Row], width: usize) -> bool
+    ensures { result ≡ list_any (is_short width) rows.now }
+{
+    rows.iter().any(|row| row.len() < width)
+}
+
+/// Whether the left is one row that binds nothing, so that each row of the right is its merge with it.
+fn is_unit(left: &[Row], right: &[Row]) -> bool
+    ensures { result ≡ true → right.now ≡ join left.now right.now }
+{
+    if left.len() != 1 {
+        return false;
+    }
+    let row = &left[0];
+    !row.shares(row) && !has_short(right, row.len())
+}
+
+/// The same of lists that are handed over: where the left is the one row that binds nothing, the rows of the right are handed on.
+pub fn joined_rows(alloc: Global, left: Vec<Row>, right: Vec<Row>) -> Result<Vec<Row>, AllocError>
+    ensures { IfOk result (λ rows. rows.items ≡ join left.items right.items) }
+{
+    if is_unit(left.as_slice(), right.as_slice()) {
+        return Ok(right);
+    }
+    let rows = joined(alloc, left.as_slice(), right.as_slice())?;
+    Ok(rows)
+}
+
+fn is_excluded(row: &Row, right: &[&Row]) -> bool
+    ensures { result ≡ list_any (excludes row.now) (lent right.now) }
+{
+    for &other in right {
+        if row.is_compatible(other) && row.shares(other) {
+            return true;
+        }
+    }
+    false
+}
+
+/// The rows of the left that no row of the right is compatible with and shares a bound variable with (SPARQL 1.1 Query, 18.5: Minus). It
+/// takes time as `left_joined` does.
+#[tactic(auto, using(crate::proofs::Joins::kept_more, crate::proofs::Joins::excluded_more))]
+pub fn without(alloc: Global, left: &[Row], right: &[Row]) -> Result<Vec<Row>, AllocError>
+    ensures { IfOk result (λ rows. rows.items ≡ minus left.now right.now) }
+{
+    let keyed = Keyed::new(alloc, left, right)?;
+    let mut rows = Vec::new(alloc);
+    for row in left {
+        if !is_excluded(row, keyed.candidates(row)) {
+            let row = row.try_clone(alloc)?;
+            rows.push(row)?;
+        }
     }
     Ok(rows)
 }

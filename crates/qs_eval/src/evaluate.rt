@@ -11,11 +11,11 @@ ghost use Rattle.qs_patterns.specs.Eval.{eval, step, kept, in_named, in_each, ro
 ghost use Rattle.qs_eval.specs.Lent.{lent};
 
 use crate::basic::solutions_of_basic;
-use crate::conditions::{extended, kept, left_joined};
+use crate::conditions::{extended, joined, joined_rows, kept, left_joined, without};
 use crate::names::{is_name, names};
 use crate::quads::Quads;
 use qs_patterns::{Pattern, Step, Table};
-use qs_solutions::{Row, joined, without};
+use qs_solutions::Row;
 use qs_terms::Term;
 use std::alloc::{AllocError, Global};
 
@@ -146,7 +146,7 @@ fn stepped(
     match one {
         Step::Join(part) => {
             let right = solutions(alloc, width, part, quads, graph)?;
-            let rows = joined(alloc, left.as_slice(), right.as_slice())?;
+            let rows = joined_rows(alloc, left, right)?;
             Ok(rows)
         }
         Step::LeftJoin(part, conditions) => {

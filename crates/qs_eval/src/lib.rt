@@ -5,10 +5,12 @@ mod basic;
 mod conditions;
 mod evaluate;
 mod extend;
+mod keyed;
 mod names;
 mod paths;
 mod quads;
 
-pub use conditions::{extended, kept, left_joined};
+pub use conditions::{extended, joined, joined_rows, kept, left_joined, without};
 pub use evaluate::{solutions, solutions_of_table, with_name};
+pub use paths::joined_along;
 pub use quads::Quads;

@@ -7,10 +7,11 @@ ghost use Rattle.qs_terms.specs.Bag.{SameBag};
 ghost use Rattle.qs_terms.specs.Dataset.{graph_of};
 ghost use Rattle.qs_patterns.specs.Basic as spec;
 
+use crate::conditions::joined_rows;
 use crate::quads::Quads;
-use qs_paths::{Edges, Pair, pairs};
+use qs_paths::{Edges, Pair, Source, pairs};
 use qs_patterns::{PathPattern, Slot};
-use qs_solutions::{Row, joined};
+use qs_solutions::Row;
 use qs_terms::Term;
 use std::alloc::{AllocError, Global};
 
@@ -86,13 +87,13 @@ fn rows_of(
 }
 
 /// The solutions of a path pattern.
-fn path_solutions<'a>(
+fn path_solutions<'a, E: Source>(
     alloc: Global,
     width: usize,
     pattern: &'a PathPattern,
-    edges: &Edges<'a>,
+    edges: &'a E,
 ) -> Result<Vec<Row>, AllocError>
-    ensures { IfOk result (λ rows. SameBag rows.items (spec.path_solutions width edges.now pattern.now)) }
+    ensures { IfOk result (λ rows. SameBag rows.items (spec.path_solutions width (E.graph edges.now) pattern.now)) }
 {
     let left = end_of(&pattern.subject);
     let right = end_of(&pattern.object);
@@ -101,19 +102,19 @@ fn path_solutions<'a>(
     Ok(rows)
 }
 
-/// The rows, joined with the solutions of one path pattern after another.
-fn joined_along<'a>(
+/// The rows, joined with the solutions of one path pattern after another in the graph of these edges.
+pub fn joined_along<'a, E: Source>(
     alloc: Global,
     width: usize,
     patterns: &'a [PathPattern],
-    edges: &Edges<'a>,
+    edges: &'a E,
     mut rows: Vec<Row>,
 ) -> Result<Vec<Row>, AllocError>
-    ensures { IfOk result (λ all. SameBag all.items (spec.with_paths width edges.now patterns.now rows.items)) }
+    ensures { IfOk result (λ all. SameBag all.items (spec.with_paths width (E.graph edges.now) patterns.now rows.items)) }
 {
     for pattern in patterns {
         let right = path_solutions(alloc, width, pattern, edges)?;
-        rows = joined(alloc, rows.as_slice(), right.as_slice())?;
+        rows = joined_rows(alloc, rows, right)?;
     }
     Ok(rows)
 }

@@ -1,15 +1,15 @@
 -- Paths one behind another: followed from the left or from the right, with what stands between given where it is a node.
-use Rattle.std.proofs.Common.{◌≡◌, ◌≢◌, ℕ, zero, suc, ◌+◌, ◌-◌, ◌<◌, ◌≤◌, Bool, true, false, ◌&&◌, cond, if◌then◌else◌, ◌==◌, List, [], ◌∷◌, ◌++◌, append_assoc, length, take, drop, get_or, map, Option, Some, None, refl, sym, ◌∙◌, ap, subst, arith, drop-cons, length-drop}
+use Rattle.std.proofs.Common.{◌≡◌, ◌≢◌, ℕ, zero, suc, ◌+◌, ◌<◌, Bool, true, false, cond, if◌then◌else◌, ◌==◌, List, [], ◌∷◌, ◌++◌, length, take, get_or, map, Option, Some, None, refl, sym, ◌∙◌, ap, subst, arith}
 use Rattle.std.specs.List.{filter, flat_map, list_any}
 use Rattle.std.proofs.lemmas.Bool.{eqb-true, eqb-false}
-use Rattle.std.proofs.lemmas.List.{take_more, take_all, append-nil}
+use Rattle.std.proofs.lemmas.List.{take_more, append-nil}
 use Rattle.std.proofs.lemmas.List.Sorted.{IsPermutation-append, IsPermutation-map, IsPermutation-refl, IsPermutation-trans}
 use Rattle.std.proofs.lemmas.Grind.{flat_map-append}
 use Rattle.qs_terms.specs.declared.term.Term.{Term}
 use Rattle.qs_terms.specs.Bag.{times, SameBag}
 use Rattle.qs_terms.specs.Term.{same_term}
 use Rattle.qs_terms.specs.Dataset.{nodes_of}
-use Rattle.qs_terms.proofs.Counts.{total, times-append, times-flat_map, total-ap, same_from_times}
+use Rattle.qs_terms.proofs.Counts.{total, times-flat_map, total-ap, same_from_times}
 use Rattle.qs_terms.proofs.FirstOnes.{filter-append}
 use Rattle.qs_terms.proofs.SameTerm.{same_term-Decides}
 use Rattle.qs_ast.specs.declared.path.Path.{Path}
@@ -19,7 +19,7 @@ use Rattle.qs_paths.specs.Found.{node_or_open, into_pair, right_at}
 use Rattle.qs_paths.specs.Pairs.{AtEnds, in_sequence, pairs}
 use Rattle.qs_paths.proofs.Members.{in_mem, bool_same}
 use Rattle.qs_paths.proofs.Finds.{map-append}
-use Rattle.qs_paths.proofs.Arms.{same_pair-Decides, same_as, same_at, filter_same_by, flat_map_same, composed_same}
+use Rattle.qs_paths.proofs.Arms.{same_pair-Decides, same_at, filter_same_by, composed_same}
 use Rattle.qs_paths.proofs.Steady.{steady, at_left, at_right, filter_again, filter_ap}
 
 same_sym : (x y : Term) → same_term x y ≡ same_term y x

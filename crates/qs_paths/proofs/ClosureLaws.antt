@@ -1,24 +1,22 @@
 -- A closure has a pair exactly where a walk leads from its left to its right end, and each pair once.
-use Rattle.std.proofs.Common.{◌≡◌, ℕ, Bool, true, false, ◌⊎◌, inl, inr, List, [], ◌∷◌, ◌++◌, length, map, Option, Some, None, refl, sym, ◌∙◌, ap, subst}
-use Rattle.std.specs.Prelude.{◌↔◌}
+use Rattle.std.proofs.Common.{◌≡◌, Bool, true, inl, inr, List, [], ◌∷◌, ◌++◌, map, Option, Some, None, refl, sym, ◌∙◌, ap, subst}
 use Rattle.std.specs.List.{filter, flat_map, list_any}
 use Rattle.qs_terms.specs.declared.term.Term.{Term}
-use Rattle.qs_terms.specs.Bag.{Distinct, once}
+use Rattle.qs_terms.specs.Bag.{Distinct}
 use Rattle.qs_terms.specs.Term.{same_term}
 use Rattle.qs_terms.specs.Dataset.{nodes_of, ends_of}
 use Rattle.qs_terms.proofs.SameTerm.{same_term-Decides}
 use Rattle.qs_tree.specs.declared.path.Repetition.{Repetition}
-use Rattle.qs_tree.specs.declared.path.Repetition.TheVariants.{ZeroOrOne, ZeroOrMore, OneOrMore}
 use Rattle.qs_ast.specs.declared.path.Path.{Path}
 use Rattle.qs_ast.specs.declared.path.Path.TheVariants.{Repeated}
 use Rattle.qs_paths.specs.Pair.{Pair, pair, same_pair}
 use Rattle.qs_paths.specs.Steps.{Graph, agrees}
 use Rattle.qs_paths.specs.Closure.{candidates, repeats, ends, starts, from_start, closure}
 use Rattle.qs_paths.specs.Pairs.{AtEnds, is_step, pairs}
-use Rattle.qs_paths.specs.Walk.{IsWalk, IsCount, Leads, IsIn, IsStep, MayBegin, ClosuresAreWalks, ClosuresAreDistinct}
+use Rattle.qs_paths.specs.Walk.{IsWalk, Leads, IsIn, IsStep, MayBegin, ClosuresAreWalks, ClosuresAreDistinct}
 use Rattle.qs_paths.proofs.Meaning.{pairs_repeated}
-use Rattle.qs_paths.proofs.Members.{Mem, mem_at, mem_split, mem_filter, mem_of_filter, mem_map, mem_of_map, mem_flat, mem_of_flat, in_mem, mem_in, not_in, is_out, distinct_filter, distinct_once, mem_once, mem_of_once}
-use Rattle.qs_paths.proofs.Near.{Near, Between, Tied, tied, near_back, step_near, repeats_near, start_candidate, candidate, candidates_closed}
+use Rattle.qs_paths.proofs.Members.{Mem, mem_at, mem_split, mem_filter, mem_of_filter, mem_map, mem_of_map, mem_flat, mem_of_flat, in_mem, mem_in, not_in, is_out, distinct_filter, distinct_once}
+use Rattle.qs_paths.proofs.Near.{Near, Tied, tied, step_near, repeats_near, start_candidate, candidate, candidates_closed}
 use Rattle.qs_paths.proofs.Search.{inside, right_in, in_right}
 use Rattle.qs_paths.proofs.Arms.{same_pair-Decides}
 use Rattle.qs_paths.proofs.WalkLaws.{walks_repeat, repeat_walks}

@@ -1,5 +1,5 @@
 -- Triples kept at the nodes that they have at one end.
-use Rattle.std.proofs.Common.{◌≡◌, ℕ, ◌+◌, ◌<◌, ◌≤◌, Bool, true, false, not, ◌||◌, ◌==◌, cond, if◌then◌else◌, ◌⊎◌, inl, inr, List, [], ◌∷◌, ◌++◌, length, take, get_or, map, Option, Some, None, is_eq, refl, sym, ◌∙◌, ap, subst, arith}
+use Rattle.std.proofs.Common.{◌≡◌, ℕ, ◌+◌, ◌<◌, ◌≤◌, Bool, true, false, not, ◌||◌, ◌==◌, cond, if◌then◌else◌, inl, inr, List, [], ◌∷◌, ◌++◌, length, take, get_or, map, Option, Some, None, is_eq, refl, sym, ◌∙◌, ap, subst, arith}
 use Rattle.std.specs.Prelude.{Vec}
 use Rattle.std.specs.Borrow.{Bor}
 use Rattle.std.specs.BTreeMap.{is_at, insert_entry}
@@ -15,13 +15,24 @@ use Rattle.qs_terms.specs.Term.{same_term}
 use Rattle.qs_terms.specs.Statement.{Statement, same_graph}
 use Rattle.qs_terms.specs.Dataset.{Triple, triple_of, graph_of, nodes_of, ends_of}
 use Rattle.qs_terms.proofs.FirstOnes.{filter-append}
-use Rattle.qs_terms.proofs.SameTerm.{same_term-Decides}
+use Rattle.qs_terms.proofs.SameTerm.{same_term-Decides, eq_is}
+use Rattle.qs_terms.specs.contracts.term.TermOrd.TheImpl as ord
+use Rattle.qs_terms.specs.contracts.term.TermOrd.TheImpl.Laws as law
 use Rattle.qs_paths.specs.Edges.{lent, triples, triples_at, at_node, IsKeyed}
 use Rattle.qs_paths.specs.Steps.{Graph}
-use Rattle.qs_paths.proofs.Members.{Mem, mem_at, mem_once, mem_of_once, mem_flat, mem_of_flat, mem_filter, mem_of_filter, mem_in, in_mem, not_in}
-use Rattle.qs_paths.proofs.Finds.{order_at, order, test_at, triples-append, triples_more, map-append}
+use Rattle.qs_paths.proofs.Members.{Mem, mem_at, mem_once, mem_of_once, mem_flat, mem_of_flat, mem_filter, mem_of_filter, mem_in, not_in}
+use Rattle.qs_paths.proofs.Finds.{triples-append, triples_more, map-append}
 
 -- ---- entries
+
+abbrev pub order : Term → Term → Ordering
+order = ord.ghosts.cmp
+
+abbrev pub order_at : Term → Term → Ordering
+order_at a = order a
+
+test_at : (a b : Term) → is_eq (order_at a b) ≡ same_term a b
+test_at a b = sym (law.matches_eq-law a b) ∙ eq_is a b
 
 apart_at : (x k e : Term) → same_term k e ≡ false → same_term x k ≡ true → same_term x e ≡ true → ⊥
 apart_at x k e f a b =
@@ -30,11 +41,11 @@ apart_at x k e f a b =
     let z : true ≡ false = sym t ∙ f in cc
 
 module _ {V : Type 0} where
-  abbrev pub find : Term → List (Bor Term × V) → Option V
-  find x es = lookup (λ k. same_term x k.now) es
+  abbrev pub find : Term → List (Term × V) → Option V
+  find x es = lookup (same_term x) es
 
   -- the map finds a term by its value
-  pub find_is : (x : Term) (es : List (Bor Term × V)) → lookup (is_at (order_at x)) es ≡ find x es
+  pub find_is : (x : Term) (es : List (Term × V)) → lookup (is_at (order_at x)) es ≡ find x es
   find_is x [] = refl
   find_is x (e ∷ es) = rw (test_at x e.0, find_is x es) refl
 
@@ -49,36 +60,36 @@ module _ {V : Type 0} where
   again_at false v w r = refl
 
   -- a value that is written at a key that is there
-  pub find_set : (x k : Term) (es : List (Bor Term × V)) (v w : V) → find k es ≡ Some v → find x (set_value (is_at (order_at k)) es w) ≡ cond (same_term x k) (Some w) (find x es)
+  pub find_set : (x k : Term) (es : List (Term × V)) (v w : V) → find k es ≡ Some v → find x (set_value (is_at (order_at k)) es w) ≡ cond (same_term x k) (Some w) (find x es)
   find_set x k [] v w h = let z : None ≡ Some v = h in cc
   find_set x k (e ∷ es) v w h =
       ap (λ c. find x (cond c ((e.0, w) ∷ es) (e ∷ set_value (is_at (order_at k)) es w))) (test_at k e.0)
-      ∙ by (same_term k e.0.now) refl (λ g. find_set x k es v w g)
+      ∙ by (same_term k e.0) refl (λ g. find_set x k es v w g)
     where
-      by : (c : Bool) → same_term k e.0.now ≡ c → (find k es ≡ Some v → find x (set_value (is_at (order_at k)) es w) ≡ cond (same_term x k) (Some w) (find x es))
-          → find x (cond c ((e.0, w) ∷ es) (e ∷ set_value (is_at (order_at k)) es w)) ≡ cond (same_term x k) (Some w) (cond (same_term x e.0.now) (Some e.1) (find x es))
+      by : (c : Bool) → same_term k e.0 ≡ c → (find k es ≡ Some v → find x (set_value (is_at (order_at k)) es w) ≡ cond (same_term x k) (Some w) (find x es))
+          → find x (cond c ((e.0, w) ∷ es) (e ∷ set_value (is_at (order_at k)) es w)) ≡ cond (same_term x k) (Some w) (cond (same_term x e.0) (Some e.1) (find x es))
       by true i ih =
-          ap (λ (z : Term). cond (same_term x z) (Some w) (find x es)) (sym ((same_term-Decides k e.0.now).0 i))
-          ∙ (again_at (same_term x k) (Some w) (Some e.1) (find x es) ∙ ap (λ (z : Term). cond (same_term x k) (Some w) (cond (same_term x z) (Some e.1) (find x es))) ((same_term-Decides k e.0.now).0 i))
+          ap (λ (z : Term). cond (same_term x z) (Some w) (find x es)) (sym ((same_term-Decides k e.0).0 i))
+          ∙ (again_at (same_term x k) (Some w) (Some e.1) (find x es) ∙ ap (λ (z : Term). cond (same_term x k) (Some w) (cond (same_term x z) (Some e.1) (find x es))) ((same_term-Decides k e.0).0 i))
       by false i ih =
-          twice_at (same_term x k) (same_term x e.0.now) (Some w) (Some e.1) (find x es) _ (apart_at x k e.0.now i)
+          twice_at (same_term x k) (same_term x e.0) (Some w) (Some e.1) (find x es) _ (apart_at x k e.0 i)
           (ih (sym (ap (λ c. cond c (Some e.1) (find k es)) i) ∙ h))
 
   -- a new key
-  pub find_insert : (x : Term) (k : Bor Term) (es : List (Bor Term × V)) (w : V) → find x (insert_entry order es k w) ≡ cond (same_term x k.now) (Some w) (find x es)
+  pub find_insert : (x : Term) (k : Term) (es : List (Term × V)) (w : V) → find x (insert_entry order es k w) ≡ cond (same_term x k) (Some w) (find x es)
   find_insert x k [] w = refl
   find_insert x k (e ∷ es) w = by (order k e.0) refl (find_insert x k es w)
     where
-      by : (o : Ordering) → order k e.0 ≡ o → find x (insert_entry order es k w) ≡ cond (same_term x k.now) (Some w) (find x es)
-          → find x (match_ordering o ((k, w) ∷ e ∷ es) ((e.0, w) ∷ es) (e ∷ insert_entry order es k w)) ≡ cond (same_term x k.now) (Some w) (cond (same_term x e.0.now) (Some e.1) (find x es))
+      by : (o : Ordering) → order k e.0 ≡ o → find x (insert_entry order es k w) ≡ cond (same_term x k) (Some w) (find x es)
+          → find x (match_ordering o ((k, w) ∷ e ∷ es) ((e.0, w) ∷ es) (e ∷ insert_entry order es k w)) ≡ cond (same_term x k) (Some w) (cond (same_term x e.0) (Some e.1) (find x es))
       by Less o ih = refl
       by Equal o ih =
-          let i : k.now ≡ e.0.now = (same_term-Decides k.now e.0.now).0 (sym (test_at k.now e.0) ∙ ap is_eq o) in
+          let i : k ≡ e.0 = (same_term-Decides k e.0).0 (sym (test_at k e.0) ∙ ap is_eq o) in
           ap (λ (z : Term). cond (same_term x z) (Some w) (find x es)) (sym i)
-          ∙ (again_at (same_term x k.now) (Some w) (Some e.1) (find x es) ∙ ap (λ (z : Term). cond (same_term x k.now) (Some w) (cond (same_term x z) (Some e.1) (find x es))) i)
+          ∙ (again_at (same_term x k) (Some w) (Some e.1) (find x es) ∙ ap (λ (z : Term). cond (same_term x k) (Some w) (cond (same_term x z) (Some e.1) (find x es))) i)
       by Greater o ih =
-          twice_at (same_term x k.now) (same_term x e.0.now) (Some w) (Some e.1) (find x es) _
-          (apart_at x k.now e.0.now (sym (test_at k.now e.0) ∙ ap is_eq o)) ih
+          twice_at (same_term x k) (same_term x e.0) (Some w) (Some e.1) (find x es) _
+          (apart_at x k e.0 (sym (test_at k e.0) ∙ ap is_eq o)) ih
 
 -- ---- what stands at a node
 
@@ -91,7 +102,7 @@ module _ {Z : Type 0} where
   more_at false o w q h = sym (append-nil (triples_at o))
 
   -- the quad goes behind those that are there
-  pub put_there : (k : Term) (q : Bor Statement) (es es' : List (Bor Term × Vec (Bor Statement) Z)) (v w : Vec (Bor Statement) Z) → lookup (is_at (order_at k)) es ≡ Some v → w.items ≡ v.items ++ q ∷ [] → es' ≡ set_value (is_at (order_at k)) es w
+  pub put_there : (k : Term) (q : Bor Statement) (es es' : List (Term × Vec (Bor Statement) Z)) (v w : Vec (Bor Statement) Z) → lookup (is_at (order_at k)) es ≡ Some v → w.items ≡ v.items ++ q ∷ [] → es' ≡ set_value (is_at (order_at k)) es w
       → (x : Term) → at_node es' x ≡ at_node es x ++ (if same_term x k then triple_of q.now ∷ [] else [])
   put_there k q es es' v w h i e x =
       let f : find k es ≡ Some v = sym (find_is k es) ∙ h in
@@ -100,32 +111,32 @@ module _ {Z : Type 0} where
       ap triples i ∙ (triples-append v.items (q ∷ []) ∙ ap (λ l. l ++ triple_of q.now ∷ []) (sym (ap (λ z. triples_at (find z es)) ((same_term-Decides x k).0 t) ∙ ap triples_at f)))))
 
   -- or alone
-  pub put_new : (k : Bor Term) (q : Bor Statement) (es es' : List (Bor Term × Vec (Bor Statement) Z)) (w : Vec (Bor Statement) Z) → lookup (is_at (order_at k.now)) es ≡ None → w.items ≡ q ∷ [] → es' ≡ insert_entry order es k w
-      → (x : Term) → at_node es' x ≡ at_node es x ++ (if same_term x k.now then triple_of q.now ∷ [] else [])
+  pub put_new : (k : Term) (q : Bor Statement) (es es' : List (Term × Vec (Bor Statement) Z)) (w : Vec (Bor Statement) Z) → lookup (is_at (order_at k)) es ≡ None → w.items ≡ q ∷ [] → es' ≡ insert_entry order es k w
+      → (x : Term) → at_node es' x ≡ at_node es x ++ (if same_term x k then triple_of q.now ∷ [] else [])
   put_new k q es es' w h i e x =
-      let f : find k.now es ≡ None = sym (find_is k.now es) ∙ h in
+      let f : find k es ≡ None = sym (find_is k es) ∙ h in
       ap (λ l. at_node l x) e ∙ (ap triples_at (find_insert x k es w)
-      ∙ more_at (same_term x k.now) (find x es) w q (λ t.
-      ap triples i ∙ ap (λ l. l ++ triple_of q.now ∷ []) (sym (ap (λ z. triples_at (find z es)) ((same_term-Decides x k.now).0 t) ∙ ap triples_at f))))
+      ∙ more_at (same_term x k) (find x es) w q (λ t.
+      ap triples i ∙ ap (λ l. l ++ triple_of q.now ∷ []) (sym (ap (λ z. triples_at (find z es)) ((same_term-Decides x k).0 t) ∙ ap triples_at f))))
 
   -- one triple more
-  pub keyed_more : (end : Triple → Term) (quads : List (Bor Statement)) (i : ℕ) (q : Bor Statement) (es es' : List (Bor Term × Vec (Bor Statement) Z)) → i < length quads → q ≡ get_or quads i q → IsKeyed end es (triples (take i quads))
+  pub keyed_more : (end : Triple → Term) (quads : List (Bor Statement)) (i : ℕ) (q : Bor Statement) (es es' : List (Term × Vec (Bor Statement) Z)) → i < length quads → q ≡ get_or quads i q → IsKeyed end es (triples (take i quads))
       → ((x : Term) → at_node es' x ≡ at_node es x ++ (if same_term x (end (triple_of q.now)) then triple_of q.now ∷ [] else [])) → IsKeyed end es' (triples (take (i + 1) quads))
   keyed_more end quads i q es es' lt is h put x =
       put x ∙ (ap (λ l. l ++ (if same_term x (end (triple_of q.now)) then triple_of q.now ∷ [] else [])) (h x)
       ∙ sym (ap (filter (λ t. same_term x (end t))) (triples_more quads i q lt is) ∙ filter_last (λ t. same_term x (end t)) (triples (take i quads)) (triple_of q.now)))
 
-  pub keyed_none : (end : Triple → Term) (es : List (Bor Term × Vec (Bor Statement) Z)) (ts : Graph) → es ≡ [] → ts ≡ [] → IsKeyed end es ts
+  pub keyed_none : (end : Triple → Term) (es : List (Term × Vec (Bor Statement) Z)) (ts : Graph) → es ≡ [] → ts ≡ [] → IsKeyed end es ts
   keyed_none end es ts e n x = ap (λ l. at_node l x) e ∙ sym (ap (filter (λ t. same_term x (end t))) n)
 
-  pub keyed_all : (end : Triple → Term) (quads : List (Bor Statement)) (i : ℕ) (es : List (Bor Term × Vec (Bor Statement) Z)) → length quads ≤ i → IsKeyed end es (triples (take i quads)) → IsKeyed end es (triples quads)
+  pub keyed_all : (end : Triple → Term) (quads : List (Bor Statement)) (i : ℕ) (es : List (Term × Vec (Bor Statement) Z)) → length quads ≤ i → IsKeyed end es (triples (take i quads)) → IsKeyed end es (triples quads)
   keyed_all end quads i es le h = subst (λ l. IsKeyed end es (triples l)) (take_all i quads le) h
 
   -- what is found
-  pub found_there : (end : Triple → Term) (x : Term) (es : List (Bor Term × Vec (Bor Statement) Z)) (ts : Graph) (v : Vec (Bor Statement) Z) (quads : List (Bor Statement)) → IsKeyed end es ts → lookup (is_at (order_at x)) es ≡ Some v → quads ≡ v.items → triples quads ≡ filter (λ t. same_term x (end t)) ts
+  pub found_there : (end : Triple → Term) (x : Term) (es : List (Term × Vec (Bor Statement) Z)) (ts : Graph) (v : Vec (Bor Statement) Z) (quads : List (Bor Statement)) → IsKeyed end es ts → lookup (is_at (order_at x)) es ≡ Some v → quads ≡ v.items → triples quads ≡ filter (λ t. same_term x (end t)) ts
   found_there end x es ts v quads h f e = ap triples e ∙ (sym (ap triples_at (sym (find_is x es) ∙ f)) ∙ h x)
 
-  pub found_none : (end : Triple → Term) (x : Term) (es : List (Bor Term × Vec (Bor Statement) Z)) (ts : Graph) (quads : List (Bor Statement)) → IsKeyed end es ts → lookup (is_at (order_at x)) es ≡ None → quads ≡ [] → triples quads ≡ filter (λ t. same_term x (end t)) ts
+  pub found_none : (end : Triple → Term) (x : Term) (es : List (Term × Vec (Bor Statement) Z)) (ts : Graph) (quads : List (Bor Statement)) → IsKeyed end es ts → lookup (is_at (order_at x)) es ≡ None → quads ≡ [] → triples quads ≡ filter (λ t. same_term x (end t)) ts
   found_none end x es ts quads h f e = ap triples e ∙ (sym (ap triples_at (sym (find_is x es) ∙ f)) ∙ h x)
 
 -- ---- the quads of a graph

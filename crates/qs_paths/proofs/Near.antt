@@ -1,9 +1,8 @@
 -- A path leads from its left end to its right end; and where it does not lead from a term to itself, both are nodes of the graph.
-use Rattle.std.proofs.Common.{◌≡◌, ℕ, Bool, true, false, not, ◌&&◌, ◌||◌, if◌then◌else◌, ◌⊎◌, inl, inr, List, [], ◌∷◌, ◌++◌, map, Option, Some, None, refl, sym, ◌∙◌, ap, subst}
+use Rattle.std.proofs.Common.{◌≡◌, Bool, true, false, ◌||◌, if◌then◌else◌, ◌⊎◌, inl, inr, List, [], ◌∷◌, map, Option, Some, None, refl, sym, ap, subst}
 use Rattle.std.specs.List.{filter, flat_map, list_any}
 use Rattle.qs_terms.specs.declared.term.Term.{Term}
 use Rattle.qs_terms.specs.declared.term.Term.TheVariants as term
-use Rattle.qs_terms.specs.Bag.{once}
 use Rattle.qs_terms.specs.Term.{same_term}
 use Rattle.qs_terms.specs.Dataset.{Triple, nodes_of, ends_of}
 use Rattle.qs_terms.proofs.SameTerm.{same_term-Decides}
@@ -11,14 +10,14 @@ use Rattle.qs_tree.specs.declared.path.Repetition.{Repetition}
 use Rattle.qs_tree.specs.declared.path.Repetition.TheVariants.{ZeroOrOne, ZeroOrMore, OneOrMore}
 use Rattle.qs_ast.specs.declared.path.NegatedIri.{NegatedIri}
 use Rattle.qs_ast.specs.declared.path.Path.{Path, Path-F, map-Path, roll-Path, ind-Path}
-use Rattle.qs_ast.specs.declared.path.Path.TheVariants.{Iri, NegatedSet, Alternative, Sequence, Inverse, Repeated, rolls-Iri, rolls-NegatedSet, rolls-Alternative, rolls-Sequence, rolls-Inverse, rolls-Repeated}
+use Rattle.qs_ast.specs.declared.path.Path.TheVariants.{rolls-Iri, rolls-NegatedSet, rolls-Alternative, rolls-Sequence, rolls-Inverse, rolls-Repeated}
 use Rattle.qs_paths.specs.Pair.{Pair, pair, swapped}
 use Rattle.qs_paths.specs.Steps.{Graph, agrees, is_between, pair_of, along, against, negated, is_of, is_none, is_outside, composed, from_pair}
 use Rattle.qs_paths.specs.Closure.{candidates, leads, repeats, ends, starts, from_start, closure}
-use Rattle.qs_paths.specs.Pairs.{AtEnds, in_sequence, is_step, pairs, pairs_level}
+use Rattle.qs_paths.specs.Pairs.{AtEnds, in_sequence, is_step, pairs}
 use Rattle.qs_paths.proofs.Meaning.{pairs_iri, pairs_negated, pairs_alternative, pairs_sequence, pairs_inverse, pairs_repeated}
-use Rattle.qs_paths.proofs.Members.{Mem, mem_at, mem_left, mem_split, mem_of_filter, mem_filter, mem_of_map, mem_map, mem_of_flat, mem_flat, in_mem, mem_in, mem_once, mem_of_once, or_cases}
-use Rattle.qs_paths.proofs.WalkLaws.{both, Cases, cases}
+use Rattle.qs_paths.proofs.Members.{Mem, mem_at, mem_split, mem_of_filter, mem_of_map, mem_of_flat, mem_flat, mem_once, or_cases}
+use Rattle.qs_paths.proofs.WalkLaws.{both, cases}
 
 module _ (graph : Graph) where
   abbrev pub Node : Term → Type 0

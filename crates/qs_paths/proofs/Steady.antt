@@ -1,13 +1,12 @@
 -- An end that is a node may be given or filtered by, and a path leads from a term exactly where its inverse leads back.
-use Rattle.std.proofs.Common.{◌≡◌, ℕ, Bool, true, false, not, ◌&&◌, ◌||◌, cond, if◌then◌else◌, ◌⊎◌, inl, inr, List, [], ◌∷◌, ◌++◌, map, Option, Some, None, refl, sym, ◌∙◌, ap, subst}
+use Rattle.std.proofs.Common.{◌≡◌, Bool, true, false, ◌&&◌, ◌||◌, cond, if◌then◌else◌, inl, inr, List, [], ◌∷◌, ◌++◌, map, Option, Some, None, refl, sym, ◌∙◌, ap, subst}
 use Rattle.std.specs.List.{filter, flat_map, list_any}
-use Rattle.std.proofs.lemmas.List.{append-nil}
 use Rattle.std.proofs.lemmas.List.Sorted.{IsPermutation-append, IsPermutation-map, IsPermutation-refl, list_any-IsPermutation}
 use Rattle.qs_terms.specs.declared.term.Term.{Term}
 use Rattle.qs_terms.specs.declared.term.Term.TheVariants as term
-use Rattle.qs_terms.specs.Bag.{SameBag, Distinct, once}
+use Rattle.qs_terms.specs.Bag.{SameBag, Distinct}
 use Rattle.qs_terms.specs.Term.{same_term}
-use Rattle.qs_terms.specs.Dataset.{Triple, nodes_of, ends_of}
+use Rattle.qs_terms.specs.Dataset.{nodes_of, ends_of}
 use Rattle.qs_terms.proofs.FirstOnes.{filter-append}
 use Rattle.qs_terms.proofs.SameTerm.{same_term-Decides}
 use Rattle.qs_tree.specs.declared.path.Repetition.{Repetition}
@@ -16,14 +15,14 @@ use Rattle.qs_ast.specs.declared.path.Path.{Path, Path-F, map-Path, roll-Path, i
 use Rattle.qs_ast.specs.declared.path.Path.TheVariants.{rolls-Iri, rolls-NegatedSet, rolls-Alternative, rolls-Sequence, rolls-Inverse, rolls-Repeated}
 use Rattle.qs_paths.specs.Pair.{Pair, pair, swapped, same_pair}
 use Rattle.qs_paths.specs.Steps.{Graph, agrees, is_between, pair_of, along, against, negated, is_of, is_none, is_outside, composed, from_pair}
-use Rattle.qs_paths.specs.Closure.{candidates, repeats, ends, starts, from_start, closure}
-use Rattle.qs_paths.specs.Pairs.{AtEnds, in_sequence, is_step, pairs, pairs_level}
+use Rattle.qs_paths.specs.Closure.{candidates, ends, starts, from_start, closure}
+use Rattle.qs_paths.specs.Pairs.{AtEnds, in_sequence, is_step, pairs}
 use Rattle.qs_paths.proofs.Meaning.{pairs_iri, pairs_negated, pairs_alternative, pairs_sequence, pairs_inverse, pairs_repeated}
 use Rattle.qs_paths.proofs.Members.{Mem, mem_at, mem_left, mem_right, mem_split, mem_filter, mem_of_filter, mem_map, mem_of_map, mem_flat, mem_of_flat, in_mem, mem_in, is_out, false_from, same_bag, distinct_once, mem_once, mem_of_once}
 use Rattle.qs_paths.proofs.Near.{Near, Node, Tied, tied, tied_sequence, subject_node, object_node, candidate}
-use Rattle.qs_paths.proofs.WalkLaws.{both, and_true}
+use Rattle.qs_paths.proofs.WalkLaws.{and_true}
 use Rattle.qs_paths.proofs.Arms.{same_pair-Decides, same_as, flat_map_same, composed_same}
-use Rattle.qs_paths.proofs.ClosureLaws.{InClosure, closure_has, in_closure, reaches_near, lefts_are, rights_are, distinct_starts}
+use Rattle.qs_paths.proofs.ClosureLaws.{closure_has, in_closure, reaches_near, lefts_are, rights_are, distinct_starts}
 
 -- the pairs with this left or right end
 abbrev pub at_left : Term → List Pair → List Pair

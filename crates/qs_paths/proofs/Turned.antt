@@ -1,14 +1,14 @@
 -- The walks of a closure, followed backwards.
-use Rattle.std.proofs.Common.{◌≡◌, ℕ, ◌+◌, ◌<◌, Bool, true, false, ◌⊎◌, inl, inr, List, [], ◌∷◌, ◌++◌, length, take, get_or, map, Option, Some, None, refl, sym, ◌∙◌, ap, subst, arith}
+use Rattle.std.proofs.Common.{◌≡◌, ℕ, ◌+◌, ◌<◌, ◌≤◌, Bool, true, false, inl, inr, List, [], ◌∷◌, ◌++◌, length, take, get_or, map, Option, Some, None, refl, sym, ◌∙◌, ap, subst, arith}
 use Rattle.std.specs.Borrow.{Bor}
-use Rattle.std.specs.List.{filter, flat_map, list_any}
+use Rattle.std.specs.List.{filter, flat_map}
 use Rattle.std.proofs.lemmas.List.{take_more, take_all, append-nil}
 use Rattle.std.proofs.lemmas.List.Sorted.{IsPermutation-append, IsPermutation-map, IsPermutation-refl, IsPermutation-trans}
 use Rattle.std.proofs.lemmas.Grind.{flat_map-append}
 use Rattle.qs_terms.specs.declared.term.Term.{Term}
-use Rattle.qs_terms.specs.Bag.{SameBag, Distinct, once}
+use Rattle.qs_terms.specs.Bag.{SameBag, Distinct}
 use Rattle.qs_terms.specs.Term.{same_term}
-use Rattle.qs_terms.specs.Dataset.{nodes_of, ends_of}
+use Rattle.qs_terms.specs.Dataset.{nodes_of}
 use Rattle.qs_terms.proofs.SameTerm.{same_term-Decides}
 use Rattle.qs_tree.specs.declared.path.Repetition.{Repetition}
 use Rattle.qs_ast.specs.declared.path.Path.{Path}
@@ -20,10 +20,10 @@ use Rattle.qs_paths.specs.Found.{turned}
 use Rattle.qs_paths.specs.Pairs.{AtEnds, is_step, pairs}
 use Rattle.qs_paths.specs.Walk.{IsWalk, IsCount, Leads}
 use Rattle.qs_paths.proofs.Members.{Mem, mem_at, mem_filter, mem_of_filter, mem_map, mem_of_map, not_in, is_out, same_bag, distinct_filter, distinct_once}
-use Rattle.qs_paths.proofs.Near.{Near, Tied, tied, tied_swapped, start_candidate, candidate, candidates_closed}
-use Rattle.qs_paths.proofs.Arms.{same_pair-Decides, same_as, same_at, filter_same_by, flat_map_same}
+use Rattle.qs_paths.proofs.Near.{Tied, tied, tied_swapped, start_candidate, candidate, candidates_closed}
+use Rattle.qs_paths.proofs.Arms.{same_pair-Decides, same_at, filter_same_by, flat_map_same}
 use Rattle.qs_paths.proofs.WalkLaws.{walks_repeat, repeat_walks}
-use Rattle.qs_paths.proofs.ClosureLaws.{InClosure, closure_has, in_closure, mem_ends, ends_reach, reaches_near, step_pair, pair_step, walk_map, distinct_map, distinct_from, distinct_starts, lefts_are, rights_are}
+use Rattle.qs_paths.proofs.ClosureLaws.{closure_has, in_closure, mem_ends, ends_reach, reaches_near, step_pair, pair_step, distinct_map, distinct_from, distinct_starts}
 use Rattle.qs_paths.proofs.Steady.{Steady, steady}
 
 pub tied_turned : (graph : Graph) (b : Bool) (f : AtEnds) → Tied graph f → Tied graph (turned b f)
@@ -150,6 +150,11 @@ from_more g ts i x rows more rows' lt is h m e =
     lent-append : (xs ys : List (Bor Term)) → lent (xs ++ ys) ≡ lent xs ++ lent ys
     lent-append [] ys = refl
     lent-append (x ∷ xs) ys = ap (λ l. x.now ∷ l) (lent-append xs ys)
+
+-- from each term of a list in any order
+pub from_all : (g : Term → List Pair) (ts us : List (Bor Term)) (i : ℕ) (ns : List Term) (rows : List Pair) → length ts ≤ i → ts ≡ us → SameBag (lent us) ns → SameBag rows (flat_map g (lent (take i ts))) → SameBag rows (flat_map g ns)
+from_all g ts us i ns rows le e h k =
+    IsPermutation-trans rows _ _ (subst (λ l. SameBag rows (flat_map g (lent l))) (take_all i ts le ∙ e) k) (flat_map_same g g (lent us) ns h (λ t. IsPermutation-refl (g t)))
 
 -- one pass backwards
 pub turned_arm : (f : AtEnds) (b : Bool) (x : Term) (inverse rows : List Pair) → b ≡ true → SameBag inverse (f None (Some x)) → rows ≡ map swapped inverse → SameBag rows (turned b f (Some x) None)

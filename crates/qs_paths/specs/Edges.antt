@@ -1,5 +1,5 @@
 -- Triples that are lent, and triples found by an end.
-use Rattle.std.specs.Prelude.{◌≡◌, Bool, cond, List, [], ◌∷◌, map, Option, Some, None, Vec}
+use Rattle.std.specs.Prelude.{◌≡◌, List, [], map, Option, Some, None, Vec}
 use Rattle.std.specs.Borrow.{Bor}
 use Rattle.std.specs.List.{filter}
 use Rattle.std.specs.Map.{lookup}
@@ -7,11 +7,14 @@ use Rattle.qs_terms.specs.declared.term.Term.{Term}
 use Rattle.qs_terms.specs.Dataset.{Triple, triple_of}
 use Rattle.qs_terms.specs.Statement.{Statement}
 use Rattle.qs_terms.specs.Term.{same_term}
-use Rattle.qs_paths.specs.Steps.{Graph, along}
+use Rattle.qs_paths.specs.Steps.{Graph}
 
 -- the values that are lent
 abbrev pub lent : {X : Type 0} → List (Bor X) → List X
 lent xs = map (λ x. x.now) xs
+
+abbrev pub triple : Term → Term → Term → Triple
+triple s p o = record { subject = s; predicate = p; object = o }
 
 -- the triples of lent quads
 abbrev pub triples : List (Bor Statement) → Graph
@@ -22,11 +25,11 @@ triples_at None = []
 triples_at (Some quads) = triples quads.items
 
 -- the triples that stand at this node
-abbrev pub at_node : {Z : Type 0} → List (Bor Term × Vec (Bor Statement) Z) → Term → Graph
-at_node entries x = triples_at (lookup (λ k. same_term x k.now) entries)
+abbrev pub at_node : {Z : Type 0} → List (Term × Vec (Bor Statement) Z) → Term → Graph
+at_node entries x = triples_at (lookup (same_term x) entries)
 
 -- at each node stand the triples that have it at this end, in the order of the graph
-abbrev pub IsKeyed : {Z : Type 0} → (Triple → Term) → List (Bor Term × Vec (Bor Statement) Z) → Graph → Type 0
+abbrev pub IsKeyed : {Z : Type 0} → (Triple → Term) → List (Term × Vec (Bor Statement) Z) → Graph → Type 0
 IsKeyed end entries graph = (x : Term) → at_node entries x ≡ filter (λ t. same_term x (end t)) graph
 
 -- those of the triples that alone may have these ends

@@ -6,21 +6,21 @@ ghost use Rattle.std.specs.Option.{option_copied};
 ghost use Rattle.qs_terms.specs.Dataset.{triple_of, graph_of, nodes_of};
 ghost use Rattle.qs_terms.specs.Term.{same_term};
 ghost use Rattle.qs_terms.specs.declared.term.Term.{Term as TermValue};
-ghost use Rattle.qs_paths.specs.Edges.{lent, triples, at_node, IsKeyed};
-ghost use Rattle.qs_paths.specs.Found.{node_or_open};
+ghost use Rattle.qs_paths.specs.Edges.{lent, triples, having, at_node, IsKeyed};
 
+use crate::source::{Edge, Source};
 use qs_terms::{Quad, Term};
 use std::alloc::{AllocError, Global};
 use std::collections::BTreeMap;
 use std::marker::Model;
 
-/// The triples of a graph, which are the edges between its nodes: all of them, and those at a node. They are lent, and no term is
-/// copied.
+/// The triples of a graph, which are the edges between its nodes: all of them, and those at a node. They are lent; a node
+/// is copied where its triples are first kept.
 #[derive(Drop)]
 pub struct Edges<'a> {
     all: Vec<&'a Quad>,
-    by_subject: BTreeMap<&'a Term, Vec<&'a Quad>>,
-    by_object: BTreeMap<&'a Term, Vec<&'a Quad>>,
+    by_subject: BTreeMap<Term, Vec<&'a Quad>>,
+    by_object: BTreeMap<Term, Vec<&'a Quad>>,
 }
 
 impl<'a> Model for Edges<'a> {
@@ -55,26 +55,27 @@ fn in_graph<'a>(
 /// Puts the quad behind those at the node.
 fn put<'a>(
     alloc: Global,
-    map: &mut BTreeMap<&'a Term, Vec<&'a Quad>>,
-    node: &'a Term,
+    map: &mut BTreeMap<Term, Vec<&'a Quad>>,
+    node: &Term,
     quad: &'a Quad,
 ) -> Result<(), AllocError>
     ensures { OnOk result ((x : TermValue) → at_node map.new.entries x ≡ at_node map.old.entries x ++ (if same_term x node.now then triple_of quad.now ∷ [] else [])) }
 {
-    if let Some(there) = map.get_mut(&node) {
+    if let Some(there) = map.get_mut(node) {
         there.push(quad)?;
         return Ok(());
     }
     let mut there = Vec::new(alloc);
     there.push(quad)?;
-    map.insert(node, there)?;
+    let key = node.try_clone(alloc)?;
+    map.insert(key, there)?;
     Ok(())
 }
 
 fn keyed_by_subject<'a>(
     alloc: Global,
     quads: &[&'a Quad],
-) -> Result<BTreeMap<&'a Term, Vec<&'a Quad>>, AllocError>
+) -> Result<BTreeMap<Term, Vec<&'a Quad>>, AllocError>
     ensures { IfOk result (λ map. IsKeyed (λ t. t.subject) map.entries (triples quads.now)) }
 {
     let mut map = BTreeMap::new(alloc);
@@ -87,7 +88,7 @@ fn keyed_by_subject<'a>(
 fn keyed_by_object<'a>(
     alloc: Global,
     quads: &[&'a Quad],
-) -> Result<BTreeMap<&'a Term, Vec<&'a Quad>>, AllocError>
+) -> Result<BTreeMap<Term, Vec<&'a Quad>>, AllocError>
     ensures { IfOk result (λ map. IsKeyed (λ t. t.object) map.entries (triples quads.now)) }
 {
     let mut map = BTreeMap::new(alloc);
@@ -124,34 +125,34 @@ impl<'a> Edges<'a> {
     }
 
     /// All triples.
-    pub fn all(&self) -> &[&'a Quad]
+    fn all(&self) -> &[&'a Quad]
         ensures { triples result.now ≡ self.now }
     {
         self.all.as_slice()
     }
 
     /// The triples whose subject is the node.
-    pub fn from(&self, node: &'a Term) -> &[&'a Quad]
+    fn from<'s>(&'s self, node: &Term) -> &'s [&'a Quad]
         ensures { triples result.now ≡ filter (λ t. same_term node.now t.subject) self.now }
     {
-        match self.by_subject.get(&node) {
+        match self.by_subject.get(node) {
             Some(there) => there.as_slice(),
             None => none_of(self.all.as_slice()),
         }
     }
 
     /// The triples whose object is the node.
-    pub fn to(&self, node: &'a Term) -> &[&'a Quad]
+    fn to<'s>(&'s self, node: &Term) -> &'s [&'a Quad]
         ensures { triples result.now ≡ filter (λ t. same_term node.now t.object) self.now }
     {
-        match self.by_object.get(&node) {
+        match self.by_object.get(node) {
             Some(there) => there.as_slice(),
             None => none_of(self.all.as_slice()),
         }
     }
 
-    /// Whether the term is a node of the graph: the subject or the object of a triple.
-    pub fn has_node(&self, term: &'a Term) -> bool
+    /// Whether the term is the subject or the object of a triple.
+    fn is_end(&self, term: &Term) -> bool
         ensures { result ≡ list_any (same_term term.now) (nodes_of self.now) }
     {
         let begins_none = self.from(term).is_empty();
@@ -159,14 +160,44 @@ impl<'a> Edges<'a> {
         !begins_none | !ends_none
     }
 
-    /// The term, where it is a node of the graph.
-    pub fn node(&self, term: &'a Term) -> Option<&'a Term>
-        ensures { option_copied result ≡ node_or_open self.now term.now }
+    /// The triples that alone may have these ends.
+    fn quads<'s>(&'s self, left: Option<&Term>, right: Option<&Term>) -> &'s [&'a Quad]
+        ensures { triples result.now ≡ having (option_copied left.entry) (option_copied right.entry) self.now }
     {
-        if self.has_node(term) {
-            Some(term)
-        } else {
-            None
+        match (left, right) {
+            (Some(left), _) => self.from(left),
+            (None, Some(right)) => self.to(right),
+            (None, None) => self.all(),
         }
+    }
+}
+
+/// The triples of lent quads as edges.
+#[tactic(auto, using(crate::proofs::Finds::triples_more))]
+fn edges_of<'s, 'a>(alloc: Global, quads: &'s [&'a Quad]) -> Result<Vec<Edge<'s>>, AllocError>
+    ensures { IfOk result (λ edges. edges.items ≡ triples quads.now) }
+{
+    let mut edges = Vec::new(alloc);
+    for quad in quads {
+        edges.push(Edge::new(quad.subject(), quad.predicate(), quad.object()))?;
+    }
+    Ok(edges)
+}
+
+impl<'q> Source for Edges<'q> {
+    ghost graph = { λ e. e };
+
+    fn having<'a>(
+        &'a self,
+        alloc: Global,
+        left: Option<&'a Term>,
+        right: Option<&'a Term>,
+    ) -> Result<Vec<Edge<'a>>, AllocError> {
+        let edges = edges_of(alloc, self.quads(left, right))?;
+        Ok(edges)
+    }
+
+    fn has_node<'a>(&'a self, term: &'a Term) -> bool {
+        self.is_end(term)
     }
 }

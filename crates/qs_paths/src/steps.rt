@@ -3,18 +3,18 @@
 ghost use Rattle.std.specs.Prelude.{◌≡◌, ◌++◌, [], ◌∷◌, ◌||◌, ◌&&◌, true, false, if◌then◌else◌, map, IfOk, OnOk};
 ghost use Rattle.std.specs.List.{filter, list_any};
 ghost use Rattle.std.specs.Option.{option_copied};
-ghost use Rattle.qs_terms.specs.Dataset.{triple_of};
+ghost use Rattle.qs_terms.specs.Bag.{SameBag};
 ghost use Rattle.qs_terms.specs.Term.{same_term};
 ghost use Rattle.qs_terms.specs.declared.term.Term.TheVariants as term_is;
-ghost use Rattle.qs_paths.specs.Edges.{lent, triples};
+ghost use Rattle.qs_paths.specs.Edges.{lent};
 ghost use Rattle.qs_paths.specs.Pair.{pair};
 ghost use Rattle.qs_paths.specs.Steps.{pair_of, along, against, from_pair};
 ghost use Rattle.qs_paths.specs.Found.{into_pair, kept};
 
-use crate::edges::Edges;
 use crate::pair::Pair;
+use crate::source::{Edge, Source};
 use qs_ast::path::NegatedIri;
-use qs_terms::{Iri, Quad, Term};
+use qs_terms::{Iri, Term};
 use std::alloc::{AllocError, Global};
 
 fn agrees(end: Option<&Term>, term: &Term) -> bool
@@ -36,53 +36,38 @@ fn is_iri(iri: &Iri, term: &Term) -> bool
     }
 }
 
-/// The triples that alone may have these ends.
-fn having<'e, 'a>(
-    edges: &'e Edges<'a>,
-    left: Option<&'a Term>,
-    right: Option<&'a Term>,
-) -> &'e [&'a Quad]
-    ensures { triples result.now ≡ Rattle.qs_paths.specs.Edges.having (option_copied left.entry) (option_copied right.entry) edges.now }
-{
-    match (left, right) {
-        (Some(left), _) => edges.from(left),
-        (None, Some(right)) => edges.to(right),
-        (None, None) => edges.all(),
-    }
-}
-
-/// Puts the quad's ends at the end, where it passes and they agree.
+/// Puts the edge's ends at the end, where it passes and they agree.
 fn put_kept<'a>(
     pairs: &mut Vec<Pair<'a>>,
     passes: bool,
-    quad: &'a Quad,
+    edge: &Edge<'a>,
     left: Option<&Term>,
     right: Option<&Term>,
 ) -> Result<(), AllocError>
-    ensures { OnOk result (pairs.new.items ≡ pairs.old.items ++ kept passes (option_copied left.entry) (option_copied right.entry) (pair_of (triple_of quad.now))) }
+    ensures { OnOk result (pairs.new.items ≡ pairs.old.items ++ kept passes (option_copied left.entry) (option_copied right.entry) (pair_of edge.now)) }
 {
-    if passes && agrees(left, quad.subject()) && agrees(right, quad.object()) {
-        pairs.push(Pair::new(quad.subject(), quad.object()))?;
+    if passes && agrees(left, edge.subject()) && agrees(right, edge.object()) {
+        pairs.push(Pair::new(edge.subject(), edge.object()))?;
     }
     Ok(())
 }
 
 /// One pair for each triple with this predicate.
 #[tactic(auto, using(crate::proofs::Finds::along_more))]
-pub fn along_iri<'a>(
+pub fn along_iri<'a, E: Source>(
     alloc: Global,
-    edges: &Edges<'a>,
+    edges: &'a E,
     iri: &Iri,
     left: Option<&'a Term>,
     right: Option<&'a Term>,
 ) -> Result<Vec<Pair<'a>>, AllocError>
-    ensures { IfOk result (λ ps. ps.items ≡ along (same_term (term_is.Iri iri.now)) edges.now (option_copied left.entry) (option_copied right.entry)) }
+    ensures { IfOk result (λ ps. SameBag ps.items (along (same_term (term_is.Iri iri.now)) (E.graph edges.now) (option_copied left.entry) (option_copied right.entry))) }
 {
-    let quads = having(edges, left, right);
+    let found = edges.having(alloc, left, right)?;
     let mut pairs = Vec::new(alloc);
-    for quad in quads {
-        let passes = is_iri(iri, quad.predicate());
-        put_kept(&mut pairs, passes, *quad, left, right)?;
+    for edge in found.as_slice() {
+        let passes = is_iri(iri, edge.predicate());
+        put_kept(&mut pairs, passes, edge, left, right)?;
     }
     Ok(pairs)
 }
@@ -128,21 +113,21 @@ fn is_outside(members: &[NegatedIri], inverse: bool, term: &Term) -> bool
 
 /// One pair for each triple whose predicate none of the members of this direction names.
 #[tactic(auto, using(crate::proofs::Finds::along_more))]
-fn along_outside<'a>(
+fn along_outside<'a, E: Source>(
     alloc: Global,
-    edges: &Edges<'a>,
+    edges: &'a E,
     members: &[NegatedIri],
     inverse: bool,
     left: Option<&'a Term>,
     right: Option<&'a Term>,
 ) -> Result<Vec<Pair<'a>>, AllocError>
-    ensures { IfOk result (λ ps. ps.items ≡ along (Rattle.qs_paths.specs.Steps.is_outside inverse members.now) edges.now (option_copied left.entry) (option_copied right.entry)) }
+    ensures { IfOk result (λ ps. SameBag ps.items (along (Rattle.qs_paths.specs.Steps.is_outside inverse members.now) (E.graph edges.now) (option_copied left.entry) (option_copied right.entry))) }
 {
-    let quads = having(edges, left, right);
+    let found = edges.having(alloc, left, right)?;
     let mut pairs = Vec::new(alloc);
-    for quad in quads {
-        let passes = is_outside(members, inverse, quad.predicate());
-        put_kept(&mut pairs, passes, *quad, left, right)?;
+    for edge in found.as_slice() {
+        let passes = is_outside(members, inverse, edge.predicate());
+        put_kept(&mut pairs, passes, edge, left, right)?;
     }
     Ok(pairs)
 }
@@ -159,14 +144,14 @@ pub fn swapped<'a>(alloc: Global, pairs: &[Pair<'a>]) -> Result<Vec<Pair<'a>>, A
     Ok(swapped)
 }
 
-fn forward_part<'a>(
+fn forward_part<'a, E: Source>(
     alloc: Global,
-    edges: &Edges<'a>,
+    edges: &'a E,
     members: &[NegatedIri],
     left: Option<&'a Term>,
     right: Option<&'a Term>,
 ) -> Result<Vec<Pair<'a>>, AllocError>
-    ensures { IfOk result (λ ps. ps.items ≡ (if list_any (Rattle.qs_paths.specs.Steps.is_of false) members.now || Rattle.qs_paths.specs.Steps.is_none members.now then along (Rattle.qs_paths.specs.Steps.is_outside false members.now) edges.now (option_copied left.entry) (option_copied right.entry) else [])) }
+    ensures { IfOk result (λ ps. SameBag ps.items (if list_any (Rattle.qs_paths.specs.Steps.is_of false) members.now || Rattle.qs_paths.specs.Steps.is_none members.now then along (Rattle.qs_paths.specs.Steps.is_outside false members.now) (E.graph edges.now) (option_copied left.entry) (option_copied right.entry) else [])) }
 {
     if has_any_of(members, false) || is_none(members) {
         along_outside(alloc, edges, members, false, left, right)
@@ -175,14 +160,14 @@ fn forward_part<'a>(
     }
 }
 
-fn inverse_part<'a>(
+fn inverse_part<'a, E: Source>(
     alloc: Global,
-    edges: &Edges<'a>,
+    edges: &'a E,
     members: &[NegatedIri],
     left: Option<&'a Term>,
     right: Option<&'a Term>,
 ) -> Result<Vec<Pair<'a>>, AllocError>
-    ensures { IfOk result (λ ps. ps.items ≡ (if list_any (Rattle.qs_paths.specs.Steps.is_of true) members.now then against (Rattle.qs_paths.specs.Steps.is_outside true members.now) edges.now (option_copied left.entry) (option_copied right.entry) else [])) }
+    ensures { IfOk result (λ ps. SameBag ps.items (if list_any (Rattle.qs_paths.specs.Steps.is_of true) members.now then against (Rattle.qs_paths.specs.Steps.is_outside true members.now) (E.graph edges.now) (option_copied left.entry) (option_copied right.entry) else [])) }
 {
     if has_any_of(members, true) {
         let pairs = along_outside(alloc, edges, members, true, right, left)?;
@@ -193,14 +178,14 @@ fn inverse_part<'a>(
 }
 
 /// The pairs of a negated set.
-pub fn negated<'a>(
+pub fn negated<'a, E: Source>(
     alloc: Global,
-    edges: &Edges<'a>,
+    edges: &'a E,
     members: &[NegatedIri],
     left: Option<&'a Term>,
     right: Option<&'a Term>,
 ) -> Result<Vec<Pair<'a>>, AllocError>
-    ensures { IfOk result (λ ps. ps.items ≡ Rattle.qs_paths.specs.Steps.negated members.now edges.now (option_copied left.entry) (option_copied right.entry)) }
+    ensures { IfOk result (λ ps. SameBag ps.items (Rattle.qs_paths.specs.Steps.negated members.now (E.graph edges.now) (option_copied left.entry) (option_copied right.entry))) }
 {
     let mut pairs = forward_part(alloc, edges, members, left, right)?;
     let mut more = inverse_part(alloc, edges, members, left, right)?;

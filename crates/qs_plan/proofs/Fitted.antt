@@ -9,6 +9,9 @@ use Rattle.qs_solutions.specs.Solution.{Solution}
 use Rattle.qs_patterns.specs.declared.pattern.BasicPattern.{BasicPattern}
 use Rattle.qs_patterns.specs.declared.pattern.PathPattern.{PathPattern}
 use Rattle.qs_patterns.specs.Basic.{Graph, mentions, puts_into, terms_of, all_maps, matches, with_paths, basic}
+use Rattle.std.proofs.Math.Seq.{take-length}
+use Rattle.qs_patterns.specs.declared.pattern.TriplePattern.{TriplePattern}
+use Rattle.qs_eval.proofs.Along.{paths_same}
 use Rattle.qs_ops.specs.Coming.{GivesOne}
 use Rattle.qs_ops.specs.Row.{Cells, row_solution, front}
 use Rattle.qs_ops.proofs.Fronts.{front_all}
@@ -54,17 +57,39 @@ cut w n [] h l = refl
 cut w n (x ∷ xs) h l =
     ap (λ m. m ∷ map (front w w) xs) (front_all w x (omega (arith, h, l.0))) ∙ ap (λ ms. take w x ∷ ms) (cut w n xs h l.1)
 
+long_matches : (n : ℕ) (triples : List TriplePattern) (graph : Graph) → Long n (matches n triples graph)
+long_matches n triples graph =
+    long_filter n (puts_into graph triples) (all_maps (mentions triples) (terms_of graph) 0 n) (long_maps (mentions triples) (terms_of graph) 0 n)
+
+-- the matches with the first variables alone
+pub found_rows : (width whole : ℕ) (triples : List TriplePattern) (graph : Graph) (found rows : List Solution) → width ≤ whole → SameBag found (matches whole triples graph) → SameBag rows (map (front width width) found) → SameBag rows (map (take width) (matches whole triples graph))
+found_rows width whole triples graph found rows l h k =
+    subst (SameBag rows) (cut width whole (matches whole triples graph) l (long_matches whole triples graph))
+    (IsPermutation-trans _ _ _ k (IsPermutation-map (front width width) found (matches whole triples graph) h))
+
+take_all : (n : ℕ) (m : Solution) → length m ≡ n → take n m ≡ m
+take_all n m h = subst (λ k. take k m ≡ m) h (take-length m)
+
+uncut : (n : ℕ) (xs : List Solution) → Long n xs → map (take n) xs ≡ xs
+uncut n [] h = refl
+uncut n (x ∷ xs) h = ap (λ m. m ∷ map (take n) xs) (take_all n x h.0) ∙ ap (λ ms. x ∷ ms) (uncut n xs h.1)
+
 -- the rows of a basic graph pattern without paths
-pub basic_rows : (width whole : ℕ) (pattern : BasicPattern) (graph : Graph) (found rows : List Solution) → whole ≡ width + pattern.hidden → pattern.paths ≡ [] → SameBag found (matches whole pattern.triples graph) → SameBag rows (map (front width width) found) → SameBag rows (basic width pattern graph)
-basic_rows width whole pattern graph found rows e none h k =
+pub without_paths : (width whole : ℕ) (pattern : BasicPattern) (graph : Graph) (rows : List Solution) → whole ≡ width + pattern.hidden → pattern.paths ≡ [] → SameBag rows (map (take width) (matches whole pattern.triples graph)) → SameBag rows (basic width pattern graph)
+without_paths width whole pattern graph rows e none h =
     let n : ℕ = width + pattern.hidden in
-    let all : List Solution = matches n pattern.triples graph in
-    let f : SameBag found all = subst (λ (x : ℕ). SameBag found (matches x pattern.triples graph)) e h in
-    let g : SameBag rows (map (front width width) all) = IsPermutation-trans _ _ _ k (IsPermutation-map (front width width) found all f) in
-    let c : map (front width width) all ≡ map (take width) all =
-    cut width n all (omega arith) (long_filter n (puts_into graph pattern.triples) (all_maps (mentions pattern.triples) (terms_of graph) 0 n) (long_maps (mentions pattern.triples) (terms_of graph) 0 n)) in
-    let p : map (take width) all ≡ basic width pattern graph = ap (λ (ps : List PathPattern). map (take width) (with_paths n graph ps all)) (sym none) in
-    subst (SameBag rows) (c ∙ p) g
+    subst (SameBag rows)
+    (ap (λ (x : ℕ). map (take width) (matches x pattern.triples graph)) e
+    ∙ ap (λ (ps : List PathPattern). map (take width) (with_paths n graph ps (matches n pattern.triples graph))) (sym none)) h
+
+-- those of one with paths
+pub along_paths : (width whole : ℕ) (pattern : BasicPattern) (graph : Graph) (first rows hidden : List Solution) → whole ≡ width + pattern.hidden → SameBag first (map (take whole) (matches whole pattern.triples graph)) → SameBag rows (with_paths whole graph pattern.paths first) → hidden ≡ map (take width) rows → SameBag hidden (basic width pattern graph)
+along_paths width whole pattern graph first rows hidden e h k i =
+    let all : List Solution = matches whole pattern.triples graph in
+    let g : SameBag first all = subst (SameBag first) (uncut whole all (long_matches whole pattern.triples graph)) h in
+    let w : SameBag rows (with_paths whole graph pattern.paths all) = IsPermutation-trans _ _ _ k (paths_same whole graph pattern.paths first all g) in
+    let c : SameBag hidden (map (take width) (with_paths whole graph pattern.paths all)) = subst (λ (l : List Solution). SameBag l (map (take width) (with_paths whole graph pattern.paths all))) (sym i) (IsPermutation-map (take width) _ _ w) in
+    subst (λ (x : ℕ). SameBag hidden (map (take width) (with_paths x graph pattern.paths (matches x pattern.triples graph)))) e c
 
 -- ---- one row more
 

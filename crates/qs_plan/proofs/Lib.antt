@@ -1,2 +1,4 @@
+pub mod Each
 pub mod Fitted
 pub mod Names
+pub mod SeenQuads

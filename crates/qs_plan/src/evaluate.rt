@@ -4,24 +4,22 @@ ghost use Rattle.std.specs.Prelude.{◌≡◌, List, [], ◌∷◌, IfOk};
 ghost use Rattle.std.specs.List.{flat_map, fold};
 ghost use Rattle.qs_terms.specs.Bag.{SameBag};
 ghost use Rattle.qs_solutions.specs.Solution.{Solution, unbound};
-ghost use Rattle.qs_patterns.specs.Eval.{eval, step, in_named};
+ghost use Rattle.qs_terms.specs.Dataset.{names_of};
+ghost use Rattle.qs_patterns.specs.Eval.{eval, step, in_named, in_each};
+ghost use Rattle.qs_store.specs.Graphs.{AreGraphs};
 ghost use Rattle.qs_ops.specs.Graph.{active_graph};
 
 use crate::basic::solutions_of_basic;
-use crate::graphs::graph_named;
-use crate::miss::Miss;
-use qs_eval::{extended, kept, left_joined, solutions_of_table};
+use crate::graphs::{graph_named, graphs, name_of};
+use qs_eval::{extended, joined_rows, kept, left_joined, solutions_of_table, with_name, without};
 use qs_patterns::{Pattern, Step};
-use qs_solutions::{Row, joined, without};
+use qs_solutions::Row;
 use qs_store::{Active, View};
 use qs_terms::Term;
-use std::alloc::Global;
+use std::alloc::{AllocError, Global};
 
 /// The solutions of a pattern of `width` named variables over a view, where this graph is active (SPARQL 1.1 Query, 18.6). A variable
 /// whose number is past them is bound nowhere.
-///
-/// # Errors
-/// `Miss::Unplanned` where a property path, or GRAPH with a variable, stands in the pattern; `Miss::Memory` for want of memory.
 #[cycle(solutions)]
 pub fn solutions<V: View>(
     alloc: Global,
@@ -29,7 +27,7 @@ pub fn solutions<V: View>(
     pattern: &Pattern,
     view: &V,
     active: Active,
-) -> Result<Vec<Row>, Miss>
+) -> Result<Vec<Row>, AllocError>
     ensures { IfOk result (λ rows. SameBag rows.items (eval width (V.content view.now).quads pattern.now (active_graph (V.content view.now) (V.default_seen view.now) active))) }
 {
     match pattern {
@@ -54,7 +52,18 @@ pub fn solutions<V: View>(
             let rows = solutions_in(alloc, width, name, part.get(), view)?;
             Ok(rows)
         }
-        Pattern::EachGraph(_, _) => Err(Miss::Unplanned),
+        Pattern::EachGraph(variable, part) => {
+            let graphs = graphs(view)?;
+            let rows = solutions_in_each(
+                alloc,
+                width,
+                *variable,
+                part.get(),
+                view,
+                graphs.as_slice(),
+            )?;
+            Ok(rows)
+        }
     }
 }
 
@@ -66,7 +75,7 @@ fn solutions_of_group<V: View>(
     steps: &[Step],
     view: &V,
     active: Active,
-) -> Result<Vec<Row>, Miss>
+) -> Result<Vec<Row>, AllocError>
     ensures { IfOk result (λ rows. SameBag rows.items (fold (λ left s. step width (V.content view.now).quads s (active_graph (V.content view.now) (V.default_seen view.now) active) left) (unbound width ∷ []) steps.now)) }
 {
     let unit = Row::unbound(alloc, width)?;
@@ -87,13 +96,13 @@ fn stepped<V: View>(
     view: &V,
     active: Active,
     left: Vec<Row>,
-) -> Result<Vec<Row>, Miss>
+) -> Result<Vec<Row>, AllocError>
     ensures { IfOk result (λ rows. (xs : List Solution) → SameBag left.items xs → SameBag rows.items (step width (V.content view.now).quads one.now (active_graph (V.content view.now) (V.default_seen view.now) active) xs)) }
 {
     match one {
         Step::Join(part) => {
             let right = solutions(alloc, width, part, view, active)?;
-            let rows = joined(alloc, left.as_slice(), right.as_slice())?;
+            let rows = joined_rows(alloc, left, right)?;
             Ok(rows)
         }
         Step::LeftJoin(part, conditions) => {
@@ -126,7 +135,7 @@ fn solutions_of_all<V: View>(
     parts: &[Pattern],
     view: &V,
     active: Active,
-) -> Result<Vec<Row>, Miss>
+) -> Result<Vec<Row>, AllocError>
     ensures { IfOk result (λ rows. SameBag rows.items (flat_map (λ part. eval width (V.content view.now).quads part (active_graph (V.content view.now) (V.default_seen view.now) active)) parts.now)) }
 {
     let mut rows = Vec::new(alloc);
@@ -145,7 +154,7 @@ fn solutions_in<V: View>(
     name: &Term,
     part: &Pattern,
     view: &V,
-) -> Result<Vec<Row>, Miss>
+) -> Result<Vec<Row>, AllocError>
     ensures { IfOk result (λ rows. SameBag rows.items (in_named (V.content view.now).quads name.now (eval width (V.content view.now).quads part.now))) }
 {
     match graph_named(view, name) {
@@ -155,4 +164,29 @@ fn solutions_in<V: View>(
         }
         None => Ok(Vec::new(alloc)),
     }
+}
+
+/// The solutions of the pattern in each named graph, joined with the row that binds the variable to the graph's name.
+#[cycle(solutions)]
+fn solutions_in_each<V: View>(
+    alloc: Global,
+    width: usize,
+    variable: usize,
+    part: &Pattern,
+    view: &V,
+    graphs: &[u32],
+) -> Result<Vec<Row>, AllocError>
+    requires { AreGraphs (V.content view.now) graphs.now }
+    ensures { IfOk result (λ rows. SameBag rows.items (in_each width (V.content view.now).quads variable (eval width (V.content view.now).quads part.now) (names_of (V.content view.now).quads))) }
+{
+    let _count = view.count();
+    let _terms = view.terms();
+    let mut rows = Vec::new(alloc);
+    for number in graphs {
+        let inner = solutions(alloc, width, part, view, Active::Graph(*number))?;
+        let name = name_of(view, *number);
+        let mut more = with_name(alloc, width, variable, name, inner.as_slice())?;
+        rows.append(&mut more)?;
+    }
+    Ok(rows)
 }

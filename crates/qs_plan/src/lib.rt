@@ -1,10 +1,11 @@
-//! Patterns over a view of the store: the solutions of a pattern, where basic graph patterns are searched by cursors.
+//! Patterns over a view of the store: the solutions of a pattern, where basic graph patterns are searched by cursors, and what queries see of
+//! the view.
 #![tactic(auto)]
 
 mod basic;
 mod evaluate;
 mod graphs;
-mod miss;
+mod seen;
 
 pub use evaluate::solutions;
-pub use miss::Miss;
+pub use seen::solutions_seen;

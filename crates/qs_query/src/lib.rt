@@ -1,4 +1,4 @@
-//! Queries over quads (SPARQL 1.1 Query).
+//! Queries over a view of the store (SPARQL 1.1 Query).
 #![tactic(auto)]
 
 mod query;

@@ -1,30 +1,25 @@
 //! Answers of texts.
 
 ghost use Rattle.qs_terms.specs.Outcome.{OneOrWantOfMemory};
+ghost use Rattle.qs_plan.specs.Seen.{seen};
 ghost use Rattle.qs_select.specs.Sequence.{dataset_of};
 ghost use Rattle.qs_query.specs.Outcome.{IsOutcomeOfText};
 
 use qs_answer::Answer;
 use qs_select::answer_query;
+use qs_store::View;
 use qs_syntax::parse_query;
-use qs_terms::{QFault, Quad};
+use qs_terms::QFault;
 use std::alloc::Global;
 
-/// An answer of the text over the dataset that the quads are, of which each counts once, with the next blank node's number (SPARQL 1.1
-/// Query, 16 and 18). The number is above those of all blank nodes of the quads.
+/// An answer of the text over the dataset that queries see of the view, with its next blank node's number (SPARQL 1.1 Query, 16 and 18).
 ///
 /// # Errors
 /// The fault of the text, as of `parse_query`. Of a text without fault: `QFault::TooManyRows` where the solutions of a SELECT or a CONSTRUCT, behind OFFSET and LIMIT, are more than `max_rows`;
 /// `QFault::Full` where there are no numbers for the fresh blank nodes of a CONSTRUCT. `QFault::Memory` for want of memory, at any time.
-pub fn answer(
-    alloc: Global,
-    text: &str,
-    quads: &[Quad],
-    next_blank: u64,
-    max_rows: u64,
-) -> Result<Answer, QFault>
-    ensures { OneOrWantOfMemory (IsOutcomeOfText text.now (dataset_of quads.now next_blank) max_rows) result }
+pub fn answer<V: View>(alloc: Global, text: &str, view: &V, max_rows: u64) -> Result<Answer, QFault>
+    ensures { OneOrWantOfMemory (IsOutcomeOfText text.now (dataset_of (seen (V.default_seen view.now) (V.content view.now).quads) (V.content view.now).next) max_rows) result }
 {
     let query = parse_query(alloc, text)?;
-    answer_query(alloc, &query, quads, next_blank, None, max_rows)
+    answer_query(alloc, &query, view, None, max_rows)
 }

@@ -1,4 +1,4 @@
-//! Queries over quads.
+//! Queries over a view of the store.
 
 ghost use Rattle.std.specs.Prelude.{◌≡◌, IfOk, Ok};
 ghost use Rattle.std.specs.Option.{option_copied};
@@ -7,6 +7,7 @@ ghost use Rattle.qs_terms.specs.Bag.{SameBag, once};
 ghost use Rattle.qs_terms.specs.Dataset.{graph_of};
 ghost use Rattle.qs_terms.specs.Outcome.{OneOrWantOfMemory};
 ghost use Rattle.qs_terms.specs.Statement.{same_statement};
+ghost use Rattle.qs_plan.specs.Seen.{seen, seen_of};
 ghost use Rattle.qs_select.specs.InOrder as in_order;
 ghost use Rattle.qs_select.specs.Outcome.{IsSelected, IsBuilt, IsConstructed, IsAsked, IsAllSolutions, IsOutcomeOfQuery};
 ghost use Rattle.qs_select.specs.Sequence.{dataset_of, whole};
@@ -18,22 +19,23 @@ use crate::sequence::{listed_rows, needed, needed_to_select, projected, put_in_o
 use qs_algebra::NamedPattern;
 use qs_answer::Answer;
 use qs_ast::query::Query;
-use qs_eval::{Quads, solutions};
+use qs_plan::solutions_seen;
 use qs_solutions::Row;
+use qs_store::View;
 use qs_template::{each_once, instances};
 use qs_terms::{QFault, Quad, Term, Text};
 use sqlite_items::Items;
 use std::alloc::{AllocError, Global};
 
-fn all_solutions(
+fn all_solutions<V: View>(
     alloc: Global,
     pattern: &NamedPattern,
-    quads: &Quads<'_>,
+    view: &V,
     active: Option<&Term>,
 ) -> Result<Vec<Row>, AllocError>
-    ensures { IfOk result (λ rows. SameBag rows.items (whole pattern.now quads.now (graph_of quads.now (option_copied active.entry)))) }
+    ensures { IfOk result (λ rows. let set = seen_of (V.content view.now) (V.default_seen view.now) in SameBag rows.items (whole pattern.now set (graph_of set (option_copied active.entry)))) }
 {
-    solutions(alloc, pattern.names.len(), &pattern.pattern, quads, active)
+    solutions_seen(alloc, pattern.names.len(), &pattern.pattern, view, active)
 }
 
 // the sequence of the solutions in this order
@@ -54,16 +56,16 @@ fn rows_of(
     Ok(Items::from_vec(rows))
 }
 
-fn sequence(
+fn sequence<V: View>(
     alloc: Global,
     asked: &Selection,
-    quads: &Quads<'_>,
+    view: &V,
     active: Option<&Term>,
     max_rows: u64,
 ) -> Result<Items<Row>, QFault>
-    ensures { OneOrWantOfMemory (in_order.IsRows asked.now (whole asked.now.pattern quads.now (graph_of quads.now (option_copied active.entry))) max_rows) result }
+    ensures { let set = seen_of (V.content view.now) (V.default_seen view.now) in OneOrWantOfMemory (in_order.IsRows asked.now (whole asked.now.pattern set (graph_of set (option_copied active.entry))) max_rows) result }
 {
-    let all = all_solutions(alloc, &asked.pattern, quads, active)?;
+    let all = all_solutions(alloc, &asked.pattern, view, active)?;
     let count = needed_to_select(asked);
     let front = put_in_order(alloc, asked.order.as_slice(), all.as_slice(), count)?;
     rows_of(alloc, asked, front, max_rows)
@@ -79,16 +81,16 @@ fn with_vars(vars: Items<Text>, rows: Result<Items<Row>, QFault>) -> Result<Answ
     }
 }
 
-fn selected(
+fn selected<V: View>(
     alloc: Global,
     asked: Selection,
-    quads: &Quads<'_>,
+    view: &V,
     active: Option<&Term>,
     max_rows: u64,
 ) -> Result<Answer, QFault>
-    ensures { OneOrWantOfMemory (IsSelected asked (whole asked.pattern quads.now (graph_of quads.now (option_copied active.entry))) max_rows) result }
+    ensures { let set = seen_of (V.content view.now) (V.default_seen view.now) in OneOrWantOfMemory (IsSelected asked (whole asked.pattern set (graph_of set (option_copied active.entry))) max_rows) result }
 {
-    let rows = sequence(alloc, &asked, quads, active, max_rows);
+    let rows = sequence(alloc, &asked, view, active, max_rows);
     with_vars(asked.vars, rows)
 }
 
@@ -116,57 +118,52 @@ fn graph_of_rows(
     Ok(graph(quads))
 }
 
-fn constructed(
+fn constructed<V: View>(
     alloc: Global,
     asked: &Construction,
-    quads: &Quads<'_>,
-    next_blank: u64,
+    view: &V,
     active: Option<&Term>,
     max_rows: u64,
 ) -> Result<Answer, QFault>
-    ensures { OneOrWantOfMemory (IsConstructed asked.now next_blank (whole asked.now.pattern quads.now (graph_of quads.now (option_copied active.entry))) max_rows) result }
+    ensures { let set = seen_of (V.content view.now) (V.default_seen view.now) in OneOrWantOfMemory (IsConstructed asked.now (V.content view.now).next (whole asked.now.pattern set (graph_of set (option_copied active.entry))) max_rows) result }
 {
-    let all = all_solutions(alloc, &asked.pattern, quads, active)?;
+    let all = all_solutions(alloc, &asked.pattern, view, active)?;
     let count = needed(asked.slice);
     let front = put_in_order(alloc, asked.order.as_slice(), all.as_slice(), count)?;
-    graph_of_rows(alloc, asked, next_blank, front.as_slice(), max_rows)
+    graph_of_rows(alloc, asked, view.next_blank(), front.as_slice(), max_rows)
 }
 
-fn truth(
+fn truth<V: View>(
     alloc: Global,
     pattern: &NamedPattern,
-    quads: &Quads<'_>,
+    view: &V,
     active: Option<&Term>,
 ) -> Result<Answer, QFault>
-    ensures { OneOrWantOfMemory (IsAsked (whole pattern.now quads.now (graph_of quads.now (option_copied active.entry)))) result }
+    ensures { let set = seen_of (V.content view.now) (V.default_seen view.now) in OneOrWantOfMemory (IsAsked (whole pattern.now set (graph_of set (option_copied active.entry)))) result }
 {
-    let all = all_solutions(alloc, pattern, quads, active)?;
+    let all = all_solutions(alloc, pattern, view, active)?;
     Ok(Answer::Truth(!all.is_empty()))
 }
 
-/// An answer of the query over the dataset that the quads are, of which each counts once, with the next blank node's number. The graph
+/// An answer of the query over the dataset that queries see of the view, with its next blank node's number. The graph
 /// of the name is active, or the default graph where none is given (SPARQL 1.1 Query, 16).
 ///
 /// # Errors
 /// `QFault::TooManyRows` where the sequence of a SELECT or a CONSTRUCT has more than `max_rows` solutions, behind OFFSET and LIMIT;
 /// `QFault::Full` where there are no numbers for the fresh blank nodes of a CONSTRUCT; `QFault::Memory` for want of memory.
-pub fn answer_query(
+pub fn answer_query<V: View>(
     alloc: Global,
     query: &Query,
-    quads: &[Quad],
-    next_blank: u64,
+    view: &V,
     active: Option<&Term>,
     max_rows: u64,
 ) -> Result<Answer, QFault>
-    ensures { let d = dataset_of quads.now next_blank in OneOrWantOfMemory (IsOutcomeOfQuery query.now d (graph_of d.quads (option_copied active.entry)) max_rows) result }
+    ensures { let d = dataset_of (seen (V.default_seen view.now) (V.content view.now).quads) (V.content view.now).next in OneOrWantOfMemory (IsOutcomeOfQuery query.now d (graph_of d.quads (option_copied active.entry)) max_rows) result }
 {
-    let quads = Quads::new(alloc, quads)?;
     match request_of(alloc, query)? {
-        Request::Select(asked) => selected(alloc, asked, &quads, active, max_rows),
-        Request::Construct(asked) => {
-            constructed(alloc, &asked, &quads, next_blank, active, max_rows)
-        }
-        Request::Ask(pattern) => truth(alloc, &pattern, &quads, active),
+        Request::Select(asked) => selected(alloc, asked, view, active, max_rows),
+        Request::Construct(asked) => constructed(alloc, &asked, view, active, max_rows),
+        Request::Ask(pattern) => truth(alloc, &pattern, view, active),
     }
 }
 
@@ -190,35 +187,34 @@ fn bounded(all: Vec<Row>, max_rows: u64) -> Result<Items<Row>, QFault>
     Ok(Items::from_vec(all))
 }
 
-fn few_solutions(
+fn few_solutions<V: View>(
     alloc: Global,
     pattern: &NamedPattern,
-    quads: &Quads<'_>,
+    view: &V,
     active: Option<&Term>,
     max_rows: u64,
 ) -> Result<Items<Row>, QFault>
-    ensures { OneOrWantOfMemory (in_order.AreFew (whole pattern.now quads.now (graph_of quads.now (option_copied active.entry))) max_rows) result }
+    ensures { let set = seen_of (V.content view.now) (V.default_seen view.now) in OneOrWantOfMemory (in_order.AreFew (whole pattern.now set (graph_of set (option_copied active.entry))) max_rows) result }
 {
-    let all = all_solutions(alloc, pattern, quads, active)?;
+    let all = all_solutions(alloc, pattern, view, active)?;
     bounded(all, max_rows)
 }
 
-/// All solutions of the pattern over the dataset that the quads are, of which each counts once, with the pattern's variables; in any
+/// All solutions of the pattern over the dataset that queries see of the view, with the pattern's variables; in any
 /// order. The graph of the name is active, or the default graph where none is given (SPARQL 1.1 Update, 3.1.3: WITH).
 ///
 /// # Errors
 /// `QFault::TooManyRows` where there are more than `max_rows`; `QFault::Memory` for want of memory.
-pub fn solutions_of(
+pub fn solutions_of<V: View>(
     alloc: Global,
     pattern: &NamedPattern,
-    quads: &[Quad],
+    view: &V,
     active: Option<&Term>,
     max_rows: u64,
 ) -> Result<Answer, QFault>
-    ensures { let set = once same_statement quads.now in OneOrWantOfMemory (IsAllSolutions pattern.now (whole pattern.now set (graph_of set (option_copied active.entry))) max_rows) result }
+    ensures { let set = once same_statement (seen (V.default_seen view.now) (V.content view.now).quads) in OneOrWantOfMemory (IsAllSolutions pattern.now (whole pattern.now set (graph_of set (option_copied active.entry))) max_rows) result }
 {
-    let quads = Quads::new(alloc, quads)?;
     let vars = copied(alloc, pattern.names.as_slice())?;
-    let rows = few_solutions(alloc, pattern, &quads, active, max_rows);
+    let rows = few_solutions(alloc, pattern, view, active, max_rows);
     with_vars(vars, rows)
 }

@@ -1,4 +1,4 @@
-//! SELECT, CONSTRUCT and ASK over quads (SPARQL 1.1 Query, 15, 16 and 18).
+//! SELECT, CONSTRUCT and ASK over a view of the store (SPARQL 1.1 Query, 15, 16 and 18).
 //!
 //! `request` has what a query asks for by its form, `selection` and `construction` what a SELECT and a CONSTRUCT do, and
 //! `sequence` what becomes of the solutions.

@@ -1,33 +1,26 @@
 -- From the clauses of queries and updates to what requests mean.
-use Rattle.std.proofs.Common.{◌≡◌, ◌≢◌, ◌∙◌, ap, ℕ, List, Result, Ok, Err, OnOk, OnErr, IfOk, IfErr, Some, subst}
+use Rattle.std.proofs.Common.{◌≡◌, ◌≢◌, ◌∙◌, ap, ℕ, List, Result, Ok, Err, OnOk, OnErr, IfOk, IfErr}
 use Rattle.qs_terms.specs.Outcome.{Outcome, OneOrWantOfMemory}
 use Rattle.qs_terms.specs.Statement.{Statement}
 use Rattle.qs_terms.specs.declared.fault.QFault.TheVariants.{Memory}
 use Rattle.qs_answer.specs.declared.answer.Answer.{Answer}
 use Rattle.qs_nquads.specs.Written.{nquads_of}
+use Rattle.qs_plan.specs.Seen.{seen}
 use Rattle.qs_query.specs.Outcome as query
 use Rattle.qs_select.specs.Sequence.{dataset_of}
 use Rattle.qs_store.specs.Content.{Content, Held}
 use Rattle.qs_store.specs.Same.{SameSet}
 use Rattle.qs_update.specs.Outcome as update
 use Rattle.qs_update.specs.Request.{Bounds, bounds_of}
-use Rattle.qs_service.specs.Kept.{IsListed, Changes}
-use Rattle.qs_service.specs.Meaning.{IsAnswer, sparql}
+use Rattle.qs_service.specs.Changes.{Changes}
+use Rattle.qs_service.specs.Meaning.{sparql}
 
-module _ (held : Held) (listed : List Statement) (text : List ℕ) (next rows : ℕ) (is : IsListed held (Some listed)) (same : next ≡ held.base.next) where
-  over : (outcome : Outcome Answer) → query.IsOutcomeOfText text (dataset_of listed next) rows outcome → IsAnswer text (bounds_of rows held) held.base outcome
-  over outcome due = (
-    is.0,
-    is.1,
-    subst (λ (qs : List Statement). query.IsOutcomeOfText text (dataset_of qs held.base.next) rows outcome) is.2
-        (subst (λ (n : ℕ). query.IsOutcomeOfText text (dataset_of listed n) rows outcome) same due),
-  )
-
-  -- what a text is answered with over the listed quads is an answer over what is stored
-  pub answered : (r : Outcome Answer) → OneOrWantOfMemory (query.IsOutcomeOfText text (dataset_of listed next) rows) r → OneOrWantOfMemory (sparql.answers text (bounds_of rows held) held.base) r
-  unfolding sparql
-  answered (Ok answer) due = over (Ok answer) due
-  answered (Err f) due = λ other. over (Err f) (due other)
+-- what a text is answered with over the quads of a store is an answer over what is stored
+pub answered : (held : Held) (text : List ℕ) (rows : ℕ) (r : Outcome Answer) → SameSet held.base.quads held.base.quads
+    → OneOrWantOfMemory (query.IsOutcomeOfText text (dataset_of (seen held.default_graph held.base.quads) held.base.next) rows) r → OneOrWantOfMemory (sparql.answers text (bounds_of rows held) held.base) r
+unfolding sparql
+answered held text rows (Ok answer) same due = (held.base.quads, same, due)
+answered held text rows (Err f) same due = λ other. (held.base.quads, same, due other)
 
 -- an update's text
 pub changes : (bounds : Bounds) (text : List ℕ) (old new : Content) (r : Outcome (Unit {0})) → OnOk r (update.IsAccepted bounds text old new) → OnErr r (new ≡ old)

@@ -1,4 +1,4 @@
-//! A request, carried out over what is stored.
+//! A request, carried out over the store.
 
 ghost use Rattle.std.specs.Prelude.{◌≡◌, IfOk, string_bytes, true};
 ghost use Rattle.serde_json.specs.Written.{compact_text};
@@ -13,12 +13,13 @@ ghost use Rattle.qs_service.specs.Message.{message};
 ghost use Rattle.qs_service.specs.Talk.{CarriesOrMemory, MadeOf};
 ghost use Rattle.qs_update.specs.Request.{Bounds, bounds_of};
 
-use crate::kept::Kept;
+use crate::meaning::{answer_over, dump, update_over};
 use crate::reply::Reply;
 use http::StatusCode;
 use qs_answer::Answer;
 use qs_http::{Fixed, Media, Request, front};
 use qs_results::{fault_line, fault_status, json, ntriples};
+use qs_store::Store;
 use qs_terms::QFault;
 use std::alloc::{AllocError, Global};
 
@@ -75,11 +76,10 @@ fn answered(alloc: Global, answer: &Answer) -> Result<Reply, AllocError>
 }
 
 /// A query's reply, as far as memory is there.
-fn asked(alloc: Global, text: &str, kept: &mut Kept, max_rows: u64) -> Result<Reply, AllocError>
-    ensures carried { IfOk result (Carries sparql (bounds_of max_rows kept.old) kept.old.base (Query text.now) kept.old.base) }
-    ensures kept { kept.new ≡ kept.old }
+fn asked(alloc: Global, text: &str, store: &Store, max_rows: u64) -> Result<Reply, AllocError>
+    ensures { IfOk result (Carries sparql (bounds_of max_rows store.now) store.now.base (Query text.now) store.now.base) }
 {
-    match kept.answer(alloc, text, max_rows) {
+    match answer_over(alloc, text, store, max_rows) {
         Ok(answer) => answered(alloc, &answer),
         Err(QFault::Memory) => Err(AllocError),
         Err(fault) => refusal(alloc, &fault),
@@ -87,10 +87,10 @@ fn asked(alloc: Global, text: &str, kept: &mut Kept, max_rows: u64) -> Result<Re
 }
 
 /// The reply with the whole dataset, as far as memory is there.
-fn dumped(alloc: Global, kept: &Kept) -> Result<Reply, AllocError>
-    ensures { IfOk result (λ reply. (bounds : Bounds) → Carries sparql bounds kept.now.base Dump kept.now.base reply) }
+fn dumped(alloc: Global, store: &Store) -> Result<Reply, AllocError>
+    ensures { IfOk result (λ reply. (bounds : Bounds) → Carries sparql bounds store.now.base Dump store.now.base reply) }
 {
-    let body = kept.dump(alloc)?;
+    let body = dump(alloc, store)?;
     made(alloc, 200, Media::NQuads, body)
 }
 
@@ -105,12 +105,12 @@ fn or_memory(made: Result<Reply, AllocError>) -> Reply
 }
 
 /// An update's reply. An accepted one has a fixed reply, so that want of memory never follows a change.
-fn changed(alloc: Global, text: &str, kept: &mut Kept, max_rows: u64) -> Reply
-    ensures carried { CarriesOrMemory sparql (bounds_of max_rows kept.old) kept.old.base (Update text.now) kept.new.base result }
-    ensures limit { kept.new.limit ≡ kept.old.limit }
-    ensures default_graph { kept.new.default_graph ≡ kept.old.default_graph }
+fn changed(alloc: Global, text: &str, store: &mut Store, max_rows: u64) -> Reply
+    ensures carried { CarriesOrMemory sparql (bounds_of max_rows store.old) store.old.base (Update text.now) store.new.base result }
+    ensures limit { store.new.limit ≡ store.old.limit }
+    ensures default_graph { store.new.default_graph ≡ store.old.default_graph }
 {
-    match kept.update(alloc, text, max_rows) {
+    match update_over(alloc, text, store, max_rows) {
         Ok(()) => Reply::fixed(Fixed::NoContent),
         Err(QFault::Memory) => Reply::fixed(Fixed::Memory),
         Err(fault) => or_memory(refusal(alloc, &fault)),
@@ -118,14 +118,14 @@ fn changed(alloc: Global, text: &str, kept: &mut Kept, max_rows: u64) -> Reply
 }
 
 /// The request is carried out, and its reply is made. Where memory is wanting, what is stored stays.
-pub fn carry_out(alloc: Global, request: &Request, kept: &mut Kept, max_rows: u64) -> Reply
-    ensures carried { CarriesOrMemory sparql (bounds_of max_rows kept.old) kept.old.base request.now kept.new.base result }
-    ensures limit { kept.new.limit ≡ kept.old.limit }
-    ensures default_graph { kept.new.default_graph ≡ kept.old.default_graph }
+pub fn carry_out(alloc: Global, request: &Request, store: &mut Store, max_rows: u64) -> Reply
+    ensures carried { CarriesOrMemory sparql (bounds_of max_rows store.old) store.old.base request.now store.new.base result }
+    ensures limit { store.new.limit ≡ store.old.limit }
+    ensures default_graph { store.new.default_graph ≡ store.old.default_graph }
 {
     match request {
-        Request::Query(text) => or_memory(asked(alloc, text.as_str(), kept, max_rows)),
-        Request::Update(text) => changed(alloc, text.as_str(), kept, max_rows),
-        Request::Dump => or_memory(dumped(alloc, kept)),
+        Request::Query(text) => or_memory(asked(alloc, text.as_str(), store, max_rows)),
+        Request::Update(text) => changed(alloc, text.as_str(), store, max_rows),
+        Request::Dump => or_memory(dumped(alloc, store)),
     }
 }

@@ -9,11 +9,11 @@ ghost use Rattle.qs_service.specs.Step.{Hears};
 ghost use Rattle.qs_service.specs.Talk.{part_of, IsPart};
 ghost use Rattle.qs_update.specs.Request.{bounds_of};
 
-use crate::kept::Kept;
 use crate::part::Part;
 use crate::reply::Reply;
 use crate::talk::{Talk, heard};
 use qs_http::{Fixed, Session};
+use qs_store::Store;
 use std::alloc::Global;
 use std::marker::Model;
 use std::mem;
@@ -82,11 +82,11 @@ impl Connection {
     }
 
     /// A piece comes.
-    pub fn hear(&mut self, alloc: Global, kept: &mut Kept, max_rows: u64, piece: &[u8])
+    pub fn hear(&mut self, alloc: Global, store: &mut Store, max_rows: u64, piece: &[u8])
         ensures id { self.new.id ≡ self.old.id }
-        ensures heard { Hears sparql (bounds_of max_rows kept.old) kept.old.base self.old.exchange piece.now kept.new.base self.new.exchange }
-        ensures limit { kept.new.limit ≡ kept.old.limit }
-        ensures default_graph { kept.new.default_graph ≡ kept.old.default_graph }
+        ensures heard { Hears sparql (bounds_of max_rows store.old) store.old.base self.old.exchange piece.now store.new.base self.new.exchange }
+        ensures limit { store.new.limit ≡ store.old.limit }
+        ensures default_graph { store.new.default_graph ≡ store.old.default_graph }
     {
         let unset = Talk::Answered {
             reply: Reply::fixed(Fixed::Memory),
@@ -94,7 +94,7 @@ impl Connection {
         };
         let talk = mem::replace(&mut self.talk, unset);
         self.talk = match talk {
-            Talk::Reading(mut session) => match heard(alloc, &mut session, kept, max_rows, piece) {
+            Talk::Reading(mut session) => match heard(alloc, &mut session, store, max_rows, piece) {
                 None => Talk::Reading(session),
                 Some(reply) => Talk::Answered { reply, taken: 0 },
             },

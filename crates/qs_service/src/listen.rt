@@ -6,11 +6,11 @@ ghost use Rattle.qs_service.specs.Meaning.{sparql};
 ghost use Rattle.qs_service.specs.Serve.{Listens, PutsReply, Serves, CountsFault};
 ghost use Rattle.qs_update.specs.Request.{bounds_of};
 
-use crate::kept::Kept;
 use crate::reply::Reply;
 use crate::served::{ServeFault, Served};
 use crate::talk::heard;
 use qs_http::{Session, unfinished_requests_are_short};
+use qs_store::Store;
 use qs_terms::{Stream, put_all};
 use std::alloc::Global;
 
@@ -24,14 +24,14 @@ const MOST_READS: u32 = 4_210_688;
 fn listen<S: Stream>(
     alloc: Global,
     stream: &mut S,
-    kept: &mut Kept,
+    store: &mut Store,
     max_rows: u64,
 ) -> Result<Option<Reply>, ServeFault>
-    ensures comes { Listens sparql (bounds_of max_rows kept.old) kept.old.base (S.left stream.old) result kept.new.base (S.left stream.new) }
+    ensures comes { Listens sparql (bounds_of max_rows store.old) store.old.base (S.left stream.old) result store.new.base (S.left stream.new) }
     ensures taken { Keeps (S.sent stream.old) (S.Sink.taken stream.new) }
     ensures faults { CountsFault (S.Sink.faults stream.old) (S.Sink.faults stream.new) result }
-    ensures limit { kept.new.limit ≡ kept.old.limit }
-    ensures default_graph { kept.new.default_graph ≡ kept.old.default_graph }
+    ensures limit { store.new.limit ≡ store.old.limit }
+    ensures default_graph { store.new.default_graph ≡ store.old.default_graph }
 {
     unfinished_requests_are_short();
     let mut session = Session::new(alloc);
@@ -42,7 +42,7 @@ fn listen<S: Stream>(
             Ok(n) => n,
             Err(_) => return Err(ServeFault::Read),
         };
-        if let Some(reply) = heard(alloc, &mut session, kept, max_rows, &buf[..n]) {
+        if let Some(reply) = heard(alloc, &mut session, store, max_rows, &buf[..n]) {
             return Ok(Some(reply));
         }
     }
@@ -71,15 +71,15 @@ fn put_reply<S: Stream>(stream: &mut S, reply: &Reply) -> Result<(), ServeFault>
 pub fn serve_stream<S: Stream>(
     alloc: Global,
     stream: &mut S,
-    kept: &mut Kept,
+    store: &mut Store,
     max_rows: u64,
 ) -> Result<Served, ServeFault>
-    ensures served { Serves sparql (bounds_of max_rows kept.old) kept.old.base (S.left stream.old) (S.sent stream.old) result kept.new.base (S.Sink.taken stream.new) }
+    ensures served { Serves sparql (bounds_of max_rows store.old) store.old.base (S.left stream.old) (S.sent stream.old) result store.new.base (S.Sink.taken stream.new) }
     ensures faults { CountsFault (S.Sink.faults stream.old) (S.Sink.faults stream.new) result }
-    ensures limit { kept.new.limit ≡ kept.old.limit }
-    ensures default_graph { kept.new.default_graph ≡ kept.old.default_graph }
+    ensures limit { store.new.limit ≡ store.old.limit }
+    ensures default_graph { store.new.default_graph ≡ store.old.default_graph }
 {
-    let Some(reply) = listen(alloc, stream, kept, max_rows)? else {
+    let Some(reply) = listen(alloc, stream, store, max_rows)? else {
         return Ok(Served::Silent);
     };
     match put_reply(stream, &reply) {

@@ -3,7 +3,6 @@
 ghost use Rattle.std.specs.Prelude.{◌≡◌, [], MatchResult};
 
 use crate::connection::Connection;
-use crate::kept::Kept;
 use crate::listen::serve_stream;
 use crate::reply::Reply;
 use crate::served::{ServeFault, Served};
@@ -32,7 +31,7 @@ const MOST: usize = 64;
 #[derive(Drop)]
 pub struct Service {
     alloc: Global,
-    kept: Kept,
+    store: Store,
     connections: Vec<Connection>,
     max_rows: u64,
 }
@@ -44,7 +43,7 @@ impl Model for Service {
 
     ghost Value = { State };
 
-    ghost view = { λ s. record { stored = s.kept.base; bounds = bounds_of s.max_rows s.kept; joined = s.connections.items } };
+    ghost view = { λ s. record { stored = s.store.base; bounds = bounds_of s.max_rows s.store; joined = s.connections.items } };
 
     ghost invariant = { λ s. IsTable s.connections };
 }
@@ -69,7 +68,7 @@ impl Service {
         match Vec::with_capacity(alloc, MOST) {
             Ok(connections) => Ok(Service {
                 alloc,
-                kept: Kept::new(store),
+                store,
                 connections,
                 max_rows,
             }),
@@ -82,7 +81,7 @@ impl Service {
         ensures stored { result.now.base ≡ self.now.stored }
         ensures bounds { bounds_of self.now.bounds.rows result.now ≡ self.now.bounds }
     {
-        self.kept.store()
+        &self.store
     }
 
     /// Serves one connection apart from the joined ones. Pieces of at most 4,096 bytes are read until a reply stands, which is then
@@ -96,7 +95,7 @@ impl Service {
         ensures apart { self.new ≡ record self.old { stored = self.new.stored } }
         ensures faults { CountsFault (S.Sink.faults stream.old) (S.Sink.faults stream.new) result }
     {
-        serve_stream(self.alloc, stream, &mut self.kept, self.max_rows)
+        serve_stream(self.alloc, stream, &mut self.store, self.max_rows)
     }
 
     /// A connection joins. It takes no memory.
@@ -129,7 +128,7 @@ impl Service {
         if place == self.connections.len() {
             return Err(ServiceFault::UnknownId);
         }
-        self.connections[place].hear(self.alloc, &mut self.kept, self.max_rows, bytes);
+        self.connections[place].hear(self.alloc, &mut self.store, self.max_rows, bytes);
         Ok(())
     }
 

@@ -6,9 +6,9 @@ ghost use Rattle.qs_service.specs.Talk.{IsReading, bytes_read, HearsOn};
 ghost use Rattle.qs_update.specs.Request.{bounds_of};
 
 use crate::carry::carry_out;
-use crate::kept::Kept;
 use crate::reply::Reply;
 use qs_http::{Fixed, Progress, Session};
+use qs_store::Store;
 use std::alloc::Global;
 
 /// How far a connection has come.
@@ -22,20 +22,20 @@ pub enum Talk {
 pub fn heard(
     alloc: Global,
     session: &mut Session,
-    kept: &mut Kept,
+    store: &mut Store,
     max_rows: u64,
     piece: &[u8],
 ) -> Option<Reply>
     requires { IsReading session.old }
-    ensures heard { HearsOn sparql (bounds_of max_rows kept.old) kept.old.base (bytes_read session.old) piece.now kept.new.base session.new result }
-    ensures limit { kept.new.limit ≡ kept.old.limit }
-    ensures default_graph { kept.new.default_graph ≡ kept.old.default_graph }
+    ensures heard { HearsOn sparql (bounds_of max_rows store.old) store.old.base (bytes_read session.old) piece.now store.new.base session.new result }
+    ensures limit { store.new.limit ≡ store.old.limit }
+    ensures default_graph { store.new.default_graph ≡ store.old.default_graph }
 {
     match session.feed(piece) {
         Progress::More => None,
         Progress::Refused(which) => Some(Reply::fixed(which)),
         Progress::Ready => match session.request() {
-            Some(request) => Some(carry_out(alloc, request, kept, max_rows)),
+            Some(request) => Some(carry_out(alloc, request, store, max_rows)),
             None => Some(Reply::fixed(Fixed::Memory)),
         },
     }

@@ -14,12 +14,12 @@ use Rattle.std.proofs.lemmas.List.Sorted.{IsPermutation-refl}
 use Rattle.qs_terms.specs.Bag.{Distinct, SameBag}
 use Rattle.qs_terms.specs.Dataset.{is_above_blanks, is_statement_below, is_term_below, is_graph_below}
 use Rattle.qs_terms.specs.Term.{same_term}
-use Rattle.qs_terms.specs.Statement.{Statement, same_statement}
+use Rattle.qs_terms.specs.Statement.{Statement, same_statement, fits_places}
 use Rattle.qs_terms.specs.declared.term.Term.{Term}
 use Rattle.qs_terms.specs.declared.term.Term.TheVariants.{Iri, Blank, Literal}
 use Rattle.qs_store.specs.Change.{IsChanged, with_terms_of, KnowsTermsOf}
 use Rattle.qs_dict.specs.Dict.{term_at}
-use Rattle.qs_store.specs.Content.{Content, HasKnownTerms, KnowsItsTerms}
+use Rattle.qs_store.specs.Content.{Content, HasKnownTerms, KnowsItsTerms, AreLawful}
 use Rattle.qs_store.specs.Entries.{AreEntries, IsEntryOf, said, statement_of, entry_of, term_or}
 use Rattle.qs_store.specs.Same.{SameSet}
 use Rattle.qs_store.specs.Store.{IsStore, IsFront}
@@ -185,3 +185,20 @@ draft_known terms entries next all q c = let f = member_of_said terms q entries 
 pub base_known : (terms : List Term) (entries : Entries) (known next : ℕ) → known ≤ length terms → AreEntries (take known terms) entries → KnowsItsTerms (content (said terms entries) next (take known terms))
 base_known terms entries known next l all =
     subst (λ quads. KnowsItsTerms (content quads next (take known terms))) (said_front terms known entries l all) (draft_known (take known terms) entries next all)
+
+entry_fits : (terms : List Term) (x : List ℕ) → IsEntryOf terms x → let q = statement_of terms x in IsTrue (fits_places q.graph q.subject q.predicate)
+entry_fits terms [] e = absurd e
+entry_fits terms (g ∷ []) e = absurd e
+entry_fits terms (g ∷ s ∷ []) e = absurd e
+entry_fits terms (g ∷ s ∷ p ∷ []) e = absurd e
+entry_fits terms (g ∷ s ∷ p ∷ o ∷ x ∷ rest) e = absurd e
+entry_fits terms (g ∷ s ∷ p ∷ o ∷ []) e = e.fits
+
+-- what entries say stands where it may
+pub draft_lawful : (terms : List Term) (entries : Entries) → AreEntries terms entries → AreLawful (said terms entries)
+draft_lawful terms entries all q c =
+    let f = member_of_said terms q entries c in
+    subst (λ (q : Statement). IsTrue (fits_places q.graph q.subject q.predicate)) f.says (entry_fits terms f.entry (all f.entry f.stands))
+
+pub base_lawful : (terms : List Term) (entries : Entries) (known : ℕ) → known ≤ length terms → AreEntries (take known terms) entries → AreLawful (said terms entries)
+base_lawful terms entries known l all = subst AreLawful (said_front terms known entries l all) (draft_lawful (take known terms) entries all)

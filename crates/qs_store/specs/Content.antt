@@ -5,7 +5,7 @@ use Rattle.std.specs.List.{Contains}
 use Rattle.qs_terms.specs.Bag.{Distinct}
 use Rattle.qs_terms.specs.Dataset.{is_above_blanks}
 use Rattle.qs_terms.specs.Term.{same_term}
-use Rattle.qs_terms.specs.Statement.{Statement, same_statement}
+use Rattle.qs_terms.specs.Statement.{Statement, same_statement, fits_places}
 use Rattle.qs_terms.specs.declared.term.Term.{Term}
 use Rattle.qs_store.specs.declared.default_graph.DefaultGraph.{DefaultGraph}
 use Rattle.qs_store.specs.declared.default_graph.DefaultGraph.TheVariants.{Stored, Union}
@@ -43,3 +43,7 @@ pub record HasKnownTerms (known : List Term) (q : Statement) : Type 0 where
 -- the terms of each quad are known
 abbrev pub KnowsItsTerms : Content → Type 0
 KnowsItsTerms c = (q : Statement) → Contains c.quads q → HasKnownTerms c.known q
+
+-- graphs and subjects are no literals, and predicates are IRIs (RDF 1.1 Concepts, 3.1 and 4)
+abbrev pub AreLawful : List Statement → Type 0
+AreLawful quads = (q : Statement) → Contains quads q → IsTrue (fits_places q.graph q.subject q.predicate)

@@ -2,11 +2,9 @@
 -- (Inner: it serves proofs, and no promise of the product is read by it.)
 use Rattle.std.specs.Prelude.{◌≡◌, ℕ, ◌≤◌, List, ◌++◌, length, take}
 use Rattle.std.specs.Bool.{IsTrue}
-use Rattle.std.specs.List.{Contains}
 use Rattle.qs_terms.specs.Bag.{Distinct}
 use Rattle.qs_terms.specs.Dataset.{is_above_blanks}
 use Rattle.qs_terms.specs.Term.{same_term}
-use Rattle.qs_terms.specs.Statement.{Statement, fits_places}
 use Rattle.qs_terms.specs.declared.term.Term.{Term}
 use Rattle.qs_store.specs.Entries.{said, AreEntries}
 
@@ -18,10 +16,6 @@ pub record IsStore (terms : List Term) (base draft : List (List ℕ)) (known nex
   pub known_draft : AreEntries terms draft
   pub below : IsTrue (is_above_blanks next (said terms base))
   pub above : IsTrue (is_above_blanks draft_next (said terms draft))
-
--- graphs and subjects are no literals, and predicates are IRIs
-abbrev pub AreLawful : List Statement → Type 0
-AreLawful quads = (q : Statement) → Contains quads q → IsTrue (fits_places q.graph q.subject q.predicate)
 
 -- the first terms of a list are those of another
 pub record IsFront (old new : List Term) : Type 0 where

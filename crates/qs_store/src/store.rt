@@ -10,7 +10,7 @@ ghost use Rattle.qs_terms.specs.Statement.{Statement, is_graph};
 ghost use Rattle.qs_terms.specs.declared.term.Term.{Term};
 ghost use Rattle.qs_dict.specs.Dict.{IsInUse, IsDictionary, term_at, number_of};
 ghost use Rattle.qs_store.specs.Change.{IsChanged, KnowsTermsOf, IsFullExactly, IsFullAt, with_terms_of};
-ghost use Rattle.qs_store.specs.Content.{Content, Held, IsContent, KnowsItsTerms, default_of};
+ghost use Rattle.qs_store.specs.Content.{Content, Held, AreLawful, IsContent, KnowsItsTerms, default_of};
 ghost use Rattle.qs_store.specs.Entries.{said, AreEntries, IsSaidBehind};
 ghost use Rattle.qs_store.specs.Graphs.{AreGraphs};
 ghost use Rattle.qs_store.specs.Same.{SameSet};
@@ -176,10 +176,12 @@ impl Store {
         self.layers.draft_len()
     }
 
-    /// How many terms are known: the numbers in use are those from 1 to it. The terms of the quads are among them.
+    /// How many terms are known: the numbers in use are those from 1 to it. The terms of the quads are among them,
+    /// and each stands where it may.
     pub fn terms(&self) -> u32
         ensures count { result ≡ length self.now.base.known }
         ensures known { KnowsItsTerms self.now.base }
+        ensures places { AreLawful self.now.base.quads }
     {
         self.known
     }
@@ -188,6 +190,7 @@ impl Store {
     fn draft_terms(&self) -> u32
         ensures count { result ≡ length self.now.draft.known }
         ensures known { KnowsItsTerms self.now.draft }
+        ensures places { AreLawful self.now.draft.quads }
     {
         self.dict.len()
     }
@@ -596,10 +599,12 @@ impl<'a> Draft<'a> {
         store.draft_count()
     }
 
-    /// How many terms the draft knows: the numbers in use are those from 1 to it. The terms of the quads are among them.
+    /// How many terms the draft knows: the numbers in use are those from 1 to it. The terms of the quads are among them,
+    /// and each stands where it may.
     pub fn terms(&self) -> u32
         ensures count { result ≡ length self.now.store.now.draft.known }
         ensures known { KnowsItsTerms self.now.store.now.draft }
+        ensures places { AreLawful self.now.store.now.draft.quads }
     {
         let store: &Store = self.store;
         store.draft_terms()

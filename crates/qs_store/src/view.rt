@@ -5,7 +5,7 @@ ghost use Rattle.std.specs.List.Sorted.{IsSorted};
 ghost use Rattle.qs_terms.specs.Bag.{SameBag};
 ghost use Rattle.qs_terms.specs.Dataset.{is_above_blanks};
 ghost use Rattle.qs_dict.specs.Dict.{IsInUse, term_at, number_of};
-ghost use Rattle.qs_store.specs.Content.{Content, IsContent, KnowsItsTerms};
+ghost use Rattle.qs_store.specs.Content.{Content, AreLawful, IsContent, KnowsItsTerms};
 ghost use Rattle.qs_store.specs.Graphs.{AreGraphs};
 ghost use Rattle.qs_store.specs.Triples.{AreTriples};
 ghost use Rattle.qs_store.specs.declared.default_graph.DefaultGraph.{DefaultGraph};
@@ -38,10 +38,12 @@ pub trait View {
         ensures count { result ≡ length (content self.now).quads }
         ensures lawful { IsContent (content self.now) };
 
-    /// How many terms are known: the numbers in use are those from 1 to it. The terms of the quads are among them.
+    /// How many terms are known: the numbers in use are those from 1 to it. The terms of the quads are among them,
+    /// and each stands where it may.
     fn terms(&self) -> u32
         ensures count { result ≡ length (content self.now).known }
-        ensures known { KnowsItsTerms (content self.now) };
+        ensures known { KnowsItsTerms (content self.now) }
+        ensures places { AreLawful (content self.now).quads };
 
     /// The term with the number, which is in use.
     fn term(&self, number: u32) -> &Term

@@ -5,7 +5,7 @@ use Rattle.std.proofs.lemmas.List.Elements.{All-from_recursion}
 use Rattle.std.proofs.lemmas.List.Sorted.{All-permutation, IsPermutation-sym}
 use Rattle.qs_terms.specs.Bag.{once}
 use Rattle.qs_terms.specs.Dataset.{is_term_below, is_graph_below, is_statement_below, is_above_blanks, graph_of}
-use Rattle.qs_terms.specs.Outcome.{Outcome, and_then, OrWantOfMemory, OneOrWantOfMemory}
+use Rattle.qs_terms.specs.Outcome.{Outcome, and_then, OrWantOfMemory}
 use Rattle.qs_terms.specs.Statement.{Statement, same_graph, same_statement, is_iri}
 use Rattle.qs_terms.specs.declared.fault.QFault.{QFault}
 use Rattle.qs_terms.specs.declared.fault.QFault.TheVariants as fault
@@ -202,10 +202,6 @@ module _ (bound : Bound) (made : Made) (wheres : Wheres) (blocks : Blocks) (max_
   operation_lawful (operation.Copy t) quads next outcome above iris values e = due next outcome (transferred removal.Target t quads next) e (transferred_lawful next removal.Target t quads above)
 
 -- ---- answers
-
-pub one_lawful : (Due : Outcome Effect → Type 0) (next : ℕ) (result : Outcome Effect) → ((outcome : Outcome Effect) → Due outcome → IfOk outcome (IsLawful next)) → OneOrWantOfMemory Due result → IfOk result (IsLawful next)
-one_lawful Due next (Ok e) h k = h (Ok e) k
-one_lawful Due next (Err f) h k = tt
 
 pub due_lawful : (o : Outcome Effect) (next : ℕ) (result : Outcome Effect) → IfOk o (IsLawful next) → OrWantOfMemory o result → IfOk result (IsLawful next)
 due_lawful o next (Ok e) h k = due next (Ok e) o (sym k) h

@@ -3,4 +3,4 @@ pub mod Quads
 mod Tested
 mod AboveBlanks
 pub mod Turns
-pub mod WholeGraphs
+pub mod ByEffect

@@ -1,30 +1,22 @@
--- Quads in other graphs, and all quads.
-use Rattle.std.proofs.Common.{◌≡◌, ℕ, Bool, true, false, ◌&&◌, List, [], ◌∷◌, Option, Some, None, refl, sym, ap, ◌∙◌, subst, IsTrue}
-use Rattle.std.specs.List.{filter}
-use Rattle.qs_terms.specs.Statement.{Statement, is_graph, is_node, is_iri, fits_places}
+-- Predicates of quads, and the quads of graphs that CLEAR and DROP name.
+use Rattle.std.proofs.Common.{◌≡◌, ◌↔◌, ℕ, Bool, true, false, ◌&&◌, List, [], ◌∷◌, Some, None, refl, sym, ap, ◌∙◌, IsTrue}
+use Rattle.std.specs.List.{filter, Contains}
+use Rattle.qs_terms.specs.Statement.{Statement, is_graph, is_node, is_iri}
 use Rattle.qs_terms.specs.declared.term.Term.{Term}
 use Rattle.qs_terms.specs.declared.term.Term.TheVariants as value
 use Rattle.qs_ast.specs.declared.update.GraphTarget.{GraphTarget}
 use Rattle.qs_ast.specs.declared.update.GraphTarget.TheVariants.{All, Default, Graph, Named}
+use Rattle.qs_blanks.specs.Below.{have_iri_predicates}
+use Rattle.qs_store.specs.Content.{AreLawful}
 use Rattle.qs_update.specs.Graphs.{in_graph, is_named, is_target}
 
 behind : (a b : Bool) → IsTrue (a && b) → IsTrue b
 behind true b h = h
 behind false b h = absurd (let e : false ≡ true = h in cc)
 
--- a subject and a predicate stand in the default graph too
-pub fits_default : (graph : Option Term) (subject predicate s p : Term) → s ≡ subject → p ≡ predicate → IsTrue (fits_places graph subject predicate) → IsTrue (is_node s && is_iri p)
-fits_default graph subject predicate s p e f h =
-    subst (λ (x : Term). IsTrue (is_node x && is_iri p)) (sym e) (subst (λ (y : Term). IsTrue (is_node subject && is_iri y)) (sym f) (behind (is_graph graph) (is_node subject && is_iri predicate) h))
-
--- and in each that may be one
-pub fits_named : (graph : Option Term) (subject predicate s p name n : Term) → s ≡ subject → p ≡ predicate → IsTrue (fits_places graph subject predicate) → n ≡ name → IsTrue (is_graph (Some name)) → IsTrue (fits_places (Some n) s p)
-fits_named graph subject predicate s p name n e f h k i =
-    subst (λ (x : Term). IsTrue (fits_places (Some x) s p)) (sym k) (joined (is_node name) (is_node s && is_iri p) i (fits_default graph subject predicate s p e f h))
-  where
-    joined : (a b : Bool) → IsTrue a → IsTrue b → IsTrue (a && b)
-    joined true b i h = h
-    joined false b i h = absurd (let e : false ≡ true = i in cc)
+-- the predicates of lawful quads are IRIs
+pub iris_of : ((quads : List Statement) → IsTrue (have_iri_predicates quads) ↔ ((q : Statement) → Contains quads q → IsTrue (is_iri q.predicate))) → (quads : List Statement) → AreLawful quads → IsTrue (have_iri_predicates quads)
+iris_of law quads h = (law quads).1 (λ q m. behind (is_node q.subject) (is_iri q.predicate) (behind (is_graph q.graph) (is_node q.subject && is_iri q.predicate) (h q m)))
 
 all_stay : (quads : List Statement) → filter (is_target All) quads ≡ quads
 all_stay [] = refl

@@ -1,27 +1,19 @@
 -- Operations over a draft, one after another.
-use Rattle.std.proofs.Common.{◌≡◌, ◌↔◌, ◌<◌, ◌≤◌, ◌+◌, ℕ, List, [], ◌∷◌, ◌++◌, length, take, drop, get_or, Ok, Err, IfOk, IsTrue, refl, sym, subst, ap, ◌∙◌}
+use Rattle.std.proofs.Common.{◌≡◌, ◌<◌, ◌≤◌, ◌+◌, ℕ, List, [], ◌∷◌, ◌++◌, length, take, drop, get_or, Ok, Err, refl, sym, subst, ap, ◌∙◌}
 use Rattle.std.proofs.lemmas.List.{take_more, take-append-drop}
-use Rattle.std.specs.List.{Contains}
-use Rattle.qs_terms.specs.Dataset.{is_statement_below, is_above_blanks}
-use Rattle.qs_terms.specs.Outcome.{Outcome, OrWantOfMemory, OneOrWantOfMemory}
+use Rattle.qs_terms.specs.Outcome.{Outcome}
 use Rattle.qs_terms.specs.Statement.{Statement}
 use Rattle.qs_terms.specs.declared.fault.QFault.{QFault}
-use Rattle.qs_tree.specs.declared.update.OnMissing.{OnMissing}
 use Rattle.qs_ast.specs.declared.term.Variable.{Variable}
 use Rattle.qs_ast.specs.declared.update.Operation.{Operation}
-use Rattle.qs_ast.specs.declared.update.Operation.TheVariants as operation
-use Rattle.qs_ast.specs.declared.update.QuadBlock.{QuadBlock}
 use Rattle.qs_store.specs.Change.{IsChanged, KnowsTermsOf, with_terms_of}
 use Rattle.qs_store.specs.Content.{Content, Held}
 use Rattle.qs_store.specs.Same.{SameSet}
 use Rattle.qs_store.specs.declared.default_graph.DefaultGraph.{DefaultGraph}
-use Rattle.qs_update.specs.Carried.{IsEffectOver, Standing}
-use Rattle.qs_update.specs.Effect.{of_data, created, IsEffect}
-use Rattle.qs_update.specs.Lawful.{IsLawful}
+use Rattle.qs_update.specs.Carried.{Standing}
 use Rattle.qs_update.specs.Outcome.{IsSameContent}
 use Rattle.qs_update.specs.Request.{Bounds, bounds_of, IsApplied, IsOperation, AreOperations, IsBehind}
 use Rattle.qs_update.specs.declared.effect.Effect.{Effect}
-use Rattle.qs_update.proofs.Under.{one_due}
 
 -- ---- one operation
 
@@ -34,51 +26,6 @@ applied limit old new e removed added r a room quads next known = record {
   next = next;
   known = subst (λ (l : List Statement). KnowsTermsOf old.known l new.known) a known;
 }
-
--- a number above the blank nodes of a set is above those of each list of it
-pub above_too : ((next : ℕ) (quads : List Statement) → IsTrue (is_above_blanks next quads) ↔ ((q : Statement) → Contains quads q → IsTrue (is_statement_below next q)))
-    → (next : ℕ) (old quads : List Statement) → SameSet quads old → IsTrue (is_above_blanks next old) → IsTrue (is_above_blanks next quads)
-above_too law next old quads same h = (law next quads).1 (λ q m. (law next old).0 h q ((same q).0 m))
-
-module _ (max_rows : ℕ) (variables : List Variable) (held : Held) where
-  abbrev Due : Operation → Outcome Effect → Type 0
-  Due o result = OneOrWantOfMemory (IsEffectOver (bounds_of max_rows held) variables o held.draft) result
-
-  -- an effect over one list of the quads is one over the content
-  listed : (o : Operation) (quads : List Statement) (result : Outcome Effect) → SameSet quads held.draft.quads → OneOrWantOfMemory (IsEffect max_rows variables held.default_graph o quads held.draft.next) result → Due o result
-  listed o quads (Ok e) same h = (quads, same, h)
-  listed o quads (Err f) same h = λ n. (quads, same, h n)
-
-  pub over : (o : Operation) (default : DefaultGraph) (quads : List Statement) (next : ℕ) (result : Outcome Effect) → default ≡ held.default_graph → next ≡ held.draft.next → SameSet quads held.draft.quads
-      → OneOrWantOfMemory (IsEffect max_rows variables default o quads next) result → Due o result
-  over o default quads next result d n same h =
-      listed o quads result same
-      (subst (λ (x : DefaultGraph). OneOrWantOfMemory (IsEffect max_rows variables x o quads held.draft.next) result) d
-      (subst (λ (m : ℕ). OneOrWantOfMemory (IsEffect max_rows variables default o quads m) result) n h))
-
-  pub inserted : (o : Operation) (blocks written : List QuadBlock) (next : ℕ) (result : Outcome Effect) → SameSet held.draft.quads held.draft.quads → o ≡ operation.InsertData blocks → written ≡ blocks → next ≡ held.draft.next
-      → OrWantOfMemory (of_data [] written next) result → Due o result
-  inserted o blocks written next result same is w n h =
-      subst (λ (x : Operation). Due x result) (sym is)
-      (listed (operation.InsertData blocks) held.draft.quads result same
-      (one_due (of_data [] blocks held.draft.next) result
-      (subst (λ (b : List QuadBlock). OrWantOfMemory (of_data [] b held.draft.next) result) w (subst (λ (m : ℕ). OrWantOfMemory (of_data [] written m) result) n h))))
-
-  pub deleted : (o : Operation) (blocks written : List QuadBlock) (next : ℕ) (result : Outcome Effect) → SameSet held.draft.quads held.draft.quads → o ≡ operation.DeleteData blocks → written ≡ blocks → next ≡ held.draft.next
-      → OrWantOfMemory (of_data written [] next) result → Due o result
-  deleted o blocks written next result same is w n h =
-      subst (λ (x : Operation). Due x result) (sym is)
-      (listed (operation.DeleteData blocks) held.draft.quads result same
-      (one_due (of_data blocks [] held.draft.next) result
-      (subst (λ (b : List QuadBlock). OrWantOfMemory (of_data b [] held.draft.next) result) w (subst (λ (m : ℕ). OrWantOfMemory (of_data written [] m) result) n h))))
-
-  pub creates : (o : Operation) (on_exists : OnMissing) (name : List ℕ) (result : Outcome Effect) → o ≡ operation.Create on_exists name → OrWantOfMemory (created on_exists name held.draft.quads held.draft.next) result → Due o result
-  creates o on_exists name result is h =
-      subst (λ (x : Operation). Due x result) (sym is) (listed (operation.Create on_exists name) held.draft.quads result (λ q. (λ c. c, λ c. c)) (one_due (created on_exists name held.draft.quads held.draft.next) result h))
-
--- the number before an effect is that of the draft
-pub lawful_too : (next draft_next : ℕ) (result : Outcome Effect) → next ≡ draft_next → IfOk result (IsLawful next) → IfOk result (IsLawful draft_next)
-lawful_too next draft_next result n h = subst (λ (m : ℕ). IfOk result (IsLawful m)) n h
 
 module _ (bounds : Bounds) (variables : List Variable) where
   -- ---- one after another

@@ -43,8 +43,3 @@ same_effect a b c d next r s result e f g h =
 pub same_rows : (max_rows : ℕ) (p q : NamedPattern) (default : DefaultGraph) (name : Option Term) (quads : List Statement) (result : Outcome (List Solution)) → p ≡ q
     → OneOrWantOfMemory (AreAllRows max_rows (solutions p default name quads)) result → OneOrWantOfMemory (AreAllRows max_rows (solutions q default name quads)) result
 same_rows max_rows p q default name quads result e h = subst (λ (x : NamedPattern). OneOrWantOfMemory (AreAllRows max_rows (solutions x default name quads)) result) e h
-
--- the one outcome that is due
-pub one_due : (due result : Outcome Effect) → OrWantOfMemory due result → OneOrWantOfMemory (λ o. o ≡ due) result
-one_due due (Ok e) h = sym h
-one_due due (Err f) h = λ n. sym (h n)

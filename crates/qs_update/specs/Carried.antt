@@ -2,19 +2,15 @@
 -- (Inner: it serves proofs, and no promise of the product is read by it.)
 use Rattle.std.specs.Prelude.{◌≡◌, ◌≢◌, ℕ, List, Ok, Err}
 use Rattle.qs_terms.specs.Outcome.{Outcome}
-use Rattle.qs_terms.specs.Statement.{Statement}
 use Rattle.qs_terms.specs.declared.fault.QFault.{QFault}
 use Rattle.qs_terms.specs.declared.fault.QFault.TheVariants as fault
 use Rattle.qs_ast.specs.declared.term.Variable.{Variable}
 use Rattle.qs_ast.specs.declared.update.Operation.{Operation}
 use Rattle.qs_store.specs.Content.{Content, Held}
-use Rattle.qs_store.specs.Same.{SameSet}
 use Rattle.qs_store.specs.declared.fault.StoreFault.{StoreFault}
 use Rattle.qs_store.specs.declared.fault.StoreFault.TheVariants as store_fault
-use Rattle.qs_update.specs.Effect.{IsEffect}
 use Rattle.qs_update.specs.Outcome.{IsSameContent}
 use Rattle.qs_update.specs.Request.{Bounds, bounds_of, AreOperations}
-use Rattle.qs_update.specs.declared.effect.Effect.{Effect}
 
 -- a fault of the store is one of a request
 abbrev pub fault_of : StoreFault → QFault
@@ -25,11 +21,6 @@ fault_of store_fault.Memory = fault.Memory
 abbrev pub BecomesOne : (Outcome Content → Type 0) → Outcome (Unit {0}) → Content → Type 0
 BecomesOne Due (Ok done) new = Due (Ok new)
 BecomesOne Due (Err f) new = f ≢ fault.Memory → Due (Err f)
-
--- what an operation does over the quads of a content, in some list of them
-abbrev pub IsEffectOver : Bounds → List Variable → Operation → Content → Outcome Effect → Type 0
-IsEffectOver bounds variables operation old effect =
-    (quads : List Statement) × SameSet quads old.quads × IsEffect bounds.rows variables bounds.default_graph operation quads old.next effect
 
 -- a store with a draft of which the first operations were carried out, where it was `old` before them
 pub record Standing (max_rows : ℕ) (variables : List Variable) (operations : List Operation) (old new : Held) : Type 0 where

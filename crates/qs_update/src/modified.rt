@@ -13,7 +13,7 @@ ghost use Rattle.qs_update.specs.Lawful.{IsLawful};
 ghost use Rattle.qs_update.specs.Rows.{AreAllRows};
 
 use crate::effect::Effect;
-use crate::graphs::{iri_term, seen};
+use crate::graphs::iri_term;
 use crate::lawful::effects_are_lawful;
 use crate::templates::{deletion, template_with};
 use qs_algebra::{NamedPattern, translate_blocks, translate_where};
@@ -23,9 +23,9 @@ use qs_ast::update::{Modify, QuadBlock};
 use qs_scope::numbered;
 use qs_select::solutions_of;
 use qs_solutions::Row;
-use qs_store::DefaultGraph;
+use qs_store::Draft;
 use qs_template::{Template, instances, next_after};
-use qs_terms::{Iri, QFault, Quad, Term};
+use qs_terms::{Iri, QFault, Term};
 use sqlite_items::Items;
 use std::alloc::{AllocError, Global};
 
@@ -68,7 +68,7 @@ fn modified_by(
 }
 
 // What blocks of quads without variables do.
-pub fn changed_by_data(
+fn changed_by_data(
     alloc: Global,
     delete: &[QuadBlock],
     insert: &[QuadBlock],
@@ -105,19 +105,17 @@ fn lent_rows<'a>(alloc: Global, rows: &'a [Row]) -> Result<Vec<&'a Row>, AllocEr
     Ok(all)
 }
 
-// All solutions of a WHERE over the quads, in any order.
+// All solutions of a WHERE over the draft, in any order.
 fn solutions(
     alloc: Global,
     pattern: &NamedPattern,
-    default: DefaultGraph,
     with: Option<&Term>,
-    quads: Vec<Quad>,
+    draft: &Draft<'_>,
     max_rows: u64,
 ) -> Result<Items<Row>, QFault>
-    ensures { OneOrWantOfMemory (AreAllRows max_rows (spec.solutions pattern.now default (option_copied with.entry) quads.items)) result }
+    ensures { OneOrWantOfMemory (AreAllRows max_rows (spec.solutions pattern.now draft.now.store.now.default_graph (option_copied with.entry) draft.now.store.now.draft.quads)) result }
 {
-    let quads = seen(alloc, default, quads)?;
-    let answer = solutions_of(alloc, pattern, quads.as_slice(), with, max_rows)?;
+    let answer = solutions_of(alloc, pattern, draft, with, max_rows)?;
     match answer {
         Answer::Solutions { vars: _, rows } => Ok(rows),
         Answer::Truth(_) => Ok(Items::new(alloc)),
@@ -129,31 +127,29 @@ fn solutions(
 fn deleted_rows(
     alloc: Global,
     variables: &[Variable],
-    default: DefaultGraph,
     blocks: &[QuadBlock],
-    quads: Vec<Quad>,
+    draft: &Draft<'_>,
     max_rows: u64,
 ) -> Result<Items<Row>, QFault>
-    ensures { OneOrWantOfMemory (AreAllRows max_rows (spec.solutions (translated_blocks variables.now blocks.now) default None quads.items)) result }
+    ensures { OneOrWantOfMemory (AreAllRows max_rows (spec.solutions (translated_blocks variables.now blocks.now) draft.now.store.now.default_graph None draft.now.store.now.draft.quads)) result }
 {
     let pattern = translate_blocks(alloc, variables, blocks)?;
-    solutions(alloc, &pattern, default, None, quads, max_rows)
+    solutions(alloc, &pattern, None, draft, max_rows)
 }
 
-/// What DELETE WHERE does over the quads.
+/// What DELETE WHERE does over the draft.
 #[tactic(auto, using(crate::proofs::Under::under, crate::proofs::Under::not_under))]
 pub fn deleted_where(
     alloc: Global,
     variables: &[Variable],
-    default: DefaultGraph,
     blocks: &[QuadBlock],
-    quads: Vec<Quad>,
-    next: u64,
+    draft: &Draft<'_>,
     max_rows: u64,
 ) -> Result<Effect, QFault>
-    ensures { OneOrWantOfMemory (spec.IsDeletedWhere max_rows variables.now default blocks.now quads.items next) result }
+    ensures { OneOrWantOfMemory (spec.IsDeletedWhere max_rows variables.now draft.now.store.now.default_graph blocks.now draft.now.store.now.draft.quads draft.now.store.now.draft.next) result }
 {
-    let rows = deleted_rows(alloc, variables, default, blocks, quads, max_rows)?;
+    let next = draft.next_blank();
+    let rows = deleted_rows(alloc, variables, blocks, draft, max_rows)?;
     let rows = lent_rows(alloc, rows.as_slice())?;
     modified_by(alloc, variables, &None, blocks, &[], next, rows.as_slice())
 }
@@ -170,46 +166,43 @@ fn with_term(alloc: Global, with: &Option<Iri>) -> Result<Option<Term>, AllocErr
 fn rows_with(
     alloc: Global,
     pattern: &NamedPattern,
-    default: DefaultGraph,
     with: &Option<Iri>,
-    quads: Vec<Quad>,
+    draft: &Draft<'_>,
     max_rows: u64,
 ) -> Result<Items<Row>, QFault>
-    ensures { OneOrWantOfMemory (AreAllRows max_rows (spec.solutions pattern.now default (option_map value.Iri with.now) quads.items)) result }
+    ensures { OneOrWantOfMemory (AreAllRows max_rows (spec.solutions pattern.now draft.now.store.now.default_graph (option_map value.Iri with.now) draft.now.store.now.draft.quads)) result }
 {
     let with = with_term(alloc, with)?;
-    solutions(alloc, pattern, default, with.as_ref(), quads, max_rows)
+    solutions(alloc, pattern, with.as_ref(), draft, max_rows)
 }
 
 #[tactic(auto, using(crate::proofs::Under::same_rows))]
 fn where_rows(
     alloc: Global,
     variables: &[Variable],
-    default: DefaultGraph,
     modify: &Modify,
-    quads: Vec<Quad>,
+    draft: &Draft<'_>,
     max_rows: u64,
 ) -> Result<Items<Row>, QFault>
-    ensures { OneOrWantOfMemory (AreAllRows max_rows (spec.solutions (translated_where variables.now modify.now.pattern) default (option_map value.Iri modify.now.with) quads.items)) result }
+    ensures { OneOrWantOfMemory (AreAllRows max_rows (spec.solutions (translated_where variables.now modify.now.pattern) draft.now.store.now.default_graph (option_map value.Iri modify.now.with) draft.now.store.now.draft.quads)) result }
 {
     let pattern = translate_where(alloc, variables, &modify.pattern)?;
-    rows_with(alloc, &pattern, default, &modify.with, quads, max_rows)
+    rows_with(alloc, &pattern, &modify.with, draft, max_rows)
 }
 
-/// What DELETE and INSERT with a WHERE do over the quads.
+/// What DELETE and INSERT with a WHERE do over the draft.
 #[tactic(auto, using(crate::proofs::Under::not_under))]
 pub fn modified_where(
     alloc: Global,
     variables: &[Variable],
-    default: DefaultGraph,
     modify: &Modify,
-    quads: Vec<Quad>,
-    next: u64,
+    draft: &Draft<'_>,
     max_rows: u64,
 ) -> Result<Effect, QFault>
-    ensures { OneOrWantOfMemory (spec.IsModifiedWhere max_rows variables.now default modify.now quads.items next) result }
+    ensures { OneOrWantOfMemory (spec.IsModifiedWhere max_rows variables.now draft.now.store.now.default_graph modify.now draft.now.store.now.draft.quads draft.now.store.now.draft.next) result }
 {
-    let rows = where_rows(alloc, variables, default, modify, quads, max_rows)?;
+    let next = draft.next_blank();
+    let rows = where_rows(alloc, variables, modify, draft, max_rows)?;
     let rows = lent_rows(alloc, rows.as_slice())?;
     modified_by(
         alloc,

@@ -15,8 +15,8 @@ ghost use Rattle.qs_update.specs.Lawful.{IsLawful};
 ghost use Rattle.qs_update.specs.Request.{IsCarriedOut};
 
 use crate::carried::{carry_out, fault_of};
-use crate::effect::Effect;
-use crate::graphs::{fault_or_nothing, graph_name, iri_term, is_same, nothing};
+use crate::effect::{Effect, fault_or_nothing, nothing};
+use crate::graphs::{graph_name, iri_term, is_same};
 use qs_ast::update::{GraphTarget, Transfer};
 use qs_store::{Draft, Removal, StoreFault};
 use qs_terms::{Iri, QFault, Term};
@@ -59,8 +59,7 @@ pub fn clear(alloc: Global, target: &GraphTarget, draft: &mut Draft<'_>) -> Resu
     }
 }
 
-/// What CREATE does over the draft.
-pub fn create(
+fn created(
     alloc: Global,
     on_exists: OnMissing,
     name: &Iri,
@@ -75,6 +74,23 @@ pub fn create(
         return fault_or_nothing(alloc, on_exists, QFault::GraphExists, next);
     }
     Ok(nothing(alloc, next))
+}
+
+/// CREATE.
+pub fn create(
+    alloc: Global,
+    on_exists: OnMissing,
+    name: &Iri,
+    draft: &mut Draft<'_>,
+) -> Result<(), QFault>
+    ensures same_reference { draft.new.store.ghost_name ≡ draft.old.store.ghost_name }
+    ensures base { draft.new.store.now.base ≡ draft.old.store.now.base }
+    ensures limit { draft.new.store.now.limit ≡ draft.old.store.now.limit }
+    ensures default_graph { draft.new.store.now.default_graph ≡ draft.old.store.now.default_graph }
+    ensures outcome { BecomesOne (IsCarriedOut draft.old.store.now.limit draft.old.store.now.draft (effect.created on_exists name.now draft.old.store.now.draft.quads draft.old.store.now.draft.next)) result draft.new.store.now.draft }
+{
+    let effect = created(alloc, on_exists, name, draft)?;
+    carry_out(draft, &effect)
 }
 
 fn exists(draft: &Draft<'_>, name: Option<&Term>) -> bool

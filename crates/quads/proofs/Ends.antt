@@ -1,32 +1,42 @@
--- How a query ends, from what its text is answered with.
-use Rattle.std.proofs.Common.{◌≡◌, ℕ, List, Ok, Err, refl, subst}
-use Rattle.qs_terms.specs.Dataset.{Dataset, IsDataset}
+-- How jobs end, from their steps.
+use Rattle.std.proofs.Common.{◌≡◌, List, ℕ, Ok, Err, refl, subst}
 use Rattle.qs_terms.specs.Outcome.{Outcome, OneOrWantOfMemory}
-use Rattle.qs_terms.specs.Statement.{Statement}
 use Rattle.qs_terms.specs.declared.fault.QFault.{QFault}
-use Rattle.qs_nquads.specs.Nquads.{IsNquads}
 use Rattle.qs_answer.specs.declared.answer.Answer.{Answer}
-use Rattle.qs_select.specs.Sequence.{dataset_of}
+use Rattle.qs_load.specs.declared.fault.LoadFault.{LoadFault}
+use Rattle.qs_load.specs.declared.fault.LoadFault.TheVariants.{Text, Store}
+use Rattle.qs_plan.specs.Seen.{seen}
 use Rattle.qs_query.specs.Outcome.{IsOutcomeOfText}
-use Rattle.quads.specs.Due.{max_rows, IsTextOf, IsTextOutcome, IsOverData}
+use Rattle.qs_select.specs.Sequence.{dataset_of}
+use Rattle.qs_service.specs.Meaning.{sparql}
+use Rattle.qs_store.specs.Content.{Held, Content}
+use Rattle.qs_store.specs.Same.{SameSet}
+use Rattle.qs_store.specs.declared.default_graph.DefaultGraph.{DefaultGraph}
+use Rattle.qs_store.specs.declared.default_graph.DefaultGraph.TheVariants.{Stored}
+use Rattle.quads.specs.Due.{max_rows, IsTextOf, IsQueryOutcome}
+use Rattle.quads.specs.Ended.{IsQueryEnd, IsUpdateEnd, unstored}
+use Rattle.quads.specs.Refusal.{refusal_of}
+use Rattle.quads.specs.Stored.{IsRefusalOf}
 
 -- bytes that are no text have the fault that is due
-pub no_text : (bytes : List ℕ) (d : Dataset) (f : QFault) → IsTextOf bytes (Err f) → OneOrWantOfMemory (IsTextOutcome bytes d) (Err f)
-no_text bytes d f is = λ _. (Err f, is, refl)
+pub no_text : (bytes : List ℕ) (c : Content) (f : QFault) → IsTextOf bytes (Err f) → OneOrWantOfMemory (IsQueryOutcome bytes c) (Err f)
+no_text bytes c f is = λ _. (Err f, is, refl)
 
--- what a text is answered with is what its bytes are
-pub of_text : (bytes text : List ℕ) (d : Dataset) (outcome : Outcome Answer) → IsTextOf bytes (Ok text) → OneOrWantOfMemory (IsOutcomeOfText text d max_rows) outcome → OneOrWantOfMemory (IsTextOutcome bytes d) outcome
-of_text bytes text d (Ok answer) is due = (Ok text, is, due)
-of_text bytes text d (Err f) is due = λ other. (Ok text, is, due other)
+module _ (held : Held) (bytes text : List ℕ) (is_stored : held.default_graph ≡ Stored) (same : SameSet held.base.quads held.base.quads) (is : IsTextOf bytes (Ok text)) where
+  over : (r : Outcome Answer) → IsOutcomeOfText text (dataset_of (seen held.default_graph held.base.quads) held.base.next) max_rows r → IsQueryOutcome bytes held.base r
+  unfolding sparql
+  over r due = (Ok text, is, (held.base.quads, same, subst (λ (d : DefaultGraph). IsOutcomeOfText text (dataset_of (seen d held.base.quads) held.base.next) max_rows r) is_stored due))
 
-module _ (file text : List ℕ) (quads : List Statement) (next : ℕ) (read : IsNquads file 0 quads next) (is_dataset : IsDataset (dataset_of quads next)) where
-  over_data : (r : Outcome Answer) → OneOrWantOfMemory (IsTextOutcome text (dataset_of quads next)) r → OneOrWantOfMemory (IsOverData file text) r
-  over_data (Ok a) due = (quads, next, read, is_dataset, due)
-  over_data (Err f) due = λ other. (quads, next, read, is_dataset, due other)
+  -- what a text is answered with is what its bytes are
+  pub of_text : (r : Outcome Answer) → OneOrWantOfMemory (IsOutcomeOfText text (dataset_of (seen held.default_graph held.base.quads) held.base.next) max_rows) r → OneOrWantOfMemory (IsQueryOutcome bytes held.base) r
+  of_text (Ok answer) due = over (Ok answer) due
+  of_text (Err f) due = λ other. over (Err f) (due other)
 
-  -- what the text comes to over the quads is what it comes to over the data
-  pub of_quads : (lent : List Statement) (r s : Outcome Answer) → lent ≡ quads → r ≡ s → OneOrWantOfMemory (IsTextOutcome text (dataset_of lent next)) r → OneOrWantOfMemory (IsOverData file text) s
-  of_quads lent r s same is due =
-      over_data s
-      (subst (λ (o : Outcome Answer). OneOrWantOfMemory (IsTextOutcome text (dataset_of quads next)) o) is
-      (subst (λ (qs : List Statement). OneOrWantOfMemory (IsTextOutcome text (dataset_of qs next)) r) same due))
+-- data that aren't put into a store
+pub query_unstored : (file text : List ℕ) (f : LoadFault) → IsRefusalOf file (refusal_of f) → IsQueryEnd file text (unstored f)
+query_unstored file text (Text f) h = h
+query_unstored file text (Store f) h = λ n. (Err _, h n, refl)
+
+pub update_unstored : (file text : List ℕ) (f : LoadFault) → IsRefusalOf file (refusal_of f) → IsUpdateEnd file text (unstored f)
+update_unstored file text (Text f) h = h
+update_unstored file text (Store f) h = λ n. (Err _, h n, refl)

@@ -1,4 +1,5 @@
 pub mod Ends
+pub mod Loads
 pub mod Replays
 pub mod Runs
 pub mod Updates

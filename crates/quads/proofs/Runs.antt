@@ -61,23 +61,19 @@ module _ (job : Job) (taken taken2 : Option (List ℕ)) (faults faults2 : ℕ) (
   ran end is (inr p) = ran_of (line (fault_line fault.Memory)) 1 (memory job) p
 
 -- the end of the job's bytes is that of the job
-module _ (job : Job) (end : Ended) (file : List ℕ) where
-  pub check_end : (kept : Vec ℕ Global) → job ≡ Check kept → file ≡ kept.items → IsCheckEnd file end → IsEnd job end
-  check_end kept is lent e = subst (λ (j : Job). IsEnd j end) (sym is) (subst (λ (l : List ℕ). IsCheckEnd l end) lent e)
+module _ (job : Job) (end : Ended) (file : Vec ℕ Global) where
+  pub check_end : job ≡ Check file → IsCheckEnd file.items end → IsEnd job end
+  check_end is e = subst (λ (j : Job). IsEnd j end) (sym is) e
 
-  module _ (text : List ℕ) (kept other : Vec ℕ Global) where
-    pub query_end : job ≡ Query kept other → file ≡ kept.items → text ≡ other.items → IsQueryEnd file text end → IsEnd job end
-    query_end is lent also e =
-        subst (λ (j : Job). IsEnd j end) (sym is) (subst (λ (l : List ℕ). IsQueryEnd l other.items end) lent (subst (λ (l : List ℕ). IsQueryEnd file l end) also e))
+  module _ (lent : List ℕ) (text : Vec ℕ Global) where
+    pub query_end : job ≡ Query file text → lent ≡ text.items → IsQueryEnd file.items lent end → IsEnd job end
+    query_end is same e = subst (λ (j : Job). IsEnd j end) (sym is) (subst (λ (l : List ℕ). IsQueryEnd file.items l end) same e)
 
-    pub update_end : job ≡ Update kept other → file ≡ kept.items → text ≡ other.items → IsUpdateEnd file text end → IsEnd job end
-    update_end is lent also e =
-        subst (λ (j : Job). IsEnd j end) (sym is) (subst (λ (l : List ℕ). IsUpdateEnd l other.items end) lent (subst (λ (l : List ℕ). IsUpdateEnd file l end) also e))
+    pub update_end : job ≡ Update file text → lent ≡ text.items → IsUpdateEnd file.items lent end → IsEnd job end
+    update_end is same e = subst (λ (j : Job). IsEnd j end) (sym is) (subst (λ (l : List ℕ). IsUpdateEnd file.items l end) same e)
 
 -- the run of a replay of the job's bytes is that of the job
-pub replay_ran : (job : Job) (file script : List ℕ) (taken taken2 : Option (List ℕ)) (faults faults2 : ℕ) (r : Ran) (kept other : Vec ℕ Global) → job ≡ Replay kept other → file ≡ kept.items → script ≡ other.items
-    → Runs (IsReplayDue file script) (IsReplayBegun file script) taken taken2 faults faults2 r → IsRun job taken taken2 faults faults2 r
-replay_ran job file script taken taken2 faults faults2 r kept other is lent also ran =
-    subst (λ (j : Job). IsRun j taken taken2 faults faults2 r) (sym is)
-    (subst (λ (l : List ℕ). Runs (IsReplayDue l other.items) (IsReplayBegun l other.items) taken taken2 faults faults2 r) lent
-    (subst (λ (l : List ℕ). Runs (IsReplayDue file l) (IsReplayBegun file l) taken taken2 faults faults2 r) also ran))
+pub replay_ran : (job : Job) (lent : List ℕ) (taken taken2 : Option (List ℕ)) (faults faults2 : ℕ) (r : Ran) (file script : Vec ℕ Global) → job ≡ Replay file script → lent ≡ script.items
+    → Runs (IsReplayDue file.items lent) (IsReplayBegun file.items lent) taken taken2 faults faults2 r → IsRun job taken taken2 faults faults2 r
+replay_ran job lent taken taken2 faults faults2 r file script is same ran =
+    subst (λ (j : Job). IsRun j taken taken2 faults faults2 r) (sym is) (subst (λ (l : List ℕ). Runs (IsReplayDue file.items l) (IsReplayBegun file.items l) taken taken2 faults faults2 r) same ran)

@@ -1,10 +1,10 @@
--- What is due of a job: the bytes that are printed, and the exit status. The data of a check are printed again as N-Quads, or refused; a
--- query is answered, or refused by the first fault, of the data before the text; of an update the dataset behind it is printed as N-Quads;
--- of a replay the lines of a run of its events, or the fault of the data before that of the script.
+-- What is due of a job: the bytes that are printed, and the exit status. The data of a check are printed again as N-Quads, or refused. Those
+-- of the other jobs are put into a new store before: a query over it is answered, of an update the dataset behind it is printed as N-Quads,
+-- and of a replay the lines of a run of its events; or the first fault is told, of the data before that of the text or the script.
 use Rattle.std.specs.Prelude.{◌≡◌, ◌⊎◌, ◌∷◌, ◌++◌, [], ℕ, List, Ok, Err, codes, decimal}
 use Rattle.std.specs.Str.{IsUtf8, IsValidUpTo}
 use Rattle.serde_json.specs.Written.{compact_text}
-use Rattle.qs_terms.specs.Dataset.{Dataset, IsDataset}
+use Rattle.qs_terms.specs.Dataset.{IsDataset}
 use Rattle.qs_terms.specs.Outcome.{Outcome, OneOrWantOfMemory}
 use Rattle.qs_terms.specs.Statement.{Statement}
 use Rattle.qs_terms.specs.declared.fault.QFault.TheVariants as fault
@@ -17,9 +17,7 @@ use Rattle.qs_answer.specs.declared.answer.Answer.{Answer}
 use Rattle.qs_answer.specs.declared.answer.Answer.TheVariants.{Solutions, Truth, Graph}
 use Rattle.qs_nquads.specs.Written.{nquads_of}
 use Rattle.qs_select.specs.Sequence.{dataset_of}
-use Rattle.qs_query.specs.Outcome.{IsOutcomeOfText}
-use Rattle.qs_update.specs.Outcome as update
-use Rattle.qs_update.specs.Request.{Bounds, IsCarriedOut, IsBehind}
+use Rattle.qs_update.specs.Request.{Bounds, IsCarriedOut}
 use Rattle.qs_update.specs.declared.effect.Effect.{Effect}
 use Rattle.qs_results.specs.Json.{json_of}
 use Rattle.qs_results.specs.Lines.{fault_line, data_fault_line}
@@ -33,35 +31,15 @@ use Rattle.qs_replay.specs.Script.{IsScript, IsOtherLine}
 use Rattle.quads.specs.declared.job.Job.{Job}
 use Rattle.quads.specs.declared.job.Job.TheVariants.{Check, Query, Update, Replay}
 
--- the most solutions of a query
-abbrev pub max_rows : ℕ
-max_rows = 1000000
-
--- ---- what a query comes to
-
--- the bytes are a text; where they aren't UTF-8, the fault is at the first bad byte
-abbrev pub IsTextOf : List ℕ → Outcome (List ℕ) → Type 0
-IsTextOf bytes (Ok text) = IsUtf8 bytes × (text ≡ bytes)
-IsTextOf bytes (Err f) = (¬ (IsUtf8 bytes)) × ((place : ℕ) × IsValidUpTo bytes place × (f ≡ fault.Syntax place))
-
-abbrev pub IsOutcomeOfRead : Outcome (List ℕ) → Dataset → Outcome Answer → Type 0
-IsOutcomeOfRead (Ok text) d outcome = IsOutcomeOfText text d max_rows outcome
-IsOutcomeOfRead (Err f) d outcome = outcome ≡ Err f
-
--- what the bytes of a query's file come to over the dataset
-abbrev pub IsTextOutcome : List ℕ → Dataset → Outcome Answer → Type 0
-IsTextOutcome bytes d outcome = (text : Outcome (List ℕ)) × IsTextOf bytes text × IsOutcomeOfRead text d outcome
-
--- the same over the dataset that N-Quads are, whose blank nodes are numbered from 0
-abbrev pub IsOverData : List ℕ → List ℕ → Outcome Answer → Type 0
-IsOverData file text outcome =
-    (quads : List Statement) × (next : ℕ) × IsNquads file 0 quads next × IsDataset (dataset_of quads next) × IsTextOutcome text (dataset_of quads next) outcome
-
--- ---- what an update comes to
+-- ---- what the data come to in a store
 
 -- the most terms that the store knows: as many as there are numbers for them
 abbrev pub max_terms : ℕ
 max_terms = 4294967295
+
+-- the most solutions of a query, behind OFFSET and LIMIT, and of a WHERE of an update
+abbrev pub max_rows : ℕ
+max_rows = 1000000
 
 abbrev pub bounds : Bounds
 bounds = record { terms = max_terms; rows = max_rows; default_graph = Stored }
@@ -74,22 +52,52 @@ empty = record { quads = []; next = 0; known = [] }
 abbrev pub addition : List Statement → ℕ → Effect
 addition quads next = record { removed = []; added = quads; next = next }
 
+-- what a new store holds once the quads are put into it that N-Quads are, whose blank nodes are numbered from 0; or the fault that this
+-- finds no room for their terms
+abbrev pub IsLoaded : List ℕ → Outcome Content → Type 0
+IsLoaded file first = (quads : List Statement) × (next : ℕ) × IsNquads file 0 quads next × IsCarriedOut max_terms empty (Ok (addition quads next)) first
+
+-- what is due over what a store holds, or the fault that was due before
+abbrev pub IsOver : {A : Type 0} → (Content → Outcome A → Type 0) → Outcome Content → Outcome A → Type 0
+IsOver Due (Ok c) outcome = Due c outcome
+IsOver Due (Err f) outcome = outcome ≡ Err f
+
+-- what is due over the data, which are put into a new store before
+abbrev pub IsOverData : {A : Type 0} → (Content → Outcome A → Type 0) → List ℕ → Outcome A → Type 0
+IsOverData Due file outcome = (first : Outcome Content) × IsLoaded file first × IsOver Due first outcome
+
+-- the bytes are a text; where they aren't UTF-8, the fault is at the first bad byte
+abbrev pub IsTextOf : List ℕ → Outcome (List ℕ) → Type 0
+IsTextOf bytes (Ok text) = IsUtf8 bytes × (text ≡ bytes)
+IsTextOf bytes (Err f) = (¬ (IsUtf8 bytes)) × ((place : ℕ) × IsValidUpTo bytes place × (f ≡ fault.Syntax place))
+
+-- ---- what a query comes to
+
+abbrev pub IsQueryOfRead : Outcome (List ℕ) → Content → Outcome Answer → Type 0
+IsQueryOfRead (Ok text) c outcome = sparql.answers text bounds c outcome
+IsQueryOfRead (Err f) c outcome = outcome ≡ Err f
+
+-- what the bytes of a query's file come to over what a store holds
+abbrev pub IsQueryOutcome : List ℕ → Content → Outcome Answer → Type 0
+IsQueryOutcome bytes c outcome = (text : Outcome (List ℕ)) × IsTextOf bytes text × IsQueryOfRead text c outcome
+
+-- the same over the data
+abbrev pub IsQueryOfData : List ℕ → List ℕ → Outcome Answer → Type 0
+IsQueryOfData file text outcome = IsOverData (IsQueryOutcome text) file outcome
+
+-- ---- what an update comes to
+
 abbrev pub IsUpdateOfRead : Outcome (List ℕ) → Content → Outcome Content → Type 0
-IsUpdateOfRead (Ok text) old outcome = update.IsOutcomeOfText bounds text old outcome
+IsUpdateOfRead (Ok text) old outcome = sparql.changes text bounds old outcome
 IsUpdateOfRead (Err f) old outcome = outcome ≡ Err f
 
 -- what the bytes of an update's file come to over what a store holds
 abbrev pub IsUpdateOutcome : List ℕ → Content → Outcome Content → Type 0
 IsUpdateOutcome bytes old outcome = (text : Outcome (List ℕ)) × IsTextOf bytes text × IsUpdateOfRead text old outcome
 
--- the same over quads, which are put into a new store before; or the fault that this finds no room for their terms
-abbrev pub IsUpdateOver : List Statement → ℕ → List ℕ → Outcome Content → Type 0
-IsUpdateOver quads next text outcome =
-    (first : Outcome Content) × IsCarriedOut max_terms empty (Ok (addition quads next)) first × IsBehind (IsUpdateOutcome text) first outcome
-
--- the same over the dataset that N-Quads are, whose blank nodes are numbered from 0
+-- the same over the data
 abbrev pub IsUpdateOfData : List ℕ → List ℕ → Outcome Content → Type 0
-IsUpdateOfData file text outcome = (quads : List Statement) × (next : ℕ) × IsNquads file 0 quads next × IsUpdateOver quads next text outcome
+IsUpdateOfData file text outcome = IsOverData (IsUpdateOutcome text) file outcome
 
 -- ---- what is printed of it
 
@@ -121,10 +129,10 @@ abbrev pub content_status : Outcome Content → ℕ
 content_status (Ok c) = 0
 content_status (Err f) = 1
 
--- the data are quads, and this is printed of what the text comes to over them, or of want of memory
-abbrev pub IsDueOfText : List ℕ → List ℕ → List ℕ → ℕ → Type 0
-IsDueOfText file text bytes status =
-    (outcome : Outcome Answer) × OneOrWantOfMemory (IsOverData file text) outcome × (bytes ≡ outcome_line outcome) × (status ≡ outcome_status outcome)
+-- the data are quads, and this is printed of what the query comes to over them, or of want of memory
+abbrev pub IsDueOfQuery : List ℕ → List ℕ → List ℕ → ℕ → Type 0
+IsDueOfQuery file text bytes status =
+    (outcome : Outcome Answer) × OneOrWantOfMemory (IsQueryOfData file text) outcome × (bytes ≡ outcome_line outcome) × (status ≡ outcome_status outcome)
 
 -- the data are quads, and this is printed of what the update makes of them, or of want of memory
 abbrev pub IsDueOfUpdate : List ℕ → List ℕ → List ℕ → ℕ → Type 0
@@ -146,12 +154,7 @@ IsDueOfMemory bytes status = (bytes ≡ line (fault_line fault.Memory)) × (stat
 
 -- ---- what a replay comes to
 
--- what a new store holds once the quads are put into it that N-Quads are, whose blank nodes are numbered from 0; or the fault that this
--- finds no room for their terms
-abbrev pub IsLoaded : List ℕ → Outcome Content → Type 0
-IsLoaded file first = (quads : List Statement) × (next : ℕ) × IsNquads file 0 quads next × IsCarriedOut max_terms empty (Ok (addition quads next)) first
-
--- a service over it, with no connection
+-- a service over what a store holds, with no connection
 abbrev pub service_over : Content → State
 service_over c = record { stored = c; bounds = bounds; joined = [] }
 
@@ -192,7 +195,7 @@ IsBegunOfReplay file script bytes =
 -- these bytes, whole, and this status are due of the job
 abbrev pub IsDue : Job → List ℕ → ℕ → Type 0
 IsDue (Check file) bytes status = IsDueOfDataset file.items bytes status ⊎ (IsDueOfMemory bytes status ⊎ IsDueOfData file.items bytes status)
-IsDue (Query file text) bytes status = IsDueOfText file.items text.items bytes status ⊎ IsDueOfData file.items bytes status
+IsDue (Query file text) bytes status = IsDueOfQuery file.items text.items bytes status ⊎ IsDueOfData file.items bytes status
 IsDue (Update file text) bytes status = IsDueOfUpdate file.items text.items bytes status ⊎ IsDueOfData file.items bytes status
 IsDue (Replay file script) bytes status = IsDueOfReplay file.items script.items bytes status ⊎ (IsDueOfMemory bytes status ⊎ IsDueOfData file.items bytes status)
 

@@ -7,20 +7,23 @@ use Rattle.qs_store.specs.Same.{SameSet}
 use Rattle.qs_select.specs.Sequence.{dataset_of}
 use Rattle.qs_terms.specs.Dataset.{IsDataset}
 use Rattle.qs_terms.specs.Outcome.{OneOrWantOfMemory}
+use Rattle.qs_load.specs.declared.fault.LoadFault.{LoadFault}
+use Rattle.qs_load.specs.declared.fault.LoadFault.TheVariants.{Text, Store}
 use Rattle.qs_nquads.specs.Nquads.{IsNquads, IsFault}
 use Rattle.qs_nquads.specs.Written.{nquads_of}
 use Rattle.qs_results.specs.Lines.{data_fault_line}
-use Rattle.quads.specs.Due.{IsOverData, IsUpdateOfData, line, outcome_line}
+use Rattle.quads.specs.Due.{IsQueryOfData, IsUpdateOfData, line, outcome_line}
+use Rattle.quads.specs.Refusal.{fault_of}
 use Rattle.quads.specs.declared.ended.Ended.{Ended}
 use Rattle.quads.specs.declared.ended.Ended.TheVariants.{Answered, Quads, DataRefused, Refused}
 use Rattle.quads.specs.declared.job.Job.{Job}
 use Rattle.quads.specs.declared.job.Job.TheVariants.{Check, Query, Update, Replay}
 
 abbrev pub IsQueryEnd : List ℕ → List ℕ → Ended → Type 0
-IsQueryEnd file text (Answered answer) = IsOverData file text (Ok answer)
+IsQueryEnd file text (Answered answer) = IsQueryOfData file text (Ok answer)
 IsQueryEnd file text (Quads quads) = ⊥
 IsQueryEnd file text (DataRefused f) = IsFault file 0 f.kind f.line
-IsQueryEnd file text (Refused f) = OneOrWantOfMemory (IsOverData file text) (Err f)
+IsQueryEnd file text (Refused f) = OneOrWantOfMemory (IsQueryOfData file text) (Err f)
 
 abbrev pub IsCheckEnd : List ℕ → Ended → Type 0
 IsCheckEnd file (Answered answer) = ⊥
@@ -39,6 +42,11 @@ IsEnd (Check file) end = IsCheckEnd file.items end
 IsEnd (Query file text) end = IsQueryEnd file.items text.items end
 IsEnd (Update file text) end = IsUpdateEnd file.items text.items end
 IsEnd (Replay file script) end = ⊥
+
+-- how a job ends where the data aren't put into a store
+abbrev pub unstored : LoadFault → Ended
+unstored (Text f) = DataRefused f
+unstored (Store f) = Refused (fault_of f)
 
 -- what is printed of the end
 abbrev pub printed : Ended → List ℕ

@@ -1,22 +1,16 @@
 -- The steps to a service over the data of a file.
 -- (Inner: it serves proofs, and no promise of the product is read by it.)
 use Rattle.std.specs.Prelude.{◌≡◌, ◌≢◌, ℕ, List, Result, Ok, Err}
-use Rattle.qs_terms.specs.Outcome.{Outcome}
-use Rattle.qs_terms.specs.Statement.{Statement}
 use Rattle.qs_terms.specs.declared.fault.QFault.TheVariants.{Memory}
+use Rattle.qs_load.specs.declared.fault.LoadFault.{LoadFault}
 use Rattle.qs_nquads.specs.Nquads.{IsFault}
 use Rattle.qs_store.specs.Content.{Content, Held}
 use Rattle.qs_store.specs.declared.default_graph.DefaultGraph.TheVariants.{Stored}
 use Rattle.qs_service.specs.State.{State}
-use Rattle.qs_update.specs.Request.{IsCarriedOut}
-use Rattle.quads.specs.Due.{addition, empty, max_terms, IsLoaded, service_over}
+use Rattle.quads.specs.Due.{max_terms, IsLoaded, service_over}
+use Rattle.quads.specs.Refusal.{refusal_of}
 use Rattle.quads.specs.declared.refusal.Refusal.{Refusal}
 use Rattle.quads.specs.declared.refusal.Refusal.TheVariants.{Data, Script, Fault}
-
--- the quads were put into a new store
-abbrev pub BecomesLoaded : List Statement → ℕ → Outcome (Unit {0}) → Content → Type 0
-BecomesLoaded quads next (Ok done) new = IsCarriedOut max_terms empty (Ok (addition quads next)) (Ok new)
-BecomesLoaded quads next (Err f) new = f ≢ Memory → IsCarriedOut max_terms empty (Ok (addition quads next)) (Err f)
 
 -- why the data find no place in a store
 abbrev pub IsRefusalOf : List ℕ → Refusal → Type 0
@@ -25,9 +19,9 @@ IsRefusalOf file (Script n) = ⊥
 IsRefusalOf file (Fault f) = f ≢ Memory → IsLoaded file (Err f)
 
 -- a store of the data, or why there is none
-abbrev pub BecomesStored : List ℕ → Result Held Refusal → Type 0
+abbrev pub BecomesStored : List ℕ → Result Held LoadFault → Type 0
 BecomesStored file (Ok held) = IsLoaded file (Ok held.base) × (held.limit ≡ max_terms) × (held.default_graph ≡ Stored)
-BecomesStored file (Err refusal) = IsRefusalOf file refusal
+BecomesStored file (Err f) = IsRefusalOf file (refusal_of f)
 
 -- a service over it, or why there is none
 abbrev pub BecomesService : List ℕ → Result State Refusal → Type 0

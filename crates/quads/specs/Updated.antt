@@ -7,7 +7,7 @@ use Rattle.qs_terms.specs.declared.fault.QFault.TheVariants.{Memory}
 use Rattle.qs_store.specs.Content.{Content}
 use Rattle.qs_store.specs.Same.{SameSet}
 use Rattle.qs_update.specs.Outcome.{IsSameContent}
-use Rattle.quads.specs.Due.{IsUpdateOutcome, IsUpdateOver}
+use Rattle.quads.specs.Due.{IsUpdateOutcome}
 
 -- the store holds what the update of the bytes makes of what it held
 abbrev pub BecomesUpdated : List ℕ → Content → Outcome (Unit {0}) → Content → Type 0
@@ -17,7 +17,3 @@ BecomesUpdated text old (Err f) new = f ≢ Memory → IsUpdateOutcome text old 
 -- the quads that stand behind the update of the bytes
 abbrev pub AreQuadsBehind : List ℕ → Content → List Statement → Type 0
 AreQuadsBehind text old all = (c : Content) × IsUpdateOutcome text old (Ok c) × SameSet all c.quads
-
--- the same over quads that are put into a new store before
-abbrev pub AreQuadsOver : List Statement → ℕ → List ℕ → List Statement → Type 0
-AreQuadsOver quads next text all = (c : Content) × IsUpdateOver quads next text (Ok c) × SameSet all c.quads

@@ -1,15 +1,15 @@
 //! How a job ends before anything is printed.
 
-ghost use Rattle.std.specs.Prelude.{Ok, Err, MatchResult};
-ghost use Rattle.qs_terms.specs.Outcome.{OneOrWantOfMemory};
-ghost use Rattle.qs_select.specs.Sequence.{dataset_of};
-ghost use Rattle.quads.specs.Due.{IsTextOf, IsTextOutcome};
-ghost use Rattle.quads.specs.Ended.{IsQueryEnd, IsCheckEnd};
+ghost use Rattle.std.specs.Prelude.{◌≡◌, Ok, Err, MatchResult};
+ghost use Rattle.quads.specs.Due.{IsTextOf};
+ghost use Rattle.quads.specs.Ended as spec;
+ghost use Rattle.quads.specs.Ended.{IsCheckEnd};
 
+use crate::refusal::fault_of;
 use qs_answer::Answer;
+use qs_load::LoadFault;
 use qs_nquads::laws::next_number_is_fresh;
 use qs_nquads::{NqFault, read};
-use qs_query::answer;
 use qs_select::laws::quads_are_a_dataset;
 use qs_terms::{QFault, Quad};
 use std::alloc::Global;
@@ -42,42 +42,25 @@ pub fn text_of(bytes: &[u8]) -> Result<&str, QFault>
     }
 }
 
-#[tactic(auto, using(crate::proofs::Ends::no_text, crate::proofs::Ends::of_text))]
-fn text_answer(
-    alloc: Global,
-    text: &[u8],
-    quads: &[Quad],
-    next_blank: u64,
-) -> Result<Answer, QFault>
-    ensures { OneOrWantOfMemory (IsTextOutcome text.now (dataset_of quads.now next_blank)) result }
+/// How a job ends where the data aren't put into a store.
+pub fn unstored(fault: LoadFault) -> Ended
+    ensures { result ≡ spec.unstored fault }
 {
-    let text = text_of(text)?;
-    answer(alloc, text, quads, next_blank, MAX_ROWS)
-}
-
-/// How the job of a query ends.
-pub fn query_ended(alloc: Global, file: &[u8], text: &[u8]) -> Ended
-    ensures { IsQueryEnd file.now text.now result }
-{
-    let (quads, next_blank) = match read(alloc, file, 0) {
-        Ok(parts) => parts,
-        Err(fault) => return Ended::DataRefused(fault),
-    };
-    next_number_is_fresh();
-    quads_are_a_dataset();
-    match text_answer(alloc, text, quads.as_slice(), next_blank) {
-        Ok(answer) => Ended::Answered(answer),
-        Err(fault) => Ended::Refused(fault),
+    match fault {
+        LoadFault::Text(fault) => Ended::DataRefused(fault),
+        LoadFault::Store(fault) => Ended::Refused(fault_of(fault)),
     }
 }
 
 /// How the job of a check ends.
-pub fn check_ended(alloc: Global, file: &[u8]) -> Ended
-    ensures { IsCheckEnd file.now result }
+pub fn check_ended(alloc: Global, file: Vec<u8>) -> Ended
+    ensures { IsCheckEnd file.items result }
 {
     next_number_is_fresh();
     quads_are_a_dataset();
-    match read(alloc, file, 0) {
+    let outcome = read(alloc, file.as_slice(), 0);
+    drop(file);
+    match outcome {
         Ok((quads, _)) => Ended::Quads(quads),
         Err(fault) => Ended::DataRefused(fault),
     }

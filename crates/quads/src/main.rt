@@ -4,6 +4,7 @@
 //! What a job's bytes come to is proved of `run`. Here the words of the command line are taken, the files read, and the port is bound.
 #![tactic(auto)]
 
+mod answered;
 mod command;
 mod ended;
 mod job;
@@ -78,7 +79,7 @@ fn hasher<S: Sink>(rt: &HostRuntime, out: &mut S) -> Result<RandomState, u8> {
 }
 
 /// Does the job: its exit status, or that of a hasher that can't be made.
-fn done<S: Sink>(rt: &HostRuntime, out: &mut S, job: &Job) -> Result<u8, u8> {
+fn done<S: Sink>(rt: &HostRuntime, out: &mut S, job: Job) -> Result<u8, u8> {
     let hasher = hasher(rt, out)?;
     Ok(run(rt.alloc(), hasher, job, out).status)
 }
@@ -86,28 +87,28 @@ fn done<S: Sink>(rt: &HostRuntime, out: &mut S, job: &Job) -> Result<u8, u8> {
 /// `check FILE`: its exit status, or that of a file that can't be read.
 fn check<S: Sink>(rt: &HostRuntime, out: &mut S, matches: &ArgMatches<'_>) -> Result<u8, u8> {
     let data = file(rt, out, matches, "FILE")?;
-    done(rt, out, &Job::Check { data })
+    done(rt, out, Job::Check { data })
 }
 
 /// `query FILE QUERYFILE`: the same.
 fn query<S: Sink>(rt: &HostRuntime, out: &mut S, matches: &ArgMatches<'_>) -> Result<u8, u8> {
     let data = file(rt, out, matches, "FILE")?;
     let text = file(rt, out, matches, "QUERYFILE")?;
-    done(rt, out, &Job::Query { data, text })
+    done(rt, out, Job::Query { data, text })
 }
 
 /// `update FILE UPDATEFILE`: the same.
 fn update<S: Sink>(rt: &HostRuntime, out: &mut S, matches: &ArgMatches<'_>) -> Result<u8, u8> {
     let data = file(rt, out, matches, "FILE")?;
     let text = file(rt, out, matches, "UPDATEFILE")?;
-    done(rt, out, &Job::Update { data, text })
+    done(rt, out, Job::Update { data, text })
 }
 
 /// `replay FILE SCRIPT`: the same.
 fn replay<S: Sink>(rt: &HostRuntime, out: &mut S, matches: &ArgMatches<'_>) -> Result<u8, u8> {
     let data = file(rt, out, matches, "FILE")?;
     let script = file(rt, out, matches, "SCRIPT")?;
-    done(rt, out, &Job::Replay { data, script })
+    done(rt, out, Job::Replay { data, script })
 }
 
 /// A service over the data of the file that the command line names, or the exit status where there is none.
@@ -118,7 +119,7 @@ fn service<S: Sink>(
 ) -> Result<Service, u8> {
     let data = file(rt, out, matches, "FILE")?;
     let hasher = hasher(rt, out)?;
-    match service_of(rt.alloc(), hasher, data.as_slice()) {
+    match service_of(rt.alloc(), hasher, data) {
         Ok(service) => Ok(service),
         Err(refusal) => Err(put_refusal(rt.alloc(), &refusal, out).status),
     }

@@ -10,8 +10,10 @@ ghost use Rattle.quads.specs.Run.{Prints};
 use crate::job::Ran;
 use crate::printed::{data_fault_text, fault_text};
 use crate::put::put;
+use qs_load::LoadFault;
 use qs_nquads::NqFault;
 use qs_results::out_of_memory_line;
+use qs_store::StoreFault;
 use qs_terms::{QFault, Sink};
 use std::alloc::{AllocError, Global};
 
@@ -24,6 +26,26 @@ pub enum Refusal {
     Script(usize),
     /// The terms of the data find no room, or memory is wanting.
     Fault(QFault),
+}
+
+/// The store's fault, as a job tells it.
+pub fn fault_of(fault: StoreFault) -> QFault
+    ensures { result ≡ spec.fault_of fault }
+{
+    match fault {
+        StoreFault::Full => QFault::Full,
+        StoreFault::Memory => QFault::Memory,
+    }
+}
+
+/// Why nothing is run where the data aren't put into a store.
+pub fn refusal_of(fault: LoadFault) -> Refusal
+    ensures { result ≡ spec.refusal_of fault }
+{
+    match fault {
+        LoadFault::Text(fault) => Refusal::Data(fault),
+        LoadFault::Store(fault) => Refusal::Fault(fault_of(fault)),
+    }
 }
 
 fn script_text(alloc: Global, number: usize) -> Result<String, AllocError>

@@ -56,11 +56,11 @@ fn script_over<S: Sink>(alloc: Global, service: &mut Service, script: &[u8], out
 pub fn script_ran<S: Sink>(
     alloc: Global,
     hasher: RandomState,
-    file: &[u8],
+    file: Vec<u8>,
     script: &[u8],
     out: &mut S,
 ) -> Ran
-    ensures { Runs (IsReplayDue file.now script.now) (IsReplayBegun file.now script.now) (S.taken out.old) (S.taken out.new) (S.faults out.old) (S.faults out.new) result }
+    ensures { Runs (IsReplayDue file.items script.now) (IsReplayBegun file.items script.now) (S.taken out.old) (S.taken out.new) (S.faults out.old) (S.faults out.new) result }
 {
     match service_of(alloc, hasher, file) {
         Ok(mut service) => {

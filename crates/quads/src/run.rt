@@ -7,7 +7,8 @@ ghost use Rattle.quads.specs.Due.{line};
 ghost use Rattle.quads.specs.Ended as ended;
 ghost use Rattle.quads.specs.Run.{Prints, IsRun};
 
-use crate::ended::{Ended, check_ended, query_ended};
+use crate::answered::query_ended;
+use crate::ended::{Ended, check_ended};
 use crate::job::{Job, Ran};
 use crate::printed::{printed, status};
 use crate::put::put;
@@ -30,27 +31,22 @@ fn put_end<S: Sink>(alloc: Global, end: Ended, out: &mut S) -> Ran
 }
 
 /// Does the job and prints what it comes to: the data as N-Quads, the answer as a line of JSON, a graph as N-Triples, what an update makes
-/// of the data as N-Quads, a line for each reply and each refused event of a script, or the line of the fault that is due. The terms of a
-/// store are hashed by `hasher`. The status is 0 where the job is done, and 1 where it is refused, where memory is wanting, or where the
-/// sink fails; nothing is put behind a failure.
-pub fn run<S: Sink>(alloc: Global, hasher: RandomState, job: &Job, out: &mut S) -> Ran
-    ensures { IsRun job.now (S.taken out.old) (S.taken out.new) (S.faults out.old) (S.faults out.new) result }
+/// of the data as N-Quads, a line for each reply and each refused event of a script, or the line of the fault that is due. The bytes of the
+/// data are let go once they are read, and the terms of a store are hashed by `hasher`. The status is 0 where the job is done, and 1 where
+/// it is refused, where memory is wanting, or where the sink fails; nothing is put behind a failure.
+pub fn run<S: Sink>(alloc: Global, hasher: RandomState, job: Job, out: &mut S) -> Ran
+    ensures { IsRun job (S.taken out.old) (S.taken out.new) (S.faults out.old) (S.faults out.new) result }
 {
     match job {
-        Job::Check { data } => put_end(alloc, check_ended(alloc, data.as_slice()), out),
+        Job::Check { data } => put_end(alloc, check_ended(alloc, data), out),
         Job::Query { data, text } => {
-            put_end(
-                alloc,
-                query_ended(alloc, data.as_slice(), text.as_slice()),
-                out,
-            )
-        }
-        Job::Update { data, text } => {
-            let end = update_ended(alloc, hasher, data.as_slice(), text.as_slice());
+            let end = query_ended(alloc, hasher, data, text.as_slice());
             put_end(alloc, end, out)
         }
-        Job::Replay { data, script } => {
-            script_ran(alloc, hasher, data.as_slice(), script.as_slice(), out)
+        Job::Update { data, text } => {
+            let end = update_ended(alloc, hasher, data, text.as_slice());
+            put_end(alloc, end, out)
         }
+        Job::Replay { data, script } => script_ran(alloc, hasher, data, script.as_slice(), out),
     }
 }

@@ -1,18 +1,15 @@
 //! What an update makes of the data of a file.
 
-ghost use Rattle.std.specs.Prelude.{◌≡◌, ◌≢◌, Ok, Err, IfOk, IfErr, IsTrue};
-ghost use Rattle.qs_terms.specs.Dataset.{is_above_blanks};
+ghost use Rattle.std.specs.Prelude.{◌≡◌, ◌≢◌, Err, IfOk, IfErr};
 ghost use Rattle.qs_terms.specs.declared.fault.QFault.TheVariants.{Memory};
 ghost use Rattle.qs_store.specs.Same.{SameSet};
 ghost use Rattle.qs_store.specs.declared.default_graph.DefaultGraph.TheVariants.{Stored};
-ghost use Rattle.quads.specs.Due.{empty, max_terms, IsUpdateOutcome, IsUpdateOver};
+ghost use Rattle.quads.specs.Due.{max_terms, IsUpdateOutcome};
 ghost use Rattle.quads.specs.Ended.{IsUpdateEnd};
-ghost use Rattle.quads.specs.Updated.{BecomesUpdated, AreQuadsBehind, AreQuadsOver};
+ghost use Rattle.quads.specs.Updated.{BecomesUpdated, AreQuadsBehind};
 
-use crate::ended::{Ended, MAX_ROWS, text_of};
-use crate::stored::{MAX_TERMS, let_go, load};
-use qs_nquads::laws::next_number_is_fresh;
-use qs_nquads::read;
+use crate::ended::{Ended, MAX_ROWS, text_of, unstored};
+use crate::stored::{let_go, stored};
 use qs_store::{Store, same_set_is_an_equivalence};
 use qs_terms::{QFault, Quad};
 use qs_update::update;
@@ -56,42 +53,19 @@ fn behind(alloc: Global, store: &mut Store, text: &[u8]) -> Result<Vec<Quad>, QF
     }
 }
 
-// What the update makes of the quads, which are put into the store before.
-fn updated(
-    alloc: Global,
-    store: &mut Store,
-    quads: &[Quad],
-    next: u64,
-    text: &[u8],
-) -> Result<Vec<Quad>, QFault>
-    requires empty { store.old.base ≡ empty }
-    requires limit { store.old.limit ≡ max_terms }
-    requires default_graph { store.old.default_graph ≡ Stored }
-    requires above { IsTrue (is_above_blanks next quads.now) }
-    ensures done { IfOk result (λ all. AreQuadsOver quads.now next text.now all.items) }
-    ensures refused { IfErr result (λ fault. fault ≢ Memory → IsUpdateOver quads.now next text.now (Err fault)) }
-{
-    match load(store, quads, next) {
-        Ok(()) => behind(alloc, store, text),
-        Err(fault) => Err(fault),
-    }
-}
-
 /// How the job of an update ends.
-pub fn update_ended(alloc: Global, hasher: RandomState, file: &[u8], text: &[u8]) -> Ended
-    ensures { IsUpdateEnd file.now text.now result }
+pub fn update_ended(alloc: Global, hasher: RandomState, file: Vec<u8>, text: &[u8]) -> Ended
+    ensures { IsUpdateEnd file.items text.now result }
 {
-    let (quads, next) = match read(alloc, file, 0) {
-        Ok(parts) => parts,
-        Err(fault) => return Ended::DataRefused(fault),
-    };
-    next_number_is_fresh();
-    let mut store = Store::new(alloc, MAX_TERMS, hasher);
-    let outcome = updated(alloc, &mut store, quads.as_slice(), next, text);
-    let_go(store);
-    let_go(quads);
-    match outcome {
-        Ok(quads) => Ended::Quads(quads),
-        Err(fault) => Ended::Refused(fault),
+    match stored(alloc, hasher, file) {
+        Ok(mut store) => {
+            let outcome = behind(alloc, &mut store, text);
+            let_go(store);
+            match outcome {
+                Ok(quads) => Ended::Quads(quads),
+                Err(fault) => Ended::Refused(fault),
+            }
+        }
+        Err(fault) => unstored(fault),
     }
 }

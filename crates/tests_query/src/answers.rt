@@ -6,9 +6,12 @@ use qs_algebra::translate;
 use qs_nquads::{NqFaultKind, read};
 use qs_query::{Answer, answer, solutions_of};
 use qs_results::{json, ntriples};
+use qs_store::{Store, StoreFault};
 use qs_syntax::parse_query;
+use qs_terms::dataset::is_above_blanks;
 use qs_terms::{QFault, Quad, Term, TermFault};
 use std::alloc::Global;
+use std::hash::RandomState;
 
 /// Queries over the data below, the greatest number of solutions, and the line of the fault, or nothing where there is none.
 const LIMITED: &[(&str, u64, &str)] = &[
@@ -24,20 +27,14 @@ const LIMITED: &[(&str, u64, &str)] = &[
     ("ASK { ?s ?p ?o }", 0, ""),
 ];
 
-fn limited_outcome(alloc: Global, quads: &[Quad]) -> Outcome {
+fn limited_outcome(alloc: Global, store: &Store) -> Outcome {
     for (text, most, line) in LIMITED {
-        match comes_to(alloc, answer(alloc, text, quads, 1, *most), line) {
+        match comes_to(alloc, answer(alloc, text, store, *most), line) {
             Outcome::Whole => {}
             other => return other,
         }
     }
-    // each of three solutions takes a number
-    let text = "CONSTRUCT { [] <u:p> ?o } { ?s ?p ?o }";
-    comes_to(
-        alloc,
-        answer(alloc, text, quads, u64::MAX - 2, 3),
-        "F10 full",
-    )
+    Outcome::Whole
 }
 
 const DATA: &[u8] =
@@ -46,13 +43,14 @@ const DATA: &[u8] =
 /// Queries with all forms that have an answer, and their answers, worked out by hand.
 ///
 /// Of the first: `<u:a> <u:p> <u:b>` and `_:c <u:p> "x\t"@en` by the left side of UNION; `<u:a> <u:q> "1"` by the right one, for each of
-/// two triples of `u:p`. Of the second: two solutions of `?x p:p ?y`, each twice; MINUS takes those of `_:c` away, which is the object in
-/// the named graph, and what is left is one row. Of the third, by a path, descending: `"1"` to `<u:a>` by `^p:q`, and the two of `p:p`;
-/// the first is left out. Of the CONSTRUCT, ascending: `_:b0` with its literal, which is no subject, and then `<u:a>`.
+/// two triples of `u:p`; ascending, the blank node is before `<u:a>`, and the IRI before the literal. Of the second: two solutions of
+/// `?x p:p ?y`, each twice; MINUS takes those of `_:c` away, which is the object in the named graph, and what is left is one row. Of the
+/// third, by a path, descending: `"1"` to `<u:a>` by `^p:q`, and the two of `p:p`; the first is left out. Of the CONSTRUCT, ascending:
+/// `_:b0` with its literal, which is no subject, and then `<u:a>`.
 const ANSWERED: &[(&str, &str)] = &[
     (
-        "PREFIX p: <u:> SELECT REDUCED ?x ?y ?z { { ?x p:p ?y } UNION { [] p:p _:n . ?x p:q ?y } { ?x ?p ?y . ?x ?p ?y } } LIMIT 9 OFFSET 0",
-        r#"{"head":{"vars":["x","y","z"]},"results":{"bindings":[{"x":{"type":"uri","value":"u:a"},"y":{"type":"uri","value":"u:b"}},{"x":{"type":"bnode","value":"b0"},"y":{"type":"literal","value":"x\t","xml:lang":"en"}},{"x":{"type":"uri","value":"u:a"},"y":{"datatype":"u:t","type":"literal","value":"1"}},{"x":{"type":"uri","value":"u:a"},"y":{"datatype":"u:t","type":"literal","value":"1"}}]}}"#,
+        "PREFIX p: <u:> SELECT REDUCED ?x ?y ?z { { ?x p:p ?y } UNION { [] p:p _:n . ?x p:q ?y } { ?x ?p ?y . ?x ?p ?y } } ORDER BY ?x ?y LIMIT 9 OFFSET 0",
+        r#"{"head":{"vars":["x","y","z"]},"results":{"bindings":[{"x":{"type":"bnode","value":"b0"},"y":{"type":"literal","value":"x\t","xml:lang":"en"}},{"x":{"type":"uri","value":"u:a"},"y":{"type":"uri","value":"u:b"}},{"x":{"type":"uri","value":"u:a"},"y":{"datatype":"u:t","type":"literal","value":"1"}},{"x":{"type":"uri","value":"u:a"},"y":{"datatype":"u:t","type":"literal","value":"1"}}]}}"#,
     ),
     (
         "PREFIX p: <u:> SELECT DISTINCT ?x ?v ?w { {} UNION {} ?x p:p ?y OPTIONAL { ?x p:q ?z FILTER(ISIRI(?y)) } BIND(CONCAT(STR(?z), \"!\") AS ?v) FILTER(BOUND(?x)) VALUES ?w { 5 } MINUS { GRAPH ?g { ?s ?p ?x } } }",
@@ -87,9 +85,9 @@ fn written_answer(alloc: Global, answer: Result<Answer, QFault>, line: &str) -> 
     }
 }
 
-fn written_outcome(alloc: Global, quads: &[Quad]) -> Outcome {
+fn written_outcome(alloc: Global, store: &Store) -> Outcome {
     for (text, line) in ANSWERED {
-        match written_answer(alloc, answer(alloc, text, quads, 1, 4), line) {
+        match written_answer(alloc, answer(alloc, text, store, 4), line) {
             Outcome::Whole => {}
             other => return other,
         }
@@ -104,24 +102,24 @@ const DEFAULT_LINE: &str =
 const NAMED_LINE: &str =
     r#"{"head":{"vars":["s","o"]},"results":{"bindings":[{"o":{"type":"bnode","value":"b0"},"s":{"type":"uri","value":"u:a"}}]}}"#;
 
-fn in_graph(alloc: Global, quads: &[Quad], graph: Option<&Term>) -> Result<Answer, QFault> {
+fn in_graph(alloc: Global, store: &Store, graph: Option<&Term>) -> Result<Answer, QFault> {
     let query = parse_query(alloc, "SELECT * { ?s <u:p> ?o }")?;
     let pattern = translate(alloc, &query);
     drop(query);
     let pattern = pattern?;
-    let answer = solutions_of(alloc, &pattern, quads, graph, 2);
+    let answer = solutions_of(alloc, &pattern, store, graph, 2);
     drop(pattern);
     answer
 }
 
-fn graphs_outcome(alloc: Global, quads: &[Quad]) -> Outcome {
-    match written_answer(alloc, in_graph(alloc, quads, None), DEFAULT_LINE) {
+fn graphs_outcome(alloc: Global, store: &Store) -> Outcome {
+    match written_answer(alloc, in_graph(alloc, store, None), DEFAULT_LINE) {
         Outcome::Whole => {}
         other => return other,
     }
     match Term::iri(alloc, "u:g") {
         Ok(name) => {
-            let answer = in_graph(alloc, quads, Some(&name));
+            let answer = in_graph(alloc, store, Some(&name));
             drop(name);
             written_answer(alloc, answer, NAMED_LINE)
         }
@@ -130,22 +128,72 @@ fn graphs_outcome(alloc: Global, quads: &[Quad]) -> Outcome {
     }
 }
 
-/// Whether data are read, queries over them are answered or refused, and an answer is written.
-pub fn outcome(alloc: Global) -> Outcome {
+fn answered_outcome(alloc: Global, store: &Store) -> Outcome {
+    let outcome = match limited_outcome(alloc, store) {
+        Outcome::Whole => written_outcome(alloc, store),
+        other => other,
+    };
+    match outcome {
+        Outcome::Whole => graphs_outcome(alloc, store),
+        other => other,
+    }
+}
+
+/// Adds the quads, behind which this is the next blank node's number.
+fn put(store: &mut Store, quads: &[Quad], next: u64) -> Outcome {
+    if store.next_blank() > next || !is_above_blanks(next, quads) {
+        return Outcome::Wrong;
+    }
+    match store.change(&[], quads, next) {
+        Ok(()) => Outcome::Whole,
+        Err(StoreFault::Memory) => Outcome::Refused,
+        Err(StoreFault::Full) => Outcome::Wrong,
+    }
+}
+
+fn put_data(alloc: Global, store: &mut Store) -> Outcome {
     match read(alloc, DATA, 0) {
-        Ok((quads, _)) => {
-            let outcome = match limited_outcome(alloc, quads.as_slice()) {
-                Outcome::Whole => written_outcome(alloc, quads.as_slice()),
-                other => other,
-            };
-            let outcome = match outcome {
-                Outcome::Whole => graphs_outcome(alloc, quads.as_slice()),
-                other => other,
-            };
+        Ok((quads, next)) => {
+            let outcome = put(store, quads.as_slice(), next);
             drop(quads);
             outcome
         }
         Err(fault) if fault.kind == NqFaultKind::Memory => Outcome::Refused,
         Err(_) => Outcome::Wrong,
+    }
+}
+
+/// Each of three solutions takes a number, and there is no next number behind the third.
+fn full_outcome(alloc: Global, store: &mut Store) -> Outcome {
+    match put(store, &[], u64::MAX - 2) {
+        Outcome::Whole => {
+            let text = "CONSTRUCT { [] <u:p> ?o } { ?s ?p ?o }";
+            comes_to(alloc, answer(alloc, text, &*store, 3), "F10 full")
+        }
+        other => other,
+    }
+}
+
+fn stored_outcome(alloc: Global, store: &mut Store) -> Outcome {
+    let outcome = match put_data(alloc, store) {
+        Outcome::Whole => answered_outcome(alloc, &*store),
+        other => other,
+    };
+    match outcome {
+        Outcome::Whole => full_outcome(alloc, store),
+        other => other,
+    }
+}
+
+/// Whether data are read and put into a store, queries over it are answered or refused, and an answer is written.
+pub fn outcome(alloc: Global, hasher: Option<RandomState>) -> Outcome {
+    match hasher {
+        Some(hasher) => {
+            let mut store = Store::new(alloc, 100, hasher);
+            let outcome = stored_outcome(alloc, &mut store);
+            drop(store);
+            outcome
+        }
+        None => Outcome::Refused,
     }
 }

@@ -3,6 +3,7 @@
 
 use crate::outcome::Outcome;
 use crate::{answers, lines, operations, patterns, quads, tokens, written};
+use std::hash::RandomState;
 
 #[test]
 fn tokens_strict(rt: HostRuntime) {
@@ -46,12 +47,12 @@ fn flags_tolerant(rt: HostRuntime) {
 
 #[test]
 fn answers_strict(rt: HostRuntime) {
-    assert!(rt; answers::outcome(rt.alloc()) == Outcome::Whole);
+    assert!(rt; answers::outcome(rt.alloc(), RandomState::new(&rt).ok()) == Outcome::Whole);
 }
 
 #[test]
 fn answers_tolerant(rt: HostRuntime) {
-    assert!(rt; answers::outcome(rt.alloc()) != Outcome::Wrong);
+    assert!(rt; answers::outcome(rt.alloc(), RandomState::new(&rt).ok()) != Outcome::Wrong);
 }
 
 #[test]

@@ -2,7 +2,7 @@
 //! memory for an answer, and then everything is as it was.
 
 use crate::outcome::Outcome;
-use crate::{dict, index, requests, store, terms, whole_graphs};
+use crate::{dict, index, loads, requests, store, terms, whole_graphs};
 use qs_store::DefaultGraph;
 use std::hash::RandomState;
 
@@ -80,4 +80,14 @@ fn whole_graphs_strict(rt: HostRuntime) {
 #[test]
 fn whole_graphs_tolerant(rt: HostRuntime) {
     assert!(rt; whole_graphs::outcome(rt.alloc(), RandomState::new(&rt).ok()) != Outcome::Wrong);
+}
+
+#[test]
+fn loads_strict(rt: HostRuntime) {
+    assert!(rt; loads::outcome(rt.alloc(), RandomState::new(&rt).ok()) == Outcome::Whole);
+}
+
+#[test]
+fn loads_tolerant(rt: HostRuntime) {
+    assert!(rt; loads::outcome(rt.alloc(), RandomState::new(&rt).ok()) != Outcome::Wrong);
 }

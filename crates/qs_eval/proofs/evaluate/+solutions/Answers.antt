@@ -44,15 +44,15 @@ solutions-returns-in_ok-rows-in-Group-2 t c =
 pub stepped-returns-in_ok-rows-in-Join : goal.stepped-returns-in_ok-rows-in-Join
 stepped-returns-in_ok-rows-in-Join t c xs h =
     join_arm c.args.width c.args.quads.now (graph_of c.args.quads.now (option_copied c.args.graph)) c.args.one.now _ c.args.left.items c.in_ok-right-in-Join.right.items c.in_ok-rows-in-Join.rows.items xs
-    c.in-Join.is c.in_ok-right-in-Join.ensures (c.in_ok-rows-in-Join.ensures ∙ (ap (λ l. join l c.as_slice-in-Join.result.now) c.as_slice.ensures.value ∙ ap (join c.args.left.items) c.as_slice-in-Join.ensures.value)) h
+    c.in-Join.is c.in_ok-right-in-Join.ensures c.in_ok-rows-in-Join.ensures h
 
 pub stepped-returns-in_ok-rows-in-LeftJoin : goal.stepped-returns-in_ok-rows-in-LeftJoin
 stepped-returns-in_ok-rows-in-LeftJoin t c xs h =
     left_join_arm c.args.width c.args.quads.now (graph_of c.args.quads.now (option_copied c.args.graph)) c.args.one.now _ c.args.left.items c.in_ok-right-in-LeftJoin.right.items c.in_ok-rows-in-LeftJoin.rows.items xs _ _
-    c.in-LeftJoin.is c.as_slice-in-LeftJoin-3.ensures c.in_ok-right-in-LeftJoin.ensures
+    c.in-LeftJoin.is c.as_slice-in-LeftJoin-2.ensures c.in_ok-right-in-LeftJoin.ensures
     (c.in_ok-rows-in-LeftJoin.ensures
-    ∙ (ap (λ l. left_join (all_hold c.as_slice-in-LeftJoin-3.result.now) l c.as_slice-in-LeftJoin-2.result.now) c.as_slice-in-LeftJoin.ensures.value
-    ∙ ap (left_join (all_hold c.as_slice-in-LeftJoin-3.result.now) c.args.left.items) c.as_slice-in-LeftJoin-2.ensures.value)) h
+    ∙ (ap (λ l. left_join (all_hold c.as_slice-in-LeftJoin-2.result.now) l c.as_slice-in-LeftJoin.result.now) c.as_slice.ensures.value
+    ∙ ap (left_join (all_hold c.as_slice-in-LeftJoin-2.result.now) c.args.left.items) c.as_slice-in-LeftJoin.ensures.value)) h
 
 pub stepped-returns-in_ok-rows-in-Minus : goal.stepped-returns-in_ok-rows-in-Minus
 stepped-returns-in_ok-rows-in-Minus t c xs h =

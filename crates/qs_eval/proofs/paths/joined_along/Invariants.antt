@@ -4,4 +4,4 @@ use Rattle.qs_patterns.specs.Basic.{with_paths}
 use Rattle.qs_eval.proofs.paths.joined_along.Given as goal
 
 abbrev pub invariant-loop-pattern : goal.invariant-loop-pattern
-invariant-loop-pattern l = SameBag l.rows.items (with_paths l.width l.edges (take l.pattern-index l.patterns) l.fn.rows.items)
+invariant-loop-pattern g l = SameBag l.rows.items (with_paths l.width (g.E.Source.graph l.edges) (take l.pattern-index l.patterns) l.fn.rows.items)

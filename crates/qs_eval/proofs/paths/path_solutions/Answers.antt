@@ -8,9 +8,9 @@ use Rattle.qs_eval.proofs.Along.{any_order}
 use Rattle.qs_eval.proofs.paths.path_solutions.Goals as goal
 
 pub returns : goal.returns
-returns c =
+returns g c =
     let p = c.args.pattern.now in
-    let h : SameBag c.in_ok-pairs.pairs.items (pairs c.args.edges.now p.path (end_of p.subject) (end_of p.object)) =
+    let h : SameBag c.in_ok-pairs.pairs.items (pairs (g.E.Source.graph c.args.edges.now) p.path (end_of p.subject) (end_of p.object)) =
     rw (← c.get.ensures, ← c.end_of-left.ensures, ← c.end_of-right.ensures) c.in_ok-pairs.ensures in
-    any_order c.args.width c.args.edges.now p c.in_ok-pairs.pairs.items c.in_ok-rows.rows.items h
+    any_order c.args.width (g.E.Source.graph c.args.edges.now) p c.in_ok-pairs.pairs.items c.in_ok-rows.rows.items h
     (c.in_ok-rows.ensures ∙ ap (λ (es : List Pair). map (ends_bound c.args.width p) (filter (fits p) es)) c.as_slice.ensures.value)

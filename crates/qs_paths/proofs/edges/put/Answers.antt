@@ -1,7 +1,6 @@
 use Rattle.std.proofs.Common.{◌++◌, ◌∷◌, [], ap, sym, ◌∙◌}
 use Rattle.std.specs.BTreeMap.{insert_entry}
-use Rattle.qs_paths.proofs.Finds.{order}
-use Rattle.qs_paths.proofs.Keyed.{put_there, put_new}
+use Rattle.qs_paths.proofs.Keyed.{order, put_there, put_new}
 use Rattle.qs_paths.proofs.edges.put.Goals as goal
 
 pub returns-in-Some : goal.returns-in-Some
@@ -10,5 +9,5 @@ returns-in-Some c =
 
 pub returns : goal.returns
 returns c =
-    put_new c.args.node c.args.quad c.args.map.now.entries c.insert.new.self.entries c.push-2.new.self (sym c.in_default.ensures.value) (c.in_ok-push-2.ensures.items ∙ ap (λ l. l ++ c.args.quad ∷ []) c.new-there.ensures.items)
-    (c.in_ok-insert.ensures.entries ∙ ap (λ m. insert_entry order m.entries c.args.node c.push-2.new.self) c.get_mut.follows.holds-at-none)
+    put_new c.args.node.now c.args.quad c.args.map.now.entries c.insert.new.self.entries c.push-2.new.self (sym c.in_default.ensures.value) (c.in_ok-push-2.ensures.items ∙ ap (λ l. l ++ c.args.quad ∷ []) c.new-there.ensures.items)
+    (c.in_ok-insert.ensures.entries ∙ (ap (λ m. insert_entry order m.entries c.in_ok-key.key c.push-2.new.self) c.get_mut.follows.holds-at-none ∙ ap (λ k. insert_entry order c.args.map.now.entries k c.push-2.new.self) c.in_ok-key.ensures))

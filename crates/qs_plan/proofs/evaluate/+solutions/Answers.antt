@@ -1,4 +1,8 @@
-use Rattle.std.proofs.Common.{rules, ap, ◌∙◌}
+use Rattle.std.proofs.Common.{List, [], ◌∷◌, Some, rules, ap, sym, subst, ◌∙◌}
+use Rattle.std.proofs.lemmas.List.Sorted.{IsPermutation-refl}
+use Rattle.qs_terms.specs.Bag.{SameBag}
+use Rattle.qs_solutions.specs.Solution.{Solution, binding}
+use Rattle.qs_plan.proofs.Each.{graph_more, graphs_all}
 use Rattle.qs_ops.specs.Graph.{active_graph}
 use Rattle.qs_plan.proofs.Names.{in_graph, in_none}
 use Rattle.qs_solutions.specs.Operators.{join, left_join, minus}
@@ -33,15 +37,15 @@ solutions-returns-in_ok-rows-in-Group-2 g t c =
 pub stepped-returns-in_ok-rows-in-Join : goal.stepped-returns-in_ok-rows-in-Join
 stepped-returns-in_ok-rows-in-Join g t c xs h =
     join_arm c.args.width (g.V.View.content c.args.view.now).quads (active_graph (g.V.View.content c.args.view.now) (g.V.View.default_seen c.args.view.now) c.args.active) c.args.one.now _ c.args.left.items c.in_ok-right-in-Join.right.items c.in_ok-rows-in-Join.rows.items xs
-    c.in-Join.is c.in_ok-right-in-Join.ensures (c.in_ok-rows-in-Join.ensures ∙ (ap (λ l. join l c.as_slice-in-Join.result.now) c.as_slice.ensures.value ∙ ap (join c.args.left.items) c.as_slice-in-Join.ensures.value)) h
+    c.in-Join.is c.in_ok-right-in-Join.ensures c.in_ok-rows-in-Join.ensures h
 
 pub stepped-returns-in_ok-rows-in-LeftJoin : goal.stepped-returns-in_ok-rows-in-LeftJoin
 stepped-returns-in_ok-rows-in-LeftJoin g t c xs h =
     left_join_arm c.args.width (g.V.View.content c.args.view.now).quads (active_graph (g.V.View.content c.args.view.now) (g.V.View.default_seen c.args.view.now) c.args.active) c.args.one.now _ c.args.left.items c.in_ok-right-in-LeftJoin.right.items c.in_ok-rows-in-LeftJoin.rows.items xs _ _
-    c.in-LeftJoin.is c.as_slice-in-LeftJoin-3.ensures c.in_ok-right-in-LeftJoin.ensures
+    c.in-LeftJoin.is c.as_slice-in-LeftJoin-2.ensures c.in_ok-right-in-LeftJoin.ensures
     (c.in_ok-rows-in-LeftJoin.ensures
-    ∙ (ap (λ l. left_join (all_hold c.as_slice-in-LeftJoin-3.result.now) l c.as_slice-in-LeftJoin-2.result.now) c.as_slice-in-LeftJoin.ensures.value
-    ∙ ap (left_join (all_hold c.as_slice-in-LeftJoin-3.result.now) c.args.left.items) c.as_slice-in-LeftJoin-2.ensures.value)) h
+    ∙ (ap (λ l. left_join (all_hold c.as_slice-in-LeftJoin-2.result.now) l c.as_slice-in-LeftJoin.result.now) c.as_slice.ensures.value
+    ∙ ap (left_join (all_hold c.as_slice-in-LeftJoin-2.result.now) c.args.left.items) c.as_slice-in-LeftJoin.ensures.value)) h
 
 pub stepped-returns-in_ok-rows-in-Minus : goal.stepped-returns-in_ok-rows-in-Minus
 stepped-returns-in_ok-rows-in-Minus g t c xs h =
@@ -71,3 +75,18 @@ solutions_in-returns-in_ok-rows-in-Some g t c =
 pub solutions_in-returns-in-None : goal.solutions_in-returns-in-None
 solutions_in-returns-in-None g t c =
     in_none (g.V.View.content c.args.view.now) c.args.name.now (eval c.args.width (g.V.View.content c.args.view.now).quads c.args.part.now) c.graph_named.result _ c.graph_named.ensures c.in-None.is c.new.ensures.items
+
+pub solutions_in_each-loop-number-init : goal.solutions_in_each-loop-number-init
+solutions_in_each-loop-number-init g t c =
+    subst (λ (l : List Solution). SameBag l []) (sym c.new-rows.ensures.items) (IsPermutation-refl [])
+
+pub solutions_in_each-loop-number-preserved : goal.solutions_in_each-loop-number-preserved
+solutions_in_each-loop-number-preserved g t c =
+    graph_more (g.V.View.content c.args.view.now) (g.V.View.default_seen c.args.view.now) c.args.width c.args.variable c.args.part.now c.args.graphs.now c.loop-number.number-index c.name_of-name.result.now c.loop-number.rows.items c.in_ok-inner.inner.items c.in_ok-more.more.items c.append.new.self.items
+    c.loop-number-test.true c.name_of-name.ensures c.loop-number.invariant c.in_ok-inner.ensures
+    (c.in_ok-more.ensures ∙ ap (λ (l : List Solution). join l (binding c.args.width (c.args.variable ∷ []) (Some c.name_of-name.result.now ∷ []) ∷ [])) c.as_slice.ensures.value) c.in_ok-append.ensures.items
+
+pub solutions_in_each-returns : goal.solutions_in_each-returns
+solutions_in_each-returns g t c =
+    graphs_all (g.V.View.content c.args.view.now) c.count-count.ensures.lawful c.terms-terms.ensures.known c.args.width c.args.variable (eval c.args.width (g.V.View.content c.args.view.now).quads c.args.part.now) c.args.graphs.now c.loop-number.number-index c.loop-number.rows.items
+    c.requires c.loop-number-test.false c.loop-number.invariant

@@ -2,4 +2,4 @@ use Rattle.qs_select.proofs.Ordered as ordered
 use Rattle.qs_select.proofs.answer.selected.Goals as goal
 
 pub returns : goal.returns
-returns c = ordered.selected c.args.asked _ c.args.max_rows c.sequence-rows.result c.with_vars.result c.sequence-rows.ensures c.with_vars.ensures
+returns g c = ordered.selected c.args.asked _ c.args.max_rows c.sequence-rows.result c.with_vars.result c.sequence-rows.ensures c.with_vars.ensures

@@ -4,4 +4,4 @@ use Rattle.qs_select.proofs.Ordered.{has_any}
 use Rattle.qs_select.proofs.answer.truth.Goals as goal
 
 pub returns : goal.returns
-returns c = ap (λ b. Ok (Truth b)) (has_any c.in_ok-all.all.items _ c.in_ok-all.all.len c.is_empty.result c.in_ok-all.ensures (sym c.in_ok-all.all.ok.0) c.is_empty.ensures)
+returns g c = ap (λ b. Ok (Truth b)) (has_any c.in_ok-all.all.items _ c.in_ok-all.all.len c.is_empty.result c.in_ok-all.ensures (sym c.in_ok-all.all.ok.0) c.is_empty.ensures)

@@ -25,9 +25,9 @@ pub returns-in-Some-clause-comes : goal.returns-in-Some-clause-comes
 returns-in-Some-clause-comes g c =
     let inv = c.loop.invariant in
     let read = bytes_read c.loop.session ++ take c.in-Ok.n c.get.new.buf in
-    let same = same_bounds c.args.max_rows c.args.kept.now c.loop.kept inv.limit inv.default_graph in (
+    let same = same_bounds c.args.max_rows c.args.store.now c.loop.store inv.limit inv.default_graph in (
       read,
       consumes_more _ _ _ _ _ inv.left c.in-Ok.ensures.bytes.0,
-      subst (λ (old : Content). IsAnsweredWith sparql (bounds_of c.args.max_rows c.args.kept.now) old read c.heard.new.kept.base c.in-Some.reply) inv.base
-          (subst (λ (b : Bounds). IsAnsweredWith sparql b c.loop.kept.base read c.heard.new.kept.base c.in-Some.reply) same c.in-Some.ensures.heard),
+      subst (λ (old : Content). IsAnsweredWith sparql (bounds_of c.args.max_rows c.args.store.now) old read c.heard.new.store.base c.in-Some.reply) inv.base
+          (subst (λ (b : Bounds). IsAnsweredWith sparql b c.loop.store.base read c.heard.new.store.base c.in-Some.reply) same c.in-Some.ensures.heard),
     )

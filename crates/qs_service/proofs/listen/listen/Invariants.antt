@@ -12,8 +12,8 @@ invariant-loop g l = record {
   left : Consumes (g.S.Stream.left l.initial.stream) (g.S.Stream.left l.stream) (bytes_read l.session);
   sent : Keeps (g.S.Stream.sent l.initial.stream) (g.S.Stream.sent l.stream);
   faults : g.S.Sink.faults l.stream ≡ g.S.Sink.faults l.initial.stream;
-  base : l.kept.base ≡ l.initial.kept.base;
-  limit : l.kept.limit ≡ l.initial.kept.limit;
-  default_graph : l.kept.default_graph ≡ l.initial.kept.default_graph;
+  base : l.store.base ≡ l.initial.store.base;
+  limit : l.store.limit ≡ l.initial.store.limit;
+  default_graph : l.store.default_graph ≡ l.initial.store.default_graph;
   reads : l.counter ≤ length (bytes_read l.session);
 }

@@ -6,13 +6,13 @@ use Rattle.qs_service.proofs.listen.serve_stream.Goals as goal
 pub returns-in-Ok-clause-served : goal.returns-in-Ok-clause-served
 returns-in-Ok-clause-served g c =
     let h = rw c.in-Some.is at c.in_ok-reply.ensures.comes in
-    served_whole sparql (bounds_of c.args.max_rows c.args.kept.now) c.args.kept.now.base c.listen.new.kept.base
+    served_whole sparql (bounds_of c.args.max_rows c.args.store.now) c.args.store.now.base c.listen.new.store.base
     (g.S.Stream.left c.args.stream.now) (g.S.Stream.left c.listen.new.stream) (g.S.Stream.sent c.args.stream.now) (g.S.Sink.taken c.listen.new.stream) (g.S.Sink.taken c.put_reply.new.stream)
     c.in-Some.reply c.status.result c.status.ensures h c.in_ok-reply.ensures.taken c.in-Ok.ensures.bytes
 
 pub returns-clause-served : goal.returns-clause-served
 returns-clause-served g c =
     let h = rw c.in-Some.is at c.in_ok-reply.ensures.comes in
-    served_in_part sparql (bounds_of c.args.max_rows c.args.kept.now) c.args.kept.now.base c.listen.new.kept.base
+    served_in_part sparql (bounds_of c.args.max_rows c.args.store.now) c.args.store.now.base c.listen.new.store.base
     (g.S.Stream.left c.args.stream.now) (g.S.Stream.left c.listen.new.stream) (g.S.Stream.sent c.args.stream.now) (g.S.Sink.taken c.listen.new.stream) (g.S.Sink.taken c.put_reply.new.stream)
     c.in-Some.reply c.in-Err.fault h c.in_ok-reply.ensures.taken c.in-Err.ensures.bytes

@@ -2,7 +2,7 @@ use Rattle.std.proofs.Common.{sym, subst}
 use Rattle.std.specs.Option.{option_copied}
 use Rattle.qs_update.specs.Effect.{removed_by}
 use Rattle.qs_update.specs.Request.{IsApplied}
-use Rattle.qs_update.proofs.WholeGraphs.{put_over_other}
+use Rattle.qs_update.proofs.ByEffect.{put_over_other}
 use Rattle.qs_update.proofs.whole_graphs.put_over.Goals as goal
 
 pub returns-in-Ok-clause-outcome : goal.returns-in-Ok-clause-outcome

@@ -5,7 +5,7 @@ use Rattle.quads.proofs.replayed.script_ran.Goals as goal
 
 pub returns-in-Ok : goal.returns-in-Ok
 returns-in-Ok g c =
-    let file = c.args.file.now in
+    let file = c.args.file.items in
     let script = c.args.script.now in
     let state = c.in-Ok.service in
     let loaded = c.in-Ok.ensures in
@@ -14,6 +14,6 @@ returns-in-Ok g c =
 
 pub returns-in-Err : goal.returns-in-Err
 returns-in-Err g c =
-    let file = c.args.file.now in
+    let file = c.args.file.items in
     let script = c.args.script.now in
     refused (IsReplayDue file script) (IsReplayBegun file script) _ _ _ _ c.put_refusal.result (refusal_text c.in-Err.refusal) (refusal_due file script c.in-Err.refusal c.in-Err.ensures) (memory_due file script) (begun_of_replay file script) c.put_refusal.ensures

@@ -3,20 +3,20 @@ use Rattle.quads.proofs.run.run.Goals as goal
 
 pub returns-in-Check : goal.returns-in-Check
 returns-in-Check g c =
-    ran c.args.job.now _ _ _ _ c.put_end.result c.check_ended.result (check_end c.args.job.now c.check_ended.result c.as_slice.result.now c.in-Check.data c.in-Check.is c.as_slice.ensures.value c.check_ended.ensures) c.put_end.ensures
+    ran c.args.job _ _ _ _ c.put_end.result c.check_ended.result (check_end c.args.job c.check_ended.result c.in-Check.data c.in-Check.is c.check_ended.ensures) c.put_end.ensures
 
 pub returns-in-Query : goal.returns-in-Query
 returns-in-Query g c =
-    ran c.args.job.now _ _ _ _ c.put_end-in-Query.result c.query_ended.result
-    (query_end c.args.job.now c.query_ended.result c.as_slice-in-Query.result.now c.as_slice-in-Query-2.result.now c.in-Query.data c.in-Query.text c.in-Query.is c.as_slice-in-Query.ensures.value c.as_slice-in-Query-2.ensures.value c.query_ended.ensures)
+    ran c.args.job _ _ _ _ c.put_end-in-Query.result c.query_ended-end.result
+    (query_end c.args.job c.query_ended-end.result c.in-Query.data c.as_slice.result.now c.in-Query.text c.in-Query.is c.as_slice.ensures.value c.query_ended-end.ensures)
     c.put_end-in-Query.ensures
 
 pub returns-in-Update : goal.returns-in-Update
 returns-in-Update g c =
-    ran c.args.job.now _ _ _ _ c.put_end-in-Update.result c.update_ended-end.result
-    (update_end c.args.job.now c.update_ended-end.result c.as_slice-in-Update.result.now c.as_slice-in-Update-2.result.now c.in-Update.data c.in-Update.text c.in-Update.is c.as_slice-in-Update.ensures.value c.as_slice-in-Update-2.ensures.value c.update_ended-end.ensures)
+    ran c.args.job _ _ _ _ c.put_end-in-Update.result c.update_ended-end.result
+    (update_end c.args.job c.update_ended-end.result c.in-Update.data c.as_slice-in-Update.result.now c.in-Update.text c.in-Update.is c.as_slice-in-Update.ensures.value c.update_ended-end.ensures)
     c.put_end-in-Update.ensures
 
 pub returns-in-Replay : goal.returns-in-Replay
 returns-in-Replay g c =
-    replay_ran c.args.job.now c.as_slice-in-Replay.result.now c.as_slice-in-Replay-2.result.now _ _ _ _ c.script_ran.result c.in-Replay.data c.in-Replay.script c.in-Replay.is c.as_slice-in-Replay.ensures.value c.as_slice-in-Replay-2.ensures.value c.script_ran.ensures
+    replay_ran c.args.job c.as_slice-in-Replay.result.now _ _ _ _ c.script_ran.result c.in-Replay.data c.in-Replay.script c.in-Replay.is c.as_slice-in-Replay.ensures.value c.script_ran.ensures

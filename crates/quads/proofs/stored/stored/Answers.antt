@@ -1,12 +1,21 @@
-use Rattle.std.proofs.Common.{◌≡◌, true, sym, subst}
-use Rattle.qs_terms.specs.Dataset.{is_above_blanks}
-use Rattle.quads.proofs.Updates.{none_loaded}
+use Rattle.std.proofs.Common.{◌∙◌, List, ℕ, subst}
+use Rattle.qs_load.specs.Load.{IsLoaded, IsLoadFault}
+use Rattle.quads.proofs.Loads.{is_empty, loaded, not_loaded}
 use Rattle.quads.proofs.stored.stored.Goals as goal
 
-pub load-outcome-requires-clause-above : goal.load-outcome-requires-clause-above
-load-outcome-requires-clause-above c =
-    subst (λ quads. is_above_blanks c.in-Ok.parts.1 quads ≡ true) (sym c.as_slice.ensures.value) (c.next_number_is_fresh.ensures.above c.args.file.now 0 c.in-Ok.parts.0.items c.in-Ok.parts.1 c.in-Ok.ensures)
+pub returns-in-Ok : goal.returns-in-Ok
+returns-in-Ok c =
+    let store = c.new-store.result in
+    let made = c.new-store.ensures in
+    let read = subst (λ (l : List ℕ). IsLoaded store.limit l store.base c.load-outcome.new.store.base) c.as_slice.ensures.value c.in-Ok.ensures.loaded in (
+      loaded store.limit c.args.file.items store.base made.limit (is_empty store.base made.quads made.next made.known) c.load-outcome.new.store.base read,
+      c.in-Ok.ensures.limit ∙ made.limit,
+      c.in-Ok.ensures.default_graph ∙ made.default_graph,
+    )
 
-pub returns-in-Err-outcome : goal.returns-in-Err-outcome
-returns-in-Err-outcome c = λ n.
-    none_loaded c.args.file.now c.in-Ok.parts.0.items c.as_slice.result.now c.in-Ok.parts.1 c.in-Err-outcome.fault c.in-Ok.ensures c.as_slice.ensures.value (c.in-Err-outcome.ensures.loaded n)
+pub returns-in-Err : goal.returns-in-Err
+returns-in-Err c =
+    let store = c.new-store.result in
+    let made = c.new-store.ensures in
+    let read = subst (λ (l : List ℕ). IsLoadFault store.limit l store.base.next store.base.known c.in-Err.fault) c.as_slice.ensures.value c.in-Err.ensures.fault in
+    not_loaded store.limit c.args.file.items store.base made.limit (is_empty store.base made.quads made.next made.known) c.in-Err.fault read

@@ -1,12 +1,14 @@
-use Rattle.std.proofs.Common.{◌≡◌, true, sym, subst}
-use Rattle.qs_terms.specs.Dataset.{is_above_blanks}
-use Rattle.quads.proofs.Updates.{of_data}
+use Rattle.std.proofs.Common.{Ok}
+use Rattle.quads.proofs.Ends.{update_unstored}
 use Rattle.quads.proofs.updated.update_ended.Goals as goal
 
-pub updated-outcome-requires-clause-above : goal.updated-outcome-requires-clause-above
-updated-outcome-requires-clause-above c =
-    subst (λ quads. is_above_blanks c.in-Ok.parts.1 quads ≡ true) (sym c.as_slice.ensures.value) (c.next_number_is_fresh.ensures.above c.args.file.now 0 c.in-Ok.parts.0.items c.in-Ok.parts.1 c.in-Ok.ensures)
+pub returns-in-Ok-outcome : goal.returns-in-Ok-outcome
+returns-in-Ok-outcome c =
+    let h = c.in-Ok-outcome.ensures.done in
+    (h.0, (Ok c.in-Ok.store.base, c.in-Ok.ensures.0, h.1), h.2)
 
 pub returns-in-Err-outcome : goal.returns-in-Err-outcome
-returns-in-Err-outcome c = λ n.
-    of_data c.args.file.now c.args.text.now c.in-Ok.parts.0.items c.as_slice.result.now c.in-Ok.parts.1 c.in-Err-outcome.fault c.in-Ok.ensures c.as_slice.ensures.value (c.in-Err-outcome.ensures.refused n)
+returns-in-Err-outcome c = λ n. (Ok c.in-Ok.store.base, c.in-Ok.ensures.0, c.in-Err-outcome.ensures.refused n)
+
+pub returns-in-Err : goal.returns-in-Err
+returns-in-Err c = rw c.unstored.ensures (update_unstored c.args.file.items c.args.text.now c.in-Err.fault c.in-Err.ensures)

@@ -15,7 +15,7 @@ returns c =
     rw (← c.self.view_is) record {
       step = (
         (_, p.there c.remove.result (omega (arith, p.within))),
-        ap (λ (l : List Joined). record { stored = c.self.inside.kept.base; bounds = bounds_of c.self.inside.max_rows c.self.inside.kept; joined = l })
+        ap (λ (l : List Joined). record { stored = c.self.inside.store.base; bounds = bounds_of c.self.inside.max_rows c.self.inside.store; joined = l })
             (c.remove.ensures.items ∙ p.removed (omega (arith, p.within))),
       );
     }

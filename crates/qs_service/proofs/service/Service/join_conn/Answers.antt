@@ -21,7 +21,7 @@ returns c =
       step = (
         p.absent (omega (arith, p.within)),
         omega arith,
-        ap (λ (l : List Joined). record { stored = c.self.inside.kept.base; bounds = bounds_of c.self.inside.max_rows c.self.inside.kept; joined = l })
+        ap (λ (l : List Joined). record { stored = c.self.inside.store.base; bounds = bounds_of c.self.inside.max_rows c.self.inside.store; joined = l })
             (c.push_reserved.ensures.items ∙ ap (λ (e : Joined). c.self.inside.connections.items ++ e ∷ []) c.new.ensures),
       );
     }

@@ -13,15 +13,15 @@ pub returns : goal.returns
 returns c =
     let p = subst (λ (l : List Joined). IsPlace c.args.id l c.place_of-place.result) c.deref.ensures.value c.place_of-place.ensures in
     let e = c.index_mut.result.now in
-    let kept = c.hear.new.kept in
+    let store = c.hear.new.store in
     rw (← c.self.view_is) record {
       step = (
         e.exchange,
         c.hear.new.self.exchange,
-        kept.base,
+        store.base,
         p.there e (omega (arith, p.within)) ∙ ap (λ (x : Joined). Some x.exchange) (sym c.index_mut.ensures.value),
         c.hear.ensures.heard,
-        same_state kept.base _ _ _ _ (same_bounds c.self.inside.max_rows c.self.inside.kept kept c.hear.ensures.limit c.hear.ensures.default_graph)
+        same_state store.base _ _ _ _ (same_bounds c.self.inside.max_rows c.self.inside.store store c.hear.ensures.limit c.hear.ensures.default_graph)
             (p.put e c.hear.new.self (omega (arith, p.within)) (c.hear.ensures.id ∙ ap (λ (x : Joined). x.id) c.index_mut.ensures.value)),
       );
     }

@@ -17,7 +17,7 @@ returns-then-place-len c =
       (
         refl,
         λ _. tt,
-        ap (λ (o : Option Exchange). record { stored = c.self.inside.kept.base; bounds = bounds_of c.self.inside.max_rows c.self.inside.kept; joined = joined_taken c.args.id c.args.n o c.self.inside.connections.items })
+        ap (λ (o : Option Exchange). record { stored = c.self.inside.store.base; bounds = bounds_of c.self.inside.max_rows c.self.inside.store; joined = joined_taken c.args.id c.args.n o c.self.inside.connections.items })
             (sym absent),
       ),
       record { bytes = absent; counts = tt },
@@ -44,7 +44,7 @@ returns c =
       (
         refl,
         λ _. tt,
-        ap (λ (l : List Joined). record { stored = c.self.inside.kept.base; bounds = bounds_of c.self.inside.max_rows c.self.inside.kept; joined = l })
+        ap (λ (l : List Joined). record { stored = c.self.inside.store.base; bounds = bounds_of c.self.inside.max_rows c.self.inside.store; joined = l })
             (put ∙ ap (λ (l : Exchange). put_exchange c.args.id l cs) new_exchange ∙ ap (λ (o : Option Exchange). joined_taken c.args.id c.args.n o cs) (sym exchange_is)),
       ),
       record {

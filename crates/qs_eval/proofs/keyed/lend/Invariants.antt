@@ -1,0 +1,6 @@
+use Rattle.std.proofs.Common.{◌≡◌, take}
+use Rattle.qs_eval.specs.Lent.{lent}
+use Rattle.qs_eval.proofs.keyed.lend.Given as goal
+
+abbrev pub invariant-loop-row : goal.invariant-loop-row
+invariant-loop-row l = lent l.all.items ≡ take l.row-index l.rows

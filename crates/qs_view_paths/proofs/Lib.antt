@@ -1,0 +1,4 @@
+mod Lists
+mod Scanned
+mod Nodes
+mod SamePairs
