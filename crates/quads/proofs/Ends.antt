@@ -12,31 +12,30 @@ use Rattle.qs_service.specs.Meaning.{sparql}
 use Rattle.qs_store.specs.Content.{Held, Content}
 use Rattle.qs_store.specs.Same.{SameSet}
 use Rattle.qs_store.specs.declared.default_graph.DefaultGraph.{DefaultGraph}
-use Rattle.qs_store.specs.declared.default_graph.DefaultGraph.TheVariants.{Stored}
 use Rattle.quads.specs.Due.{max_rows, IsTextOf, IsQueryOutcome}
 use Rattle.quads.specs.Ended.{IsQueryEnd, IsUpdateEnd, unstored}
 use Rattle.quads.specs.Refusal.{refusal_of}
 use Rattle.quads.specs.Stored.{IsRefusalOf}
 
 -- bytes that are no text have the fault that is due
-pub no_text : (bytes : List ℕ) (c : Content) (f : QFault) → IsTextOf bytes (Err f) → OneOrWantOfMemory (IsQueryOutcome bytes c) (Err f)
-no_text bytes c f is = λ _. (Err f, is, refl)
+pub no_text : (choice : DefaultGraph) (bytes : List ℕ) (c : Content) (f : QFault) → IsTextOf bytes (Err f) → OneOrWantOfMemory (IsQueryOutcome choice bytes c) (Err f)
+no_text choice bytes c f is = λ _. (Err f, is, refl)
 
-module _ (held : Held) (bytes text : List ℕ) (is_stored : held.default_graph ≡ Stored) (same : SameSet held.base.quads held.base.quads) (is : IsTextOf bytes (Ok text)) where
-  over : (r : Outcome Answer) → IsOutcomeOfText text (dataset_of (seen held.default_graph held.base.quads) held.base.next) max_rows r → IsQueryOutcome bytes held.base r
+module _ (held : Held) (bytes text : List ℕ) (same : SameSet held.base.quads held.base.quads) (is : IsTextOf bytes (Ok text)) where
+  over : (r : Outcome Answer) → IsOutcomeOfText text (dataset_of (seen held.default_graph held.base.quads) held.base.next) max_rows r → IsQueryOutcome held.default_graph bytes held.base r
   unfolding sparql
-  over r due = (Ok text, is, (held.base.quads, same, subst (λ (d : DefaultGraph). IsOutcomeOfText text (dataset_of (seen d held.base.quads) held.base.next) max_rows r) is_stored due))
+  over r due = (Ok text, is, (held.base.quads, same, due))
 
   -- what a text is answered with is what its bytes are
-  pub of_text : (r : Outcome Answer) → OneOrWantOfMemory (IsOutcomeOfText text (dataset_of (seen held.default_graph held.base.quads) held.base.next) max_rows) r → OneOrWantOfMemory (IsQueryOutcome bytes held.base) r
+  pub of_text : (r : Outcome Answer) → OneOrWantOfMemory (IsOutcomeOfText text (dataset_of (seen held.default_graph held.base.quads) held.base.next) max_rows) r → OneOrWantOfMemory (IsQueryOutcome held.default_graph bytes held.base) r
   of_text (Ok answer) due = over (Ok answer) due
   of_text (Err f) due = λ other. over (Err f) (due other)
 
 -- data that aren't put into a store
-pub query_unstored : (file text : List ℕ) (f : LoadFault) → IsRefusalOf file (refusal_of f) → IsQueryEnd file text (unstored f)
-query_unstored file text (Text f) h = h
-query_unstored file text (Store f) h = λ n. (Err _, h n, refl)
+pub query_unstored : (choice : DefaultGraph) (file text : List ℕ) (f : LoadFault) → IsRefusalOf file (refusal_of f) → IsQueryEnd choice file text (unstored f)
+query_unstored choice file text (Text f) h = h
+query_unstored choice file text (Store f) h = λ n. (Err _, h n, refl)
 
-pub update_unstored : (file text : List ℕ) (f : LoadFault) → IsRefusalOf file (refusal_of f) → IsUpdateEnd file text (unstored f)
-update_unstored file text (Text f) h = h
-update_unstored file text (Store f) h = λ n. (Err _, h n, refl)
+pub update_unstored : (choice : DefaultGraph) (file text : List ℕ) (f : LoadFault) → IsRefusalOf file (refusal_of f) → IsUpdateEnd choice file text (unstored f)
+update_unstored choice file text (Text f) h = h
+update_unstored choice file text (Store f) h = λ n. (Err _, h n, refl)

@@ -8,6 +8,7 @@ use Rattle.qs_terms.specs.declared.fault.QFault.{QFault}
 use Rattle.qs_terms.specs.declared.fault.QFault.TheVariants as fault
 use Rattle.qs_results.specs.Lines.{fault_line}
 use Rattle.qs_store.specs.Content.{Content}
+use Rattle.qs_store.specs.declared.default_graph.DefaultGraph.{DefaultGraph}
 use Rattle.qs_service.specs.Meaning.{sparql}
 use Rattle.qs_service.specs.State.{State}
 use Rattle.qs_service.specs.Step.{Event}
@@ -118,28 +119,28 @@ is_memory : (f : QFault) → (f ≡ fault.Memory) ⊎ (f ≢ fault.Memory)
 is_memory fault.Memory = inl refl
 is_memory f = inr (λ e. (cc))
 
-module _ (file script : List ℕ) where
+module _ (choice : DefaultGraph) (file script : List ℕ) where
   -- what is due of the script is due of the job
-  pub replay_due : (c : Content) (state : State) → state ≡ service_over c → IsLoaded file (Ok c) → (bytes : List ℕ) (s : ℕ) → IsScriptDue state script bytes s → IsReplayDue file script bytes s
+  pub replay_due : (c : Content) (state : State) → state ≡ service_over choice c → IsLoaded file (Ok c) → (bytes : List ℕ) (s : ℕ) → IsScriptDue state script bytes s → IsReplayDue choice file script bytes s
   replay_due c state is loaded bytes s (inl due) = inl (Ok c, loaded, subst (λ (o : State). IsDueOfScript o script bytes s) is due)
   replay_due c state is loaded bytes s (inr due) = inr (inl due)
 
-  pub replay_begun : (c : Content) (state : State) → state ≡ service_over c → IsLoaded file (Ok c) → (bytes : List ℕ) → IsScriptBegun state script bytes → IsReplayBegun file script bytes
+  pub replay_begun : (c : Content) (state : State) → state ≡ service_over choice c → IsLoaded file (Ok c) → (bytes : List ℕ) → IsScriptBegun state script bytes → IsReplayBegun choice file script bytes
   replay_begun c state is loaded bytes (inl h) = inl (h.0, replay_due c state is loaded bytes h.0 h.1)
   replay_begun c state is loaded bytes (inr h) =
       inr (c, h.0, h.1, h.2, h.3, loaded, h.4, subst (λ (o : State). StopsAt sparql o h.0 h.1 h.2 h.3) is h.5, h.6)
 
-  pub refusal_due : (r : Refusal) → IsRefusalOf file r → IsReplayDue file script (refusal_text r) 1
+  pub refusal_due : (r : Refusal) → IsRefusalOf file r → IsReplayDue choice file script (refusal_text r) 1
   refusal_due (Data f) is = inr (inr (f, is, refl, refl))
   refusal_due (Script n) is = absurd is
   refusal_due (Fault f) is = at (is_memory f)
     where
-      at : (f ≡ fault.Memory) ⊎ (f ≢ fault.Memory) → IsReplayDue file script (line (fault_line f)) 1
+      at : (f ≡ fault.Memory) ⊎ (f ≢ fault.Memory) → IsReplayDue choice file script (line (fault_line f)) 1
       at (inl e) = inr (inl (ap (λ (g : QFault). line (fault_line g)) e, refl))
       at (inr n) = inl (Err f, is n, (refl, refl))
 
-  pub memory_due : IsReplayDue file script wanting 1
+  pub memory_due : IsReplayDue choice file script wanting 1
   memory_due = inr (inl (refl, refl))
 
-  pub begun_of_replay : (bytes : List ℕ) (s : ℕ) → IsReplayDue file script bytes s → IsReplayBegun file script bytes
+  pub begun_of_replay : (bytes : List ℕ) (s : ℕ) → IsReplayDue choice file script bytes s → IsReplayBegun choice file script bytes
   begun_of_replay bytes s due = inl (s, due)

@@ -5,6 +5,7 @@ use Rattle.std.specs.Io.KnownBytes.{Appends}
 use Rattle.qs_terms.specs.Device.{one_more}
 use Rattle.qs_terms.specs.declared.fault.QFault.TheVariants as fault
 use Rattle.qs_results.specs.Lines.{fault_line}
+use Rattle.qs_store.specs.declared.default_graph.DefaultGraph.{DefaultGraph}
 use Rattle.quads.specs.Due.{line, IsDue, IsBegun}
 use Rattle.quads.specs.Ended.{IsCheckEnd, IsQueryEnd, IsUpdateEnd, IsEnd, printed, status}
 use Rattle.quads.specs.Replayed.{IsReplayDue, IsReplayBegun}
@@ -21,28 +22,28 @@ due_of (Check file) (Answered answer) is = absurd is
 due_of (Check file) (Quads quads) is = inl (quads.items, is.0, is.1, is.2, refl, refl)
 due_of (Check file) (DataRefused f) is = inr (inr (f, is, refl, refl))
 due_of (Check file) (Refused f) is = absurd is
-due_of (Query file text) (Answered answer) is = inl (Ok answer, is, refl, refl)
-due_of (Query file text) (Quads quads) is = absurd is
-due_of (Query file text) (DataRefused f) is = inr (f, is, refl, refl)
-due_of (Query file text) (Refused f) is = inl (Err f, is, refl, refl)
-due_of (Update file text) (Answered answer) is = absurd is
-due_of (Update file text) (Quads quads) is = inl (Ok is.0, is.1, (quads.items, is.2, refl), refl)
-due_of (Update file text) (DataRefused f) is = inr (f, is, refl, refl)
-due_of (Update file text) (Refused f) is = inl (Err f, is, refl, refl)
-due_of (Replay file script) end is = absurd is
+due_of (Query file text choice) (Answered answer) is = inl (Ok answer, is, refl, refl)
+due_of (Query file text choice) (Quads quads) is = absurd is
+due_of (Query file text choice) (DataRefused f) is = inr (f, is, refl, refl)
+due_of (Query file text choice) (Refused f) is = inl (Err f, is, refl, refl)
+due_of (Update file text choice) (Answered answer) is = absurd is
+due_of (Update file text choice) (Quads quads) is = inl (Ok is.0, is.1, (quads.items, is.2, refl), refl)
+due_of (Update file text choice) (DataRefused f) is = inr (f, is, refl, refl)
+due_of (Update file text choice) (Refused f) is = inl (Err f, is, refl, refl)
+due_of (Replay file script choice) end is = absurd is
 
 begun : (job : Job) (bytes : List ℕ) (s : ℕ) → IsDue job bytes s → IsBegun job bytes
 begun (Check file) bytes s due = (s, due)
-begun (Query file text) bytes s due = (s, due)
-begun (Update file text) bytes s due = (s, due)
-begun (Replay file script) bytes s due = inl (s, due)
+begun (Query file text choice) bytes s due = (s, due)
+begun (Update file text choice) bytes s due = (s, due)
+begun (Replay file script choice) bytes s due = inl (s, due)
 
 -- memory may always be wanting
 memory : (job : Job) → IsDue job (line (fault_line fault.Memory)) 1
 memory (Check file) = inr (inl (refl, refl))
-memory (Query file text) = inl (Err fault.Memory, (λ other. absurd (other refl)), refl, refl)
-memory (Update file text) = inl (Err fault.Memory, (λ other. absurd (other refl)), refl, refl)
-memory (Replay file script) = inr (inl (refl, refl))
+memory (Query file text choice) = inl (Err fault.Memory, (λ other. absurd (other refl)), refl, refl)
+memory (Update file text choice) = inl (Err fault.Memory, (λ other. absurd (other refl)), refl, refl)
+memory (Replay file script choice) = inr (inl (refl, refl))
 
 whole : (n : ℕ) (bytes : List ℕ) → n ≡ length bytes → take n bytes ≡ bytes
 whole n bytes is = take_all n bytes (omega (arith, is))
@@ -65,15 +66,15 @@ module _ (job : Job) (end : Ended) (file : Vec ℕ Global) where
   pub check_end : job ≡ Check file → IsCheckEnd file.items end → IsEnd job end
   check_end is e = subst (λ (j : Job). IsEnd j end) (sym is) e
 
-  module _ (lent : List ℕ) (text : Vec ℕ Global) where
-    pub query_end : job ≡ Query file text → lent ≡ text.items → IsQueryEnd file.items lent end → IsEnd job end
-    query_end is same e = subst (λ (j : Job). IsEnd j end) (sym is) (subst (λ (l : List ℕ). IsQueryEnd file.items l end) same e)
+  module _ (lent : List ℕ) (text : Vec ℕ Global) (choice : DefaultGraph) where
+    pub query_end : job ≡ Query file text choice → lent ≡ text.items → IsQueryEnd choice file.items lent end → IsEnd job end
+    query_end is same e = subst (λ (j : Job). IsEnd j end) (sym is) (subst (λ (l : List ℕ). IsQueryEnd choice file.items l end) same e)
 
-    pub update_end : job ≡ Update file text → lent ≡ text.items → IsUpdateEnd file.items lent end → IsEnd job end
-    update_end is same e = subst (λ (j : Job). IsEnd j end) (sym is) (subst (λ (l : List ℕ). IsUpdateEnd file.items l end) same e)
+    pub update_end : job ≡ Update file text choice → lent ≡ text.items → IsUpdateEnd choice file.items lent end → IsEnd job end
+    update_end is same e = subst (λ (j : Job). IsEnd j end) (sym is) (subst (λ (l : List ℕ). IsUpdateEnd choice file.items l end) same e)
 
 -- the run of a replay of the job's bytes is that of the job
-pub replay_ran : (job : Job) (lent : List ℕ) (taken taken2 : Option (List ℕ)) (faults faults2 : ℕ) (r : Ran) (file script : Vec ℕ Global) → job ≡ Replay file script → lent ≡ script.items
-    → Runs (IsReplayDue file.items lent) (IsReplayBegun file.items lent) taken taken2 faults faults2 r → IsRun job taken taken2 faults faults2 r
-replay_ran job lent taken taken2 faults faults2 r file script is same ran =
-    subst (λ (j : Job). IsRun j taken taken2 faults faults2 r) (sym is) (subst (λ (l : List ℕ). Runs (IsReplayDue file.items l) (IsReplayBegun file.items l) taken taken2 faults faults2 r) same ran)
+pub replay_ran : (job : Job) (lent : List ℕ) (taken taken2 : Option (List ℕ)) (faults faults2 : ℕ) (r : Ran) (file script : Vec ℕ Global) (choice : DefaultGraph) → job ≡ Replay file script choice → lent ≡ script.items
+    → Runs (IsReplayDue choice file.items lent) (IsReplayBegun choice file.items lent) taken taken2 faults faults2 r → IsRun job taken taken2 faults faults2 r
+replay_ran job lent taken taken2 faults faults2 r file script choice is same ran =
+    subst (λ (j : Job). IsRun j taken taken2 faults faults2 r) (sym is) (subst (λ (l : List ℕ). Runs (IsReplayDue choice file.items l) (IsReplayBegun choice file.items l) taken taken2 faults faults2 r) same ran)

@@ -1,5 +1,5 @@
 -- What is due of a job: the bytes that are printed, and the exit status. The data of a check are printed again as N-Quads, or refused. Those
--- of the other jobs are put into a new store before: a query over it is answered, of an update the dataset behind it is printed as N-Quads,
+-- of the other jobs are put into a new store before, with the default graph that the job chooses: a query over it is answered, of an update the dataset behind it is printed as N-Quads,
 -- and of a replay the lines of a run of its events; or the first fault is told, of the data before that of the text or the script.
 use Rattle.std.specs.Prelude.{◌≡◌, ◌⊎◌, ◌∷◌, ◌++◌, [], ℕ, List, Ok, Err, codes, decimal}
 use Rattle.std.specs.Str.{IsUtf8, IsValidUpTo}
@@ -12,7 +12,7 @@ use Rattle.qs_nquads.specs.Nquads.{IsNquads, IsFault}
 use Rattle.qs_nquads.specs.declared.fault.NqFault.{NqFault}
 use Rattle.qs_store.specs.Content.{Content}
 use Rattle.qs_store.specs.Same.{SameSet}
-use Rattle.qs_store.specs.declared.default_graph.DefaultGraph.TheVariants.{Stored}
+use Rattle.qs_store.specs.declared.default_graph.DefaultGraph.{DefaultGraph}
 use Rattle.qs_answer.specs.declared.answer.Answer.{Answer}
 use Rattle.qs_answer.specs.declared.answer.Answer.TheVariants.{Solutions, Truth, Graph}
 use Rattle.qs_nquads.specs.Written.{nquads_of}
@@ -41,8 +41,9 @@ max_terms = 4294967295
 abbrev pub max_rows : ℕ
 max_rows = 1000000
 
-abbrev pub bounds : Bounds
-bounds = record { terms = max_terms; rows = max_rows; default_graph = Stored }
+-- those of a store with this default graph
+abbrev pub bounds : DefaultGraph → Bounds
+bounds choice = record { terms = max_terms; rows = max_rows; default_graph = choice }
 
 -- what a new store holds
 abbrev pub empty : Content
@@ -73,31 +74,31 @@ IsTextOf bytes (Err f) = (¬ (IsUtf8 bytes)) × ((place : ℕ) × IsValidUpTo by
 
 -- ---- what a query comes to
 
-abbrev pub IsQueryOfRead : Outcome (List ℕ) → Content → Outcome Answer → Type 0
-IsQueryOfRead (Ok text) c outcome = sparql.answers text bounds c outcome
-IsQueryOfRead (Err f) c outcome = outcome ≡ Err f
+abbrev pub IsQueryOfRead : DefaultGraph → Outcome (List ℕ) → Content → Outcome Answer → Type 0
+IsQueryOfRead choice (Ok text) c outcome = sparql.answers text (bounds choice) c outcome
+IsQueryOfRead choice (Err f) c outcome = outcome ≡ Err f
 
--- what the bytes of a query's file come to over what a store holds
-abbrev pub IsQueryOutcome : List ℕ → Content → Outcome Answer → Type 0
-IsQueryOutcome bytes c outcome = (text : Outcome (List ℕ)) × IsTextOf bytes text × IsQueryOfRead text c outcome
+-- what the bytes of a query's file come to over what a store with this default graph holds
+abbrev pub IsQueryOutcome : DefaultGraph → List ℕ → Content → Outcome Answer → Type 0
+IsQueryOutcome choice bytes c outcome = (text : Outcome (List ℕ)) × IsTextOf bytes text × IsQueryOfRead choice text c outcome
 
 -- the same over the data
-abbrev pub IsQueryOfData : List ℕ → List ℕ → Outcome Answer → Type 0
-IsQueryOfData file text outcome = IsOverData (IsQueryOutcome text) file outcome
+abbrev pub IsQueryOfData : DefaultGraph → List ℕ → List ℕ → Outcome Answer → Type 0
+IsQueryOfData choice file text outcome = IsOverData (IsQueryOutcome choice text) file outcome
 
 -- ---- what an update comes to
 
-abbrev pub IsUpdateOfRead : Outcome (List ℕ) → Content → Outcome Content → Type 0
-IsUpdateOfRead (Ok text) old outcome = sparql.changes text bounds old outcome
-IsUpdateOfRead (Err f) old outcome = outcome ≡ Err f
+abbrev pub IsUpdateOfRead : DefaultGraph → Outcome (List ℕ) → Content → Outcome Content → Type 0
+IsUpdateOfRead choice (Ok text) old outcome = sparql.changes text (bounds choice) old outcome
+IsUpdateOfRead choice (Err f) old outcome = outcome ≡ Err f
 
--- what the bytes of an update's file come to over what a store holds
-abbrev pub IsUpdateOutcome : List ℕ → Content → Outcome Content → Type 0
-IsUpdateOutcome bytes old outcome = (text : Outcome (List ℕ)) × IsTextOf bytes text × IsUpdateOfRead text old outcome
+-- what the bytes of an update's file come to over what a store with this default graph holds
+abbrev pub IsUpdateOutcome : DefaultGraph → List ℕ → Content → Outcome Content → Type 0
+IsUpdateOutcome choice bytes old outcome = (text : Outcome (List ℕ)) × IsTextOf bytes text × IsUpdateOfRead choice text old outcome
 
 -- the same over the data
-abbrev pub IsUpdateOfData : List ℕ → List ℕ → Outcome Content → Type 0
-IsUpdateOfData file text outcome = IsOverData (IsUpdateOutcome text) file outcome
+abbrev pub IsUpdateOfData : DefaultGraph → List ℕ → List ℕ → Outcome Content → Type 0
+IsUpdateOfData choice file text outcome = IsOverData (IsUpdateOutcome choice text) file outcome
 
 -- ---- what is printed of it
 
@@ -130,14 +131,14 @@ content_status (Ok c) = 0
 content_status (Err f) = 1
 
 -- the data are quads, and this is printed of what the query comes to over them, or of want of memory
-abbrev pub IsDueOfQuery : List ℕ → List ℕ → List ℕ → ℕ → Type 0
-IsDueOfQuery file text bytes status =
-    (outcome : Outcome Answer) × OneOrWantOfMemory (IsQueryOfData file text) outcome × (bytes ≡ outcome_line outcome) × (status ≡ outcome_status outcome)
+abbrev pub IsDueOfQuery : DefaultGraph → List ℕ → List ℕ → List ℕ → ℕ → Type 0
+IsDueOfQuery choice file text bytes status =
+    (outcome : Outcome Answer) × OneOrWantOfMemory (IsQueryOfData choice file text) outcome × (bytes ≡ outcome_line outcome) × (status ≡ outcome_status outcome)
 
 -- the data are quads, and this is printed of what the update makes of them, or of want of memory
-abbrev pub IsDueOfUpdate : List ℕ → List ℕ → List ℕ → ℕ → Type 0
-IsDueOfUpdate file text bytes status =
-    (outcome : Outcome Content) × OneOrWantOfMemory (IsUpdateOfData file text) outcome × IsContentText outcome bytes × (status ≡ content_status outcome)
+abbrev pub IsDueOfUpdate : DefaultGraph → List ℕ → List ℕ → List ℕ → ℕ → Type 0
+IsDueOfUpdate choice file text bytes status =
+    (outcome : Outcome Content) × OneOrWantOfMemory (IsUpdateOfData choice file text) outcome × IsContentText outcome bytes × (status ≡ content_status outcome)
 
 -- the data are none, and this is the line of their fault
 abbrev pub IsDueOfData : List ℕ → List ℕ → ℕ → Type 0
@@ -154,9 +155,9 @@ IsDueOfMemory bytes status = (bytes ≡ line (fault_line fault.Memory)) × (stat
 
 -- ---- what a replay comes to
 
--- a service over what a store holds, with no connection
-abbrev pub service_over : Content → State
-service_over c = record { stored = c; bounds = bounds; joined = [] }
+-- a service over what a store with this default graph holds, with no connection
+abbrev pub service_over : DefaultGraph → Content → State
+service_over choice c = record { stored = c; bounds = bounds choice; joined = [] }
 
 -- the line of a text that is no script
 abbrev pub script_line : ℕ → List ℕ
@@ -176,32 +177,32 @@ IsDueOfScript old script bytes status =
     ((events : List Event) × IsScript script events × IsDueOfEvents old events bytes status)
     ⊎ ((n : ℕ) × IsOtherLine script n × (bytes ≡ line (script_line n)) × (status ≡ 1))
 
-abbrev pub IsDueOver : List ℕ → Outcome Content → List ℕ → ℕ → Type 0
-IsDueOver script (Ok c) bytes status = IsDueOfScript (service_over c) script bytes status
-IsDueOver script (Err f) bytes status = (bytes ≡ line (fault_line f)) × (status ≡ 1)
+abbrev pub IsDueOver : DefaultGraph → List ℕ → Outcome Content → List ℕ → ℕ → Type 0
+IsDueOver choice script (Ok c) bytes status = IsDueOfScript (service_over choice c) script bytes status
+IsDueOver choice script (Err f) bytes status = (bytes ≡ line (fault_line f)) × (status ≡ 1)
 
 -- the data are quads, and this is printed of the script over a store that they are put into
-abbrev pub IsDueOfReplay : List ℕ → List ℕ → List ℕ → ℕ → Type 0
-IsDueOfReplay file script bytes status = (first : Outcome Content) × IsLoaded file first × IsDueOver script first bytes status
+abbrev pub IsDueOfReplay : DefaultGraph → List ℕ → List ℕ → List ℕ → ℕ → Type 0
+IsDueOfReplay choice file script bytes status = (first : Outcome Content) × IsLoaded file first × IsDueOver choice script first bytes status
 
 -- some events of the script, from the front, were carried out, and these bytes are what they write
-abbrev pub IsBegunOfReplay : List ℕ → List ℕ → List ℕ → Type 0
-IsBegunOfReplay file script bytes =
+abbrev pub IsBegunOfReplay : DefaultGraph → List ℕ → List ℕ → List ℕ → Type 0
+IsBegunOfReplay choice file script bytes =
     (c : Content) × (events : List Event) × (new : State) × (text rest : List ℕ) × IsLoaded file (Ok c) × IsScript script events
-    × StopsAt sparql (service_over c) events new text rest × (bytes ≡ text ++ rest)
+    × StopsAt sparql (service_over choice c) events new text rest × (bytes ≡ text ++ rest)
 
 -- ---- what is due of a job
 
 -- these bytes, whole, and this status are due of the job
 abbrev pub IsDue : Job → List ℕ → ℕ → Type 0
 IsDue (Check file) bytes status = IsDueOfDataset file.items bytes status ⊎ (IsDueOfMemory bytes status ⊎ IsDueOfData file.items bytes status)
-IsDue (Query file text) bytes status = IsDueOfQuery file.items text.items bytes status ⊎ IsDueOfData file.items bytes status
-IsDue (Update file text) bytes status = IsDueOfUpdate file.items text.items bytes status ⊎ IsDueOfData file.items bytes status
-IsDue (Replay file script) bytes status = IsDueOfReplay file.items script.items bytes status ⊎ (IsDueOfMemory bytes status ⊎ IsDueOfData file.items bytes status)
+IsDue (Query file text choice) bytes status = IsDueOfQuery choice file.items text.items bytes status ⊎ IsDueOfData file.items bytes status
+IsDue (Update file text choice) bytes status = IsDueOfUpdate choice file.items text.items bytes status ⊎ IsDueOfData file.items bytes status
+IsDue (Replay file script choice) bytes status = IsDueOfReplay choice file.items script.items bytes status ⊎ (IsDueOfMemory bytes status ⊎ IsDueOfData file.items bytes status)
 
 -- the job may have begun to print these bytes: those that are due; of a replay, what some of its events write
 abbrev pub IsBegun : Job → List ℕ → Type 0
 IsBegun (Check file) bytes = (status : ℕ) × IsDue (Check file) bytes status
-IsBegun (Query file text) bytes = (status : ℕ) × IsDue (Query file text) bytes status
-IsBegun (Update file text) bytes = (status : ℕ) × IsDue (Update file text) bytes status
-IsBegun (Replay file script) bytes = ((status : ℕ) × IsDue (Replay file script) bytes status) ⊎ IsBegunOfReplay file.items script.items bytes
+IsBegun (Query file text choice) bytes = (status : ℕ) × IsDue (Query file text choice) bytes status
+IsBegun (Update file text choice) bytes = (status : ℕ) × IsDue (Update file text choice) bytes status
+IsBegun (Replay file script choice) bytes = ((status : ℕ) × IsDue (Replay file script choice) bytes status) ⊎ IsBegunOfReplay choice file.items script.items bytes

@@ -4,6 +4,7 @@
 use Rattle.std.specs.Prelude.{ℕ, List, Ok, Err}
 use Rattle.qs_store.specs.Content.{Content}
 use Rattle.qs_store.specs.Same.{SameSet}
+use Rattle.qs_store.specs.declared.default_graph.DefaultGraph.{DefaultGraph}
 use Rattle.qs_select.specs.Sequence.{dataset_of}
 use Rattle.qs_terms.specs.Dataset.{IsDataset}
 use Rattle.qs_terms.specs.Outcome.{OneOrWantOfMemory}
@@ -19,11 +20,11 @@ use Rattle.quads.specs.declared.ended.Ended.TheVariants.{Answered, Quads, DataRe
 use Rattle.quads.specs.declared.job.Job.{Job}
 use Rattle.quads.specs.declared.job.Job.TheVariants.{Check, Query, Update, Replay}
 
-abbrev pub IsQueryEnd : List ℕ → List ℕ → Ended → Type 0
-IsQueryEnd file text (Answered answer) = IsQueryOfData file text (Ok answer)
-IsQueryEnd file text (Quads quads) = ⊥
-IsQueryEnd file text (DataRefused f) = IsFault file 0 f.kind f.line
-IsQueryEnd file text (Refused f) = OneOrWantOfMemory (IsQueryOfData file text) (Err f)
+abbrev pub IsQueryEnd : DefaultGraph → List ℕ → List ℕ → Ended → Type 0
+IsQueryEnd choice file text (Answered answer) = IsQueryOfData choice file text (Ok answer)
+IsQueryEnd choice file text (Quads quads) = ⊥
+IsQueryEnd choice file text (DataRefused f) = IsFault file 0 f.kind f.line
+IsQueryEnd choice file text (Refused f) = OneOrWantOfMemory (IsQueryOfData choice file text) (Err f)
 
 abbrev pub IsCheckEnd : List ℕ → Ended → Type 0
 IsCheckEnd file (Answered answer) = ⊥
@@ -31,17 +32,17 @@ IsCheckEnd file (Quads quads) = (next : ℕ) × IsNquads file 0 quads.items next
 IsCheckEnd file (DataRefused f) = IsFault file 0 f.kind f.line
 IsCheckEnd file (Refused f) = ⊥
 
-abbrev pub IsUpdateEnd : List ℕ → List ℕ → Ended → Type 0
-IsUpdateEnd file text (Answered answer) = ⊥
-IsUpdateEnd file text (Quads quads) = (c : Content) × IsUpdateOfData file text (Ok c) × SameSet quads.items c.quads
-IsUpdateEnd file text (DataRefused f) = IsFault file 0 f.kind f.line
-IsUpdateEnd file text (Refused f) = OneOrWantOfMemory (IsUpdateOfData file text) (Err f)
+abbrev pub IsUpdateEnd : DefaultGraph → List ℕ → List ℕ → Ended → Type 0
+IsUpdateEnd choice file text (Answered answer) = ⊥
+IsUpdateEnd choice file text (Quads quads) = (c : Content) × IsUpdateOfData choice file text (Ok c) × SameSet quads.items c.quads
+IsUpdateEnd choice file text (DataRefused f) = IsFault file 0 f.kind f.line
+IsUpdateEnd choice file text (Refused f) = OneOrWantOfMemory (IsUpdateOfData choice file text) (Err f)
 
 abbrev pub IsEnd : Job → Ended → Type 0
 IsEnd (Check file) end = IsCheckEnd file.items end
-IsEnd (Query file text) end = IsQueryEnd file.items text.items end
-IsEnd (Update file text) end = IsUpdateEnd file.items text.items end
-IsEnd (Replay file script) end = ⊥
+IsEnd (Query file text choice) end = IsQueryEnd choice file.items text.items end
+IsEnd (Update file text choice) end = IsUpdateEnd choice file.items text.items end
+IsEnd (Replay file script choice) end = ⊥
 
 -- how a job ends where the data aren't put into a store
 abbrev pub unstored : LoadFault → Ended

@@ -6,6 +6,7 @@ use Rattle.qs_service.specs.State.{State}
 use Rattle.qs_service.specs.Step.{Event}
 use Rattle.qs_replay.specs.Replayed.{StopsAt}
 use Rattle.qs_replay.specs.Script.{IsScript}
+use Rattle.qs_store.specs.declared.default_graph.DefaultGraph.{DefaultGraph}
 use Rattle.quads.specs.Due.{IsDueOfEvents, IsDueOfScript, IsDueOfMemory, IsDueOfData, IsDueOfReplay, IsBegunOfReplay}
 
 abbrev pub IsBegunOfEvents : State → List Event → List ℕ → Type 0
@@ -20,8 +21,8 @@ IsScriptBegun old script bytes =
     ((status : ℕ) × IsScriptDue old script bytes status)
     ⊎ ((events : List Event) × (new : State) × (text rest : List ℕ) × IsScript script events × StopsAt sparql old events new text rest × (bytes ≡ text ++ rest))
 
-abbrev pub IsReplayDue : List ℕ → List ℕ → List ℕ → ℕ → Type 0
-IsReplayDue file script bytes status = IsDueOfReplay file script bytes status ⊎ (IsDueOfMemory bytes status ⊎ IsDueOfData file bytes status)
+abbrev pub IsReplayDue : DefaultGraph → List ℕ → List ℕ → List ℕ → ℕ → Type 0
+IsReplayDue choice file script bytes status = IsDueOfReplay choice file script bytes status ⊎ (IsDueOfMemory bytes status ⊎ IsDueOfData file bytes status)
 
-abbrev pub IsReplayBegun : List ℕ → List ℕ → List ℕ → Type 0
-IsReplayBegun file script bytes = ((status : ℕ) × IsReplayDue file script bytes status) ⊎ IsBegunOfReplay file script bytes
+abbrev pub IsReplayBegun : DefaultGraph → List ℕ → List ℕ → List ℕ → Type 0
+IsReplayBegun choice file script bytes = ((status : ℕ) × IsReplayDue choice file script bytes status) ⊎ IsBegunOfReplay choice file script bytes

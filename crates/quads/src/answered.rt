@@ -1,7 +1,5 @@
 //! What a query over the data of a file is answered with.
 
-ghost use Rattle.std.specs.Prelude.{◌≡◌};
-ghost use Rattle.qs_store.specs.declared.default_graph.DefaultGraph.TheVariants.{Stored};
 ghost use Rattle.qs_terms.specs.Outcome.{OneOrWantOfMemory};
 ghost use Rattle.quads.specs.Due.{IsQueryOutcome};
 ghost use Rattle.quads.specs.Ended.{IsQueryEnd};
@@ -10,14 +8,13 @@ use crate::ended::{Ended, MAX_ROWS, text_of, unstored};
 use crate::stored::{let_go, stored};
 use qs_answer::Answer;
 use qs_query::answer;
-use qs_store::{Store, same_set_is_an_equivalence};
+use qs_store::{DefaultGraph, Store, same_set_is_an_equivalence};
 use qs_terms::QFault;
 use std::alloc::Global;
 use std::hash::RandomState;
 
 fn text_answer(alloc: Global, text: &[u8], store: &Store) -> Result<Answer, QFault>
-    requires default_graph { store.now.default_graph ≡ Stored }
-    ensures { OneOrWantOfMemory (IsQueryOutcome text.now store.now.base) result }
+    ensures { OneOrWantOfMemory (IsQueryOutcome store.now.default_graph text.now store.now.base) result }
 {
     same_set_is_an_equivalence();
     match text_of(text) {
@@ -27,10 +24,16 @@ fn text_answer(alloc: Global, text: &[u8], store: &Store) -> Result<Answer, QFau
 }
 
 /// How the job of a query ends.
-pub fn query_ended(alloc: Global, hasher: RandomState, file: Vec<u8>, text: &[u8]) -> Ended
-    ensures { IsQueryEnd file.items text.now result }
+pub fn query_ended(
+    alloc: Global,
+    hasher: RandomState,
+    default_graph: DefaultGraph,
+    file: Vec<u8>,
+    text: &[u8],
+) -> Ended
+    ensures { IsQueryEnd default_graph file.items text.now result }
 {
-    match stored(alloc, hasher, file) {
+    match stored(alloc, hasher, default_graph, file) {
         Ok(store) => {
             let outcome = text_answer(alloc, text, &store);
             let_go(store);

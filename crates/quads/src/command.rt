@@ -1,14 +1,25 @@
 //! The command line.
 
-use clap::{Arg, Command};
+use clap::{Arg, ArgAction, Command};
 use std::alloc::{AllocError, Global};
 
 /// The version of the program, and of the kit that it is proved with: what `rt version` prints.
 const VERSION: &str = "0.1.0\nrattle-kit-13f logic dac8208d650f15bf";
 
+/// The flag of a union default graph.
+pub const UNION_DEFAULT: &str = "union-default";
+
 // A file that the command line names.
 fn file_argument<'a>(alloc: Global, name: &'a str, what: &'a str) -> Arg<'a> {
     Arg::new(alloc, name).required(true).help(what)
+}
+
+// The choice of the default graph.
+fn union_default<'a>(alloc: Global) -> Arg<'a> {
+    Arg::new(alloc, UNION_DEFAULT)
+        .long(UNION_DEFAULT)
+        .action(ArgAction::SetTrue)
+        .help("queries see the union of all named graphs as the default graph")
 }
 
 fn check_command<'a>(alloc: Global) -> Result<Command<'a>, AllocError> {
@@ -23,7 +34,8 @@ fn query_command<'a>(alloc: Global) -> Result<Command<'a>, AllocError> {
             "Prints the answer of a query over the data of a file: as JSON, or for CONSTRUCT as N-Triples",
         )
         .arg(file_argument(alloc, "FILE", "the data, as N-Quads"))?
-        .arg(file_argument(alloc, "QUERYFILE", "the text of the query"))
+        .arg(file_argument(alloc, "QUERYFILE", "the text of the query"))?
+        .arg(union_default(alloc))
 }
 
 fn update_command<'a>(alloc: Global) -> Result<Command<'a>, AllocError> {
@@ -32,7 +44,8 @@ fn update_command<'a>(alloc: Global) -> Result<Command<'a>, AllocError> {
             "Prints what an update makes of the data of a file, as N-Quads; where a part of it is refused, the fault alone",
         )
         .arg(file_argument(alloc, "FILE", "the data, as N-Quads"))?
-        .arg(file_argument(alloc, "UPDATEFILE", "the text of the update"))
+        .arg(file_argument(alloc, "UPDATEFILE", "the text of the update"))?
+        .arg(union_default(alloc))
 }
 
 fn replay_command<'a>(alloc: Global) -> Result<Command<'a>, AllocError> {
@@ -45,7 +58,8 @@ fn replay_command<'a>(alloc: Global) -> Result<Command<'a>, AllocError> {
             alloc,
             "SCRIPT",
             "lines `join <id>`, `piece <id> <hex>` and `end <id>`",
-        ))
+        ))?
+        .arg(union_default(alloc))
 }
 
 fn serve_command<'a>(alloc: Global) -> Result<Command<'a>, AllocError> {
@@ -69,7 +83,8 @@ fn serve_command<'a>(alloc: Global) -> Result<Command<'a>, AllocError> {
         )
         .arg(port)?
         .arg(file)?
-        .arg(requests)
+        .arg(requests)?
+        .arg(union_default(alloc))
 }
 
 /// The commands of the program.

@@ -1,16 +1,32 @@
 //! What the program is asked to do, and what it did.
 
-/// A job, with the bytes of its files.
+use qs_store::DefaultGraph;
+
+/// A job, with the bytes of its files; the data are put into a store whose queries, and the WHERE of whose updates, see the default graph.
 #[derive(Drop)]
 pub enum Job {
     /// The N-Quads of `data`, written again.
-    Check { data: Vec<u8> },
+    Check {
+        data: Vec<u8>,
+    },
     /// The query of `text` over the N-Quads of `data`.
-    Query { data: Vec<u8>, text: Vec<u8> },
+    Query {
+        data: Vec<u8>,
+        text: Vec<u8>,
+        default_graph: DefaultGraph,
+    },
     /// The update of `text` over the N-Quads of `data`.
-    Update { data: Vec<u8>, text: Vec<u8> },
+    Update {
+        data: Vec<u8>,
+        text: Vec<u8>,
+        default_graph: DefaultGraph,
+    },
     /// The connection events of `script` over the N-Quads of `data`.
-    Replay { data: Vec<u8>, script: Vec<u8> },
+    Replay {
+        data: Vec<u8>,
+        script: Vec<u8>,
+        default_graph: DefaultGraph,
+    },
 }
 
 /// The exit status, and how many bytes the sink took.

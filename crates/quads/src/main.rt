@@ -16,7 +16,7 @@ mod run;
 mod stored;
 mod updated;
 
-use crate::command::command;
+use crate::command::{UNION_DEFAULT, command};
 use crate::job::Job;
 use crate::refusal::put_refusal;
 use crate::run::run;
@@ -25,6 +25,7 @@ use clap::ArgMatches;
 use clap::error::ErrorKind;
 use qs_results::out_of_memory_line;
 use qs_service::{Service, serve};
+use qs_store::DefaultGraph;
 use qs_terms::{Counted, Sink, put_all};
 use std::alloc::Global;
 use std::hash::RandomState;
@@ -78,6 +79,15 @@ fn hasher<S: Sink>(rt: &HostRuntime, out: &mut S) -> Result<RandomState, u8> {
     }
 }
 
+/// The default graph that queries see, as the command line chooses it.
+fn default_graph(matches: &ArgMatches<'_>) -> DefaultGraph {
+    if matches.get_flag(UNION_DEFAULT) {
+        DefaultGraph::Union
+    } else {
+        DefaultGraph::Stored
+    }
+}
+
 /// Does the job: its exit status, or that of a hasher that can't be made.
 fn done<S: Sink>(rt: &HostRuntime, out: &mut S, job: Job) -> Result<u8, u8> {
     let hasher = hasher(rt, out)?;
@@ -94,21 +104,48 @@ fn check<S: Sink>(rt: &HostRuntime, out: &mut S, matches: &ArgMatches<'_>) -> Re
 fn query<S: Sink>(rt: &HostRuntime, out: &mut S, matches: &ArgMatches<'_>) -> Result<u8, u8> {
     let data = file(rt, out, matches, "FILE")?;
     let text = file(rt, out, matches, "QUERYFILE")?;
-    done(rt, out, Job::Query { data, text })
+    let default_graph = default_graph(matches);
+    done(
+        rt,
+        out,
+        Job::Query {
+            data,
+            text,
+            default_graph,
+        },
+    )
 }
 
 /// `update FILE UPDATEFILE`: the same.
 fn update<S: Sink>(rt: &HostRuntime, out: &mut S, matches: &ArgMatches<'_>) -> Result<u8, u8> {
     let data = file(rt, out, matches, "FILE")?;
     let text = file(rt, out, matches, "UPDATEFILE")?;
-    done(rt, out, Job::Update { data, text })
+    let default_graph = default_graph(matches);
+    done(
+        rt,
+        out,
+        Job::Update {
+            data,
+            text,
+            default_graph,
+        },
+    )
 }
 
 /// `replay FILE SCRIPT`: the same.
 fn replay<S: Sink>(rt: &HostRuntime, out: &mut S, matches: &ArgMatches<'_>) -> Result<u8, u8> {
     let data = file(rt, out, matches, "FILE")?;
     let script = file(rt, out, matches, "SCRIPT")?;
-    done(rt, out, Job::Replay { data, script })
+    let default_graph = default_graph(matches);
+    done(
+        rt,
+        out,
+        Job::Replay {
+            data,
+            script,
+            default_graph,
+        },
+    )
 }
 
 /// A service over the data of the file that the command line names, or the exit status where there is none.
@@ -119,7 +156,7 @@ fn service<S: Sink>(
 ) -> Result<Service, u8> {
     let data = file(rt, out, matches, "FILE")?;
     let hasher = hasher(rt, out)?;
-    match service_of(rt.alloc(), hasher, data) {
+    match service_of(rt.alloc(), hasher, default_graph(matches), data) {
         Ok(service) => Ok(service),
         Err(refusal) => Err(put_refusal(rt.alloc(), &refusal, out).status),
     }

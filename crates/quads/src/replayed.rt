@@ -13,6 +13,7 @@ use crate::stored::{let_go, service_of};
 use qs_replay::{Happening, ReplayEnd, ScriptFault, read_script, replay};
 use qs_results::out_of_memory_line;
 use qs_service::Service;
+use qs_store::DefaultGraph;
 use qs_terms::{QFault, Sink};
 use std::alloc::Global;
 use std::hash::RandomState;
@@ -52,17 +53,18 @@ fn script_over<S: Sink>(alloc: Global, service: &mut Service, script: &[u8], out
     }
 }
 
-/// Carries out the events of the script over a store of the data, and puts what they write, or why nothing is run.
+/// Carries out the events of the script over a store of the data with this default graph, and puts what they write, or why nothing is run.
 pub fn script_ran<S: Sink>(
     alloc: Global,
     hasher: RandomState,
+    default_graph: DefaultGraph,
     file: Vec<u8>,
     script: &[u8],
     out: &mut S,
 ) -> Ran
-    ensures { Runs (IsReplayDue file.items script.now) (IsReplayBegun file.items script.now) (S.taken out.old) (S.taken out.new) (S.faults out.old) (S.faults out.new) result }
+    ensures { Runs (IsReplayDue default_graph file.items script.now) (IsReplayBegun default_graph file.items script.now) (S.taken out.old) (S.taken out.new) (S.faults out.old) (S.faults out.new) result }
 {
-    match service_of(alloc, hasher, file) {
+    match service_of(alloc, hasher, default_graph, file) {
         Ok(mut service) => {
             let ran = script_over(alloc, &mut service, script, out);
             let_go(service);

@@ -39,14 +39,26 @@ pub fn run<S: Sink>(alloc: Global, hasher: RandomState, job: Job, out: &mut S) -
 {
     match job {
         Job::Check { data } => put_end(alloc, check_ended(alloc, data), out),
-        Job::Query { data, text } => {
-            let end = query_ended(alloc, hasher, data, text.as_slice());
+        Job::Query {
+            data,
+            text,
+            default_graph,
+        } => {
+            let end = query_ended(alloc, hasher, default_graph, data, text.as_slice());
             put_end(alloc, end, out)
         }
-        Job::Update { data, text } => {
-            let end = update_ended(alloc, hasher, data, text.as_slice());
+        Job::Update {
+            data,
+            text,
+            default_graph,
+        } => {
+            let end = update_ended(alloc, hasher, default_graph, data, text.as_slice());
             put_end(alloc, end, out)
         }
-        Job::Replay { data, script } => script_ran(alloc, hasher, data, script.as_slice(), out),
+        Job::Replay {
+            data,
+            script,
+            default_graph,
+        } => script_ran(alloc, hasher, default_graph, data, script.as_slice(), out),
     }
 }

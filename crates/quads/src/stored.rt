@@ -1,7 +1,6 @@
 //! A store of the data of a file, and a service over it.
 
 ghost use Rattle.std.specs.Prelude.{◌≡◌, MatchResult};
-ghost use Rattle.qs_store.specs.declared.default_graph.DefaultGraph.TheVariants.{Stored};
 ghost use Rattle.qs_terms.specs.declared.fault.QFault.TheVariants.{Memory};
 ghost use Rattle.quads.specs.Due as spec;
 ghost use Rattle.quads.specs.Due.{max_terms};
@@ -12,7 +11,7 @@ use crate::ended::MAX_ROWS;
 use crate::refusal::{Refusal, refusal_of};
 use qs_load::{LoadFault, load};
 use qs_service::Service;
-use qs_store::Store;
+use qs_store::{DefaultGraph, Store};
 use qs_terms::QFault;
 use std::alloc::Global;
 use std::hash::RandomState;
@@ -25,11 +24,16 @@ pub fn let_go<T: Drop>(value: T) {
     drop(value);
 }
 
-/// A store of the quads of the file, whose bytes are let go.
-pub fn stored(alloc: Global, hasher: RandomState, file: Vec<u8>) -> Result<Store, LoadFault>
-    ensures { BecomesStored file.items result }
+/// A store of the quads of the file, whose bytes are let go, with this default graph.
+pub fn stored(
+    alloc: Global,
+    hasher: RandomState,
+    default_graph: DefaultGraph,
+    file: Vec<u8>,
+) -> Result<Store, LoadFault>
+    ensures { BecomesStored default_graph file.items result }
 {
-    let mut store = Store::new(alloc, MAX_TERMS, hasher);
+    let mut store = Store::with_default(alloc, MAX_TERMS, hasher, default_graph);
     let outcome = load(alloc, &mut store, file.as_slice());
     drop(file);
     match outcome {
@@ -44,8 +48,7 @@ pub fn stored(alloc: Global, hasher: RandomState, file: Vec<u8>) -> Result<Store
 // A service over the store, with no connection.
 fn service_over(alloc: Global, store: Store) -> Result<Service, Refusal>
     requires limit { store.limit ≡ max_terms }
-    requires default_graph { store.default_graph ≡ Stored }
-    ensures { MatchResult result (λ state. state ≡ spec.service_over store.base) (λ refusal. refusal ≡ Fault Memory) }
+    ensures { MatchResult result (λ state. state ≡ spec.service_over store.default_graph store.base) (λ refusal. refusal ≡ Fault Memory) }
 {
     match Service::new(alloc, store, MAX_ROWS) {
         Ok(service) => Ok(service),
@@ -56,11 +59,16 @@ fn service_over(alloc: Global, store: Store) -> Result<Service, Refusal>
     }
 }
 
-/// A service over a store of the quads of the file, with no connection.
-pub fn service_of(alloc: Global, hasher: RandomState, file: Vec<u8>) -> Result<Service, Refusal>
-    ensures { BecomesService file.items result }
+/// A service over a store of the quads of the file with this default graph, with no connection.
+pub fn service_of(
+    alloc: Global,
+    hasher: RandomState,
+    default_graph: DefaultGraph,
+    file: Vec<u8>,
+) -> Result<Service, Refusal>
+    ensures { BecomesService default_graph file.items result }
 {
-    match stored(alloc, hasher, file) {
+    match stored(alloc, hasher, default_graph, file) {
         Ok(store) => service_over(alloc, store),
         Err(fault) => Err(refusal_of(fault)),
     }

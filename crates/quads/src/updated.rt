@@ -3,14 +3,13 @@
 ghost use Rattle.std.specs.Prelude.{◌≡◌, ◌≢◌, Err, IfOk, IfErr};
 ghost use Rattle.qs_terms.specs.declared.fault.QFault.TheVariants.{Memory};
 ghost use Rattle.qs_store.specs.Same.{SameSet};
-ghost use Rattle.qs_store.specs.declared.default_graph.DefaultGraph.TheVariants.{Stored};
 ghost use Rattle.quads.specs.Due.{max_terms, IsUpdateOutcome};
 ghost use Rattle.quads.specs.Ended.{IsUpdateEnd};
 ghost use Rattle.quads.specs.Updated.{BecomesUpdated, AreQuadsBehind};
 
 use crate::ended::{Ended, MAX_ROWS, text_of, unstored};
 use crate::stored::{let_go, stored};
-use qs_store::{Store, same_set_is_an_equivalence};
+use qs_store::{DefaultGraph, Store, same_set_is_an_equivalence};
 use qs_terms::{QFault, Quad};
 use qs_update::update;
 use std::alloc::Global;
@@ -18,8 +17,7 @@ use std::hash::RandomState;
 
 fn text_update(alloc: Global, text: &[u8], store: &mut Store) -> Result<(), QFault>
     requires limit { store.old.limit ≡ max_terms }
-    requires default_graph { store.old.default_graph ≡ Stored }
-    ensures { BecomesUpdated text.now store.old.base result store.new.base }
+    ensures { BecomesUpdated store.old.default_graph text.now store.old.base result store.new.base }
 {
     match text_of(text) {
         Ok(text) => update(alloc, text, store, MAX_ROWS),
@@ -42,9 +40,8 @@ fn held(store: &Store) -> Result<Vec<Quad>, QFault>
 // The quads that the store holds behind the update.
 fn behind(alloc: Global, store: &mut Store, text: &[u8]) -> Result<Vec<Quad>, QFault>
     requires limit { store.old.limit ≡ max_terms }
-    requires default_graph { store.old.default_graph ≡ Stored }
-    ensures done { IfOk result (λ all. AreQuadsBehind text.now store.old.base all.items) }
-    ensures refused { IfErr result (λ fault. fault ≢ Memory → IsUpdateOutcome text.now store.old.base (Err fault)) }
+    ensures done { IfOk result (λ all. AreQuadsBehind store.old.default_graph text.now store.old.base all.items) }
+    ensures refused { IfErr result (λ fault. fault ≢ Memory → IsUpdateOutcome store.old.default_graph text.now store.old.base (Err fault)) }
 {
     same_set_is_an_equivalence();
     match text_update(alloc, text, store) {
@@ -54,10 +51,16 @@ fn behind(alloc: Global, store: &mut Store, text: &[u8]) -> Result<Vec<Quad>, QF
 }
 
 /// How the job of an update ends.
-pub fn update_ended(alloc: Global, hasher: RandomState, file: Vec<u8>, text: &[u8]) -> Ended
-    ensures { IsUpdateEnd file.items text.now result }
+pub fn update_ended(
+    alloc: Global,
+    hasher: RandomState,
+    default_graph: DefaultGraph,
+    file: Vec<u8>,
+    text: &[u8],
+) -> Ended
+    ensures { IsUpdateEnd default_graph file.items text.now result }
 {
-    match stored(alloc, hasher, file) {
+    match stored(alloc, hasher, default_graph, file) {
         Ok(mut store) => {
             let outcome = behind(alloc, &mut store, text);
             let_go(store);

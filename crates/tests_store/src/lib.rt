@@ -16,6 +16,8 @@ mod growth;
 #[cfg(test)]
 mod index;
 #[cfg(test)]
+mod limits;
+#[cfg(test)]
 mod loads;
 #[cfg(test)]
 mod looks;
