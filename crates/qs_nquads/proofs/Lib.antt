@@ -1,4 +1,5 @@
 pub mod Apart
+pub mod Runs
 pub mod Start
 pub mod Begin
 pub mod Gaps

@@ -1,3 +1,4 @@
+pub mod Run
 pub mod Table
 pub mod State
 pub mod Gap

@@ -8,6 +8,7 @@ ghost use Rattle.qs_nquads.specs.Table.{table};
 ghost use Rattle.qs_nquads.specs.State.{left};
 
 use crate::class::Class;
+use crate::run::behind_run;
 use crate::state::State;
 
 fn kept(found: Option<(Class, usize)>, state: State, len: usize) -> Option<(Class, usize)>
@@ -23,23 +24,27 @@ fn kept(found: Option<(Class, usize)>, state: State, len: usize) -> Option<(Clas
 pub(crate) fn longest(text: &str) -> Option<(Class, usize)>
     ensures { result ≡ best table (chars text.now) }
 {
-    let mut rest = text.chars();
-    let Some(first) = rest.next() else {
+    let mut whole = text.chars();
+    let Some(first) = whole.next() else {
         return None;
     };
     let Some(begun) = State::start(first) else {
         return None;
     };
+    let (run, behind) = behind_run(begun, whole.as_str());
     let mut state = begun;
-    let mut len = first.len_utf8();
+    let mut len = first.len_utf8() + run;
+    let mut rest = behind.chars();
     let mut found = None;
     'chars: while let Some(c) = rest.next() {
         found = kept(found, state, len);
         let Some(next) = state.step(c) else {
             return found;
         };
+        let (run, behind) = behind_run(next, rest.as_str());
         state = next;
-        len += c.len_utf8();
+        len += c.len_utf8() + run;
+        rest = behind.chars();
     }
     kept(found, state, len)
 }

@@ -59,7 +59,7 @@ pub enum State {
 }
 
 #[tactic(auto, unfolding(crate::specs::Table::is_string_char))]
-fn is_string_char(c: char) -> bool
+pub(crate) fn is_string_char(c: char) -> bool
     ensures { result ≡ is_string_char c }
 {
     c != '"' && c != '\\' && c != '\n' && c != '\r'

@@ -1,7 +1,7 @@
 -- The triples of the graph that is read are those of its quads.
-use Rattle.std.proofs.Common.{◌≡◌, ◌≢◌, ℕ, zero, suc, Bool, true, false, Option, Some, None, List, [], ◌∷◌, map, refl, sym, ◌∙◌, ap, subst, arith}
-use Rattle.std.specs.List.{Contains, filter, list_any}
-use Rattle.qs_terms.specs.Bag.{Distinct, once}
+use Rattle.std.proofs.Common.{◌≡◌, ◌≢◌, ℕ, zero, suc, true, false, Option, Some, None, List, map, refl, sym, subst, arith}
+use Rattle.std.specs.List.{Contains, filter}
+use Rattle.qs_terms.specs.Bag.{Distinct}
 use Rattle.qs_terms.specs.Dataset.{Triple, triple_of, same_triple, graph_of}
 use Rattle.qs_terms.specs.Statement.{Statement, same_graph}
 use Rattle.qs_terms.specs.declared.term.Term.{Term}
@@ -14,11 +14,11 @@ use Rattle.qs_store.specs.declared.active.Active.{Active}
 use Rattle.qs_store.specs.declared.active.Active.TheVariants.{Default, Graph, Empty}
 use Rattle.qs_store.specs.declared.default_graph.DefaultGraph.{DefaultGraph}
 use Rattle.qs_store.specs.declared.default_graph.DefaultGraph.TheVariants.{Stored, Union}
-use Rattle.qs_store.proofs.Members.{nothing, head_or_tail, here, there, member_of_filter, filter_has}
+use Rattle.qs_store.proofs.Members.{nothing, member_of_filter, filter_has}
 use Rattle.qs_eval.proofs.GraphLaws.{graph_distinct}
 use Rattle.qs_eval.proofs.Same.{same_triple-Decides}
 use Rattle.qs_ops.specs.Graph.{is_named, named_graph, active_graph}
-use Rattle.qs_ops.proofs.Lists.{map_has, Mapped, member_of_map, once_has, once_only}
+use Rattle.qs_ops.proofs.Lists.{map_has, member_of_map, once_has, once_only}
 
 graph_has : (quads : List Statement) (name : Option Term) (q : Statement) → Contains quads q → q.graph ≡ name → Contains (graph_of quads name) (triple_of q)
 graph_has quads name q c e =

@@ -1,6 +1,5 @@
 -- Rows of numbers, cell by cell.
-use Rattle.std.proofs.Common.{◌≡◌, ◌≢◌, ℕ, zero, suc, ◌+◌, ◌<◌, ◌≤◌, Bool, true, false, Option, Some, None, List, [], ◌∷◌, ◌++◌, length, map, refl, sym, ◌∙◌, ap, subst, add-one, arith, slice_get, slice_set, if◌then◌else◌}
-use Rattle.std.specs.Option.{option_map}
+use Rattle.std.proofs.Common.{◌≡◌, ◌≢◌, ℕ, zero, suc, ◌+◌, ◌<◌, ◌≤◌, Bool, true, false, Option, Some, None, List, [], ◌∷◌, ◌++◌, length, refl, sym, ◌∙◌, ap, subst, add-one, arith, slice_get, slice_set}
 use Rattle.qs_terms.specs.declared.term.Term.{Term}
 use Rattle.qs_terms.specs.Term.{same_term}
 use Rattle.qs_terms.proofs.SameTerm.{same_term-Decides}
@@ -9,9 +8,7 @@ use Rattle.qs_dict.proofs.Numbers.{exact_number}
 use Rattle.qs_store.specs.Content.{Content}
 use Rattle.qs_store.proofs.TriplesSaid.{same_number}
 use Rattle.qs_solutions.specs.Solution.{Solution, unbound, term_at as bound_term}
-use Rattle.qs_patterns.specs.declared.pattern.Slot.{Slot}
 use Rattle.qs_patterns.specs.declared.pattern.Slot.TheVariants as slot
-use Rattle.qs_eval.specs.Found.{bound_at}
 use Rattle.qs_ops.specs.Graph.{IsSeen}
 use Rattle.qs_ops.specs.Row.{Cells, cell_at, no_cells, cell_term, row_solution}
 use Rattle.qs_ops.specs.Place.{term_slot, slot_if}

@@ -1,11 +1,11 @@
 -- Solutions with terms of their own, variable by variable.
-use Rattle.std.proofs.Common.{◌≡◌, ℕ, zero, suc, ◌+◌, ◌<◌, ◌≤◌, Bool, true, false, Option, Some, None, List, [], ◌∷◌, length, map, take, refl, sym, ◌∙◌, ap, subst, add-one, arith, slice_get, slice_set}
+use Rattle.std.proofs.Common.{◌≡◌, ℕ, zero, suc, ◌+◌, ◌<◌, ◌≤◌, true, false, Option, Some, None, List, [], ◌∷◌, length, take, refl, sym, ◌∙◌, ap, add-one, arith, slice_get}
 use Rattle.qs_terms.specs.declared.term.Term.{Term}
 use Rattle.qs_dict.specs.Dict.{term_at, IsInUse}
 use Rattle.qs_solutions.specs.Solution.{Solution, unbound, term_at as bound_term}
 use Rattle.qs_ops.specs.Row.{Cells, cell_at, cell_term, row_solution, front, with_term}
 use Rattle.qs_ops.specs.Steps.{is_used}
-use Rattle.qs_ops.proofs.Cells.{at_cell, unused}
+use Rattle.qs_ops.proofs.Cells.{at_cell}
 
 within : (terms : List Term) (i : ℕ) → is_used (slice_get terms i) ≡ true → i < length terms
 within [] i h = let f : false ≡ true = h in cc

@@ -1,14 +1,13 @@
 -- Triple patterns by numbers find what those by terms find.
-use Rattle.std.proofs.Common.{◌≡◌, ℕ, zero, suc, Bool, true, false, ◌&&◌, ◌⊎◌, inl, inr, Option, Some, None, List, [], ◌∷◌, ◌++◌, map, refl, sym, ◌∙◌, ap, subst, arith}
-use Rattle.std.specs.Prelude.{option_to_list}
+use Rattle.std.proofs.Common.{◌≡◌, ℕ, Bool, true, false, ◌&&◌, ◌⊎◌, inl, inr, Option, Some, None, List, [], ◌∷◌, map, refl, sym, ◌∙◌, ap, subst}
 use Rattle.std.specs.List.{Contains, flat_map}
 use Rattle.std.proofs.Math.Path.{fun_ext}
 use Rattle.std.proofs.lemmas.Option.{none-some}
-use Rattle.qs_terms.specs.Dataset.{Triple, triple_of}
+use Rattle.qs_terms.specs.Dataset.{Triple}
 use Rattle.qs_terms.specs.Term.{same_term}
 use Rattle.qs_terms.specs.declared.term.Term.{Term}
 use Rattle.qs_terms.proofs.SameTerm.{same_term-Decides}
-use Rattle.qs_dict.specs.Dict.{term_at, number_of}
+use Rattle.qs_dict.specs.Dict.{number_of}
 use Rattle.qs_dict.proofs.Numbers.{exact_number}
 use Rattle.qs_store.specs.Content.{Content, HasKnownTerms}
 use Rattle.qs_store.specs.declared.active.Active.{Active}
@@ -19,11 +18,11 @@ use Rattle.qs_patterns.specs.Basic.{Graph}
 use Rattle.qs_patterns.specs.declared.pattern.Slot.{Slot}
 use Rattle.qs_patterns.specs.declared.pattern.Slot.TheVariants as slot
 use Rattle.qs_patterns.specs.declared.pattern.TriplePattern.{TriplePattern}
-use Rattle.qs_eval.specs.Found.{agrees, may_match, bound_triple, extensions, found}
+use Rattle.qs_eval.specs.Found.{agrees, may_match, extensions, found}
 use Rattle.qs_eval.proofs.May.{cannot_match}
 use Rattle.qs_ops.specs.Graph.{IsSeen, active_graph}
-use Rattle.qs_ops.specs.Place.{slot_if, known_slot, three, known_pattern, pattern_of}
-use Rattle.qs_ops.specs.Steps.{extensions_of, step}
+use Rattle.qs_ops.specs.Place.{slot_if, known_slot, known_pattern, pattern_of}
+use Rattle.qs_ops.specs.Steps.{extensions_of}
 use Rattle.qs_ops.specs.Coming.{made}
 use Rattle.qs_ops.specs.declared.place.Seek.{Seek}
 use Rattle.qs_ops.proofs.Active.{active_only}

@@ -1,5 +1,5 @@
 -- The order of triple patterns is no part of what they match.
-use Rattle.std.proofs.Common.{◌≡◌, ℕ, zero, suc, ◌+◌, ◌≤◌, length, take, drop, append-nil, arith, Bool, true, false, not, ◌&&◌, ◌||◌, Some, None, Option, List, [], ◌∷◌, ◌++◌, map, refl, sym, ◌∙◌, ap, subst, inl, inr, ◌⊎◌}
+use Rattle.std.proofs.Common.{◌≡◌, ℕ, length, take, drop, append-nil, arith, Bool, true, false, not, ◌&&◌, ◌||◌, Some, None, Option, List, [], ◌∷◌, ◌++◌, map, refl, sym, ◌∙◌, ap, subst, inl, inr, ◌⊎◌}
 use Rattle.std.specs.List.{filter, flat_map, list_any, list_all}
 use Rattle.std.proofs.Math.Path.{fun_ext}
 use Rattle.std.proofs.lemmas.List.{drop_all, take_all}
@@ -7,7 +7,6 @@ use Rattle.std.proofs.lemmas.List.Sorted.{list_any-IsPermutation, IsPermutation-
 use Rattle.qs_terms.specs.Bag.{SameBag}
 use Rattle.qs_terms.specs.declared.term.Term.{Term}
 use Rattle.qs_solutions.specs.Solution.{Solution, unbound}
-use Rattle.qs_patterns.specs.declared.pattern.Slot.{Slot}
 use Rattle.qs_patterns.specs.declared.pattern.Slot.TheVariants as slot
 use Rattle.qs_patterns.specs.declared.pattern.TriplePattern.{TriplePattern}
 use Rattle.qs_patterns.specs.Basic.{Graph, instance, is_in, is_variable, puts_into, mentions, terms_of, all_maps, matches}
@@ -20,8 +19,8 @@ use Rattle.qs_eval.proofs.AndOr.{and_left, and_right}
 use Rattle.qs_eval.proofs.Below.{all_fit}
 use Rattle.qs_eval.proofs.FoundLaw.{found_is_matches}
 use Rattle.qs_ops.specs.Graph.{IsSeen, active_graph}
-use Rattle.qs_ops.specs.Place.{pattern_of, known_slot, known_pattern, three}
-use Rattle.qs_ops.specs.Steps.{extensions_of, step}
+use Rattle.qs_ops.specs.Place.{pattern_of, known_slot, known_pattern}
+use Rattle.qs_ops.specs.Steps.{extensions_of}
 use Rattle.qs_ops.specs.Coming.{made}
 use Rattle.qs_ops.specs.declared.place.Seek.{Seek}
 use Rattle.qs_ops.proofs.Active.{active_once}

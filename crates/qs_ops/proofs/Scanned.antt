@@ -1,9 +1,8 @@
 -- A scan that starts from the row at hand makes of it what the graph makes of it.
-use Rattle.std.proofs.Common.{◌≡◌, ℕ, zero, suc, Bool, true, false, cond, ◌==◌, ◌&&◌, Option, Some, None, List, [], ◌∷◌, ◌++◌, map, refl, sym, ◌∙◌, ap, subst, arith, slice_index, ⊎_elim}
+use Rattle.std.proofs.Common.{◌≡◌, ℕ, zero, suc, Bool, true, false, cond, ◌==◌, ◌&&◌, Option, Some, None, List, [], ◌∷◌, ◌++◌, map, refl, sym, ◌∙◌, ap, subst, slice_index, ⊎_elim}
 use Rattle.std.specs.Prelude.{option_to_list}
-use Rattle.std.specs.Bool.{IsTrue}
 use Rattle.std.specs.List.{Contains, filter, filter_map, flat_map, list_any}
-use Rattle.std.proofs.lemmas.Bool.Decides.{nat_tests, Decides-eqb}
+use Rattle.std.proofs.lemmas.Bool.Decides.{Decides-eqb}
 use Rattle.std.proofs.lemmas.List.Sorted.{IsPermutation-refl}
 use Rattle.std.proofs.lemmas.Option.{same_Some}
 use Rattle.qs_terms.specs.Bag.{Distinct, SameBag}
@@ -38,7 +37,7 @@ use Rattle.qs_eval.proofs.Same.{same_triple-Decides}
 use Rattle.qs_ops.specs.Graph.{IsSeen, active_graph}
 use Rattle.qs_ops.specs.Row.{Cells, cell_at, cell_term, row_solution}
 use Rattle.qs_ops.specs.Place.{term_slot, slot_of, three, pattern_of}
-use Rattle.qs_ops.specs.Steps.{used_cell, given, bound_by, bound_number, bound_entry, extensions_of, step}
+use Rattle.qs_ops.specs.Steps.{used_cell, given, bound_by, bound_entry, extensions_of, step}
 use Rattle.qs_ops.specs.declared.place.Place.{Place}
 use Rattle.qs_ops.specs.declared.place.Place.TheVariants.{Fixed, Variable}
 use Rattle.qs_ops.specs.declared.place.Seek.{Seek}

@@ -1,5 +1,5 @@
 -- The graph that is read (SPARQL 1.1 Query, 13.3 and 18.6).
-use Rattle.std.specs.Prelude.{ℕ, zero, suc, Bool, true, false, List, [], map, Option, None, Some}
+use Rattle.std.specs.Prelude.{zero, suc, Bool, true, false, List, [], map, Option, None, Some}
 use Rattle.std.specs.List.{filter}
 use Rattle.qs_terms.specs.Bag.{once}
 use Rattle.qs_terms.specs.Dataset.{Triple, triple_of, same_triple, graph_of}

@@ -1,6 +1,6 @@
 -- What the triples of a store make of solutions.
 -- (Inner: it serves proofs, and no promise of the product is read by it.)
-use Rattle.std.specs.Prelude.{◌≡◌, ℕ, Bool, true, false, List, [], ◌∷◌, Option, None, Some, slice_get, slice_index}
+use Rattle.std.specs.Prelude.{◌≡◌, ℕ, Bool, true, false, List, [], Option, None, Some, slice_get, slice_index}
 use Rattle.std.specs.List.{filter_map}
 use Rattle.qs_terms.specs.Bag.{SameBag}
 use Rattle.qs_terms.specs.declared.term.Term.{Term}

@@ -133,7 +133,7 @@ impl<'a, V: View> Matches<'a, V> {
             return Ok(Matches::nothing(alloc, view, active));
         }
         let mut seeks = seeks_of(alloc, view, triples)?;
-        reorder(seeks.as_mut_slice());
+        reorder(alloc, width, seeks.as_mut_slice())?;
         let matches = Matches::start(alloc, view, active, seeks, width)?;
         Ok(matches)
     }

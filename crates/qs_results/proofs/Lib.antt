@@ -1,3 +1,4 @@
-mod Bindings
 mod Floats
 mod Rows
+pub mod Sorted
+pub mod Tokens

@@ -5,7 +5,7 @@ ghost use Rattle.serde_json.specs.Written.{compact_text};
 ghost use Rattle.qs_results.specs.Json.{has_json, json_of};
 ghost use Rattle.qs_answer.specs.declared.answer.Answer.TheVariants.{Solutions, Truth};
 
-use crate::solution::{names_text, push_rows};
+use crate::solution::{names_text, with_rows};
 use qs_answer::Answer;
 use qs_solutions::Row;
 use qs_terms::Text;
@@ -28,13 +28,16 @@ fn solutions_text(alloc: Global, vars: &[Text], rows: &[Row]) -> Result<String, 
     let mut out = String::from_str(alloc, "{\"head\":{\"vars\":")?;
     out.push_str(names.as_str())?;
     out.push_str("},\"results\":{\"bindings\":[")?;
-    push_rows(alloc, vars, rows, &mut out)?;
-    out.push_str("}}")?;
-    Ok(out)
+    let bytes = with_rows(alloc, vars, rows, out.into_bytes())?;
+    let Ok(mut text) = String::from_utf8(bytes) else {
+        return Err(AllocError);
+    };
+    text.push_str("}}")?;
+    Ok(text)
 }
 
 /// The answer as JSON with no white space. The names and the solutions keep their order, and the members of each object ascend by
-/// their bytes. Beside the text itself, memory is taken for one solution at a time. It is asked of solutions and of a truth alone.
+/// their bytes. Beside the text itself, memory is taken for the names of the columns. It is asked of solutions and of a truth alone.
 pub fn json(alloc: Global, answer: &Answer) -> Result<String, AllocError>
     requires { has_json answer.now ≡ true }
     ensures { IfOk result (λ s. string_bytes s ≡ compact_text (json_of answer.now)) }

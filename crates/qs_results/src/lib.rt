@@ -5,6 +5,7 @@
 #![tactic(auto)]
 
 mod answer;
+mod columns;
 mod line;
 mod solution;
 mod term;

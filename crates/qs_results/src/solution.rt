@@ -1,15 +1,20 @@
-//! Solutions as texts of JSON (SPARQL 1.1 Query Results JSON Format, 3.2). One row at a time is a JSON value; the rest is text.
+//! Solutions as texts of JSON (SPARQL 1.1 Query Results JSON Format, 3.2). The tokens of a row are written one
+//! by one; the rest is text.
 
-ghost use Rattle.std.specs.Prelude.{◌≡◌, ◌++◌, false, IfOk, OnOk, map, string_bytes};
-ghost use Rattle.std.specs.Option.{option_copied};
-ghost use Rattle.serde_json.specs.View.{view, items_of, members_view};
-ghost use Rattle.serde_json.specs.Written.{comma_if, compact_text, items_text};
-ghost use Rattle.qs_results.specs.Json.{names_data, with_binding, binding_data};
+ghost use Rattle.std.specs.Prelude.{◌≡◌, ◌++◌, false, map, IfOk, IsTrue, string_bytes};
+ghost use Rattle.std.specs.Option.{ForSome};
+ghost use Rattle.serde_json.specs.Data.{object};
+ghost use Rattle.serde_json.specs.View.{view, items_of};
+ghost use Rattle.serde_json.specs.Written.{compact_text, items_text};
+ghost use Rattle.qs_results.specs.Columns.{members_of, AreColumns};
+ghost use Rattle.qs_results.specs.Json.{names_data, binding_data};
 
-use crate::term::term_value;
+use crate::columns::{bound_columns, columns_of};
+use crate::term::put_cell;
+use json::Writer;
 use qs_solutions::Row;
-use qs_terms::{Term, Text};
-use serde_json::{Map, Value, put};
+use qs_terms::Text;
+use serde_json::Value;
 use std::alloc::{AllocError, Global};
 
 /// The names as a JSON array.
@@ -33,77 +38,79 @@ pub(crate) fn names_text(alloc: Global, vars: &[Text]) -> Result<String, AllocEr
     names.to_string(alloc)
 }
 
-/// Puts in what the variable is bound to, if it is bound.
-fn put_binding(
+/// The row's text behind what was written before.
+fn with_row(
     alloc: Global,
-    name: &str,
-    term: Option<&Term>,
-    members: &mut Map<String, Value>,
-) -> Result<(), AllocError>
-    ensures { OnOk result (members_view members.new.entries
-        ≡ with_binding name.now (option_copied term.entry) (members_view members.old.entries)) }
+    columns: &[(Text, usize)],
+    row: &Row,
+    before: Vec<u8>,
+) -> Result<Vec<u8>, AllocError>
+    ensures { IfOk result (λ out. out.items ≡ before.items ++ compact_text (object (members_of columns.now row.now))) }
 {
-    match term {
-        Some(term) => {
-            let value = term_value(alloc, term)?;
-            put(members, alloc, name, value)
-        }
-        None => Ok(()),
+    let mut out = Writer::new(before);
+    out.begin_object()?;
+    for column in columns {
+        put_cell(alloc, &mut out, column.0.as_str(), row.term(column.1))?;
     }
+    out.end_object()?;
+    Ok(out.into_inner())
 }
 
-/// The variables that the row binds, with their terms, as a JSON object.
-fn binding_value(alloc: Global, vars: &[Text], row: &Row) -> Result<Value, AllocError>
-    ensures { IfOk result (λ v. view v ≡ binding_data vars.now row.now) }
-{
-    let mut members = Map::new(alloc);
-    for (at, name) in vars.iter().enumerate() {
-        put_binding(alloc, name.as_str(), row.term(at), &mut members)?;
-    }
-    Ok(Value::Object(members))
-}
-
-/// The text of the row.
-#[tactic(auto, using(crate::proofs::Floats::binding_without_float))]
-fn binding_text(alloc: Global, vars: &[Text], row: &Row) -> Result<String, AllocError>
-    ensures { IfOk result (λ s. string_bytes s ≡ compact_text (binding_data vars.now row.now)) }
-{
-    let binding = binding_value(alloc, vars, row)?;
-    binding.to_string(alloc)
-}
-
-/// Puts the row's text at the end, behind a comma if it is a later one.
-fn push_row(
+/// The same, by the columns of all rows, or where there are none such by those of the row.
+fn with_next(
     alloc: Global,
     vars: &[Text],
+    columns: &Option<Vec<(Text, usize)>>,
     row: &Row,
-    later: bool,
-    out: &mut String,
-) -> Result<(), AllocError>
-    ensures { OnOk result (string_bytes out.new
-        ≡ string_bytes out.old ++ (comma_if later ++ compact_text (binding_data vars.now row.now))) }
+    before: Vec<u8>,
+) -> Result<Vec<u8>, AllocError>
+    requires { ForSome columns.now (λ all. AreColumns vars.now all.items) }
+    ensures { IfOk result (λ out. out.items ≡ before.items ++ compact_text (binding_data vars.now row.now)) }
 {
-    let text = binding_text(alloc, vars, row)?;
-    if later {
-        out.push_str(",")?;
+    match columns {
+        Some(columns) => with_row(alloc, columns.as_slice(), row, before),
+        None => {
+            let columns = bound_columns(alloc, vars, row)?;
+            with_row(alloc, columns.as_slice(), row, before)
+        }
     }
-    out.push_str(text.as_str())
 }
 
-/// Puts the rows' texts at the end, with commas between them and a closing bracket behind them.
-pub(crate) fn push_rows(
+// The texts of the rows, by the columns of all of them where there are such.
+fn with_each(
+    alloc: Global,
+    vars: &[Text],
+    columns: &Option<Vec<(Text, usize)>>,
+    rows: &[Row],
+    before: Vec<u8>,
+) -> Result<Vec<u8>, AllocError>
+    requires { ForSome columns.now (λ all. AreColumns vars.now all.items) }
+    ensures { IfOk result (λ out. out.items
+        ≡ before.items ++ items_text false (items_of (map (binding_data vars.now) rows.now))) }
+{
+    let mut out = before;
+    let mut later = false;
+    for row in rows {
+        if later {
+            out.push(b',')?;
+        }
+        out = with_next(alloc, vars, columns, row, out)?;
+        later = true;
+    }
+    out.push(b']')?;
+    Ok(out)
+}
+
+/// The rows' texts behind what was written before, with commas between them and a closing bracket behind them.
+pub(crate) fn with_rows(
     alloc: Global,
     vars: &[Text],
     rows: &[Row],
-    out: &mut String,
-) -> Result<(), AllocError>
-    ensures { OnOk result (string_bytes out.new
-        ≡ string_bytes out.old ++ items_text false (items_of (map (binding_data vars.now) rows.now))) }
+    before: Vec<u8>,
+) -> Result<Vec<u8>, AllocError>
+    ensures { IfOk result (λ out. out.items
+        ≡ before.items ++ items_text false (items_of (map (binding_data vars.now) rows.now))) }
 {
-    let mut later = false;
-    for row in rows {
-        push_row(alloc, vars, row, later, out)?;
-        later = true;
-    }
-    out.push_str("]")
+    let columns = columns_of(alloc, vars)?;
+    with_each(alloc, vars, &columns, rows, before)
 }

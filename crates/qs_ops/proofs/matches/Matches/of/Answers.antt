@@ -1,10 +1,9 @@
-use Rattle.std.proofs.Common.{rules, sym, ◌∙◌, subst, ap, List, map, ◌≡◌}
+use Rattle.std.proofs.Common.{rules, sym, ◌∙◌, subst, List}
 use Rattle.qs_terms.specs.Bag.{SameBag}
 use Rattle.qs_solutions.specs.Solution.{Solution}
 use Rattle.qs_patterns.specs.Basic.{matches}
 use Rattle.qs_eval.proofs.Past.{none_past}
 use Rattle.qs_ops.specs.Graph.{active_graph}
-use Rattle.qs_ops.specs.Place.{pattern_of}
 use Rattle.qs_ops.specs.declared.place.Seek.{Seek}
 use Rattle.qs_ops.proofs.Orders.{searched, written_back}
 use Rattle.qs_ops.proofs.matches.Matches.of.Goals as goal
