@@ -1,4 +1,5 @@
 pub mod Each
 pub mod Fitted
+pub mod Enough
 pub mod Names
 pub mod SeenQuads

@@ -5,6 +5,7 @@ ghost use Rattle.qs_terms.specs.Bag.{SameBag};
 ghost use Rattle.qs_patterns.specs.Basic.{basic, matches};
 ghost use Rattle.qs_ops.specs.Graph.{active_graph};
 ghost use Rattle.qs_ops.specs.Row.{front};
+ghost use Rattle.qs_plan.specs.Some.{is_enough, AreSome};
 
 use qs_ops::{Matches, solution};
 use qs_patterns::{BasicPattern, TriplePattern};
@@ -13,18 +14,31 @@ use qs_store::{Active, View};
 use qs_view_paths::with_paths;
 use std::alloc::{AllocError, Global};
 
-/// The solutions of the matches that are left, with the first variables alone.
+fn is_enough(most: Option<u64>, count: usize) -> bool
+    ensures { result ≡ is_enough most count }
+{
+    match most {
+        None => false,
+        Some(most) => most <= count as u64,
+    }
+}
+
+/// The solutions of the matches that are left, with the first variables alone: all, or as many as suffice.
 fn rows_of<V: View>(
     alloc: Global,
     view: &V,
     width: usize,
     matches: &mut Matches<'_, V>,
+    most: Option<u64>,
 ) -> Result<Vec<Row>, AllocError>
     requires { matches.old.known ≡ (V.content view.now).known }
-    ensures { IfOk result (λ rows. SameBag rows.items (map (front width width) matches.old.rows)) }
+    ensures { IfOk result (λ rows. AreSome most rows.items (map (front width width) matches.old.rows)) }
 {
     let mut rows = Vec::new(alloc);
-    loop {
+    'search: loop {
+        if is_enough(most, rows.len()) {
+            return Ok(rows);
+        }
         match matches.next(alloc)? {
             None => return Ok(rows),
             Some(row) => {
@@ -36,7 +50,8 @@ fn rows_of<V: View>(
     }
 }
 
-/// The maps of `whole` variables that put the triple patterns into the graph, with the first `width` variables alone.
+/// The maps of `whole` variables that put the triple patterns into the graph, with the first `width` variables alone: all, or as many as
+/// suffice.
 fn found<V: View>(
     alloc: Global,
     width: usize,
@@ -44,12 +59,13 @@ fn found<V: View>(
     triples: &[TriplePattern],
     view: &V,
     active: Active,
+    most: Option<u64>,
 ) -> Result<Vec<Row>, AllocError>
     requires { width ≤ whole }
-    ensures { IfOk result (λ rows. SameBag rows.items (map (take width) (matches whole triples.now (active_graph (V.content view.now) (V.default_seen view.now) active)))) }
+    ensures { IfOk result (λ rows. AreSome most rows.items (map (take width) (matches whole triples.now (active_graph (V.content view.now) (V.default_seen view.now) active)))) }
 {
     let mut matches = Matches::of(alloc, view, active, whole, triples)?;
-    let rows = rows_of(alloc, view, width, &mut matches)?;
+    let rows = rows_of(alloc, view, width, &mut matches, most)?;
     Ok(rows)
 }
 
@@ -81,9 +97,38 @@ fn solutions_with_paths<V: View>(
         pattern.triples.as_slice(),
         view,
         active,
+        None,
     )?;
     let mut rows = with_paths(alloc, whole, pattern.paths.as_slice(), view, active, rows)?;
     hide(&mut rows, width);
+    Ok(rows)
+}
+
+/// Some of the solutions of a basic graph pattern: all, or as many as suffice. Where it has paths, all are found.
+pub(crate) fn some_of_basic<V: View>(
+    alloc: Global,
+    width: usize,
+    pattern: &BasicPattern,
+    view: &V,
+    active: Active,
+    most: Option<u64>,
+) -> Result<Vec<Row>, AllocError>
+    ensures { IfOk result (λ rows. AreSome most rows.items (basic width pattern.now (active_graph (V.content view.now) (V.default_seen view.now) active))) }
+{
+    let whole = width.checked_add(pattern.hidden).ok_or(AllocError)?;
+    if !pattern.paths.is_empty() {
+        let rows = solutions_with_paths(alloc, width, whole, pattern, view, active)?;
+        return Ok(rows);
+    }
+    let rows = found(
+        alloc,
+        width,
+        whole,
+        pattern.triples.as_slice(),
+        view,
+        active,
+        most,
+    )?;
     Ok(rows)
 }
 
@@ -97,17 +142,6 @@ pub(crate) fn solutions_of_basic<V: View>(
 ) -> Result<Vec<Row>, AllocError>
     ensures { IfOk result (λ rows. SameBag rows.items (basic width pattern.now (active_graph (V.content view.now) (V.default_seen view.now) active))) }
 {
-    let whole = width.checked_add(pattern.hidden).ok_or(AllocError)?;
-    if !pattern.paths.is_empty() {
-        return solutions_with_paths(alloc, width, whole, pattern, view, active);
-    }
-    let rows = found(
-        alloc,
-        width,
-        whole,
-        pattern.triples.as_slice(),
-        view,
-        active,
-    )?;
+    let rows = some_of_basic(alloc, width, pattern, view, active, None)?;
     Ok(rows)
 }

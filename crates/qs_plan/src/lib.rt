@@ -8,4 +8,4 @@ mod graphs;
 mod seen;
 
 pub use evaluate::solutions;
-pub use seen::solutions_seen;
+pub use seen::{solutions_seen, some_solutions_seen};

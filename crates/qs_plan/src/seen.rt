@@ -7,7 +7,9 @@ ghost use Rattle.qs_terms.specs.Dataset.{graph_of};
 ghost use Rattle.qs_patterns.specs.Eval.{eval};
 ghost use Rattle.qs_ops.specs.Graph.{active_graph};
 ghost use Rattle.qs_plan.specs.Seen.{seen_of};
+ghost use Rattle.qs_plan.specs.Some.{AreSome};
 
+use crate::basic::some_of_basic;
 use crate::evaluate::solutions;
 use crate::graphs::graph_named;
 use qs_patterns::Pattern;
@@ -45,4 +47,28 @@ pub fn solutions_seen<V: View>(
     let active = active_of(view, name);
     let rows = solutions(alloc, width, pattern, view, active)?;
     Ok(rows)
+}
+
+/// Some of these solutions: as many as suffice, or all. A basic graph pattern without paths is searched until there are so many.
+pub fn some_solutions_seen<V: View>(
+    alloc: Global,
+    width: usize,
+    pattern: &Pattern,
+    view: &V,
+    name: Option<&Term>,
+    most: Option<u64>,
+) -> Result<Vec<Row>, AllocError>
+    ensures { IfOk result (λ rows. AreSome most rows.items (eval width (seen_of (V.content view.now) (V.default_seen view.now)) pattern.now (graph_of (seen_of (V.content view.now) (V.default_seen view.now)) (option_copied name.entry)))) }
+{
+    match pattern {
+        Pattern::Basic(basic) => {
+            let active = active_of(view, name);
+            let rows = some_of_basic(alloc, width, basic, view, active, most)?;
+            Ok(rows)
+        }
+        _ => {
+            let rows = solutions_seen(alloc, width, pattern, view, name)?;
+            Ok(rows)
+        }
+    }
 }

@@ -5,3 +5,4 @@ pub mod Lengths
 pub mod Once
 pub mod Ordered
 pub mod Rows
+pub mod Enough

@@ -113,7 +113,7 @@ has_at [] (y ∷ ys) h = absurd (omega arith)
 has_at (x ∷ xs) [] h = absurd (omega arith)
 has_at (x ∷ xs) (y ∷ ys) h = refl
 
-counted : (xs : List Solution) (n : ℕ) (b : Bool) → length xs ≡ n → (n == 0) ≡ b → not b ≡ has_solution xs
+pub counted : (xs : List Solution) (n : ℕ) (b : Bool) → length xs ≡ n → (n == 0) ≡ b → not b ≡ has_solution xs
 counted [] n b e is = ap not (sym is ∙ ap (λ k. k == 0) (sym e))
 counted (x ∷ xs) n true e is = absurd (let z : n ≡ 0 = eqb-true n 0 is in omega arith)
 counted (x ∷ xs) n false e is = refl

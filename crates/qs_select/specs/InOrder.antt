@@ -1,6 +1,6 @@
 -- The sequence of solutions that stand in some order already.
 -- (Inner: it serves proofs, and no promise of the product is read by it.)
-use Rattle.std.specs.Prelude.{◌≡◌, ◌⊎◌, ◌<◌, ◌≤◌, ℕ, nat_lt, List, length, Option, Ok, Err, if◌then◌else◌}
+use Rattle.std.specs.Prelude.{◌≡◌, ◌⊎◌, ◌<◌, ◌≤◌, ℕ, ◌+◌, false, nat_lt, List, [], length, Option, Some, None, Ok, Err, if◌then◌else◌}
 use Rattle.qs_terms.specs.Bag.{SameBag}
 use Rattle.qs_terms.specs.Outcome.{Outcome, and_then}
 use Rattle.qs_terms.specs.declared.fault.QFault.TheVariants.{TooManyRows}
@@ -27,6 +27,15 @@ Suffices slice count = (all : List Solution) → sliced slice (limited count all
 -- and so many have the same sequence
 abbrev pub SufficesToSelect : Selection → Option ℕ → Type 0
 SufficesToSelect asked count = (all : List Solution) → sliced asked.slice (listed_rows asked (limited count all)) ≡ sliced asked.slice (listed_rows asked all)
+
+-- so many of the solutions, in any order, suffice for a part: where there is a limit, those up to its end; else one more than max_rows
+abbrev pub ByLimit : Option ℕ → ℕ → ℕ → ℕ → Type 0
+ByLimit None offset max_rows most = offset + max_rows < most
+ByLimit (Some limit) offset max_rows most = offset + limit ≤ most
+
+-- and for a SELECT, where nothing is put in order and duplicates are kept
+abbrev pub AreEnough : Selection → ℕ → ℕ → Type 0
+AreEnough asked max_rows most = (asked.order ≡ []) × (asked.is_distinct ≡ false) × ByLimit asked.slice.limit asked.slice.offset max_rows most
 
 -- the rows of the sequence of the solutions in this order, unless they are more than max_rows
 abbrev pub IsRowsOf : Selection → ℕ → List Solution → Outcome (List Solution) → Type 0

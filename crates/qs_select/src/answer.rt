@@ -8,6 +8,7 @@ ghost use Rattle.qs_terms.specs.Dataset.{graph_of};
 ghost use Rattle.qs_terms.specs.Outcome.{OneOrWantOfMemory};
 ghost use Rattle.qs_terms.specs.Statement.{same_statement};
 ghost use Rattle.qs_plan.specs.Seen.{seen, seen_of};
+ghost use Rattle.qs_plan.specs.Some.{AreSome};
 ghost use Rattle.qs_select.specs.InOrder as in_order;
 ghost use Rattle.qs_select.specs.Outcome.{IsSelected, IsBuilt, IsConstructed, IsAsked, IsAllSolutions, IsOutcomeOfQuery};
 ghost use Rattle.qs_select.specs.Sequence.{dataset_of, whole};
@@ -15,11 +16,11 @@ ghost use Rattle.qs_select.specs.Sequence.{dataset_of, whole};
 use crate::construction::Construction;
 use crate::request::{Request, request_of};
 use crate::selection::Selection;
-use crate::sequence::{listed_rows, needed, needed_to_select, projected, put_in_order, sliced};
+use crate::sequence::{enough, listed_rows, needed, needed_to_select, projected, put_in_order, sliced};
 use qs_algebra::NamedPattern;
 use qs_answer::Answer;
 use qs_ast::query::Query;
-use qs_plan::solutions_seen;
+use qs_plan::{solutions_seen, some_solutions_seen};
 use qs_solutions::Row;
 use qs_store::View;
 use qs_template::{each_once, instances};
@@ -36,6 +37,25 @@ fn all_solutions<V: View>(
     ensures { IfOk result (λ rows. let set = seen_of (V.content view.now) (V.default_seen view.now) in SameBag rows.items (whole pattern.now set (graph_of set (option_copied active.entry)))) }
 {
     solutions_seen(alloc, pattern.names.len(), &pattern.pattern, view, active)
+}
+
+fn some_solutions<V: View>(
+    alloc: Global,
+    pattern: &NamedPattern,
+    view: &V,
+    active: Option<&Term>,
+    most: Option<u64>,
+) -> Result<Vec<Row>, AllocError>
+    ensures { IfOk result (λ rows. let set = seen_of (V.content view.now) (V.default_seen view.now) in AreSome most rows.items (whole pattern.now set (graph_of set (option_copied active.entry)))) }
+{
+    some_solutions_seen(
+        alloc,
+        pattern.names.len(),
+        &pattern.pattern,
+        view,
+        active,
+        most,
+    )
 }
 
 // the sequence of the solutions in this order
@@ -65,7 +85,8 @@ fn sequence<V: View>(
 ) -> Result<Items<Row>, QFault>
     ensures { let set = seen_of (V.content view.now) (V.default_seen view.now) in OneOrWantOfMemory (in_order.IsRows asked.now (whole asked.now.pattern set (graph_of set (option_copied active.entry))) max_rows) result }
 {
-    let all = all_solutions(alloc, &asked.pattern, view, active)?;
+    let most = enough(asked, max_rows);
+    let all = some_solutions(alloc, &asked.pattern, view, active, most)?;
     let count = needed_to_select(asked);
     let front = put_in_order(alloc, asked.order.as_slice(), all.as_slice(), count)?;
     rows_of(alloc, asked, front, max_rows)
@@ -141,7 +162,7 @@ fn truth<V: View>(
 ) -> Result<Answer, QFault>
     ensures { let set = seen_of (V.content view.now) (V.default_seen view.now) in OneOrWantOfMemory (IsAsked (whole pattern.now set (graph_of set (option_copied active.entry)))) result }
 {
-    let all = all_solutions(alloc, pattern, view, active)?;
+    let all = some_solutions(alloc, pattern, view, active, Some(1))?;
     Ok(Answer::Truth(!all.is_empty()))
 }
 

@@ -1,10 +1,10 @@
 //! The sequence of a SELECT: its solutions in order, projected, without duplicates where that is asked for, and sliced (SPARQL 1.1
 //! Query, 18.2.5).
 
-ghost use Rattle.std.specs.Prelude.{◌≡◌, length, map, take, drop, min, IfOk};
+ghost use Rattle.std.specs.Prelude.{◌≡◌, length, map, take, drop, min, IfOk, IfSome};
 ghost use Rattle.qs_solutions.specs.Solution.{projected};
 ghost use Rattle.qs_eval.specs.Lent.{lent};
-ghost use Rattle.qs_select.specs.InOrder.{IsFront, Suffices, SufficesToSelect};
+ghost use Rattle.qs_select.specs.InOrder.{AreEnough, IsFront, Suffices, SufficesToSelect};
 ghost use Rattle.qs_select.specs.Sequence as spec;
 
 use crate::distinct::firsts;
@@ -32,6 +32,20 @@ pub fn needed_to_select(asked: &Selection) -> Option<u64>
         return None;
     }
     needed(asked.slice)
+}
+
+/// How many of the solutions suffice for the SELECT in whichever order they are found, where not all are needed. Without a LIMIT it is one
+/// more than are allowed.
+pub fn enough(asked: &Selection, max_rows: u64) -> Option<u64>
+    ensures { IfSome result (AreEnough asked.now max_rows) }
+{
+    if asked.is_distinct || !asked.order.is_empty() {
+        return None;
+    }
+    match asked.slice.limit {
+        Some(limit) => asked.slice.offset.checked_add(limit),
+        None => asked.slice.offset.checked_add(max_rows)?.checked_add(1),
+    }
 }
 
 /// The rows in an order of the conditions: all, or so many of the first ones.
