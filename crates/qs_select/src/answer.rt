@@ -16,7 +16,9 @@ ghost use Rattle.qs_select.specs.Sequence.{dataset_of, whole};
 use crate::construction::Construction;
 use crate::request::{Request, request_of};
 use crate::selection::Selection;
-use crate::sequence::{enough, listed_rows, needed, needed_to_select, projected, put_in_order, sliced};
+use crate::sequence::{
+    enough, listed_rows, needed, needed_to_select, projected, put_in_order, sliced,
+};
 use qs_algebra::NamedPattern;
 use qs_answer::Answer;
 use qs_ast::query::Query;
