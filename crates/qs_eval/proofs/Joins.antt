@@ -11,6 +11,7 @@ use Rattle.qs_terms.specs.declared.term.Term.{Term}
 use Rattle.qs_solutions.specs.Solution.{Solution, both_bound, compatible, compatible_terms, first_bound, merge, share}
 use Rattle.qs_eval.specs.Keyed.{is_short}
 use Rattle.qs_solutions.specs.Operators.{merges, or_alone, join, left_join, excludes, minus}
+use Rattle.qs_expr.specs.declared.expr.Expr.{Expr}
 use Rattle.qs_patterns.specs.Eval.{kept}
 use Rattle.qs_eval.proofs.Optional.{one_more}
 
@@ -27,6 +28,13 @@ all_kept : (rows : List Solution) → kept [] rows ≡ rows
 all_kept [] = refl
 all_kept (m ∷ rows) = ap (λ l. m ∷ l) (all_kept rows)
 
+-- what one row makes of the right
+pub joined_row : (a : Solution) (found right : List Solution) → filter (compatible a) found ≡ filter (compatible a) right → kept [] (merges found a) ≡ merges right a
+joined_row a found right h = all_kept (merges found a) ∙ merges_of a found right h
+
+pub optional_row : (conditions : List Expr) (a : Solution) (found right : List Solution) → filter (compatible a) found ≡ filter (compatible a) right → or_alone a (kept conditions (merges found a)) ≡ or_alone a (kept conditions (merges right a))
+optional_row conditions a found right h = ap (λ l. or_alone a (kept conditions l)) (merges_of a found right h)
+
 pub join_more : (left right found : List Solution) (i : ℕ) (a : Solution) → i < length left → a ≡ get_or left i a → filter (compatible a) found ≡ filter (compatible a) right
     → join (take (i + 1) left) right ≡ join (take i left) right ++ kept [] (merges found a)
 join_more left right found i a lt is h =
@@ -42,8 +50,8 @@ any_of_kept a (r ∷ rows) = at (compatible a r) refl (any_of_kept a rows)
     at true e k = ap (λ c. share a r || c) k
     at false e k = k
 
-excluded_by : (a : Solution) (found right : List Solution) → filter (compatible a) found ≡ filter (compatible a) right → list_any (excludes a) found ≡ list_any (excludes a) right
-excluded_by a found right h = any_of_kept a found ∙ (ap (list_any (share a)) h ∙ sym (any_of_kept a right))
+pub excluded_row : (a : Solution) (found right : List Solution) → filter (compatible a) found ≡ filter (compatible a) right → list_any (excludes a) found ≡ list_any (excludes a) right
+excluded_row a found right h = any_of_kept a found ∙ (ap (list_any (share a)) h ∙ sym (any_of_kept a right))
 
 next_left : (left right : List Solution) (i : ℕ) (a : Solution) → i < length left → a ≡ get_or left i a → minus (take (i + 1) left) right ≡ minus (take i left) right ++ cond (not (list_any (excludes a) right)) (a ∷ []) []
 next_left left right i a lt is =
@@ -52,12 +60,12 @@ next_left left right i a lt is =
 pub kept_more : (left right found : List Solution) (i : ℕ) (a : Solution) (b : Bool) → i < length left → a ≡ get_or left i a → filter (compatible a) found ≡ filter (compatible a) right → b ≡ list_any (excludes a) found → b ≡ false
     → minus (take (i + 1) left) right ≡ minus (take i left) right ++ a ∷ []
 kept_more left right found i a b lt is h e f =
-    next_left left right i a lt is ∙ ap (λ c. minus (take i left) right ++ cond (not c) (a ∷ []) []) (sym (excluded_by a found right h) ∙ (sym e ∙ f))
+    next_left left right i a lt is ∙ ap (λ c. minus (take i left) right ++ cond (not c) (a ∷ []) []) (sym (excluded_row a found right h) ∙ (sym e ∙ f))
 
 pub excluded_more : (left right found : List Solution) (i : ℕ) (a : Solution) (b : Bool) → i < length left → a ≡ get_or left i a → filter (compatible a) found ≡ filter (compatible a) right → b ≡ list_any (excludes a) found → b ≡ true
     → minus (take (i + 1) left) right ≡ minus (take i left) right
 excluded_more left right found i a b lt is h e f =
-    next_left left right i a lt is ∙ (ap (λ c. minus (take i left) right ++ cond (not c) (a ∷ []) []) (sym (excluded_by a found right h) ∙ (sym e ∙ f)) ∙ append-nil (minus (take i left) right))
+    next_left left right i a lt is ∙ (ap (λ c. minus (take i left) right ++ cond (not c) (a ∷ []) []) (sym (excluded_row a found right h) ∙ (sym e ∙ f)) ∙ append-nil (minus (take i left) right))
 
 -- a row that takes another away
 both_true : (a b : Bool) → a ≡ true → b ≡ true → (a && b) ≡ true

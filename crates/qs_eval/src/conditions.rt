@@ -25,7 +25,7 @@ fn all_hold(alloc: Global, conditions: &[Expr], row: &Row) -> Result<bool, Alloc
 }
 
 /// Puts the row behind the others, if all conditions hold in it.
-fn put_kept(
+pub fn put_kept(
     alloc: Global,
     row: Row,
     conditions: &[Expr],
@@ -90,6 +90,34 @@ fn put_optional(
         rows.push(row)?;
     }
     Ok(())
+}
+
+/// Puts the row's merges with the rows of a right side behind the others (SPARQL 1.1 Query, 18.5: Join).
+#[tactic(auto, using(crate::proofs::Joins::joined_row))]
+pub fn put_joined(
+    alloc: Global,
+    row: &Row,
+    right: &Keyed<'_>,
+    rows: &mut Vec<Row>,
+) -> Result<(), AllocError>
+    ensures { OnOk result (rows.new.items ≡ rows.old.items ++ merges right.now row.now) }
+{
+    put_merges(alloc, row, right.candidates(row), &[], rows)
+}
+
+/// Puts the row's merges with the rows of a right side behind the others, as far as all conditions hold in them, or the row alone where
+/// there are none (SPARQL 1.1 Query, 18.5: LeftJoin).
+#[tactic(auto, using(crate::proofs::Joins::optional_row))]
+pub fn put_left_joined(
+    alloc: Global,
+    row: &Row,
+    right: &Keyed<'_>,
+    conditions: &[Expr],
+    rows: &mut Vec<Row>,
+) -> Result<(), AllocError>
+    ensures { OnOk result (rows.new.items ≡ rows.old.items ++ or_alone row.now (spec.kept conditions.now (merges right.now row.now))) }
+{
+    put_optional(alloc, row, right.candidates(row), conditions, rows)
 }
 
 /// Each row of the left merged with each row of the right that it is compatible with, as far as all conditions hold in the merged one;
@@ -165,6 +193,14 @@ fn is_excluded(row: &Row, right: &[&Row]) -> bool
     false
 }
 
+/// Whether a row of a right side is compatible with the row and shares a bound variable with it (SPARQL 1.1 Query, 18.5: Minus).
+#[tactic(auto, using(crate::proofs::Joins::excluded_row))]
+pub fn takes_away(right: &Keyed<'_>, row: &Row) -> bool
+    ensures { result ≡ list_any (excludes row.now) right.now }
+{
+    is_excluded(row, right.candidates(row))
+}
+
 /// The rows of the left that no row of the right is compatible with and shares a bound variable with (SPARQL 1.1 Query, 18.5: Minus). It
 /// takes time as `left_joined` does.
 #[tactic(auto, using(crate::proofs::Joins::kept_more, crate::proofs::Joins::excluded_more))]
@@ -183,7 +219,12 @@ pub fn without(alloc: Global, left: &[Row], right: &[Row]) -> Result<Vec<Row>, A
 }
 
 /// Binds the variable to the value of the expression in the row; where there is an error, the row stays as it is.
-fn extend(alloc: Global, variable: usize, expr: &Expr, row: &mut Row) -> Result<(), AllocError>
+pub fn bind_value(
+    alloc: Global,
+    variable: usize,
+    expr: &Expr,
+    row: &mut Row,
+) -> Result<(), AllocError>
     ensures { OnOk result (row.new ≡ spec.extended variable expr.now row.old) }
 {
     match eval(alloc, expr, &*row) {
@@ -205,7 +246,7 @@ fn extend_all(
     ensures { OnOk result (rows.new ≡ map (spec.extended variable expr.now) rows.old) }
 {
     for row in rows.iter_mut() {
-        extend(alloc, variable, expr, row)?;
+        bind_value(alloc, variable, expr, row)?;
     }
     Ok(())
 }

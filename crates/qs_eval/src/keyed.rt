@@ -17,7 +17,7 @@ use std::marker::Model;
 /// Rows that are lent. Where a variable is bound in all of them, they are found by its terms, so that a row to join is held against those
 /// alone that may be compatible.
 #[derive(Drop)]
-pub(crate) struct Keyed<'a> {
+pub struct Keyed<'a> {
     all: Vec<&'a Row>,
     variable: Option<usize>,
     by_term: BTreeMap<Term, Vec<&'a Row>>,
@@ -103,21 +103,30 @@ fn is_bound_in_all(rows: &[Row], variable: usize) -> bool
     rows.iter().all(|row| row.term(variable).is_some())
 }
 
+/// A variable that is bound in all rows of the right, and in this one. There is none where the right has few rows.
+fn variable_like(like: &Row, right: &[Row]) -> Option<usize>
+    ensures { IsBoundIn result right.now }
+{
+    if right.len() < 8 {
+        return None;
+    }
+    for variable in 0..like.len() {
+        if like.term(variable).is_some() && is_bound_in_all(right, variable) {
+            return Some(variable);
+        }
+    }
+    None
+}
+
 /// A variable that is bound in all rows of the right, and in the first of the left. There is none where few pairs of rows are to be held
 /// against each other.
 fn variable_of(left: &[Row], right: &[Row]) -> Option<usize>
     ensures { IsBoundIn result right.now }
 {
-    if left.len() < 2 || right.len() < 8 {
+    if left.len() < 2 {
         return None;
     }
-    let first = &left[0];
-    for variable in 0..first.len() {
-        if first.term(variable).is_some() && is_bound_in_all(right, variable) {
-            return Some(variable);
-        }
-    }
-    None
+    variable_like(&left[0], right)
 }
 
 fn none_of<'e, 'a>(rows: &'e [&'a Row]) -> &'e [&'a Row]
@@ -141,16 +150,12 @@ fn standing<'e, 'a>(
 }
 
 impl<'a> Keyed<'a> {
-    /// The rows of the right, to which those of the left are joined.
-    pub(crate) fn new(
-        alloc: Global,
-        left: &[Row],
-        right: &'a [Row],
-    ) -> Result<Keyed<'a>, AllocError>
+    /// The rows, found by the terms of this variable, if one is given.
+    fn by(alloc: Global, variable: Option<usize>, right: &'a [Row]) -> Result<Keyed<'a>, AllocError>
+        requires { IsBoundIn variable right.now }
         ensures { IfOk result (λ k. k ≡ right.now) }
     {
         let all = lend(alloc, right)?;
-        let variable = variable_of(left, right);
         let by_term = match variable {
             Some(variable) => keyed_by(alloc, variable, all.as_slice())?,
             None => BTreeMap::new(alloc),
@@ -160,6 +165,31 @@ impl<'a> Keyed<'a> {
             variable,
             by_term,
         })
+    }
+
+    /// The rows of the right, to which those of the left are joined.
+    pub(crate) fn new(
+        alloc: Global,
+        left: &[Row],
+        right: &'a [Row],
+    ) -> Result<Keyed<'a>, AllocError>
+        ensures { IfOk result (λ k. k ≡ right.now) }
+    {
+        Keyed::by(alloc, variable_of(left, right), right)
+    }
+
+    /// The rows of a right side, to which row after row is joined; most of these bind the variables that this one binds.
+    pub fn like(alloc: Global, like: &Row, right: &'a [Row]) -> Result<Keyed<'a>, AllocError>
+        ensures { IfOk result (λ k. k ≡ right.now) }
+    {
+        Keyed::by(alloc, variable_like(like, right), right)
+    }
+
+    /// These rows, none found by a term, to which a single row is joined.
+    pub fn whole(alloc: Global, right: &'a [Row]) -> Result<Keyed<'a>, AllocError>
+        ensures { IfOk result (λ k. k ≡ right.now) }
+    {
+        Keyed::by(alloc, None, right)
     }
 
     /// Those of the rows that alone may be compatible with this one, among them all that are, in their order.

@@ -10,7 +10,11 @@ mod names;
 mod paths;
 mod quads;
 
-pub use conditions::{extended, joined, joined_rows, kept, left_joined, without};
+pub use conditions::{
+    bind_value, extended, joined, joined_rows, kept, left_joined, put_joined, put_kept,
+    put_left_joined, takes_away, without,
+};
 pub use evaluate::{solutions, solutions_of_table, with_name};
+pub use keyed::Keyed;
 pub use paths::joined_along;
 pub use quads::Quads;

@@ -1,17 +1,12 @@
 -- Some of the solutions, or all of them.
-use Rattle.std.proofs.Common.{◌≡◌, ℕ, ◌+◌, ◌≤◌, true, false, true≢false, Option, Some, None, List, [], ◌++◌, length, map, take, refl, sym, ◌∙◌, ap, subst, append-nil, inl, inr}
+use Rattle.std.proofs.Common.{◌≡◌, ℕ, ◌+◌, ◌≤◌, true, false, true≢false, Option, None, List, [], ◌++◌, length, map, take, refl, sym, ◌∙◌, ap, subst, append-nil, inl, inr}
 use Rattle.std.proofs.lemmas.List.Sorted.{IsPermutation-refl, IsPermutation-sym, IsPermutation-trans}
 use Rattle.std.specs.Option.{option_map}
 use Rattle.qs_terms.specs.Bag.{SameBag}
 use Rattle.qs_terms.specs.declared.term.Term.{Term}
 use Rattle.qs_solutions.specs.Solution.{Solution}
 use Rattle.qs_patterns.specs.Basic.{Graph, matches, basic}
-use Rattle.qs_patterns.specs.Eval.{eval}
 use Rattle.qs_patterns.specs.declared.pattern.BasicPattern.{BasicPattern}
-use Rattle.qs_patterns.specs.declared.pattern.Pattern.{Pattern}
-use Rattle.qs_patterns.specs.declared.pattern.Pattern.TheVariants.{Basic}
-use Rattle.qs_terms.specs.Statement.{Statement}
-use Rattle.qs_eval.proofs.Arms.{basic_arm}
 use Rattle.qs_patterns.specs.declared.pattern.TriplePattern.{TriplePattern}
 use Rattle.qs_ops.specs.Coming.{GivesOne}
 use Rattle.qs_ops.specs.Row.{Cells, row_solution, front}
@@ -27,7 +22,7 @@ some_all rows all h = elim h.2 as (λ _. SameBag rows all) [
   | inr e ↦ absurd (true≢false (sym e))
 ]
 
-some_same : (most : Option ℕ) (rows a b : List Solution) → SameBag b a → AreSome most rows a → AreSome most rows b
+pub some_same : (most : Option ℕ) (rows a b : List Solution) → SameBag b a → AreSome most rows a → AreSome most rows b
 some_same most rows a b h k = (k.0, IsPermutation-trans b a (rows ++ k.0) h k.1, k.2)
 
 -- where so many suffice, the others are left
@@ -50,9 +45,3 @@ pub some_without_paths : (most : Option ℕ) (width whole : ℕ) (pattern : Basi
 some_without_paths most width whole pattern graph rows e none k =
     let all : List Solution = map (take width) (matches whole pattern.triples graph) in
     some_same most rows all (basic width pattern graph) (IsPermutation-sym _ _ (without_paths width whole pattern graph all e none (IsPermutation-refl all))) k
-
-pub some_seen : (most : Option ℕ) (width : ℕ) (quads : List Statement) (active graph : Graph) (p : Pattern) (b : BasicPattern) (rows : List Solution) → p ≡ Basic b → active ≡ graph
-    → AreSome most rows (basic width b active) → AreSome most rows (eval width quads p graph)
-some_seen most width quads active graph p b rows is g k =
-    let all : List Solution = basic width b graph in
-    some_same most rows all (eval width quads p graph) (IsPermutation-sym _ _ (basic_arm width quads graph p b all is (IsPermutation-refl all))) (subst (λ (z : Graph). AreSome most rows (basic width b z)) g k)

@@ -1,17 +1,22 @@
 -- Solutions cut to the named variables.
 use Rattle.std.proofs.Common.{◌≡◌, ℕ, zero, suc, ◌+◌, ◌<◌, ◌≤◌, Bool, true, false, cond, Option, Some, None, if◌then◌else◌, List, [], ◌∷◌, ◌++◌, length, map, take, refl, sym, ◌∙◌, ap, subst, arith, append-nil}
-use Rattle.std.specs.List.{filter, flat_map}
+use Rattle.std.specs.List.{filter, flat_map, list_any}
+use Rattle.std.proofs.lemmas.Bool.Decides.{nat_tests}
+use Rattle.std.proofs.lemmas.List.{length-take-le}
 use Rattle.std.specs.Option.{option_map}
 use Rattle.std.proofs.lemmas.List.Sorted.{IsPermutation-sym, IsPermutation-trans, IsPermutation-map, IsPermutation-append_right, length_permutation}
 use Rattle.qs_terms.specs.Bag.{SameBag}
 use Rattle.qs_terms.specs.declared.term.Term.{Term}
-use Rattle.qs_solutions.specs.Solution.{Solution}
+use Rattle.qs_solutions.specs.Operators.{join}
+use Rattle.qs_solutions.specs.Solution.{Solution, share, unbound}
 use Rattle.qs_patterns.specs.declared.pattern.BasicPattern.{BasicPattern}
 use Rattle.qs_patterns.specs.declared.pattern.PathPattern.{PathPattern}
 use Rattle.qs_patterns.specs.Basic.{Graph, mentions, puts_into, terms_of, all_maps, matches, with_paths, basic}
 use Rattle.std.proofs.Math.Seq.{take-length}
 use Rattle.qs_patterns.specs.declared.pattern.TriplePattern.{TriplePattern}
+use Rattle.qs_eval.specs.Keyed.{is_short}
 use Rattle.qs_eval.proofs.Along.{paths_same}
+use Rattle.qs_eval.proofs.Joins.{unit_join}
 use Rattle.qs_ops.specs.Coming.{GivesOne}
 use Rattle.qs_ops.specs.Row.{Cells, row_solution, front}
 use Rattle.qs_ops.proofs.Fronts.{front_all}
@@ -90,6 +95,35 @@ along_paths width whole pattern graph first rows hidden e h k i =
     let w : SameBag rows (with_paths whole graph pattern.paths all) = IsPermutation-trans _ _ _ k (paths_same whole graph pattern.paths first all g) in
     let c : SameBag hidden (map (take width) (with_paths whole graph pattern.paths all)) = subst (λ (l : List Solution). SameBag l (map (take width) (with_paths whole graph pattern.paths all))) (sym i) (IsPermutation-map (take width) _ _ w) in
     subst (λ (x : ℕ). SameBag hidden (map (take width) (with_paths x graph pattern.paths (matches x pattern.triples graph)))) e c
+
+-- a basic graph pattern without paths
+pub basic_is : (width whole : ℕ) (pattern : BasicPattern) (graph : Graph) (triples : List TriplePattern) → whole ≡ width + pattern.hidden → pattern.paths ≡ [] → triples ≡ pattern.triples → basic width pattern graph ≡ map (take width) (matches whole triples graph)
+basic_is width whole pattern graph triples e none t =
+    let n : ℕ = width + pattern.hidden in
+    ap (λ (ps : List PathPattern). map (take width) (with_paths n graph ps (matches n pattern.triples graph))) none
+    ∙ (ap (λ (x : ℕ). map (take width) (matches x pattern.triples graph)) (sym e) ∙ ap (λ (ts : List TriplePattern). map (take width) (matches whole ts graph)) (sym t))
+
+length-unbound : (n : ℕ) → length (unbound n) ≡ n
+length-unbound zero = refl
+length-unbound (suc n) = ap suc (length-unbound n)
+
+shares_nothing : (n : ℕ) → share (unbound n) (unbound n) ≡ false
+shares_nothing zero = refl
+shares_nothing (suc n) = shares_nothing n
+
+none_short : (width n : ℕ) (xs : List Solution) → width ≤ n → Long n xs → list_any (is_short (length (unbound width))) (map (take width) xs) ≡ false
+none_short width n [] l h = refl
+none_short width n (x ∷ xs) l h =
+    let a : is_short (length (unbound width)) (take width x) ≡ false = long_one width (take width x) (omega (arith, l, h.0, length-take-le width x (omega (arith, l, h.0)))) in
+    rw a (none_short width n xs l h.1)
+  where
+    long_one : (w : ℕ) (m : Solution) → length m ≡ w → is_short (length (unbound w)) m ≡ false
+    long_one w m e = let k : length (unbound w) ≡ w = length-unbound w in grind (arith, nat_tests, k, e)
+
+-- joined to the solution that binds nothing they stay as they are
+pub unit_matches : (width whole : ℕ) (triples : List TriplePattern) (graph : Graph) → width ≤ whole → let all : List Solution = map (take width) (matches whole triples graph) in all ≡ join (unbound width ∷ []) all
+unit_matches width whole triples graph l =
+    unit_join (unbound width ∷ []) (map (take width) (matches whole triples graph)) (unbound width) refl refl (shares_nothing width) (none_short width whole (matches whole triples graph) l (long_matches whole triples graph))
 
 -- ---- one row more
 

@@ -1,3 +1,4 @@
 pub mod Graphs
+pub mod Groups
 pub mod Seen
 pub mod Some

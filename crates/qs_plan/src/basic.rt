@@ -14,7 +14,8 @@ use qs_store::{Active, View};
 use qs_view_paths::with_paths;
 use std::alloc::{AllocError, Global};
 
-fn is_enough(most: Option<u64>, count: usize) -> bool
+/// Whether so many suffice.
+pub(crate) fn is_enough(most: Option<u64>, count: usize) -> bool
     ensures { result ≡ is_enough most count }
 {
     match most {

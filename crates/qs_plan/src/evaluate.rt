@@ -89,7 +89,7 @@ fn solutions_of_group<V: View>(
 
 /// What a step makes of the solutions before it, in whichever order these stand.
 #[cycle(solutions)]
-fn stepped<V: View>(
+pub(crate) fn stepped<V: View>(
     alloc: Global,
     width: usize,
     one: &Step,

@@ -5,7 +5,9 @@
 mod basic;
 mod evaluate;
 mod graphs;
+mod group;
 mod seen;
+mod some;
 
 pub use evaluate::solutions;
 pub use seen::{solutions_seen, some_solutions_seen};

@@ -9,9 +9,9 @@ ghost use Rattle.qs_ops.specs.Graph.{active_graph};
 ghost use Rattle.qs_plan.specs.Seen.{seen_of};
 ghost use Rattle.qs_plan.specs.Some.{AreSome};
 
-use crate::basic::some_of_basic;
 use crate::evaluate::solutions;
 use crate::graphs::graph_named;
+use crate::some::some_of;
 use qs_patterns::Pattern;
 use qs_solutions::Row;
 use qs_store::{Active, View};
@@ -60,15 +60,8 @@ pub fn some_solutions_seen<V: View>(
 ) -> Result<Vec<Row>, AllocError>
     ensures { IfOk result (λ rows. AreSome most rows.items (eval width (seen_of (V.content view.now) (V.default_seen view.now)) pattern.now (graph_of (seen_of (V.content view.now) (V.default_seen view.now)) (option_copied name.entry)))) }
 {
-    match pattern {
-        Pattern::Basic(basic) => {
-            let active = active_of(view, name);
-            let rows = some_of_basic(alloc, width, basic, view, active, most)?;
-            Ok(rows)
-        }
-        _ => {
-            let rows = solutions_seen(alloc, width, pattern, view, name)?;
-            Ok(rows)
-        }
-    }
+    let _count = view.count();
+    let active = active_of(view, name);
+    let rows = some_of(alloc, width, pattern, view, active, most)?;
+    Ok(rows)
 }

@@ -62,8 +62,8 @@ put_in_order conditions all found solutions h k = (IsPermutation-trans all found
 -- rows in an order of the solutions are a sequence
 module _ (asked : Selection) (solutions : List Solution) (max_rows : ℕ) where
   pub rows_in_order : (all : List Solution) (rows : Outcome (List Solution)) → IsInOrder asked.order solutions all → OneOrWantOfMemory (IsRowsOf asked max_rows all) rows → OneOrWantOfMemory (IsRows asked solutions max_rows) rows
-  rows_in_order all (Ok rows) h due = (all, h, due)
-  rows_in_order all (Err f) h due = λ other. (all, h, due other)
+  rows_in_order all (Ok rows) h due = inr (all, h, due)
+  rows_in_order all (Err f) h due = λ other. inr (all, h, due other)
 
   of_fault_at : (f : QFault) (all : List Solution) → IsInOrder asked.order solutions all → IsRowsOf asked max_rows all (Err f) → IsSelected asked solutions max_rows (Err f)
   of_fault_at f all h (inl p) = inl (subst (λ (n : ℕ). max_rows < n) (counts_agree asked all solutions h.0) p.0, let e : f ≡ TooManyRows = cc in ap Err e)
@@ -74,9 +74,17 @@ module _ (asked : Selection) (solutions : List Solution) (max_rows : ℕ) where
   of_rows_at rows all h (inr p) =
       inr (subst (λ (n : ℕ). n ≤ max_rows) (counts_agree asked all solutions h.0) p.0, rows, (all, h, let e : rows ≡ sliced asked.slice (listed_rows asked all) = cc in e), refl)
 
+  of_rows : (rows : List Solution) → IsRows asked solutions max_rows (Ok rows) → IsSelected asked solutions max_rows (Ok (Solutions asked.vars rows))
+  of_rows rows (inl p) = absurd (let e : Ok rows ≡ Err TooManyRows = p.1 in cc)
+  of_rows rows (inr d) = of_rows_at rows d.0 d.1 d.2
+
+  of_fault : (f : QFault) → IsRows asked solutions max_rows (Err f) → IsSelected asked solutions max_rows (Err f)
+  of_fault f (inl p) = inl (p.0, let e : f ≡ TooManyRows = cc in ap Err e)
+  of_fault f (inr d) = of_fault_at f d.0 d.1 d.2
+
   pub selected_at : (rows : Outcome (List Solution)) → OneOrWantOfMemory (IsRows asked solutions max_rows) rows → OneOrWantOfMemory (IsSelected asked solutions max_rows) (with_vars asked.vars rows)
-  selected_at (Ok rows) due = of_rows_at rows due.0 due.1 due.2
-  selected_at (Err f) due = λ other. of_fault_at f (due other).0 (due other).1 (due other).2
+  selected_at (Ok rows) due = of_rows rows due
+  selected_at (Err f) due = λ other. of_fault f (due other)
 
   pub selected : (rows : Outcome (List Solution)) (answer : Outcome Answer) → OneOrWantOfMemory (IsRows asked solutions max_rows) rows → answer ≡ with_vars asked.vars rows → OneOrWantOfMemory (IsSelected asked solutions max_rows) answer
   selected rows answer due is = subst (λ (o : Outcome Answer). OneOrWantOfMemory (IsSelected asked solutions max_rows) o) (sym is) (selected_at rows due)

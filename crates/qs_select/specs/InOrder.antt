@@ -28,14 +28,20 @@ Suffices slice count = (all : List Solution) → sliced slice (limited count all
 abbrev pub SufficesToSelect : Selection → Option ℕ → Type 0
 SufficesToSelect asked count = (all : List Solution) → sliced asked.slice (listed_rows asked (limited count all)) ≡ sliced asked.slice (listed_rows asked all)
 
--- so many of the solutions, in any order, suffice for a part: where there is a limit, those up to its end; else one more than max_rows
-abbrev pub ByLimit : Option ℕ → ℕ → ℕ → ℕ → Type 0
-ByLimit None offset max_rows most = offset + max_rows < most
-ByLimit (Some limit) offset max_rows most = offset + limit ≤ most
+-- the limit, if there is one, lets more than max_rows through
+abbrev pub AllowsMore : Option ℕ → ℕ → Type 0
+AllowsMore None max_rows = Unit {0}
+AllowsMore (Some limit) max_rows = max_rows < limit
 
--- and for a SELECT, where nothing is put in order and duplicates are kept
+-- so many of the solutions suffice for a part: they are too many, or, where nothing is put in order, they reach as far as the limit
+abbrev pub ByLimit : Slice → List OrderCondition → ℕ → ℕ → Type 0
+ByLimit slice order max_rows most =
+    (AllowsMore slice.limit max_rows × (slice.offset + max_rows < most))
+    ⊎ ((order ≡ []) × (limit : ℕ) × (slice.limit ≡ Some limit) × (slice.offset + limit ≤ most))
+
+-- and for a SELECT, where duplicates are kept
 abbrev pub AreEnough : Selection → ℕ → ℕ → Type 0
-AreEnough asked max_rows most = (asked.order ≡ []) × (asked.is_distinct ≡ false) × ByLimit asked.slice.limit asked.slice.offset max_rows most
+AreEnough asked max_rows most = (asked.is_distinct ≡ false) × ByLimit asked.slice asked.order max_rows most
 
 -- the rows of the sequence of the solutions in this order, unless they are more than max_rows
 abbrev pub IsRowsOf : Selection → ℕ → List Solution → Outcome (List Solution) → Type 0
@@ -43,9 +49,11 @@ IsRowsOf asked max_rows all outcome =
     ((max_rows < count asked all) × (outcome ≡ Err TooManyRows))
     ⊎ ((count asked all ≤ max_rows) × (outcome ≡ Ok (sliced asked.slice (listed_rows asked all))))
 
--- the same of the solutions in an order that the conditions allow
+-- the same of the solutions in an order that the conditions allow; where they are too many, in any
 abbrev pub IsRows : Selection → List Solution → ℕ → Outcome (List Solution) → Type 0
-IsRows asked solutions max_rows outcome = (all : List Solution) × IsInOrder asked.order solutions all × IsRowsOf asked max_rows all outcome
+IsRows asked solutions max_rows outcome =
+    ((max_rows < count asked solutions) × (outcome ≡ Err TooManyRows))
+    ⊎ ((all : List Solution) × IsInOrder asked.order solutions all × IsRowsOf asked max_rows all outcome)
 
 -- the graph that a template makes of the solutions in this order, unless they are more than max_rows, or the numbers don't suffice
 abbrev pub IsGraphOf : Construction → ℕ → ℕ → List Solution → Outcome Answer → Type 0

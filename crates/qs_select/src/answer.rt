@@ -17,29 +17,19 @@ use crate::construction::Construction;
 use crate::request::{Request, request_of};
 use crate::selection::Selection;
 use crate::sequence::{
-    enough, listed_rows, needed, needed_to_select, projected, put_in_order, sliced,
+    enough, enough_for_slice, listed_rows, needed, needed_to_select, projected, put_in_order,
+    sliced,
 };
 use qs_algebra::NamedPattern;
 use qs_answer::Answer;
 use qs_ast::query::Query;
-use qs_plan::{solutions_seen, some_solutions_seen};
+use qs_plan::some_solutions_seen;
 use qs_solutions::Row;
 use qs_store::View;
 use qs_template::{each_once, instances};
 use qs_terms::{QFault, Quad, Term, Text};
 use sqlite_items::Items;
 use std::alloc::{AllocError, Global};
-
-fn all_solutions<V: View>(
-    alloc: Global,
-    pattern: &NamedPattern,
-    view: &V,
-    active: Option<&Term>,
-) -> Result<Vec<Row>, AllocError>
-    ensures { IfOk result (λ rows. let set = seen_of (V.content view.now) (V.default_seen view.now) in SameBag rows.items (whole pattern.now set (graph_of set (option_copied active.entry)))) }
-{
-    solutions_seen(alloc, pattern.names.len(), &pattern.pattern, view, active)
-}
 
 fn some_solutions<V: View>(
     alloc: Global,
@@ -150,7 +140,8 @@ fn constructed<V: View>(
 ) -> Result<Answer, QFault>
     ensures { let set = seen_of (V.content view.now) (V.default_seen view.now) in OneOrWantOfMemory (IsConstructed asked.now (V.content view.now).next (whole asked.now.pattern set (graph_of set (option_copied active.entry))) max_rows) result }
 {
-    let all = all_solutions(alloc, &asked.pattern, view, active)?;
+    let most = enough_for_slice(asked.slice, asked.order.as_slice(), max_rows);
+    let all = some_solutions(alloc, &asked.pattern, view, active, most)?;
     let count = needed(asked.slice);
     let front = put_in_order(alloc, asked.order.as_slice(), all.as_slice(), count)?;
     graph_of_rows(alloc, asked, view.next_blank(), front.as_slice(), max_rows)
@@ -219,7 +210,8 @@ fn few_solutions<V: View>(
 ) -> Result<Items<Row>, QFault>
     ensures { let set = seen_of (V.content view.now) (V.default_seen view.now) in OneOrWantOfMemory (in_order.AreFew (whole pattern.now set (graph_of set (option_copied active.entry))) max_rows) result }
 {
-    let all = all_solutions(alloc, pattern, view, active)?;
+    let most = max_rows.checked_add(1);
+    let all = some_solutions(alloc, pattern, view, active, most)?;
     bounded(all, max_rows)
 }
 

@@ -1,10 +1,10 @@
 //! The sequence of a SELECT: its solutions in order, projected, without duplicates where that is asked for, and sliced (SPARQL 1.1
 //! Query, 18.2.5).
 
-ghost use Rattle.std.specs.Prelude.{◌≡◌, length, map, take, drop, min, IfOk, IfSome};
+ghost use Rattle.std.specs.Prelude.{◌≡◌, true, length, map, take, drop, min, IfOk, IfSome};
 ghost use Rattle.qs_solutions.specs.Solution.{projected};
 ghost use Rattle.qs_eval.specs.Lent.{lent};
-ghost use Rattle.qs_select.specs.InOrder.{AreEnough, IsFront, Suffices, SufficesToSelect};
+ghost use Rattle.qs_select.specs.InOrder.{AllowsMore, AreEnough, ByLimit, IsFront, Suffices, SufficesToSelect};
 ghost use Rattle.qs_select.specs.Sequence as spec;
 
 use crate::distinct::firsts;
@@ -34,18 +34,38 @@ pub fn needed_to_select(asked: &Selection) -> Option<u64>
     needed(asked.slice)
 }
 
-/// How many of the solutions suffice for the SELECT in whichever order they are found, where not all are needed. Without a LIMIT it is one
-/// more than are allowed.
+fn allows_more(limit: Option<u64>, max_rows: u64) -> bool
+    ensures { result ≡ true → AllowsMore limit max_rows }
+{
+    match limit {
+        None => true,
+        Some(limit) => max_rows < limit,
+    }
+}
+
+/// How many of the solutions suffice for the slice in whichever order they are found, where not all are needed: one more than are allowed
+/// behind the OFFSET, or, where no conditions put them in order, those up to the end of the LIMIT.
+pub fn enough_for_slice(slice: Slice, conditions: &[OrderCondition], max_rows: u64) -> Option<u64>
+    ensures { IfSome result (ByLimit slice conditions.now max_rows) }
+{
+    if allows_more(slice.limit, max_rows) {
+        return slice.offset.checked_add(max_rows)?.checked_add(1);
+    }
+    if !conditions.is_empty() {
+        return None;
+    }
+    let limit = slice.limit?;
+    slice.offset.checked_add(limit)
+}
+
+/// How many of them suffice for the SELECT. Without duplicates all are needed: any of them may be one.
 pub fn enough(asked: &Selection, max_rows: u64) -> Option<u64>
     ensures { IfSome result (AreEnough asked.now max_rows) }
 {
-    if asked.is_distinct || !asked.order.is_empty() {
+    if asked.is_distinct {
         return None;
     }
-    match asked.slice.limit {
-        Some(limit) => asked.slice.offset.checked_add(limit),
-        None => asked.slice.offset.checked_add(max_rows)?.checked_add(1),
-    }
+    enough_for_slice(asked.slice, asked.order.as_slice(), max_rows)
 }
 
 /// The rows in an order of the conditions: all, or so many of the first ones.

@@ -1,0 +1,132 @@
+//! What one step of a group makes of a solution (SPARQL 1.1 Query, 18.5).
+
+ghost use Rattle.std.specs.Prelude.{◌≡◌, ◌++◌, map, IfOk, OnOk};
+ghost use Rattle.qs_groups.specs.Stages.{kept_of, made};
+
+use crate::kept::Kept;
+use qs_eval::{Keyed, bind_value, put_joined, put_kept, put_left_joined, takes_away};
+use qs_expr::Expr;
+use qs_solutions::Row;
+use std::alloc::{AllocError, Global};
+
+/// A step with the solutions of its right side by their terms.
+#[derive(Drop)]
+pub enum Stage<'a> {
+    Join(Keyed<'a>),
+    LeftJoin(Keyed<'a>, &'a [Expr]),
+    Minus(Keyed<'a>),
+    Extend(usize, &'a Expr),
+    Filter(&'a [Expr]),
+}
+
+/// Puts what the stage makes of the row behind the others.
+fn put_made(
+    alloc: Global,
+    stage: &Stage<'_>,
+    mut row: Row,
+    rows: &mut Vec<Row>,
+) -> Result<(), AllocError>
+    ensures { OnOk result (rows.new.items ≡ rows.old.items ++ made (kept_of stage.now) row) }
+{
+    match stage {
+        Stage::Join(right) => put_joined(alloc, &row, right, rows),
+        Stage::LeftJoin(right, conditions) => {
+            put_left_joined(alloc, &row, right, *conditions, rows)
+        }
+        Stage::Minus(right) => {
+            if !takes_away(right, &row) {
+                rows.push(row)?;
+            }
+            Ok(())
+        }
+        Stage::Extend(variable, expr) => {
+            bind_value(alloc, *variable, *expr, &mut row)?;
+            rows.push(row)?;
+            Ok(())
+        }
+        Stage::Filter(conditions) => put_kept(alloc, row, *conditions, rows),
+    }
+}
+
+/// What the stage makes of the row.
+pub(crate) fn made(alloc: Global, stage: &Stage<'_>, row: Row) -> Result<Vec<Row>, AllocError>
+    ensures { IfOk result (λ rows. rows.items ≡ made (kept_of stage.now) row) }
+{
+    let mut rows = Vec::new(alloc);
+    put_made(alloc, stage, row, &mut rows)?;
+    Ok(rows)
+}
+
+/// The rows of a right side by their terms, unless a single row is joined to them.
+fn keyed<'a>(
+    alloc: Global,
+    right: &'a [Row],
+    like: &Row,
+    is_single: bool,
+) -> Result<Keyed<'a>, AllocError>
+    ensures { IfOk result (λ k. k ≡ right.now) }
+{
+    if is_single {
+        return Keyed::whole(alloc, right);
+    }
+    Keyed::like(alloc, like, right)
+}
+
+fn stage_of<'a, 'p: 'a>(
+    alloc: Global,
+    kept: &'a Kept<'p>,
+    like: &Row,
+    is_single: bool,
+) -> Result<Stage<'a>, AllocError>
+    ensures { IfOk result (λ s. kept_of s ≡ kept.now) }
+{
+    match kept {
+        Kept::Join(right) => {
+            let right = keyed(alloc, right.as_slice(), like, is_single)?;
+            Ok(Stage::Join(right))
+        }
+        Kept::LeftJoin(right, conditions) => {
+            let right = keyed(alloc, right.as_slice(), like, is_single)?;
+            Ok(Stage::LeftJoin(right, *conditions))
+        }
+        Kept::Minus(right) => {
+            let right = keyed(alloc, right.as_slice(), like, is_single)?;
+            Ok(Stage::Minus(right))
+        }
+        Kept::Extend(variable, expr) => Ok(Stage::Extend(*variable, *expr)),
+        Kept::Filter(conditions) => Ok(Stage::Filter(*conditions)),
+    }
+}
+
+// A row that binds what rows behind the step bind, as far as the first row of its right side tells.
+fn like_behind(alloc: Global, kept: &Kept<'_>, like: Row) -> Result<Row, AllocError> {
+    let right = match kept {
+        Kept::Join(right) => right.as_slice(),
+        Kept::LeftJoin(right, _) => right.as_slice(),
+        _ => return Ok(like),
+    };
+    let Some(first) = right.first() else {
+        return Ok(like);
+    };
+    like.merged(alloc, first)
+}
+
+/// The stages of the steps, through which rows go that bind variables as this one does. Where it is a single row, it is held against each
+/// row of the first right side.
+pub fn staged<'a, 'p: 'a>(
+    alloc: Global,
+    kept: &'a [Kept<'p>],
+    mut like: Row,
+    mut is_single: bool,
+) -> Result<Vec<Stage<'a>>, AllocError>
+    ensures { IfOk result (λ stages. map kept_of stages.items ≡ kept.now) }
+{
+    let mut stages = Vec::new(alloc);
+    for one in kept {
+        let stage = stage_of(alloc, one, &like, is_single)?;
+        stages.push(stage)?;
+        like = like_behind(alloc, one, like)?;
+        is_single = false;
+    }
+    Ok(stages)
+}

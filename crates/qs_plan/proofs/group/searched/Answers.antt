@@ -1,0 +1,34 @@
+use Rattle.std.proofs.Common.{map, sym, rules, ◌∙◌}
+use Rattle.qs_groups.specs.Stages.{kept_of}
+use Rattle.qs_ops.specs.Row.{front}
+use Rattle.qs_plan.specs.Groups.{ahead}
+use Rattle.qs_plan.proofs.Groups.{ahead_one, smaller, ahead_took, took_less, took_last, enough_came}
+use Rattle.qs_plan.proofs.group.searched.Goals as goal
+
+pub returns-then-is_enough : goal.returns-then-is_enough
+returns-then-is_enough g c =
+    enough_came (ahead (map kept_of c.args.stages.now) (map (front c.args.width c.args.width) c.args.matches.now.rows) c.args.waiting.now.items) c.args.most c.search.rows.items (ahead (map kept_of c.args.stages.now) (map (front c.args.width c.args.width) c.search.matches.rows) c.search.waiting.items) _ c.search.invariant.1 (search rules) (sym c.is_enough.ensures ∙ c.if-is_enough.true)
+
+pub search-smaller-in_ok-push-in-Some : goal.search-smaller-in_ok-push-in-Some
+search-smaller-in_ok-push-in-Some g c =
+    smaller (map kept_of c.args.stages.now) (map (front c.args.width c.args.width) c.search.matches.rows) c.search.waiting.items c.next_of.new.waiting.items _ c.in_ok-row.ensures c.in-Some.row c.in-Some.is
+
+pub search-preserved-in_ok-push-in-Some : goal.search-preserved-in_ok-push-in-Some
+search-preserved-in_ok-push-in-Some g c = (
+  c.search.invariant.0,
+  ahead_one (map kept_of c.args.stages.now) (map (front c.args.width c.args.width) c.search.matches.rows) c.search.waiting.items c.next_of.new.waiting.items _ c.in_ok-row.ensures (ahead (map kept_of c.args.stages.now) (map (front c.args.width c.args.width) c.args.matches.now.rows) c.args.waiting.now.items) c.search.rows.items c.push.new.self.items c.in-Some.row c.in-Some.is c.search.invariant.1 c.in_ok-push-in-Some.ensures.items,
+)
+
+pub search-smaller : goal.search-smaller
+search-smaller g c =
+    took_less (map kept_of c.args.stages.now) (map (front c.args.width c.args.width) c.search.matches.rows) c.search.waiting.items c.next_of.new.waiting.items _ c.in_ok-row.ensures (map (front c.args.width c.args.width) c.take.new.matches.rows) c.take.new.waiting.items _ c.in-None.is c.in_ok-take-in-None.ensures.took (search rules)
+
+pub search-preserved : goal.search-preserved
+search-preserved g c = (
+  c.take.ensures.known ∙ c.search.invariant.0,
+  ahead_took (map kept_of c.args.stages.now) (map (front c.args.width c.args.width) c.search.matches.rows) c.search.waiting.items c.next_of.new.waiting.items _ c.in_ok-row.ensures (ahead (map kept_of c.args.stages.now) (map (front c.args.width c.args.width) c.args.matches.now.rows) c.args.waiting.now.items) c.search.rows.items (map (front c.args.width c.args.width) c.take.new.matches.rows) c.take.new.waiting.items _ c.in-None.is c.search.invariant.1 c.in_ok-take-in-None.ensures.took,
+)
+
+pub returns-then-not-branch : goal.returns-then-not-branch
+returns-then-not-branch g c =
+    took_last (map kept_of c.args.stages.now) (map (front c.args.width c.args.width) c.search.matches.rows) c.search.waiting.items c.next_of.new.waiting.items _ c.in_ok-row.ensures c.args.most (ahead (map kept_of c.args.stages.now) (map (front c.args.width c.args.width) c.args.matches.now.rows) c.args.waiting.now.items) c.search.rows.items (map (front c.args.width c.args.width) c.take.new.matches.rows) c.take.new.waiting.items _ c.in-None.is c.search.invariant.1 c.in_ok-take-in-None.ensures.took (search rules)

@@ -1,0 +1,19 @@
+use Rattle.std.proofs.Common.{List, map, take}
+use Rattle.std.specs.List.{fold}
+use Rattle.std.proofs.lemmas.List.Sorted.{IsPermutation-refl}
+use Rattle.qs_solutions.specs.Solution.{Solution}
+use Rattle.qs_patterns.specs.Basic.{matches}
+use Rattle.qs_patterns.specs.Eval.{kept, step}
+use Rattle.qs_patterns.specs.declared.pattern.Step.{Step}
+use Rattle.qs_ops.specs.Graph.{active_graph}
+use Rattle.qs_ops.specs.Row.{front}
+use Rattle.qs_plan.proofs.Fitted.{found_rows}
+use Rattle.qs_plan.proofs.Groups.{some_kept}
+use Rattle.qs_plan.proofs.group.streamed.Goals as goal
+
+pub returns : goal.returns
+returns g c =
+    let f : List Solution → Step → List Solution = λ left s. step c.args.width (g.V.View.content c.args.view.now).quads s (active_graph (g.V.View.content c.args.view.now) (g.V.View.default_seen c.args.view.now) c.args.active) left in
+    let found : List Solution = map (front c.args.width c.args.width) c.in_ok-matches.matches.rows in
+    some_kept c.args.most c.in_ok-all.all.items (λ xs. kept c.args.conditions.now (fold f xs c.args.steps.now)) c.in_ok-rows.rows.items found (map (take c.args.width) (matches c.args.whole c.args.triples.now (active_graph (g.V.View.content c.args.view.now) (g.V.View.default_seen c.args.view.now) c.args.active))) c.in_ok-all.ensures
+    (found_rows c.args.width c.args.whole c.args.triples.now (active_graph (g.V.View.content c.args.view.now) (g.V.View.default_seen c.args.view.now) c.args.active) c.in_ok-matches.matches.rows found c.requires c.in_ok-matches.ensures.rows (IsPermutation-refl found)) (rw c.as_slice.ensures.value at c.in_ok-rows.ensures)

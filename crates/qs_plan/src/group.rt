@@ -1,0 +1,306 @@
+//! Groups, solution by solution.
+
+ghost use Rattle.std.specs.Prelude.{◌≡◌, ◌<◌, ◌≤◌, List, [], ◌∷◌, length, map, take, drop, IfOk, IfSome};
+ghost use Rattle.std.specs.List.{flat_map, fold};
+ghost use Rattle.qs_terms.specs.Bag.{SameBag};
+ghost use Rattle.qs_solutions.specs.Solution.{Solution, unbound};
+ghost use Rattle.qs_patterns.specs.Basic.{matches};
+ghost use Rattle.qs_patterns.specs.Eval.{step, kept};
+ghost use Rattle.qs_patterns.specs.declared.pattern.Pattern.TheVariants.{Basic};
+ghost use Rattle.qs_patterns.specs.declared.pattern.Step.TheVariants.{Join};
+ghost use Rattle.qs_groups.specs.Stages.{before, coming, kept_of, through};
+ghost use Rattle.qs_ops.specs.Graph.{active_graph};
+ghost use Rattle.qs_ops.specs.Row.{front};
+ghost use Rattle.qs_plan.specs.Groups.{IsKept, Took, ahead};
+ghost use Rattle.qs_plan.specs.Some.{AreSome};
+
+use crate::basic::is_enough;
+use crate::evaluate::{solutions, stepped};
+use qs_expr::Expr;
+use qs_groups::{Kept, Stage, Waiting, next_of, put_all, staged};
+use qs_ops::{Matches, solution};
+use qs_patterns::{BasicPattern, Pattern, Step, TriplePattern};
+use qs_solutions::Row;
+use qs_store::{Active, View};
+use sqlite_items::Items;
+use std::alloc::{AllocError, Global};
+
+/// The step with the solutions of its right side.
+fn kept_step<'p, V: View>(
+    alloc: Global,
+    width: usize,
+    one: &'p Step,
+    view: &V,
+    active: Active,
+) -> Result<Kept<'p>, AllocError>
+    ensures { IfOk result (λ k. IsKept k (step width (V.content view.now).quads one.now (active_graph (V.content view.now) (V.default_seen view.now) active))) }
+{
+    match one {
+        Step::Join(part) => {
+            let right = solutions(alloc, width, part, view, active)?;
+            Ok(Kept::Join(Items::from_vec(right)))
+        }
+        Step::LeftJoin(part, conditions) => {
+            let right = solutions(alloc, width, part, view, active)?;
+            Ok(Kept::LeftJoin(Items::from_vec(right), conditions.as_slice()))
+        }
+        Step::Minus(part) => {
+            let right = solutions(alloc, width, part, view, active)?;
+            Ok(Kept::Minus(Items::from_vec(right)))
+        }
+        Step::Extend(variable, expr) => Ok(Kept::Extend(*variable, expr)),
+    }
+}
+
+/// The steps with the solutions of their right sides, and behind them the conditions.
+fn kept_steps<'p, V: View>(
+    alloc: Global,
+    width: usize,
+    steps: &'p [Step],
+    conditions: &'p [Expr],
+    view: &V,
+    active: Active,
+) -> Result<Vec<Kept<'p>>, AllocError>
+    ensures { IfOk result (λ all. (xs : List Solution) → SameBag (flat_map (through all.items) xs) (kept conditions.now (fold (λ left s. step width (V.content view.now).quads s (active_graph (V.content view.now) (V.default_seen view.now) active) left) xs steps.now))) }
+{
+    let mut all = Vec::new(alloc);
+    for one in steps {
+        let one = kept_step(alloc, width, one, view, active)?;
+        all.push(one)?;
+    }
+    all.push(Kept::Filter(conditions))?;
+    Ok(all)
+}
+
+/// Has the next match wait before the first stage, if there is one.
+fn take<V: View>(
+    alloc: Global,
+    view: &V,
+    width: usize,
+    matches: &mut Matches<'_, V>,
+    waiting: &mut Vec<Waiting>,
+) -> Result<bool, AllocError>
+    requires { matches.old.known ≡ (V.content view.now).known }
+    ensures known { matches.new.known ≡ matches.old.known }
+    ensures took { IfOk result (λ b. Took b (map (front width width) matches.old.rows) waiting.old.items (map (front width width) matches.new.rows) waiting.new.items) }
+{
+    match matches.next(alloc)? {
+        None => Ok(false),
+        Some(row) => {
+            let solution = solution(alloc, view, &row, width)?;
+            waiting.push(Waiting {
+                at: 0,
+                row: solution,
+            })?;
+            matches.give_back(row)?;
+            Ok(true)
+        }
+    }
+}
+
+/// What the stages make of the rows that wait and of the matches that are left: all, or as many as suffice.
+fn searched<V: View>(
+    alloc: Global,
+    view: &V,
+    width: usize,
+    stages: &[Stage<'_>],
+    matches: &mut Matches<'_, V>,
+    waiting: &mut Vec<Waiting>,
+    most: Option<u64>,
+) -> Result<Vec<Row>, AllocError>
+    requires { matches.old.known ≡ (V.content view.now).known }
+    ensures { IfOk result (λ rows. AreSome most rows.items (ahead (map kept_of stages.now) (map (front width width) matches.old.rows) waiting.old.items)) }
+{
+    let mut rows = Vec::new(alloc);
+    'search: loop {
+        if is_enough(most, rows.len()) {
+            return Ok(rows);
+        }
+        match next_of(alloc, stages, waiting)? {
+            Some(row) => rows.push(row)?,
+            None => {
+                if !take(alloc, view, width, matches, waiting)? {
+                    return Ok(rows);
+                }
+            }
+        }
+    }
+}
+
+/// A copy of the last row that waits, if there is one.
+fn last_of(alloc: Global, width: usize, waiting: &[Waiting]) -> Result<Row, AllocError> {
+    match waiting.last() {
+        Some(last) => last.row.try_clone(alloc),
+        None => Row::unbound(alloc, width),
+    }
+}
+
+/// What the stages make of the first matches, of which at most two wait, and of those that are left.
+fn staged_from<V: View>(
+    alloc: Global,
+    view: &V,
+    width: usize,
+    all: &[Kept<'_>],
+    matches: &mut Matches<'_, V>,
+    most: Option<u64>,
+) -> Result<Vec<Row>, AllocError>
+    requires { matches.old.known ≡ (V.content view.now).known }
+    ensures { IfOk result (λ rows. AreSome most rows.items (flat_map (through all.now) (map (front width width) matches.old.rows))) }
+{
+    let mut first = Vec::new(alloc);
+    let has_first = take(alloc, view, width, matches, &mut first)?;
+    let mut waiting = Vec::new(alloc);
+    let has_second = take(alloc, view, width, matches, &mut waiting)?;
+    waiting.append(&mut first)?;
+    let like = last_of(alloc, width, waiting.as_slice())?;
+    let stages = staged(alloc, all, like, has_first && !has_second)?;
+    let rows = searched(
+        alloc,
+        view,
+        width,
+        stages.as_slice(),
+        matches,
+        &mut waiting,
+        most,
+    )?;
+    Ok(rows)
+}
+
+/// What the steps make of the matches of triple patterns, as far as all conditions hold: all, or as many as suffice.
+fn streamed<V: View>(
+    alloc: Global,
+    width: usize,
+    whole: usize,
+    triples: &[TriplePattern],
+    steps: &[Step],
+    conditions: &[Expr],
+    view: &V,
+    active: Active,
+    most: Option<u64>,
+) -> Result<Vec<Row>, AllocError>
+    requires { width ≤ whole }
+    ensures { IfOk result (λ rows. AreSome most rows.items (kept conditions.now (fold (λ left s. step width (V.content view.now).quads s (active_graph (V.content view.now) (V.default_seen view.now) active) left) (map (take width) (matches whole triples.now (active_graph (V.content view.now) (V.default_seen view.now) active))) steps.now))) }
+{
+    let all = kept_steps(alloc, width, steps, conditions, view, active)?;
+    let mut matches = Matches::of(alloc, view, active, whole, triples)?;
+    let rows = staged_from(alloc, view, width, all.as_slice(), &mut matches, most)?;
+    Ok(rows)
+}
+
+/// Has the rows wait before the first stage.
+fn all_waiting(alloc: Global, rows: Vec<Row>) -> Result<Vec<Waiting>, AllocError>
+    ensures { IfOk result (λ waiting. SameBag waiting.items (map (before 0) rows.items)) }
+{
+    let mut waiting = Vec::new(alloc);
+    put_all(0, rows, &mut waiting)?;
+    Ok(waiting)
+}
+
+/// What the stages make of the rows that wait: all, or as many as suffice.
+fn finished(
+    alloc: Global,
+    stages: &[Stage<'_>],
+    waiting: &mut Vec<Waiting>,
+    most: Option<u64>,
+) -> Result<Vec<Row>, AllocError>
+    ensures { IfOk result (λ rows. AreSome most rows.items (coming (map kept_of stages.now) waiting.old.items)) }
+{
+    let mut rows = Vec::new(alloc);
+    'search: loop {
+        if is_enough(most, rows.len()) {
+            return Ok(rows);
+        }
+        match next_of(alloc, stages, waiting)? {
+            None => return Ok(rows),
+            Some(row) => rows.push(row)?,
+        }
+    }
+}
+
+/// What the steps make of the rows, in whichever order these stand, as far as all conditions hold: all, or as many as suffice.
+fn some_of_rows<V: View>(
+    alloc: Global,
+    width: usize,
+    rows: Vec<Row>,
+    steps: &[Step],
+    conditions: &[Expr],
+    view: &V,
+    active: Active,
+    most: Option<u64>,
+) -> Result<Vec<Row>, AllocError>
+    ensures { IfOk result (λ some. (xs : List Solution) → SameBag rows.items xs → AreSome most some.items (kept conditions.now (fold (λ left s. step width (V.content view.now).quads s (active_graph (V.content view.now) (V.default_seen view.now) active) left) xs steps.now))) }
+{
+    let all = kept_steps(alloc, width, steps, conditions, view, active)?;
+    let mut waiting = all_waiting(alloc, rows)?;
+    let like = last_of(alloc, width, waiting.as_slice())?;
+    let is_single = waiting.len() < 2;
+    let stages = staged(alloc, all.as_slice(), like, is_single)?;
+    let some = finished(alloc, stages.as_slice(), &mut waiting, most)?;
+    Ok(some)
+}
+
+/// The basic graph pattern that the step joins, where it has no paths.
+fn triples_alone(one: &Step) -> Option<&BasicPattern>
+    ensures { IfSome result (λ b. (one.now ≡ Join (Basic b.now)) × (b.now.paths ≡ [])) }
+{
+    let Step::Join(part) = one else {
+        return None;
+    };
+    let Pattern::Basic(basic) = part else {
+        return None;
+    };
+    if !basic.paths.is_empty() {
+        return None;
+    }
+    Some(basic)
+}
+
+/// The one solution that binds nothing.
+fn unit(alloc: Global, width: usize) -> Result<Vec<Row>, AllocError>
+    ensures { IfOk result (λ rows. rows.items ≡ unbound width ∷ []) }
+{
+    let unit = Row::unbound(alloc, width)?;
+    let mut rows = Vec::new(alloc);
+    rows.push(unit)?;
+    Ok(rows)
+}
+
+fn rest_of(steps: &[Step]) -> &[Step]
+    requires { 0 < length steps.now }
+    ensures { result.now ≡ drop 1 steps.now }
+{
+    &steps[1..]
+}
+
+/// The solutions of a group: all, or as many as suffice. Where it begins with triple patterns, no more of their matches are held than
+/// suffice.
+pub(crate) fn some_of_group<V: View>(
+    alloc: Global,
+    width: usize,
+    steps: &[Step],
+    conditions: &[Expr],
+    view: &V,
+    active: Active,
+    most: Option<u64>,
+) -> Result<Vec<Row>, AllocError>
+    ensures { IfOk result (λ some. AreSome most some.items (kept conditions.now (fold (λ left s. step width (V.content view.now).quads s (active_graph (V.content view.now) (V.default_seen view.now) active) left) (unbound width ∷ []) steps.now))) }
+{
+    let unit = unit(alloc, width)?;
+    if steps.is_empty() {
+        let some = some_of_rows(alloc, width, unit, steps, conditions, view, active, most)?;
+        return Ok(some);
+    }
+    let first = &steps[0];
+    let rest = rest_of(steps);
+    if let Some(basic) = triples_alone(first) {
+        let whole = width.checked_add(basic.hidden).ok_or(AllocError)?;
+        let triples = basic.triples.as_slice();
+        let some = streamed(
+            alloc, width, whole, triples, rest, conditions, view, active, most,
+        )?;
+        return Ok(some);
+    }
+    let rows = stepped(alloc, width, first, view, active, unit)?;
+    let some = some_of_rows(alloc, width, rows, rest, conditions, view, active, most)?;
+    Ok(some)
+}
