@@ -1,6 +1,7 @@
 pub mod Iri
 pub mod Tag
 pub mod Literal
+pub mod Datatype
 pub mod OrWantOf
 pub mod Outcome
 pub mod Term

@@ -80,8 +80,8 @@ fn has_excluded(bytes: &[u8]) -> bool
     bytes.iter().any(|byte| is_excluded(*byte))
 }
 
-/// Tells what is wrong with the bytes as an IRI, if anything is.
-pub fn check(bytes: &[u8]) -> Result<(), TermFault>
+// Tells what is wrong with the bytes as an IRI, if anything is.
+fn check(bytes: &[u8]) -> Result<(), TermFault>
     ensures answer { MatchResult result (λ _. checked_iri bytes.now ≡ Ok bytes.now) (λ f. checked_iri bytes.now ≡ Err f) }
     ensures lawful { OnOk result (IsTrue (is_iri_text bytes.now)) }
 {

@@ -2,11 +2,13 @@
 //!
 //! A term is an IRI, a blank node or a literal, and a quad is a triple with the name of its graph. `dataset` reads lists of
 //! quads as sets. Texts are seen as their bytes. `fault` has why a term or a request is refused, and `device` the devices that
-//! take and give bytes and count their faults. `datatype` has the IRIs of the datatypes that the rules name.
+//! take and give bytes and count their faults. `datatype` has the IRIs of the datatypes that the rules name, which literals
+//! keep by their names.
 //!
-//! The definitions stand in `specs/`: lawful texts in `Iri.antt`, `Tag.antt` and `Literal.antt`, terms in `Term.antt`, quads in
-//! `Statement.antt`, bags in `Bag.antt`, names and nodes in `Dataset.antt`, devices in `Device.antt`; what a text comes to, and how
-//! want of memory stands beside an answer that is due, in `Outcome.antt` and `OrWantOf.antt`.
+//! The definitions stand in `specs/`: lawful texts in `Iri.antt`, `Tag.antt` and `Literal.antt`, datatypes in `Datatype.antt`,
+//! terms in `Term.antt`, quads in `Statement.antt`, bags in `Bag.antt`, names and nodes in `Dataset.antt`, devices in
+//! `Device.antt`; what a text comes to, and how want of memory stands beside an answer that is due, in `Outcome.antt` and
+//! `OrWantOf.antt`.
 #![tactic(auto)]
 
 mod boxed;

@@ -3,15 +3,16 @@
 ghost use Rattle.std.specs.Prelude.{◌≡◌, ◌↔◌, IfOk, IsTrue, Some, None};
 ghost use Rattle.std.specs.Option.{option_copied};
 ghost use Rattle.std.specs.Str.{bytes_eq};
-ghost use Rattle.qs_terms.specs.Literal.{rdf_lang_string, xsd_string, xsd_integer, xsd_boolean, typed, checked_typed, checked_parts, checked_tagged, is_literal, fits_tag};
+ghost use Rattle.qs_terms.specs.Datatype.{iri_of};
+ghost use Rattle.qs_terms.specs.Literal.{xsd_string, xsd_integer, xsd_boolean, typed, checked_typed, checked_parts, checked_tagged, is_literal, fits_tag};
 ghost use Rattle.qs_terms.specs.Iri.{checked_iri};
 ghost use Rattle.qs_terms.specs.OrWantOf.{ValueOrWantOf};
 ghost use Rattle.qs_terms.specs.declared.fault.TermFault.TheVariants.{Memory};
 
 use crate::boxed::Boxed;
-use crate::datatype;
+use crate::datatype::{Datatype, Known};
 use crate::fault::TermFault;
-use crate::iri::{Iri, check as check_iri};
+use crate::iri::Iri;
 use crate::tag::is_tag;
 use crate::text::Text;
 use std::alloc::{AllocError, Global};
@@ -21,7 +22,7 @@ use std::marker::Model;
 #[derive(Debug, Drop, PartialEq, Eq, PartialOrd, Ord, Hash)]
 struct Parts {
     form: Text,
-    datatype: Text,
+    datatype: Datatype,
     tag: Option<Text>,
 }
 
@@ -56,18 +57,12 @@ impl Model for Lit {
     ghost inverse = { λ l. record { parts = l } };
 }
 
-fn is_lang_string(datatype: &str) -> bool
-    ensures { result ≡ bytes_eq datatype.now rdf_lang_string }
-{
-    datatype == datatype::lang_string()
-}
-
 impl Lit {
     // The literal of its parts.
     fn of_parts(
         alloc: Global,
         form: Text,
-        datatype: Text,
+        datatype: Datatype,
         tag: Option<Text>,
     ) -> Result<Lit, AllocError>
         requires { IsTrue (fits_tag datatype tag) }
@@ -84,13 +79,12 @@ impl Lit {
         Ok(Lit { parts })
     }
 
-    // The literal of a form and the text of a datatype that is known to be lawful.
-    fn of_known(alloc: Global, form: Text, datatype: &str) -> Result<Lit, AllocError>
-        requires { IsTrue (fits_tag datatype.now None) }
-        ensures { IfOk result (λ l. l ≡ typed form datatype.now) }
+    // The literal of a form and a datatype that the rules name.
+    fn of_known(alloc: Global, form: Text, datatype: Known) -> Result<Lit, AllocError>
+        requires { IsTrue (fits_tag (iri_of datatype) None) }
+        ensures { IfOk result (λ l. l ≡ typed form (iri_of datatype)) }
     {
-        let datatype = Text::new(alloc, datatype)?;
-        Lit::of_parts(alloc, form, datatype, None)
+        Lit::of_parts(alloc, form, Datatype::from(datatype), None)
     }
 
     /// The string of a form: its datatype is xsd:string (RDF 1.1 Concepts, 3.3, simple literals).
@@ -98,7 +92,7 @@ impl Lit {
     pub fn string(alloc: Global, form: Text) -> Result<Lit, AllocError>
         ensures { IfOk result (λ l. l ≡ typed form xsd_string) }
     {
-        Lit::of_known(alloc, form, datatype::string())
+        Lit::of_known(alloc, form, Known::String)
     }
 
     /// The integer of a form: its datatype is xsd:integer.
@@ -106,7 +100,7 @@ impl Lit {
     pub fn integer(alloc: Global, form: Text) -> Result<Lit, AllocError>
         ensures { IfOk result (λ l. l ≡ typed form xsd_integer) }
     {
-        Lit::of_known(alloc, form, datatype::integer())
+        Lit::of_known(alloc, form, Known::Integer)
     }
 
     /// The boolean of a form: its datatype is xsd:boolean.
@@ -114,17 +108,15 @@ impl Lit {
     pub fn boolean(alloc: Global, form: Text) -> Result<Lit, AllocError>
         ensures { IfOk result (λ l. l ≡ typed form xsd_boolean) }
     {
-        Lit::of_known(alloc, form, datatype::boolean())
+        Lit::of_known(alloc, form, Known::Boolean)
     }
 
     /// The literal of a form and a datatype other than rdf:langString. A refusal takes no memory.
     pub fn typed(alloc: Global, form: Text, datatype: Iri) -> Result<Lit, TermFault>
         ensures { ValueOrWantOf Memory (checked_typed form datatype) result }
     {
-        if is_lang_string(datatype.text()) {
-            return Err(TermFault::BadDatatype);
-        }
-        Ok(Lit::of_parts(alloc, form, datatype.into_text(), None)?)
+        let datatype = Datatype::of_iri(datatype)?;
+        Ok(Lit::of_parts(alloc, form, datatype, None)?)
     }
 
     /// The language-tagged string of a form and a tag, which is put into lower case.
@@ -134,9 +126,9 @@ impl Lit {
         if !is_tag(tag.as_str().as_bytes()) {
             return Err(TermFault::BadTag);
         }
-        let datatype = Text::new(alloc, datatype::lang_string())?;
         let mut tag = tag;
         tag.make_ascii_lowercase();
+        let datatype = Datatype::from(Known::LangString);
         Ok(Lit::of_parts(alloc, form, datatype, Some(tag))?)
     }
 
@@ -144,12 +136,8 @@ impl Lit {
     pub fn parse(alloc: Global, form: &str, datatype: &str) -> Result<Lit, TermFault>
         ensures { ValueOrWantOf Memory (checked_parts form.now (checked_iri datatype.now)) result }
     {
-        check_iri(datatype.as_bytes())?;
-        if is_lang_string(datatype) {
-            return Err(TermFault::BadDatatype);
-        }
+        let datatype = Datatype::parse(alloc, datatype)?;
         let form = Text::new(alloc, form)?;
-        let datatype = Text::new(alloc, datatype)?;
         Ok(Lit::of_parts(alloc, form, datatype, None)?)
     }
 
@@ -177,28 +165,28 @@ impl Lit {
     pub fn datatype(&self) -> &str
         ensures { result.now ≡ self.now.datatype }
     {
-        self.parts.get().datatype.as_str()
+        self.parts.get().datatype.text()
     }
 
     /// Whether the datatype is xsd:string.
     pub fn is_string(&self) -> bool
         ensures { result ≡ bytes_eq self.now.datatype xsd_string }
     {
-        self.datatype() == datatype::string()
+        self.parts.get().datatype.is(Known::String)
     }
 
     /// Whether the datatype is xsd:integer.
     pub fn is_integer(&self) -> bool
         ensures { result ≡ bytes_eq self.now.datatype xsd_integer }
     {
-        self.datatype() == datatype::integer()
+        self.parts.get().datatype.is(Known::Integer)
     }
 
     /// Whether the datatype is xsd:boolean.
     pub fn is_boolean(&self) -> bool
         ensures { result ≡ bytes_eq self.now.datatype xsd_boolean }
     {
-        self.datatype() == datatype::boolean()
+        self.parts.get().datatype.is(Known::Boolean)
     }
 
     /// The language tag in lower case, without its `@`, if the literal has one.

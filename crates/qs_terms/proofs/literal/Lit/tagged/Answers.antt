@@ -1,4 +1,4 @@
-use Rattle.std.proofs.Common.{rules, ◌≡◌, ◌∙◌, true}
+use Rattle.std.proofs.Common.{rules, ◌≡◌, true}
 use Rattle.std.specs.Str.{bytes_eq}
 use Rattle.std.proofs.lemmas.Slice.Eq.{bytes_eq-Decides}
 use Rattle.qs_terms.specs.Literal.{rdf_lang_string}
@@ -8,6 +8,6 @@ use Rattle.qs_terms.proofs.literal.Lit.tagged.Goals as goal
 
 pub of_parts-requires : goal.of_parts-requires
 of_parts-requires c =
-    let is_datatype : bytes_eq c.in_ok-datatype.datatype rdf_lang_string ≡ true = (bytes_eq-Decides _ _).1 (c.in_ok-datatype.ensures ∙ c.lang_string.ensures) in
+    let is_datatype : bytes_eq c.from-datatype.result rdf_lang_string ≡ true = (bytes_eq-Decides _ _).1 c.from-datatype.ensures in
     let is_a_tag : is_tag c.args.tag ≡ true = search rules in
     rw c.make_ascii_lowercase.ensures (both_true _ _ is_datatype (is_lower_tag-lowered c.args.tag is_a_tag))
