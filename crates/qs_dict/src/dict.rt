@@ -1,12 +1,13 @@
 //! A dictionary of terms.
 
-ghost use Rattle.std.specs.Prelude.{◌≡◌, ◌↔◌, ◌<◌, ◌≤◌, ℕ, None, Some, Ok, Err, [], length, take, IfOk, IfErr, OnOk, OnErr};
+ghost use Rattle.std.specs.Prelude.{◌≡◌, ◌↔◌, ◌<◌, ◌≤◌, ℕ, None, Some, Ok, Err, [], length, take, IfOk, IfErr, OnOk, OnErr, IfSome, IsTrue};
 ghost use Rattle.qs_terms.specs.Bag.{with_new};
 ghost use Rattle.qs_terms.specs.Term.{same_term};
 ghost use Rattle.qs_dict.specs.declared.fault.DictFault.TheVariants.{Full, Memory};
 ghost use Rattle.qs_dict.specs.Dict.{IsDictionary, IsInUse, KeepsNumbers, term_at, number_of};
 
 use crate::fault::DictFault;
+use crate::recent::Recent;
 use indexmap::IndexSet;
 use qs_terms::Term;
 use std::alloc::Global;
@@ -19,6 +20,7 @@ pub struct Dict {
     alloc: Global,
     terms: IndexSet<Term, RandomState>,
     limit: u32,
+    recent: Recent,
 }
 
 impl Model for Dict {
@@ -43,6 +45,7 @@ impl Dict {
             alloc,
             terms: IndexSet::with_hasher(alloc, hasher),
             limit,
+            recent: Recent::new(),
         }
     }
 
@@ -70,6 +73,33 @@ impl Dict {
         ensures found { number_of self.now.terms result.now ≡ Some number }
     {
         &self.terms.as_slice()[number as usize - 1]
+    }
+
+    // Whether the term has this number.
+    fn is_numbered(&self, term: &Term, number: u32) -> bool
+        ensures { IsTrue result → number_of self.now.terms term.now ≡ Some number }
+    {
+        let Some(place) = number.checked_sub(1) else {
+            return false;
+        };
+        match self.terms.as_slice().get(place as usize) {
+            Some(own) => own.is_same(term),
+            None => false,
+        }
+    }
+
+    // The number of the term, where that was asked for not long ago: it is there then, and isn't hashed.
+    fn recent(&self, term: &Term) -> Option<u32>
+        ensures number { IfSome result (λ n. number_of self.now.terms term.now ≡ Some n) }
+        ensures lawful { IsDictionary self.now }
+    {
+        let _count = self.len();
+        let number = self.recent.number(term);
+        if self.is_numbered(term, number) {
+            Some(number)
+        } else {
+            None
+        }
     }
 
     // The number of the term, where it is there. A new one finds no room where the limit is reached.
@@ -105,7 +135,26 @@ impl Dict {
         Ok(place as u32 + 1)
     }
 
-    /// The number of the term, which is put last where it is new. Only a new term takes memory: a copy of it is put in.
+    // The number of the term, by its hash.
+    fn number_hashed(&mut self, term: &Term) -> Result<u32, DictFault>
+        ensures number { IfOk result (λ n. number_of self.new.terms term.now ≡ Some n) }
+        ensures terms { OnOk result (self.new.terms ≡ with_new same_term self.old.terms term.now) }
+        ensures limit { self.new.limit ≡ self.old.limit }
+        ensures lawful { IsDictionary self.new }
+        ensures refused { OnErr result (self.new ≡ self.old) }
+        ensures present { (n : ℕ) → number_of self.old.terms term.now ≡ Some n → (result ≡ Ok n) × (self.new ≡ self.old) }
+        ensures full { (result ≡ Err Full) ↔ ((number_of self.old.terms term.now ≡ None) × (length self.old.terms ≡ self.old.limit)) }
+        ensures kept { KeepsNumbers (length self.old.terms) self.old.terms self.new.terms }
+    {
+        if let Some(number) = self.known(term)? {
+            return Ok(number);
+        }
+        let own = term.try_clone(self.alloc)?;
+        self.put(own)
+    }
+
+    /// The number of the term, which is put last where it is new. Only a new term takes memory: a copy of it is put in. A term that was
+    /// asked for not long ago isn't hashed.
     pub fn number(&mut self, term: &Term) -> Result<u32, DictFault>
         ensures number { IfOk result (λ n. number_of self.new.terms term.now ≡ Some n) }
         ensures terms { OnOk result (self.new.terms ≡ with_new same_term self.old.terms term.now) }
@@ -118,11 +167,12 @@ impl Dict {
         ensures full { (result ≡ Err Full) ↔ ((number_of self.old.terms term.now ≡ None) × (length self.old.terms ≡ self.old.limit)) }
         ensures kept { KeepsNumbers (length self.old.terms) self.old.terms self.new.terms }
     {
-        if let Some(number) = self.known(term)? {
+        if let Some(number) = self.recent(term) {
             return Ok(number);
         }
-        let own = term.try_clone(self.alloc)?;
-        self.put(own)
+        let number = self.number_hashed(term)?;
+        self.recent.note(term, number);
+        Ok(number)
     }
 
     /// The same of a term that is handed over: where it is new it is put last as it is, and no copy is made. A term that is there is

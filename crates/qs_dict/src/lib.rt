@@ -3,6 +3,7 @@
 
 mod dict;
 mod fault;
+mod recent;
 
 pub use dict::Dict;
 pub use fault::DictFault;

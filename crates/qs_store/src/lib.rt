@@ -4,6 +4,7 @@
 
 mod active;
 mod default_graph;
+mod draft;
 mod fault;
 mod graphs;
 mod kept;
@@ -21,11 +22,12 @@ mod whole_graphs;
 
 pub use active::Active;
 pub use default_graph::DefaultGraph;
+pub use draft::Draft;
 pub use fault::StoreFault;
 pub use removal::Removal;
 pub use same_set::{
     quads_make_their_terms_known, same_set_is_an_equivalence, same_sets_change_alike,
 };
-pub use store::{Draft, Store};
+pub use store::Store;
 pub use triples::Triples;
 pub use view::View;

@@ -161,7 +161,7 @@ impl Store {
     }
 
     // The next blank node's number of the draft.
-    fn draft_next_blank(&self) -> u64
+    pub(crate) fn draft_next_blank(&self) -> u64
         ensures next { result ≡ self.now.draft.next }
         ensures above { IsTrue (is_above_blanks result self.now.draft.quads) }
     {
@@ -169,7 +169,7 @@ impl Store {
     }
 
     // How many quads the draft has.
-    fn draft_count(&self) -> u128
+    pub(crate) fn draft_count(&self) -> u128
         ensures count { result ≡ length self.now.draft.quads }
         ensures lawful { IsContent self.now.draft }
     {
@@ -187,7 +187,7 @@ impl Store {
     }
 
     // The same of the draft.
-    fn draft_terms(&self) -> u32
+    pub(crate) fn draft_terms(&self) -> u32
         ensures count { result ≡ length self.now.draft.known }
         ensures known { KnowsItsTerms self.now.draft }
         ensures places { AreLawful self.now.draft.quads }
@@ -201,6 +201,21 @@ impl Store {
         ensures { term_at self.now.base.known number ≡ Some result.now }
     {
         self.dict.term(number)
+    }
+
+    // The draft's terms.
+    pub(crate) fn draft_term(&self, number: u32) -> &Term
+        requires { IsInUse self.now.draft.known number }
+        ensures { term_at self.now.draft.known number ≡ Some result.now }
+    {
+        self.dict.term(number)
+    }
+
+    // The number of the term, where the draft knows it.
+    pub(crate) fn draft_find(&self, term: &Term) -> Option<u32>
+        ensures { result ≡ number_of self.now.draft.known term.now }
+    {
+        self.dict.find(term)
     }
 
     /// The number of the term, where it is known.
@@ -242,7 +257,7 @@ impl Store {
     }
 
     // The same of the draft.
-    fn scan_draft(
+    pub(crate) fn scan_draft(
         &self,
         active: Active,
         subject: Option<u32>,
@@ -265,7 +280,7 @@ impl Store {
     }
 
     // The same of the draft.
-    fn draft_graphs(&self) -> Result<Vec<u32>, StoreFault>
+    pub(crate) fn draft_graphs(&self) -> Result<Vec<u32>, StoreFault>
         ensures graphs { IfOk result (λ graphs. AreGraphs self.now.draft graphs.items) }
         ensures memory { IfErr result (λ fault. fault ≡ Memory) }
     {
@@ -274,7 +289,7 @@ impl Store {
     }
 
     // Whether the quad stands in the draft.
-    fn draft_contains(&self, quad: &Quad) -> bool
+    pub(crate) fn draft_contains(&self, quad: &Quad) -> bool
         ensures { IsTrue result ↔ Contains self.now.draft.quads quad.now }
     {
         match entry_of(&self.dict, quad) {
@@ -295,7 +310,7 @@ impl Store {
     }
 
     // The quads of the draft.
-    fn draft_quads(&self) -> Result<Vec<Quad>, StoreFault>
+    pub(crate) fn draft_quads(&self) -> Result<Vec<Quad>, StoreFault>
         ensures same { IfOk result (λ quads. SameBag self.now.draft.quads quads.items) }
         ensures ascending { IfOk result (λ quads. IsSorted ⟦<Quad as Ord>⟧.cmp quads.items) }
         ensures memory { IfErr result (λ fault. fault ≡ Memory) }
@@ -306,7 +321,7 @@ impl Store {
     }
 
     // Forgets what a draft has left.
-    fn reset(&mut self)
+    pub(crate) fn reset(&mut self)
         ensures base { self.new.base ≡ self.old.base }
         ensures draft { self.new.draft ≡ self.old.base }
         ensures limit { self.new.limit ≡ self.old.limit }
@@ -318,7 +333,7 @@ impl Store {
     }
 
     // Makes the draft the store.
-    fn settle(&mut self)
+    pub(crate) fn settle(&mut self)
         ensures quads { SameSet self.new.base.quads self.old.draft.quads }
         ensures next { self.new.base.next ≡ self.old.draft.next }
         ensures known { self.new.base.known ≡ self.old.draft.known }
@@ -331,7 +346,7 @@ impl Store {
     }
 
     // The entry of the quad, whose new terms the draft knows then.
-    fn number_in_draft(&mut self, quad: &Quad) -> Result<[u32; 4], StoreFault>
+    pub(crate) fn number_in_draft(&mut self, quad: &Quad) -> Result<[u32; 4], StoreFault>
         ensures base { self.new.base ≡ self.old.base }
         ensures quads { self.new.draft.quads ≡ self.old.draft.quads }
         ensures next { self.new.draft.next ≡ self.old.draft.next }
@@ -353,7 +368,11 @@ impl Store {
     }
 
     // Makes the draft the store, with the quads of the entries, too.
-    fn settle_with(&mut self, entries: &mut [[u32; 4]], next: u64) -> Result<(), StoreFault>
+    pub(crate) fn settle_with(
+        &mut self,
+        entries: &mut [[u32; 4]],
+        next: u64,
+    ) -> Result<(), StoreFault>
         requires entries { AreEntries self.old.draft.known entries.old }
         requires next { self.old.draft.next ≤ next }
         requires above { IsTrue (is_above_blanks next (said self.old.draft.known entries.old)) }
@@ -381,7 +400,12 @@ impl Store {
     }
 
     // Makes a change of the draft.
-    fn change_draft(&mut self, remove: &[Quad], add: &[Quad], next: u64) -> Result<(), StoreFault>
+    pub(crate) fn change_draft(
+        &mut self,
+        remove: &[Quad],
+        add: &[Quad],
+        next: u64,
+    ) -> Result<(), StoreFault>
         requires next { self.old.draft.next ≤ next }
         requires above { IsTrue (is_above_blanks next add.now) }
         ensures base { self.new.base ≡ self.old.base }
@@ -407,7 +431,7 @@ impl Store {
     }
 
     // Whether the draft has quads in the graph of this name.
-    fn draft_has_graph(&self, name: &Term) -> bool
+    pub(crate) fn draft_has_graph(&self, name: &Term) -> bool
         ensures { result ≡ exists (Some name.now) self.now.draft.quads }
     {
         match filled(&self.dict, &self.layers, Some(name)) {
@@ -417,7 +441,7 @@ impl Store {
     }
 
     // Removes the draft's quads in a graph.
-    fn clear_draft_graph(&mut self, name: Option<&Term>) -> Result<(), StoreFault>
+    pub(crate) fn clear_draft_graph(&mut self, name: Option<&Term>) -> Result<(), StoreFault>
         ensures base { self.new.base ≡ self.old.base }
         ensures quads { OnOk result (IsChanged self.old.draft.quads (in_graph (option_copied name.entry) self.old.draft.quads) [] self.new.draft.quads) }
         ensures next { self.new.draft.next ≡ self.old.draft.next }
@@ -434,7 +458,7 @@ impl Store {
     }
 
     // Removes the draft's quads in all named graphs.
-    fn clear_draft_named(&mut self) -> Result<(), StoreFault>
+    pub(crate) fn clear_draft_named(&mut self) -> Result<(), StoreFault>
         ensures base { self.new.base ≡ self.old.base }
         ensures quads { OnOk result (IsChanged self.old.draft.quads (filter is_named self.old.draft.quads) [] self.new.draft.quads) }
         ensures next { self.new.draft.next ≡ self.old.draft.next }
@@ -451,7 +475,7 @@ impl Store {
     }
 
     // Removes all quads of the draft.
-    fn clear_draft_all(&mut self) -> Result<(), StoreFault>
+    pub(crate) fn clear_draft_all(&mut self) -> Result<(), StoreFault>
         ensures base { self.new.base ≡ self.old.base }
         ensures quads { OnOk result (IsChanged self.old.draft.quads self.old.draft.quads [] self.new.draft.quads) }
         ensures next { self.new.draft.next ≡ self.old.draft.next }
@@ -468,7 +492,7 @@ impl Store {
     }
 
     // Puts the draft's quads in a graph into another one.
-    fn transfer_draft(
+    pub(crate) fn transfer_draft(
         &mut self,
         removal: Removal,
         from: Option<&Term>,
@@ -502,18 +526,6 @@ impl Store {
         }
     }
 
-    /// A draft of the store. What it becomes is the store's by `commit` alone. It takes no memory.
-    pub fn draft(&mut self) -> Draft<'_>
-        ensures same_reference { result.store.ghost_name ≡ self.entry.ghost_name }
-        ensures base { result.store.now.base ≡ self.old.base }
-        ensures draft { result.store.now.draft ≡ self.old.base }
-        ensures limit { result.store.now.limit ≡ self.old.limit }
-        ensures default_graph { result.store.now.default_graph ≡ self.old.default_graph }
-    {
-        self.reset();
-        Draft { store: self }
-    }
-
     /// Removes the quads of `remove` and then adds those of `add`; `next` becomes the next blank node's number, which is no less than
     /// the present one and above those of the blank nodes of `add`. `Full` is answered exactly where the known terms and the other terms
     /// of `add` are more than the limit, as far as there is memory. Where it is refused the store stays as it was, its known terms included.
@@ -539,272 +551,5 @@ impl Store {
                 Err(fault)
             }
         }
-    }
-}
-
-/// A store with quads added and removed, which has to be spent by `commit` or `abandon`.
-pub struct Draft<'a> {
-    store: &'a mut Store,
-}
-
-impl<'a> Draft<'a> {
-    /// The triples of a graph of the draft that have the numbers that are given, each once, in the order in which `Store::scan` gives
-    /// those of a store. It takes no memory.
-    pub fn scan(
-        &self,
-        active: Active,
-        subject: Option<u32>,
-        predicate: Option<u32>,
-        object: Option<u32>,
-    ) -> Triples<'_>
-        ensures { AreTriples self.now.store.now.draft self.now.store.now.default_graph active subject predicate object result }
-    {
-        let store: &Store = self.store;
-        store.scan_draft(active, subject, predicate, object)
-    }
-
-    /// The quads of the draft, each once, in the order of quads (`Quad::order`), as copies. Its one refusal is want of memory.
-    pub fn quads(&self) -> Result<Vec<Quad>, StoreFault>
-        ensures same { IfOk result (λ quads. SameBag self.now.store.now.draft.quads quads.items) }
-        ensures ascending { IfOk result (λ quads. IsSorted ⟦<Quad as Ord>⟧.cmp quads.items) }
-        ensures memory { IfErr result (λ fault. fault ≡ Memory) }
-    {
-        let store: &Store = self.store;
-        store.draft_quads()
-    }
-
-    /// The numbers of the names of the graphs that have quads in the draft, ascending. Its one refusal is want of memory.
-    pub fn graphs(&self) -> Result<Vec<u32>, StoreFault>
-        ensures graphs { IfOk result (λ graphs. AreGraphs self.now.store.now.draft graphs.items) }
-        ensures memory { IfErr result (λ fault. fault ≡ Memory) }
-    {
-        let store: &Store = self.store;
-        store.draft_graphs()
-    }
-
-    /// Whether the quad stands in the draft. It takes no memory.
-    pub fn contains(&self, quad: &Quad) -> bool
-        ensures { IsTrue result ↔ Contains self.now.store.now.draft.quads quad.now }
-    {
-        let store: &Store = self.store;
-        store.draft_contains(quad)
-    }
-
-    /// How many quads the draft has. It takes no memory, and goes over none.
-    pub fn count(&self) -> u128
-        ensures count { result ≡ length self.now.store.now.draft.quads }
-        ensures lawful { IsContent self.now.store.now.draft }
-    {
-        let store: &Store = self.store;
-        store.draft_count()
-    }
-
-    /// How many terms the draft knows: the numbers in use are those from 1 to it. The terms of the quads are among them,
-    /// and each stands where it may.
-    pub fn terms(&self) -> u32
-        ensures count { result ≡ length self.now.store.now.draft.known }
-        ensures known { KnowsItsTerms self.now.store.now.draft }
-        ensures places { AreLawful self.now.store.now.draft.quads }
-    {
-        let store: &Store = self.store;
-        store.draft_terms()
-    }
-
-    /// The term with the number, which is in use.
-    pub fn term(&self, number: u32) -> &Term
-        requires { IsInUse self.now.store.now.draft.known number }
-        ensures { term_at self.now.store.now.draft.known number ≡ Some result.now }
-    {
-        let store: &Store = self.store;
-        store.dict.term(number)
-    }
-
-    /// The number of the term, where the draft knows it.
-    pub fn find(&self, term: &Term) -> Option<u32>
-        ensures { result ≡ number_of self.now.store.now.draft.known term.now }
-    {
-        let store: &Store = self.store;
-        store.dict.find(term)
-    }
-
-    /// Which default graph queries see.
-    pub fn default_graph(&self) -> DefaultGraph
-        ensures { result ≡ self.now.store.now.default_graph }
-    {
-        let store: &Store = self.store;
-        store.default_graph()
-    }
-
-    /// The next blank node's number of the draft, which is above those of all blank nodes of its quads.
-    pub fn next_blank(&self) -> u64
-        ensures next { result ≡ self.now.store.now.draft.next }
-        ensures above { IsTrue (is_above_blanks result self.now.store.now.draft.quads) }
-    {
-        let store: &Store = self.store;
-        store.draft_next_blank()
-    }
-
-    /// Changes the draft as `Store::change` does the store, and makes each growth that a commit will need. Where it is refused the draft
-    /// stays as it was, its known terms included.
-    pub fn change(&mut self, remove: &[Quad], add: &[Quad], next: u64) -> Result<(), StoreFault>
-        requires next { self.old.store.now.draft.next ≤ next }
-        requires above { IsTrue (is_above_blanks next add.now) }
-        ensures same_reference { self.new.store.ghost_name ≡ self.old.store.ghost_name }
-        ensures base { self.new.store.now.base ≡ self.old.store.now.base }
-        ensures quads { OnOk result (IsChanged self.old.store.now.draft.quads remove.now add.now self.new.store.now.draft.quads) }
-        ensures next { OnOk result (self.new.store.now.draft.next ≡ next) }
-        ensures known { OnOk result (KnowsTermsOf self.old.store.now.draft.known add.now self.new.store.now.draft.known) }
-        ensures full { IsFullExactly self.old.store.now.limit (length (with_terms_of self.old.store.now.draft.known add.now)) result }
-        ensures refused { OnErr result (self.new.store.now.draft ≡ self.old.store.now.draft) }
-        ensures limit { self.new.store.now.limit ≡ self.old.store.now.limit }
-        ensures default_graph { self.new.store.now.default_graph ≡ self.old.store.now.default_graph }
-    {
-        self.store.change_draft(remove, add, next)
-    }
-
-    /// Whether the draft has quads in the graph of this name. It takes no memory.
-    pub fn has_graph(&self, name: &Term) -> bool
-        ensures { result ≡ exists (Some name.now) self.now.store.now.draft.quads }
-    {
-        let store: &Store = self.store;
-        store.draft_has_graph(name)
-    }
-
-    /// Removes the quads in the graph of this name, or in the default graph, in a time that goes by these (SPARQL 1.1 Update, 3.1.5). The
-    /// known terms stay, and the next number does; each growth that a commit will need is made. Its one refusal is want of memory, which
-    /// leaves the draft as it was.
-    pub fn clear_graph(&mut self, name: Option<&Term>) -> Result<(), StoreFault>
-        ensures same_reference { self.new.store.ghost_name ≡ self.old.store.ghost_name }
-        ensures base { self.new.store.now.base ≡ self.old.store.now.base }
-        ensures quads { OnOk result (IsChanged self.old.store.now.draft.quads (in_graph (option_copied name.entry) self.old.store.now.draft.quads) [] self.new.store.now.draft.quads) }
-        ensures next { self.new.store.now.draft.next ≡ self.old.store.now.draft.next }
-        ensures known { self.new.store.now.draft.known ≡ self.old.store.now.draft.known }
-        ensures room { OnOk result (length self.old.store.now.draft.known ≤ self.old.store.now.limit) }
-        ensures memory { IfErr result (λ fault. fault ≡ Memory) }
-        ensures refused { OnErr result (self.new.store.now.draft ≡ self.old.store.now.draft) }
-        ensures limit { self.new.store.now.limit ≡ self.old.store.now.limit }
-        ensures default_graph { self.new.store.now.default_graph ≡ self.old.store.now.default_graph }
-    {
-        self.store.clear_draft_graph(name)
-    }
-
-    /// Removes the quads in all named graphs, as `clear_graph` does those in one.
-    pub fn clear_named(&mut self) -> Result<(), StoreFault>
-        ensures same_reference { self.new.store.ghost_name ≡ self.old.store.ghost_name }
-        ensures base { self.new.store.now.base ≡ self.old.store.now.base }
-        ensures quads { OnOk result (IsChanged self.old.store.now.draft.quads (filter is_named self.old.store.now.draft.quads) [] self.new.store.now.draft.quads) }
-        ensures next { self.new.store.now.draft.next ≡ self.old.store.now.draft.next }
-        ensures known { self.new.store.now.draft.known ≡ self.old.store.now.draft.known }
-        ensures room { OnOk result (length self.old.store.now.draft.known ≤ self.old.store.now.limit) }
-        ensures memory { IfErr result (λ fault. fault ≡ Memory) }
-        ensures refused { OnErr result (self.new.store.now.draft ≡ self.old.store.now.draft) }
-        ensures limit { self.new.store.now.limit ≡ self.old.store.now.limit }
-        ensures default_graph { self.new.store.now.default_graph ≡ self.old.store.now.default_graph }
-    {
-        self.store.clear_draft_named()
-    }
-
-    /// Removes all quads, as `clear_graph` does those in one graph.
-    pub fn clear_all(&mut self) -> Result<(), StoreFault>
-        ensures same_reference { self.new.store.ghost_name ≡ self.old.store.ghost_name }
-        ensures base { self.new.store.now.base ≡ self.old.store.now.base }
-        ensures quads { OnOk result (IsChanged self.old.store.now.draft.quads self.old.store.now.draft.quads [] self.new.store.now.draft.quads) }
-        ensures next { self.new.store.now.draft.next ≡ self.old.store.now.draft.next }
-        ensures known { self.new.store.now.draft.known ≡ self.old.store.now.draft.known }
-        ensures room { OnOk result (length self.old.store.now.draft.known ≤ self.old.store.now.limit) }
-        ensures memory { IfErr result (λ fault. fault ≡ Memory) }
-        ensures refused { OnErr result (self.new.store.now.draft ≡ self.old.store.now.draft) }
-        ensures limit { self.new.store.now.limit ≡ self.old.store.now.limit }
-        ensures default_graph { self.new.store.now.default_graph ≡ self.old.store.now.default_graph }
-    {
-        self.store.clear_draft_all()
-    }
-
-    /// Removes the quads that `removal` names, and then puts those that stood in the graph `from` into the graph `to` too (SPARQL 1.1
-    /// Update, 3.2.3 to 3.2.5), in a time that goes by the quads of the two graphs. `None` is the default graph. Only where there are
-    /// quads in `from` the name of `to` becomes a known term, and `Full` is answered exactly where it is then one more than the limit, as
-    /// far as there is memory. The next number stays; each growth that a commit will need is made. Where it is refused the draft stays as
-    /// it was, its known terms included.
-    pub fn transfer(
-        &mut self,
-        removal: Removal,
-        from: Option<&Term>,
-        to: Option<&Term>,
-    ) -> Result<(), StoreFault>
-        requires lawful { IsTrue (is_graph (option_copied to)) }
-        requires above { IsTrue (is_graph_below self.old.store.now.draft.next (option_copied to)) }
-        ensures same_reference { self.new.store.ghost_name ≡ self.old.store.ghost_name }
-        ensures base { self.new.store.now.base ≡ self.old.store.now.base }
-        ensures quads { OnOk result (IsChanged self.old.store.now.draft.quads (removed_by removal (option_copied from.entry) (option_copied to.entry) self.old.store.now.draft.quads) (copies (option_copied from.entry) (option_copied to.entry) self.old.store.now.draft.quads) self.new.store.now.draft.quads) }
-        ensures next { self.new.store.now.draft.next ≡ self.old.store.now.draft.next }
-        ensures known { OnOk result (KnowsTermsOf self.old.store.now.draft.known (copies (option_copied from.entry) (option_copied to.entry) self.old.store.now.draft.quads) self.new.store.now.draft.known) }
-        ensures full { IsFullExactly self.old.store.now.limit (length (with_terms_of self.old.store.now.draft.known (copies (option_copied from.entry) (option_copied to.entry) self.old.store.now.draft.quads))) result }
-        ensures refused { OnErr result (self.new.store.now.draft ≡ self.old.store.now.draft) }
-        ensures limit { self.new.store.now.limit ≡ self.old.store.now.limit }
-        ensures default_graph { self.new.store.now.default_graph ≡ self.old.store.now.default_graph }
-    {
-        self.store.transfer_draft(removal, from, to)
-    }
-
-    /// The entry of the quad: the numbers of its graph's name, or 0 for the default graph, and of its subject, predicate and object. The
-    /// quad's new terms become known to the draft, and the quad itself isn't put in. `Full` is answered only where the known terms and
-    /// the other ones of the quad are more than the limit. Where it is refused the draft stays as it was.
-    pub fn number(&mut self, quad: &Quad) -> Result<[u32; 4], StoreFault>
-        ensures same_reference { self.new.store.ghost_name ≡ self.old.store.ghost_name }
-        ensures base { self.new.store.now.base ≡ self.old.store.now.base }
-        ensures quads { self.new.store.now.draft.quads ≡ self.old.store.now.draft.quads }
-        ensures next { self.new.store.now.draft.next ≡ self.old.store.now.draft.next }
-
-        // Entries over the terms that were known, with this one behind them, say what they said, with the quad behind it.
-        ensures said { IfOk result (λ entry. (entries : List (List ℕ)) → AreEntries self.old.store.now.draft.known entries → IsSaidBehind self.old.store.now.draft.known entries quad.now self.new.store.now.draft.known entry) }
-        ensures known { OnOk result ((first : List Term) (quads : List Statement) → self.old.store.now.draft.known ≡ with_terms_of first quads → self.new.store.now.draft.known ≡ with_terms_of first (quads ++ quad.now ∷ [])) }
-        ensures full { IfErr result (λ fault. (first : List Term) (quads more : List Statement) → self.old.store.now.draft.known ≡ with_terms_of first quads → IsFullAt fault self.old.store.now.limit (length (with_terms_of first (quads ++ quad.now ∷ more)))) }
-        ensures refused { OnErr result (self.new.store.now.draft ≡ self.old.store.now.draft) }
-        ensures limit { self.new.store.now.limit ≡ self.old.store.now.limit }
-        ensures default_graph { self.new.store.now.default_graph ≡ self.old.store.now.default_graph }
-    {
-        self.store.number_in_draft(quad)
-    }
-
-    /// Makes the draft's quads and those of the entries those of the store, and its known terms those of the store; `next` becomes the
-    /// next blank node's number. The entries are left in some order. It puts them in without a draft of them, which makes this the fast
-    /// way to load many quads. Its one refusal is want of memory, which leaves the store as it was, its known terms included.
-    pub fn commit_with(self, entries: &mut [[u32; 4]], next: u64) -> Result<(), StoreFault>
-        requires entries { AreEntries self.store.now.draft.known entries.old }
-        requires next { self.store.now.draft.next ≤ next }
-        requires above { IsTrue (is_above_blanks next (said self.store.now.draft.known entries.old)) }
-        ensures quads { OnOk result (IsChanged self.entry.store.now.draft.quads [] (said self.entry.store.now.draft.known entries.old) self.exit.0.now.base.quads) }
-        ensures next { OnOk result (self.exit.0.now.base.next ≡ next) }
-        ensures known { OnOk result (self.exit.0.now.base.known ≡ self.entry.store.now.draft.known) }
-        ensures room { OnOk result (length self.exit.0.now.base.known ≤ self.entry.store.now.limit) }
-        ensures memory { IfErr result (λ fault. fault ≡ Memory) }
-        ensures refused { OnErr result (self.exit.0.now.base ≡ self.entry.store.now.base) }
-        ensures limit { self.exit.0.now.limit ≡ self.entry.store.now.limit }
-        ensures default_graph { self.exit.0.now.default_graph ≡ self.entry.store.now.default_graph }
-    {
-        let Draft { store } = self;
-        store.settle_with(entries, next)
-    }
-
-    /// Makes the draft's quads, next number and known terms those of the store. It takes no memory.
-    pub fn commit(self)
-        ensures quads { SameSet self.exit.0.now.base.quads self.entry.store.now.draft.quads }
-        ensures next { self.exit.0.now.base.next ≡ self.entry.store.now.draft.next }
-        ensures known { self.exit.0.now.base.known ≡ self.entry.store.now.draft.known }
-        ensures limit { self.exit.0.now.limit ≡ self.entry.store.now.limit }
-        ensures default_graph { self.exit.0.now.default_graph ≡ self.entry.store.now.default_graph }
-    {
-        let Draft { store } = self;
-        store.settle();
-    }
-
-    /// Leaves the store as it was, its known terms included. It takes no memory.
-    pub fn abandon(self)
-        ensures base { self.exit.0.now.base ≡ self.entry.store.now.base }
-        ensures limit { self.exit.0.now.limit ≡ self.entry.store.now.limit }
-        ensures default_graph { self.exit.0.now.default_graph ≡ self.entry.store.now.default_graph }
-    {
-        let Draft { store } = self;
-        store.reset();
     }
 }

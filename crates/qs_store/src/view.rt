@@ -13,8 +13,9 @@ ghost use Rattle.qs_store.specs.declared.fault.StoreFault.TheVariants.{Memory};
 
 use crate::active::Active;
 use crate::default_graph::DefaultGraph;
+use crate::draft::Draft;
 use crate::fault::StoreFault;
-use crate::store::{Draft, Store};
+use crate::store::Store;
 use crate::triples::Triples;
 use qs_terms::{Quad, Term};
 

@@ -1,4 +1,4 @@
-use Rattle.std.proofs.Common.{◌≡◌, length, sym, ap, arith}
+use Rattle.std.proofs.Common.{◌≡◌, length, ap, arith}
 use Rattle.qs_dict.proofs.Numbers.{distinct_terms, keeps_with, keys_with, place_at, at_most_one}
 use Rattle.qs_dict.proofs.dict.Dict.put.Goals as goal
 
