@@ -10,6 +10,7 @@ use qs_index::Index;
 use qs_solutions::Row;
 use qs_terms::{Quad, Term};
 use std::alloc::Global;
+use std::hash::RandomState;
 use std::io;
 use std::time::Instant;
 
@@ -26,7 +27,7 @@ pub enum Work<'a> {
     Feed(&'a [u8], usize),
     Reply(&'a [u8]),
     ReadText(Reading, &'a str),
-    ReadQuads(&'a [u8]),
+    ReadQuads(RandomState, &'a [u8]),
     WriteQuads(&'a [Quad]),
     Write(&'a Answer),
     Filter(&'a Expr, &'a [Row]),
@@ -42,7 +43,7 @@ fn done(alloc: Global, work: Work) -> u64 {
         Work::Feed(bytes, piece) => u64::from(endpoint::is_ready(alloc, bytes, piece)),
         Work::Reply(body) => endpoint::reply_len(alloc, body),
         Work::ReadText(reading, text) => texts::read(alloc, reading, text),
-        Work::ReadQuads(bytes) => nquads::read_all(alloc, bytes).0,
+        Work::ReadQuads(hasher, bytes) => nquads::read_all(alloc, hasher, bytes).0,
         Work::WriteQuads(quads) => nquads::write_all(alloc, quads),
         Work::Write(answer) => results::text_len(alloc, answer),
         Work::Filter(condition, rows) => expr::holding(alloc, condition, rows),

@@ -14,6 +14,7 @@ use qs_nquads::laws::next_number_is_fresh;
 use qs_store::{Draft, Store, StoreFault, quads_make_their_terms_known};
 use qs_terms::Quad;
 use std::alloc::{AllocError, Global};
+use std::hash::RandomState;
 
 fn push(entries: &mut Vec<[u32; 4]>, entry: [u32; 4]) -> Result<(), AllocError>
     ensures { OnOk result (entries.new.items ≡ entries.old.items ++ entry ∷ []) }
@@ -90,13 +91,18 @@ fn put_all(
 
 /// Adds the quads of N-Quads to the store, as one change that adds them all. Labels of blank nodes are numbered from the store's next
 /// number in the order in which they first appear (RDF 1.1 N-Quads, 3 and 4). Beside what the store holds behind it, it takes 16 bytes for
-/// each statement, and some for each label.
+/// each statement, and some for each label, which are hashed by `hasher`, since strangers choose them.
 ///
 /// # Errors
 /// `LoadFault::Text` with the first fault from left to right, and its line; `StoreFault::Full` where the text has none, and its terms
 /// and the known ones are more than the limit; and want of memory, in either form, at any time. A refusal leaves the store as it was, its
 /// next number and its known terms included.
-pub fn load(alloc: Global, store: &mut Store, bytes: &[u8]) -> Result<(), LoadFault>
+pub fn load(
+    alloc: Global,
+    hasher: RandomState,
+    store: &mut Store,
+    bytes: &[u8],
+) -> Result<(), LoadFault>
     ensures loaded { OnOk result (IsLoaded store.old.limit bytes.now store.old.base store.new.base) }
     ensures fault { IfErr result (λ fault. IsLoadFault store.old.limit bytes.now store.old.base.next store.old.base.known fault) }
     ensures refused { OnErr result (store.new.base ≡ store.old.base) }
@@ -106,7 +112,7 @@ pub fn load(alloc: Global, store: &mut Store, bytes: &[u8]) -> Result<(), LoadFa
     next_number_is_fresh();
     quads_make_their_terms_known();
     let first = store.next_blank();
-    let mut reader = match Reader::new(alloc, bytes, first) {
+    let mut reader = match Reader::new(alloc, hasher, bytes, first) {
         Ok(reader) => reader,
         Err(fault) => return Err(LoadFault::Text(fault)),
     };

@@ -1,14 +1,12 @@
 -- The numbers of labels are below the next one, which only grows.
 use Rattle.std.proofs.Common.{◌≤◌, ◌<◌, ℕ, ◌+◌, ◌^◌, nat_lt, List, Option, Some, None, Result, Ok, Err, IfOk, IfSome, All, arith, le_refl}
-use Rattle.std.specs.Ordering.{nat_cmp}
-use Rattle.std.specs.Cmp.Lexicographic.{slice_cmp}
 use Rattle.std.specs.Map.{values_of, lookup}
 use Rattle.std.specs.Str.{bytes_eq}
-use Rattle.std.specs.BTreeMap.{insert_entry}
 use Rattle.std.proofs.lemmas.Bool.{cond_both}
 use Rattle.std.proofs.lemmas.List.Elements.{All-nil, All-weaker}
-use Rattle.std.proofs.lemmas.Map.Views.{All-values-insert_entry, IfSome-lookup_from_All}
-use Rattle.qs_nquads.specs.Labels.{Numbering, from, add, known_or_new, number}
+use Rattle.std.proofs.lemmas.Map.Views.{IfSome-lookup_from_All}
+use Rattle.qs_nquads.specs.Labels.{Numbering, from, with_label, add, known_or_new, number}
+use Rattle.qs_nquads.proofs.Numbers.{values_last}
 use Rattle.qs_nquads.specs.declared.fault.NqFaultKind.{NqFaultKind}
 use Rattle.qs_nquads.specs.declared.fault.NqFaultKind.TheVariants as fault
 
@@ -25,12 +23,9 @@ pub record Gives (n : Numbering) (given : ℕ × Numbering) : Type 0 where
   pub unused : IsUnused given.1
   pub below : given.0 < given.1.next
 
-abbrev with_label : Numbering → List ℕ → Numbering
-with_label n label = record { numbers = insert_entry (slice_cmp nat_cmp) n.numbers label n.next; next = n.next + 1 }
-
 unused_behind : (n : Numbering) (label : List ℕ) → IsUnused n → IsUnused (with_label n label)
 unused_behind n label h =
-    All-values-insert_entry (slice_cmp nat_cmp) label n.next (λ k. k < n.next + 1) n.numbers
+    values_last (λ k. k < n.next + 1) n.numbers label n.next
     (All-weaker (λ k. k < n.next) (λ k. k < n.next + 1) (λ k below. omega arith) (values_of n.numbers) h)
     (omega arith)
 

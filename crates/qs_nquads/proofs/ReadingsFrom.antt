@@ -2,14 +2,11 @@
 use Rattle.std.proofs.Common.{◌≤◌, ℕ, ◌+◌, ◌^◌, nat_lt, Bool, true, false, List, [], ◌∷◌, ◌++◌, Option, Some, None, Result, Ok, Err, IfOk, IfSome, All, take, drop, subst, arith, le_refl, chars}
 use Rattle.std.specs.Prelude.{⊤}
 use Rattle.std.specs.List.{flat_map}
-use Rattle.std.specs.Ordering.{nat_cmp}
-use Rattle.std.specs.Cmp.Lexicographic.{slice_cmp}
 use Rattle.std.specs.Map.{values_of, lookup}
 use Rattle.std.specs.Str.{bytes_eq}
-use Rattle.std.specs.BTreeMap.{insert_entry}
 use Rattle.std.proofs.lemmas.Bool.{cond_both}
 use Rattle.std.proofs.lemmas.List.Elements.{All-nil, All-cons, All-append}
-use Rattle.std.proofs.lemmas.Map.Views.{All-values-insert_entry, IfSome-lookup_from_All}
+use Rattle.std.proofs.lemmas.Map.Views.{IfSome-lookup_from_All}
 use Rattle.qs_regular.specs.Longest.{best}
 use Rattle.qs_terms.specs.Literal.{Literal, checked_typed, checked_tagged}
 use Rattle.qs_terms.specs.Statement.{Statement}
@@ -17,13 +14,14 @@ use Rattle.qs_terms.specs.declared.fault.TermFault.{TermFault}
 use Rattle.qs_terms.specs.declared.term.Term.{Term}
 use Rattle.qs_terms.specs.declared.term.Term.TheVariants as term
 use Rattle.qs_nquads.specs.Gap.{behind_gap}
-use Rattle.qs_nquads.specs.Labels.{Numbering, add, known_or_new, number}
+use Rattle.qs_nquads.specs.Labels.{Numbering, with_label, add, known_or_new, number}
 use Rattle.qs_nquads.specs.Part.{part_of, iri_part, blank_part, label_part, takes_label, behind}
 use Rattle.qs_nquads.specs.Place.{term_of, with_literal, at_start, at_subject, at_predicate, at_object, at_form, at_typed, at_label, at_done, after, may_end}
 use Rattle.qs_nquads.specs.Reading.{Reading, State, Step, at_first, start, goes, ends, stops, step_from, step_over, stepped, read, taken, placed, Comes, here, on}
 use Rattle.qs_nquads.specs.Nquads.{IsNquads}
 use Rattle.qs_nquads.specs.Renumbered.{blanks_in, blanks_in_name, blanks_of}
 use Rattle.qs_nquads.specs.Table.{table}
+use Rattle.qs_nquads.proofs.Numbers.{values_last}
 use Rattle.qs_nquads.specs.declared.class.Class.{Class}
 use Rattle.qs_nquads.specs.declared.class.Class.TheVariants as class
 use Rattle.qs_nquads.specs.declared.fault.NqFaultKind.{NqFaultKind}
@@ -93,13 +91,13 @@ module _ (first : ℕ) where
 
   adds : (n : Numbering) (label : List ℕ) → OfNumbers n → IfOk (add n label) (λ given. (first ≤ given.0) × OfNumbers given.1)
   adds n label h =
-      cond_both (nat_lt (n.next + 1) (2 ^ 64)) (Ok (n.next, record { numbers = insert_entry (slice_cmp nat_cmp) n.numbers label n.next; next = n.next + 1 })) (Err fault.Full)
+      cond_both (nat_lt (n.next + 1) (2 ^ 64)) (Ok (n.next, with_label n label)) (Err fault.Full)
       (λ (r : Result (ℕ × Numbering) NqFaultKind). IfOk r (λ given. (first ≤ given.0) × OfNumbers given.1))
       (λ _. (
         h.next,
         record {
           next = (let l : first ≤ n.next = h.next in omega arith);
-          numbers = All-values-insert_entry (slice_cmp nat_cmp) label n.next (λ k. first ≤ k) n.numbers h.numbers h.next;
+          numbers = values_last (λ k. first ≤ k) n.numbers label n.next h.numbers h.next;
         },
       ))
       (λ _. tt)

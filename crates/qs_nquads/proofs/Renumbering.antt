@@ -6,18 +6,12 @@ use Rattle.std.specs.List.{list_any}
 use Rattle.std.specs.Map.{lookup}
 use Rattle.std.specs.Str.Parse.{digits_value}
 use Rattle.std.specs.Str.{bytes_eq}
-use Rattle.std.proofs.Common.{Ordering}
-use Rattle.std.specs.declared.cmp.Ordering.TheVariants.{Less, Equal, Greater}
-use Rattle.std.specs.Ordering.{nat_cmp, match_ordering, is_eq}
-use Rattle.std.specs.Cmp.Lexicographic.{slice_cmp}
-use Rattle.std.specs.BTreeMap.{insert_entry}
 use Rattle.std.proofs.lemmas.Bool.Decides.{nat_tests}
 use Rattle.std.proofs.lemmas.Slice.Eq.{bytes_eq-Decides}
-use Rattle.std.proofs.lemmas.Map.Text.{is_eq-slice_cmp}
 use Rattle.std.proofs.lemmas.Fmt.{decimal_is_IsNumeral}
 use Rattle.qs_terms.specs.Bag.{once, with_new}
 use Rattle.qs_terms.proofs.FirstOnes.{once_with, or_left_false, or_right_false, or_second}
-use Rattle.qs_nquads.specs.Labels.{Numbering, number, known_or_new, from}
+use Rattle.qs_nquads.specs.Labels.{Numbering, with_label, number, known_or_new, from}
 use Rattle.qs_nquads.specs.declared.fault.NqFaultKind.TheVariants as fault
 use Rattle.qs_nquads.specs.Written.{label}
 use Rattle.qs_nquads.specs.Renumbered.{before}
@@ -43,7 +37,7 @@ bool_same false false P Q d e f g = refl
 label_test : (m n : ℕ) → m < 2 ^ 64 → n < 2 ^ 64 → bytes_eq (label m) (label n) ≡ same m n
 label_test m n hm hn = bool_same (bytes_eq (label m) (label n)) (same m n) (label m ≡ label n) (m ≡ n) (bytes_eq-Decides (label m) (label n)) (exact m n) (label_value m n hm hn) (ap label)
 
--- ---- what a map finds behind an insertion of a new key
+-- ---- what is found behind a new key that is put last
 
 bytes_refl : (k : List ℕ) → bytes_eq k k ≡ true
 bytes_refl k = (bytes_eq-Decides k k).1 refl
@@ -59,19 +53,11 @@ head_new : (k : List ℕ) (e : List ℕ × ℕ) (es : List (List ℕ × ℕ)) (b
 head_new k e es true h n = cc
 head_new k e es false h n = (h, n)
 
-inserted_at : (o : Ordering) (k : List ℕ) (v : ℕ) (q : List ℕ) (e : List ℕ × ℕ) (es more : List (List ℕ × ℕ)) → slice_cmp nat_cmp k e.0 ≡ o → bytes_eq k e.0 ≡ false
-    → lookup (bytes_eq q) more ≡ cond (bytes_eq q k) (Some v) (lookup (bytes_eq q) es)
-    → lookup (bytes_eq q) (match_ordering o ((k, v) ∷ e ∷ es) ((e.0, v) ∷ es) (e ∷ more)) ≡ cond (bytes_eq q k) (Some v) (lookup (bytes_eq q) (e ∷ es))
-inserted_at Less k v q e es more h n i = refl
-inserted_at Equal k v q e es more h n i = absurd (true≢false (ap is_eq (sym h) ∙ (is_eq-slice_cmp k e.0 ∙ n)))
-inserted_at Greater k v q e es more h n i = ap (λ z. cond (bytes_eq q e.0) (Some e.1) z) i ∙ swapped (bytes_eq q e.0) q k e.0 v e.1 (lookup (bytes_eq q) es) refl n
-
-pub inserted : (es : List (List ℕ × ℕ)) (k : List ℕ) (v : ℕ) (q : List ℕ) → lookup (bytes_eq k) es ≡ None
-    → lookup (bytes_eq q) (insert_entry (slice_cmp nat_cmp) es k v) ≡ cond (bytes_eq q k) (Some v) (lookup (bytes_eq q) es)
-inserted [] k v q n = refl
-inserted (e ∷ es) k v q n =
+pub put_last : (es : List (List ℕ × ℕ)) (k : List ℕ) (v : ℕ) (q : List ℕ) → lookup (bytes_eq k) es ≡ None → lookup (bytes_eq q) (es ++ (k, v) ∷ []) ≡ cond (bytes_eq q k) (Some v) (lookup (bytes_eq q) es)
+put_last [] k v q n = refl
+put_last (e ∷ es) k v q n =
     let h = head_new k e es (bytes_eq k e.0) refl n in
-    inserted_at (slice_cmp nat_cmp k e.0) k v q e es (insert_entry (slice_cmp nat_cmp) es k v) refl h.0 (inserted es k v q h.1)
+    ap (λ z. cond (bytes_eq q e.0) (Some e.1) z) (put_last es k v q h.1) ∙ swapped (bytes_eq q e.0) q k e.0 v e.1 (lookup (bytes_eq q) es) refl h.0
 
 -- ---- places
 
@@ -158,14 +144,14 @@ numbered first xs n b hb a bound = by (list_any (same b) (once same xs)) refl wh
       let nx : n.next ≡ first + length (once same xs) = a.next in
       let small : nat_lt (n.next + 1) (2 ^ 64) ≡ true = room (n.next + 1) (omega arith) in
       let place : before b (once same (xs ++ b ∷ [])) ≡ length (once same xs) = ap (before b) o ∙ before_out b (once same xs) e in
-      let m : Numbering = record { numbers = insert_entry (slice_cmp nat_cmp) n.numbers (label b) n.next; next = n.next + 1 } in
+      let m : Numbering = with_label n (label b) in
       let g : first + before b (once same (xs ++ b ∷ [])) ≡ n.next = omega arith in
       record {
         behind = m;
         given = ap (λ z. known_or_new n (label b) z) l ∙ (ap (λ (t : Bool). if t then (Ok (n.next, m)) else (Err fault.Full)) small ∙ ap (λ z. Ok (z, m)) (sym g));
         agrees = record {
           next = omega arith;
-          known = λ q h. inserted n.numbers (label b) n.next (label q) l ∙ (ap₂ (λ (t : Bool) (z : Option ℕ). cond t (Some n.next) z) (label_test q b h hb) (a.known q h)
+          known = λ q h. put_last n.numbers (label b) n.next (label q) l ∙ (ap₂ (λ (t : Bool) (z : Option ℕ). cond t (Some n.next) z) (label_test q b h hb) (a.known q h)
               ∙ (ap (λ z. cond (same q b) (Some z) (found first q (once same xs))) nx ∙ (sym (found_new first q b (once same xs) e) ∙ ap (found first q) (sym o))));
         };
       }

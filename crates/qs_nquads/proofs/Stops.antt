@@ -1,14 +1,11 @@
 -- Where reading stops.
 use Rattle.std.proofs.Common.{◌≡◌, ◌≢◌, ℕ, Bool, true, false, List, [], ◌∷◌, Option, Some, None, Result, Ok, Err, refl, sym, ap, ◌∙◌, true≢false}
 use Rattle.std.specs.Prelude.{if◌then◌else◌, ◌+◌, ◌^◌, nat_lt}
-use Rattle.std.specs.Ordering.{nat_cmp}
-use Rattle.std.specs.Cmp.Lexicographic.{slice_cmp}
-use Rattle.std.specs.BTreeMap.{insert_entry}
 use Rattle.qs_terms.specs.Literal.{Literal}
 use Rattle.qs_terms.specs.Statement.{Statement}
 use Rattle.qs_terms.specs.declared.fault.TermFault.{TermFault}
 use Rattle.qs_nquads.specs.Gap.{behind_gap}
-use Rattle.qs_nquads.specs.Labels.{Numbering, known_or_new, number}
+use Rattle.qs_nquads.specs.Labels.{Numbering, with_label, known_or_new, number}
 use Rattle.qs_nquads.specs.Part.{part_of, iri_part, blank_part, label_part, takes_label, behind}
 use Rattle.qs_nquads.specs.Place.{after, with_literal, may_end}
 use Rattle.qs_nquads.specs.Reading.{Reading, State, Step, goes, ends, stops, step, step_from, step_over, stepped, read, taken, placed}
@@ -52,7 +49,7 @@ unless_full false x = refl
 known_never : (n : Numbering) (label : List ℕ) (o : Option ℕ) → is_err (known_or_new n label o) ≡ false
 unfolding is_err is_never
 known_never n label (Some number) = refl
-known_never n label None = unless_full (nat_lt (n.next + 1) (2 ^ 64)) (n.next, record { numbers = insert_entry (slice_cmp nat_cmp) n.numbers label n.next; next = n.next + 1 })
+known_never n label None = unless_full (nat_lt (n.next + 1) (2 ^ 64)) (n.next, with_label n label)
 
 blank_never : (r : Result (ℕ × Numbering) NqFaultKind) → is_err r ≡ false → is_err (blank_part r) ≡ false
 unfolding is_err

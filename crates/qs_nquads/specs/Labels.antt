@@ -1,14 +1,12 @@
 -- Numbers of blank nodes, by their labels (RDF 1.1 N-Quads, 3.3): a label is numbered where it first appears.
-use Rattle.std.specs.Prelude.{ℕ, ◌+◌, ◌^◌, nat_lt, List, [], Option, Some, None, Result, Ok, Err, if◌then◌else◌}
-use Rattle.std.specs.Ordering.{nat_cmp}
-use Rattle.std.specs.Cmp.Lexicographic.{slice_cmp}
+use Rattle.std.specs.Prelude.{ℕ, ◌+◌, ◌^◌, nat_lt, List, [], ◌∷◌, ◌++◌, Option, Some, None, Result, Ok, Err, if◌then◌else◌}
 use Rattle.std.specs.Str.{bytes_eq}
 use Rattle.std.specs.Map.{lookup}
-use Rattle.std.specs.BTreeMap.{insert_entry}
 use Rattle.qs_nquads.specs.declared.fault.NqFaultKind.{NqFaultKind}
 use Rattle.qs_nquads.specs.declared.fault.NqFaultKind.TheVariants as fault
 
--- the labels that were met, each once and with its number, and the number that the next new one gets
+-- the labels that were met, each once and with its number, in the order in which they first appeared, and the number that the next new
+-- one gets
 pub record Numbering : Type 0 where
   pub numbers : List (List ℕ × ℕ)
   pub next : ℕ
@@ -17,11 +15,15 @@ pub record Numbering : Type 0 where
 abbrev pub from : ℕ → Numbering
 from first = record { numbers = []; next = first }
 
+-- the same behind a new label, which comes last and has the next number
+abbrev pub with_label : Numbering → List ℕ → Numbering
+with_label n label = record { numbers = n.numbers ++ (label, n.next) ∷ []; next = n.next + 1 }
+
 -- a new label gets the next number, unless no number would be left behind it
 abbrev pub add : Numbering → List ℕ → Result (ℕ × Numbering) NqFaultKind
 add n label =
     if nat_lt (n.next + 1) (2 ^ 64)
-    then (Ok (n.next, record { numbers = insert_entry (slice_cmp nat_cmp) n.numbers label n.next; next = n.next + 1 }))
+    then (Ok (n.next, with_label n label))
     else (Err fault.Full)
 
 abbrev pub known_or_new : Numbering → List ℕ → Option ℕ → Result (ℕ × Numbering) NqFaultKind

@@ -8,6 +8,7 @@ use crate::fault::NqFault;
 use crate::reader::Reader;
 use qs_terms::Quad;
 use std::alloc::{AllocError, Global};
+use std::hash::RandomState;
 
 fn push<T: Drop>(items: &mut Vec<T>, item: T) -> Result<(), AllocError>
     ensures { OnOk result (items.new.items ≡ items.old.items ++ item ∷ []) }
@@ -34,15 +35,21 @@ fn read_into(reader: &mut Reader<'_>, quads: &mut Vec<Quad>) -> Result<u64, NqFa
 }
 
 /// The quads of N-Quads in the order of their statements, repeats kept, and the number that the next new label would get. Labels
-/// of blank nodes are numbered from `first_blank` in the order in which they first appear (RDF 1.1 N-Quads, 3 and 4).
+/// of blank nodes are numbered from `first_blank` in the order in which they first appear (RDF 1.1 N-Quads, 3 and 4). They are hashed by
+/// `hasher`, since strangers choose them.
 ///
 /// # Errors
 /// The first fault from left to right, with its line: `NqFaultKind::Utf8` before all others. `NqFaultKind::Memory` may come at
 /// any token, with the line of that token.
-pub fn read(alloc: Global, bytes: &[u8], first_blank: u64) -> Result<(Vec<Quad>, u64), NqFault>
+pub fn read(
+    alloc: Global,
+    hasher: RandomState,
+    bytes: &[u8],
+    first_blank: u64,
+) -> Result<(Vec<Quad>, u64), NqFault>
     ensures { MatchResult result (λ r. IsNquads bytes.now first_blank r.0.items r.1) (λ fault. IsFault bytes.now first_blank fault.kind fault.line) }
 {
-    let mut reader = match Reader::new(alloc, bytes, first_blank) {
+    let mut reader = match Reader::new(alloc, hasher, bytes, first_blank) {
         Ok(reader) => reader,
         Err(fault) => return Err(fault),
     };

@@ -72,8 +72,7 @@ fn blank(
     if !takes_label(place) {
         return Err(NqFaultKind::Shape);
     }
-    let label = Text::new(alloc, label)?;
-    let number = labels.number(label)?;
+    let number = labels.number(alloc, label)?;
     Ok(Part::Blank(number))
 }
 

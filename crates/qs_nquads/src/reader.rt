@@ -16,6 +16,7 @@ use crate::part::part_of;
 use crate::place::{Next, Place, after};
 use qs_terms::Quad;
 use std::alloc::Global;
+use std::hash::RandomState;
 use std::marker::Model;
 use std::mem;
 
@@ -134,11 +135,17 @@ fn read_statement<'a>(
 }
 
 impl<'a> Reader<'a> {
-    /// A reader of the bytes, which has read nothing. The next new label gets the number `first_blank`. It takes no memory.
+    /// A reader of the bytes, which has read nothing. The next new label gets the number `first_blank`. Labels are hashed by `hasher`,
+    /// since strangers choose them. It takes no memory.
     ///
     /// # Errors
     /// `NqFaultKind::Utf8` with the line of the first bad byte, where the bytes aren't UTF-8.
-    pub fn new(alloc: Global, bytes: &'a [u8], first_blank: u64) -> Result<Reader<'a>, NqFault>
+    pub fn new(
+        alloc: Global,
+        hasher: RandomState,
+        bytes: &'a [u8],
+        first_blank: u64,
+    ) -> Result<Reader<'a>, NqFault>
         ensures bytes { IfOk result (λ reader. reader.bytes ≡ bytes.now) }
         ensures read { IfOk result (λ reader. HasRead first_blank [] reader) }
         ensures fault { IfErr result (λ fault. (fault.kind ≡ Utf8) × IsFault bytes.now first_blank fault.kind fault.line) }
@@ -149,7 +156,7 @@ impl<'a> Reader<'a> {
                 text,
                 rest: text,
                 place: Place::Start,
-                labels: Labels::new(alloc, first_blank),
+                labels: Labels::new(alloc, hasher, first_blank),
             }),
             Err(error) => Err(NqFault {
                 line: line_at(bytes, error.valid_up_to()),

@@ -13,6 +13,7 @@ use qs_nquads::{NqFault, read};
 use qs_select::laws::quads_are_a_dataset;
 use qs_terms::{QFault, Quad};
 use std::alloc::Global;
+use std::hash::RandomState;
 
 /// The most solutions that a query may have, behind OFFSET and LIMIT, and a WHERE of an update.
 pub const MAX_ROWS: u64 = 1_000_000;
@@ -52,13 +53,13 @@ pub fn unstored(fault: LoadFault) -> Ended
     }
 }
 
-/// How the job of a check ends.
-pub fn check_ended(alloc: Global, file: Vec<u8>) -> Ended
+/// How the job of a check ends. The labels of blank nodes are hashed by `hasher`.
+pub fn check_ended(alloc: Global, hasher: RandomState, file: Vec<u8>) -> Ended
     ensures { IsCheckEnd file.items result }
 {
     next_number_is_fresh();
     quads_are_a_dataset();
-    let outcome = read(alloc, file.as_slice(), 0);
+    let outcome = read(alloc, hasher, file.as_slice(), 0);
     drop(file);
     match outcome {
         Ok((quads, _)) => Ended::Quads(quads),

@@ -34,7 +34,7 @@ pub fn stored(
     ensures { BecomesStored default_graph file.items result }
 {
     let mut store = Store::with_default(alloc, MAX_TERMS, hasher, default_graph);
-    let outcome = load(alloc, &mut store, file.as_slice());
+    let outcome = load(alloc, hasher, &mut store, file.as_slice());
     drop(file);
     match outcome {
         Ok(()) => Ok(store),

@@ -151,8 +151,8 @@ fn put(store: &mut Store, quads: &[Quad], next: u64) -> Outcome {
     }
 }
 
-fn put_data(alloc: Global, store: &mut Store) -> Outcome {
-    match read(alloc, DATA, 0) {
+fn put_data(alloc: Global, hasher: RandomState, store: &mut Store) -> Outcome {
+    match read(alloc, hasher, DATA, 0) {
         Ok((quads, next)) => {
             let outcome = put(store, quads.as_slice(), next);
             drop(quads);
@@ -174,8 +174,8 @@ fn full_outcome(alloc: Global, store: &mut Store) -> Outcome {
     }
 }
 
-fn stored_outcome(alloc: Global, store: &mut Store) -> Outcome {
-    let outcome = match put_data(alloc, store) {
+fn stored_outcome(alloc: Global, hasher: RandomState, store: &mut Store) -> Outcome {
+    let outcome = match put_data(alloc, hasher, store) {
         Outcome::Whole => answered_outcome(alloc, &*store),
         other => other,
     };
@@ -190,7 +190,7 @@ pub fn outcome(alloc: Global, hasher: Option<RandomState>) -> Outcome {
     match hasher {
         Some(hasher) => {
             let mut store = Store::new(alloc, 100, hasher);
-            let outcome = stored_outcome(alloc, &mut store);
+            let outcome = stored_outcome(alloc, hasher, &mut store);
             drop(store);
             outcome
         }

@@ -17,12 +17,12 @@ fn tokens_tolerant(rt: HostRuntime) {
 
 #[test]
 fn quads_strict(rt: HostRuntime) {
-    assert!(rt; quads::outcome(rt.alloc()) == Outcome::Whole);
+    assert!(rt; quads::outcome(rt.alloc(), RandomState::new(&rt).ok()) == Outcome::Whole);
 }
 
 #[test]
 fn quads_tolerant(rt: HostRuntime) {
-    assert!(rt; quads::outcome(rt.alloc()) != Outcome::Wrong);
+    assert!(rt; quads::outcome(rt.alloc(), RandomState::new(&rt).ok()) != Outcome::Wrong);
 }
 
 #[test]
@@ -67,10 +67,10 @@ fn lines_tolerant(rt: HostRuntime) {
 
 #[test]
 fn written_strict(rt: HostRuntime) {
-    assert!(rt; written::outcome(rt.alloc()) == Outcome::Whole);
+    assert!(rt; written::outcome(rt.alloc(), RandomState::new(&rt).ok()) == Outcome::Whole);
 }
 
 #[test]
 fn written_tolerant(rt: HostRuntime) {
-    assert!(rt; written::outcome(rt.alloc()) != Outcome::Wrong);
+    assert!(rt; written::outcome(rt.alloc(), RandomState::new(&rt).ok()) != Outcome::Wrong);
 }

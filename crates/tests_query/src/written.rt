@@ -7,6 +7,7 @@ use crate::outcome::Outcome;
 use qs_nquads::{NqFaultKind, WriteFault, read, text, write};
 use qs_terms::{Quad, Sink};
 use std::alloc::Global;
+use std::hash::RandomState;
 use std::io;
 
 // A repeated statement, a carriage return, a tag in capitals; the labels are numbered from 7.
@@ -74,8 +75,11 @@ fn goes_out(alloc: Global, quads: &[Quad], calls: u64) -> Outcome {
 }
 
 /// Whether the quads go out with so many calls, and are made one text.
-fn with_calls(alloc: Global, calls: u64) -> Outcome {
-    match read(alloc, DATA, 7) {
+fn with_calls(alloc: Global, hasher: Option<RandomState>, calls: u64) -> Outcome {
+    let Some(hasher) = hasher else {
+        return Outcome::Refused;
+    };
+    match read(alloc, hasher, DATA, 7) {
         Ok((quads, _)) => {
             let outcome = match goes_out(alloc, quads.as_slice(), calls) {
                 Outcome::Whole => written(text(alloc, quads.as_slice()), TEXT),
@@ -90,13 +94,17 @@ fn with_calls(alloc: Global, calls: u64) -> Outcome {
 }
 
 /// Whether the quads are written.
-pub fn outcome(alloc: Global) -> Outcome {
-    with_calls(alloc, CALLS)
+pub fn outcome(alloc: Global, hasher: Option<RandomState>) -> Outcome {
+    with_calls(alloc, hasher, CALLS)
 }
 
 #[test]
 fn stops_at_each_call_that_fails(rt: HostRuntime) {
+    let hasher = RandomState::new(&rt).ok();
     for calls in 0..=CALLS {
-        assert!(rt; with_calls(rt.alloc(), calls) == Outcome::Whole, "{calls}");
+        assert!(rt;
+            with_calls(rt.alloc(), hasher, calls) == Outcome::Whole,
+            "{calls}"
+        );
     }
 }

@@ -82,8 +82,8 @@ fn holds(store: &Store, row: &Row) -> bool {
     store.count() == row.quads && store.terms() == row.terms && store.next_blank() == row.next
 }
 
-fn step(alloc: Global, store: &mut Store, before: &Row, row: &Row) -> Outcome {
-    let loaded = load(alloc, store, row.text.as_bytes());
+fn step(alloc: Global, hasher: RandomState, store: &mut Store, before: &Row, row: &Row) -> Outcome {
+    let loaded = load(alloc, hasher, store, row.text.as_bytes());
     if is_want_of_memory(&loaded) {
         Outcome::Refused.or_wrong(holds(store, before))
     } else {
@@ -91,10 +91,10 @@ fn step(alloc: Global, store: &mut Store, before: &Row, row: &Row) -> Outcome {
     }
 }
 
-fn steps(alloc: Global, store: &mut Store) -> Outcome {
+fn steps(alloc: Global, hasher: RandomState, store: &mut Store) -> Outcome {
     let mut before = &NOTHING;
     for row in ROWS {
-        let outcome = step(alloc, store, before, row);
+        let outcome = step(alloc, hasher, store, before, row);
         if outcome != Outcome::Whole {
             return outcome;
         }
@@ -109,7 +109,7 @@ pub fn outcome(alloc: Global, hasher: Option<RandomState>) -> Outcome {
         return Outcome::Refused;
     };
     let mut store = Store::new(alloc, 10, hasher);
-    let outcome = steps(alloc, &mut store);
+    let outcome = steps(alloc, hasher, &mut store);
     drop(store);
     outcome
 }
