@@ -1,2 +1,4 @@
 pub mod Listed
 pub mod Places
+pub mod Nothing
+pub mod Within

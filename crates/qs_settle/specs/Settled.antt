@@ -94,3 +94,7 @@ unfoldable pub update_outcome : List ℕ → List Token → WrittenUpdate → Ou
 update_outcome text tokens u =
     and_then (and_then (by_place (resolved_update text (variables_of text tokens) u) (large.update u)) (in_scope update_keeps_scope))
     (λ kept. Ok (listed_update kept))
+
+-- what no token spells: one step, without an operation
+abbrev pub no_operation : WrittenUpdate
+no_operation = record { steps = record { prologue = []; operation = None } ∷ [] }

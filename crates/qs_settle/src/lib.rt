@@ -9,4 +9,4 @@ mod screening;
 mod settle;
 
 pub use screening::screen;
-pub use settle::{settle_query, settle_update};
+pub use settle::{settle_nothing, settle_query, settle_update};

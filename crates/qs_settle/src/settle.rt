@@ -1,7 +1,9 @@
 //! Faults of the tree.
 
-ghost use Rattle.std.specs.Prelude.{◌≡◌, IfOk, IfErr, OnOk, Ok, Err, if◌then◌else◌};
+ghost use Rattle.std.specs.Prelude.{◌≡◌, ℕ, List, [], None, IfOk, IfErr, OnOk, Ok, Err, if◌then◌else◌};
 ghost use Rattle.qs_terms.specs.declared.fault.QFault.TheVariants.{Memory, Scope};
+ghost use Rattle.qs_limits.specs.Large as large;
+ghost use Rattle.qs_resolve.specs.Resolved.{resolved_query, resolved_update};
 ghost use Rattle.qs_scope.specs.KeepsScope as rule;
 ghost use Rattle.qs_terms.specs.Outcome.{OrWantOfMemory};
 ghost use Rattle.qs_settle.specs.Settled as spec;
@@ -98,6 +100,21 @@ fn variables(alloc: Global, text: &str, tokens: &[Token]) -> Result<Items<Variab
     named(alloc, &names, tokens)
 }
 
+// where a limit is passed none, since what comes of it is a fault
+fn variables_within(
+    alloc: Global,
+    text: &str,
+    tokens: &[Token],
+    large: Option<usize>,
+) -> Result<Items<Variable>, AllocError>
+    ensures { IfOk result (λ v. large ≡ None → v ≡ spec.variables_of text.now tokens.now) }
+{
+    match large {
+        None => variables(alloc, text, tokens),
+        Some(_place) => Ok(Items::new(alloc)),
+    }
+}
+
 // the tree, where it keeps the rules of scope
 fn where_kept<T: Drop>(keeps: Result<bool, AllocError>, tree: T) -> Result<T, QFault>
     ensures kept { IfOk keeps (λ holds. result ≡ (if holds then Ok tree else Err Scope)) }
@@ -156,8 +173,23 @@ fn listed_update(alloc: Global, update: Update) -> Result<Update, AllocError>
     })
 }
 
+// limits take no memory, so they are looked at first
+fn query_within(
+    alloc: Global,
+    text: &str,
+    tokens: &[Token],
+    tree: &WrittenQuery,
+) -> Result<Query, QFault>
+    ensures { OrWantOfMemory (spec.by_place (resolved_query text.now (spec.variables_of text.now tokens.now) tree.now) (large.query tree.now)) result }
+{
+    let large = large_query(tree);
+    let variables = variables_within(alloc, text, tokens, large)?;
+    let resolved = resolve_query(alloc, text, variables, tree);
+    by_place(resolved, large)
+}
+
 /// The query of a tree that the text's tokens spell, with all of its variables.
-#[tactic(auto, using(crate::proofs::Places::placed), unfolding(crate::specs::Settled::query_outcome))]
+#[tactic(auto, unfolding(crate::specs::Settled::query_outcome))]
 pub fn settle_query(
     alloc: Global,
     text: &str,
@@ -166,15 +198,28 @@ pub fn settle_query(
 ) -> Result<Query, QFault>
     ensures { OrWantOfMemory (spec.query_outcome text.now tokens.now tree.now) result }
 {
-    let variables = variables(alloc, text, tokens)?;
-    let resolved = resolve_query(alloc, text, variables, tree);
-    let query = by_place(resolved, large_query(tree))?;
+    let query = query_within(alloc, text, tokens, tree)?;
     let query = scoped_query(alloc, query)?;
     Ok(listed_query(alloc, query)?)
 }
 
+// limits take no memory, so they are looked at first
+fn update_within(
+    alloc: Global,
+    text: &str,
+    tokens: &[Token],
+    tree: &WrittenUpdate,
+) -> Result<Update, QFault>
+    ensures { OrWantOfMemory (spec.by_place (resolved_update text.now (spec.variables_of text.now tokens.now) tree.now) (large.update tree.now)) result }
+{
+    let large = large_update(tree);
+    let variables = variables_within(alloc, text, tokens, large)?;
+    let resolved = resolve_update(alloc, text, variables, tree);
+    by_place(resolved, large)
+}
+
 /// The update of a tree that the text's tokens spell, with all of its variables.
-#[tactic(auto, using(crate::proofs::Places::placed), unfolding(crate::specs::Settled::update_outcome))]
+#[tactic(auto, unfolding(crate::specs::Settled::update_outcome))]
 pub fn settle_update(
     alloc: Global,
     text: &str,
@@ -183,9 +228,17 @@ pub fn settle_update(
 ) -> Result<Update, QFault>
     ensures { OrWantOfMemory (spec.update_outcome text.now tokens.now tree.now) result }
 {
-    let variables = variables(alloc, text, tokens)?;
-    let resolved = resolve_update(alloc, text, variables, tree);
-    let update = by_place(resolved, large_update(tree))?;
+    let update = update_within(alloc, text, tokens, tree)?;
     let update = scoped_update(alloc, update)?;
     Ok(listed_update(alloc, update)?)
+}
+
+/// The update that no token spells. It takes no memory.
+pub fn settle_nothing(alloc: Global) -> Update
+    ensures { (text : List ℕ) → spec.update_outcome text [] spec.no_operation ≡ Ok result }
+{
+    Update {
+        operations: Items::new(alloc),
+        variables: Items::new(alloc),
+    }
 }

@@ -1,18 +1,20 @@
--- A text without tokens is no query, and its end is to blame.
-use Rattle.std.proofs.Common.{◌≡◌, inr, ℕ, List, [], length, Ok, Err, refl, subst, arith}
+-- A text without tokens is no query, and its end is to blame; as an update it has no operation.
+use Rattle.std.proofs.Common.{◌≡◌, inl, inr, sym, ℕ, List, [], length, Ok, Err, refl, subst, arith}
 use Rattle.std.proofs.lemmas.List.{nil_from_length}
-use Rattle.qs_grammar.specs.Grammar.{read, whole}
+use Rattle.qs_grammar.specs.Grammar.{Spells, read, whole}
 use Rattle.qs_grammar.specs.declared.fault.Fault.TheVariants as reading
-use Rattle.qs_grammar.proofs.Whole.{is_due, none_spelt}
+use Rattle.qs_grammar.proofs.Whole.{found_spelt, is_due, none_spelt}
 use Rattle.std.proofs.lemmas.Str.{chars-nil}
-use Rattle.qs_settle.specs.Settled.{screened}
+use Rattle.qs_settle.specs.Settled.{screened, update_outcome, no_operation}
+use Rattle.qs_ast.specs.declared.update.Update.{Update}
 use Rattle.qs_terms.specs.declared.fault.QFault.TheVariants as fault
 use Rattle.qs_tree.specs.declared.token.Token.{Token}
 use Rattle.qs_tree.specs.Rules.{prologue, query_form, select, construct, ask, select_clause, prefix_declaration, query, values}
+use Rattle.qs_tree.specs.Rules as rules
 use Rattle.qs_tree.specs.Sparql.{sparql}
 use Rattle.qs_tree.specs.Table.{grammar}
-use Rattle.qs_tree.proofs.Sure.{lawful, passes_each, examples, query_starts}
-use Rattle.qs_syntax.specs.Outcome.{IsQueryOutcome}
+use Rattle.qs_tree.proofs.Sure.{lawful, passes_each, examples, query_starts, update_starts}
+use Rattle.qs_syntax.specs.Outcome.{IsQueryOutcome, IsUpdateOutcome}
 use Rattle.qs_syntax.specs.Text.{AreTokensOf, IsBlamed}
 
 nothing_read : whole (read grammar 0 query []) ≡ Err (reading.Syntax 0)
@@ -36,6 +38,22 @@ without_tokens text tokens a z =
     let none : tokens ≡ [] = nil_from_length tokens z in
     let b : AreTokensOf text [] = subst (AreTokensOf text) none a in
     inr ([], b, (let s : screened text [] ≡ Ok tt = screened_nothing text in rw s (inr (length text, blamed (length text), refl))))
+
+-- ---- as an update
+
+operations_none : whole (read grammar 0 rules.update []) ≡ Ok no_operation
+unfolding rules.update prologue prefix_declaration rules.operations_rule rules.operation rules.insert rules.delete rules.with_graph rules.graph_operation
+operations_none = refl
+
+spelt : Spells grammar rules.update [] no_operation
+spelt = found_spelt sparql lawful grammar passes_each 2 examples _ rules.update update_starts 0 [] no_operation operations_none
+
+pub update_without_tokens : (text : List ℕ) (tokens : List Token) (update : Update) → AreTokensOf text tokens → length tokens ≡ 0
+    → update_outcome text [] no_operation ≡ Ok update → IsUpdateOutcome text (Ok update)
+update_without_tokens text tokens update a z e =
+    let none : tokens ≡ [] = nil_from_length tokens z in
+    let b : AreTokensOf text [] = subst (AreTokensOf text) none a in
+    inr ([], b, (let s : screened text [] ≡ Ok tt = screened_nothing text in rw s (inl (no_operation, spelt, sym e))))
 
 -- ---- the empty text
 

@@ -1,4 +1,11 @@
--- What a text comes to: its query or its update, or the one fault that is due.
+-- What a text comes to: its query or its update, or the one fault that is due. In this order, each where none before it is due:
+--   no token begins at a place (StopsAt): Syntax at the place
+--   a token is left out, then too many brackets are open (screened): LeftOut with the first such token, TooLarge at the first such bracket
+--   the tokens spell no tree (IsBlamed): Syntax at the token from which on none is spelt, or at the end
+--   a name can't be resolved, or a limit of trees is passed (by_place): Prefix or RelativeIri at the first such name, or TooLarge at the
+--   first such place; whichever place comes first, at one place the name's
+--   a literal isn't lawful (lawful), then a rule of scope is broken (in_scope): Scope
+-- IsParsed has the first of these, AfterScreen the next two; query_outcome and update_outcome, which stand in Settled.antt, the others.
 use Rattle.std.specs.Prelude.{◌≡◌, ◌⊎◌, ℕ, List, length, Ok, Err}
 use Rattle.qs_grammar.specs.Grammar.{Spells}
 use Rattle.qs_lex.specs.Lexes.{StopsAt}

@@ -14,7 +14,7 @@ use crate::token::tokens;
 use crate::tree::{query_of_tokens, update_of_tokens};
 use qs_ast::query::Query;
 use qs_ast::update::Update;
-use qs_settle::{screen, settle_query, settle_update};
+use qs_settle::{screen, settle_nothing, settle_query, settle_update};
 use qs_terms::QFault;
 use qs_tree::token::Token;
 use std::alloc::Global;
@@ -59,10 +59,14 @@ pub fn parse_query(alloc: Global, text: &str) -> Result<Query, QFault>
 /// The update of a text, with its names resolved (SPARQL 1.1 Query, 19.8, [3]).
 ///
 /// # Errors
-/// As of `parse_query`, with `QFault::Memory` also for a text without tokens, which is an update.
+/// As of `parse_query`. A text without tokens is an update without operations.
 pub fn parse_update(alloc: Global, text: &str) -> Result<Update, QFault>
-    ensures { OneOrWantOfMemory (IsUpdateOutcome text.now) result }
+    ensures outcome { OneOrWantOfMemory (IsUpdateOutcome text.now) result }
+    ensures kept { IfErr result (λ fault. fault ≡ Memory → HasToken text.now) }
 {
     let tokens = tokens(alloc, text)?;
+    if tokens.is_empty() {
+        return Ok(settle_nothing(alloc));
+    }
     update_of(alloc, text, &tokens)
 }
