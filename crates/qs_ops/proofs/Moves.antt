@@ -6,16 +6,16 @@ use Rattle.qs_terms.specs.Bag.{SameBag}
 use Rattle.qs_terms.specs.declared.term.Term.{Term}
 use Rattle.qs_terms.proofs.Counts.{total, total-same}
 use Rattle.qs_solutions.specs.Solution.{Solution, unbound}
-use Rattle.qs_patterns.specs.Basic.{Graph}
-use Rattle.qs_eval.proofs.Operators.{flat_map_same}
+use Rattle.qs_eval.proofs.Operators.{filter_same, flat_map_same}
 use Rattle.qs_ops.specs.declared.place.Seek.{Seek}
 use Rattle.qs_ops.specs.declared.search.Level.{Level}
 use Rattle.qs_ops.specs.declared.search.Move.{Move}
 use Rattle.qs_ops.specs.declared.search.Move.TheVariants.{Done, Moved, Gave}
 use Rattle.qs_ops.specs.Row.{no_cells, row_solution}
 use Rattle.qs_ops.proofs.Cells.{row_unbound}
-use Rattle.qs_ops.specs.Steps.{step, rest_of, IsOpen}
-use Rattle.qs_ops.specs.Coming.{made, here, coming, summed, full, effort, moves, IsMove}
+use Rattle.qs_ops.specs.Steps.{tested, rest_of, IsOpen}
+use Rattle.qs_ops.specs.Tests.{Search, lets}
+use Rattle.qs_ops.specs.Coming.{sifted, here, coming, summed, full, effort, moves, IsMove}
 
 -- the triple patterns from a place on
 from_get : (ks : List Seek) (i : ℕ) (k : Seek) → slice_get ks i ≡ Some k → drop i ks ≡ k ∷ drop (suc i) ks
@@ -50,59 +50,59 @@ summed_is f (x ∷ xs) = ap (λ n. (1 + f x) + n) (summed_is f xs)
 summed_same : (f : Solution → ℕ) (xs ys : List Solution) → SameBag xs ys → summed f xs ≡ summed f ys
 summed_same f xs ys h = summed_is f xs ∙ (total-same (λ x. 1 + f x) xs ys h ∙ sym (summed_is f ys))
 
-module _ (known : List Term) (graph : Graph) where
+module _ (known : List Term) (s : Search) where
   abbrev sol : Level → Solution
   sol l = row_solution known l.row
 
-  coming_push : (ks : List Seek) (ls : List Level) (l : Level) → coming known graph ks (ls ++ l ∷ []) ≡ here known graph (drop l.at ks) l ++ coming known graph ks ls
-  coming_push ks [] l = sym (append-nil (here known graph (drop l.at ks) l))
+  coming_push : (ks : List Seek) (ls : List Level) (l : Level) → coming known s ks (ls ++ l ∷ []) ≡ here known s (drop l.at ks) l ++ coming known s ks ls
+  coming_push ks [] l = sym (append-nil (here known s (drop l.at ks) l))
   coming_push ks (x ∷ ls) l =
-      ap (λ xs. xs ++ here known graph (drop x.at ks) x) (coming_push ks ls l)
-      ∙ append_assoc (here known graph (drop l.at ks) l) (coming known graph ks ls) (here known graph (drop x.at ks) x)
+      ap (λ xs. xs ++ here known s (drop x.at ks) x) (coming_push ks ls l)
+      ∙ append_assoc (here known s (drop l.at ks) l) (coming known s ks ls) (here known s (drop x.at ks) x)
 
-  moves_push : (ks : List Seek) (ls : List Level) (l : Level) → moves known graph ks (ls ++ l ∷ []) ≡ effort known graph (drop l.at ks) l + moves known graph ks ls
+  moves_push : (ks : List Seek) (ls : List Level) (l : Level) → moves known s ks (ls ++ l ∷ []) ≡ effort known s (drop l.at ks) l + moves known s ks ls
   moves_push ks [] l = omega arith
   moves_push ks (x ∷ ls) l = omega (arith, moves_push ks ls l)
 
   -- a cursor that has tried nothing
   abbrev IsFresh : List Seek → Level → Type 0
   IsFresh [] l = Unit {0}
-  IsFresh (k ∷ ks) l = SameBag (rest_of known k (row_solution known l.row) l.cursor) (step known graph k (row_solution known l.row))
+  IsFresh (k ∷ ks) l = SameBag (rest_of known s.tests k (row_solution known l.row) l.cursor) (tested known s k (row_solution known l.row))
 
-  here_fresh : (ks : List Seek) (l : Level) → IsFresh ks l → SameBag (here known graph ks l) (made known graph ks (row_solution known l.row))
+  here_fresh : (ks : List Seek) (l : Level) → IsFresh ks l → SameBag (here known s ks l) (sifted known s ks (row_solution known l.row))
   here_fresh [] l e = IsPermutation-refl _
-  here_fresh (k ∷ ks) l e = flat_map_same (made known graph ks) (made known graph ks) _ _ e (λ t. IsPermutation-refl (made known graph ks t))
+  here_fresh (k ∷ ks) l e = flat_map_same (sifted known s ks) (sifted known s ks) _ _ e (λ t. IsPermutation-refl (sifted known s ks t))
 
-  effort_fresh : (ks : List Seek) (l : Level) → IsFresh ks l → effort known graph ks l ≡ full known graph ks (row_solution known l.row)
+  effort_fresh : (ks : List Seek) (l : Level) → IsFresh ks l → effort known s ks l ≡ full known s ks (row_solution known l.row)
   effort_fresh [] l e = refl
-  effort_fresh (k ∷ ks) l e = ap (λ n. 1 + n) (summed_same (full known graph ks) _ _ e)
+  effort_fresh (k ∷ ks) l e = ap (λ n. 1 + n) (summed_same (full known s ks) _ _ e)
 
-  fresh : (ks rest : List Seek) (l : Level) → drop l.at ks ≡ rest → IsOpen known graph ks l.at (row_solution known l.row) l.cursor → IsFresh rest l
+  fresh : (ks rest : List Seek) (l : Level) → drop l.at ks ≡ rest → IsOpen known s.graph ks l.at (row_solution known l.row) l.cursor → IsFresh rest l
   fresh ks [] l b o = tt
-  fresh ks (k ∷ rest) l b o = o k (get_from ks l.at k rest b)
+  fresh ks (k ∷ rest) l b o = filter_same (lets s.tests (row_solution known l.row)) _ _ (o k (get_from ks l.at k rest b))
 
   -- the search as it begins
-  pub begins : (ks : List Seek) (l : Level) → l.at ≡ 0 → IsOpen known graph ks 0 (row_solution known l.row) l.cursor → SameBag (coming known graph ks (l ∷ [])) (made known graph ks (row_solution known l.row))
+  pub begins : (ks : List Seek) (l : Level) → l.at ≡ 0 → IsOpen known s.graph ks 0 (row_solution known l.row) l.cursor → SameBag (coming known s ks (l ∷ [])) (sifted known s ks (row_solution known l.row))
   begins ks l z o =
-      subst (λ (i : ℕ). SameBag (here known graph (drop i ks) l) (made known graph ks (row_solution known l.row))) (sym z)
-      (here_fresh ks l (fresh ks ks l (ap (λ i. drop i ks) z) (subst (λ i. IsOpen known graph ks i (row_solution known l.row) l.cursor) (sym z) o)))
+      subst (λ (i : ℕ). SameBag (here known s (drop i ks) l) (sifted known s ks (row_solution known l.row))) (sym z)
+      (here_fresh ks l (fresh ks ks l (ap (λ i. drop i ks) z) (subst (λ i. IsOpen known s.graph ks i (row_solution known l.row) l.cursor) (sym z) o)))
 
   -- the facts of one pop, over plain variables
-  pub gave : (ks : List Seek) (old ls : List Level) (l : Level) → old ≡ ls ++ l ∷ [] → slice_get ks l.at ≡ None → IsMove known graph ks old (Gave l.row) ls
-  gave ks old ls l e g = ap (coming known graph ks) e ∙ (coming_push ks ls l ∙ ap (λ x. here known graph x l ++ coming known graph ks ls) (from_none ks l.at g))
+  pub gave : (ks : List Seek) (old ls : List Level) (l : Level) → old ≡ ls ++ l ∷ [] → slice_get ks l.at ≡ None → IsMove known s ks old (Gave l.row) ls
+  gave ks old ls l e g = ap (coming known s ks) e ∙ (coming_push ks ls l ∙ ap (λ x. here known s x l ++ coming known s ks ls) (from_none ks l.at g))
 
-  pub spent : (ks : List Seek) (old ls : List Level) (l : Level) (k : Seek) → old ≡ ls ++ l ∷ [] → slice_get ks l.at ≡ Some k → rest_of known k (row_solution known l.row) l.cursor ≡ [] → IsMove known graph ks old Moved ls
+  pub spent : (ks : List Seek) (old ls : List Level) (l : Level) (k : Seek) → old ≡ ls ++ l ∷ [] → slice_get ks l.at ≡ Some k → rest_of known s.tests k (row_solution known l.row) l.cursor ≡ [] → IsMove known s ks old Moved ls
   spent ks old ls l k e g q =
       let rest : List Seek = drop (suc l.at) ks in
       let b : drop l.at ks ≡ k ∷ rest = from_get ks l.at k g in
-      let h : here known graph (drop l.at ks) l ≡ [] = ap (λ x. here known graph x l) b ∙ ap (flat_map (made known graph rest)) q in
-      let f : effort known graph (drop l.at ks) l ≡ 1 = ap (λ x. effort known graph x l) b ∙ ap (λ xs. 1 + summed (full known graph rest) xs) q in
-      let m : moves known graph ks old ≡ 1 + moves known graph ks ls = ap (moves known graph ks) e ∙ (moves_push ks ls l ∙ ap (λ x. x + moves known graph ks ls) f) in
-      (same _ _ (ap (coming known graph ks) e ∙ (coming_push ks ls l ∙ ap (λ x. x ++ coming known graph ks ls) h)), omega arith)
+      let h : here known s (drop l.at ks) l ≡ [] = ap (λ x. here known s x l) b ∙ ap (flat_map (sifted known s rest)) q in
+      let f : effort known s (drop l.at ks) l ≡ 1 = ap (λ x. effort known s x l) b ∙ ap (λ xs. 1 + summed (full known s rest) xs) q in
+      let m : moves known s ks old ≡ 1 + moves known s ks ls = ap (moves known s ks) e ∙ (moves_push ks ls l ∙ ap (λ x. x + moves known s ks ls) f) in
+      (same _ _ (ap (coming known s ks) e ∙ (coming_push ks ls l ∙ ap (λ x. x ++ coming known s ks ls) h)), omega arith)
 
   -- the row goes on at the next triple pattern
-  pub hit : (ks : List Seek) (old ls : List Level) (l n next : Level) (k : Seek) → old ≡ ls ++ l ∷ [] → n.at ≡ l.at → slice_get ks l.at ≡ Some k → rest_of known k (row_solution known l.row) l.cursor ≡ row_solution known next.row ∷ rest_of known k (row_solution known n.row) n.cursor
-      → next.at ≡ l.at + 1 → IsOpen known graph ks next.at (row_solution known next.row) next.cursor → IsMove known graph ks old Moved ((ls ++ n ∷ []) ++ next ∷ [])
+  pub hit : (ks : List Seek) (old ls : List Level) (l n next : Level) (k : Seek) → old ≡ ls ++ l ∷ [] → n.at ≡ l.at → slice_get ks l.at ≡ Some k → rest_of known s.tests k (row_solution known l.row) l.cursor ≡ row_solution known next.row ∷ rest_of known s.tests k (row_solution known n.row) n.cursor
+      → next.at ≡ l.at + 1 → IsOpen known s.graph ks next.at (row_solution known next.row) next.cursor → IsMove known s ks old Moved ((ls ++ n ∷ []) ++ next ∷ [])
   hit ks old ls l n next k e a g q t o =
       let rest : List Seek = drop (suc l.at) ks in
       let r : Solution = row_solution known next.row in
@@ -110,19 +110,19 @@ module _ (known : List Term) (graph : Graph) where
       let b : drop l.at ks ≡ k ∷ rest = from_get ks l.at k g in
       let bn : drop n.at ks ≡ k ∷ rest = ap (λ i. drop i ks) a ∙ b in
       let bt : drop next.at ks ≡ rest = ap (λ i. drop i ks) (let i : next.at ≡ suc l.at = omega arith in i) in
-      let cl : coming known graph ks old ≡ here known graph (k ∷ rest) l ++ coming known graph ks ls = ap (coming known graph ks) e ∙ (coming_push ks ls l ∙ ap (λ y. here known graph y l ++ coming known graph ks ls) b) in
-      let cn : coming known graph ks now ≡ here known graph (k ∷ rest) n ++ coming known graph ks ls = coming_push ks ls n ∙ ap (λ y. here known graph y n ++ coming known graph ks ls) bn in
-      let hl : here known graph (k ∷ rest) l ≡ made known graph rest r ++ here known graph (k ∷ rest) n = ap (flat_map (made known graph rest)) q in
-      let left : coming known graph ks old ≡ made known graph rest r ++ coming known graph ks now = cl ∙ (ap (λ y. y ++ coming known graph ks ls) hl ∙ (append_assoc (made known graph rest r) (here known graph (k ∷ rest) n) (coming known graph ks ls) ∙ ap (λ y. made known graph rest r ++ y) (sym cn))) in
-      let ml : moves known graph ks old ≡ effort known graph (k ∷ rest) l + moves known graph ks ls = ap (moves known graph ks) e ∙ (moves_push ks ls l ∙ ap (λ y. effort known graph y l + moves known graph ks ls) b) in
-      let mn : moves known graph ks now ≡ effort known graph (k ∷ rest) n + moves known graph ks ls = moves_push ks ls n ∙ ap (λ y. effort known graph y n + moves known graph ks ls) bn in
-      let el : effort known graph (k ∷ rest) l ≡ 1 + ((1 + full known graph rest r) + summed (full known graph rest) (rest_of known k (row_solution known n.row) n.cursor)) = ap (λ xs. 1 + summed (full known graph rest) xs) q in
+      let cl : coming known s ks old ≡ here known s (k ∷ rest) l ++ coming known s ks ls = ap (coming known s ks) e ∙ (coming_push ks ls l ∙ ap (λ y. here known s y l ++ coming known s ks ls) b) in
+      let cn : coming known s ks now ≡ here known s (k ∷ rest) n ++ coming known s ks ls = coming_push ks ls n ∙ ap (λ y. here known s y n ++ coming known s ks ls) bn in
+      let hl : here known s (k ∷ rest) l ≡ sifted known s rest r ++ here known s (k ∷ rest) n = ap (flat_map (sifted known s rest)) q in
+      let left : coming known s ks old ≡ sifted known s rest r ++ coming known s ks now = cl ∙ (ap (λ y. y ++ coming known s ks ls) hl ∙ (append_assoc (sifted known s rest r) (here known s (k ∷ rest) n) (coming known s ks ls) ∙ ap (λ y. sifted known s rest r ++ y) (sym cn))) in
+      let ml : moves known s ks old ≡ effort known s (k ∷ rest) l + moves known s ks ls = ap (moves known s ks) e ∙ (moves_push ks ls l ∙ ap (λ y. effort known s y l + moves known s ks ls) b) in
+      let mn : moves known s ks now ≡ effort known s (k ∷ rest) n + moves known s ks ls = moves_push ks ls n ∙ ap (λ y. effort known s y n + moves known s ks ls) bn in
+      let el : effort known s (k ∷ rest) l ≡ 1 + ((1 + full known s rest r) + summed (full known s rest) (rest_of known s.tests k (row_solution known n.row) n.cursor)) = ap (λ xs. 1 + summed (full known s rest) xs) q in
       let f : IsFresh rest next = fresh ks rest next bt o in
-      let ch : SameBag (here known graph (drop next.at ks) next) (made known graph rest r) = subst (λ (y : List Seek). SameBag (here known graph y next) (made known graph rest r)) (sym bt) (here_fresh rest next f) in
-      let mh : effort known graph (drop next.at ks) next ≡ full known graph rest r = ap (λ y. effort known graph y next) bt ∙ effort_fresh rest next f in
-      let mt : moves known graph ks (now ++ next ∷ []) ≡ full known graph rest r + moves known graph ks now = moves_push ks now next ∙ ap (λ y. y + moves known graph ks now) mh in
-      let ct : SameBag (coming known graph ks (now ++ next ∷ [])) (made known graph rest r ++ coming known graph ks now) =
-      subst (λ (y : List Solution). SameBag y (made known graph rest r ++ coming known graph ks now)) (sym (coming_push ks now next)) (IsPermutation-append_left (coming known graph ks now) (here known graph (drop next.at ks) next) (made known graph rest r) ch) in
+      let ch : SameBag (here known s (drop next.at ks) next) (sifted known s rest r) = subst (λ (y : List Seek). SameBag (here known s y next) (sifted known s rest r)) (sym bt) (here_fresh rest next f) in
+      let mh : effort known s (drop next.at ks) next ≡ full known s rest r = ap (λ y. effort known s y next) bt ∙ effort_fresh rest next f in
+      let mt : moves known s ks (now ++ next ∷ []) ≡ full known s rest r + moves known s ks now = moves_push ks now next ∙ ap (λ y. y + moves known s ks now) mh in
+      let ct : SameBag (coming known s ks (now ++ next ∷ [])) (sifted known s rest r ++ coming known s ks now) =
+      subst (λ (y : List Solution). SameBag y (sifted known s rest r ++ coming known s ks now)) (sym (coming_push ks now next)) (IsPermutation-append_left (coming known s ks now) (here known s (drop next.at ks) next) (sifted known s rest r) ch) in
       (IsPermutation-trans _ _ _ (same _ _ left) (IsPermutation-sym _ _ ct), omega arith)
 
 -- a bag like an empty one is empty
@@ -134,17 +134,17 @@ none_left (x ∷ xs) (y ∷ ys) h e = let f : y ∷ ys ≡ [] = e in cc
 pub one_left : (xs ys zs : List Solution) → SameBag xs ys → ys ≡ zs → SameBag xs zs
 one_left xs ys zs h e = subst (SameBag xs) e h
 
-pub done_left : (known : List Term) (graph : Graph) (ks : List Seek) (first old new : List Level) (move : Move) → SameBag (coming known graph ks first) (coming known graph ks old) → move ≡ Done → IsMove known graph ks old move new → (coming known graph ks first ≡ []) × (coming known graph ks new ≡ [])
-done_left known graph ks first old new move h e w =
-    let k : IsMove known graph ks old Done new = subst (λ (x : Move). IsMove known graph ks old x new) e w in
-    (none_left (coming known graph ks first) (coming known graph ks old) h k.0, k.1)
+pub done_left : (known : List Term) (s : Search) (ks : List Seek) (first old new : List Level) (move : Move) → SameBag (coming known s ks first) (coming known s ks old) → move ≡ Done → IsMove known s ks old move new → (coming known s ks first ≡ []) × (coming known s ks new ≡ [])
+done_left known s ks first old new move h e w =
+    let k : IsMove known s ks old Done new = subst (λ (x : Move). IsMove known s ks old x new) e w in
+    (none_left (coming known s ks first) (coming known s ks old) h k.0, k.1)
 
-pub moved_left : (known : List Term) (graph : Graph) (ks : List Seek) (first old new : List Level) (move : Move) → SameBag (coming known graph ks first) (coming known graph ks old) → move ≡ Moved → IsMove known graph ks old move new → SameBag (coming known graph ks first) (coming known graph ks new)
-moved_left known graph ks first old new move h e w =
-    let k : IsMove known graph ks old Moved new = subst (λ (x : Move). IsMove known graph ks old x new) e w in
+pub moved_left : (known : List Term) (s : Search) (ks : List Seek) (first old new : List Level) (move : Move) → SameBag (coming known s ks first) (coming known s ks old) → move ≡ Moved → IsMove known s ks old move new → SameBag (coming known s ks first) (coming known s ks new)
+moved_left known s ks first old new move h e w =
+    let k : IsMove known s ks old Moved new = subst (λ (x : Move). IsMove known s ks old x new) e w in
     IsPermutation-trans _ _ _ h k.0
 
-pub started : (known : List Term) (graph : Graph) (ks given : List Seek) (l : Level) (n : ℕ) → l.at ≡ 0 → l.row ≡ no_cells n → given ≡ ks → IsOpen known graph given 0 (row_solution known l.row) l.cursor → SameBag (coming known graph ks (l ∷ [])) (made known graph ks (unbound n))
-started known graph ks given l n z e f o =
-    subst (λ (m : Solution). SameBag (coming known graph ks (l ∷ [])) (made known graph ks m)) (ap (row_solution known) e ∙ row_unbound known n)
-    (begins known graph ks l z (subst (λ (k : List Seek). IsOpen known graph k 0 (row_solution known l.row) l.cursor) f o))
+pub started : (known : List Term) (s : Search) (ks given : List Seek) (l : Level) (n : ℕ) → l.at ≡ 0 → l.row ≡ no_cells n → given ≡ ks → IsOpen known s.graph given 0 (row_solution known l.row) l.cursor → SameBag (coming known s ks (l ∷ [])) (sifted known s ks (unbound n))
+started known s ks given l n z e f o =
+    subst (λ (m : Solution). SameBag (coming known s ks (l ∷ [])) (sifted known s ks m)) (ap (row_solution known) e ∙ row_unbound known n)
+    (begins known s ks l z (subst (λ (k : List Seek). IsOpen known s.graph k 0 (row_solution known l.row) l.cursor) f o))

@@ -7,7 +7,8 @@ use Rattle.qs_terms.specs.declared.term.Term.{Term}
 use Rattle.qs_solutions.specs.Solution.{Solution}
 use Rattle.qs_patterns.specs.Basic.{Graph}
 use Rattle.qs_ops.specs.Row.{row_solution}
-use Rattle.qs_ops.specs.Steps.{step, rest_of}
+use Rattle.qs_ops.specs.Steps.{step, tested, rest_of}
+use Rattle.qs_ops.specs.Tests.{Search}
 use Rattle.qs_ops.specs.declared.place.Seek.{Seek}
 use Rattle.qs_ops.specs.declared.search.Level.{Level}
 use Rattle.qs_ops.specs.declared.search.Move.{Move}
@@ -28,15 +29,20 @@ abbrev pub made : List Term → Graph → List Seek → Solution → List Soluti
 made known graph [] m = m ∷ []
 made known graph (k ∷ ks) m = flat_map (made known graph ks) (step known graph k m)
 
+-- the same, as far as the tests let it pass
+abbrev pub sifted : List Term → Search → List Seek → Solution → List Solution
+sifted known s [] m = m ∷ []
+sifted known s (k ∷ ks) m = flat_map (sifted known s ks) (tested known s k m)
+
 -- what one cursor has still to give, with these triple patterns from it on
-abbrev pub here : List Term → Graph → List Seek → Level → List Solution
-here known graph [] l = row_solution known l.row ∷ []
-here known graph (k ∷ ks) l = flat_map (made known graph ks) (rest_of known k (row_solution known l.row) l.cursor)
+abbrev pub here : List Term → Search → List Seek → Level → List Solution
+here known s [] l = row_solution known l.row ∷ []
+here known s (k ∷ ks) l = flat_map (sifted known s ks) (rest_of known s.tests k (row_solution known l.row) l.cursor)
 
 -- what the cursors have still to give, the last of them first
-abbrev pub coming : List Term → Graph → List Seek → List Level → List Solution
-coming known graph ks [] = []
-coming known graph ks (l ∷ ls) = coming known graph ks ls ++ here known graph (drop l.at ks) l
+abbrev pub coming : List Term → Search → List Seek → List Level → List Solution
+coming known s ks [] = []
+coming known s ks (l ∷ ls) = coming known s ks ls ++ here known s (drop l.at ks) l
 
 -- the sum over a list
 abbrev pub summed : (Solution → ℕ) → List Solution → ℕ
@@ -44,25 +50,25 @@ summed f [] = 0
 summed f (x ∷ xs) = (1 + f x) + summed f xs
 
 -- the moves of a search from a row on
-abbrev pub full : List Term → Graph → List Seek → Solution → ℕ
-full known graph [] m = 1
-full known graph (k ∷ ks) m = 1 + summed (full known graph ks) (step known graph k m)
+abbrev pub full : List Term → Search → List Seek → Solution → ℕ
+full known s [] m = 1
+full known s (k ∷ ks) m = 1 + summed (full known s ks) (tested known s k m)
 
 -- the moves left at a cursor, and at all
-abbrev pub effort : List Term → Graph → List Seek → Level → ℕ
-effort known graph [] l = 1
-effort known graph (k ∷ ks) l = 1 + summed (full known graph ks) (rest_of known k (row_solution known l.row) l.cursor)
+abbrev pub effort : List Term → Search → List Seek → Level → ℕ
+effort known s [] l = 1
+effort known s (k ∷ ks) l = 1 + summed (full known s ks) (rest_of known s.tests k (row_solution known l.row) l.cursor)
 
-abbrev pub moves : List Term → Graph → List Seek → List Level → ℕ
-moves known graph ks [] = 0
-moves known graph ks (l ∷ ls) = moves known graph ks ls + effort known graph (drop l.at ks) l
+abbrev pub moves : List Term → Search → List Seek → List Level → ℕ
+moves known s ks [] = 0
+moves known s ks (l ∷ ls) = moves known s ks ls + effort known s (drop l.at ks) l
 
 -- one move
-abbrev pub IsMove : List Term → Graph → List Seek → List Level → Move → List Level → Type 0
-IsMove known graph ks old Done new = (coming known graph ks old ≡ []) × (coming known graph ks new ≡ [])
-IsMove known graph ks old Moved new =
-    SameBag (coming known graph ks old) (coming known graph ks new) × (moves known graph ks new < moves known graph ks old)
-IsMove known graph ks old (Gave row) new = coming known graph ks old ≡ row_solution known row ∷ coming known graph ks new
+abbrev pub IsMove : List Term → Search → List Seek → List Level → Move → List Level → Type 0
+IsMove known s ks old Done new = (coming known s ks old ≡ []) × (coming known s ks new ≡ [])
+IsMove known s ks old Moved new =
+    SameBag (coming known s ks old) (coming known s ks new) × (moves known s ks new < moves known s ks old)
+IsMove known s ks old (Gave row) new = coming known s ks old ≡ row_solution known row ∷ coming known s ks new
 
 -- the known terms, and the solutions that are still to come
 pub record Left : Type 0 where

@@ -1,7 +1,7 @@
 -- What the triples of a store make of solutions.
 -- (Inner: it serves proofs, and no promise of the product is read by it.)
 use Rattle.std.specs.Prelude.{◌≡◌, ℕ, Bool, true, false, List, [], Option, None, Some, slice_get, slice_index}
-use Rattle.std.specs.List.{filter_map}
+use Rattle.std.specs.List.{filter, filter_map}
 use Rattle.qs_terms.specs.Bag.{SameBag}
 use Rattle.qs_terms.specs.declared.term.Term.{Term}
 use Rattle.qs_dict.specs.Dict.{term_at}
@@ -12,6 +12,8 @@ use Rattle.qs_patterns.specs.declared.pattern.TriplePattern.{TriplePattern}
 use Rattle.qs_eval.specs.Found.{bound_at, bound_slot, then_bound, extensions}
 use Rattle.qs_ops.specs.Row.{Cells, cell_at, cell_term}
 use Rattle.qs_ops.specs.Place.{slot_of, pattern_of}
+use Rattle.qs_ops.specs.Tests.{Search, lets}
+use Rattle.qs_ops.specs.declared.tests.Tests.{Tests}
 use Rattle.qs_ops.specs.declared.cursor.Cursor.{Cursor}
 use Rattle.qs_ops.specs.declared.cursor.Cursor.TheVariants.{Scan, Ready}
 use Rattle.qs_ops.specs.declared.place.Place.{Place}
@@ -59,11 +61,19 @@ extensions_of (Some p) graph m = extensions p graph m
 abbrev pub step : List Term → Graph → Seek → Solution → List Solution
 step known graph k m = extensions_of (pattern_of known k) graph m
 
+-- those of them that the tests let pass
+abbrev pub tested : List Term → Search → Seek → Solution → List Solution
+tested known s k m = filter (lets s.tests m) (step known s.graph k m)
+
+-- what a cursor has not tried yet with m
+abbrev pub untried : List Term → Seek → Solution → Cursor → List Solution
+untried known k m (Scan entries) = filter_map (bound_entry known k m) entries
+untried known k m Ready = []
+
 -- what a cursor has still to make of m
-abbrev pub rest_of : List Term → Seek → Solution → Cursor → List Solution
-rest_of known k m (Scan entries) = filter_map (bound_entry known k m) entries
-rest_of known k m Ready = []
+abbrev pub rest_of : List Term → Tests → Seek → Solution → Cursor → List Solution
+rest_of known tests k m c = filter (lets tests m) (untried known k m c)
 
 -- the cursor of the triple pattern at a place has tried nothing
 abbrev pub IsOpen : List Term → Graph → List Seek → ℕ → Solution → Cursor → Type 0
-IsOpen known graph seeks place m c = (k : Seek) → slice_get seeks place ≡ Some k → SameBag (rest_of known k m c) (step known graph k m)
+IsOpen known graph seeks place m c = (k : Seek) → slice_get seeks place ≡ Some k → SameBag (untried known k m c) (step known graph k m)

@@ -2,16 +2,18 @@
 
 ghost use Rattle.std.specs.Prelude.{◌≡◌, IfOk};
 ghost use Rattle.std.specs.Option.{option_map};
-ghost use Rattle.std.specs.List.{filter_map};
+ghost use Rattle.std.specs.List.{filter, filter_map};
 ghost use Rattle.qs_ops.specs.Coming.{GivesNext};
 ghost use Rattle.qs_ops.specs.Graph.{IsSeen, active_graph};
 ghost use Rattle.qs_ops.specs.Row.{row_solution};
 ghost use Rattle.qs_ops.specs.Steps.{IsOpen, bound_entry, rest_of, step};
+ghost use Rattle.qs_ops.specs.Tests.{lets};
 ghost use Rattle.qs_terms.specs.Bag.{SameBag};
 
 use crate::bind::{bind_entry, given};
 use crate::place::Seek;
 use crate::row::Row;
+use crate::tests::{Tests, lets};
 use qs_store::{Active, Triples, View};
 use sqlite_items::at;
 use std::alloc::{AllocError, Global};
@@ -24,44 +26,50 @@ pub enum Cursor<'a> {
     Ready,
 }
 
-/// The next row that an entry makes of the row.
+/// The next row that an entry makes of the row, and that the tests let pass.
 fn next_bound<V: View>(
     alloc: Global,
     view: &V,
+    tests: &Tests<'_>,
     seek: &Seek,
     row: &Row,
     scan: &mut Triples<'_>,
     spare: &mut Vec<Row>,
 ) -> Result<Option<Row>, AllocError>
     requires { IsSeen (V.content view.now) }
-    ensures { IfOk result (λ o. GivesNext (filter_map (bound_entry (V.content view.now).known seek.now (row_solution (V.content view.now).known row.now)) scan.old) (option_map (row_solution (V.content view.now).known) o) (filter_map (bound_entry (V.content view.now).known seek.now (row_solution (V.content view.now).known row.now)) scan.new)) }
+    ensures { IfOk result (λ o. GivesNext (filter (lets tests.now (row_solution (V.content view.now).known row.now)) (filter_map (bound_entry (V.content view.now).known seek.now (row_solution (V.content view.now).known row.now)) scan.old)) (option_map (row_solution (V.content view.now).known) o) (filter (lets tests.now (row_solution (V.content view.now).known row.now)) (filter_map (bound_entry (V.content view.now).known seek.now (row_solution (V.content view.now).known row.now)) scan.new))) }
 {
     loop {
         let Some(entry) = scan.next() else {
             return Ok(None);
         };
-        if let Some(next) = bind_entry(alloc, view, seek, entry, row, spare)? {
+        let Some(next) = bind_entry(alloc, view, seek, entry, row, spare)? else {
+            continue;
+        };
+        if lets(alloc, view, tests, row, &next)? {
             return Ok(Some(next));
         }
+        spare.push(next)?;
     }
 }
 
-/// The next row that the triple pattern makes of the row.
+/// The next row that the triple pattern makes of the row, and that the tests let pass.
 pub(crate) fn next_row<V: View>(
     alloc: Global,
     view: &V,
+    tests: &Tests<'_>,
     seek: &Seek,
     row: &Row,
     cursor: &mut Cursor<'_>,
     spare: &mut Vec<Row>,
 ) -> Result<Option<Row>, AllocError>
     requires { IsSeen (V.content view.now) }
-    ensures { IfOk result (λ o. GivesNext (rest_of (V.content view.now).known seek.now (row_solution (V.content view.now).known row.now) cursor.old) (option_map (row_solution (V.content view.now).known) o) (rest_of (V.content view.now).known seek.now (row_solution (V.content view.now).known row.now) cursor.new)) }
+    ensures { IfOk result (λ o. GivesNext (rest_of (V.content view.now).known tests.now seek.now (row_solution (V.content view.now).known row.now) cursor.old) (option_map (row_solution (V.content view.now).known) o) (rest_of (V.content view.now).known tests.now seek.now (row_solution (V.content view.now).known row.now) cursor.new)) }
 {
     let Cursor::Scan(scan) = cursor else {
         return Ok(None);
     };
-    next_bound(alloc, view, seek, row, scan, spare)
+    next_bound(alloc, view, tests, seek, row, scan, spare)
 }
 
 /// The scan of those triples that agree with the row.

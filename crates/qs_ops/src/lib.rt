@@ -9,7 +9,9 @@ mod order;
 mod place;
 mod row;
 mod search;
+mod settle;
 mod terms;
+mod tests;
 
 pub use matches::Matches;
 pub use row::Row;

@@ -6,15 +6,18 @@ ghost use Rattle.qs_terms.specs.Bag.{SameBag};
 ghost use Rattle.qs_solutions.specs.Solution.{unbound};
 ghost use Rattle.qs_patterns.specs.Basic.{matches};
 ghost use Rattle.qs_eval.specs.Below.{slot_below, triple_below, all_below};
-ghost use Rattle.qs_ops.specs.Coming.{GivesOne, coming, made};
+ghost use Rattle.qs_ops.specs.Coming.{GivesOne, coming, sifted};
 ghost use Rattle.qs_ops.specs.Graph.{IsSeen, active_graph};
 ghost use Rattle.qs_ops.specs.Row.{row_solution};
+ghost use Rattle.qs_ops.specs.Tests.{AreWanted, search_of};
 
 use crate::cursor::open_at;
 use crate::order::reorder;
 use crate::place::{Seek, seeks_of};
 use crate::row::Row;
 use crate::search::{Level, next_of};
+use crate::tests::{Tests, no_tests, tests_of};
+use qs_expr::Expr;
 use qs_patterns::{Slot, TriplePattern};
 use qs_store::{Active, View};
 use std::alloc::{AllocError, Global};
@@ -34,6 +37,7 @@ fn is_seen<V: View>(view: &V)
 pub struct Matches<'a, V: View> {
     view: &'a V,
     active: Active,
+    tests: Tests<'a>,
     seeks: Vec<Seek>,
     levels: Vec<Level<'a>>,
     spare: Vec<Row>,
@@ -41,11 +45,12 @@ pub struct Matches<'a, V: View> {
 
 impl<'a, V: View> Model for Matches<'a, V> {
     ghost use Rattle.qs_ops.specs.Coming.{Left, coming};
-    ghost use Rattle.qs_ops.specs.Graph.{IsSeen, active_graph};
+    ghost use Rattle.qs_ops.specs.Graph.{IsSeen};
+    ghost use Rattle.qs_ops.specs.Tests.{search_of};
 
     ghost Value = { Left };
 
-    ghost view = { λ m. record { known = (V.content m.view.now).known; rows = coming (V.content m.view.now).known (active_graph (V.content m.view.now) (V.default_seen m.view.now) m.active) m.seeks.items m.levels.items } };
+    ghost view = { λ m. record { known = (V.content m.view.now).known; rows = coming (V.content m.view.now).known (search_of (V.content m.view.now) (V.default_seen m.view.now) m.active m.tests) m.seeks.items m.levels.items } };
 
     ghost invariant = { λ m. IsSeen (V.content m.view.now) };
 }
@@ -84,6 +89,7 @@ impl<'a, V: View> Matches<'a, V> {
         Matches {
             view,
             active,
+            tests: no_tests(alloc),
             seeks: Vec::new(alloc),
             levels: Vec::new(alloc),
             spare: Vec::new(alloc),
@@ -96,11 +102,12 @@ impl<'a, V: View> Matches<'a, V> {
         alloc: Global,
         view: &'a V,
         active: Active,
+        tests: Tests<'a>,
         seeks: Vec<Seek>,
         width: usize,
     ) -> Result<Matches<'a, V>, AllocError>
         ensures known { IfOk result (λ m. m.known ≡ (V.content view.now).known) }
-        ensures rows { IfOk result (λ m. SameBag m.rows (made (V.content view.now).known (active_graph (V.content view.now) (V.default_seen view.now) active) seeks.items (unbound width))) }
+        ensures rows { IfOk result (λ m. SameBag m.rows (sifted (V.content view.now).known (search_of (V.content view.now) (V.default_seen view.now) active tests.entry) seeks.items (unbound width))) }
     {
         is_seen(view);
         let row = Row::unbound(alloc, width)?;
@@ -110,6 +117,7 @@ impl<'a, V: View> Matches<'a, V> {
         Ok(Matches {
             view,
             active,
+            tests,
             seeks,
             levels,
             spare: Vec::new(alloc),
@@ -134,7 +142,33 @@ impl<'a, V: View> Matches<'a, V> {
         }
         let mut seeks = seeks_of(alloc, view, triples)?;
         reorder(alloc, width, seeks.as_mut_slice())?;
-        let matches = Matches::start(alloc, view, active, seeks, width)?;
+        let tests = no_tests(alloc);
+        let matches = Matches::start(alloc, view, active, tests, seeks, width)?;
+        Ok(matches)
+    }
+
+    /// The same, where of the solutions of the first `named` variables those alone are wanted in which all conditions hold: a condition is
+    /// tested as soon as its variables are bound, and a row in which it doesn't hold is let go.
+    pub fn under(
+        alloc: Global,
+        view: &'a V,
+        active: Active,
+        width: usize,
+        triples: &[TriplePattern],
+        named: usize,
+        conditions: &'a [Expr],
+    ) -> Result<Matches<'a, V>, AllocError>
+        ensures known { IfOk result (λ m. m.known ≡ (V.content view.now).known) }
+        ensures rows { IfOk result (λ m. AreWanted conditions.now named m.rows (matches width triples.now (active_graph (V.content view.now) (V.default_seen view.now) active))) }
+    {
+        is_seen(view);
+        if !are_below(triples, width) {
+            return Ok(Matches::nothing(alloc, view, active));
+        }
+        let mut seeks = seeks_of(alloc, view, triples)?;
+        reorder(alloc, width, seeks.as_mut_slice())?;
+        let tests = tests_of(alloc, named, conditions)?;
+        let matches = Matches::start(alloc, view, active, tests, seeks, width)?;
         Ok(matches)
     }
 
@@ -147,6 +181,7 @@ impl<'a, V: View> Matches<'a, V> {
             alloc,
             self.view,
             self.active,
+            &self.tests,
             self.seeks.as_slice(),
             &mut self.levels,
             &mut self.spare,

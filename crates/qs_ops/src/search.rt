@@ -3,13 +3,15 @@
 ghost use Rattle.std.specs.Prelude.{◌≡◌, ◌<◌, ◌+◌, length, IfOk};
 ghost use Rattle.std.specs.Option.{option_map};
 ghost use Rattle.qs_terms.specs.Bag.{SameBag};
-ghost use Rattle.qs_ops.specs.Coming.{GivesOne, IsMove, coming, made};
-ghost use Rattle.qs_ops.specs.Graph.{IsSeen, active_graph};
+ghost use Rattle.qs_ops.specs.Coming.{GivesOne, IsMove, coming};
+ghost use Rattle.qs_ops.specs.Graph.{IsSeen};
 ghost use Rattle.qs_ops.specs.Row.{row_solution};
+ghost use Rattle.qs_ops.specs.Tests.{search_of};
 
 use crate::cursor::{Cursor, next_row, open_at};
 use crate::place::Seek;
 use crate::row::Row;
+use crate::tests::Tests;
 use qs_store::{Active, View};
 use sqlite_items::at;
 use std::alloc::{AllocError, Global};
@@ -44,12 +46,13 @@ fn advance<'a, V: View>(
     alloc: Global,
     view: &'a V,
     active: Active,
+    tests: &Tests<'_>,
     seeks: &[Seek],
     levels: &mut Vec<Level<'a>>,
     spare: &mut Vec<Row>,
 ) -> Result<Move, AllocError>
     requires { IsSeen (V.content view.now) }
-    ensures { IfOk result (λ m. IsMove (V.content view.now).known (active_graph (V.content view.now) (V.default_seen view.now) active) seeks.now levels.old.items m levels.new.items) }
+    ensures { IfOk result (λ m. IsMove (V.content view.now).known (search_of (V.content view.now) (V.default_seen view.now) active tests.now) seeks.now levels.old.items m levels.new.items) }
 {
     let Some(level) = levels.pop() else {
         return Ok(Move::Done);
@@ -62,7 +65,7 @@ fn advance<'a, V: View>(
     let Some(seek) = at(seeks, place) else {
         return Ok(Move::Gave(row));
     };
-    let Some(next) = next_row(alloc, view, seek, &row, &mut cursor, spare)? else {
+    let Some(next) = next_row(alloc, view, tests, seek, &row, &mut cursor, spare)? else {
         spare.push(row)?;
         return Ok(Move::Moved);
     };
@@ -86,15 +89,16 @@ pub(crate) fn next_of<'a, V: View>(
     alloc: Global,
     view: &'a V,
     active: Active,
+    tests: &Tests<'_>,
     seeks: &[Seek],
     levels: &mut Vec<Level<'a>>,
     spare: &mut Vec<Row>,
 ) -> Result<Option<Row>, AllocError>
     requires { IsSeen (V.content view.now) }
-    ensures { IfOk result (λ o. GivesOne (coming (V.content view.now).known (active_graph (V.content view.now) (V.default_seen view.now) active) seeks.now levels.old.items) (option_map (row_solution (V.content view.now).known) o) (coming (V.content view.now).known (active_graph (V.content view.now) (V.default_seen view.now) active) seeks.now levels.new.items)) }
+    ensures { IfOk result (λ o. GivesOne (coming (V.content view.now).known (search_of (V.content view.now) (V.default_seen view.now) active tests.now) seeks.now levels.old.items) (option_map (row_solution (V.content view.now).known) o) (coming (V.content view.now).known (search_of (V.content view.now) (V.default_seen view.now) active tests.now) seeks.now levels.new.items)) }
 {
     loop {
-        match advance(alloc, view, active, seeks, levels, spare)? {
+        match advance(alloc, view, active, tests, seeks, levels, spare)? {
             Move::Done => return Ok(None),
             Move::Gave(row) => return Ok(Some(row)),
             Move::Moved => {}

@@ -1,5 +1,5 @@
 -- Some of the solutions, or all of them.
-use Rattle.std.proofs.Common.{◌≡◌, ℕ, ◌+◌, ◌≤◌, true, false, true≢false, Option, None, List, [], ◌++◌, length, map, take, refl, sym, ◌∙◌, ap, subst, append-nil, inl, inr}
+use Rattle.std.proofs.Common.{◌≡◌, ℕ, ◌+◌, ◌≤◌, true, true≢false, Option, None, List, [], ◌++◌, length, map, take, refl, sym, ◌∙◌, ap, subst, append-nil, inl, inr}
 use Rattle.std.proofs.lemmas.List.Sorted.{IsPermutation-refl, IsPermutation-sym, IsPermutation-trans}
 use Rattle.std.specs.Option.{option_map}
 use Rattle.qs_terms.specs.Bag.{SameBag}

@@ -4,3 +4,4 @@ pub mod Groups
 pub mod Enough
 pub mod Names
 pub mod SeenQuads
+pub mod Early

@@ -1,9 +1,15 @@
 -- Groups whose right sides are evaluated, and what is still ahead of them.
 -- (Inner: it serves proofs, and no promise of the product is read by it.)
-use Rattle.std.specs.Prelude.{◌≡◌, Bool, true, false, List, [], ◌∷◌, ◌++◌}
-use Rattle.std.specs.List.{flat_map}
+use Rattle.std.specs.Prelude.{◌≡◌, ℕ, Bool, true, false, List, [], ◌∷◌, ◌++◌}
+use Rattle.std.specs.List.{AllByRecursion, flat_map}
 use Rattle.qs_terms.specs.Bag.{SameBag}
+use Rattle.qs_terms.specs.Statement.{Statement}
 use Rattle.qs_solutions.specs.Solution.{Solution}
+use Rattle.qs_expr.specs.declared.expr.Expr.{Expr}
+use Rattle.qs_patterns.specs.Basic.{Graph}
+use Rattle.qs_patterns.specs.Eval.{step}
+use Rattle.qs_patterns.specs.declared.pattern.Step.{Step}
+use Rattle.qs_ops.specs.Tests.{IsDropped}
 use Rattle.qs_groups.specs.Stages.{before, coming, made, through}
 use Rattle.qs_groups.specs.declared.kept.Kept.{Kept}
 use Rattle.qs_groups.specs.declared.stages.Waiting.{Waiting}
@@ -20,3 +26,7 @@ ahead ks left ws = coming ks ws ++ flat_map (through ks) left
 abbrev pub Took : Bool → List Solution → List Waiting → List Solution → List Waiting → Type 0
 Took false left ws left2 ws2 = (left ≡ []) × (left2 ≡ []) × (ws2 ≡ ws)
 Took true left ws left2 ws2 = (m : Solution) × SameBag left (m ∷ left2) × (ws2 ≡ ws ++ before 0 m ∷ [])
+
+-- of solutions that conditions drop the step makes such alone
+pub record KeepsDropped (s : Step) : Type 0 where
+  pub keeps : (width : ℕ) (quads : List Statement) (graph : Graph) (conditions : List Expr) (xs : List Solution) → AllByRecursion (IsDropped conditions) xs → AllByRecursion (IsDropped conditions) (step width quads s graph xs)

@@ -1,12 +1,15 @@
 //! Basic graph patterns (SPARQL 1.1 Query, 18.3).
 
-ghost use Rattle.std.specs.Prelude.{◌≡◌, ◌≤◌, ◌+◌, map, take, IfOk};
+ghost use Rattle.std.specs.Prelude.{◌≡◌, ◌≤◌, ◌+◌, [], map, take, IfOk};
 ghost use Rattle.qs_terms.specs.Bag.{SameBag};
 ghost use Rattle.qs_patterns.specs.Basic.{basic, matches};
+ghost use Rattle.qs_patterns.specs.Eval.{kept};
 ghost use Rattle.qs_ops.specs.Graph.{active_graph};
 ghost use Rattle.qs_ops.specs.Row.{front};
 ghost use Rattle.qs_plan.specs.Some.{is_enough, AreSome};
 
+use qs_eval::kept;
+use qs_expr::Expr;
 use qs_ops::{Matches, solution};
 use qs_patterns::{BasicPattern, TriplePattern};
 use qs_solutions::Row;
@@ -144,5 +147,26 @@ pub(crate) fn solutions_of_basic<V: View>(
     ensures { IfOk result (λ rows. SameBag rows.items (basic width pattern.now (active_graph (V.content view.now) (V.default_seen view.now) active))) }
 {
     let rows = some_of_basic(alloc, width, pattern, view, active, None)?;
+    Ok(rows)
+}
+
+/// The solutions of a basic graph pattern without paths in which all conditions hold. A condition is tested in the search as soon as its
+/// variables are bound.
+pub(crate) fn solutions_under<V: View>(
+    alloc: Global,
+    width: usize,
+    pattern: &BasicPattern,
+    conditions: &[Expr],
+    view: &V,
+    active: Active,
+) -> Result<Vec<Row>, AllocError>
+    requires { pattern.now.paths ≡ [] }
+    ensures { IfOk result (λ rows. SameBag rows.items (kept conditions.now (basic width pattern.now (active_graph (V.content view.now) (V.default_seen view.now) active)))) }
+{
+    let whole = width.checked_add(pattern.hidden).ok_or(AllocError)?;
+    let triples = pattern.triples.as_slice();
+    let mut matches = Matches::under(alloc, view, active, whole, triples, width, conditions)?;
+    let found = rows_of(alloc, view, width, &mut matches, None)?;
+    let rows = kept(alloc, conditions, found)?;
     Ok(rows)
 }

@@ -9,8 +9,9 @@ ghost use Rattle.qs_patterns.specs.Eval.{eval, step, in_named, in_each};
 ghost use Rattle.qs_store.specs.Graphs.{AreGraphs};
 ghost use Rattle.qs_ops.specs.Graph.{active_graph};
 
-use crate::basic::solutions_of_basic;
+use crate::basic::{solutions_of_basic, solutions_under};
 use crate::graphs::{graph_named, graphs, name_of};
+use crate::group::triples_only;
 use qs_eval::{extended, joined_rows, kept, left_joined, solutions_of_table, with_name, without};
 use qs_patterns::{Pattern, Step};
 use qs_solutions::Row;
@@ -36,6 +37,11 @@ pub fn solutions<V: View>(
             Ok(rows)
         }
         Pattern::Group(steps, conditions) => {
+            if let Some(basic) = triples_only(steps.as_slice()) {
+                let conditions = conditions.as_slice();
+                let rows = solutions_under(alloc, width, basic, conditions, view, active)?;
+                return Ok(rows);
+            }
             let rows = solutions_of_group(alloc, width, steps.as_slice(), view, active)?;
             let rows = kept(alloc, conditions.as_slice(), rows)?;
             Ok(rows)

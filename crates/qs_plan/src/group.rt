@@ -1,7 +1,7 @@
 //! Groups, solution by solution.
 
-ghost use Rattle.std.specs.Prelude.{◌≡◌, ◌<◌, ◌≤◌, List, [], ◌∷◌, length, map, take, drop, IfOk, IfSome};
-ghost use Rattle.std.specs.List.{flat_map, fold};
+ghost use Rattle.std.specs.Prelude.{◌≡◌, ◌<◌, ◌≤◌, List, [], ◌∷◌, true, length, map, take, drop, IfOk, IfSome};
+ghost use Rattle.std.specs.List.{AllByRecursion, flat_map, fold};
 ghost use Rattle.qs_terms.specs.Bag.{SameBag};
 ghost use Rattle.qs_solutions.specs.Solution.{Solution, unbound};
 ghost use Rattle.qs_patterns.specs.Basic.{matches};
@@ -11,7 +11,7 @@ ghost use Rattle.qs_patterns.specs.declared.pattern.Step.TheVariants.{Join};
 ghost use Rattle.qs_groups.specs.Stages.{before, coming, kept_of, through};
 ghost use Rattle.qs_ops.specs.Graph.{active_graph};
 ghost use Rattle.qs_ops.specs.Row.{front};
-ghost use Rattle.qs_plan.specs.Groups.{IsKept, Took, ahead};
+ghost use Rattle.qs_plan.specs.Groups.{IsKept, KeepsDropped, Took, ahead};
 ghost use Rattle.qs_plan.specs.Some.{AreSome};
 
 use crate::basic::is_enough;
@@ -166,7 +166,33 @@ fn staged_from<V: View>(
     Ok(rows)
 }
 
-/// What the steps make of the matches of triple patterns, as far as all conditions hold: all, or as many as suffice.
+/// Whether the step binds no variable anew, so that a condition that is settled before it is settled.
+fn keeps_dropped(one: &Step) -> bool
+    ensures { result ≡ true → KeepsDropped one.now }
+{
+    match one {
+        Step::Join(_) => true,
+        Step::LeftJoin(_, _) => true,
+        Step::Minus(_) => true,
+        Step::Extend(_, _) => false,
+    }
+}
+
+/// Whether none of the steps binds a variable anew.
+#[tactic(auto, using(crate::proofs::Early::keeps_more, crate::proofs::Early::keeps_all))]
+fn all_keep_dropped(steps: &[Step]) -> bool
+    ensures { result ≡ true → AllByRecursion KeepsDropped steps.now }
+{
+    for one in steps {
+        if !keeps_dropped(one) {
+            return false;
+        }
+    }
+    true
+}
+
+/// What the steps make of the matches of triple patterns, as far as all conditions hold: all, or as many as suffice. Where no step binds a
+/// variable anew, a condition is tested in the search as soon as its variables are bound.
 fn streamed<V: View>(
     alloc: Global,
     width: usize,
@@ -182,7 +208,12 @@ fn streamed<V: View>(
     ensures { IfOk result (λ rows. AreSome most rows.items (kept conditions.now (fold (λ left s. step width (V.content view.now).quads s (active_graph (V.content view.now) (V.default_seen view.now) active) left) (map (take width) (matches whole triples.now (active_graph (V.content view.now) (V.default_seen view.now) active))) steps.now))) }
 {
     let all = kept_steps(alloc, width, steps, conditions, view, active)?;
-    let mut matches = Matches::of(alloc, view, active, whole, triples)?;
+    if !all_keep_dropped(steps) {
+        let mut matches = Matches::of(alloc, view, active, whole, triples)?;
+        let rows = staged_from(alloc, view, width, all.as_slice(), &mut matches, most)?;
+        return Ok(rows);
+    }
+    let mut matches = Matches::under(alloc, view, active, whole, triples, width, conditions)?;
     let rows = staged_from(alloc, view, width, all.as_slice(), &mut matches, most)?;
     Ok(rows)
 }
@@ -253,6 +284,16 @@ fn triples_alone(one: &Step) -> Option<&BasicPattern>
         return None;
     }
     Some(basic)
+}
+
+/// The basic graph pattern that the steps join, where it is all that they do and has no paths.
+pub(crate) fn triples_only(steps: &[Step]) -> Option<&BasicPattern>
+    ensures { IfSome result (λ b. (steps.now ≡ Join (Basic b.now) ∷ []) × (b.now.paths ≡ [])) }
+{
+    let [one] = steps else {
+        return None;
+    };
+    triples_alone(one)
 }
 
 /// The one solution that binds nothing.

@@ -1,7 +1,8 @@
 use Rattle.std.proofs.Common.{◌≡◌}
-use Rattle.std.specs.List.{filter_map}
+use Rattle.std.specs.List.{filter, filter_map}
 use Rattle.qs_ops.specs.Row.{row_solution}
 use Rattle.qs_ops.specs.Steps.{bound_entry}
+use Rattle.qs_ops.specs.Tests.{lets}
 use Rattle.qs_ops.proofs.cursor.next_bound.Given as goal
 
 -- the entries that were passed give no row
@@ -9,5 +10,5 @@ abbrev pub invariant-loop-entry : goal.invariant-loop-entry
 invariant-loop-entry g l =
     (goal.iterator-loop-entry g).can_next l.scan
     × (goal.iterator-loop-entry g).is_finite l.scan
-    × (filter_map (bound_entry (g.V.View.content l.view).known l.seek (row_solution (g.V.View.content l.view).known l.row)) l.fn.scan
-    ≡ filter_map (bound_entry (g.V.View.content l.view).known l.seek (row_solution (g.V.View.content l.view).known l.row)) l.scan)
+    × (filter (lets l.tests (row_solution (g.V.View.content l.view).known l.row)) (filter_map (bound_entry (g.V.View.content l.view).known l.seek (row_solution (g.V.View.content l.view).known l.row)) l.fn.scan)
+    ≡ filter (lets l.tests (row_solution (g.V.View.content l.view).known l.row)) (filter_map (bound_entry (g.V.View.content l.view).known l.seek (row_solution (g.V.View.content l.view).known l.row)) l.scan))

@@ -9,6 +9,7 @@ use Rattle.qs_solutions.specs.Operators.{join, left_join, minus}
 use Rattle.qs_patterns.specs.Eval.{all_hold, eval}
 use Rattle.qs_eval.proofs.Arms.{basic_arm, group_arm, union_arm, graph_arm, values_arm, join_arm, left_join_arm, minus_arm, extend_arm, step_more, union_more}
 use Rattle.qs_patterns.specs.declared.pattern.Pattern.{the_lemmas}
+use Rattle.qs_plan.proofs.Early.{group_alone}
 use Rattle.qs_plan.proofs.evaluate.+solutions.Goals as goal
 
 pub solutions-solutions_of_all-requires : goal.solutions-solutions_of_all-requires
@@ -29,10 +30,15 @@ pub solutions-returns-in_ok-rows-in-Values : goal.solutions-returns-in_ok-rows-i
 solutions-returns-in_ok-rows-in-Values g t c =
     values_arm c.args.width (g.V.View.content c.args.view.now).quads (active_graph (g.V.View.content c.args.view.now) (g.V.View.default_seen c.args.view.now) c.args.active) c.args.pattern.now c.in-Values.table c.in_ok-rows-in-Values.rows.items c.in-Values.is c.in_ok-rows-in-Values.ensures
 
-pub solutions-returns-in_ok-rows-in-Group-2 : goal.solutions-returns-in_ok-rows-in-Group-2
-solutions-returns-in_ok-rows-in-Group-2 g t c =
-    group_arm c.args.width (g.V.View.content c.args.view.now).quads (active_graph (g.V.View.content c.args.view.now) (g.V.View.default_seen c.args.view.now) c.args.active) c.args.pattern.now c.in-Group.steps _ c.in-Group.conditions _ c.in_ok-rows-in-Group.rows.items c.in_ok-rows-in-Group-2.rows.items
-    c.in-Group.is c.as_slice.ensures c.as_slice-in-Group.ensures c.in_ok-rows-in-Group.ensures c.in_ok-rows-in-Group-2.ensures
+pub solutions-returns-in_ok-rows-in-Group-3 : goal.solutions-returns-in_ok-rows-in-Group-3
+solutions-returns-in_ok-rows-in-Group-3 g t c =
+    group_arm c.args.width (g.V.View.content c.args.view.now).quads (active_graph (g.V.View.content c.args.view.now) (g.V.View.default_seen c.args.view.now) c.args.active) c.args.pattern.now c.in-Group.steps _ c.in-Group.conditions _ c.in_ok-rows-in-Group-2.rows.items c.in_ok-rows-in-Group-3.rows.items
+    c.in-Group.is c.as_slice-in-Group.ensures c.as_slice-in-Group-2.ensures c.in_ok-rows-in-Group-2.ensures c.in_ok-rows-in-Group-3.ensures
+
+pub solutions-returns-in-Some : goal.solutions-returns-in-Some
+solutions-returns-in-Some g t c =
+    group_alone c.args.width (g.V.View.content c.args.view.now).quads (active_graph (g.V.View.content c.args.view.now) (g.V.View.default_seen c.args.view.now) c.args.active) c.args.pattern.now c.in-Group.steps c.as_slice.result.now c.in-Group.conditions c.as_slice-conditions.result.now c.in-Some.basic.now c.in_ok-rows-in-Group.rows.items
+    c.in-Group.is c.as_slice.ensures c.as_slice-conditions.ensures (search rules) (search rules) c.in_ok-rows-in-Group.ensures
 
 pub stepped-returns-in_ok-rows-in-Join : goal.stepped-returns-in_ok-rows-in-Join
 stepped-returns-in_ok-rows-in-Join g t c xs h =

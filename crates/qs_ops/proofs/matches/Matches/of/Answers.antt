@@ -5,6 +5,8 @@ use Rattle.qs_patterns.specs.Basic.{matches}
 use Rattle.qs_eval.proofs.Past.{none_past}
 use Rattle.qs_ops.specs.Graph.{active_graph}
 use Rattle.qs_ops.specs.declared.place.Seek.{Seek}
+use Rattle.qs_ops.specs.Tests.{search_of}
+use Rattle.qs_ops.proofs.Sifted.{all_sifted}
 use Rattle.qs_ops.proofs.Orders.{searched, written_back}
 use Rattle.qs_ops.proofs.matches.Matches.of.Goals as goal
 
@@ -17,4 +19,5 @@ pub returns-clause-rows : goal.returns-clause-rows
 returns-clause-rows g c =
     searched (g.V.View.content c.args.view.now) (g.V.View.default_seen c.args.view.now) c.args.active c.args.width c.in_ok-seeks.seeks.items _ c.args.triples.now c.in_ok-matches.matches.rows c.is_seen.ensures c.in_ok-seeks.ensures
     (written_back _ c.in_ok-seeks.seeks.items c.reorder.new.seeks (subst (λ (l : List Seek). SameBag l c.reorder.new.seeks) c.as_mut_slice.ensures.value c.reorder.ensures) (search rules))
-    (sym c.are_below.ensures ∙ c.if-not-are_below.false) c.in_ok-matches.ensures.rows
+    (sym c.are_below.ensures ∙ c.if-not-are_below.false)
+    (all_sifted (g.V.View.content c.args.view.now).known (search_of (g.V.View.content c.args.view.now) (g.V.View.default_seen c.args.view.now) c.args.active c.no_tests-tests.result) _ _ _ c.no_tests-tests.ensures c.in_ok-matches.ensures.rows)
