@@ -25,7 +25,7 @@ use Rattle.qs_nquads.specs.declared.part.Part.{Part}
 use Rattle.qs_nquads.specs.declared.part.Part.TheVariants as part
 use Rattle.qs_nquads.specs.declared.place.Place.{Place}
 use Rattle.qs_nquads.specs.declared.place.Place.TheVariants as place
-use Rattle.qs_nquads.specs.declared.place.Next.TheVariants as next
+use Rattle.qs_nquads.specs.Next as next
 use Rattle.qs_nquads.proofs.Steps as steps
 use Rattle.qs_nquads.specs.Written.{label, iri_text, quoted, suffix, term_text, behind_space, with_graph, line}
 use Rattle.qs_nquads.specs.Renumbered.{blanks_in, blanks_of, before, renumbered_term, renumbered, IsTerm, IsName, IsQuad}

@@ -11,7 +11,7 @@ use Rattle.qs_nquads.specs.declared.fault.NqFaultKind.{NqFaultKind}
 use Rattle.qs_nquads.specs.declared.fault.NqFaultKind.TheVariants.{Memory}
 use Rattle.qs_nquads.specs.declared.part.Part.{Part}
 use Rattle.qs_nquads.specs.declared.place.Place.{Place}
-use Rattle.qs_nquads.specs.declared.place.Next.{Next}
+use Rattle.qs_nquads.specs.Next.{Next}
 
 module _ (p old : Place) (before labels : Numbering) (quads : List Statement) (k : Class) (t : List ℕ) (part : Part)
     (h : part_of p before k t ≡ Ok (part, labels)) (e : old ≡ p) where

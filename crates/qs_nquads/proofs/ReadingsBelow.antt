@@ -20,8 +20,8 @@ use Rattle.qs_nquads.specs.declared.fault.NqFaultKind.TheVariants as fault
 use Rattle.qs_nquads.specs.declared.part.Part.{Part}
 use Rattle.qs_nquads.specs.declared.part.Part.TheVariants as part
 use Rattle.qs_nquads.specs.declared.place.Place.{Place}
-use Rattle.qs_nquads.specs.declared.place.Next.{Next}
-use Rattle.qs_nquads.specs.declared.place.Next.TheVariants as next
+use Rattle.qs_nquads.specs.Next.{Next}
+use Rattle.qs_nquads.specs.Next as next
 use Rattle.qs_nquads.proofs.Larger.{larger_than_quads, above_one_more}
 use Rattle.qs_nquads.proofs.NumbersBelow.{IsUnused, Gives, unused_at_first, numbers}
 use Rattle.qs_nquads.proofs.PlacesBelow.{is_place_below, is_part_below, is_outcome_below, larger_than_place, below_after}

@@ -32,8 +32,8 @@ use Rattle.qs_nquads.specs.declared.part.Part.{Part}
 use Rattle.qs_nquads.specs.declared.part.Part.TheVariants as part
 use Rattle.qs_nquads.specs.declared.place.Place.{Place}
 use Rattle.qs_nquads.specs.declared.place.Place.TheVariants as place
-use Rattle.qs_nquads.specs.declared.place.Next.{Next}
-use Rattle.qs_nquads.specs.declared.place.Next.TheVariants as next
+use Rattle.qs_nquads.specs.Next.{Next}
+use Rattle.qs_nquads.specs.Next as next
 
 -- ---- what is read from a number on
 

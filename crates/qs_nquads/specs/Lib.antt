@@ -6,6 +6,7 @@ pub mod Labels
 pub mod Part
 pub mod Place
 pub mod Reading
+pub mod Next
 pub mod Nquads
 pub mod Unread
 pub mod Written

@@ -14,8 +14,8 @@ use Rattle.qs_nquads.specs.declared.fault.NqFaultKind.TheVariants as fault
 use Rattle.qs_nquads.specs.declared.part.Part.{Part}
 use Rattle.qs_nquads.specs.declared.place.Place.{Place}
 use Rattle.qs_nquads.specs.declared.place.Place.TheVariants as place
-use Rattle.qs_nquads.specs.declared.place.Next.{Next}
-use Rattle.qs_nquads.specs.declared.place.Next.TheVariants as next
+use Rattle.qs_nquads.specs.Next.{Next}
+use Rattle.qs_nquads.specs.Next as next
 
 -- what was read: the place in a statement, the labels and the whole statements so far
 pub record Reading : Type 0 where

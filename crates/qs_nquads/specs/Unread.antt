@@ -1,10 +1,12 @@
 -- A text that is read a statement at a time.
-use Rattle.std.specs.Prelude.{ℕ, List, [], ◌∷◌, ◌++◌, Option, Some, None}
+use Rattle.std.specs.Prelude.{◌≡◌, ℕ, List, [], ◌∷◌, ◌++◌, Option, Some, None, Result, Ok}
 use Rattle.std.specs.Str.{IsUtf8}
 use Rattle.qs_terms.specs.Statement.{Statement}
 use Rattle.qs_nquads.specs.Labels.{Numbering}
-use Rattle.qs_nquads.specs.Reading.{Reading, State, start, Comes}
+use Rattle.qs_nquads.specs.Next.{Next}
+use Rattle.qs_nquads.specs.Reading.{Reading, State, start, Comes, placed}
 use Rattle.qs_nquads.specs.Nquads.{Ends, IsNquads}
+use Rattle.qs_nquads.specs.declared.fault.NqFaultKind.{NqFaultKind}
 use Rattle.qs_nquads.specs.declared.place.Place.{Place}
 
 -- the whole text, where reading has come to in a statement, the labels so far, and the bytes that are left
@@ -25,6 +27,10 @@ state p labels rest quads = record { reading = reading p labels quads; rest = re
 abbrev pub with_next : List Statement → Option Statement → List Statement
 with_next quads None = quads
 with_next quads (Some q) = quads ++ q ∷ []
+
+-- reading goes on at this place, with the statement that is whole, if one is
+abbrev pub GoesOn : Result Next NqFaultKind → Option Statement → Place → Type 0
+GoesOn outcome next p = (quads : List Statement) (labels : Numbering) → placed quads labels outcome ≡ Ok (reading p labels (with_next quads next))
 
 -- a reader whose labels are numbered from `first` has handed out these statements of its text, and has come behind the last of them
 abbrev pub HasRead : ℕ → List Statement → Unread → Type 0

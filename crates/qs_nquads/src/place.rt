@@ -1,16 +1,18 @@
 //! Places in a statement.
 
-ghost use Rattle.std.specs.Prelude.{◌≡◌, Ok};
+ghost use Rattle.std.specs.Prelude.{◌≡◌, ◌≢◌, Ok, Err, MatchResult};
 ghost use Rattle.qs_terms.specs.Literal.{typed, xsd_string};
 ghost use Rattle.qs_terms.specs.OrWantOf.{OrWantOf};
 ghost use Rattle.qs_nquads.specs.declared.fault.NqFaultKind.TheVariants.{Memory};
 ghost use Rattle.qs_nquads.specs.Place.{statement, may_end};
+ghost use Rattle.qs_nquads.specs.Unread.{GoesOn};
 
 use crate::fault::NqFaultKind;
 use crate::node::Node;
 use crate::part::Part;
 use qs_terms::{Iri, Lit, Quad, Term, TermFault, Text};
 use std::alloc::Global;
+use std::mem;
 
 /// Where a statement has come to, with what was read of it.
 #[derive(Drop)]
@@ -33,15 +35,6 @@ pub enum Place {
     Done,
 }
 
-/// What a part makes of a place.
-#[derive(Drop)]
-pub enum Next {
-    /// Another place.
-    Place(Place),
-    /// A whole statement.
-    Quad(Quad),
-}
-
 impl Place {
     /// Whether a text may end here.
     pub fn may_end(&self) -> bool
@@ -54,6 +47,12 @@ impl Place {
             Place::Object(_, _, _) | Place::Label(_, _, _, _) => false,
         }
     }
+}
+
+fn set<T: Drop>(slot: &mut T, value: T)
+    ensures { slot.new ≡ value }
+{
+    *slot = value;
 }
 
 fn quad(subject: Node, predicate: Iri, object: Term, graph: Option<Node>) -> Quad
@@ -72,75 +71,127 @@ fn plain(alloc: Global, form: Text) -> Result<Lit, NqFaultKind>
     Ok(Lit::string(alloc, form)?)
 }
 
-fn at_start(part: Part) -> Result<Next, NqFaultKind>
-    ensures { result ≡ Rattle.qs_nquads.specs.Place.at_start part }
+fn at_start(place: &mut Place, part: Part) -> Result<Option<Quad>, NqFaultKind>
+    ensures { MatchResult result (λ next. GoesOn (Rattle.qs_nquads.specs.Place.at_start part) next place.new) (λ fault. Rattle.qs_nquads.specs.Place.at_start part ≡ Err fault) }
 {
     match part {
-        Part::Iri(iri) => Ok(Next::Place(Place::Subject(Node::Iri(iri)))),
-        Part::Blank(number) => Ok(Next::Place(Place::Subject(Node::Blank(number)))),
-        Part::LineEnd => Ok(Next::Place(Place::Start)),
-        _ => Err(NqFaultKind::Shape),
-    }
-}
-
-fn at_subject(subject: Node, part: Part) -> Result<Next, NqFaultKind>
-    ensures { result ≡ Rattle.qs_nquads.specs.Place.at_subject subject part }
-{
-    match part {
-        Part::Iri(predicate) => Ok(Next::Place(Place::Predicate(subject, predicate))),
-        _ => Err(NqFaultKind::Shape),
-    }
-}
-
-fn at_predicate(subject: Node, predicate: Iri, part: Part) -> Result<Next, NqFaultKind>
-    ensures { result ≡ Rattle.qs_nquads.specs.Place.at_predicate subject predicate part }
-{
-    match part {
-        Part::Iri(iri) => Ok(Next::Place(Place::Object(subject, predicate, Term::Iri(iri)))),
-        Part::Blank(number) => {
-            Ok(Next::Place(Place::Object(subject, predicate, Term::Blank(number))))
+        Part::Iri(iri) => {
+            set(place, Place::Subject(Node::Iri(iri)));
+            Ok(None)
         }
-        Part::Form(form) => Ok(Next::Place(Place::Form(subject, predicate, form))),
+        Part::Blank(number) => {
+            set(place, Place::Subject(Node::Blank(number)));
+            Ok(None)
+        }
+        Part::LineEnd => {
+            set(place, Place::Start);
+            Ok(None)
+        }
         _ => Err(NqFaultKind::Shape),
     }
 }
 
-fn at_object(subject: Node, predicate: Iri, object: Term, part: Part) -> Result<Next, NqFaultKind>
-    ensures { result ≡ Rattle.qs_nquads.specs.Place.at_object subject predicate object part }
+fn at_subject(place: &mut Place, subject: Node, part: Part) -> Result<Option<Quad>, NqFaultKind>
+    ensures { MatchResult result (λ next. GoesOn (Rattle.qs_nquads.specs.Place.at_subject subject part) next place.new) (λ fault. Rattle.qs_nquads.specs.Place.at_subject subject part ≡ Err fault) }
+{
+    match part {
+        Part::Iri(predicate) => {
+            set(place, Place::Predicate(subject, predicate));
+            Ok(None)
+        }
+        _ => Err(NqFaultKind::Shape),
+    }
+}
+
+fn at_predicate(
+    place: &mut Place,
+    subject: Node,
+    predicate: Iri,
+    part: Part,
+) -> Result<Option<Quad>, NqFaultKind>
+    ensures { MatchResult result (λ next. GoesOn (Rattle.qs_nquads.specs.Place.at_predicate subject predicate part) next place.new) (λ fault. Rattle.qs_nquads.specs.Place.at_predicate subject predicate part ≡ Err fault) }
+{
+    match part {
+        Part::Iri(iri) => {
+            set(place, Place::Object(subject, predicate, Term::Iri(iri)));
+            Ok(None)
+        }
+        Part::Blank(number) => {
+            set(
+                place,
+                Place::Object(subject, predicate, Term::Blank(number)),
+            );
+            Ok(None)
+        }
+        Part::Form(form) => {
+            set(place, Place::Form(subject, predicate, form));
+            Ok(None)
+        }
+        _ => Err(NqFaultKind::Shape),
+    }
+}
+
+fn at_object(
+    place: &mut Place,
+    subject: Node,
+    predicate: Iri,
+    object: Term,
+    part: Part,
+) -> Result<Option<Quad>, NqFaultKind>
+    ensures { MatchResult result (λ next. GoesOn (Rattle.qs_nquads.specs.Place.at_object subject predicate object part) next place.new) (λ fault. Rattle.qs_nquads.specs.Place.at_object subject predicate object part ≡ Err fault) }
 {
     match part {
         Part::Iri(name) => {
-            Ok(Next::Place(Place::Label(subject, predicate, object, Node::Iri(name))))
+            set(
+                place,
+                Place::Label(subject, predicate, object, Node::Iri(name)),
+            );
+            Ok(None)
         }
         Part::Blank(number) => {
-            Ok(Next::Place(Place::Label(subject, predicate, object, Node::Blank(number))))
+            set(
+                place,
+                Place::Label(subject, predicate, object, Node::Blank(number)),
+            );
+            Ok(None)
         }
-        Part::Dot => Ok(Next::Quad(quad(subject, predicate, object, None))),
+        Part::Dot => {
+            set(place, Place::Done);
+            Ok(Some(quad(subject, predicate, object, None)))
+        }
         _ => Err(NqFaultKind::Shape),
     }
 }
 
 fn at_form(
     alloc: Global,
+    place: &mut Place,
     subject: Node,
     predicate: Iri,
     form: Text,
     part: Part,
-) -> Result<Next, NqFaultKind>
-    ensures { OrWantOf Memory (Rattle.qs_nquads.specs.Place.at_form subject predicate form part) result }
+) -> Result<Option<Quad>, NqFaultKind>
+    ensures { MatchResult result (λ next. GoesOn (Rattle.qs_nquads.specs.Place.at_form subject predicate form part) next place.new) (λ fault. fault ≢ Memory → Rattle.qs_nquads.specs.Place.at_form subject predicate form part ≡ Err fault) }
 {
     match part {
         Part::Tag(tag) => match Lit::tagged(alloc, form, tag) {
             Ok(literal) => {
-                Ok(Next::Place(Place::Object(subject, predicate, Term::Literal(literal))))
+                set(
+                    place,
+                    Place::Object(subject, predicate, Term::Literal(literal)),
+                );
+                Ok(None)
             }
             Err(TermFault::Memory) => Err(NqFaultKind::Memory),
             Err(_) => Err(NqFaultKind::Literal),
-        },
-        Part::Carets => Ok(Next::Place(Place::Typed(subject, predicate, form))),
+        }
+        Part::Carets => {
+            set(place, Place::Typed(subject, predicate, form));
+            Ok(None)
+        }
         Part::Iri(_) | Part::Blank(_) | Part::Dot => {
             let literal = plain(alloc, form)?;
-            at_object(subject, predicate, Term::Literal(literal), part)
+            at_object(place, subject, predicate, Term::Literal(literal), part)
         }
         _ => Err(NqFaultKind::Shape),
     }
@@ -148,67 +199,86 @@ fn at_form(
 
 fn at_typed(
     alloc: Global,
+    place: &mut Place,
     subject: Node,
     predicate: Iri,
     form: Text,
     part: Part,
-) -> Result<Next, NqFaultKind>
-    ensures { OrWantOf Memory (Rattle.qs_nquads.specs.Place.at_typed subject predicate form part) result }
+) -> Result<Option<Quad>, NqFaultKind>
+    ensures { MatchResult result (λ next. GoesOn (Rattle.qs_nquads.specs.Place.at_typed subject predicate form part) next place.new) (λ fault. fault ≢ Memory → Rattle.qs_nquads.specs.Place.at_typed subject predicate form part ≡ Err fault) }
 {
     match part {
         Part::Iri(datatype) => match Lit::typed(alloc, form, datatype) {
             Ok(literal) => {
-                Ok(Next::Place(Place::Object(subject, predicate, Term::Literal(literal))))
+                set(
+                    place,
+                    Place::Object(subject, predicate, Term::Literal(literal)),
+                );
+                Ok(None)
             }
             Err(TermFault::Memory) => Err(NqFaultKind::Memory),
             Err(_) => Err(NqFaultKind::Literal),
-        },
+        }
         _ => Err(NqFaultKind::Shape),
     }
 }
 
 fn at_label(
+    place: &mut Place,
     subject: Node,
     predicate: Iri,
     object: Term,
     name: Node,
     part: Part,
-) -> Result<Next, NqFaultKind>
-    ensures { result ≡ Rattle.qs_nquads.specs.Place.at_label subject predicate object name part }
+) -> Result<Option<Quad>, NqFaultKind>
+    ensures { MatchResult result (λ next. GoesOn (Rattle.qs_nquads.specs.Place.at_label subject predicate object name part) next place.new) (λ fault. Rattle.qs_nquads.specs.Place.at_label subject predicate object name part ≡ Err fault) }
 {
     match part {
-        Part::Dot => Ok(Next::Quad(quad(subject, predicate, object, Some(name)))),
+        Part::Dot => {
+            set(place, Place::Done);
+            Ok(Some(quad(subject, predicate, object, Some(name))))
+        }
         _ => Err(NqFaultKind::Shape),
     }
 }
 
-fn at_done(part: Part) -> Result<Next, NqFaultKind>
-    ensures { result ≡ Rattle.qs_nquads.specs.Place.at_done part }
+fn at_done(place: &mut Place, part: Part) -> Result<Option<Quad>, NqFaultKind>
+    ensures { MatchResult result (λ next. GoesOn (Rattle.qs_nquads.specs.Place.at_done part) next place.new) (λ fault. Rattle.qs_nquads.specs.Place.at_done part ≡ Err fault) }
 {
     match part {
-        Part::LineEnd => Ok(Next::Place(Place::Start)),
+        Part::LineEnd => {
+            set(place, Place::Start);
+            Ok(None)
+        }
         _ => Err(NqFaultKind::Shape),
     }
 }
 
-/// What the part makes of the place.
+/// Goes on with what the part makes of the place; hands out the statement that is whole then, if one is. Behind a fault the place is
+/// that before a statement.
 ///
 /// # Errors
 /// `NqFaultKind::Shape` where the part has no place here, `NqFaultKind::Literal` for rdf:langString behind `^^`, and
 /// `NqFaultKind::Memory`.
-pub fn after(alloc: Global, place: Place, part: Part) -> Result<Next, NqFaultKind>
-    ensures { OrWantOf Memory (Rattle.qs_nquads.specs.Place.after place part) result }
+pub fn after(alloc: Global, place: &mut Place, part: Part) -> Result<Option<Quad>, NqFaultKind>
+    ensures { MatchResult result (λ next. GoesOn (Rattle.qs_nquads.specs.Place.after place.old part) next place.new) (λ fault. fault ≢ Memory → Rattle.qs_nquads.specs.Place.after place.old part ≡ Err fault) }
 {
-    match place {
-        Place::Start => at_start(part),
-        Place::Subject(subject) => at_subject(subject, part),
-        Place::Predicate(subject, predicate) => at_predicate(subject, predicate, part),
-        Place::Form(subject, predicate, form) => at_form(alloc, subject, predicate, form, part),
-        Place::Typed(subject, predicate, form) => at_typed(alloc, subject, predicate, form, part),
-        Place::Object(subject, predicate, object) => { at_object(subject, predicate, object, part) }
-        Place::Label(subject, predicate, object, name) => {
-            at_label(subject, predicate, object, name, part)
+    match mem::replace(place, Place::Start) {
+        Place::Start => at_start(place, part),
+        Place::Subject(subject) => at_subject(place, subject, part),
+        Place::Predicate(subject, predicate) => at_predicate(place, subject, predicate, part),
+        Place::Form(subject, predicate, form) => at_form(
+            alloc, place, subject, predicate, form, part,
+        ),
+        Place::Typed(subject, predicate, form) => at_typed(
+            alloc, place, subject, predicate, form, part,
+        ),
+        Place::Object(subject, predicate, object) => {
+            at_object(place, subject, predicate, object, part)
         }
-        Place::Done => at_done(part),
+        Place::Label(subject, predicate, object, name) => {
+            at_label(place, subject, predicate, object, name, part)
+        }
+        Place::Done => at_done(place, part),
     }
 }

@@ -13,12 +13,11 @@ use crate::gap::behind_gap;
 use crate::labels::Labels;
 use crate::longest::longest;
 use crate::part::part_of;
-use crate::place::{Next, Place, after};
+use crate::place::{Place, after};
 use qs_terms::Quad;
 use std::alloc::Global;
 use std::hash::RandomState;
 use std::marker::Model;
-use std::mem;
 
 /// What is wrong, and how many bytes are left there.
 #[derive(Clone, Copy)]
@@ -52,28 +51,6 @@ fn line_at(bytes: &[u8], place: usize) -> usize
     1 + bytes[..place].iter().filter(|b| **b == b'\n').count()
 }
 
-fn set<T: Drop>(slot: &mut T, value: T)
-    ensures { slot.new ≡ value }
-{
-    *slot = value;
-}
-
-// Goes on with what a part made of the place; hands out the statement that is whole, if one is.
-fn put(place: &mut Place, next: Next) -> Option<Quad>
-    ensures { (quads : List Statement) (labels : _) → placed quads labels (Ok next) ≡ Ok (reading place.new labels (with_next quads result)) }
-{
-    match next {
-        Next::Place(next) => {
-            set(place, next);
-            None
-        }
-        Next::Quad(quad) => {
-            set(place, Place::Done);
-            Some(quad)
-        }
-    }
-}
-
 // Reads one front more, and hands out the statement that is whole then, if one is.
 fn read_front(
     alloc: Global,
@@ -86,11 +63,7 @@ fn read_front(
     ensures fault { IfErr result (λ fault. (quads : List Statement) → fault ≢ Memory → read (reading place.old labels.old quads) class token.now ≡ Err fault) }
 {
     let part = part_of(alloc, place, labels, class, token)?;
-    let before = mem::replace(place, Place::Start);
-    match after(alloc, before, part) {
-        Ok(next) => Ok(put(place, next)),
-        Err(fault) => Err(fault),
-    }
+    after(alloc, place, part)
 }
 
 // Reads to the end of the next statement, or of the text, and hands out what is left behind it.
