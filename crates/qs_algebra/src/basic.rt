@@ -46,7 +46,7 @@ fn iri_slot(alloc: Global, before: Option<&Slot>, iri: &Iri) -> Result<Slot, All
             return Ok(Slot::Term(term.share()?));
         }
     }
-    let iri = Term::Iri(iri.try_clone(alloc)?);
+    let iri = Term::Iri(iri.try_clone()?);
     Ok(Slot::Term(Shared::new(alloc, iri)?))
 }
 
@@ -59,7 +59,7 @@ fn literal_slot(alloc: Global, before: Option<&Slot>, literal: &Lit) -> Result<S
             return Ok(Slot::Term(term.share()?));
         }
     }
-    let literal = Term::Literal(literal.try_clone(alloc)?);
+    let literal = Term::Literal(literal.try_clone()?);
     Ok(Slot::Term(Shared::new(alloc, literal)?))
 }
 

@@ -23,8 +23,8 @@ pub fn expr_of<'a>(
 {
     match expression {
         Expression::Variable(variable) => Ok(Expr::Variable(names.place(&variable.name))),
-        Expression::Iri(iri) => Ok(Expr::Term(Term::Iri(iri.try_clone(alloc)?))),
-        Expression::Literal(lit) => Ok(Expr::Term(Term::Literal(lit.try_clone(alloc)?))),
+        Expression::Iri(iri) => Ok(Expr::Term(Term::Iri(iri.try_clone()?))),
+        Expression::Literal(lit) => Ok(Expr::Term(Term::Literal(lit.try_clone()?))),
         Expression::Or(parts) => Ok(Expr::Or(exprs_of(alloc, names, parts.as_slice())?)),
         Expression::And(parts) => Ok(Expr::And(exprs_of(alloc, names, parts.as_slice())?)),
         Expression::Compare(by, a, b) => {

@@ -13,7 +13,7 @@ fn copied_members(alloc: Global, members: &[NegatedIri]) -> Result<Items<Negated
 {
     let mut copies = Items::new(alloc);
     for member in members {
-        let iri = member.iri.try_clone(alloc)?;
+        let iri = member.iri.try_clone()?;
         copies.push(NegatedIri {
             inverse: member.inverse,
             iri,
@@ -28,7 +28,7 @@ fn copied(alloc: Global, path: &Path) -> Result<Path, AllocError>
     ensures { IfOk result (λ copy. copy ≡ path.now) }
 {
     match path {
-        Path::Iri(iri) => Ok(Path::Iri(iri.try_clone(alloc)?)),
+        Path::Iri(iri) => Ok(Path::Iri(iri.try_clone()?)),
         Path::NegatedSet(members) => {
             let members = copied_members(alloc, members.as_slice())?;
             Ok(Path::NegatedSet(members))

@@ -26,12 +26,12 @@ fn numbers<'a>(
     Ok(numbers)
 }
 
-fn copied(alloc: Global, term: &Option<Term>) -> Result<Option<Term>, AllocError>
+fn copied(term: &Option<Term>) -> Result<Option<Term>, AllocError>
     ensures { IfOk result (λ copy. copy ≡ term.now) }
 {
     match term {
         None => Ok(None),
-        Some(term) => Ok(Some(term.try_clone(alloc)?)),
+        Some(term) => Ok(Some(term.try_clone()?)),
     }
 }
 
@@ -40,7 +40,7 @@ fn copied_row(alloc: Global, row: &[Option<Term>]) -> Result<Items<Option<Term>>
 {
     let mut copy = Items::new(alloc);
     for term in row {
-        let term = copied(alloc, term)?;
+        let term = copied(term)?;
         copy.push(term)?;
     }
     Ok(copy)

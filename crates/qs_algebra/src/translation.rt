@@ -88,7 +88,7 @@ pub fn in_graph<'a>(
             Ok(Pattern::EachGraph(names.place(&variable.name), part))
         }
         VarOrIri::Iri(iri) => {
-            let name = iri.try_clone(alloc)?;
+            let name = iri.try_clone()?;
             Ok(Pattern::Graph(Term::Iri(name), part))
         }
     }

@@ -50,8 +50,8 @@ impl TermPattern {
             TermPattern::Variable(variable) => Ok(TermPattern::Variable(Variable {
                 name: variable.name.try_clone(alloc)?,
             })),
-            TermPattern::Iri(iri) => Ok(TermPattern::Iri(iri.try_clone(alloc)?)),
-            TermPattern::Literal(literal) => Ok(TermPattern::Literal(literal.try_clone(alloc)?)),
+            TermPattern::Iri(iri) => Ok(TermPattern::Iri(iri.try_clone()?)),
+            TermPattern::Literal(literal) => Ok(TermPattern::Literal(literal.try_clone()?)),
             TermPattern::Blank(blank) => Ok(TermPattern::Blank(blank.try_clone(alloc)?)),
         }
     }

@@ -17,7 +17,6 @@ use std::marker::Model;
 /// Distinct terms, each with its place from 1 as its number. A term keeps its number until it is cut off.
 #[derive(Drop)]
 pub struct Dict {
-    alloc: Global,
     terms: IndexSet<Term, RandomState>,
     limit: u32,
     recent: Recent,
@@ -42,7 +41,6 @@ impl Dict {
         ensures lawful { IsDictionary result }
     {
         Dict {
-            alloc,
             terms: IndexSet::with_hasher(alloc, hasher),
             limit,
             recent: Recent::new(),
@@ -149,12 +147,12 @@ impl Dict {
         if let Some(number) = self.known(term)? {
             return Ok(number);
         }
-        let own = term.try_clone(self.alloc)?;
+        let own = term.try_clone()?;
         self.put(own)
     }
 
-    /// The number of the term, which is put last where it is new. Only a new term takes memory: a copy of it is put in. A term that was
-    /// asked for not long ago isn't hashed.
+    /// The number of the term, which is put last where it is new, and has its texts in common with this one. Only a new term takes
+    /// memory. A term that was asked for not long ago isn't hashed.
     pub fn number(&mut self, term: &Term) -> Result<u32, DictFault>
         ensures number { IfOk result (λ n. number_of self.new.terms term.now ≡ Some n) }
         ensures terms { OnOk result (self.new.terms ≡ with_new same_term self.old.terms term.now) }
@@ -175,8 +173,8 @@ impl Dict {
         Ok(number)
     }
 
-    /// The same of a term that is handed over: where it is new it is put last as it is, and no copy is made. A term that is there is
-    /// hashed once, and a new one twice.
+    /// The same of a term that is handed over: where it is new it is put last as it is. A term that is there is hashed once, and a new
+    /// one twice.
     pub fn number_owned(&mut self, term: Term) -> Result<u32, DictFault>
         ensures number { IfOk result (λ n. number_of self.new.terms term ≡ Some n) }
         ensures terms { OnOk result (self.new.terms ≡ with_new same_term self.old.terms term) }

@@ -1,17 +1,14 @@
 -- Texts up to their first backslash, and behind it.
-use Rattle.std.proofs.Common.{◌≡◌, ℕ, zero, suc, ◌+◌, ◌<◌, slice_index, Bool, true, false, not, ◌==◌, List, [], ◌∷◌, ◌++◌, length, drop, filter, refl, ◌∙◌, sym, ap, arith, add-one, append_assoc}
+use Rattle.std.proofs.Common.{◌≡◌, ℕ, zero, suc, ◌+◌, ◌<◌, slice_index, Bool, true, false, true≢false, not, ◌||◌, ◌==◌, List, [], ◌∷◌, ◌++◌, length, drop, filter, refl, ◌∙◌, sym, ap, arith, add-one, append_assoc}
 use native.Mathlib.Numerals.{one-add}
 use Rattle.std.proofs.lemmas.Bool.{eqb-true}
 use Rattle.std.proofs.lemmas.List.Sums.{passes_at_first}
 use Rattle.std.proofs.lemmas.Str.{IsUtf8-drop, IsCharBoundary-after_ascii}
 use Rattle.std.specs.Str.{IsUtf8}
-use Rattle.std.specs.List.{position_or_len, before_first, after_first}
+use Rattle.std.specs.List.{list_any, position_or_len, before_first, after_first}
 use Rattle.std.specs.Prelude.{Option}
 use Rattle.qs_escapes.specs.declared.escape.Escape.{Escape}
-use Rattle.qs_escapes.specs.Decoded.{stands_for, length_of, decoded_behind}
-
-abbrev pub is_backslash : ℕ → Bool
-is_backslash c = c == 92
+use Rattle.qs_escapes.specs.Decoded.{is_backslash, stands_for, length_of, decoded_behind}
 
 -- ---- a text that begins with what is looked for, or doesn't
 
@@ -83,6 +80,15 @@ module _ (escape : List ℕ → Option Escape) where
   pub decoded_plain : (text : List ℕ) → position_or_len is_backslash text ≡ length text → decoded_behind escape 0 text ≡ text
   decoded_plain [] l = nothing
   decoded_plain (c ∷ cs) l = plain_at (is_backslash c) c cs refl (decoded_plain cs) l
+
+  free_at : (b : Bool) (c : ℕ) (cs : List ℕ) → is_backslash c ≡ b → (list_any is_backslash cs ≡ false → decoded_behind escape 0 cs ≡ cs)
+      → list_any is_backslash (c ∷ cs) ≡ false → decoded_behind escape 0 (c ∷ cs) ≡ c ∷ cs
+  free_at true c cs e more l = absurd (true≢false (sym (ap (λ x. x || list_any is_backslash cs) e) ∙ l))
+  free_at false c cs e more l = rw (kept c cs e) (ap (λ xs. c ∷ xs) (more (sym (ap (λ x. x || list_any is_backslash cs) e) ∙ l)))
+
+  pub decoded_free : (text : List ℕ) → list_any is_backslash text ≡ false → decoded_behind escape 0 text ≡ text
+  decoded_free [] l = nothing
+  decoded_free (c ∷ cs) l = free_at (is_backslash c) c cs refl (decoded_free cs) l
 
   -- one turn: a run, and an escape behind it
   pub turned : (before middle after left next run behind text : List ℕ) → before ++ decoded_behind escape 0 left ≡ text → position_or_len is_backslash left < length left

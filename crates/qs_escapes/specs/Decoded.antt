@@ -1,6 +1,9 @@
 -- Texts with their escapes decoded.
-use Rattle.std.specs.Prelude.{ℕ, zero, suc, not, ◌==◌, List, [], ◌∷◌, ◌++◌, filter, encode_utf8, Option, Some, None, if◌then◌else◌}
+use Rattle.std.specs.Prelude.{ℕ, zero, suc, Bool, not, ◌==◌, List, [], ◌∷◌, ◌++◌, filter, encode_utf8, Option, Some, None, if◌then◌else◌}
 use Rattle.qs_escapes.specs.declared.escape.Escape.{Escape}
+
+abbrev pub is_backslash : ℕ → Bool
+is_backslash c = c == 92
 
 -- the character that an escape names; a backslash that begins none stands for itself
 abbrev pub stands_for : Option Escape → List ℕ

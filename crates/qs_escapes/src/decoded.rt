@@ -1,9 +1,10 @@
 //! Texts with their escapes decoded.
 
 ghost use Rattle.std.specs.Prelude.{◌≡◌, ◌++◌, IfOk, OnOk, string_bytes, drop};
+ghost use Rattle.std.specs.List.{list_any};
 ghost use Rattle.std.specs.Str.{IsCharBoundary};
 ghost use Rattle.std.specs.Option.{ForSome};
-ghost use Rattle.qs_escapes.specs.Decoded.{stands_for, length_of, decoded, unescaped};
+ghost use Rattle.qs_escapes.specs.Decoded.{is_backslash, stands_for, length_of, decoded, unescaped};
 ghost use Rattle.qs_escapes.specs.Escape.{escape};
 
 use crate::escape::{Escape, Escapes, first_escape};
@@ -32,9 +33,26 @@ fn push_escape<'t>(
     }
 }
 
+fn has_backslash(text: &str) -> bool
+    ensures { result ≡ list_any is_backslash text.now }
+{
+    text.as_bytes().iter().any(|byte| *byte == b'\\')
+}
+
 /// The text with its escapes decoded.
-#[tactic(auto, using(crate::proofs::EscapeEnds::boundary, crate::proofs::Backslashes::decoded_step, crate::proofs::Backslashes::decoded_plain))]
+#[tactic(auto, using(crate::proofs::Backslashes::decoded_free))]
 pub fn decoded(alloc: Global, text: &str, kind: Escapes) -> Result<Text, AllocError>
+    ensures { IfOk result (λ t. t ≡ decoded (escape kind) text.now) }
+{
+    if !has_backslash(text) {
+        return Text::new(alloc, text);
+    }
+    decoded_by_runs(alloc, text, kind)
+}
+
+// The same, run by run between the escapes.
+#[tactic(auto, using(crate::proofs::EscapeEnds::boundary, crate::proofs::Backslashes::decoded_step, crate::proofs::Backslashes::decoded_plain))]
+fn decoded_by_runs(alloc: Global, text: &str, kind: Escapes) -> Result<Text, AllocError>
     ensures { IfOk result (λ t. t ≡ decoded (escape kind) text.now) }
 {
     let mut out = String::with_capacity(alloc, text.len())?;

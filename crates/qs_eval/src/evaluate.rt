@@ -39,7 +39,7 @@ pub fn solutions_of_table(
 fn named_row(alloc: Global, width: usize, variable: usize, name: &Term) -> Result<Row, AllocError>
     ensures { IfOk result (λ r. r ≡ binding width (variable ∷ []) (Some name.now ∷ [])) }
 {
-    let name = name.try_clone(alloc)?;
+    let name = name.try_clone()?;
     let mut row = Row::unbound(alloc, width)?;
     row.bind(variable, name);
     Ok(row)

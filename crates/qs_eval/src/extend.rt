@@ -43,7 +43,6 @@ fn may_match(pattern: &TriplePattern, quad: &Quad, row: &Row) -> bool
 
 /// The row with the slot's variable bound to the term, where that agrees with the row.
 fn bind_slot(
-    alloc: Global,
     slot: &Slot,
     term: &Term,
     mut row: Row,
@@ -67,7 +66,7 @@ fn bind_slot(
                 }
             }
             None => {
-                let term = term.try_clone(alloc)?;
+                let term = term.try_clone()?;
                 row.bind(*variable, term);
                 Ok(Some(row))
             }
@@ -84,13 +83,13 @@ fn bind_triple(
     ensures { IfOk result (λ o. o ≡ bound_triple pattern.now (triple_of quad.now) row.now) }
 {
     let row = row.try_clone(alloc)?;
-    let Some(row) = bind_slot(alloc, &pattern.subject, quad.subject(), row)? else {
+    let Some(row) = bind_slot(&pattern.subject, quad.subject(), row)? else {
         return Ok(None);
     };
-    let Some(row) = bind_slot(alloc, &pattern.predicate, quad.predicate(), row)? else {
+    let Some(row) = bind_slot(&pattern.predicate, quad.predicate(), row)? else {
         return Ok(None);
     };
-    bind_slot(alloc, &pattern.object, quad.object(), row)
+    bind_slot(&pattern.object, quad.object(), row)
 }
 
 /// The row with the pattern's variables bound so that it becomes the quad's triple, where that agrees with the row. A row is cloned

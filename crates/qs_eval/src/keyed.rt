@@ -62,7 +62,7 @@ fn put<'a>(
     }
     let mut there = Vec::new(alloc);
     there.push(row)?;
-    let term = term.try_clone(alloc)?;
+    let term = term.try_clone()?;
     map.insert(term, there)?;
     Ok(())
 }

@@ -42,11 +42,11 @@ fn fits(pattern: &PathPattern, pair: &Pair<'_>) -> bool
 }
 
 /// Binds the variable of the slot, if there is one, to the term.
-fn bind(alloc: Global, slot: &Slot, term: &Term, row: &mut Row) -> Result<(), AllocError>
+fn bind(slot: &Slot, term: &Term, row: &mut Row) -> Result<(), AllocError>
     ensures { OnOk result (row.new ≡ spec.with_term slot.now term.now row.old) }
 {
     if let Slot::Variable(variable) = slot {
-        let term = term.try_clone(alloc)?;
+        let term = term.try_clone()?;
         row.bind(*variable, term);
     }
     Ok(())
@@ -62,8 +62,8 @@ fn ends_bound(
     ensures { IfOk result (λ row. row ≡ spec.ends_bound width pattern.now pair.now) }
 {
     let mut row = Row::unbound(alloc, width)?;
-    bind(alloc, &pattern.subject, pair.left(), &mut row)?;
-    bind(alloc, &pattern.object, pair.right(), &mut row)?;
+    bind(&pattern.subject, pair.left(), &mut row)?;
+    bind(&pattern.object, pair.right(), &mut row)?;
     Ok(row)
 }
 

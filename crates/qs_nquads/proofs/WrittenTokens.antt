@@ -166,6 +166,10 @@ lawful_parts i h = let q : (has_scheme i ≡ true) × (not (list_any is_excluded
 pub checked : (i : List ℕ) → is_iri_text i ≡ true → checked_iri i ≡ Ok i
 checked i h = let q = lawful_parts i h in let a : has_scheme i ≡ true = q.0 in let b : list_any is_excluded i ≡ false = q.1 in rw (a, b) refl
 
+-- a lawful IRI as it is written
+pub iri_again : (n : Numbering) (i : List ℕ) → is_iri_text i ≡ true → iri_part n (checked_iri (decoded uchar i)) ≡ Ok (part.Iri i, n)
+iri_again n i h = ap (λ z. iri_part n (checked_iri z)) (plain_decodes i (lawful_parts i h).1) ∙ ap (iri_part n) (checked i h)
+
 pub two : (a b : ℕ) (cs x : List ℕ) → a < 128 → b < 128 → scalars cs ≡ true → encodes cs ≡ x → (scalars (a ∷ (cs ++ b ∷ [])) ≡ true) × (encodes (a ∷ (cs ++ b ∷ [])) ≡ a ∷ (x ++ b ∷ []))
 two a b cs x ha hb s e =
     let sa : scalar a ≡ true = low_scalar a (omega arith) in let sb : scalar b ≡ true = low_scalar b (omega arith) in

@@ -19,6 +19,7 @@ mod output;
 mod part;
 mod place;
 mod reader;
+mod recent;
 mod run;
 mod state;
 mod written;

@@ -3,16 +3,21 @@
 ghost use Rattle.std.specs.Prelude.{◌≡◌, ◌-◌, length};
 ghost use Rattle.qs_terms.specs.OrWantOf.{OrWantOf, WithOrWantOf};
 ghost use Rattle.qs_nquads.specs.declared.fault.NqFaultKind.TheVariants.{Memory};
+ghost use Rattle.qs_escapes.specs.Decoded.{decoded as decoded_text};
+ghost use Rattle.qs_escapes.specs.Escape.{uchar};
 ghost use Rattle.qs_nquads.specs.Part.{takes_label, label_part, iri_part, part_of};
+ghost use Rattle.qs_nquads.specs.Labels.{Numbering};
+ghost use Rattle.qs_terms.specs.Iri.{checked_iri};
 
 use crate::class::Class;
 use crate::fault::NqFaultKind;
 use crate::labels::Labels;
 use crate::place::Place;
+use crate::recent::Recent;
 use qs_escapes::Escapes;
 use qs_escapes::decoded::decoded;
 use qs_escapes::piece::piece;
-use qs_terms::{Iri, Text};
+use qs_terms::{Iri, TermFault, Text};
 use std::alloc::Global;
 
 /// A part of a statement.
@@ -76,6 +81,32 @@ fn blank(
     Ok(Part::Blank(number))
 }
 
+// The IRI of a text that wasn't read not long ago, which is noted.
+fn new_iri(alloc: Global, recent: &mut Recent, text: &str) -> Result<Part, NqFaultKind>
+    ensures { (n : Numbering) → WithOrWantOf Memory (iri_part n (checked_iri (decoded_text uchar text.now))) result n }
+{
+    let text = decoded(alloc, text, Escapes::Codepoints)?;
+    match Iri::new(alloc, text) {
+        Ok(iri) => {
+            recent.note(&iri)?;
+            Ok(Part::Iri(iri))
+        }
+        Err(TermFault::Memory) => Err(NqFaultKind::Memory),
+        Err(_) => Err(NqFaultKind::Iri),
+    }
+}
+
+// The IRI of a text, which is neither checked nor copied where it was read not long ago.
+#[tactic(auto, using(crate::proofs::WrittenTokens::iri_again))]
+fn iri(alloc: Global, recent: &mut Recent, text: &str) -> Result<Part, NqFaultKind>
+    ensures { (n : Numbering) → WithOrWantOf Memory (iri_part n (checked_iri (decoded_text uchar text.now))) result n }
+{
+    match recent.iri(text)? {
+        Some(known) => Ok(Part::Iri(known)),
+        None => new_iri(alloc, recent, text),
+    }
+}
+
 /// What the front of a class, of these bytes, says at a place of a statement.
 ///
 /// # Errors
@@ -84,19 +115,14 @@ pub fn part_of(
     alloc: Global,
     place: &Place,
     labels: &mut Labels,
+    recent: &mut Recent,
     class: Class,
     token: &str,
 ) -> Result<Part, NqFaultKind>
     ensures { WithOrWantOf Memory (part_of place.now labels.old class token.now) result labels.new }
 {
     match class {
-        Class::Iri => {
-            let text = decoded(alloc, inside(token), Escapes::Codepoints)?;
-            match Iri::new(text) {
-                Ok(iri) => Ok(Part::Iri(iri)),
-                Err(_) => Err(NqFaultKind::Iri),
-            }
-        }
+        Class::Iri => iri(alloc, recent, inside(token)),
         Class::String => {
             let form = decoded(alloc, inside(token), Escapes::Strings)?;
             Ok(Part::Form(form))

@@ -14,6 +14,7 @@ use crate::labels::Labels;
 use crate::longest::longest;
 use crate::part::part_of;
 use crate::place::{Place, after};
+use crate::recent::Recent;
 use qs_terms::Quad;
 use std::alloc::Global;
 use std::hash::RandomState;
@@ -34,6 +35,7 @@ pub struct Reader<'a> {
     rest: &'a str,
     place: Place,
     labels: Labels,
+    recent: Recent,
 }
 
 impl<'a> Model for Reader<'a> {
@@ -56,13 +58,14 @@ fn read_front(
     alloc: Global,
     place: &mut Place,
     labels: &mut Labels,
+    recent: &mut Recent,
     class: Class,
     token: &str,
 ) -> Result<Option<Quad>, NqFaultKind>
     ensures read { IfOk result (λ next. (quads : List Statement) → read (reading place.old labels.old quads) class token.now ≡ Ok (reading place.new labels.new (with_next quads next))) }
     ensures fault { IfErr result (λ fault. (quads : List Statement) → fault ≢ Memory → read (reading place.old labels.old quads) class token.now ≡ Err fault) }
 {
-    let part = part_of(alloc, place, labels, class, token)?;
+    let part = part_of(alloc, place, labels, recent, class, token)?;
     after(alloc, place, part)
 }
 
@@ -71,6 +74,7 @@ fn read_statement<'a>(
     alloc: Global,
     place: &mut Place,
     labels: &mut Labels,
+    recent: &mut Recent,
     text: &'a str,
 ) -> Result<(Option<Quad>, &'a str), Stop>
     ensures shorter { IfOk result (λ r. OnSome r.0 (length r.1.now < length text.now)) }
@@ -99,7 +103,7 @@ fn read_statement<'a>(
             });
         };
         let (token, behind) = front.split_at(len);
-        match read_front(alloc, place, labels, class, token) {
+        match read_front(alloc, place, labels, recent, class, token) {
             Ok(None) => rest = behind,
             Ok(Some(quad)) => return Ok((Some(quad), behind)),
             Err(kind) => return Err(Stop { kind, left }),
@@ -130,6 +134,7 @@ impl<'a> Reader<'a> {
                 rest: text,
                 place: Place::Start,
                 labels: Labels::new(alloc, hasher, first_blank),
+                recent: Recent::new(alloc),
             }),
             Err(error) => Err(NqFault {
                 line: line_at(bytes, error.valid_up_to()),
@@ -156,7 +161,13 @@ impl<'a> Reader<'a> {
         ensures shorter { IfOk result (λ next. OnSome next (length self.new.rest < length self.old.rest)) }
         ensures fault { IfErr result (λ fault. (first : ℕ) (quads : List Statement) → HasRead first quads self.old → IsFault self.old.bytes first fault.kind fault.line) }
     {
-        match read_statement(self.alloc, &mut self.place, &mut self.labels, self.rest) {
+        match read_statement(
+            self.alloc,
+            &mut self.place,
+            &mut self.labels,
+            &mut self.recent,
+            self.rest,
+        ) {
             Ok((next, rest)) => {
                 self.rest = rest;
                 Ok(next)

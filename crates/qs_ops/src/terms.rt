@@ -29,7 +29,6 @@ pub fn term<'a, V: View>(view: &'a V, row: &Row, variable: usize) -> Option<&'a 
 
 /// Binds the variable to its term in the row, if it has one.
 fn put<V: View>(
-    alloc: Global,
     view: &V,
     row: &Row,
     variable: usize,
@@ -38,7 +37,7 @@ fn put<V: View>(
     ensures { OnOk result (solution.new ≡ with_term solution.old variable (term_at (row_solution (V.content view.now).known row.now) variable)) }
 {
     if let Some(term) = term(view, row, variable) {
-        let term = term.try_clone(alloc)?;
+        let term = term.try_clone()?;
         solution.bind(variable, term);
     }
     Ok(())
@@ -56,7 +55,7 @@ pub fn solution<V: View>(
 {
     let mut solution = Solution::unbound(alloc, width)?;
     for variable in 0..width {
-        put(alloc, view, row, variable, &mut solution)?;
+        put(view, row, variable, &mut solution)?;
     }
     Ok(solution)
 }

@@ -67,7 +67,7 @@ fn put<'a>(
     }
     let mut there = Vec::new(alloc);
     there.push(quad)?;
-    let key = node.try_clone(alloc)?;
+    let key = node.try_clone()?;
     map.insert(key, there)?;
     Ok(())
 }

@@ -41,12 +41,12 @@ fn are_bound(a: Option<&Term>, b: Option<&Term>) -> bool
     }
 }
 
-fn copied(alloc: Global, cell: Option<&Term>) -> Result<Option<Term>, AllocError>
+fn copied(cell: Option<&Term>) -> Result<Option<Term>, AllocError>
     ensures { IfOk result (λ c. c ≡ option_copied cell.entry) }
 {
     match cell {
         Some(term) => {
-            let term = term.try_clone(alloc)?;
+            let term = term.try_clone()?;
             Ok(Some(term))
         }
         None => Ok(None),
@@ -87,7 +87,7 @@ impl Row {
     {
         let mut row = Row::unbound(alloc, width)?;
         for at in 0..variables.len().min(terms.len()) {
-            let cell = copied(alloc, terms[at].as_ref())?;
+            let cell = copied(terms[at].as_ref())?;
             row.set(variables[at], cell);
         }
         Ok(row)
@@ -116,7 +116,7 @@ impl Row {
     {
         let mut cells = Vec::new(alloc);
         for cell in self.cells.as_slice() {
-            let cell = copied(alloc, cell.as_ref())?;
+            let cell = copied(cell.as_ref())?;
             cells.push(cell)?;
         }
         Ok(Row { cells })
@@ -128,7 +128,7 @@ impl Row {
     {
         let mut cells = Vec::new(alloc);
         for column in columns {
-            let cell = copied(alloc, self.term(*column))?;
+            let cell = copied(self.term(*column))?;
             cells.push(cell)?;
         }
         Ok(Row { cells })
@@ -190,7 +190,7 @@ impl Row {
         let mut cells = Vec::new(alloc);
         for variable in 0..self.len().max(other.len()) {
             let term = first_of(self.term(variable), other.term(variable));
-            let cell = copied(alloc, term)?;
+            let cell = copied(term)?;
             cells.push(cell)?;
         }
         Ok(Row { cells })

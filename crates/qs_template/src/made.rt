@@ -22,17 +22,16 @@ fn fresh(blanks: usize, first: u64, number: usize) -> Option<Term>
     None
 }
 
-fn copied(alloc: Global, term: Option<&Term>) -> Result<Option<Term>, AllocError>
+fn copied(term: Option<&Term>) -> Result<Option<Term>, AllocError>
     ensures { IfOk result (λ t. t ≡ option_copied term.entry) }
 {
     match term {
         None => Ok(None),
-        Some(term) => Ok(Some(term.try_clone(alloc)?)),
+        Some(term) => Ok(Some(term.try_clone()?)),
     }
 }
 
 fn slot_term(
-    alloc: Global,
     blanks: usize,
     first: u64,
     row: &Row,
@@ -42,14 +41,13 @@ fn slot_term(
     ensures { IfOk result (λ t. t ≡ spec.slot_term blanks first row.now slot.now) }
 {
     match slot {
-        Slot::Variable(number) => copied(alloc, row.term(*number)),
-        Slot::Term(term) => Ok(Some(term.get().try_clone(alloc)?)),
+        Slot::Variable(number) => copied(row.term(*number)),
+        Slot::Term(term) => Ok(Some(term.get().try_clone()?)),
         Slot::Blank(number) => Ok(fresh(blanks, first, *number)),
     }
 }
 
 fn graph_term(
-    alloc: Global,
     blanks: usize,
     first: u64,
     row: &Row,
@@ -60,7 +58,7 @@ fn graph_term(
 {
     match graph {
         None => Ok(Some(None)),
-        Some(slot) => match slot_term(alloc, blanks, first, row, slot)? {
+        Some(slot) => match slot_term(blanks, first, row, slot)? {
             None => Ok(None),
             Some(name) => Ok(Some(Some(name))),
         },
@@ -95,7 +93,6 @@ fn quad_of(
 }
 
 fn instance(
-    alloc: Global,
     blanks: usize,
     first: u64,
     row: &Row,
@@ -104,15 +101,14 @@ fn instance(
     requires { first + blanks < 2 ^ 64 }
     ensures { IfOk result (λ q. option_to_list q ≡ spec.instance blanks first row.now quad.now) }
 {
-    let graph = graph_term(alloc, blanks, first, row, &quad.graph)?;
-    let subject = slot_term(alloc, blanks, first, row, &quad.subject)?;
-    let predicate = slot_term(alloc, blanks, first, row, &quad.predicate)?;
-    let object = slot_term(alloc, blanks, first, row, &quad.object)?;
+    let graph = graph_term(blanks, first, row, &quad.graph)?;
+    let subject = slot_term(blanks, first, row, &quad.subject)?;
+    let predicate = slot_term(blanks, first, row, &quad.predicate)?;
+    let object = slot_term(blanks, first, row, &quad.object)?;
     Ok(quad_of(graph, subject, predicate, object))
 }
 
 fn put_instance(
-    alloc: Global,
     blanks: usize,
     first: u64,
     row: &Row,
@@ -122,7 +118,7 @@ fn put_instance(
     requires { first + blanks < 2 ^ 64 }
     ensures { OnOk result (quads.new.items ≡ quads.old.items ++ spec.instance blanks first row.now quad.now) }
 {
-    match instance(alloc, blanks, first, row, quad)? {
+    match instance(blanks, first, row, quad)? {
         None => Ok(()),
         Some(quad) => {
             quads.push(quad)?;
@@ -133,7 +129,6 @@ fn put_instance(
 
 // Puts the instances under a solution behind the others.
 fn put_instances(
-    alloc: Global,
     template: &Template,
     first: u64,
     row: &Row,
@@ -143,7 +138,7 @@ fn put_instances(
     ensures { OnOk result (quads.new.items ≡ quads.old.items ++ spec.instances_under template.now first row.now) }
 {
     for quad in template.quads.as_slice() {
-        put_instance(alloc, template.blanks, first, row, quad, quads)?;
+        put_instance(template.blanks, first, row, quad, quads)?;
     }
     Ok(())
 }
@@ -160,7 +155,7 @@ fn all_instances(
     let mut quads = Vec::new(alloc);
     let mut first = next;
     for &row in rows {
-        put_instances(alloc, template, first, row, &mut quads)?;
+        put_instances(template, first, row, &mut quads)?;
         first += template.blanks as u64;
     }
     Ok(quads)

@@ -61,14 +61,14 @@ impl Slot {
 pub(crate) fn iri_slot(alloc: Global, iri: &Iri) -> Result<Slot, AllocError>
     ensures { IfOk result (λ s. s ≡ slot.Term (value.Iri iri.now)) }
 {
-    let iri = Term::Iri(iri.try_clone(alloc)?);
+    let iri = Term::Iri(iri.try_clone()?);
     Ok(Slot::Term(Shared::new(alloc, iri)?))
 }
 
 fn literal_slot(alloc: Global, literal: &Lit) -> Result<Slot, AllocError>
     ensures { IfOk result (λ s. s ≡ slot.Term (value.Literal literal.now)) }
 {
-    let literal = Term::Literal(literal.try_clone(alloc)?);
+    let literal = Term::Literal(literal.try_clone()?);
     Ok(Slot::Term(Shared::new(alloc, literal)?))
 }
 

@@ -64,23 +64,23 @@ fn is_among(term: &Term, terms: &[Term]) -> bool
 }
 
 /// Puts a copy of the term at the end, if it isn't there yet.
-fn add_new(alloc: Global, terms: &mut Vec<Term>, term: &Term) -> Result<(), AllocError>
+fn add_new(terms: &mut Vec<Term>, term: &Term) -> Result<(), AllocError>
     ensures { OnOk result (terms.new.items ≡ with_new same_term terms.old.items term.now) }
 {
     if is_among(term, terms.as_slice()) {
         return Ok(());
     }
-    let term = term.try_clone(alloc)?;
+    let term = term.try_clone()?;
     terms.push(term)?;
     Ok(())
 }
 
-fn add_name(alloc: Global, names: &mut Vec<Term>, name: Option<&Term>) -> Result<(), AllocError>
+fn add_name(names: &mut Vec<Term>, name: Option<&Term>) -> Result<(), AllocError>
     ensures { OnOk result (names.new.items ≡ with_name names.old.items (option_copied name.entry)) }
 {
     match name {
         None => Ok(()),
-        Some(name) => add_new(alloc, names, name),
+        Some(name) => add_new(names, name),
     }
 }
 
@@ -92,13 +92,12 @@ pub fn names(alloc: Global, quads: &[Quad]) -> Result<Vec<Term>, AllocError>
 {
     let mut names = Vec::new(alloc);
     for quad in quads {
-        add_name(alloc, &mut names, quad.graph())?;
+        add_name(&mut names, quad.graph())?;
     }
     Ok(names)
 }
 
 fn add_ends(
-    alloc: Global,
     nodes: &mut Vec<Term>,
     is_in: bool,
     subject: &Term,
@@ -107,8 +106,8 @@ fn add_ends(
     ensures { OnOk result (nodes.new.items ≡ with_ends nodes.old.items is_in subject.now object.now) }
 {
     if is_in {
-        add_new(alloc, nodes, subject)?;
-        add_new(alloc, nodes, object)?;
+        add_new(nodes, subject)?;
+        add_new(nodes, object)?;
     }
     Ok(())
 }
@@ -122,7 +121,7 @@ pub fn nodes(alloc: Global, quads: &[Quad], graph: Option<&Term>) -> Result<Vec<
     let mut nodes = Vec::new(alloc);
     for quad in quads {
         let is_in = quad.is_in(graph);
-        add_ends(alloc, &mut nodes, is_in, quad.subject(), quad.object())?;
+        add_ends(&mut nodes, is_in, quad.subject(), quad.object())?;
     }
     Ok(nodes)
 }

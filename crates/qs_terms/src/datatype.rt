@@ -15,7 +15,7 @@ ghost use Rattle.qs_terms.specs.declared.fault.TermFault.TheVariants.{Memory};
 
 use crate::fault::TermFault;
 use crate::iri::Iri;
-use std::alloc::{AllocError, Global};
+use std::alloc::Global;
 use std::cmp::Ordering;
 use std::fmt;
 use std::hash::{Hash, Hasher};
@@ -196,17 +196,6 @@ impl Datatype {
             Kind::Named(known) => *known == name,
             Kind::Other(_) => false,
         }
-    }
-
-    /// An equal datatype of its own.
-    pub(crate) fn try_clone(&self, alloc: Global) -> Result<Datatype, AllocError>
-        ensures { IfOk result (λ d. d ≡ self.now) }
-    {
-        let kind = match &self.kind {
-            Kind::Named(known) => Kind::Named(*known),
-            Kind::Other(iri) => Kind::Other(iri.try_clone(alloc)?),
-        };
-        Ok(Datatype { kind })
     }
 }
 

@@ -8,13 +8,15 @@ ghost use Rattle.qs_terms.specs.Iri.{is_scheme_char, reaches_colon, has_scheme, 
 
 use crate::fault::TermFault;
 use crate::text::Text;
+use qs_shared::Shared;
 use std::alloc::{AllocError, Global};
 use std::marker::Model;
 
 /// An absolute IRI: a scheme, a colon, and no character that IRIs exclude (RDF 1.1 Concepts, 3.2).
+/// A copy has its text in common with it.
 #[derive(Debug, Drop, PartialEq, Eq, PartialOrd, Ord, Hash)]
 pub struct Iri {
-    text: Text,
+    text: Shared<Text>,
 }
 
 impl Model for Iri {
@@ -95,11 +97,12 @@ fn check(bytes: &[u8]) -> Result<(), TermFault>
 }
 
 impl Iri {
-    /// The IRI of a text, without taking memory. A missing scheme is told before an excluded character.
-    pub fn new(text: Text) -> Result<Iri, TermFault>
-        ensures { result ≡ checked_iri text }
+    /// The IRI of a text. A missing scheme is told before an excluded character; neither takes memory.
+    pub fn new(alloc: Global, text: Text) -> Result<Iri, TermFault>
+        ensures { ValueOrWantOf Memory (checked_iri text) result }
     {
         check(text.as_str().as_bytes())?;
+        let text = Shared::new(alloc, text)?;
         Ok(Iri { text })
     }
 
@@ -109,6 +112,7 @@ impl Iri {
     {
         check(text.as_bytes())?;
         let text = Text::new(alloc, text)?;
+        let text = Shared::new(alloc, text)?;
         Ok(Iri { text })
     }
 
@@ -117,14 +121,7 @@ impl Iri {
         ensures text { result.now ≡ self.now }
         ensures lawful { IsTrue (is_iri_text self.now) }
     {
-        self.text.as_str()
-    }
-
-    /// The IRI's text, without taking memory.
-    pub fn into_text(self) -> Text
-        ensures { result ≡ self }
-    {
-        self.text
+        self.text.get().as_str()
     }
 
     /// Whether both are the same IRI: character by character (RDF 1.1 Concepts, 3.2).
@@ -134,11 +131,11 @@ impl Iri {
         self == other
     }
 
-    /// An equal IRI of its own.
-    pub fn try_clone(&self, alloc: Global) -> Result<Iri, AllocError>
+    /// The IRI once more. It takes no memory.
+    pub fn try_clone(&self) -> Result<Iri, AllocError>
         ensures { IfOk result (λ i. i ≡ self.now) }
     {
-        let text = self.text.try_clone(alloc)?;
+        let text = self.text.share()?;
         Ok(Iri { text })
     }
 }

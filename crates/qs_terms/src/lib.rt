@@ -11,7 +11,6 @@
 //! `OrWantOf.antt`.
 #![tactic(auto)]
 
-mod boxed;
 pub mod dataset;
 pub mod datatype;
 pub mod device;

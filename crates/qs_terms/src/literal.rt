@@ -9,12 +9,12 @@ ghost use Rattle.qs_terms.specs.Iri.{checked_iri};
 ghost use Rattle.qs_terms.specs.OrWantOf.{ValueOrWantOf};
 ghost use Rattle.qs_terms.specs.declared.fault.TermFault.TheVariants.{Memory};
 
-use crate::boxed::Boxed;
 use crate::datatype::{Datatype, Known};
 use crate::fault::TermFault;
 use crate::iri::Iri;
 use crate::tag::is_tag;
 use crate::text::Text;
+use qs_shared::Shared;
 use std::alloc::{AllocError, Global};
 use std::marker::Model;
 
@@ -41,10 +41,10 @@ impl Model for Parts {
 
 /// A literal: its lexical form, its datatype and, if it is a language-tagged string, its tag in lower case
 /// (RDF 1.1 Concepts, 3.3). Its datatype is rdf:langString exactly where it has a tag. The parts stand behind a pointer, so
-/// that a term of any kind is small.
+/// that a term of any kind is small, and a copy has them in common with the literal.
 #[derive(Debug, Drop, PartialEq, Eq, PartialOrd, Ord, Hash)]
 pub struct Lit {
-    parts: Boxed<Parts>,
+    parts: Shared<Parts>,
 }
 
 impl Model for Lit {
@@ -68,7 +68,7 @@ impl Lit {
         requires { IsTrue (fits_tag datatype tag) }
         ensures { IfOk result (λ l. l ≡ record { form = form; datatype = datatype; tag = tag }) }
     {
-        let parts = Boxed::new(
+        let parts = Shared::new(
             alloc,
             Parts {
                 form,
@@ -206,17 +206,11 @@ impl Lit {
         self == other
     }
 
-    /// An equal literal of its own.
-    pub fn try_clone(&self, alloc: Global) -> Result<Lit, AllocError>
+    /// The literal once more. It takes no memory.
+    pub fn try_clone(&self) -> Result<Lit, AllocError>
         ensures { IfOk result (λ l. l ≡ self.now) }
     {
-        let parts = self.parts.get();
-        let form = parts.form.try_clone(alloc)?;
-        let datatype = parts.datatype.try_clone(alloc)?;
-        let tag = match &parts.tag {
-            None => None,
-            Some(tag) => Some(tag.try_clone(alloc)?),
-        };
-        Lit::of_parts(alloc, form, datatype, tag)
+        let parts = self.parts.share()?;
+        Ok(Lit { parts })
     }
 }

@@ -6,7 +6,7 @@ ghost use Rattle.std.specs.declared.cmp.Ordering.TheVariants.{Equal};
 ghost use Rattle.qs_terms.specs.Statement.{fits_places, same_graph, same_statement};
 
 use crate::term::Term;
-use std::alloc::{AllocError, Global};
+use std::alloc::AllocError;
 use std::cmp::Ordering;
 use std::marker::Model;
 
@@ -141,17 +141,17 @@ impl Quad {
         self == other
     }
 
-    /// An equal quad of its own.
-    pub fn try_clone(&self, alloc: Global) -> Result<Quad, AllocError>
+    /// The quad once more, which has its texts in common with it. It takes no memory.
+    pub fn try_clone(&self) -> Result<Quad, AllocError>
         ensures { IfOk result (λ q. q ≡ self.now) }
     {
-        let subject = self.subject.try_clone(alloc)?;
-        let predicate = self.predicate.try_clone(alloc)?;
-        let object = self.object.try_clone(alloc)?;
+        let subject = self.subject.try_clone()?;
+        let predicate = self.predicate.try_clone()?;
+        let object = self.object.try_clone()?;
         match &self.graph {
             None => Ok(Quad::new(None, subject, predicate, object)),
             Some(name) => {
-                let name = name.try_clone(alloc)?;
+                let name = name.try_clone()?;
                 Ok(Quad::new(Some(name), subject, predicate, object))
             }
         }

@@ -66,18 +66,18 @@ impl Term {
         self == other
     }
 
-    /// An equal term of its own.
-    pub fn try_clone(&self, alloc: Global) -> Result<Term, AllocError>
+    /// The term once more, which has its texts in common with it. It takes no memory.
+    pub fn try_clone(&self) -> Result<Term, AllocError>
         ensures { IfOk result (λ t. t ≡ self.now) }
     {
         match self {
             Term::Iri(iri) => {
-                let iri = iri.try_clone(alloc)?;
+                let iri = iri.try_clone()?;
                 Ok(Term::Iri(iri))
             }
             Term::Blank(number) => Ok(Term::Blank(*number)),
             Term::Literal(lit) => {
-                let lit = lit.try_clone(alloc)?;
+                let lit = lit.try_clone()?;
                 Ok(Term::Literal(lit))
             }
         }

@@ -111,8 +111,8 @@ fn operate(
             delete_where(alloc, variables, blocks.as_slice(), draft, max_rows)
         }
         Operation::Modify(modify) => modify_where(alloc, variables, modify, draft, max_rows),
-        Operation::Clear(_, target) => clear(alloc, target, draft),
-        Operation::Drop(_, target) => clear(alloc, target, draft),
+        Operation::Clear(_, target) => clear(target, draft),
+        Operation::Drop(_, target) => clear(target, draft),
         Operation::Create(on_exists, name) => create(alloc, *on_exists, name, draft),
         Operation::Add(it) => transfer(alloc, Removal::Nothing, it, draft),
         Operation::Move(it) => transfer(alloc, Removal::Both, it, draft),

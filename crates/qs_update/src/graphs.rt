@@ -11,19 +11,19 @@ use qs_terms::{Iri, Term};
 use std::alloc::{AllocError, Global};
 
 /// The IRI as a term.
-pub fn iri_term(alloc: Global, name: &Iri) -> Result<Term, AllocError>
+pub fn iri_term(name: &Iri) -> Result<Term, AllocError>
     ensures { IfOk result (λ t. t ≡ value.Iri name.now) }
 {
-    Ok(Term::Iri(name.try_clone(alloc)?))
+    Ok(Term::Iri(name.try_clone()?))
 }
 
-pub fn graph_name(alloc: Global, graph: &GraphOrDefault) -> Result<Option<Term>, AllocError>
+pub fn graph_name(graph: &GraphOrDefault) -> Result<Option<Term>, AllocError>
     ensures name { IfOk result (λ name. name ≡ spec.graph_name graph.now) }
     ensures lawful { IfOk result (λ name. IsTrue (is_graph name)) }
 {
     match graph {
         GraphOrDefault::Default => Ok(None),
-        GraphOrDefault::Graph(name) => Ok(Some(iri_term(alloc, name)?)),
+        GraphOrDefault::Graph(name) => Ok(Some(iri_term(name)?)),
     }
 }
 

@@ -154,12 +154,12 @@ pub fn deleted_where(
     modified_by(alloc, variables, &None, blocks, &[], next, rows.as_slice())
 }
 
-fn with_term(alloc: Global, with: &Option<Iri>) -> Result<Option<Term>, AllocError>
+fn with_term(with: &Option<Iri>) -> Result<Option<Term>, AllocError>
     ensures { IfOk result (λ t. t ≡ option_map value.Iri with.now) }
 {
     match with {
         None => Ok(None),
-        Some(name) => Ok(Some(iri_term(alloc, name)?)),
+        Some(name) => Ok(Some(iri_term(name)?)),
     }
 }
 
@@ -172,7 +172,7 @@ fn rows_with(
 ) -> Result<Items<Row>, QFault>
     ensures { OneOrWantOfMemory (AreAllRows max_rows (spec.solutions pattern.now draft.now.store.now.default_graph (option_map value.Iri with.now) draft.now.store.now.draft.quads)) result }
 {
-    let with = with_term(alloc, with)?;
+    let with = with_term(with)?;
     solutions(alloc, pattern, with.as_ref(), draft, max_rows)
 }
 

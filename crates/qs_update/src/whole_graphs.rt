@@ -23,7 +23,7 @@ use qs_terms::{Iri, QFault, Term};
 use qs_tree::update::OnMissing;
 use std::alloc::Global;
 
-fn empty(alloc: Global, target: &GraphTarget, draft: &mut Draft<'_>) -> Result<(), StoreFault>
+fn empty(target: &GraphTarget, draft: &mut Draft<'_>) -> Result<(), StoreFault>
     ensures same_reference { draft.new.store.ghost_name ≡ draft.old.store.ghost_name }
     ensures base { draft.new.store.now.base ≡ draft.old.store.now.base }
     ensures quads { OnOk result (IsChanged draft.old.store.now.draft.quads (filter (spec.is_target target.now) draft.old.store.now.draft.quads) [] draft.new.store.now.draft.quads) }
@@ -36,7 +36,7 @@ fn empty(alloc: Global, target: &GraphTarget, draft: &mut Draft<'_>) -> Result<(
 {
     match target {
         GraphTarget::Graph(name) => {
-            let name = iri_term(alloc, name)?;
+            let name = iri_term(name)?;
             draft.clear_graph(Some(&name))
         }
         GraphTarget::Default => draft.clear_graph(None),
@@ -46,14 +46,14 @@ fn empty(alloc: Global, target: &GraphTarget, draft: &mut Draft<'_>) -> Result<(
 }
 
 /// CLEAR and DROP.
-pub fn clear(alloc: Global, target: &GraphTarget, draft: &mut Draft<'_>) -> Result<(), QFault>
+pub fn clear(target: &GraphTarget, draft: &mut Draft<'_>) -> Result<(), QFault>
     ensures same_reference { draft.new.store.ghost_name ≡ draft.old.store.ghost_name }
     ensures base { draft.new.store.now.base ≡ draft.old.store.now.base }
     ensures limit { draft.new.store.now.limit ≡ draft.old.store.now.limit }
     ensures default_graph { draft.new.store.now.default_graph ≡ draft.old.store.now.default_graph }
     ensures outcome { BecomesOne (IsCarriedOut draft.old.store.now.limit draft.old.store.now.draft (Ok (effect.cleared target.now draft.old.store.now.draft.quads draft.old.store.now.draft.next))) result draft.new.store.now.draft }
 {
-    match empty(alloc, target, draft) {
+    match empty(target, draft) {
         Ok(()) => Ok(()),
         Err(fault) => Err(fault_of(fault)),
     }
@@ -69,7 +69,7 @@ fn created(
     ensures lawful { IfOk result (IsLawful draft.now.store.now.draft.next) }
 {
     let next = draft.next_blank();
-    let name = iri_term(alloc, name)?;
+    let name = iri_term(name)?;
     if draft.has_graph(&name) {
         return fault_or_nothing(alloc, on_exists, QFault::GraphExists, next);
     }
@@ -158,8 +158,8 @@ pub fn transfer(
     ensures default_graph { draft.new.store.now.default_graph ≡ draft.old.store.now.default_graph }
     ensures outcome { BecomesOne (IsCarriedOut draft.old.store.now.limit draft.old.store.now.draft (effect.transferred removal transfer.now draft.old.store.now.draft.quads draft.old.store.now.draft.next)) result draft.new.store.now.draft }
 {
-    let from = graph_name(alloc, &transfer.from)?;
-    let to = graph_name(alloc, &transfer.to)?;
+    let from = graph_name(&transfer.from)?;
+    let to = graph_name(&transfer.to)?;
     if exists(draft, from.as_ref()) {
         return put_over_other(alloc, removal, from.as_ref(), to.as_ref(), draft);
     }

@@ -89,7 +89,7 @@ pub fn made(alloc: Global, value: Value<'_>) -> Result<Term, AllocError>
     ensures { IfOk result (λ t. t ≡ term_of value.entry) }
 {
     match value {
-        Value::Term(term) => term.try_clone(alloc),
+        Value::Term(term) => term.try_clone(),
         Value::Boolean(truth) => boolean(alloc, truth),
         Value::Integer(number) => integer(alloc, number),
         Value::Text(form) => string_of_copy(alloc, form),

@@ -75,7 +75,7 @@ fn compare(quads: &[Quad]) -> bool {
 }
 
 fn is_copied(alloc: Global, quad: &Quad) -> Result<bool, AllocError> {
-    let copy = quad.try_clone(alloc)?;
+    let copy = quad.try_clone()?;
     let is_same = copy.is_same(quad);
     drop(copy);
     Ok(is_same)

@@ -2,7 +2,8 @@
 use Rattle.std.proofs.Common.{rules, ◌≡◌, sym, subst, ◌<◌, ◌++◌, length, string_bytes}
 use Rattle.std.specs.List.{position_or_len, before_first, after_first}
 use Rattle.std.specs.Str.{IsUtf8}
-use Rattle.qs_escapes.proofs.Backslashes.{is_backslash, dropped_turn, behind_is_text}
+use Rattle.qs_escapes.specs.Decoded.{is_backslash}
+use Rattle.qs_escapes.proofs.Backslashes.{dropped_turn, behind_is_text}
 use Rattle.qs_escapes.proofs.decoded.joined.Goals as goal
 
 pub loop-run-preserved : goal.loop-run-preserved

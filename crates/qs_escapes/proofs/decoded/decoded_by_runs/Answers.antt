@@ -4,9 +4,10 @@ use Rattle.std.specs.List.{position_or_len, before_first, after_first}
 use Rattle.std.specs.Str.{IsUtf8}
 use Rattle.qs_escapes.specs.Decoded.{stands_for, length_of}
 use Rattle.qs_escapes.specs.Escape.{escape}
-use Rattle.qs_escapes.proofs.Backslashes.{is_backslash, turned}
+use Rattle.qs_escapes.specs.Decoded.{is_backslash}
+use Rattle.qs_escapes.proofs.Backslashes.{turned}
 use Rattle.qs_escapes.proofs.EscapeEnds.{boundary, rest_is_text}
-use Rattle.qs_escapes.proofs.decoded.decoded.Goals as goal
+use Rattle.qs_escapes.proofs.decoded.decoded_by_runs.Goals as goal
 
 pub push_escape-requires : goal.push_escape-requires
 push_escape-requires c =
