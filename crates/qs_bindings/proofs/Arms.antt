@@ -15,7 +15,7 @@ use Rattle.qs_patterns.specs.declared.pattern.Step.{Step}
 use Rattle.qs_patterns.specs.declared.pattern.Step.TheVariants.{Join, LeftJoin, Minus, Extend}
 use Rattle.qs_patterns.specs.declared.pattern.Table.{Table}
 use Rattle.qs_patterns.specs.Basic.{occurs}
-use Rattle.qs_bindings.specs.Flags.{flags_from, flag_at}
+use Rattle.qs_bindings.specs.inner.Flags.{flags_from, flag_at}
 use Rattle.qs_bindings.specs.Certain.{is_certain, is_certain_step, is_column, is_set}
 use Rattle.qs_bindings.specs.Possible.{is_possible, is_possible_step}
 use Rattle.qs_bindings.proofs.FlagLaws.{same_flags, flag_is}

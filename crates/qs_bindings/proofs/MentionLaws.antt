@@ -7,7 +7,7 @@ use Rattle.qs_patterns.specs.declared.pattern.Slot.TheVariants as slot
 use Rattle.qs_patterns.specs.declared.pattern.TriplePattern.{TriplePattern}
 use Rattle.qs_patterns.specs.declared.pattern.PathPattern.{PathPattern}
 use Rattle.qs_patterns.specs.Basic.{is_variable, mentions, is_end}
-use Rattle.qs_bindings.specs.Flags.{flags_from, with_slot, with_triple, with_ends}
+use Rattle.qs_bindings.specs.inner.Flags.{flags_from, with_slot, with_triple, with_ends}
 use Rattle.qs_bindings.proofs.FlagLaws.{same_flags}
 
 or_true : (b : Bool) → (b || true) ≡ true

@@ -1,3 +1,3 @@
-pub mod Flags
 pub mod Certain
 pub mod Possible
+pub mod inner

@@ -2,7 +2,7 @@
 
 ghost use Rattle.std.specs.Prelude.{◌≡◌, IfOk};
 ghost use Rattle.std.specs.List.{list_any, list_all};
-ghost use Rattle.qs_bindings.specs.Flags.{flags_from};
+ghost use Rattle.qs_bindings.specs.inner.Flags.{flags_from};
 ghost use Rattle.qs_bindings.specs.Certain.{is_certain, is_certain_step};
 
 use crate::flags::{alike, both, either, flag};

@@ -1,7 +1,7 @@
 //! Flags at the numbers of variables.
 
 ghost use Rattle.std.specs.Prelude.{◌≡◌, ◌||◌, ◌&&◌, true, slice_set, IfOk};
-ghost use Rattle.qs_bindings.specs.Flags.{flags_from, flag_at};
+ghost use Rattle.qs_bindings.specs.inner.Flags.{flags_from, flag_at};
 
 use std::alloc::{AllocError, Global};
 

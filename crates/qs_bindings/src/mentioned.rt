@@ -2,7 +2,7 @@
 
 ghost use Rattle.std.specs.Prelude.{◌≡◌, IfOk};
 ghost use Rattle.qs_patterns.specs.Basic.{mentions, is_end, occurs};
-ghost use Rattle.qs_bindings.specs.Flags.{flags_from, with_slot, with_triple, with_ends};
+ghost use Rattle.qs_bindings.specs.inner.Flags.{flags_from, with_slot, with_triple, with_ends};
 
 use crate::flags::{alike, either, flag};
 use qs_patterns::{BasicPattern, PathPattern, Slot, TriplePattern};

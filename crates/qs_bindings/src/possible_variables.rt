@@ -2,7 +2,7 @@
 
 ghost use Rattle.std.specs.Prelude.{◌≡◌, IfOk};
 ghost use Rattle.std.specs.List.{list_any};
-ghost use Rattle.qs_bindings.specs.Flags.{flags_from};
+ghost use Rattle.qs_bindings.specs.inner.Flags.{flags_from};
 ghost use Rattle.qs_bindings.specs.Possible.{is_possible, is_possible_step};
 
 use crate::flags::{alike, either, flag};

@@ -5,7 +5,7 @@ ghost use Rattle.std.specs.List.{list_any, list_all};
 ghost use Rattle.std.specs.Option.{is_some};
 ghost use Rattle.qs_solutions.specs.Solution.{term_at, binding};
 ghost use Rattle.qs_bindings.specs.Certain.{is_column};
-ghost use Rattle.qs_bindings.specs.Flags.{flags_from};
+ghost use Rattle.qs_bindings.specs.inner.Flags.{flags_from};
 
 use crate::flags::{alike, both, flag};
 use qs_patterns::Table;

@@ -1,1 +1,1 @@
-pub mod Exactly
+pub mod inner

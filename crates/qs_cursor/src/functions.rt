@@ -1,7 +1,7 @@
 //! The words of functions and the marks of comparisons (SPARQL 1.1 Query, 19.8, [114], [121]).
 
 ghost use Rattle.qs_grammar.specs.Grammar.{read};
-ghost use Rattle.qs_cursor.specs.Exactly.{ReadsExactly};
+ghost use Rattle.qs_cursor.specs.inner.Exactly.{ReadsExactly};
 ghost use Rattle.qs_tree.specs.Rules as rules;
 ghost use Rattle.qs_tree.specs.Table.{grammar};
 

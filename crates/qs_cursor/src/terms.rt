@@ -1,7 +1,7 @@
 //! Terms (SPARQL 1.1 Query, 19.8, [106] to [108], [119], [129] to [138]).
 
 ghost use Rattle.qs_grammar.specs.Grammar.{read};
-ghost use Rattle.qs_cursor.specs.Exactly.{ReadsExactly};
+ghost use Rattle.qs_cursor.specs.inner.Exactly.{ReadsExactly};
 ghost use Rattle.qs_tree.specs.Rules as rules;
 ghost use Rattle.qs_tree.specs.Table.{grammar};
 

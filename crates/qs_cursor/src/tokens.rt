@@ -2,7 +2,7 @@
 
 ghost use Rattle.std.specs.Prelude.{◌≡◌, ◌+◌, length};
 ghost use Rattle.qs_grammar.specs.Reading.{starts, take_kind, has};
-ghost use Rattle.qs_cursor.specs.Exactly.{ReadsExactly};
+ghost use Rattle.qs_cursor.specs.inner.Exactly.{ReadsExactly};
 ghost use Rattle.qs_grammar.specs.Grammar.{read};
 ghost use Rattle.qs_grammar.specs.Notation.{◌<<◌};
 ghost use Rattle.qs_grammar.specs.Rule.{empty, place_of, token};

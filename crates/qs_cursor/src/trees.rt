@@ -1,7 +1,7 @@
 //! Trees made of the trees of their parts: chains (the operand alone where there is one), calls, comparisons, tables, lists.
 
 ghost use Rattle.std.specs.Prelude.{◌≡◌, [], ◌∷◌, IfOk, OnOk};
-ghost use Rattle.qs_grammar.specs.Repeated.{keep};
+ghost use Rattle.qs_grammar.specs.inner.Repeated.{keep};
 ghost use Rattle.qs_tree.specs.Trees.{path_chain, chain, sum, repeated, inverted, singles, related};
 
 use qs_beside::{boxed_three, boxed_two};

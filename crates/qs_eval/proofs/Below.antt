@@ -4,7 +4,7 @@ use Rattle.std.proofs.lemmas.Bool.Decides.{Decides-ltb}
 use Rattle.qs_patterns.specs.declared.pattern.Slot.{Slot}
 use Rattle.qs_patterns.specs.declared.pattern.Slot.TheVariants as slot
 use Rattle.qs_patterns.specs.declared.pattern.TriplePattern.{TriplePattern}
-use Rattle.qs_eval.specs.Below.{slot_below, triple_below, all_below}
+use Rattle.qs_eval.specs.inner.Below.{slot_below, triple_below, all_below}
 use Rattle.qs_eval.proofs.AndOr.{and_left, and_right}
 
 abbrev pub SlotBelow : ℕ → Slot → Type 0

@@ -14,7 +14,7 @@ use Rattle.qs_terms.specs.Bag.{Distinct, SameBag, once}
 use Rattle.qs_terms.proofs.FirstOnes.{any_kept, once_distinct}
 use Rattle.qs_solutions.specs.Solution.{Solution, term_at, same_solution, unbound}
 use Rattle.qs_patterns.specs.Basic.{Graph, is_variable, mentions, value, instance, is_in, puts_into, terms_of_triple, terms_of, all_maps, matches}
-use Rattle.qs_eval.specs.Found.{found}
+use Rattle.qs_eval.specs.inner.Found.{found}
 use Rattle.qs_eval.proofs.Below.{AllBelow}
 use Rattle.qs_eval.proofs.AndOr.{and_left, and_right, or_cases, or_first, or_second}
 use Rattle.qs_terms.proofs.Counts.{AnyOf, same_from_once, once-filter}

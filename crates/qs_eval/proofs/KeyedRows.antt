@@ -13,8 +13,8 @@ use Rattle.qs_terms.proofs.FirstOnes.{filter-append}
 use Rattle.qs_terms.proofs.SameTerm.{same_term-Decides}
 use Rattle.qs_paths.proofs.Keyed.{order_at, order, find, find_is, find_set, find_insert}
 use Rattle.qs_solutions.specs.Solution.{Solution, term_at, same_cell, compatible_terms, compatible}
-use Rattle.qs_eval.specs.Keyed.{is_bound, binds, rows_in, at_term, IsKeyed, IsBoundIn, AreFoundBy}
-use Rattle.qs_eval.specs.Lent.{lent}
+use Rattle.qs_eval.specs.inner.Keyed.{is_bound, binds, rows_in, at_term, IsKeyed, IsBoundIn, AreFoundBy}
+use Rattle.qs_eval.specs.inner.Lent.{lent}
 use Rattle.qs_eval.proofs.LentLaws.{lent-append, lent_next}
 
 module _ {Z : Type 0} where

@@ -11,7 +11,7 @@ use Rattle.std.specs.declared.cmp.Ordering.TheVariants.{Less, Equal, Greater}
 use Rattle.std.proofs.lemmas.List.{take_more}
 use Rattle.qs_terms.specs.Bag.{once, with_new}
 use Rattle.qs_terms.proofs.FirstOnes.{once_with}
-use Rattle.qs_eval.specs.Lent.{lent}
+use Rattle.qs_eval.specs.inner.Lent.{lent}
 
 again : (a r : Bool) → (a || r) ≡ (a || (a || r))
 again true r = refl

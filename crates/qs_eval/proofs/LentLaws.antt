@@ -5,7 +5,7 @@ use Rattle.std.specs.List.{filter_map, cons_option}
 use Rattle.std.proofs.lemmas.List.{take_more}
 use Rattle.qs_terms.specs.Statement.{Statement}
 use Rattle.qs_terms.specs.declared.term.Term.{Term}
-use Rattle.qs_eval.specs.Lent.{lent}
+use Rattle.qs_eval.specs.inner.Lent.{lent}
 
 module _ {X : Type 0} where
   pub lent_length : (xs : List (Bor X)) → length (lent xs) ≡ length xs

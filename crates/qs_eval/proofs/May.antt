@@ -9,7 +9,7 @@ use Rattle.qs_solutions.specs.Solution.{Solution, term_at, compatible_terms}
 use Rattle.qs_patterns.specs.declared.pattern.Slot.{Slot}
 use Rattle.qs_patterns.specs.declared.pattern.Slot.TheVariants as slot
 use Rattle.qs_patterns.specs.declared.pattern.TriplePattern.{TriplePattern}
-use Rattle.qs_eval.specs.Found.{agrees, may_match, bound_at, bound_slot, then_bound, bound_triple}
+use Rattle.qs_eval.specs.inner.Found.{agrees, may_match, bound_at, bound_slot, then_bound, bound_triple}
 
 at_none : (c : Option Term) (v : ℕ) (t : Term) (m : Solution) → compatible_terms c (Some t) ≡ false → bound_at c v t m ≡ None
 at_none None v t m h = let f : true ≡ false = h in cc

@@ -7,7 +7,7 @@ use Rattle.qs_terms.specs.Dataset.{names_of}
 use Rattle.qs_terms.specs.Statement.{Statement, same_graph}
 use Rattle.qs_terms.specs.Term.{same_term}
 use Rattle.qs_terms.specs.declared.term.Term.{Term}
-use Rattle.qs_eval.specs.Lent.{lent}
+use Rattle.qs_eval.specs.inner.Lent.{lent}
 use Rattle.qs_terms.proofs.SameTerm.{same_term-Decides}
 use Rattle.qs_terms.proofs.FirstOnes.{any_kept, none_kept}
 

@@ -8,7 +8,7 @@ use Rattle.std.proofs.lemmas.Grind.{flat_map-append}
 use Rattle.qs_solutions.specs.Solution.{Solution, compatible, merge}
 use Rattle.qs_solutions.specs.Operators.{merges, or_alone, left_join}
 use Rattle.std.specs.Borrow.{Bor}
-use Rattle.qs_eval.specs.Lent.{lent}
+use Rattle.qs_eval.specs.inner.Lent.{lent}
 use Rattle.qs_eval.proofs.LentLaws.{lent_next}
 use Rattle.qs_expr.specs.declared.expr.Expr.{Expr}
 use Rattle.qs_patterns.specs.Eval.{kept}

@@ -6,7 +6,7 @@ use Rattle.std.proofs.lemmas.List.{drop_all, drop_more}
 use Rattle.qs_solutions.specs.Solution.{Solution}
 use Rattle.qs_patterns.specs.declared.pattern.TriplePattern.{TriplePattern}
 use Rattle.qs_patterns.specs.Basic.{Graph}
-use Rattle.qs_eval.specs.Found.{extensions, found}
+use Rattle.qs_eval.specs.inner.Found.{extensions, found}
 
 in_turn : (f g : Solution → List Solution) (rows : List Solution) → flat_map g (flat_map f rows) ≡ flat_map (λ m. flat_map g (f m)) rows
 in_turn f g [] = refl

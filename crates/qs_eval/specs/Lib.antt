@@ -1,4 +1,1 @@
-pub mod Below
-pub mod Found
-pub mod Lent
-pub mod Keyed
+pub mod inner

@@ -7,9 +7,9 @@ ghost use Rattle.qs_terms.specs.Dataset.{graph_of};
 ghost use Rattle.qs_terms.specs.Statement.{same_statement};
 ghost use Rattle.qs_solutions.specs.Solution.{unbound};
 ghost use Rattle.qs_patterns.specs.Basic.{basic, matches};
-ghost use Rattle.qs_eval.specs.Below.{slot_below, triple_below, all_below};
-ghost use Rattle.qs_eval.specs.Found.{found};
-ghost use Rattle.qs_eval.specs.Lent.{lent};
+ghost use Rattle.qs_eval.specs.inner.Below.{slot_below, triple_below, all_below};
+ghost use Rattle.qs_eval.specs.inner.Found.{found};
+ghost use Rattle.qs_eval.specs.inner.Lent.{lent};
 
 use crate::extend::extended;
 use crate::paths::with_paths;

@@ -3,8 +3,8 @@
 ghost use Rattle.std.specs.Prelude.{◌≡◌, ◌++◌, ◌∷◌, [], true, map, IfOk, OnOk};
 ghost use Rattle.std.specs.List.{list_any};
 ghost use Rattle.qs_solutions.specs.Operators.{merges, or_alone, join, left_join, excludes, minus};
-ghost use Rattle.qs_eval.specs.Keyed.{is_short};
-ghost use Rattle.qs_eval.specs.Lent.{lent};
+ghost use Rattle.qs_eval.specs.inner.Keyed.{is_short};
+ghost use Rattle.qs_eval.specs.inner.Lent.{lent};
 ghost use Rattle.qs_patterns.specs.Eval as spec;
 
 use crate::keyed::Keyed;

@@ -8,7 +8,7 @@ ghost use Rattle.qs_terms.specs.Dataset.{graph_of};
 ghost use Rattle.qs_solutions.specs.Solution.{Solution, unbound, binding};
 ghost use Rattle.qs_solutions.specs.Operators.{join};
 ghost use Rattle.qs_patterns.specs.Eval.{eval, step, kept, in_named, in_each, rows_of};
-ghost use Rattle.qs_eval.specs.Lent.{lent};
+ghost use Rattle.qs_eval.specs.inner.Lent.{lent};
 
 use crate::basic::solutions_of_basic;
 use crate::conditions::{extended, joined, joined_rows, kept, left_joined, without};

@@ -5,8 +5,8 @@ ghost use Rattle.std.specs.List.{flat_map};
 ghost use Rattle.std.specs.Option.{option_copied};
 ghost use Rattle.qs_terms.specs.Dataset.{triple_of, graph_of};
 ghost use Rattle.qs_patterns.specs.Basic.{value};
-ghost use Rattle.qs_eval.specs.Found.{bound_slot, bound_triple, extensions};
-ghost use Rattle.qs_eval.specs.Lent.{lent};
+ghost use Rattle.qs_eval.specs.inner.Found.{bound_slot, bound_triple, extensions};
+ghost use Rattle.qs_eval.specs.inner.Lent.{lent};
 
 use qs_patterns::{Slot, TriplePattern};
 use qs_solutions::Row;
@@ -24,7 +24,7 @@ fn term_in<'a>(slot: &'a Slot, row: &'a Row) -> Option<&'a Term>
 }
 
 fn agrees(slot: &Slot, term: &Term, row: &Row) -> bool
-    ensures { result ≡ Rattle.qs_eval.specs.Found.agrees row.now slot.now term.now }
+    ensures { result ≡ Rattle.qs_eval.specs.inner.Found.agrees row.now slot.now term.now }
 {
     match term_in(slot, row) {
         Some(bound) => bound.is_same(term),
@@ -34,7 +34,7 @@ fn agrees(slot: &Slot, term: &Term, row: &Row) -> bool
 
 /// Whether the quad's triple agrees with the pattern, as far as the row says already. It takes no memory.
 fn may_match(pattern: &TriplePattern, quad: &Quad, row: &Row) -> bool
-    ensures { result ≡ Rattle.qs_eval.specs.Found.may_match row.now pattern.now (triple_of quad.now) }
+    ensures { result ≡ Rattle.qs_eval.specs.inner.Found.may_match row.now pattern.now (triple_of quad.now) }
 {
     agrees(&pattern.subject, quad.subject(), row)
         && agrees(&pattern.predicate, quad.predicate(), row)

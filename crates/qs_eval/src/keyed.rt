@@ -5,8 +5,8 @@ ghost use Rattle.std.specs.List.{filter, list_all};
 ghost use Rattle.qs_terms.specs.Term.{same_term};
 ghost use Rattle.qs_terms.specs.declared.term.Term.{Term as TermValue};
 ghost use Rattle.qs_solutions.specs.Solution.{compatible};
-ghost use Rattle.qs_eval.specs.Keyed.{is_bound, binds, at_term, IsKeyed, IsBoundIn};
-ghost use Rattle.qs_eval.specs.Lent.{lent};
+ghost use Rattle.qs_eval.specs.inner.Keyed.{is_bound, binds, at_term, IsKeyed, IsBoundIn};
+ghost use Rattle.qs_eval.specs.inner.Lent.{lent};
 
 use qs_solutions::Row;
 use qs_terms::Term;
@@ -26,8 +26,8 @@ pub struct Keyed<'a> {
 impl<'a> Model for Keyed<'a> {
     ghost use Rattle.std.specs.Prelude.{List};
     ghost use Rattle.qs_solutions.specs.Solution.{Solution};
-    ghost use Rattle.qs_eval.specs.Keyed.{IsBoundIn, AreFoundBy};
-    ghost use Rattle.qs_eval.specs.Lent.{lent};
+    ghost use Rattle.qs_eval.specs.inner.Keyed.{IsBoundIn, AreFoundBy};
+    ghost use Rattle.qs_eval.specs.inner.Lent.{lent};
 
     ghost Value = { List Solution };
 

@@ -7,7 +7,7 @@ ghost use Rattle.qs_terms.specs.Bag.{once};
 ghost use Rattle.qs_terms.specs.Dataset.{names_of};
 ghost use Rattle.qs_terms.specs.Statement.{same_graph};
 ghost use Rattle.qs_terms.specs.Term.{same_term};
-ghost use Rattle.qs_eval.specs.Lent.{lent};
+ghost use Rattle.qs_eval.specs.inner.Lent.{lent};
 
 use crate::quads::Quads;
 use qs_terms::{Quad, Term};

@@ -3,7 +3,7 @@
 ghost use Rattle.std.specs.Prelude.{◌≡◌, IfOk};
 ghost use Rattle.qs_terms.specs.Bag.{Distinct, once};
 ghost use Rattle.qs_terms.specs.Statement.{same_statement};
-ghost use Rattle.qs_eval.specs.Lent.{lent};
+ghost use Rattle.qs_eval.specs.inner.Lent.{lent};
 
 use qs_terms::Quad;
 use std::alloc::{AllocError, Global};
@@ -20,7 +20,7 @@ impl<'a> Model for Quads<'a> {
     ghost use Rattle.std.specs.Prelude.{List};
     ghost use Rattle.qs_terms.specs.Bag.{Distinct};
     ghost use Rattle.qs_terms.specs.Statement.{Statement, same_statement};
-    ghost use Rattle.qs_eval.specs.Lent.{lent};
+    ghost use Rattle.qs_eval.specs.inner.Lent.{lent};
 
     ghost Value = { List Statement };
 

@@ -6,10 +6,10 @@ use Rattle.qs_solutions.specs.Solution.{Solution}
 use Rattle.qs_terms.specs.declared.term.Term.{Term}
 use Rattle.qs_expr.specs.Calls.{joined, strings}
 use Rattle.qs_expr.specs.Comes.{Errs}
-use Rattle.qs_expr.specs.Joined.{SoFar, nothing, with_value, finished, joined_from}
+use Rattle.qs_expr.specs.inner.Joined.{SoFar, nothing, with_value, finished, joined_from}
 use Rattle.qs_expr.specs.Makes.{makes, some}
 use Rattle.qs_expr.specs.Meaning.{meaning}
-use Rattle.qs_expr.specs.SoFar.{so_far}
+use Rattle.qs_expr.specs.inner.SoFar.{so_far}
 use Rattle.qs_expr.specs.Truth.{either, both}
 use Rattle.qs_expr.specs.declared.expr.Expr.{Expr}
 use Rattle.qs_expr.specs.declared.fault.ExprFault.{ExprFault}

@@ -7,7 +7,7 @@ use Rattle.qs_terms.specs.Literal.{Literal}
 use Rattle.qs_terms.specs.declared.term.Term.{Term}
 use Rattle.qs_values.specs.Values.{strung}
 use Rattle.qs_expr.specs.Calls.{Value, string_of, literal_parts, strings, forms, agreed, common_tag, joined}
-use Rattle.qs_expr.specs.Joined.{SoFar, Tag, nothing, with_tag, with_parts, with_value, joined_from}
+use Rattle.qs_expr.specs.inner.Joined.{SoFar, Tag, nothing, with_tag, with_parts, with_value, joined_from}
 
 abbrev tag_after : Option Tag → List Literal → Tag
 tag_after None ls = common_tag ls

@@ -15,7 +15,7 @@ use Rattle.qs_expr.proofs.Flags.{some_at}
 use Rattle.qs_expr.specs.declared.fault.ExprFault.{ExprFault}
 use Rattle.qs_expr.specs.declared.fault.ExprFault.TheVariants.{TypeError, Memory}
 use Rattle.qs_expr.specs.declared.expr.Addend.{Addend}
-use Rattle.qs_expr.specs.SoFar.{sum_from, product_from}
+use Rattle.qs_expr.specs.inner.SoFar.{sum_from, product_from}
 use Rattle.qs_expr.specs.declared.expr.Expr.{Expr}
 
 pub next : {X : Type 0} (xs : List X) (i : ℕ) (x : X) → i < length xs → x ≡ get_or xs i x → drop i xs ≡ x ∷ drop (i + 1) xs

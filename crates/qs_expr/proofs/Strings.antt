@@ -8,7 +8,7 @@ use Rattle.qs_terms.specs.declared.term.Term.{Term}
 use Rattle.qs_terms.specs.declared.term.Term.TheVariants.{Iri, Blank, Literal as OfLiteral}
 use Rattle.qs_values.specs.Values.{boolean_term, integer_term, text_term, strung}
 use Rattle.qs_expr.specs.Comes.{tagged_datatype}
-use Rattle.qs_expr.specs.Joined.{tag_of_term}
+use Rattle.qs_expr.specs.inner.Joined.{tag_of_term}
 use Rattle.qs_expr.specs.Calls.{form_of, tag_of, datatype_of, string_of, string_parts, length_of, literal_parts, Parts}
 
 pub form_strung : (tag : Option (List ℕ)) (form : List ℕ) → form_of (strung tag form) ≡ Some (text_term form)

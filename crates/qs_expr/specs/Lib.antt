@@ -2,8 +2,6 @@ pub mod Truth
 pub mod Calls
 pub mod Meaning
 pub mod Makes
-pub mod Mentions
 pub mod Comes
-pub mod Joined
-pub mod SoFar
 pub mod Words
+pub mod inner

@@ -9,7 +9,7 @@ ghost use Rattle.qs_values.specs.Values as of_terms;
 ghost use Rattle.qs_values.specs.declared.value.Value.TheVariants as seen;
 ghost use Rattle.qs_expr.specs.Calls as of_calls;
 ghost use Rattle.qs_expr.specs.Comes.{Comes, ComesAs, Tells};
-ghost use Rattle.qs_expr.specs.Joined as joining;
+ghost use Rattle.qs_expr.specs.inner.Joined as joining;
 ghost use Rattle.qs_expr.specs.Makes.{makes, addend_makes, some};
 ghost use Rattle.qs_expr.specs.Meaning as spec;
 ghost use Rattle.qs_expr.specs.Truth as of;

@@ -4,7 +4,7 @@ ghost use Rattle.std.specs.Prelude.{◌≡◌, string_bytes};
 ghost use Rattle.std.specs.Option.{option_copied};
 ghost use Rattle.qs_terms.specs.Term.{same_tag};
 ghost use Rattle.qs_values.specs.Value.{term_of};
-ghost use Rattle.qs_expr.specs.Joined as spec;
+ghost use Rattle.qs_expr.specs.inner.Joined as spec;
 
 use crate::call::string_of;
 use crate::fault::ExprFault;

@@ -5,7 +5,7 @@ use Rattle.qs_grammar.specs.declared.fault.Fault.TheVariants.{Deep}
 use Rattle.qs_grammar.specs.Rule.{Language, Rule, token}
 use Rattle.qs_grammar.specs.Reading.{Reader, Outcome, and_then, starts, loop, first, take_kind}
 use Rattle.qs_grammar.specs.Grammar.{Grammar, read}
-use Rattle.qs_grammar.specs.Repeated.{into, push, keep}
+use Rattle.qs_grammar.specs.inner.Repeated.{into, push, keep}
 use Rattle.qs_grammar.specs.Notation.{cons, kept, joined, opt, ◌>>◌}
 
 fold-push : {A : Type 0} (found xs : List A) → fold push found xs ≡ found ++ xs

@@ -2,5 +2,4 @@ pub mod Rule
 pub mod Notation
 pub mod Reading
 pub mod Grammar
-pub mod Repeated
-pub mod Contract
+pub mod inner

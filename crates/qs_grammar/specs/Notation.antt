@@ -1,6 +1,6 @@
 -- Ways to write rules.
 use Rattle.std.specs.Prelude.{List, [], ◌∷◌, ◌++◌, Option, Some, None}
-use Rattle.qs_grammar.specs.Rule.{Language, Rule, empty, both, either, many, made}
+use Rattle.qs_grammar.specs.Rule.{Language, Rule, empty, both, either, made}
 
 infixr 11 ◌<$>◌
 abbrev pub ◌<$>◌ : {L : Language} {A B : Type 0} → (A → B) → Rule L A → Rule L B
@@ -32,18 +32,6 @@ opt p = or None (made Some p)
 
 abbrev pub cons : {A : Type 0} → A × List A → List A
 cons x = x.0 ∷ x.1
-
--- p+
-abbrev pub plus : {L : Language} {A : Type 0} → Rule L A → Rule L (List A)
-plus p = made cons (both p (many p))
-
--- p (q p)*, the first p and the others
-abbrev pub chained : {L : Language} {A B : Type 0} → Rule L B → Rule L A → Rule L (A × List A)
-chained q p = both p (many (made (λ x. x.1) (both q p)))
-
--- p (q p)*
-abbrev pub by : {L : Language} {A B : Type 0} → Rule L B → Rule L A → Rule L (List A)
-by q p = made cons (chained q p)
 
 -- ---- lists of parts
 

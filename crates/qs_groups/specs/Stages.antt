@@ -1,5 +1,4 @@
 -- What the steps of a group make of solutions (SPARQL 1.1 Query, 18.5), one after another, and those that wait before them.
--- (Inner: it serves proofs, and no promise of the product is read by it.)
 use Rattle.std.specs.Prelude.{◌≡◌, ℕ, ◌+◌, ◌<◌, List, [], ◌∷◌, drop, Option, None, Some}
 use Rattle.std.specs.List.{flat_map}
 use Rattle.qs_terms.specs.Bag.{SameBag}

@@ -6,7 +6,7 @@ pub mod Checks
 pub mod Parameters
 pub mod RequestOf
 pub mod Feeding
-pub mod HeadView
 pub mod Stage
 pub mod Reply
 pub mod Laws
+pub mod inner

@@ -5,7 +5,7 @@ use crate::fixed_reply::Fixed;
 use crate::head::Head;
 
 impl<'b> Head<'b> {
-    ghost use Rattle.qs_http.specs.HeadView.{plain, IsSound};
+    ghost use Rattle.qs_http.specs.inner.HeadView.{plain, IsSound};
     ghost use Rattle.qs_http.specs.Checks.{first_due, head_checks, lacks_host, is_elsewhere, misses_query, misses_update, misses_data, lacks_length, has_bad_length, has_long_body, has_other_media};
 
     /// The first check that fails.

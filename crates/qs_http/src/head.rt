@@ -1,6 +1,6 @@
 ghost use Rattle.std.specs.Prelude.{◌≡◌, ◌++◌, SomeIff, ◌+◌, ◌≤◌, ◌<◌, ℕ, List, [], ◌∷◌, length, IfSome};
 ghost use Rattle.httparse.specs.Spans.{IsRequestWithin};
-ghost use Rattle.qs_http.specs.HeadView.{ReadsAs};
+ghost use Rattle.qs_http.specs.inner.HeadView.{ReadsAs};
 
 use crate::bytes::{is_same_word, number_up_to, place_of, trim_ows};
 use httparse::Status;
@@ -45,7 +45,7 @@ pub struct Values<'b> {
 }
 
 impl<'b> Values<'b> {
-    ghost use Rattle.qs_http.specs.HeadView.{AreValues};
+    ghost use Rattle.qs_http.specs.inner.HeadView.{AreValues};
 
     /// One value more.
     fn and(self, value: &'b [u8]) -> Values<'b>
@@ -61,7 +61,7 @@ impl<'b> Values<'b> {
 }
 
 impl<'b> Head<'b> {
-    ghost use Rattle.qs_http.specs.HeadView.{plain, IsSound, AreValues};
+    ghost use Rattle.qs_http.specs.inner.HeadView.{plain, IsSound, AreValues};
     ghost use Rattle.qs_http.specs.Head.{values_of, is_get, is_post, path_of, parameters_of, at_query, at_update, at_data, media_of, is_form, is_direct, body_length};
 
     #[tactic(auto, unfolding(crate::specs::Head::is_get))]

@@ -1,9 +1,6 @@
 use Rattle.std.specs.Prelude.{min, ℕ, ◌+◌, ◌<◌, ◌≤◌, ◌≡◌, ◌-◌, ◌*◌, List, [], ◌∷◌, ◌++◌, length, drop, take, slice_index_or}
 use Rattle.std.specs.List.{All}
 
-abbrev pub Page : Type 0
-Page = List (List ℕ)
-
 -- an order: its pages, and how many pages are set aside
 pub record Layout : Type 0 where
   pub pages : List (List (List ℕ))

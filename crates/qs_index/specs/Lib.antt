@@ -1,10 +1,8 @@
 pub mod Digits
 pub mod Layout
-pub mod Tiers
 pub mod Entry
 pub mod Entries
 pub mod Prefix
-pub mod Place
 pub mod Scan
 pub mod OrderScan
 pub mod Permutation
@@ -13,3 +11,4 @@ pub mod Agreeing
 pub mod OrderOf
 pub mod Named
 pub mod Index
+pub mod inner

@@ -3,7 +3,7 @@ ghost use Rattle.std.specs.Prelude.{◌≡◌, ℕ, ◌+◌, ◌-◌, ◌*◌, �
 ghost use Rattle.qs_index.specs.Digits.{digits};
 ghost use Rattle.qs_index.specs.Layout.{Layout, Reading, joined, page_at, rest_at};
 ghost use Rattle.qs_index.specs.Entry.{is_before, IsAscending, skip_before};
-ghost use Rattle.qs_index.specs.Place.{IsPlaceFor, IsPlaceOf, IsFound, IsReached};
+ghost use Rattle.qs_index.specs.inner.Place.{IsPlaceFor, IsPlaceOf, IsFound, IsReached};
 
 use crate::pages::{Pages, Place, Reader};
 use crate::prefix::Prefix;

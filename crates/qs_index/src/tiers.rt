@@ -4,7 +4,7 @@ ghost use Rattle.std.specs.Prelude.{◌≡◌, ℕ, ◌+◌, ◌-◌, ◌*◌, �
 ghost use Rattle.std.specs.List.{insert, remove};
 ghost use Rattle.std.specs.VecDeque.{deque_capacity};
 ghost use Rattle.qs_index.specs.Layout.{page_at};
-ghost use Rattle.qs_index.specs.Tiers.{Tier, flat, block_at, gap_at, HasGap, IsBlock, IsTiered};
+ghost use Rattle.qs_index.specs.inner.Tiers.{Tier, flat, block_at, gap_at, HasGap, IsBlock, IsTiered};
 
 use crate::page::Page;
 use std::alloc::{AllocError, Global};

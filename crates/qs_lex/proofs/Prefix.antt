@@ -7,16 +7,16 @@ use Rattle.qs_regular.specs.Form.{one, many, ◌⨾◌, char, maybe}
 use Rattle.qs_regular.specs.Character.{is_chars, is_letter}
 use Rattle.qs_lex.specs.Table.{is_word_char, local_first, table, Left}
 use Rattle.qs_regular.specs.Longest.{advance, here, longer, best}
-use Rattle.qs_regular.specs.Scan.{later}
-use Rattle.qs_lex.specs.NameState.{named, inner, local_rest}
-use Rattle.qs_lex.specs.Prefix.{names, IsBarren, IsNoPrefix, plain}
+use Rattle.qs_regular.specs.inner.Scan.{later}
+use Rattle.qs_lex.specs.inner.NameState.{named, inner, local_rest}
+use Rattle.qs_lex.specs.inner.Prefix.{names, IsBarren, IsNoPrefix, plain}
 use Rattle.qs_lex.specs.declared.token.Class.{Class}
 use Rattle.qs_lex.specs.declared.token.Class.TheVariants as class
 use Rattle.qs_lex.proofs.Apart.{chars_colon, word_colon, word_chars}
 use Rattle.qs_regular.proofs.Scan.{best-dead}
 use Rattle.qs_lex.proofs.Begin.{at_first, scan_first}
 use Rattle.qs_lex.proofs.Start.{begun_word}
-use Rattle.qs_lex.specs.Start.{begun}
+use Rattle.qs_lex.specs.inner.Start.{begun}
 use Rattle.qs_lex.specs.Lexes.{skip, is_blank, is_line_end}
 
 abbrev pub words : Left

@@ -5,9 +5,9 @@ use Rattle.std.specs.Int.{is_in_range}
 use Rattle.qs_regular.specs.Form.{◌⨾◌, ◌∣◌, char}
 use Rattle.qs_regular.specs.Character.{is_base, is_digit, is_letter}
 use Rattle.qs_lex.specs.Table.{is_sign}
-use Rattle.qs_lex.specs.State.{left}
-use Rattle.qs_lex.specs.StringState.{short_body, long_body}
-use Rattle.qs_lex.specs.Start.{begun}
+use Rattle.qs_lex.specs.inner.State.{left}
+use Rattle.qs_lex.specs.inner.StringState.{short_body, long_body}
+use Rattle.qs_lex.specs.inner.Start.{begun}
 use Rattle.qs_lex.specs.declared.token.Class.TheVariants as class
 use Rattle.qs_lex.specs.declared.state.State.TheVariants as state
 use Rattle.qs_lex.specs.declared.iri_state.IriState.TheVariants as iri

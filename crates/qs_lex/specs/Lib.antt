@@ -7,11 +7,4 @@ pub mod Lexes
 pub mod Place
 pub mod Parts
 pub mod Fault
-pub mod Start
-pub mod State
-pub mod IriState
-pub mod MarkState
-pub mod NameState
-pub mod NumberState
-pub mod StringState
-pub mod Prefix
+pub mod inner

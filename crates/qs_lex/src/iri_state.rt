@@ -3,7 +3,7 @@
 ghost use Rattle.std.specs.Prelude.{◌≡◌, MatchOption, [], ◌<◌, ◌≤◌, ◌^◌, ◌-◌, ◌+◌, ◌*◌, IsTrue};
 ghost use Rattle.qs_regular.specs.Longest.{advance, here};
 ghost use Rattle.qs_regular.specs.Character.{is_hex, hex_value, is_iri_scalar};
-ghost use Rattle.qs_lex.specs.IriState.{left_of_iri};
+ghost use Rattle.qs_lex.specs.inner.IriState.{left_of_iri};
 ghost use Rattle.qs_lex.specs.declared.iri_state.IriState.TheVariants.{Body};
 
 use crate::token::Class;

@@ -5,7 +5,7 @@ ghost use Rattle.std.specs.Str.{chars};
 ghost use Rattle.qs_lex.specs.Fault.{IsFaultOf};
 ghost use Rattle.qs_lex.specs.Lexes.{Lexes, lexeme};
 ghost use Rattle.qs_lex.specs.Place.{IsSliceOf, StandsBefore};
-ghost use Rattle.qs_lex.specs.Prefix.{IsBarren, IsNoPrefix};
+ghost use Rattle.qs_lex.specs.inner.Prefix.{IsBarren, IsNoPrefix};
 
 use crate::gap::after_gap;
 use crate::longest::longest;

@@ -3,12 +3,12 @@
 ghost use Rattle.std.specs.Prelude.{◌≡◌, ◌⊎◌, MatchOption, [], true};
 ghost use Rattle.std.specs.Str.{chars};
 ghost use Rattle.qs_regular.specs.Longest.{best, here};
-ghost use Rattle.qs_regular.specs.Scan.{hold};
+ghost use Rattle.qs_regular.specs.inner.Scan.{hold};
 ghost use Rattle.qs_regular.specs.Character.{is_letter};
 ghost use Rattle.qs_lex.specs.Table.{table};
-ghost use Rattle.qs_lex.specs.State.{left};
-ghost use Rattle.qs_lex.specs.Start.{begun};
-ghost use Rattle.qs_lex.specs.Prefix.{IsNoPrefix, plain};
+ghost use Rattle.qs_lex.specs.inner.State.{left};
+ghost use Rattle.qs_lex.specs.inner.Start.{begun};
+ghost use Rattle.qs_lex.specs.inner.Prefix.{IsNoPrefix, plain};
 
 use crate::name_state::NameState;
 use crate::state::State;

@@ -2,7 +2,7 @@
 
 ghost use Rattle.std.specs.Prelude.{◌≡◌, MatchOption, []};
 ghost use Rattle.qs_regular.specs.Longest.{advance, here};
-ghost use Rattle.qs_lex.specs.MarkState.{left_of_mark};
+ghost use Rattle.qs_lex.specs.inner.MarkState.{left_of_mark};
 
 use crate::token::Class;
 

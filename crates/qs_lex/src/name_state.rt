@@ -2,7 +2,7 @@
 
 ghost use Rattle.std.specs.Prelude.{◌≡◌, MatchOption, []};
 ghost use Rattle.qs_regular.specs.Longest.{advance, here};
-ghost use Rattle.qs_lex.specs.NameState.{left_of_name};
+ghost use Rattle.qs_lex.specs.inner.NameState.{left_of_name};
 
 use crate::letter::{is_escapable, is_word_char};
 use crate::token::Class;

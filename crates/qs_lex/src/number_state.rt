@@ -2,7 +2,7 @@
 
 ghost use Rattle.std.specs.Prelude.{◌≡◌, MatchOption, []};
 ghost use Rattle.qs_regular.specs.Longest.{advance, here};
-ghost use Rattle.qs_lex.specs.NumberState.{left_of_number};
+ghost use Rattle.qs_lex.specs.inner.NumberState.{left_of_number};
 
 use crate::letter::{is_exponent, is_sign};
 use crate::token::Class;

@@ -2,7 +2,7 @@
 
 ghost use Rattle.std.specs.Prelude.{◌≡◌, MatchOption, List, ℕ, ◌∷◌, ◌&&◌, ◌==◌, true};
 ghost use Rattle.std.specs.Str.{chars};
-ghost use Rattle.qs_lex.specs.Prefix.{IsBarren, IsNoPrefix, names};
+ghost use Rattle.qs_lex.specs.inner.Prefix.{IsBarren, IsNoPrefix, names};
 ghost use Rattle.qs_regular.specs.Character.{is_letter};
 
 use qs_regular::character::is_chars;

@@ -3,8 +3,8 @@
 ghost use Rattle.std.specs.Prelude.{◌≡◌, MatchOption, [], false};
 ghost use Rattle.qs_regular.specs.Longest.{advance, here};
 ghost use Rattle.qs_regular.specs.Character.{is_base, is_digit, is_letter};
-ghost use Rattle.qs_lex.specs.Start.{begun};
-ghost use Rattle.qs_lex.specs.State.{left};
+ghost use Rattle.qs_lex.specs.inner.Start.{begun};
+ghost use Rattle.qs_lex.specs.inner.State.{left};
 
 use crate::iri_state::IriState;
 use crate::mark_state::MarkState;

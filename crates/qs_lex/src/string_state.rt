@@ -2,7 +2,7 @@
 
 ghost use Rattle.std.specs.Prelude.{◌≡◌, MatchOption, []};
 ghost use Rattle.qs_regular.specs.Longest.{advance, here};
-ghost use Rattle.qs_lex.specs.StringState.{left_of_string};
+ghost use Rattle.qs_lex.specs.inner.StringState.{left_of_string};
 
 use crate::quote::Quote;
 use crate::token::Class;

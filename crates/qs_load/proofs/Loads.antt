@@ -10,7 +10,7 @@ use Rattle.qs_store.specs.Entries.{IsSaidBehind, said}
 use Rattle.qs_store.specs.declared.fault.StoreFault.{StoreFault}
 use Rattle.qs_store.specs.declared.fault.StoreFault.TheVariants as store_fault
 use Rattle.qs_load.specs.Load.{IsLoaded, IsLoadFault}
-use Rattle.qs_load.specs.Loading.{AreNumbered, IsTold, IsToldFor, Learns, Say}
+use Rattle.qs_load.specs.inner.Loading.{AreNumbered, IsTold, IsToldFor, Learns, Say}
 use Rattle.qs_load.specs.declared.fault.LoadFault.{LoadFault}
 use Rattle.qs_load.specs.declared.fault.LoadFault.TheVariants.{Text, Store}
 

@@ -1,2 +1,2 @@
 pub mod Load
-pub mod Loading
+pub mod inner

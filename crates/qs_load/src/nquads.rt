@@ -6,7 +6,7 @@ ghost use Rattle.qs_terms.specs.declared.term.Term.{Term};
 ghost use Rattle.qs_nquads.specs.Unread.{HasRead};
 ghost use Rattle.qs_store.specs.Change.{IsFullAt, with_terms_of};
 ghost use Rattle.qs_load.specs.Load.{IsLoaded, IsLoadFault};
-ghost use Rattle.qs_load.specs.Loading.{Learns, Say, IsTold, IsToldFor, AreNumbered};
+ghost use Rattle.qs_load.specs.inner.Loading.{Learns, Say, IsTold, IsToldFor, AreNumbered};
 
 use crate::fault::LoadFault;
 use qs_nquads::Reader;

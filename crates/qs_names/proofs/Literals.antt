@@ -5,7 +5,7 @@ use Rattle.qs_terms.specs.declared.fault.TermFault.{TermFault}
 use Rattle.qs_terms.specs.declared.fault.TermFault.TheVariants.{NotAbsolute, BadChar, BadTag, BadDatatype, Memory}
 use Rattle.qs_terms.specs.OrWantOf.{ValueOrWantOf}
 use Rattle.qs_terms.specs.Outcome.{OrWantOfMemory}
-use Rattle.qs_names.specs.Refused.{unless_refused}
+use Rattle.qs_names.specs.inner.Refused.{unless_refused}
 
 -- what may fail for want of memory gives what is due
 pub made : {A : Type 0} → (due : Result A TermFault) (found : Result A TermFault) → ValueOrWantOf Memory due found → OrWantOfMemory (Ok (result_ok due)) (unless_refused found)

@@ -1,2 +1,2 @@
-pub mod Refused
 pub mod Names
+pub mod inner

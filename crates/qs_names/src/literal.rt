@@ -4,7 +4,7 @@ ghost use Rattle.std.specs.Prelude.{◌≡◌, IfOk, Ok, Some};
 ghost use Rattle.std.specs.Result.{result_ok};
 ghost use Rattle.qs_terms.specs.Literal.{xsd_string, xsd_integer, xsd_boolean, typed, checked_typed, checked_tagged};
 ghost use Rattle.qs_terms.specs.Outcome.{OrWantOfMemory};
-ghost use Rattle.qs_names.specs.Refused.{unless_refused};
+ghost use Rattle.qs_names.specs.inner.Refused.{unless_refused};
 ghost use Rattle.qs_names.specs.Names.{marks};
 
 use crate::piece::{inside, whole};

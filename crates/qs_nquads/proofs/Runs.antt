@@ -9,12 +9,12 @@ use Rattle.std.specs.Char.{len_utf8}
 use Rattle.std.specs.List.{position_or_len, position}
 use Rattle.qs_regular.specs.Character.{is_iri_char}
 use Rattle.qs_regular.specs.Longest.{advance, here, longer, best}
-use Rattle.qs_regular.specs.Scan.{hold, later}
+use Rattle.qs_regular.specs.inner.Scan.{hold, later}
 use Rattle.qs_regular.proofs.Scan.{at_step}
 use Rattle.qs_nquads.specs.Table.{Left, is_string_char}
-use Rattle.qs_nquads.specs.State.{left}
+use Rattle.qs_nquads.specs.inner.State.{left}
 use Rattle.qs_nquads.proofs.Apart.{iri_backslash, iri_greater, string_backslash, string_quote}
-use Rattle.qs_nquads.specs.Run.{ends_in_iri, ends_in_string, HasRun}
+use Rattle.qs_nquads.specs.inner.Run.{ends_in_iri, ends_in_string, HasRun}
 use Rattle.qs_nquads.specs.declared.class.Class.{Class}
 use Rattle.qs_nquads.specs.declared.class.Class.TheVariants as class
 use Rattle.qs_nquads.specs.declared.state.State.{State}

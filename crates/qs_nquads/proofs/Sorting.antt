@@ -16,7 +16,7 @@ use Rattle.std.proofs.lemmas.Map.Text.{is_eq-slice_cmp}
 use Rattle.std.proofs.lemmas.Slice.Eq.{bytes_eq-Decides}
 use Rattle.qs_terms.specs.Statement.{Statement}
 use Rattle.qs_nquads.specs.Written.{line, put_in, ordered, nquads_of}
-use Rattle.qs_nquads.specs.Joined.{joined}
+use Rattle.qs_nquads.specs.inner.Joined.{joined}
 
 abbrev R : List ℕ → List ℕ → Ordering
 R = slice_cmp nat_cmp

@@ -1,6 +1,6 @@
 -- The first character of a front.
 use Rattle.std.proofs.Common.{◌≡◌, ◌≢◌, ℕ, [], refl, ne_eqb}
-use Rattle.qs_nquads.specs.State.{begun, left}
+use Rattle.qs_nquads.specs.inner.State.{begun, left}
 use Rattle.qs_nquads.specs.declared.state.State.TheVariants as state
 
 pub begun_60 : begun 60 ≡ left state.Iri

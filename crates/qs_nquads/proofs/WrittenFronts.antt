@@ -11,7 +11,7 @@ use Rattle.qs_regular.specs.Character.{is_iri_char, is_escaped, is_letter, is_le
 use Rattle.qs_regular.specs.Longest.{best, longer, here, advance}
 use Rattle.qs_terms.specs.Tag.{is_tag, is_tag_rest, is_subtag_char}
 use Rattle.qs_nquads.specs.Table.{Left, table, is_string_char, is_label_start, is_label_char}
-use Rattle.qs_nquads.specs.State.{left}
+use Rattle.qs_nquads.specs.inner.State.{left}
 use Rattle.qs_nquads.specs.declared.class.Class.{Class}
 use Rattle.qs_nquads.specs.declared.class.Class.TheVariants as class
 use Rattle.qs_nquads.specs.declared.state.State.{State}

@@ -1,6 +1,4 @@
-pub mod Run
 pub mod Table
-pub mod State
 pub mod Gap
 pub mod Labels
 pub mod Part
@@ -11,5 +9,5 @@ pub mod Nquads
 pub mod Unread
 pub mod Written
 pub mod Renumbered
-pub mod Joined
 pub mod WriteFault
+pub mod inner

@@ -3,9 +3,9 @@
 ghost use Rattle.std.specs.Prelude.{◌≡◌};
 ghost use Rattle.std.specs.Str.{chars};
 ghost use Rattle.qs_regular.specs.Longest.{best, here};
-ghost use Rattle.qs_regular.specs.Scan.{hold};
+ghost use Rattle.qs_regular.specs.inner.Scan.{hold};
 ghost use Rattle.qs_nquads.specs.Table.{table};
-ghost use Rattle.qs_nquads.specs.State.{left};
+ghost use Rattle.qs_nquads.specs.inner.State.{left};
 
 use crate::class::Class;
 use crate::run::behind_run;

@@ -4,7 +4,7 @@ ghost use Rattle.std.specs.Prelude.{◌≡◌, ◌<◌, ℕ, List, map, take, le
 ghost use Rattle.std.specs.Io.KnownBytes.{Appends};
 ghost use Rattle.qs_terms.specs.Device.{one_more};
 ghost use Rattle.qs_nquads.specs.Written.{line, ordered, nquads_of};
-ghost use Rattle.qs_nquads.specs.Joined.{joined};
+ghost use Rattle.qs_nquads.specs.inner.Joined.{joined};
 ghost use Rattle.qs_nquads.specs.WriteFault.{MatchFault};
 
 use crate::lawful::lawful_quads;

@@ -3,19 +3,19 @@
 ghost use Rattle.std.specs.Prelude.{◌≡◌, drop};
 ghost use Rattle.std.specs.List.{position};
 ghost use Rattle.qs_nquads.specs.declared.state.State.TheVariants as state;
-ghost use Rattle.qs_nquads.specs.Run.{ends_in_iri, ends_in_string, HasRun};
+ghost use Rattle.qs_nquads.specs.inner.Run.{ends_in_iri, ends_in_string, HasRun};
 
 use crate::state::{State, is_string_char};
 use qs_regular::character::is_iri_char;
 
-#[tactic(auto, unfolding(crate::specs::Run::ends_in_iri))]
+#[tactic(auto, unfolding(crate::specs::inner::Run::ends_in_iri))]
 fn ends_in_iri(b: u8) -> bool
     ensures { result ≡ ends_in_iri b }
 {
     !(b < 0x80 && is_iri_char(b as char))
 }
 
-#[tactic(auto, unfolding(crate::specs::Run::ends_in_string))]
+#[tactic(auto, unfolding(crate::specs::inner::Run::ends_in_string))]
 fn ends_in_string(b: u8) -> bool
     ensures { result ≡ ends_in_string b }
 {

@@ -3,7 +3,7 @@
 ghost use Rattle.std.specs.Prelude.{◌≡◌, MatchOption, []};
 ghost use Rattle.qs_regular.specs.Longest.{advance, here};
 ghost use Rattle.qs_nquads.specs.Table.{is_string_char, is_label_start, is_label_char};
-ghost use Rattle.qs_nquads.specs.State.{begun, left};
+ghost use Rattle.qs_nquads.specs.inner.State.{begun, left};
 ghost use Rattle.qs_nquads.specs.declared.state.State.TheVariants as state;
 
 use crate::class::Class;

@@ -12,7 +12,7 @@ use Rattle.qs_patterns.specs.declared.pattern.Slot.TheVariants as slot
 use Rattle.qs_ops.specs.Graph.{IsSeen}
 use Rattle.qs_ops.specs.Row.{Cells, cell_at, no_cells, cell_term, row_solution}
 use Rattle.qs_ops.specs.Place.{term_slot, slot_if}
-use Rattle.qs_ops.specs.Steps.{is_used, used_cell, bound_variable, bound_by}
+use Rattle.qs_ops.specs.inner.Steps.{is_used, used_cell, bound_variable, bound_by}
 
 suc_more : (n : ℕ) → no_cells n ++ None ∷ [] ≡ no_cells (suc n)
 suc_more zero = refl

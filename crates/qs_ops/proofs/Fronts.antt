@@ -4,7 +4,7 @@ use Rattle.qs_terms.specs.declared.term.Term.{Term}
 use Rattle.qs_dict.specs.Dict.{term_at, IsInUse}
 use Rattle.qs_solutions.specs.Solution.{Solution, unbound, term_at as bound_term}
 use Rattle.qs_ops.specs.Row.{Cells, cell_at, cell_term, row_solution, front, with_term}
-use Rattle.qs_ops.specs.Steps.{is_used}
+use Rattle.qs_ops.specs.inner.Steps.{is_used}
 use Rattle.qs_ops.proofs.Cells.{at_cell}
 
 within : (terms : List Term) (i : ℕ) → is_used (slice_get terms i) ≡ true → i < length terms

@@ -18,11 +18,11 @@ use Rattle.qs_patterns.specs.Basic.{Graph}
 use Rattle.qs_patterns.specs.declared.pattern.Slot.{Slot}
 use Rattle.qs_patterns.specs.declared.pattern.Slot.TheVariants as slot
 use Rattle.qs_patterns.specs.declared.pattern.TriplePattern.{TriplePattern}
-use Rattle.qs_eval.specs.Found.{agrees, may_match, extensions, found}
+use Rattle.qs_eval.specs.inner.Found.{agrees, may_match, extensions, found}
 use Rattle.qs_eval.proofs.May.{cannot_match}
 use Rattle.qs_ops.specs.Graph.{IsSeen, active_graph}
 use Rattle.qs_ops.specs.Place.{slot_if, known_slot, known_pattern, pattern_of}
-use Rattle.qs_ops.specs.Steps.{extensions_of}
+use Rattle.qs_ops.specs.inner.Steps.{extensions_of}
 use Rattle.qs_ops.specs.Coming.{made}
 use Rattle.qs_ops.specs.declared.place.Seek.{Seek}
 use Rattle.qs_ops.proofs.Active.{active_only}

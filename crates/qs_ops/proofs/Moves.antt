@@ -13,7 +13,7 @@ use Rattle.qs_ops.specs.declared.search.Move.{Move}
 use Rattle.qs_ops.specs.declared.search.Move.TheVariants.{Done, Moved, Gave}
 use Rattle.qs_ops.specs.Row.{no_cells, row_solution}
 use Rattle.qs_ops.proofs.Cells.{row_unbound}
-use Rattle.qs_ops.specs.Steps.{tested, rest_of, IsOpen}
+use Rattle.qs_ops.specs.inner.Steps.{tested, rest_of, IsOpen}
 use Rattle.qs_ops.specs.Tests.{Search, lets}
 use Rattle.qs_ops.specs.Coming.{sifted, here, coming, summed, full, effort, moves, IsMove}
 

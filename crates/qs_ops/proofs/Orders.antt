@@ -13,14 +13,14 @@ use Rattle.qs_patterns.specs.Basic.{Graph, instance, is_in, is_variable, puts_in
 use Rattle.qs_store.specs.Content.{Content}
 use Rattle.qs_store.specs.declared.active.Active.{Active}
 use Rattle.qs_store.specs.declared.default_graph.DefaultGraph.{DefaultGraph}
-use Rattle.qs_eval.specs.Below.{triple_below, all_below}
-use Rattle.qs_eval.specs.Found.{extensions, found}
+use Rattle.qs_eval.specs.inner.Below.{triple_below, all_below}
+use Rattle.qs_eval.specs.inner.Found.{extensions, found}
 use Rattle.qs_eval.proofs.AndOr.{and_left, and_right}
 use Rattle.qs_eval.proofs.Below.{all_fit}
 use Rattle.qs_eval.proofs.FoundLaw.{found_is_matches}
 use Rattle.qs_ops.specs.Graph.{IsSeen, active_graph}
 use Rattle.qs_ops.specs.Place.{pattern_of, known_slot, known_pattern}
-use Rattle.qs_ops.specs.Steps.{extensions_of}
+use Rattle.qs_ops.specs.inner.Steps.{extensions_of}
 use Rattle.qs_ops.specs.Coming.{made}
 use Rattle.qs_ops.specs.declared.place.Seek.{Seek}
 use Rattle.qs_ops.proofs.Active.{active_once}

@@ -29,7 +29,7 @@ use Rattle.qs_patterns.specs.Basic.{Graph}
 use Rattle.qs_patterns.specs.declared.pattern.Slot.{Slot}
 use Rattle.qs_patterns.specs.declared.pattern.Slot.TheVariants as slot
 use Rattle.qs_patterns.specs.declared.pattern.TriplePattern.{TriplePattern}
-use Rattle.qs_eval.specs.Found.{agrees, may_match, bound_slot, then_bound, bound_triple, extensions}
+use Rattle.qs_eval.specs.inner.Found.{agrees, may_match, bound_slot, then_bound, bound_triple, extensions}
 use Rattle.qs_eval.proofs.AndOr.{and_left, and_right}
 use Rattle.qs_eval.proofs.May.{cannot_match}
 use Rattle.qs_eval.proofs.Operators.{flat_map_same}
@@ -37,7 +37,7 @@ use Rattle.qs_eval.proofs.Same.{same_triple-Decides}
 use Rattle.qs_ops.specs.Graph.{IsSeen, active_graph}
 use Rattle.qs_ops.specs.Row.{Cells, cell_at, cell_term, row_solution}
 use Rattle.qs_ops.specs.Place.{term_slot, slot_of, three, pattern_of}
-use Rattle.qs_ops.specs.Steps.{used_cell, given, bound_by, bound_entry, extensions_of, step}
+use Rattle.qs_ops.specs.inner.Steps.{used_cell, given, bound_by, bound_entry, extensions_of, step}
 use Rattle.qs_ops.specs.declared.place.Place.{Place}
 use Rattle.qs_ops.specs.declared.place.Place.TheVariants.{Fixed, Variable}
 use Rattle.qs_ops.specs.declared.place.Seek.{Seek}

@@ -17,10 +17,10 @@ use Rattle.qs_patterns.specs.Eval.{all_hold}
 use Rattle.qs_patterns.specs.declared.pattern.Slot.{Slot}
 use Rattle.qs_patterns.specs.declared.pattern.Slot.TheVariants as slot
 use Rattle.qs_patterns.specs.declared.pattern.TriplePattern.{TriplePattern}
-use Rattle.qs_eval.specs.Found.{bound_at, bound_slot, then_bound, bound_triple, extensions}
+use Rattle.qs_eval.specs.inner.Found.{bound_at, bound_slot, then_bound, bound_triple, extensions}
 use Rattle.qs_ops.specs.Place.{pattern_of}
 use Rattle.qs_ops.specs.Row.{front}
-use Rattle.qs_ops.specs.Steps.{extensions_of, step}
+use Rattle.qs_ops.specs.inner.Steps.{extensions_of, step}
 use Rattle.qs_ops.specs.Coming.{made, sifted}
 use Rattle.qs_ops.specs.Tests.{Extends, IsTest, AreTests, IsDropped, AreWanted, Search, are_bound, passes, passes_all, lets}
 use Rattle.qs_ops.specs.declared.place.Seek.{Seek}

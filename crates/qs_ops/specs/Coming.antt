@@ -1,5 +1,4 @@
 -- The rows of a list of triple patterns, and those that its cursors have still to give.
--- (Inner: it serves proofs, and no promise of the product is read by it.)
 use Rattle.std.specs.Prelude.{◌≡◌, ℕ, ◌+◌, ◌<◌, List, [], ◌∷◌, ◌++◌, drop, Option, None, Some}
 use Rattle.std.specs.List.{flat_map}
 use Rattle.qs_terms.specs.Bag.{SameBag}
@@ -7,7 +6,7 @@ use Rattle.qs_terms.specs.declared.term.Term.{Term}
 use Rattle.qs_solutions.specs.Solution.{Solution}
 use Rattle.qs_patterns.specs.Basic.{Graph}
 use Rattle.qs_ops.specs.Row.{row_solution}
-use Rattle.qs_ops.specs.Steps.{step, tested, rest_of}
+use Rattle.qs_ops.specs.inner.Steps.{step, tested, rest_of}
 use Rattle.qs_ops.specs.Tests.{Search}
 use Rattle.qs_ops.specs.declared.place.Seek.{Seek}
 use Rattle.qs_ops.specs.declared.search.Level.{Level}

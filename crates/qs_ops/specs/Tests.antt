@@ -1,5 +1,4 @@
 -- Conditions that are tested within a search, as soon as the variables are bound that settle them (SPARQL 1.1 Query, 18.5, Filter).
--- (Inner: it serves proofs, and no promise of the product is read by it.)
 use Rattle.std.specs.Prelude.{◌≡◌, ℕ, Bool, true, false, not, ◌||◌, List, ◌++◌, Some}
 use Rattle.std.specs.List.{AllByRecursion, list_all}
 use Rattle.std.specs.Option.{is_some}

@@ -5,7 +5,7 @@ ghost use Rattle.std.specs.Option.{option_map};
 ghost use Rattle.qs_dict.specs.Dict.{term_at};
 ghost use Rattle.qs_ops.specs.Graph.{IsSeen};
 ghost use Rattle.qs_ops.specs.Row.{row_solution, cell_term, cell_at};
-ghost use Rattle.qs_ops.specs.Steps.{is_used, given, bound_number, bound_variable, bound_entry};
+ghost use Rattle.qs_ops.specs.inner.Steps.{is_used, given, bound_number, bound_variable, bound_entry};
 
 use crate::place::{Place, Seek};
 use crate::row::Row;

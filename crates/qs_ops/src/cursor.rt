@@ -6,7 +6,7 @@ ghost use Rattle.std.specs.List.{filter, filter_map};
 ghost use Rattle.qs_ops.specs.Coming.{GivesNext};
 ghost use Rattle.qs_ops.specs.Graph.{IsSeen, active_graph};
 ghost use Rattle.qs_ops.specs.Row.{row_solution};
-ghost use Rattle.qs_ops.specs.Steps.{IsOpen, bound_entry, rest_of, step};
+ghost use Rattle.qs_ops.specs.inner.Steps.{IsOpen, bound_entry, rest_of, step};
 ghost use Rattle.qs_ops.specs.Tests.{lets};
 ghost use Rattle.qs_terms.specs.Bag.{SameBag};
 

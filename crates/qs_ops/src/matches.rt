@@ -5,7 +5,7 @@ ghost use Rattle.std.specs.Option.{option_map};
 ghost use Rattle.qs_terms.specs.Bag.{SameBag};
 ghost use Rattle.qs_solutions.specs.Solution.{unbound};
 ghost use Rattle.qs_patterns.specs.Basic.{matches};
-ghost use Rattle.qs_eval.specs.Below.{slot_below, triple_below, all_below};
+ghost use Rattle.qs_eval.specs.inner.Below.{slot_below, triple_below, all_below};
 ghost use Rattle.qs_ops.specs.Coming.{GivesOne, coming, sifted};
 ghost use Rattle.qs_ops.specs.Graph.{IsSeen, active_graph};
 ghost use Rattle.qs_ops.specs.Row.{row_solution};

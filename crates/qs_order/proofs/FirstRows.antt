@@ -13,7 +13,7 @@ use Rattle.qs_values.specs.Sorting as of
 use Rattle.qs_order.proofs.Sorted.{sorted_rows}
 use Rattle.qs_order.proofs.Total.{lists_total}
 use Rattle.qs_order.proofs.Whole.{completed}
-use Rattle.qs_order.specs.Keyed.{IsKeyed, is_lower, row_of, AreLeast}
+use Rattle.qs_order.specs.inner.Keyed.{IsKeyed, is_lower, row_of, AreLeast}
 use Rattle.qs_order.specs.Order.{AreFirst, IsOrdered}
 use Rattle.qs_order.specs.declared.condition.OrderCondition.{OrderCondition}
 use Rattle.qs_order.specs.declared.keyed.Keyed.{Keyed}

@@ -11,8 +11,8 @@ use Rattle.qs_solutions.specs.Solution.{Solution}
 use Rattle.qs_terms.specs.Bag.{SameBag}
 use Rattle.qs_values.specs.Sorting as of
 use Rattle.qs_order.proofs.Total.{lists_total}
-use Rattle.qs_order.specs.Keyed.{IsKeyed, is_lower, row_of}
-use Rattle.qs_order.specs.Keys.{keys_of, compare_keys}
+use Rattle.qs_order.specs.inner.Keyed.{IsKeyed, is_lower, row_of}
+use Rattle.qs_order.specs.inner.Keys.{keys_of, compare_keys}
 use Rattle.qs_order.specs.Order.{compare, compare_by, IsOrdered}
 use Rattle.qs_order.specs.declared.condition.OrderCondition.{OrderCondition}
 use Rattle.qs_order.specs.declared.keyed.Keyed.{Keyed}

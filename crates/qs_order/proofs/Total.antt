@@ -6,7 +6,7 @@ use Rattle.std.specs.Prelude.{List, [], ◌∷◌}
 use Rattle.qs_tree.specs.declared.query.Direction.{Direction}
 use Rattle.qs_tree.specs.declared.query.Direction.TheVariants.{Ascending, Descending}
 use Rattle.qs_values.specs.Sorting as of
-use Rattle.qs_order.specs.Keys.{first_key, behind_first, compare_keys}
+use Rattle.qs_order.specs.inner.Keys.{first_key, behind_first, compare_keys}
 use Rattle.qs_order.specs.Order.{directed}
 use Rattle.qs_order.specs.declared.condition.OrderCondition.{OrderCondition}
 

@@ -1,3 +1,2 @@
 pub mod Order
-pub mod Keys
-pub mod Keyed
+pub mod inner

@@ -1,7 +1,7 @@
 //! The first solutions of an order.
 
 ghost use Rattle.std.specs.Prelude.{◌<◌, IfOk, length};
-ghost use Rattle.qs_order.specs.Keyed.{lent, AreLeast};
+ghost use Rattle.qs_order.specs.inner.Keyed.{lent, AreLeast};
 ghost use Rattle.qs_order.specs.Order.{AreFirst};
 
 use crate::condition::OrderCondition;

@@ -3,8 +3,8 @@
 ghost use Rattle.std.specs.Prelude.{◌≡◌, All, IfOk, map};
 ghost use Rattle.std.specs.List.Sorted.{IsPermutation, IsSortedBy};
 ghost use Rattle.qs_terms.specs.Bag.{SameBag};
-ghost use Rattle.qs_order.specs.Keyed.{IsKeyed, is_lower, lent, row_of};
-ghost use Rattle.qs_order.specs.Keys.{compare_keys};
+ghost use Rattle.qs_order.specs.inner.Keyed.{IsKeyed, is_lower, lent, row_of};
+ghost use Rattle.qs_order.specs.inner.Keys.{compare_keys};
 ghost use Rattle.qs_order.specs.Order.{IsOrdered};
 
 use crate::condition::OrderCondition;

@@ -1,7 +1,7 @@
 //! The keys of a solution, one for each condition.
 
 ghost use Rattle.std.specs.Prelude.{◌≡◌, IfOk, map, drop, length};
-ghost use Rattle.qs_order.specs.Keys as spec;
+ghost use Rattle.qs_order.specs.inner.Keys as spec;
 ghost use Rattle.qs_order.specs.Order as order;
 
 use crate::condition::OrderCondition;

@@ -1,1 +1,1 @@
-pub mod Nests
+pub mod inner

@@ -5,7 +5,7 @@ ghost use Rattle.qs_grammar.specs.Grammar.{read};
 ghost use Rattle.qs_grammar.specs.Notation.{opt};
 ghost use Rattle.qs_grammar.specs.Reading.{Reads};
 ghost use Rattle.qs_grammar.specs.Rule.{ref};
-ghost use Rattle.qs_parse_expressions.specs.Nests.{Nests};
+ghost use Rattle.qs_parse_expressions.specs.inner.Nests.{Nests};
 ghost use Rattle.qs_tree.specs.Rules as rules;
 ghost use Rattle.qs_tree.specs.Sparql as name;
 ghost use Rattle.qs_tree.specs.Table.{grammar};

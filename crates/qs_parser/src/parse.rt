@@ -1,7 +1,7 @@
 //! The tree of a list of tokens.
 
 ghost use Rattle.std.specs.Prelude.{IfErr, IfOk};
-ghost use Rattle.qs_grammar.specs.Contract.{ReadsAll, IsOnlyTree, IsRightFault};
+ghost use Rattle.qs_grammar.specs.inner.Contract.{ReadsAll, IsOnlyTree, IsRightFault};
 ghost use Rattle.qs_grammar.specs.Grammar.{Spells};
 ghost use Rattle.qs_tree.specs.Rules as rules;
 ghost use Rattle.qs_tree.specs.Table.{grammar};

@@ -15,7 +15,7 @@ use Rattle.qs_terms.proofs.SameTerm.{same_term-Decides}
 use Rattle.qs_ast.specs.declared.path.Path.{Path}
 use Rattle.qs_paths.specs.Pair.{Pair, pair, same_pair}
 use Rattle.qs_paths.specs.Steps.{Graph, composed, from_pair}
-use Rattle.qs_paths.specs.Found.{node_or_open, into_pair, right_at}
+use Rattle.qs_paths.specs.inner.Found.{node_or_open, into_pair, right_at}
 use Rattle.qs_paths.specs.Pairs.{AtEnds, in_sequence, pairs}
 use Rattle.qs_paths.proofs.Members.{in_mem, bool_same}
 use Rattle.qs_paths.proofs.Finds.{map-append}

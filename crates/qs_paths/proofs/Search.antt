@@ -13,7 +13,7 @@ use Rattle.qs_tree.specs.declared.path.Repetition.TheVariants.{ZeroOrOne, ZeroOr
 use Rattle.qs_paths.specs.Pair.{Pair}
 use Rattle.qs_paths.specs.Steps.{Graph}
 use Rattle.qs_paths.specs.Closure.{candidates, leads, repeats, ends, starts}
-use Rattle.qs_paths.specs.Found.{with_all, rights, begins, Holds}
+use Rattle.qs_paths.specs.inner.Found.{with_all, rights, begins, Holds}
 use Rattle.qs_paths.specs.Pairs.{AtEnds, is_step}
 use Rattle.qs_paths.specs.Walk.{IsWalk}
 use Rattle.qs_paths.proofs.Members.{Mem, mem_at, mem_left, mem_right, mem_split, mem_filter, mem_of_filter, mem_map, mem_of_map, in_mem, mem_in, or_cases, or_left, or_right, bool_same, distinct_filter, distinct_once, mem_once, mem_of_once, no_longer, same_bag, mem_with_new, with_new_has, distinct_with_new, extends_with_new, Extends}

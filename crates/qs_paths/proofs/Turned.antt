@@ -16,7 +16,7 @@ use Rattle.qs_paths.specs.Pair.{Pair, pair, swapped, same_pair}
 use Rattle.qs_paths.specs.Steps.{Graph, agrees}
 use Rattle.qs_paths.specs.Closure.{candidates, repeats, ends, starts, from_start, closure}
 use Rattle.qs_paths.specs.Edges.{lent}
-use Rattle.qs_paths.specs.Found.{turned}
+use Rattle.qs_paths.specs.inner.Found.{turned}
 use Rattle.qs_paths.specs.Pairs.{AtEnds, is_step, pairs}
 use Rattle.qs_paths.specs.Walk.{IsWalk, IsCount, Leads}
 use Rattle.qs_paths.proofs.Members.{Mem, mem_at, mem_filter, mem_of_filter, mem_map, mem_of_map, not_in, is_out, same_bag, distinct_filter, distinct_once}

@@ -7,7 +7,7 @@ ghost use Rattle.qs_terms.specs.Bag.{SameBag};
 ghost use Rattle.qs_terms.specs.Dataset.{Triple, nodes_of};
 ghost use Rattle.qs_terms.specs.Term.{same_term};
 ghost use Rattle.qs_paths.specs.Edges.{having, triple};
-ghost use Rattle.qs_paths.specs.Found.{node_or_open};
+ghost use Rattle.qs_paths.specs.inner.Found.{node_or_open};
 
 use qs_terms::Term;
 use std::alloc::{AllocError, Global};

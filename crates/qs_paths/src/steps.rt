@@ -9,7 +9,7 @@ ghost use Rattle.qs_terms.specs.declared.term.Term.TheVariants as term_is;
 ghost use Rattle.qs_paths.specs.Edges.{lent};
 ghost use Rattle.qs_paths.specs.Pair.{pair};
 ghost use Rattle.qs_paths.specs.Steps.{pair_of, along, against, from_pair};
-ghost use Rattle.qs_paths.specs.Found.{into_pair, kept};
+ghost use Rattle.qs_paths.specs.inner.Found.{into_pair, kept};
 
 use crate::pair::Pair;
 use crate::source::{Edge, Source};

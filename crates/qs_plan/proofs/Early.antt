@@ -26,7 +26,7 @@ use Rattle.qs_ops.specs.Row.{front}
 use Rattle.qs_ops.specs.Tests.{Extends, IsDropped, AreWanted}
 use Rattle.qs_groups.specs.Stages.{through}
 use Rattle.qs_groups.specs.declared.kept.Kept.{Kept}
-use Rattle.qs_plan.specs.Groups.{KeepsDropped}
+use Rattle.qs_plan.specs.inner.Groups.{KeepsDropped}
 use Rattle.qs_plan.specs.Some.{AreSome}
 use Rattle.qs_plan.proofs.Enough.{some_all}
 use Rattle.qs_plan.proofs.Fitted.{basic_is, found_rows, unit_matches}

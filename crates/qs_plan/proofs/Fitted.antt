@@ -14,7 +14,7 @@ use Rattle.qs_patterns.specs.declared.pattern.PathPattern.{PathPattern}
 use Rattle.qs_patterns.specs.Basic.{Graph, mentions, puts_into, terms_of, all_maps, matches, with_paths, basic}
 use Rattle.std.proofs.Math.Seq.{take-length}
 use Rattle.qs_patterns.specs.declared.pattern.TriplePattern.{TriplePattern}
-use Rattle.qs_eval.specs.Keyed.{is_short}
+use Rattle.qs_eval.specs.inner.Keyed.{is_short}
 use Rattle.qs_eval.proofs.Along.{paths_same}
 use Rattle.qs_eval.proofs.Joins.{unit_join}
 use Rattle.qs_ops.specs.Coming.{GivesOne}

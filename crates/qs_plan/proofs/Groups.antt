@@ -34,7 +34,7 @@ use Rattle.qs_groups.specs.declared.kept.Kept.{Kept}
 use Rattle.qs_groups.specs.declared.kept.Kept.TheVariants as kept
 use Rattle.qs_groups.specs.declared.stages.Waiting.{Waiting}
 use Rattle.qs_groups.proofs.Moves.{coming_before, coming_same}
-use Rattle.qs_plan.specs.Groups.{IsKept, Took, ahead}
+use Rattle.qs_plan.specs.inner.Groups.{IsKept, Took, ahead}
 use Rattle.qs_plan.specs.Some.{AreSome, is_enough, still}
 use Rattle.qs_plan.proofs.Fitted.{basic_is, unit_matches}
 use Rattle.qs_plan.proofs.Enough.{all_some, some_same}

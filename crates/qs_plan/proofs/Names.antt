@@ -20,7 +20,7 @@ use Rattle.qs_patterns.specs.Eval.{in_named, Found}
 use Rattle.qs_eval.proofs.Named.{is_named}
 use Rattle.qs_ops.specs.Graph.{named_graph, active_graph}
 use Rattle.qs_ops.proofs.Scanned.{number_there}
-use Rattle.qs_plan.specs.Graphs.{IsGraphNamed}
+use Rattle.qs_plan.specs.inner.Graphs.{IsGraphNamed}
 use Rattle.qs_plan.specs.Some.{AreSome}
 
 record Among (p : Statement → Bool) (xs : List Statement) : Type 0 where

@@ -25,7 +25,7 @@ use Rattle.qs_patterns.specs.declared.pattern.Pattern.{Pattern, fold-Pattern}
 use Rattle.qs_patterns.specs.declared.pattern.Pattern.TheOpen.{Pattern-F, Basic, Group, Union as Unite, Graph, EachGraph, Values}
 use Rattle.qs_eval.proofs.Named.{is_named as is_named_by}
 use Rattle.qs_ops.specs.Graph.{active_graph, is_named as has_name}
-use Rattle.qs_plan.specs.Graphs.{IsGraphNamed}
+use Rattle.qs_plan.specs.inner.Graphs.{IsGraphNamed}
 use Rattle.qs_plan.specs.Some.{AreSome}
 use Rattle.qs_plan.specs.Seen.{seen, seen_of}
 

@@ -1,4 +1,3 @@
-pub mod Graphs
-pub mod Groups
 pub mod Seen
 pub mod Some
+pub mod inner

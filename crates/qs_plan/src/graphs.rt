@@ -3,7 +3,7 @@
 ghost use Rattle.std.specs.Prelude.{◌≡◌, Some, IfOk};
 ghost use Rattle.qs_dict.specs.Dict.{term_at};
 ghost use Rattle.qs_store.specs.Graphs.{AreGraphs, IsGraph};
-ghost use Rattle.qs_plan.specs.Graphs.{IsGraphNamed};
+ghost use Rattle.qs_plan.specs.inner.Graphs.{IsGraphNamed};
 
 use qs_store::{Active, View};
 use qs_terms::Term;

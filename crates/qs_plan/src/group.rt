@@ -11,7 +11,7 @@ ghost use Rattle.qs_patterns.specs.declared.pattern.Step.TheVariants.{Join};
 ghost use Rattle.qs_groups.specs.Stages.{before, coming, kept_of, through};
 ghost use Rattle.qs_ops.specs.Graph.{active_graph};
 ghost use Rattle.qs_ops.specs.Row.{front};
-ghost use Rattle.qs_plan.specs.Groups.{IsKept, KeepsDropped, Took, ahead};
+ghost use Rattle.qs_plan.specs.inner.Groups.{IsKept, KeepsDropped, Took, ahead};
 ghost use Rattle.qs_plan.specs.Some.{AreSome};
 
 use crate::basic::is_enough;

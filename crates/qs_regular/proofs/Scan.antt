@@ -4,7 +4,7 @@ use Rattle.std.proofs.lemmas.Str.{chars_past_char, chars-nil, length-encode}
 use Rattle.std.proofs.lemmas.List.{nil_from_length}
 use Rattle.std.specs.Char.{len_utf8}
 use Rattle.qs_regular.specs.Longest.{Table, advance, here, longer, best}
-use Rattle.qs_regular.specs.Scan.{hold, later}
+use Rattle.qs_regular.specs.inner.Scan.{hold, later}
 
 pub best-dead : (K : Type 0) (cs : List ℕ) → best {K = K} [] cs ≡ None
 best-dead K [] = refl

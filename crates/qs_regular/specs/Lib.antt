@@ -2,5 +2,4 @@ pub mod Character
 pub mod Form
 pub mod Derivative
 pub mod Longest
-pub mod Scan
-pub mod HexDigits
+pub mod inner

@@ -1,6 +1,6 @@
 //! One more character of an escape.
 
-ghost use Rattle.qs_regular.specs.HexDigits.{IsPushed};
+ghost use Rattle.qs_regular.specs.inner.HexDigits.{IsPushed};
 
 use crate::hex_digits::HexDigits;
 

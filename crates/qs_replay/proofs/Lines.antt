@@ -10,7 +10,7 @@ use Rattle.std.proofs.lemmas.Str.Parse.{digit_at}
 use Rattle.hex.specs.Hex.{decode_of}
 use Rattle.qs_replay.specs.Script.{IsId, TellsEvent}
 use Rattle.qs_service.specs.Step.{Join, Piece, End}
-use Rattle.qs_replay.specs.Told.{IsPiece}
+use Rattle.qs_replay.specs.inner.Told.{IsPiece}
 
 -- digits are a text
 pub no_text : (digits : List ℕ) → (¬ IsUtf8 digits) → (id : ℕ) → ¬ IsId digits id

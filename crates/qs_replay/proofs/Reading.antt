@@ -7,7 +7,7 @@ use Rattle.std.proofs.lemmas.List.Elements.{All-nil, All-cons}
 use Rattle.qs_replay.specs.Happenings.{event_of}
 use Rattle.qs_replay.specs.Script.{IsFirstLine, AreLines, IsLine, TellsEvent, IsScript, IsOtherLine, IsScriptFault}
 use Rattle.qs_service.specs.Step.{Event}
-use Rattle.qs_replay.specs.Told.{IsReadTo, IsToldAt}
+use Rattle.qs_replay.specs.inner.Told.{IsReadTo, IsToldAt}
 use Rattle.qs_replay.specs.declared.happening.Happening.{Happening}
 use Rattle.qs_replay.specs.declared.script.ScriptFault.{ScriptFault}
 use Rattle.qs_replay.specs.declared.script.ScriptFault.TheVariants.{Line, Memory}

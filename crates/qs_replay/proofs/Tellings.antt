@@ -11,7 +11,7 @@ use Rattle.qs_service.specs.Step.{Event, Step}
 use Rattle.qs_service.specs.declared.service.ServiceFault.{ServiceFault}
 use Rattle.qs_replay.specs.Happenings.{event_of}
 use Rattle.qs_replay.specs.Replay.{told, Tells, reply_line, made_line}
-use Rattle.qs_replay.specs.Told.{HadReply}
+use Rattle.qs_replay.specs.inner.Told.{HadReply}
 use Rattle.qs_replay.specs.declared.happening.Happening.{Happening}
 use Rattle.qs_replay.specs.declared.happening.Happening.TheVariants as happening
 use Rattle.qs_replay.proofs.Digits.{hex_of_parts}

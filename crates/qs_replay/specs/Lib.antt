@@ -2,4 +2,4 @@ pub mod Script
 pub mod Happenings
 pub mod Replay
 pub mod Replayed
-pub mod Told
+pub mod inner

@@ -2,7 +2,7 @@
 
 ghost use Rattle.std.specs.Prelude.{◌≡◌, ◌≢◌, ℕ, List, Ok, IfOk, MatchOption};
 ghost use Rattle.hex.specs.Hex.{decode_of};
-ghost use Rattle.qs_replay.specs.Told.{IsPiece, IsToldBy};
+ghost use Rattle.qs_replay.specs.inner.Told.{IsPiece, IsToldBy};
 
 use crate::happening::Happening;
 use crate::parts::{behind, id_of, parted};

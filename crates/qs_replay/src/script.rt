@@ -3,7 +3,7 @@
 ghost use Rattle.std.specs.Prelude.{◌≡◌, map, MatchResult};
 ghost use Rattle.qs_replay.specs.Happenings.{event_of};
 ghost use Rattle.qs_replay.specs.Script.{IsScript, IsScriptFault};
-ghost use Rattle.qs_replay.specs.Told.{IsToldAt};
+ghost use Rattle.qs_replay.specs.inner.Told.{IsToldAt};
 ghost use Rattle.qs_replay.specs.declared.script.ScriptFault.TheVariants.{Memory};
 
 use crate::happening::Happening;

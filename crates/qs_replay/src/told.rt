@@ -7,7 +7,7 @@ ghost use Rattle.qs_service.specs.Meaning.{sparql};
 ghost use Rattle.qs_service.specs.Step.{Step};
 ghost use Rattle.qs_replay.specs.Happenings.{event_of};
 ghost use Rattle.qs_replay.specs.Replay as spec;
-ghost use Rattle.qs_replay.specs.Told.{HadReply};
+ghost use Rattle.qs_replay.specs.inner.Told.{HadReply};
 
 use crate::happening::Happening;
 use qs_service::{Reply, Service, ServiceFault};

@@ -12,7 +12,7 @@ use Rattle.serde_json.specs.Data.{Data, Members, no_members, member, put}
 use Rattle.qs_terms.specs.declared.term.Term.{Term}
 use Rattle.qs_solutions.specs.Solution.{Solution, term_at}
 use Rattle.qs_results.specs.Json.{term_data, with_binding, with_bindings}
-use Rattle.qs_results.specs.Columns.{with_front, members_of}
+use Rattle.qs_results.specs.inner.Columns.{with_front, members_of}
 
 abbrev Columns : Type 0
 Columns = List (List ℕ × ℕ)

@@ -7,7 +7,7 @@ use Rattle.serde_json.specs.Data.{object}
 use Rattle.serde_json.specs.Written.{compact_text, members_outline}
 use Rattle.serde_json.proofs.Texts.{print-outline}
 use Rattle.qs_solutions.specs.Solution.{Solution}
-use Rattle.qs_results.specs.Columns.{members_of}
+use Rattle.qs_results.specs.inner.Columns.{members_of}
 
 none_left : (cs : List (List ℕ × ℕ)) (i : ℕ) → length cs ≤ i → drop i cs ≡ []
 none_left [] zero l = refl

@@ -1,4 +1,4 @@
 pub mod Json
-pub mod Columns
 pub mod Triples
 pub mod Lines
+pub mod inner

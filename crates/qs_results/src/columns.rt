@@ -6,7 +6,7 @@ ghost use Rattle.std.specs.Cmp.Lexicographic.{slice_cmp};
 ghost use Rattle.std.specs.Option.{ForSome};
 ghost use Rattle.std.specs.Ordering.{nat_cmp};
 ghost use Rattle.serde_json.specs.Data.{no_members};
-ghost use Rattle.qs_results.specs.Columns.{members_of, AreColumns};
+ghost use Rattle.qs_results.specs.inner.Columns.{members_of, AreColumns};
 ghost use Rattle.qs_results.specs.Json.{with_bindings};
 
 use qs_solutions::Row;

@@ -4,7 +4,7 @@ ghost use Rattle.std.specs.Prelude.{◌≡◌, ◌++◌, [], ◌∷◌, Some, No
 ghost use Rattle.std.specs.Option.{option_copied};
 ghost use Rattle.json.specs.Token.{key, string};
 ghost use Rattle.serde_json.specs.Data.{no_members, object};
-ghost use Rattle.qs_results.specs.Columns.{tokens_of, cell_tokens};
+ghost use Rattle.qs_results.specs.inner.Columns.{tokens_of, cell_tokens};
 ghost use Rattle.qs_results.specs.Json.{literal_members, term_data, typed_value};
 
 use json::Writer;

@@ -14,7 +14,7 @@ use Rattle.qs_order.specs.declared.condition.OrderCondition.{OrderCondition}
 use Rattle.qs_plan.specs.Some.{AreSome, is_enough}
 use Rattle.qs_answer.specs.declared.answer.Answer.{Answer}
 use Rattle.qs_template.specs.Instances.{made}
-use Rattle.qs_select.specs.InOrder.{AllowsMore, ByLimit, AreEnough, AreFew, IsFront, Suffices, SufficesToSelect, IsRowsOf, IsRows, IsGraphOf, bounded}
+use Rattle.qs_select.specs.inner.InOrder.{AllowsMore, ByLimit, AreEnough, AreFew, IsFront, Suffices, SufficesToSelect, IsRowsOf, IsRows, IsGraphOf, bounded}
 use Rattle.qs_select.specs.Outcome.{IsBuilt, IsConstructed}
 use Rattle.qs_select.specs.Sequence.{limited, sliced, once_where, listed_rows, has_solution, count}
 use Rattle.qs_select.specs.declared.construction.Construction.{Construction}

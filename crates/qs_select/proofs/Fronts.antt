@@ -10,7 +10,7 @@ use Rattle.qs_answer.specs.declared.answer.Answer.{Answer}
 use Rattle.qs_order.specs.Order.{IsOrdered, AreFirst}
 use Rattle.qs_order.specs.declared.condition.OrderCondition.{OrderCondition}
 use Rattle.qs_template.specs.Instances.{made}
-use Rattle.qs_select.specs.InOrder.{IsFront, Suffices, SufficesToSelect, IsRowsOf, IsRows, IsGraphOf}
+use Rattle.qs_select.specs.inner.InOrder.{IsFront, Suffices, SufficesToSelect, IsRowsOf, IsRows, IsGraphOf}
 use Rattle.qs_select.specs.Outcome.{IsBuilt, IsConstructed}
 use Rattle.qs_select.specs.Sequence.{limited, sliced, once_where, listed_rows}
 use Rattle.qs_select.specs.declared.construction.Construction.{Construction}

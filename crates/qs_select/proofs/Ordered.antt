@@ -16,11 +16,11 @@ use Rattle.qs_answer.specs.declared.answer.Answer.TheVariants.{Solutions}
 use Rattle.qs_ast.specs.declared.query.Query.{Query}
 use Rattle.qs_scope.specs.Names.{Name}
 use Rattle.qs_algebra.specs.declared.named.NamedPattern.{NamedPattern}
-use Rattle.qs_eval.specs.Lent.{lent}
+use Rattle.qs_eval.specs.inner.Lent.{lent}
 use Rattle.qs_order.specs.Order.{IsOrdered}
 use Rattle.qs_order.specs.declared.condition.OrderCondition.{OrderCondition}
 use Rattle.qs_template.specs.Instances.{made}
-use Rattle.qs_select.specs.InOrder.{IsRowsOf, IsRows, IsGraphOf, bounded, AreFew, with_vars}
+use Rattle.qs_select.specs.inner.InOrder.{IsRowsOf, IsRows, IsGraphOf, bounded, AreFew, with_vars}
 use Rattle.qs_select.specs.Outcome.{IsSelected, IsBuilt, IsConstructed, IsAnswered, IsAllSolutions, IsOutcomeOfQuery}
 use Rattle.qs_select.specs.Request.{request}
 use Rattle.qs_select.specs.Sequence.{whole, limited, sliced, listed_rows, IsInOrder, count, has_solution}

@@ -4,4 +4,4 @@ pub mod Construction
 pub mod Request
 pub mod Sequence
 pub mod Outcome
-pub mod InOrder
+pub mod inner

@@ -2,14 +2,14 @@
 
 ghost use Rattle.std.specs.Prelude.{◌≡◌, IfOk, Ok};
 ghost use Rattle.std.specs.Option.{option_copied};
-ghost use Rattle.qs_eval.specs.Lent.{lent};
+ghost use Rattle.qs_eval.specs.inner.Lent.{lent};
 ghost use Rattle.qs_terms.specs.Bag.{SameBag, once};
 ghost use Rattle.qs_terms.specs.Dataset.{graph_of};
 ghost use Rattle.qs_terms.specs.Outcome.{OneOrWantOfMemory};
 ghost use Rattle.qs_terms.specs.Statement.{same_statement};
 ghost use Rattle.qs_plan.specs.Seen.{seen, seen_of};
 ghost use Rattle.qs_plan.specs.Some.{AreSome};
-ghost use Rattle.qs_select.specs.InOrder as in_order;
+ghost use Rattle.qs_select.specs.inner.InOrder as in_order;
 ghost use Rattle.qs_select.specs.Outcome.{IsSelected, IsBuilt, IsConstructed, IsAsked, IsAllSolutions, IsOutcomeOfQuery};
 ghost use Rattle.qs_select.specs.Sequence.{dataset_of, whole};
 

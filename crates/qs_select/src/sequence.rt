@@ -3,8 +3,8 @@
 
 ghost use Rattle.std.specs.Prelude.{◌≡◌, true, length, map, take, drop, min, IfOk, IfSome};
 ghost use Rattle.qs_solutions.specs.Solution.{projected};
-ghost use Rattle.qs_eval.specs.Lent.{lent};
-ghost use Rattle.qs_select.specs.InOrder.{AllowsMore, AreEnough, ByLimit, IsFront, Suffices, SufficesToSelect};
+ghost use Rattle.qs_eval.specs.inner.Lent.{lent};
+ghost use Rattle.qs_select.specs.inner.InOrder.{AllowsMore, AreEnough, ByLimit, IsFront, Suffices, SufficesToSelect};
 ghost use Rattle.qs_select.specs.Sequence as spec;
 
 use crate::distinct::firsts;

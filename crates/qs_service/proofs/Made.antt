@@ -9,7 +9,7 @@ use Rattle.qs_update.specs.Request.{Bounds}
 use Rattle.qs_service.specs.Meaning.{Meaning}
 use Rattle.qs_service.specs.Message.{Message}
 use Rattle.qs_service.specs.Carried.{Carries, answer_reply, fault_reply}
-use Rattle.qs_service.specs.Talk.{CarriesOrMemory, MadeOf}
+use Rattle.qs_service.specs.inner.Talk.{CarriesOrMemory, MadeOf}
 
 -- a request that left what is stored
 pub carries_or : {E : Type 0} (m : Meaning) (bounds : Bounds) (old : Content) (request : Request) (made : Result Message E) (reply : Message)

@@ -12,7 +12,7 @@ use Rattle.qs_store.specs.Content.{Content, Held}
 use Rattle.qs_store.specs.Same.{SameSet}
 use Rattle.qs_update.specs.Outcome as update
 use Rattle.qs_update.specs.Request.{Bounds, bounds_of}
-use Rattle.qs_service.specs.Changes.{Changes}
+use Rattle.qs_service.specs.inner.Changes.{Changes}
 use Rattle.qs_service.specs.Meaning.{sparql}
 
 -- what a text is answered with over the quads of a store is an answer over what is stored

@@ -4,7 +4,7 @@ use Rattle.std.specs.List.{position_or_len, remove}
 use Rattle.std.proofs.lemmas.List.Sums.{position_or_len_is}
 use Rattle.std.proofs.lemmas.Bool.{cond-true, cond-false}
 use Rattle.qs_service.specs.State.{Joined, exchange_of, put_exchange, without_id}
-use Rattle.qs_service.specs.Table.{has_id, IsPlace}
+use Rattle.qs_service.specs.inner.Table.{has_id, IsPlace}
 
 pub none_has : (id : ℕ) (cs : List Joined) (n : ℕ) → length cs ≤ n → ((k : ℕ) (d : Joined) → k < n → has_id id (get_or cs k d) ≡ false)
     → length cs ≡ position_or_len (has_id id) cs

@@ -1,5 +1,4 @@
 -- How a reply is kept.
--- (Inner: it serves proofs, and no promise of the product is read by it.)
 use Rattle.std.specs.Prelude.{string_bytes}
 use Rattle.qs_service.specs.Message.{Message, fixed_message}
 use Rattle.qs_service.specs.declared.reply.Bytes.{Bytes}

@@ -4,7 +4,5 @@ pub mod Carried
 pub mod State
 pub mod Step
 pub mod Serve
-pub mod Changes
 pub mod Bytes
-pub mod Table
-pub mod Talk
+pub mod inner

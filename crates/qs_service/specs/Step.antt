@@ -57,14 +57,6 @@ Step m old (End id) (Some UnknownId) new = (exchange_of id old.joined ≡ None) 
 Step m old (End id) (Some Busy) new = ⊥
 Step m old (End id) (Some KnownId) new = ⊥
 
--- one step after another
-abbrev pub Run : Meaning → State → List Event → List (Option ServiceFault) → State → Type 0
-Run m old [] [] new = new ≡ old
-Run m old (event ∷ events) (outcome ∷ outcomes) new =
-    (mid : State) × Step m old event outcome mid × Run m mid events outcomes new
-Run m old [] (outcome ∷ outcomes) new = ⊥
-Run m old (event ∷ events) [] new = ⊥
-
 -- the bytes that are taken of the reply of that id
 abbrev pub TakesBytes : State → ℕ → ℕ → Result (Bor (List ℕ)) ServiceFault → Type 0
 TakesBytes old id n (Ok bytes) = (exchange : Exchange) × (exchange_of id old.joined ≡ Some exchange) × (bytes.now ≡ next_bytes n exchange)

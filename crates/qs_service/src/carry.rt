@@ -10,7 +10,7 @@ ghost use Rattle.qs_results.specs.Triples.{is_graph, ntriples_of};
 ghost use Rattle.qs_service.specs.Carried.{Carries, answer_reply, fault_reply};
 ghost use Rattle.qs_service.specs.Meaning.{sparql};
 ghost use Rattle.qs_service.specs.Message.{message};
-ghost use Rattle.qs_service.specs.Talk.{CarriesOrMemory, MadeOf};
+ghost use Rattle.qs_service.specs.inner.Talk.{CarriesOrMemory, MadeOf};
 ghost use Rattle.qs_update.specs.Request.{Bounds, bounds_of};
 
 use crate::meaning::{answer_over, dump, update_over};

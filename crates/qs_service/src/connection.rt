@@ -6,7 +6,7 @@ ghost use Rattle.qs_service.specs.Meaning.{sparql};
 ghost use Rattle.qs_service.specs.State as state;
 ghost use Rattle.qs_service.specs.State.{next_bytes, next_of, with_taken, reply_in};
 ghost use Rattle.qs_service.specs.Step.{Hears};
-ghost use Rattle.qs_service.specs.Talk.{part_of, IsPart};
+ghost use Rattle.qs_service.specs.inner.Talk.{part_of, IsPart};
 ghost use Rattle.qs_update.specs.Request.{bounds_of};
 
 use crate::part::Part;
@@ -27,7 +27,7 @@ pub struct Connection {
 
 impl Model for Connection {
     ghost use Rattle.qs_service.specs.State.{Joined};
-    ghost use Rattle.qs_service.specs.Talk.{exchange_in, IsTalk};
+    ghost use Rattle.qs_service.specs.inner.Talk.{exchange_in, IsTalk};
 
     ghost Value = { Joined };
 

@@ -1,7 +1,7 @@
 //! What requests mean, carried out over the store.
 
 ghost use Rattle.std.specs.Prelude.{◌≡◌, IfOk, string_bytes};
-ghost use Rattle.qs_service.specs.Changes.{Changes};
+ghost use Rattle.qs_service.specs.inner.Changes.{Changes};
 ghost use Rattle.qs_service.specs.Meaning.{sparql};
 ghost use Rattle.qs_store.specs.Same.{SameSet};
 ghost use Rattle.qs_terms.specs.Outcome.{OneOrWantOfMemory};

@@ -38,7 +38,7 @@ pub struct Service {
 
 impl Model for Service {
     ghost use Rattle.qs_service.specs.State.{State};
-    ghost use Rattle.qs_service.specs.Table.{IsTable};
+    ghost use Rattle.qs_service.specs.inner.Table.{IsTable};
     ghost use Rattle.qs_update.specs.Request.{bounds_of};
 
     ghost Value = { State };

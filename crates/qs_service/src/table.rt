@@ -1,6 +1,6 @@
 //! Where a connection stands.
 
-ghost use Rattle.qs_service.specs.Table.{IsPlace};
+ghost use Rattle.qs_service.specs.inner.Table.{IsPlace};
 
 use crate::connection::Connection;
 

@@ -2,7 +2,7 @@
 
 ghost use Rattle.std.specs.Prelude.{◌≡◌};
 ghost use Rattle.qs_service.specs.Meaning.{sparql};
-ghost use Rattle.qs_service.specs.Talk.{IsReading, bytes_read, HearsOn};
+ghost use Rattle.qs_service.specs.inner.Talk.{IsReading, bytes_read, HearsOn};
 ghost use Rattle.qs_update.specs.Request.{bounds_of};
 
 use crate::carry::carry_out;

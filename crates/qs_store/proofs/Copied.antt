@@ -17,12 +17,12 @@ use Rattle.qs_index.specs.Agreeing.{agrees}
 use Rattle.qs_index.specs.Entries.{HaveFour}
 use Rattle.qs_index.specs.Graph.{graph_of}
 use Rattle.qs_store.specs.Change.{IsChanged}
-use Rattle.qs_store.specs.Copied.{AreCopies, AreInGraphs, AreNamed, AreEntriesOf}
+use Rattle.qs_store.specs.inner.Copied.{AreCopies, AreInGraphs, AreNamed, AreEntriesOf}
 use Rattle.qs_store.specs.Entries.{said, statement_of, graph_number, AreEntries, IsEntryOf}
-use Rattle.qs_store.specs.Holding.{HasGraph, AreGraphsOf}
+use Rattle.qs_store.specs.inner.Holding.{HasGraph, AreGraphsOf}
 use Rattle.qs_store.specs.Same.{SameSet}
 use Rattle.qs_store.specs.Scans.{triple_of, AreTriplesOf}
-use Rattle.qs_store.specs.Store.{IsFront}
+use Rattle.qs_store.specs.inner.Store.{IsFront}
 use Rattle.qs_store.specs.WholeGraphs.{is_in, is_named, in_graph, exists, put_into, copies, removed_by}
 use Rattle.qs_store.specs.declared.removal.Removal.{Removal}
 use Rattle.qs_store.specs.declared.graphs.Graphs.TheVariants.{One}

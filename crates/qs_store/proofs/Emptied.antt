@@ -3,9 +3,9 @@ use Rattle.std.proofs.Common.{◌≡◌, ℕ, ◌≤◌, List, [], refl, sym, su
 use Rattle.qs_terms.specs.Statement.{Statement}
 use Rattle.qs_terms.specs.declared.term.Term.{Term}
 use Rattle.qs_store.specs.Change.{IsChanged}
-use Rattle.qs_store.specs.Copied.{AreEntriesOf}
+use Rattle.qs_store.specs.inner.Copied.{AreEntriesOf}
 use Rattle.qs_store.specs.Entries.{AreEntries, said}
-use Rattle.qs_store.specs.Store.{IsStore}
+use Rattle.qs_store.specs.inner.Store.{IsStore}
 use Rattle.qs_store.proofs.Copied.{changed_by, same_entries}
 use Rattle.qs_store.proofs.Members.{Entries}
 use Rattle.qs_store.proofs.Sets.{set_refl}

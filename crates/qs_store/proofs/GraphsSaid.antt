@@ -10,7 +10,7 @@ use Rattle.qs_index.specs.Entries.{HaveFour}
 use Rattle.qs_index.specs.Graph.{graph_of}
 use Rattle.qs_store.specs.Entries.{said, statement_of, term_or, AreEntries, IsEntryOf}
 use Rattle.qs_store.specs.Graphs.{IsGraph, AreGraphs}
-use Rattle.qs_store.specs.Holding.{HasGraph, AreGraphsOf}
+use Rattle.qs_store.specs.inner.Holding.{HasGraph, AreGraphsOf}
 use Rattle.qs_store.proofs.Entries.{in_use, member_of_said, said_has, said_front, Distinct-front}
 use Rattle.qs_store.proofs.Stored.{content}
 use Rattle.qs_store.proofs.TriplesSaid.{same_number}

@@ -10,7 +10,7 @@ use Rattle.std.proofs.lemmas.List.Elements.{All-contains, Contains-get_or, Conta
 use Rattle.qs_index.specs.Agreeing.{agrees}
 use Rattle.qs_index.specs.Entries.{HaveFour}
 use Rattle.qs_index.specs.Graph.{graph_of, IsNextGraph}
-use Rattle.qs_store.specs.Holding.{HasGraph, IsNextIn, AreWithin, AreGraphsUpTo, AreGraphsOf}
+use Rattle.qs_store.specs.inner.Holding.{HasGraph, IsNextIn, AreWithin, AreGraphsUpTo, AreGraphsOf}
 use Rattle.qs_store.specs.Layers.{drafted}
 use Rattle.qs_store.specs.Scans.{AreTriplesOf, triple_of}
 use Rattle.qs_store.specs.declared.graphs.Graphs.TheVariants.{One}

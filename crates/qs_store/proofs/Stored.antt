@@ -22,7 +22,7 @@ use Rattle.qs_dict.specs.Dict.{term_at}
 use Rattle.qs_store.specs.Content.{Content, HasKnownTerms, KnowsItsTerms, AreLawful}
 use Rattle.qs_store.specs.Entries.{AreEntries, IsEntryOf, said, statement_of, entry_of, term_or}
 use Rattle.qs_store.specs.Same.{SameSet}
-use Rattle.qs_store.specs.Store.{IsStore, IsFront}
+use Rattle.qs_store.specs.inner.Store.{IsStore, IsFront}
 use Rattle.qs_store.proofs.Members.{Entries, nothing, here, there, head_or_tail, any_if}
 use Rattle.qs_store.proofs.Entries.{in_use, member_of_said, entry_found, said_more, still_said, whole_entries, said_front, twice_front, Distinct-front}
 use Rattle.qs_store.proofs.Terms.{front_keeps, front_length, front_take, front_take_less}

@@ -25,7 +25,7 @@ use Rattle.qs_store.specs.Change.{terms_of, with_terms, with_terms_of, IsFullAt}
 use Rattle.qs_store.proofs.Entries.{four_some, number_in_use, Distinct-front}
 use Rattle.qs_store.specs.Entries.{entry_of, graph_number}
 use Rattle.qs_store.specs.Content.{AreLawful}
-use Rattle.qs_store.specs.Store.{IsFront}
+use Rattle.qs_store.specs.inner.Store.{IsFront}
 use Rattle.std.proofs.Common.{IsTrue, ⊎_elim}
 use Rattle.std.specs.List.{Contains}
 use Rattle.std.proofs.lemmas.List.Elements.{Contains-append_cases}

@@ -1,5 +1,4 @@
 -- How a fault of the dictionary is told.
--- (Inner: it serves proofs, and no promise of the product is read by it.)
 use Rattle.qs_dict.specs.declared.fault.DictFault.{DictFault}
 use Rattle.qs_store.specs.declared.fault.StoreFault.{StoreFault}
 use Rattle.qs_store.specs.declared.fault.StoreFault.TheVariants as store_fault

@@ -1,5 +1,4 @@
 -- The entries of a store, and those that a draft of it adds and removes.
--- (Inner: it serves proofs, and no promise of the product is read by it.)
 use Rattle.std.specs.Str.{bytes_eq}
 use Rattle.std.specs.Prelude.{◌≡◌, ℕ, ◌≤◌, Bool, List, ◌++◌, length, not}
 use Rattle.std.specs.List.{Contains, filter, list_any}

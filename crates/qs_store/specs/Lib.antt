@@ -4,11 +4,9 @@ pub mod Layers
 pub mod Content
 pub mod Change
 pub mod Fault
-pub mod Store
 pub mod Triples
 pub mod Scans
 pub mod Sources
 pub mod WholeGraphs
 pub mod Graphs
-pub mod Holding
-pub mod Copied
+pub mod inner

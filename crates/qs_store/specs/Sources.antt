@@ -1,5 +1,4 @@
 -- What the source of a scan has still to hand out.
--- (Inner: it serves proofs, and no promise of the product is read by it.)
 use Rattle.std.specs.Prelude.{ℕ, List, []}
 use Rattle.qs_store.specs.declared.triples.Source.{Source}
 use Rattle.qs_store.specs.declared.triples.Source.TheVariants.{Nothing, Stored, Drafted}

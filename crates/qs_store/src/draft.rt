@@ -14,7 +14,7 @@ ghost use Rattle.qs_store.specs.Content.{Content, Held, AreLawful, IsContent, Kn
 ghost use Rattle.qs_store.specs.Entries.{said, AreEntries, IsSaidBehind};
 ghost use Rattle.qs_store.specs.Graphs.{AreGraphs};
 ghost use Rattle.qs_store.specs.Same.{SameSet};
-ghost use Rattle.qs_store.specs.Store.{IsFront};
+ghost use Rattle.qs_store.specs.inner.Store.{IsFront};
 ghost use Rattle.qs_store.specs.Triples.{AreTriples};
 ghost use Rattle.qs_store.specs.WholeGraphs.{copies, exists, in_graph, is_named, removed_by};
 ghost use Rattle.qs_store.specs.declared.default_graph.DefaultGraph.TheVariants.{Stored};

@@ -2,7 +2,7 @@
 
 ghost use Rattle.std.specs.Prelude.{◌≡◌, ◌↔◌, ◌++◌, IsTrue, IfOk, IfSome, IfNone};
 ghost use Rattle.qs_index.specs.Entries.{HaveFour};
-ghost use Rattle.qs_store.specs.Holding.{AreGraphsOf, AreWithin, HasGraph, IsNextIn};
+ghost use Rattle.qs_store.specs.inner.Holding.{AreGraphsOf, AreWithin, HasGraph, IsNextIn};
 ghost use Rattle.qs_store.specs.Layers.{IsDraft, drafted};
 
 use crate::graphs::Graphs;

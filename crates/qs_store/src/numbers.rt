@@ -10,7 +10,7 @@ ghost use Rattle.qs_dict.specs.Dict.{IsDictionary, number_of};
 ghost use Rattle.qs_store.specs.Change.{terms_of, with_terms, with_terms_of, IsFullAt};
 ghost use Rattle.qs_store.specs.Entries.{entry_of, graph_number};
 ghost use Rattle.qs_store.specs.Content.{AreLawful};
-ghost use Rattle.qs_store.specs.Store.{IsFront};
+ghost use Rattle.qs_store.specs.inner.Store.{IsFront};
 
 use crate::fault::StoreFault;
 use qs_dict::Dict;

@@ -12,8 +12,8 @@ use Rattle.qs_ast.specs.declared.term.BlankNode.{BlankNode}
 use Rattle.qs_ast.specs.declared.term.BlankNode.TheVariants.{Label, Anonymous}
 use Rattle.qs_scope.specs.Names.{Name}
 use Rattle.qs_template.specs.Blanks.{same_blank, number_in}
-use Rattle.qs_template.specs.Lent.{lent}
-use Rattle.qs_template.specs.Numbered.{by_text, AreNumbered}
+use Rattle.qs_template.specs.inner.Lent.{lent}
+use Rattle.qs_template.specs.inner.Numbered.{by_text, AreNumbered}
 
 pub same_exact : (a b : BlankNode) → same_blank a b ≡ true → a ≡ b
 same_exact (Label a) (Label b) h = ap Label ((bytes_decides a b).0 h)

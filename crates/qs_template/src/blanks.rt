@@ -26,8 +26,8 @@ impl<'a> Model for Blanks<'a> {
     ghost use Rattle.std.specs.BTreeMap.{get};
     ghost use Rattle.std.specs.Ordering.{nat_cmp};
     ghost use Rattle.qs_ast.specs.declared.term.BlankNode.{BlankNode};
-    ghost use Rattle.qs_template.specs.Lent.{lent};
-    ghost use Rattle.qs_template.specs.Numbered.{by_text, AreNumbered};
+    ghost use Rattle.qs_template.specs.inner.Lent.{lent};
+    ghost use Rattle.qs_template.specs.inner.Numbered.{by_text, AreNumbered};
 
     ghost Value = { List BlankNode };
 

@@ -5,7 +5,7 @@ ghost use Rattle.std.specs.Option.{option_copied};
 ghost use Rattle.qs_terms.specs.Outcome.{OrWantOfMemory};
 ghost use Rattle.qs_terms.specs.declared.fault.QFault.TheVariants.{Full};
 ghost use Rattle.qs_template.specs.Instances as spec;
-ghost use Rattle.qs_template.specs.Lent.{lent, listed};
+ghost use Rattle.qs_template.specs.inner.Lent.{lent, listed};
 
 use crate::template::{QuadTemplate, Slot, Template};
 use qs_solutions::Row;

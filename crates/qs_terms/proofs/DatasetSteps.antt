@@ -7,7 +7,7 @@ use Rattle.qs_terms.specs.Term.{same_term}
 use Rattle.qs_terms.specs.Statement.{Statement, same_graph}
 use Rattle.qs_terms.specs.Bag.{once, with_new}
 use Rattle.qs_terms.specs.Dataset.{triple_of, graph_of, names_of, nodes_of, ends_of}
-use Rattle.qs_terms.specs.OneMore.{with_name, with_ends}
+use Rattle.qs_terms.specs.inner.OneMore.{with_name, with_ends}
 use Rattle.qs_terms.proofs.SameTerm.{same_term-Decides}
 use Rattle.qs_terms.proofs.FirstOnes.{once_with}
 

@@ -1,12 +1,11 @@
 pub mod Iri
 pub mod Tag
 pub mod Literal
-pub mod Datatype
 pub mod OrWantOf
 pub mod Outcome
 pub mod Term
 pub mod Statement
 pub mod Bag
 pub mod Dataset
-pub mod OneMore
 pub mod Device
+pub mod inner

@@ -1,5 +1,5 @@
 -- What a text, or a part of it, comes to: a value, or the one fault that is due.
-use Rattle.std.specs.Prelude.{List, [], ◌∷◌, ◌++◌, Result, Ok, Err}
+use Rattle.std.specs.Prelude.{Result, Ok, Err}
 use Rattle.qs_terms.specs.declared.fault.QFault.{QFault}
 use Rattle.qs_terms.specs.declared.fault.QFault.TheVariants.{Memory}
 use Rattle.qs_terms.specs.OrWantOf.{OrWantOf, OneOrWantOf}
@@ -11,14 +11,6 @@ Outcome A = Result A QFault
 abbrev pub and_then : {A B : Type 0} → Outcome A → (A → Outcome B) → Outcome B
 and_then (Ok a) f = f a
 and_then (Err e) f = Err e
-
--- the values of a list of parts behind those of the parts before, or the fault of the first that has none
-abbrev pub all_behind : {A : Type 0} → List A → List (Outcome A) → Outcome (List A)
-all_behind before [] = Ok before
-all_behind before (o ∷ os) = and_then o (λ a. all_behind (before ++ a ∷ []) os)
-
-abbrev pub all : {A : Type 0} → List (Outcome A) → Outcome (List A)
-all parts = all_behind [] parts
 
 -- the answer is the outcome that is due, or want of memory
 abbrev pub OrWantOfMemory : {A : Type 0} → Outcome A → Outcome A → Type 0

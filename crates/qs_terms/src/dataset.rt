@@ -7,7 +7,7 @@ ghost use Rattle.qs_terms.specs.Bag.{SameBag, times, with_new};
 ghost use Rattle.qs_terms.specs.Dataset.{is_term_below, is_graph_below, is_statement_below, is_above_blanks, graph_of, names_of, nodes_of};
 ghost use Rattle.qs_terms.specs.Statement.{Statement, same_statement};
 ghost use Rattle.qs_terms.specs.Term.{same_term};
-ghost use Rattle.qs_terms.specs.OneMore.{with_name, with_ends};
+ghost use Rattle.qs_terms.specs.inner.OneMore.{with_name, with_ends};
 
 use crate::quad::Quad;
 use crate::term::Term;

@@ -7,7 +7,7 @@ ghost use Rattle.std.specs.Cmp.{partial_equiv_from_equiv};
 ghost use Rattle.std.specs.Cmp.Lexicographic.{pointwise, slice_cmp, nat_list_eq_equiv, nat_list_cmp_total, texts_ties, texts_po};
 ghost use Rattle.std.specs.Cmp.Rules.{hashing};
 ghost use Rattle.std.specs.Str.{bytes_eq};
-ghost use Rattle.qs_terms.specs.Datatype.{iri_of, known_of, untagged, checked_untagged, code_of, hash_of};
+ghost use Rattle.qs_terms.specs.inner.Datatype.{iri_of, known_of, untagged, checked_untagged, code_of, hash_of};
 ghost use Rattle.qs_terms.specs.Iri.{checked_iri};
 ghost use Rattle.qs_terms.specs.Literal.{rdf_lang_string, xsd_string, xsd_integer, xsd_boolean, fits_tag};
 ghost use Rattle.qs_terms.specs.OrWantOf.{ValueOrWantOf};
@@ -64,7 +64,7 @@ pub(crate) enum Known {
 
 impl Known {
     // The datatype of this IRI. Mostly no byte is compared, since `==` of texts tests the lengths first.
-    #[tactic(auto, unfolding(crate::specs::Datatype::known_of))]
+    #[tactic(auto, unfolding(crate::specs::inner::Datatype::known_of))]
     fn of(iri: &str) -> Option<Known>
         ensures { result ≡ known_of iri.now }
     {
@@ -122,7 +122,7 @@ impl Model for Datatype {
 
     ghost Value = { List ℕ };
 
-    ghost use Rattle.qs_terms.specs.Datatype.{text_of, is_kept};
+    ghost use Rattle.qs_terms.specs.inner.Datatype.{text_of, is_kept};
 
     ghost view = { λ d. text_of d.kind };
 

@@ -3,7 +3,7 @@
 ghost use Rattle.std.specs.Prelude.{◌≡◌, ◌↔◌, IfOk, IsTrue, Some, None};
 ghost use Rattle.std.specs.Option.{option_copied};
 ghost use Rattle.std.specs.Str.{bytes_eq};
-ghost use Rattle.qs_terms.specs.Datatype.{iri_of};
+ghost use Rattle.qs_terms.specs.inner.Datatype.{iri_of};
 ghost use Rattle.qs_terms.specs.Literal.{xsd_string, xsd_integer, xsd_boolean, typed, checked_typed, checked_parts, checked_tagged, is_literal, fits_tag};
 ghost use Rattle.qs_terms.specs.Iri.{checked_iri};
 ghost use Rattle.qs_terms.specs.OrWantOf.{ValueOrWantOf};

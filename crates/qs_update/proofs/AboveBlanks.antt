@@ -38,7 +38,7 @@ use Rattle.qs_store.specs.declared.default_graph.DefaultGraph.{DefaultGraph}
 use Rattle.qs_store.specs.declared.default_graph.DefaultGraph.TheVariants.{Stored, Union}
 use Rattle.qs_update.specs.Effect.{nothing, deletion, modified, of_data, solutions, IsModified, cleared, fault_or_nothing, created, put_over, removed_by, transferred, IsEffect}
 use Rattle.qs_update.specs.Graphs.{is_in, is_named, in_graph, exists, put_into, copies, graph_name, seen}
-use Rattle.qs_update.specs.Lawful.{IsLawful}
+use Rattle.qs_update.specs.inner.Lawful.{IsLawful}
 use Rattle.qs_update.specs.declared.effect.Effect.{Effect}
 use Rattle.qs_store.specs.declared.removal.Removal.{Removal}
 use Rattle.qs_store.specs.declared.removal.Removal.TheVariants as removal

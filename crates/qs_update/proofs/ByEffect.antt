@@ -8,7 +8,7 @@ use Rattle.qs_ast.specs.declared.term.Variable.{Variable}
 use Rattle.qs_ast.specs.declared.update.Operation.{Operation}
 use Rattle.qs_store.specs.Content.{Content, Held}
 use Rattle.qs_store.specs.Same.{SameSet}
-use Rattle.qs_update.specs.Carried.{BecomesOne}
+use Rattle.qs_update.specs.inner.Carried.{BecomesOne}
 use Rattle.qs_update.specs.Effect.{put_over, IsEffect}
 use Rattle.qs_update.specs.Graphs.{copies}
 use Rattle.qs_update.specs.Request.{bounds_of, IsCarriedOut, IsOperation}

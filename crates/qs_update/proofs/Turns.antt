@@ -10,7 +10,7 @@ use Rattle.qs_store.specs.Change.{IsChanged, KnowsTermsOf, with_terms_of}
 use Rattle.qs_store.specs.Content.{Content, Held}
 use Rattle.qs_store.specs.Same.{SameSet}
 use Rattle.qs_store.specs.declared.default_graph.DefaultGraph.{DefaultGraph}
-use Rattle.qs_update.specs.Carried.{Standing}
+use Rattle.qs_update.specs.inner.Carried.{Standing}
 use Rattle.qs_update.specs.Outcome.{IsSameContent}
 use Rattle.qs_update.specs.Request.{Bounds, bounds_of, IsApplied, IsOperation, AreOperations, IsBehind}
 use Rattle.qs_update.specs.declared.effect.Effect.{Effect}

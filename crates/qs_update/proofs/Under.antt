@@ -11,7 +11,7 @@ use Rattle.qs_template.specs.declared.template.Template.{Template}
 use Rattle.qs_algebra.specs.declared.named.NamedPattern.{NamedPattern}
 use Rattle.qs_store.specs.declared.default_graph.DefaultGraph.{DefaultGraph}
 use Rattle.qs_update.specs.Effect.{solutions, modified, IsModified}
-use Rattle.qs_update.specs.Rows.{AreAllRows}
+use Rattle.qs_update.specs.inner.Rows.{AreAllRows}
 use Rattle.qs_update.specs.declared.effect.Effect.{Effect}
 
 module _ (max_rows : ℕ) (delete insert : Template) (next : ℕ) (all : List Solution) where

@@ -1,9 +1,9 @@
 //! Effects that are carried out over a draft.
 
 ghost use Rattle.std.specs.Prelude.{◌≡◌, Ok};
-ghost use Rattle.qs_update.specs.Carried as carried;
-ghost use Rattle.qs_update.specs.Carried.{BecomesOne};
-ghost use Rattle.qs_update.specs.Lawful.{IsLawful};
+ghost use Rattle.qs_update.specs.inner.Carried as carried;
+ghost use Rattle.qs_update.specs.inner.Carried.{BecomesOne};
+ghost use Rattle.qs_update.specs.inner.Lawful.{IsLawful};
 ghost use Rattle.qs_update.specs.Request.{IsCarriedOut};
 
 use crate::effect::Effect;

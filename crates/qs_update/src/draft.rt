@@ -5,7 +5,7 @@ ghost use Rattle.qs_terms.specs.Dataset.{is_above_blanks};
 ghost use Rattle.qs_ast.specs.declared.update.Operation.TheVariants as operation;
 ghost use Rattle.qs_blanks.specs.Below.{have_iri_predicates};
 ghost use Rattle.qs_blanks.specs.Written.{operation_values_have_no_blank, update_values_have_no_blank, values_have_no_blank};
-ghost use Rattle.qs_update.specs.Carried.{BecomesOne};
+ghost use Rattle.qs_update.specs.inner.Carried.{BecomesOne};
 ghost use Rattle.qs_update.specs.Effect.{of_data};
 ghost use Rattle.qs_update.specs.Request.{bounds_of, IsCarriedOut, IsOperation, AreOperations};
 

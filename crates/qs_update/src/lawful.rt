@@ -11,7 +11,7 @@ ghost use Rattle.qs_blanks.specs.Below.{have_iri_predicates};
 ghost use Rattle.qs_blanks.specs.Written.{operation_values_have_no_blank};
 ghost use Rattle.qs_store.specs.declared.default_graph.DefaultGraph.{DefaultGraph};
 ghost use Rattle.qs_update.specs.Effect.{IsEffect, of_data};
-ghost use Rattle.qs_update.specs.Lawful.{IsLawful};
+ghost use Rattle.qs_update.specs.inner.Lawful.{IsLawful};
 ghost use Rattle.qs_update.specs.declared.effect.Effect.{Effect as EffectValue};
 
 use qs_blanks::laws::{

@@ -5,12 +5,12 @@ ghost use Rattle.std.specs.Option.{option_copied, option_map};
 ghost use Rattle.qs_terms.specs.Outcome.{OrWantOfMemory, OneOrWantOfMemory};
 ghost use Rattle.qs_terms.specs.declared.term.Term.TheVariants as value;
 ghost use Rattle.qs_scope.specs.Firsts.{names_of};
-ghost use Rattle.qs_template.specs.Lent.{lent};
+ghost use Rattle.qs_template.specs.inner.Lent.{lent};
 ghost use Rattle.qs_template.specs.Template as made;
 ghost use Rattle.qs_algebra.specs.Translation.{translated_where, translated_blocks};
 ghost use Rattle.qs_update.specs.Effect as spec;
-ghost use Rattle.qs_update.specs.Lawful.{IsLawful};
-ghost use Rattle.qs_update.specs.Rows.{AreAllRows};
+ghost use Rattle.qs_update.specs.inner.Lawful.{IsLawful};
+ghost use Rattle.qs_update.specs.inner.Rows.{AreAllRows};
 
 use crate::effect::Effect;
 use crate::graphs::iri_term;

@@ -8,10 +8,10 @@ ghost use Rattle.qs_terms.specs.Outcome.{OrWantOfMemory};
 ghost use Rattle.qs_terms.specs.Statement.{is_graph, same_graph};
 ghost use Rattle.qs_store.specs.Change.{IsChanged};
 ghost use Rattle.qs_store.specs.declared.fault.StoreFault.TheVariants.{Memory};
-ghost use Rattle.qs_update.specs.Carried.{BecomesOne};
+ghost use Rattle.qs_update.specs.inner.Carried.{BecomesOne};
 ghost use Rattle.qs_update.specs.Effect as effect;
 ghost use Rattle.qs_update.specs.Graphs as spec;
-ghost use Rattle.qs_update.specs.Lawful.{IsLawful};
+ghost use Rattle.qs_update.specs.inner.Lawful.{IsLawful};
 ghost use Rattle.qs_update.specs.Request.{IsCarriedOut};
 
 use crate::carried::{carry_out, fault_of};

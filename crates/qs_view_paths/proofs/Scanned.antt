@@ -30,7 +30,7 @@ use Rattle.qs_ops.specs.Graph.{active_graph}
 use Rattle.qs_ops.proofs.Active.{active_has, active_only, active_once}
 use Rattle.qs_ops.proofs.Lists.{map_has, member_of_map, of_any, same_members}
 use Rattle.qs_ops.proofs.Scanned.{number_there}
-use Rattle.qs_view_paths.specs.Said.{said}
+use Rattle.qs_view_paths.specs.inner.Said.{said}
 use Rattle.qs_view_paths.proofs.Lists.{filter_all, filter_none}
 
 module _ (c : Content) (d : DefaultGraph) (a : Active) (lawful : IsContent c) (knows : KnowsItsTerms c) where

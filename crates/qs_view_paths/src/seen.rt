@@ -9,7 +9,7 @@ ghost use Rattle.qs_terms.specs.Term.{same_term};
 ghost use Rattle.qs_store.specs.Triples.{IsTriple, AreTriples};
 ghost use Rattle.qs_ops.specs.Graph.{active_graph};
 ghost use Rattle.qs_paths.specs.Edges.{having};
-ghost use Rattle.qs_view_paths.specs.Said.{said};
+ghost use Rattle.qs_view_paths.specs.inner.Said.{said};
 
 use qs_paths::{Edge, Source};
 use qs_store::{Active, Triples, View};

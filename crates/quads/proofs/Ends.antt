@@ -13,9 +13,9 @@ use Rattle.qs_store.specs.Content.{Held, Content}
 use Rattle.qs_store.specs.Same.{SameSet}
 use Rattle.qs_store.specs.declared.default_graph.DefaultGraph.{DefaultGraph}
 use Rattle.quads.specs.Due.{max_rows, IsTextOf, IsQueryOutcome}
-use Rattle.quads.specs.Ended.{IsQueryEnd, IsUpdateEnd, unstored}
-use Rattle.quads.specs.Refusal.{refusal_of}
-use Rattle.quads.specs.Stored.{IsRefusalOf}
+use Rattle.quads.specs.inner.Ended.{IsQueryEnd, IsUpdateEnd, unstored}
+use Rattle.quads.specs.inner.Refusal.{refusal_of}
+use Rattle.quads.specs.inner.Stored.{IsRefusalOf}
 
 -- bytes that are no text have the fault that is due
 pub no_text : (choice : DefaultGraph) (bytes : List ℕ) (c : Content) (f : QFault) → IsTextOf bytes (Err f) → OneOrWantOfMemory (IsQueryOutcome choice bytes c) (Err f)

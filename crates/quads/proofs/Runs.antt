@@ -7,8 +7,8 @@ use Rattle.qs_terms.specs.declared.fault.QFault.TheVariants as fault
 use Rattle.qs_results.specs.Lines.{fault_line}
 use Rattle.qs_store.specs.declared.default_graph.DefaultGraph.{DefaultGraph}
 use Rattle.quads.specs.Due.{line, IsDue, IsBegun}
-use Rattle.quads.specs.Ended.{IsCheckEnd, IsQueryEnd, IsUpdateEnd, IsEnd, printed, status}
-use Rattle.quads.specs.Replayed.{IsReplayDue, IsReplayBegun}
+use Rattle.quads.specs.inner.Ended.{IsCheckEnd, IsQueryEnd, IsUpdateEnd, IsEnd, printed, status}
+use Rattle.quads.specs.inner.Replayed.{IsReplayDue, IsReplayBegun}
 use Rattle.quads.specs.Run.{Prints, IsRun, Runs}
 use Rattle.quads.specs.declared.ended.Ended.{Ended}
 use Rattle.quads.specs.declared.ended.Ended.TheVariants.{Answered, Quads, DataRefused, Refused}

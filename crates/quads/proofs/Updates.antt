@@ -11,7 +11,7 @@ use Rattle.qs_store.specs.declared.default_graph.DefaultGraph.{DefaultGraph}
 use Rattle.qs_update.specs.Outcome as update
 use Rattle.qs_update.specs.Request.{Bounds, bounds_of}
 use Rattle.quads.specs.Due.{max_rows, max_terms, bounds, IsTextOf, IsUpdateOutcome}
-use Rattle.quads.specs.Updated.{BecomesUpdated, AreQuadsBehind}
+use Rattle.quads.specs.inner.Updated.{BecomesUpdated, AreQuadsBehind}
 
 same_bounds : (held : Held) → held.limit ≡ max_terms → bounds_of max_rows held ≡ bounds held.default_graph
 same_bounds held e =

@@ -2,7 +2,7 @@
 
 ghost use Rattle.qs_terms.specs.Outcome.{OneOrWantOfMemory};
 ghost use Rattle.quads.specs.Due.{IsQueryOutcome};
-ghost use Rattle.quads.specs.Ended.{IsQueryEnd};
+ghost use Rattle.quads.specs.inner.Ended.{IsQueryEnd};
 
 use crate::ended::{Ended, MAX_ROWS, text_of, unstored};
 use crate::stored::{let_go, stored};

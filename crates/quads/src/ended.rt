@@ -2,8 +2,8 @@
 
 ghost use Rattle.std.specs.Prelude.{◌≡◌, Ok, Err, MatchResult};
 ghost use Rattle.quads.specs.Due.{IsTextOf};
-ghost use Rattle.quads.specs.Ended as spec;
-ghost use Rattle.quads.specs.Ended.{IsCheckEnd};
+ghost use Rattle.quads.specs.inner.Ended as spec;
+ghost use Rattle.quads.specs.inner.Ended.{IsCheckEnd};
 
 use crate::refusal::fault_of;
 use qs_answer::Answer;

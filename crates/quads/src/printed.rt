@@ -5,7 +5,7 @@ ghost use Rattle.serde_json.specs.Written.{compact_text};
 ghost use Rattle.qs_results.specs.Lines as lines;
 ghost use Rattle.qs_results.specs.Json.{has_json, json_of};
 ghost use Rattle.quads.specs.Due.{line, answer_text};
-ghost use Rattle.quads.specs.Ended as spec;
+ghost use Rattle.quads.specs.inner.Ended as spec;
 
 use crate::ended::Ended;
 use qs_answer::Answer;

@@ -3,7 +3,7 @@
 ghost use Rattle.std.specs.Prelude.{map};
 ghost use Rattle.qs_replay.specs.Happenings.{event_of};
 ghost use Rattle.quads.specs.Due.{IsDueOfEvents};
-ghost use Rattle.quads.specs.Replayed.{IsBegunOfEvents, IsScriptDue, IsScriptBegun, IsReplayDue, IsReplayBegun};
+ghost use Rattle.quads.specs.inner.Replayed.{IsBegunOfEvents, IsScriptDue, IsScriptBegun, IsReplayDue, IsReplayBegun};
 ghost use Rattle.quads.specs.Run.{Runs};
 
 use crate::job::Ran;

@@ -4,7 +4,7 @@ ghost use Rattle.std.specs.Prelude.{◌⊎◌};
 ghost use Rattle.qs_terms.specs.declared.fault.QFault.TheVariants.{Memory};
 ghost use Rattle.qs_results.specs.Lines.{fault_line};
 ghost use Rattle.quads.specs.Due.{line};
-ghost use Rattle.quads.specs.Ended as ended;
+ghost use Rattle.quads.specs.inner.Ended as ended;
 ghost use Rattle.quads.specs.Run.{Prints, IsRun};
 
 use crate::answered::query_ended;

@@ -5,7 +5,7 @@ ghost use Rattle.qs_terms.specs.declared.fault.QFault.TheVariants.{Memory};
 ghost use Rattle.quads.specs.Due as spec;
 ghost use Rattle.quads.specs.Due.{max_terms};
 ghost use Rattle.quads.specs.declared.refusal.Refusal.TheVariants.{Fault};
-ghost use Rattle.quads.specs.Stored.{BecomesStored, BecomesService};
+ghost use Rattle.quads.specs.inner.Stored.{BecomesStored, BecomesService};
 
 use crate::ended::MAX_ROWS;
 use crate::refusal::{Refusal, refusal_of};

@@ -4,8 +4,8 @@ ghost use Rattle.std.specs.Prelude.{◌≡◌, ◌≢◌, Err, IfOk, IfErr};
 ghost use Rattle.qs_terms.specs.declared.fault.QFault.TheVariants.{Memory};
 ghost use Rattle.qs_store.specs.Same.{SameSet};
 ghost use Rattle.quads.specs.Due.{max_terms, IsUpdateOutcome};
-ghost use Rattle.quads.specs.Ended.{IsUpdateEnd};
-ghost use Rattle.quads.specs.Updated.{BecomesUpdated, AreQuadsBehind};
+ghost use Rattle.quads.specs.inner.Ended.{IsUpdateEnd};
+ghost use Rattle.quads.specs.inner.Updated.{BecomesUpdated, AreQuadsBehind};
 
 use crate::ended::{Ended, MAX_ROWS, text_of, unstored};
 use crate::stored::{let_go, stored};

@@ -1,5 +1,5 @@
 use Rattle.std.proofs.Common.{◌||◌, ◌&&◌, ap, ◌∙◌}
-use Rattle.qs_bindings.specs.Flags.{flags_from, flag_at}
+use Rattle.qs_bindings.specs.inner.Flags.{flags_from, flag_at}
 use Rattle.qs_bindings.specs.Certain.{is_certain, is_certain_step}
 use Rattle.qs_bindings.proofs.Arms.{certain_basic_arm, certain_group_arm, certain_union_arm, certain_graph_arm, certain_each_arm, certain_values_arm, certain_join_arm, certain_left_join_arm, certain_minus_arm, certain_extend_arm, some_more, every_more}
 use Rattle.qs_bindings.proofs.certain_variables.+certain.Goals as goal

@@ -1,6 +1,6 @@
 use Rattle.std.proofs.Common.{◌≡◌, take}
 use Rattle.std.specs.List.{list_any, list_all}
-use Rattle.qs_bindings.specs.Flags.{flags_from}
+use Rattle.qs_bindings.specs.inner.Flags.{flags_from}
 use Rattle.qs_bindings.specs.Certain.{is_certain, is_certain_step}
 use Rattle.qs_bindings.proofs.certain_variables.+certain.Given as goal
 

@@ -1,5 +1,5 @@
 use Rattle.std.proofs.Common.{◌≡◌}
-use Rattle.qs_bindings.specs.Flags.{flags_from}
+use Rattle.qs_bindings.specs.inner.Flags.{flags_from}
 use Rattle.qs_bindings.proofs.flags.alike.Given as goal
 
 abbrev pub invariant-loop : goal.invariant-loop

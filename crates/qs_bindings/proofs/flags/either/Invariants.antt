@@ -1,5 +1,5 @@
 use Rattle.std.proofs.Common.{◌≡◌, ◌||◌}
-use Rattle.qs_bindings.specs.Flags.{flags_from, flag_at}
+use Rattle.qs_bindings.specs.inner.Flags.{flags_from, flag_at}
 use Rattle.qs_bindings.proofs.flags.either.Given as goal
 
 abbrev pub invariant-loop-variable : goal.invariant-loop-variable

@@ -1,6 +1,6 @@
 use Rattle.std.proofs.Common.{◌||◌, ap, ◌∙◌}
 use Rattle.qs_patterns.specs.Basic.{mentions, is_end}
-use Rattle.qs_bindings.specs.Flags.{flags_from, flag_at}
+use Rattle.qs_bindings.specs.inner.Flags.{flags_from, flag_at}
 use Rattle.qs_bindings.proofs.ColumnLaws.{either_are}
 use Rattle.qs_bindings.proofs.mentioned.mentioned.Goals as goal
 

@@ -1,6 +1,6 @@
 use Rattle.std.proofs.Common.{◌≡◌, take}
 use Rattle.std.specs.List.{list_any}
-use Rattle.qs_bindings.specs.Flags.{flags_from}
+use Rattle.qs_bindings.specs.inner.Flags.{flags_from}
 use Rattle.qs_bindings.specs.Possible.{is_possible, is_possible_step}
 use Rattle.qs_bindings.proofs.possible_variables.+possible.Given as goal
 

@@ -4,7 +4,7 @@ use Rattle.std.proofs.lemmas.List.{take_all}
 use Rattle.std.specs.Option.{is_some}
 use Rattle.qs_terms.specs.declared.term.Term.{Term}
 use Rattle.qs_solutions.specs.Solution.{term_at, binding}
-use Rattle.qs_bindings.specs.Flags.{flags_from, flag_at}
+use Rattle.qs_bindings.specs.inner.Flags.{flags_from, flag_at}
 use Rattle.qs_bindings.proofs.Arms.{every_more}
 use Rattle.qs_bindings.proofs.table.bound_by_all.Goals as goal
 

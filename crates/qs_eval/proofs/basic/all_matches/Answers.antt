@@ -4,7 +4,7 @@ use Rattle.qs_terms.specs.Bag.{SameBag}
 use Rattle.qs_terms.specs.Dataset.{graph_of}
 use Rattle.qs_solutions.specs.Solution.{Solution, unbound}
 use Rattle.qs_patterns.specs.Basic.{matches}
-use Rattle.qs_eval.specs.Found.{found}
+use Rattle.qs_eval.specs.inner.Found.{found}
 use Rattle.qs_eval.proofs.Below.{all_fit}
 use Rattle.qs_eval.proofs.FoundLaw.{found_is_matches}
 use Rattle.qs_eval.proofs.GraphLaws.{graph_distinct}

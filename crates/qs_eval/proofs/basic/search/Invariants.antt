@@ -3,8 +3,8 @@ use Rattle.std.specs.List.{flat_map}
 use Rattle.std.specs.Option.{option_copied}
 use Rattle.qs_terms.specs.Dataset.{graph_of}
 use Rattle.qs_solutions.specs.Solution.{unbound}
-use Rattle.qs_eval.specs.Found.{found}
-use Rattle.qs_eval.specs.Lent.{lent}
+use Rattle.qs_eval.specs.inner.Found.{found}
+use Rattle.qs_eval.specs.inner.Lent.{lent}
 use Rattle.qs_eval.proofs.basic.search.Given as goal
 
 -- what the patterns to come make of the rows is what all make of the empty one

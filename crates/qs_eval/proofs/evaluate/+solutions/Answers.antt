@@ -4,7 +4,7 @@ use Rattle.qs_terms.specs.Dataset.{graph_of}
 use Rattle.qs_solutions.specs.Operators.{join, left_join, minus}
 use Rattle.qs_solutions.specs.Solution.{Solution, binding}
 use Rattle.qs_patterns.specs.Eval.{all_hold}
-use Rattle.qs_eval.specs.Lent.{lent}
+use Rattle.qs_eval.specs.inner.Lent.{lent}
 use Rattle.qs_eval.proofs.LentLaws.{lent_at, lent_within}
 use Rattle.qs_eval.proofs.Arms.{basic_arm, group_arm, union_arm, graph_arm, each_arm, values_arm, join_arm, left_join_arm, minus_arm, extend_arm, step_more, union_more, each_more}
 use Rattle.qs_patterns.specs.declared.pattern.Pattern.{the_lemmas}

@@ -5,7 +5,7 @@ use Rattle.qs_terms.specs.Bag.{SameBag}
 use Rattle.qs_terms.specs.Dataset.{graph_of}
 use Rattle.qs_solutions.specs.Solution.{unbound}
 use Rattle.qs_patterns.specs.Eval.{eval, step, in_each}
-use Rattle.qs_eval.specs.Lent.{lent}
+use Rattle.qs_eval.specs.inner.Lent.{lent}
 use Rattle.qs_eval.proofs.evaluate.+solutions.Given as goal
 
 abbrev pub invariant-solutions_of_group-loop-one : goal.invariant-solutions_of_group-loop-one

@@ -2,8 +2,8 @@ use Rattle.std.proofs.Common.{◌≡◌, take}
 use Rattle.std.specs.List.{flat_map}
 use Rattle.std.specs.Option.{option_copied}
 use Rattle.qs_terms.specs.Dataset.{graph_of}
-use Rattle.qs_eval.specs.Found.{extensions}
-use Rattle.qs_eval.specs.Lent.{lent}
+use Rattle.qs_eval.specs.inner.Found.{extensions}
+use Rattle.qs_eval.specs.inner.Lent.{lent}
 use Rattle.qs_eval.proofs.extend.extended.Given as goal
 
 abbrev pub invariant-loop-row : goal.invariant-loop-row

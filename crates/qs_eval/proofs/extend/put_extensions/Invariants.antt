@@ -1,8 +1,8 @@
 use Rattle.std.proofs.Common.{◌≡◌, ◌++◌, take}
 use Rattle.std.specs.Option.{option_copied}
 use Rattle.qs_terms.specs.Dataset.{graph_of}
-use Rattle.qs_eval.specs.Found.{extensions}
-use Rattle.qs_eval.specs.Lent.{lent}
+use Rattle.qs_eval.specs.inner.Found.{extensions}
+use Rattle.qs_eval.specs.inner.Lent.{lent}
 use Rattle.qs_eval.proofs.extend.put_extensions.Given as goal
 
 -- the quads so far have given what they make of the row

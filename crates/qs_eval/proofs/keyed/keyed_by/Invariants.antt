@@ -1,6 +1,6 @@
 use Rattle.std.proofs.Common.{take}
-use Rattle.qs_eval.specs.Keyed.{IsKeyed}
-use Rattle.qs_eval.specs.Lent.{lent}
+use Rattle.qs_eval.specs.inner.Keyed.{IsKeyed}
+use Rattle.qs_eval.specs.inner.Lent.{lent}
 use Rattle.qs_eval.proofs.keyed.keyed_by.Given as goal
 
 abbrev pub invariant-loop-row : goal.invariant-loop-row

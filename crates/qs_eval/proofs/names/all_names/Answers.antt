@@ -1,6 +1,6 @@
 use Rattle.std.proofs.Common.{◌∙◌, ap, ◌++◌, []}
 use Rattle.std.specs.List.{cons_option}
-use Rattle.qs_eval.specs.Lent.{lent}
+use Rattle.qs_eval.specs.inner.Lent.{lent}
 use Rattle.qs_eval.proofs.LentLaws.{names_more}
 use Rattle.qs_eval.proofs.names.all_names.Goals as goal
 

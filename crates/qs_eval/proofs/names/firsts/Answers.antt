@@ -1,7 +1,7 @@
 use Rattle.std.proofs.Common.{ap, ◌∙◌, refl}
 use Rattle.qs_terms.specs.Term.{same_term}
 use Rattle.qs_terms.proofs.SameTerm.{same_term-Decides}
-use Rattle.qs_eval.specs.Lent.{lent}
+use Rattle.qs_eval.specs.inner.Lent.{lent}
 use Rattle.qs_eval.proofs.LentLaws.{lent_at, lent_within}
 use Rattle.qs_eval.proofs.Known.{kept_new, kept_known, knows_more, knows_still, was_new, was_known, on_false}
 use Rattle.qs_eval.proofs.KnownTerms.{cmp, tells}

@@ -2,7 +2,7 @@ use Rattle.std.proofs.Common.{◌≡◌, take}
 use Rattle.qs_terms.specs.Bag.{once}
 use Rattle.qs_terms.specs.Term.{same_term}
 use Rattle.qs_terms.proofs.SameTerm.{same_term-Decides}
-use Rattle.qs_eval.specs.Lent.{lent}
+use Rattle.qs_eval.specs.inner.Lent.{lent}
 use Rattle.qs_eval.proofs.Known.{Knows}
 use Rattle.qs_eval.proofs.KnownTerms.{cmp, tells}
 use Rattle.qs_eval.proofs.names.firsts.Given as goal

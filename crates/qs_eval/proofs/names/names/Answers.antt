@@ -2,7 +2,7 @@ use Rattle.std.proofs.Common.{◌∙◌, ap}
 use Rattle.std.specs.List.{filter_map}
 use Rattle.qs_terms.specs.Bag.{once}
 use Rattle.qs_terms.specs.Term.{same_term}
-use Rattle.qs_eval.specs.Lent.{lent}
+use Rattle.qs_eval.specs.inner.Lent.{lent}
 use Rattle.qs_eval.proofs.names.names.Goals as goal
 
 pub returns : goal.returns

@@ -2,7 +2,7 @@ use Rattle.std.proofs.Common.{◌≡◌, take}
 use Rattle.qs_terms.specs.Bag.{once}
 use Rattle.qs_terms.specs.Statement.{same_statement}
 use Rattle.qs_terms.proofs.SameStatement.{same_statement-Decides}
-use Rattle.qs_eval.specs.Lent.{lent}
+use Rattle.qs_eval.specs.inner.Lent.{lent}
 use Rattle.qs_eval.proofs.Known.{Knows}
 use Rattle.qs_eval.proofs.KnownQuads.{cmp, tells}
 use Rattle.qs_eval.proofs.quads.firsts.Given as goal

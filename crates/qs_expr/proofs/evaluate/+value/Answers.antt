@@ -3,12 +3,12 @@ use Rattle.std.specs.Int.{w128}
 use Rattle.std.proofs.lemmas.Int.{to_z-of_z}
 use Rattle.qs_expr.specs.Comes.{Errs}
 use Rattle.qs_expr.specs.Makes.{makes, addend_makes, some}
-use Rattle.qs_expr.specs.SoFar.{sum_from, product_from}
+use Rattle.qs_expr.specs.inner.SoFar.{sum_from, product_from}
 use Rattle.qs_expr.proofs.Steps.{sum_more, sum_error, product_more, product_error}
 use Rattle.std.specs.Prelude.{string_bytes}
 use Rattle.qs_values.specs.Value.{term_of}
 use Rattle.qs_values.specs.Values.{equal}
-use Rattle.qs_expr.specs.Joined.{tag_seen}
+use Rattle.qs_expr.specs.inner.Joined.{tag_seen}
 use Rattle.qs_expr.specs.Truth.{any, every}
 use Rattle.qs_expr.specs.Meaning.{meaning, number, truth, among, of_both}
 use Rattle.qs_expr.proofs.Chains.{part_wants, either_false, either_errs, both_true, both_errs, concat_end, concat_more, concat_error}

@@ -3,8 +3,8 @@ use Rattle.std.proofs.Common.{◌≡◌, true, false, Some, map, drop}
 use Rattle.std.specs.Prelude.{string_bytes}
 use Rattle.qs_values.specs.Value.{term_of}
 use Rattle.qs_expr.specs.Truth.{either, both}
-use Rattle.qs_expr.specs.SoFar.{so_far, any_from, every_from, among_from, sum_from, product_from, first_from}
-use Rattle.qs_expr.specs.Joined as joining
+use Rattle.qs_expr.specs.inner.SoFar.{so_far, any_from, every_from, among_from, sum_from, product_from, first_from}
+use Rattle.qs_expr.specs.inner.Joined as joining
 use Rattle.qs_expr.specs.Meaning.{meaning}
 use Rattle.qs_expr.proofs.evaluate.+value.Given as goal
 

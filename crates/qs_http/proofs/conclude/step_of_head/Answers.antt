@@ -1,5 +1,5 @@
 use Rattle.std.proofs.Common.{◌∙◌, sym}
-use Rattle.qs_http.specs.HeadView.{plain}
+use Rattle.qs_http.specs.inner.HeadView.{plain}
 use Rattle.qs_http.proofs.Steps.{sound_length}
 use Rattle.qs_http.proofs.conclude.step_of_head.Goals as goal
 

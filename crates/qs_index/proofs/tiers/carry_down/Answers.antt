@@ -1,6 +1,6 @@
 use Rattle.std.proofs.Common.{◌≡◌, ◌+◌, [], ◌∷◌, length, get_or, set, arith, ap, sym, ◌∙◌}
 use Rattle.std.proofs.lemmas.List.{get_or_read, get_or-set_other, length-set}
-use Rattle.qs_index.specs.Tiers.{flat, block_at, gap_at}
+use Rattle.qs_index.specs.inner.Tiers.{flat, block_at, gap_at}
 use Rattle.qs_index.proofs.Blocks.{flat_down, gap_down}
 use Rattle.qs_index.proofs.tiers.carry_down.Goals as goal
 

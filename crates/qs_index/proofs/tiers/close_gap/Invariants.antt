@@ -1,5 +1,5 @@
 use Rattle.std.proofs.Common.{◌≡◌, ◌-◌, ◌≤◌, length}
-use Rattle.qs_index.specs.Tiers.{flat, HasGap}
+use Rattle.qs_index.specs.inner.Tiers.{flat, HasGap}
 use Rattle.qs_index.proofs.tiers.close_gap.Given as goal
 
 abbrev pub decreases-loop-k : goal.decreases-loop-k

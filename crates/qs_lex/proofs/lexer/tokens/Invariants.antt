@@ -2,7 +2,7 @@ use Rattle.std.proofs.Common.{◌≡◌, ◌≤◌, length, map, true, IsUtf8, c
 use denote.Text.{Utf8}
 use denote.Shadow.{shadow}
 use Rattle.qs_lex.specs.Lexes.{Reads, lexeme}
-use Rattle.qs_lex.specs.Prefix.{IsBarren}
+use Rattle.qs_lex.specs.inner.Prefix.{IsBarren}
 use Rattle.qs_lex.proofs.lexer.tokens.Given as goal
 
 abbrev pub invariant-tokens : goal.invariant-tokens

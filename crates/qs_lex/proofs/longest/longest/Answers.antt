@@ -1,6 +1,6 @@
 use Rattle.std.proofs.Common.{sym, ◌∙◌, []}
 use Rattle.std.proofs.lemmas.Str.{IsUtf8-past_char}
-use Rattle.qs_lex.specs.State.{left}
+use Rattle.qs_lex.specs.inner.State.{left}
 use Rattle.qs_lex.proofs.Begin.{scan_empty, scan_nowhere}
 use Rattle.qs_regular.proofs.Scan.{sizes_first, sizes_step, scan_dead, scan_step, scan_end}
 use Rattle.qs_lex.proofs.Prefix.{scan_begun}

@@ -1,9 +1,9 @@
 use Rattle.std.proofs.Common.{◌≡◌, ◌+◌, length, IsUtf8, chars}
 use Rattle.std.specs.Str.Iter.{chars_rest}
 use Rattle.qs_regular.specs.Longest.{best}
-use Rattle.qs_regular.specs.Scan.{later}
+use Rattle.qs_regular.specs.inner.Scan.{later}
 use Rattle.qs_lex.specs.Table.{table}
-use Rattle.qs_lex.specs.State.{left}
+use Rattle.qs_lex.specs.inner.State.{left}
 use Rattle.qs_lex.proofs.longest.longest.Given as goal
 
 abbrev pub invariant-chars : goal.invariant-chars

@@ -1,6 +1,6 @@
 use Rattle.std.proofs.Common.{◌≡◌, ◌++◌, List, ℕ, length, IsUtf8, chars}
 use Rattle.std.specs.Str.Iter.{chars_rest}
-use Rattle.qs_lex.specs.Prefix.{names}
+use Rattle.qs_lex.specs.inner.Prefix.{names}
 use Rattle.qs_lex.proofs.Prefix.{SameBehind}
 use Rattle.qs_lex.proofs.run.run_at.Given as goal
 

@@ -1,6 +1,6 @@
 use Rattle.std.proofs.Common.{◌++◌, subst, ◌∙◌}
 use Rattle.qs_nquads.specs.Nquads.{IsNquads}
-use Rattle.qs_load.specs.Loading.{HasReadMore}
+use Rattle.qs_load.specs.inner.Loading.{HasReadMore}
 use Rattle.qs_load.proofs.nquads.full.Goals as goal
 
 pub returns-in-Ok-None : goal.returns-in-Ok-None

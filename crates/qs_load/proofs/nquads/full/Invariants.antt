@@ -1,7 +1,7 @@
 use Rattle.std.proofs.Common.{◌≡◌, ℕ, List, length}
 use Rattle.qs_terms.specs.Statement.{Statement}
 use Rattle.qs_nquads.specs.Unread.{HasRead}
-use Rattle.qs_load.specs.Loading.{HasReadMore}
+use Rattle.qs_load.specs.inner.Loading.{HasReadMore}
 use Rattle.qs_load.proofs.nquads.full.Given as goal
 
 abbrev pub invariant-statements : goal.invariant-statements

@@ -3,7 +3,7 @@ use Rattle.qs_terms.specs.Dataset.{is_above_blanks}
 use Rattle.qs_store.specs.Entries.{said}
 use Rattle.qs_load.proofs.Loads.{loaded, loaded_same}
 use Rattle.qs_load.proofs.nquads.load.Goals as goal
-use Rattle.qs_load.specs.Loading.{AreNumbered}
+use Rattle.qs_load.specs.inner.Loading.{AreNumbered}
 
 pub commit_with-requires-clause-next : goal.commit_with-requires-clause-next
 commit_with-requires-clause-next c =

@@ -3,7 +3,7 @@ use Rattle.qs_nquads.specs.Unread.{HasRead}
 use Rattle.qs_terms.specs.Statement.{Statement}
 use Rattle.qs_store.specs.Change.{IsFullAt, with_terms_of}
 use Rattle.qs_store.specs.Entries.{said}
-use Rattle.qs_load.specs.Loading.{IsToldFor}
+use Rattle.qs_load.specs.inner.Loading.{IsToldFor}
 use Rattle.qs_load.proofs.Loads.{refused_for}
 use Rattle.qs_load.proofs.nquads.put_all.Goals as goal
 

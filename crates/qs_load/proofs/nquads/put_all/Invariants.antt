@@ -1,7 +1,7 @@
 use Rattle.std.proofs.Common.{◌≡◌, ℕ, [], length}
 use Rattle.qs_nquads.specs.Unread.{HasRead}
 use Rattle.qs_store.specs.Entries.{said}
-use Rattle.qs_load.specs.Loading.{Learns, Say}
+use Rattle.qs_load.specs.inner.Loading.{Learns, Say}
 use Rattle.qs_load.proofs.nquads.put_all.Given as goal
 
 abbrev pub invariant-statements : goal.invariant-statements

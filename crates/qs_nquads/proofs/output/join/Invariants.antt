@@ -1,5 +1,5 @@
 use Rattle.std.proofs.Common.{◌≡◌, take}
-use Rattle.qs_nquads.specs.Joined.{joined}
+use Rattle.qs_nquads.specs.inner.Joined.{joined}
 use Rattle.qs_nquads.proofs.output.join.Given as goal
 
 abbrev pub invariant-loop-line : goal.invariant-loop-line

@@ -1,7 +1,7 @@
 use Rattle.std.proofs.Common.{◌≡◌, ◌<◌, ◌≤◌, ℕ, List, ◌+◌, ◌*◌, ◌++◌, ◌∙◌, take, length, get_or, ap, sym, subst, arith, length-append}
 use Rattle.std.proofs.lemmas.List.{take_all}
 use Rattle.std.specs.Io.KnownBytes.{Appends}
-use Rattle.qs_nquads.specs.Joined.{joined}
+use Rattle.qs_nquads.specs.inner.Joined.{joined}
 use Rattle.qs_nquads.proofs.Lines.{appends_both, front, longer, joined_step}
 use Rattle.qs_nquads.proofs.output.put_lines.Goals as goal
 

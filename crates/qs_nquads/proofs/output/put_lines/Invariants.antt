@@ -1,6 +1,6 @@
 use Rattle.std.proofs.Common.{◌≡◌, ◌≤◌, ◌*◌, take, length}
 use Rattle.std.specs.Io.KnownBytes.{Appends}
-use Rattle.qs_nquads.specs.Joined.{joined}
+use Rattle.qs_nquads.specs.inner.Joined.{joined}
 use Rattle.qs_nquads.proofs.output.put_lines.Given as goal
 
 abbrev pub invariant-loop-line : goal.invariant-loop-line

@@ -1,6 +1,6 @@
 use Rattle.std.proofs.Common.{◌≡◌, ◌∙◌, IsUtf8, ap, sym, subst}
 use Rattle.qs_nquads.specs.Written.{nquads_of}
-use Rattle.qs_nquads.specs.Joined.{joined}
+use Rattle.qs_nquads.specs.inner.Joined.{joined}
 use Rattle.qs_nquads.proofs.Sorting.{written}
 use Rattle.qs_nquads.proofs.WholeText.{written_utf8}
 use Rattle.qs_nquads.proofs.output.text.Goals as goal

@@ -1,7 +1,7 @@
 use Rattle.std.proofs.Common.{◌≡◌, ◌<◌, ◌∙◌, take, length, ap, subst}
 use Rattle.std.specs.Io.KnownBytes.{Appends}
 use Rattle.qs_nquads.specs.Written.{nquads_of}
-use Rattle.qs_nquads.specs.Joined.{joined}
+use Rattle.qs_nquads.specs.inner.Joined.{joined}
 use Rattle.qs_nquads.proofs.Sorting.{written}
 use Rattle.qs_nquads.proofs.output.write.Goals as goal
 

@@ -1,6 +1,6 @@
 use Rattle.std.proofs.Common.{ap, ◌∙◌}
 use Rattle.std.specs.List.{position}
-use Rattle.qs_nquads.specs.Run.{ends_in_string}
+use Rattle.qs_nquads.specs.inner.Run.{ends_in_string}
 use Rattle.qs_nquads.proofs.Runs.{string_ended, string_unended}
 use Rattle.qs_nquads.proofs.run.string_run.Goals as goal
 

@@ -1,7 +1,7 @@
 use Rattle.std.proofs.Common.{◌≡◌}
 use Rattle.std.specs.List.{filter, filter_map}
 use Rattle.qs_ops.specs.Row.{row_solution}
-use Rattle.qs_ops.specs.Steps.{bound_entry}
+use Rattle.qs_ops.specs.inner.Steps.{bound_entry}
 use Rattle.qs_ops.specs.Tests.{lets}
 use Rattle.qs_ops.proofs.cursor.next_bound.Given as goal
 

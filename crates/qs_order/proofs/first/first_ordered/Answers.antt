@@ -1,6 +1,6 @@
 use Rattle.std.proofs.Common.{arith}
 use Rattle.std.proofs.lemmas.Result.{IfOk-weaker}
-use Rattle.qs_order.specs.Keyed.{lent}
+use Rattle.qs_order.specs.inner.Keyed.{lent}
 use Rattle.qs_order.specs.Order.{IsOrdered}
 use Rattle.qs_terms.specs.Bag.{SameBag}
 use Rattle.qs_order.proofs.FirstRows.{all_are_first}

@@ -1,6 +1,6 @@
 use Rattle.std.proofs.Common.{◌≡◌, map}
 use Rattle.std.proofs.lemmas.Result.{IfOk-weaker}
-use Rattle.qs_order.specs.Keyed.{lent, row_of}
+use Rattle.qs_order.specs.inner.Keyed.{lent, row_of}
 use Rattle.qs_order.proofs.FirstRows.{first_rows}
 use Rattle.qs_order.proofs.first.least_rows.Goals as goal
 

@@ -1,5 +1,5 @@
 use Rattle.std.proofs.Common.{◌≡◌, take, map, All}
-use Rattle.qs_order.specs.Keyed.{row_of, IsKeyed}
+use Rattle.qs_order.specs.inner.Keyed.{row_of, IsKeyed}
 use Rattle.qs_order.proofs.keyed.keyed_rows.Given as goal
 
 abbrev pub invariant-loop-row : goal.invariant-loop-row

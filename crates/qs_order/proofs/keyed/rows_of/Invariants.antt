@@ -1,5 +1,5 @@
 use Rattle.std.proofs.Common.{◌≡◌, take, map}
-use Rattle.qs_order.specs.Keyed.{lent, row_of}
+use Rattle.qs_order.specs.inner.Keyed.{lent, row_of}
 use Rattle.qs_order.proofs.keyed.rows_of.Given as goal
 
 abbrev pub invariant-loop-one : goal.invariant-loop-one

@@ -1,7 +1,7 @@
 use Rattle.std.proofs.Common.{rules}
 use Rattle.std.proofs.lemmas.List.Sorted.{ranks_by}
 use Rattle.std.proofs.lemmas.Fn.{always_returns_same}
-use Rattle.qs_order.specs.Keyed.{is_lower}
+use Rattle.qs_order.specs.inner.Keyed.{is_lower}
 use Rattle.qs_order.proofs.Total.{lists_total}
 use Rattle.qs_order.proofs.keyed.sort.Goals as goal
 

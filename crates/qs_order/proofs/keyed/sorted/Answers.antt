@@ -1,6 +1,6 @@
 use Rattle.std.proofs.Common.{◌≡◌, ◌∙◌, ap, map}
 use Rattle.std.proofs.lemmas.Result.{IfOk-weaker}
-use Rattle.qs_order.specs.Keyed.{lent, row_of}
+use Rattle.qs_order.specs.inner.Keyed.{lent, row_of}
 use Rattle.qs_order.proofs.Sorted.{sorted_rows}
 use Rattle.qs_order.proofs.keyed.sorted.Goals as goal
 

@@ -1,5 +1,5 @@
 use Rattle.std.proofs.Common.{◌≡◌, drop}
-use Rattle.qs_order.specs.Keys.{compare_keys}
+use Rattle.qs_order.specs.inner.Keys.{compare_keys}
 use Rattle.qs_order.proofs.keys.compared.Given as goal
 
 abbrev pub invariant-loop-condition : goal.invariant-loop-condition

@@ -1,5 +1,5 @@
 use Rattle.std.proofs.Common.{◌≡◌, take}
-use Rattle.qs_order.specs.Keys.{keys_of}
+use Rattle.qs_order.specs.inner.Keys.{keys_of}
 use Rattle.qs_order.proofs.keys.keys_of.Given as goal
 
 abbrev pub invariant-loop-condition : goal.invariant-loop-condition

@@ -1,5 +1,5 @@
 use Rattle.std.proofs.Common.{rules, arith, ◌∷◌, []}
-use Rattle.qs_grammar.specs.Repeated.{push}
+use Rattle.qs_grammar.specs.inner.Repeated.{push}
 use Rattle.qs_grammar.specs.Grammar.{read}
 use Rattle.qs_grammar.proofs.Loops.{all_read, goes_on}
 use Rattle.qs_tree.specs.declared.kind.Kind.TheVariants as k

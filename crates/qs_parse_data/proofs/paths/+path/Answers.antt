@@ -1,5 +1,5 @@
 use Rattle.std.proofs.Common.{rules, arith, ◌∷◌, [], refl}
-use Rattle.qs_grammar.specs.Repeated.{push}
+use Rattle.qs_grammar.specs.inner.Repeated.{push}
 use Rattle.qs_grammar.specs.Rule.{placed}
 use Rattle.qs_grammar.specs.Notation.{◌>>◌, ◌<$>◌}
 use Rattle.qs_grammar.specs.Grammar.{read, read_at}

@@ -1,6 +1,6 @@
 use Rattle.std.proofs.lemmas.Grind.{common_steps}
 use Rattle.std.proofs.Common.{rules, arith, ap, ◌∙◌, Err, ◌≡◌, ◌∷◌, [], refl}
-use Rattle.qs_grammar.specs.Repeated.{keep, push}
+use Rattle.qs_grammar.specs.inner.Repeated.{keep, push}
 use Rattle.qs_grammar.specs.Notation.{◌>>◌}
 use Rattle.qs_grammar.specs.Grammar.{read, read_at}
 use Rattle.qs_grammar.proofs.Loops.{all_read, all_kept, goes_on, deeper, after_none, after_some, after_fault}

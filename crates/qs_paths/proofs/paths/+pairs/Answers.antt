@@ -7,7 +7,7 @@ use Rattle.qs_terms.specs.Bag.{SameBag}
 use Rattle.qs_ast.specs.declared.path.Path.{the_lemmas}
 use Rattle.qs_paths.specs.Closure.{from_start}
 use Rattle.qs_paths.specs.Edges.{lent}
-use Rattle.qs_paths.specs.Found.{with_all, rights, turned, node_or_open, into_pair}
+use Rattle.qs_paths.specs.inner.Found.{with_all, rights, turned, node_or_open, into_pair}
 use Rattle.qs_paths.specs.Pair.{swapped}
 use Rattle.qs_paths.specs.Pairs.{in_sequence, is_step, pairs}
 use Rattle.qs_paths.specs.Steps.{composed}

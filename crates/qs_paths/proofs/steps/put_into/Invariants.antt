@@ -1,5 +1,5 @@
 use Rattle.std.proofs.Common.{◌≡◌, ◌++◌, take}
-use Rattle.qs_paths.specs.Found.{into_pair}
+use Rattle.qs_paths.specs.inner.Found.{into_pair}
 use Rattle.qs_paths.proofs.steps.put_into.Given as goal
 
 abbrev pub invariant-loop-first : goal.invariant-loop-first

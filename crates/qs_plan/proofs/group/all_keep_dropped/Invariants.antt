@@ -1,6 +1,6 @@
 use Rattle.std.proofs.Common.{take}
 use Rattle.std.specs.List.{AllByRecursion}
-use Rattle.qs_plan.specs.Groups.{KeepsDropped}
+use Rattle.qs_plan.specs.inner.Groups.{KeepsDropped}
 use Rattle.qs_plan.proofs.group.all_keep_dropped.Given as goal
 
 abbrev pub invariant-loop-one : goal.invariant-loop-one

@@ -1,7 +1,7 @@
 use Rattle.std.proofs.Common.{map, sym, rules, ◌∙◌}
 use Rattle.qs_groups.specs.Stages.{kept_of}
 use Rattle.qs_ops.specs.Row.{front}
-use Rattle.qs_plan.specs.Groups.{ahead}
+use Rattle.qs_plan.specs.inner.Groups.{ahead}
 use Rattle.qs_plan.proofs.Groups.{ahead_one, smaller, ahead_took, took_less, took_last, enough_came}
 use Rattle.qs_plan.proofs.group.searched.Goals as goal
 

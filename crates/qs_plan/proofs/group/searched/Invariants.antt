@@ -2,7 +2,7 @@ use Rattle.std.proofs.Common.{◌≡◌, ◌+◌, ◌++◌, map, length}
 use Rattle.qs_terms.specs.Bag.{SameBag}
 use Rattle.qs_groups.specs.Stages.{kept_of}
 use Rattle.qs_ops.specs.Row.{front}
-use Rattle.qs_plan.specs.Groups.{ahead}
+use Rattle.qs_plan.specs.inner.Groups.{ahead}
 use Rattle.qs_plan.proofs.group.searched.Given as goal
 
 -- the rows so far, and what is still ahead

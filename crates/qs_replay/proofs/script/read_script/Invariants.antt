@@ -1,7 +1,7 @@
 -- The lines before what is left are read.
 use Rattle.std.proofs.Common.{length, map}
 use Rattle.qs_replay.specs.Happenings.{event_of}
-use Rattle.qs_replay.specs.Told.{IsReadTo}
+use Rattle.qs_replay.specs.inner.Told.{IsReadTo}
 use Rattle.qs_replay.proofs.script.read_script.Given as goal
 
 abbrev pub invariant-loop-rest : goal.invariant-loop-rest

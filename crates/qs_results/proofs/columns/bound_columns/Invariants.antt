@@ -1,6 +1,6 @@
 use Rattle.std.proofs.Common.{◌≡◌, take}
 use Rattle.serde_json.specs.Data.{no_members}
-use Rattle.qs_results.specs.Columns.{members_of}
+use Rattle.qs_results.specs.inner.Columns.{members_of}
 use Rattle.qs_results.specs.Json.{with_bindings}
 use Rattle.qs_results.proofs.Sorted.{AreBound}
 use Rattle.qs_results.proofs.columns.bound_columns.Given as goal

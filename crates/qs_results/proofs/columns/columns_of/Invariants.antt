@@ -1,5 +1,5 @@
 use Rattle.std.proofs.Common.{take}
-use Rattle.qs_results.specs.Columns.{AreColumns}
+use Rattle.qs_results.specs.inner.Columns.{AreColumns}
 use Rattle.qs_results.proofs.Sorted.{Ascend}
 use Rattle.qs_results.proofs.columns.columns_of.Given as goal
 

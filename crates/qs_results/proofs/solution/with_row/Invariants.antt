@@ -2,7 +2,7 @@ use Rattle.std.proofs.Common.{◌≡◌, ◌++◌, ◌∷◌, drop}
 use Rattle.json.specs.Token.{begin_object}
 use Rattle.json.specs.Tree.{members_tokens}
 use Rattle.serde_json.specs.Written.{members_outline}
-use Rattle.qs_results.specs.Columns.{members_of}
+use Rattle.qs_results.specs.inner.Columns.{members_of}
 use Rattle.qs_results.proofs.solution.with_row.Given as goal
 
 -- with those of the columns that are left the tokens become those of the row

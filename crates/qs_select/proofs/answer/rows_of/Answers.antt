@@ -1,6 +1,6 @@
 use Rattle.std.proofs.Common.{◌≡◌, ◌∙◌, ap, map}
 use Rattle.qs_solutions.specs.Solution.{projected}
-use Rattle.qs_eval.specs.Lent.{lent}
+use Rattle.qs_eval.specs.inner.Lent.{lent}
 use Rattle.qs_select.specs.Sequence.{sliced}
 use Rattle.qs_select.proofs.Ordered.{few}
 use Rattle.qs_select.proofs.answer.rows_of.Goals as goal

@@ -1,7 +1,7 @@
 use Rattle.std.proofs.Common.{◌≡◌, ◌++◌, ◌∷◌, [], ◌∙◌, ap, map, take, sym, List, ◌+◌}
 use Rattle.qs_terms.specs.Bag.{once}
 use Rattle.qs_solutions.specs.Solution.{Solution, projected, same_solution}
-use Rattle.qs_eval.specs.Lent.{lent}
+use Rattle.qs_eval.specs.inner.Lent.{lent}
 use Rattle.qs_eval.proofs.Same.{same_solution-Decides}
 use Rattle.qs_eval.proofs.Known.{was_new, was_known, on_false}
 use Rattle.qs_select.proofs.Cells.{read, order, reads}

@@ -1,7 +1,7 @@
 use Rattle.std.proofs.Common.{◌≡◌, map, take}
 use Rattle.qs_terms.specs.Bag.{once}
 use Rattle.qs_solutions.specs.Solution.{projected, same_solution}
-use Rattle.qs_eval.specs.Lent.{lent}
+use Rattle.qs_eval.specs.inner.Lent.{lent}
 use Rattle.qs_eval.proofs.Same.{same_solution-Decides}
 use Rattle.qs_select.proofs.Cells.{read, order, reads}
 use Rattle.qs_select.proofs.Known.{Knows}

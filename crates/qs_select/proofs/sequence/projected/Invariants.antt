@@ -1,6 +1,6 @@
 use Rattle.std.proofs.Common.{◌≡◌, map, take}
 use Rattle.qs_solutions.specs.Solution.{projected}
-use Rattle.qs_eval.specs.Lent.{lent}
+use Rattle.qs_eval.specs.inner.Lent.{lent}
 use Rattle.qs_select.proofs.sequence.projected.Given as goal
 
 abbrev pub invariant-loop-row : goal.invariant-loop-row

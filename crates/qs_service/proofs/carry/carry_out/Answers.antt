@@ -4,7 +4,7 @@ use Rattle.qs_http.specs.declared.request.Request.TheVariants.{Query, Update, Du
 use Rattle.qs_update.specs.Request.{bounds_of}
 use Rattle.qs_service.specs.Carried.{Carries}
 use Rattle.qs_service.specs.Meaning.{sparql}
-use Rattle.qs_service.specs.Talk.{CarriesOrMemory}
+use Rattle.qs_service.specs.inner.Talk.{CarriesOrMemory}
 use Rattle.qs_service.proofs.Made.{carries_or, at_bounds}
 use Rattle.qs_service.proofs.carry.carry_out.Goals as goal
 

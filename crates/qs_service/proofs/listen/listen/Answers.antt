@@ -3,7 +3,7 @@ use Rattle.qs_store.specs.Content.{Content}
 use Rattle.qs_update.specs.Request.{Bounds, bounds_of}
 use Rattle.qs_service.specs.Meaning.{sparql}
 use Rattle.qs_service.specs.Serve.{IsAnsweredWith}
-use Rattle.qs_service.specs.Talk.{bytes_read}
+use Rattle.qs_service.specs.inner.Talk.{bytes_read}
 use Rattle.qs_service.proofs.Bounds.{same_bounds}
 use Rattle.qs_service.proofs.Listening.{consumes_more, consumes_none, keeps_same, nothing_yet}
 use Rattle.qs_service.proofs.listen.listen.Goals as goal

@@ -2,7 +2,7 @@ use Rattle.std.proofs.Common.{◌≡◌, ◌≤◌, length}
 use Rattle.std.specs.Io.KnownBytes.{Keeps, Consumes}
 use Rattle.qs_http.specs.Outcome.{More}
 use Rattle.qs_http.specs.RequestOf.{IsRequestOf}
-use Rattle.qs_service.specs.Talk.{IsReading, bytes_read}
+use Rattle.qs_service.specs.inner.Talk.{IsReading, bytes_read}
 use Rattle.qs_service.proofs.listen.listen.Given as goal
 
 abbrev pub invariant-loop : goal.invariant-loop

@@ -1,7 +1,7 @@
 use Rattle.std.proofs.Common.{arith, sym, ap, ◌∙◌, eq-eqb}
 use Rattle.std.proofs.lemmas.List.Sums.{position_or_len_is}
 use Rattle.qs_service.specs.State.{Joined}
-use Rattle.qs_service.specs.Table.{has_id}
+use Rattle.qs_service.specs.inner.Table.{has_id}
 use Rattle.qs_service.proofs.Places.{none_has, place_at}
 use Rattle.qs_service.proofs.table.place_of.Goals as goal
 

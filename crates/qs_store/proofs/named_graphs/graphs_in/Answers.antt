@@ -1,5 +1,5 @@
 use Rattle.std.proofs.Common.{sym, subst}
-use Rattle.qs_store.specs.Holding.{AreGraphsUpTo}
+use Rattle.qs_store.specs.inner.Holding.{AreGraphsUpTo}
 use Rattle.qs_store.proofs.Holding.{up_to_more, next_in, graph_stands}
 use Rattle.qs_store.proofs.named_graphs.graphs_in.Goals as goal
 

@@ -1,5 +1,5 @@
 use Rattle.std.proofs.Common.{◌-◌, ◌^◌}
-use Rattle.qs_store.specs.Holding.{AreGraphsUpTo}
+use Rattle.qs_store.specs.inner.Holding.{AreGraphsUpTo}
 use Rattle.qs_store.proofs.named_graphs.graphs_in.Given as goal
 
 abbrev pub invariant-graphs : goal.invariant-graphs

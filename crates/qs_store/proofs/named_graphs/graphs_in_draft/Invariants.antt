@@ -1,5 +1,5 @@
 use Rattle.std.proofs.Common.{◌-◌, ◌^◌}
-use Rattle.qs_store.specs.Holding.{AreGraphsUpTo}
+use Rattle.qs_store.specs.inner.Holding.{AreGraphsUpTo}
 use Rattle.qs_store.specs.Layers.{drafted}
 use Rattle.qs_store.proofs.named_graphs.graphs_in_draft.Given as goal
 

@@ -3,7 +3,7 @@ use Rattle.qs_store.specs.Change.{with_terms_of}
 use Rattle.qs_store.specs.Entries.{entry_of}
 use Rattle.qs_dict.specs.Dict.{IsDictionary}
 use Rattle.qs_store.specs.Content.{AreLawful}
-use Rattle.qs_store.specs.Store.{IsFront}
+use Rattle.qs_store.specs.inner.Store.{IsFront}
 use Rattle.qs_store.proofs.numbers.numbered_all.Given as goal
 
 abbrev pub invariant-loop-quad : goal.invariant-loop-quad

@@ -1,6 +1,6 @@
 use Rattle.std.proofs.Common.{◌++◌, sym, subst}
 use Rattle.std.specs.Option.{option_copied}
-use Rattle.qs_store.specs.Copied.{AreEntriesOf}
+use Rattle.qs_store.specs.inner.Copied.{AreEntriesOf}
 use Rattle.qs_store.specs.Entries.{said}
 use Rattle.qs_store.specs.WholeGraphs.{in_graph, removed_by}
 use Rattle.qs_store.proofs.Copied.{both_said, same_entries}

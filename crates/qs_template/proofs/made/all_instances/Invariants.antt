@@ -1,6 +1,6 @@
 use Rattle.std.proofs.Common.{◌≡◌, ◌++◌, drop}
 use Rattle.qs_template.specs.Instances.{instances, next_after}
-use Rattle.qs_template.specs.Lent.{lent}
+use Rattle.qs_template.specs.inner.Lent.{lent}
 use Rattle.qs_template.proofs.made.all_instances.Given as goal
 
 abbrev pub invariant-loop-row : goal.invariant-loop-row

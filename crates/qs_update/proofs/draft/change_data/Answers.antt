@@ -1,5 +1,5 @@
 use Rattle.std.proofs.Common.{◌∙◌, sym, ap, subst}
-use Rattle.qs_update.specs.Carried.{BecomesOne}
+use Rattle.qs_update.specs.inner.Carried.{BecomesOne}
 use Rattle.qs_update.specs.Effect.{of_data}
 use Rattle.qs_update.specs.Request.{IsCarriedOut}
 use Rattle.qs_update.proofs.draft.change_data.Goals as goal

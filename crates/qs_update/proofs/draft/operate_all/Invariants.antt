@@ -1,5 +1,5 @@
 use Rattle.std.proofs.Common.{◌≡◌, take}
-use Rattle.qs_update.specs.Carried.{Standing}
+use Rattle.qs_update.specs.inner.Carried.{Standing}
 use Rattle.qs_update.proofs.draft.operate_all.Given as goal
 
 abbrev pub invariant-loop-operation : goal.invariant-loop-operation

@@ -1,7 +1,7 @@
 use Rattle.std.proofs.Common.{◌∙◌, ap, List, subst}
 use Rattle.qs_ast.specs.declared.update.QuadBlock.{QuadBlock}
 use Rattle.qs_scope.specs.Firsts.{names_of}
-use Rattle.qs_template.specs.Lent.{lent}
+use Rattle.qs_template.specs.inner.Lent.{lent}
 use Rattle.qs_template.specs.Template.{template_in, template_of_blocks}
 use Rattle.qs_template.specs.declared.template.Template.{Template}
 use Rattle.qs_terms.specs.Outcome.{OneOrWantOfMemory}

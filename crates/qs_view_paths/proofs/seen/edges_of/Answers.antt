@@ -1,5 +1,5 @@
 use Rattle.std.proofs.Common.{sym}
-use Rattle.qs_view_paths.specs.Said.{said}
+use Rattle.qs_view_paths.specs.inner.Said.{said}
 use Rattle.qs_view_paths.proofs.Lists.{all_there, one_more, one_of_all, said_more}
 use Rattle.qs_view_paths.proofs.seen.edges_of.Goals as goal
 

@@ -1,5 +1,5 @@
 use Rattle.std.proofs.Common.{◌≡◌, ◌++◌, map}
-use Rattle.qs_view_paths.specs.Said.{said}
+use Rattle.qs_view_paths.specs.inner.Said.{said}
 use Rattle.qs_view_paths.proofs.seen.edges_of.Given as goal
 
 -- the edges so far, and the triples that are left

@@ -4,7 +4,7 @@ use Rattle.qs_replay.specs.Script.{IsScript, IsScriptFault}
 use Rattle.qs_replay.specs.declared.script.ScriptFault.{ScriptFault}
 use Rattle.qs_replay.specs.declared.happening.Happening.{Happening}
 use Rattle.quads.specs.Due.{line, script_line, IsDueOfEvents}
-use Rattle.quads.specs.Replayed.{IsBegunOfEvents, IsScriptDue, IsScriptBegun}
+use Rattle.quads.specs.inner.Replayed.{IsBegunOfEvents, IsScriptDue, IsScriptBegun}
 use Rattle.quads.proofs.Replays.{refused, runs_on, script_due, script_begun, no_script, no_memory, begun_of_due, wanting}
 use Rattle.quads.proofs.replayed.script_over.Goals as goal
 

@@ -1,5 +1,5 @@
-use Rattle.quads.specs.Refusal.{refusal_text}
-use Rattle.quads.specs.Replayed.{IsScriptDue, IsScriptBegun, IsReplayDue, IsReplayBegun}
+use Rattle.quads.specs.inner.Refusal.{refusal_text}
+use Rattle.quads.specs.inner.Replayed.{IsScriptDue, IsScriptBegun, IsReplayDue, IsReplayBegun}
 use Rattle.quads.proofs.Replays.{refused, runs_on, replay_due, replay_begun, refusal_due, memory_due, begun_of_replay}
 use Rattle.quads.proofs.replayed.script_ran.Goals as goal
 

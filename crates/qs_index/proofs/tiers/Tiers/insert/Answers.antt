@@ -1,5 +1,5 @@
 use Rattle.std.proofs.Common.{◌≡◌, ◌*◌, ◌<◌, ◌≤◌, length, arith, ap, ◌∙◌}
-use Rattle.qs_index.specs.Tiers.{flat}
+use Rattle.qs_index.specs.inner.Tiers.{flat}
 use Rattle.qs_index.proofs.Blocks.{gap_room, inserted}
 use Rattle.qs_index.proofs.tiers.Tiers.insert.Goals as goal
 

@@ -1,5 +1,5 @@
 use Rattle.std.proofs.Common.{◌≡◌, ap, ◌∙◌}
-use Rattle.qs_index.specs.Tiers.{flat}
+use Rattle.qs_index.specs.inner.Tiers.{flat}
 use Rattle.qs_index.proofs.Blocks.{located, held_page}
 use Rattle.qs_index.proofs.tiers.Tiers.page.Goals as goal
 

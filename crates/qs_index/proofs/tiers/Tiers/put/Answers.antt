@@ -1,6 +1,6 @@
 use Rattle.std.proofs.Common.{◌≡◌, ◌<◌, ◌≤◌, length, ap, sym, subst}
 use Rattle.std.specs.List.{insert}
-use Rattle.qs_index.specs.Tiers.{flat}
+use Rattle.qs_index.specs.inner.Tiers.{flat}
 use Rattle.qs_index.proofs.Blocks.{held_page, written}
 use Rattle.qs_index.proofs.tiers.Tiers.put.Goals as goal
 

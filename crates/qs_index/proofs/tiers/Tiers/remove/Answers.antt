@@ -1,6 +1,6 @@
 use Rattle.std.proofs.Common.{◌≡◌, ◌*◌, ◌/◌, ◌≤◌, length, set, arith, ap, ◌∙◌}
 use Rattle.std.proofs.lemmas.List.{length-set}
-use Rattle.qs_index.specs.Tiers.{flat}
+use Rattle.qs_index.specs.inner.Tiers.{flat}
 use Rattle.qs_index.proofs.Blocks.{held_page, taken, closed}
 use Rattle.qs_index.proofs.tiers.Tiers.remove.Goals as goal
 

@@ -1,5 +1,5 @@
 use Rattle.std.proofs.Common.{◌≡◌, ◌++◌, ◌∷◌, [], length, arith, ap, sym, ◌∙◌, subst, length-append}
-use Rattle.qs_index.specs.Tiers.{flat, IsTiered}
+use Rattle.qs_index.specs.inner.Tiers.{flat, IsTiered}
 use Rattle.qs_index.proofs.Blocks.{IsTiered-push, flat_push, pushed_of_ok}
 use Rattle.qs_index.proofs.tiers.Tiers.reserve.Goals as goal
 

@@ -1,6 +1,6 @@
 use Rattle.std.proofs.Common.{◌≡◌, ◌+◌, ◌-◌, ◌*◌, ◌≤◌, length}
 use Rattle.std.specs.Prelude.{vec_capacity}
-use Rattle.qs_index.specs.Tiers.{flat, IsTiered}
+use Rattle.qs_index.specs.inner.Tiers.{flat, IsTiered}
 use Rattle.qs_index.proofs.tiers.Tiers.reserve.Given as goal
 
 abbrev pub decreases-loop-self : goal.decreases-loop-self

@@ -1,5 +1,5 @@
 use Rattle.std.proofs.Common.{◌≡◌, length, take, drop, ap, sym, ◌∙◌, subst}
-use Rattle.qs_index.specs.Tiers.{flat}
+use Rattle.qs_index.specs.inner.Tiers.{flat}
 use Rattle.qs_index.proofs.Blocks.{held_page, written}
 use Rattle.qs_index.proofs.tiers.Tiers.split_into.Goals as goal
 

@@ -1,6 +1,6 @@
 use Rattle.std.proofs.Common.{◌≡◌, ◌-◌, ◌∷◌, []}
 use Rattle.qs_grammar.specs.Reading.{loop}
-use Rattle.qs_grammar.specs.Repeated.{into, push}
+use Rattle.qs_grammar.specs.inner.Repeated.{into, push}
 use Rattle.qs_grammar.specs.Grammar.{read}
 use Rattle.qs_tree.specs.declared.kind.Kind.TheVariants as k
 use Rattle.qs_tree.specs.Sparql.{sparql}

@@ -1,6 +1,6 @@
 use Rattle.std.proofs.lemmas.Grind.{common_steps}
 use Rattle.std.proofs.Common.{rules, arith, ◌≡◌, Err, ◌∷◌, []}
-use Rattle.qs_grammar.specs.Repeated.{push}
+use Rattle.qs_grammar.specs.inner.Repeated.{push}
 use Rattle.qs_grammar.specs.Grammar.{read}
 use Rattle.qs_grammar.proofs.Loops.{all_read, goes_on, fails}
 use Rattle.qs_grammar.specs.declared.fault.Fault.{Fault}

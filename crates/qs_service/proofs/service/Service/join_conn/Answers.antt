@@ -1,7 +1,7 @@
 use Rattle.std.proofs.Common.{arith, ap, subst, ◌∙◌, refl, List, [], ◌∷◌, ◌++◌}
 use Rattle.qs_update.specs.Request.{bounds_of}
 use Rattle.qs_service.specs.State.{Joined, Reading}
-use Rattle.qs_service.specs.Table.{IsPlace}
+use Rattle.qs_service.specs.inner.Table.{IsPlace}
 use Rattle.qs_service.proofs.service.Service.join_conn.Goals as goal
 
 pub returns-then-place_of-len : goal.returns-then-place_of-len

@@ -1,6 +1,6 @@
 use Rattle.std.proofs.Common.{arith, sym, ap, subst, ◌∙◌, refl, List, Some}
 use Rattle.qs_service.specs.State.{Joined}
-use Rattle.qs_service.specs.Table.{IsPlace}
+use Rattle.qs_service.specs.inner.Table.{IsPlace}
 use Rattle.qs_service.proofs.Bounds.{same_bounds, same_state}
 use Rattle.qs_service.proofs.service.Service.piece.Goals as goal
 

@@ -1,7 +1,7 @@
 use Rattle.std.proofs.Common.{arith, sym, ap, subst, ◌∙◌, List, Some}
 use Rattle.qs_service.specs.State.{Joined}
 use Rattle.qs_service.specs.State.{reply_in}
-use Rattle.qs_service.specs.Table.{IsPlace}
+use Rattle.qs_service.specs.inner.Table.{IsPlace}
 use Rattle.qs_service.proofs.service.Service.reply.Goals as goal
 
 pub returns-then-place-len : goal.returns-then-place-len

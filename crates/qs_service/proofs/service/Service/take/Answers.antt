@@ -3,8 +3,8 @@ use Rattle.std.proofs.lemmas.Grind.{get_or-set_at}
 use Rattle.qs_update.specs.Request.{bounds_of}
 use Rattle.qs_service.specs.State.{Joined, Exchange, Reading, Answered, put_exchange, with_taken}
 use Rattle.qs_service.specs.Step.{joined_taken}
-use Rattle.qs_service.specs.Table.{IsPlace}
-use Rattle.qs_service.specs.Talk.{part_of}
+use Rattle.qs_service.specs.inner.Table.{IsPlace}
+use Rattle.qs_service.specs.inner.Talk.{part_of}
 use Rattle.qs_service.specs.declared.part.Part.{Part}
 use Rattle.qs_service.specs.declared.part.Part.TheVariants.{Front, Body}
 use Rattle.qs_service.proofs.service.Service.take.Goals as goal

@@ -1,5 +1,5 @@
 use Rattle.std.proofs.Common.{◌≡◌, ◌∷◌, map}
-use Rattle.qs_store.specs.Copied.{AreCopies}
+use Rattle.qs_store.specs.inner.Copied.{AreCopies}
 use Rattle.qs_store.proofs.Copied.{found_so, copies_of_triples}
 use Rattle.qs_store.proofs.layers.Layers.draft_copies.Goals as goal
 

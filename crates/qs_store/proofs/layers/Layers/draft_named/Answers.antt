@@ -1,5 +1,5 @@
 use Rattle.std.proofs.Common.{◌+◌, ◌≤◌, length, get_or, take, refl, sym, subst, arith, ◌∙◌}
-use Rattle.qs_store.specs.Copied.{AreInGraphs}
+use Rattle.qs_store.specs.inner.Copied.{AreInGraphs}
 use Rattle.qs_store.proofs.Copied.{one_graph_more, all_named, all_taken}
 use Rattle.qs_store.proofs.layers.Layers.draft_named.Goals as goal
 

@@ -1,7 +1,7 @@
 use Rattle.std.proofs.Common.{◌≤◌, take, ap, sym, subst, ◌∙◌}
 use Rattle.qs_store.specs.Entries.{said}
 use Rattle.qs_store.specs.Change.{IsChanged}
-use Rattle.qs_store.specs.Store.{IsStore}
+use Rattle.qs_store.specs.inner.Store.{IsStore}
 use Rattle.qs_store.proofs.Stored.{content, store_changed, base_same}
 use Rattle.qs_store.proofs.store.Store.change_draft.Goals as goal
 

@@ -1,7 +1,7 @@
 use Rattle.std.proofs.Common.{sym, subst}
 use Rattle.qs_store.specs.Entries.{said}
 use Rattle.qs_store.specs.Same.{SameSet}
-use Rattle.qs_store.specs.Store.{IsStore}
+use Rattle.qs_store.specs.inner.Store.{IsStore}
 use Rattle.qs_store.proofs.Stored.{store_settled, said_settled}
 use Rattle.qs_store.proofs.store.Store.settle.Goals as goal
 

@@ -4,8 +4,8 @@ use Rattle.std.specs.Ordering.{nat_cmp}
 use Rattle.qs_ast.specs.declared.term.BlankNode.{BlankNode}
 use Rattle.qs_ast.specs.declared.term.BlankNode.TheVariants.{Anonymous}
 use Rattle.qs_template.specs.Blanks.{number_in}
-use Rattle.qs_template.specs.Lent.{lent}
-use Rattle.qs_template.specs.Numbered.{by_text}
+use Rattle.qs_template.specs.inner.Lent.{lent}
+use Rattle.qs_template.specs.inner.Numbered.{by_text}
 use Rattle.qs_template.proofs.Numbered.{lent_more, with_place}
 use Rattle.qs_template.proofs.blanks.Blanks.put_anonymous.Goals as goal
 

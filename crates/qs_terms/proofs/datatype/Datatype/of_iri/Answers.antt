@@ -1,5 +1,5 @@
 use Rattle.std.proofs.Common.{◌∙◌, sym, ap, refl}
-use Rattle.qs_terms.specs.Datatype.{untagged}
+use Rattle.qs_terms.specs.inner.Datatype.{untagged}
 use Rattle.qs_terms.specs.declared.datatype.Known.TheVariants.{LangString}
 use Rattle.qs_terms.proofs.Datatypes.{known_iri, unknown_iri, is_unknown}
 use Rattle.qs_terms.proofs.datatype.Datatype.of_iri.Goals as goal

@@ -1,9 +1,0 @@
--- What is left of the table after a token's first character.
--- (Inner: it serves proofs, and no promise of the product is read by it.)
-use Rattle.std.specs.Prelude.{ℕ}
-use Rattle.qs_lex.specs.Table.{Left, table}
-use Rattle.qs_regular.specs.Longest.{advance}
-
--- the classes whose tokens may begin with the character
-unfoldable pub begun : ℕ → Left
-begun c = advance table c

@@ -1,0 +1,4 @@
+-- What serves proofs alone: no promise of the product is read by it.
+pub mod Changes
+pub mod Table
+pub mod Talk
