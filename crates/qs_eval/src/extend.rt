@@ -42,11 +42,7 @@ fn may_match(pattern: &TriplePattern, quad: &Quad, row: &Row) -> bool
 }
 
 /// The row with the slot's variable bound to the term, where that agrees with the row.
-fn bind_slot(
-    slot: &Slot,
-    term: &Term,
-    mut row: Row,
-) -> Result<Option<Row>, AllocError>
+fn bind_slot(slot: &Slot, term: &Term, mut row: Row) -> Result<Option<Row>, AllocError>
     ensures { IfOk result (λ o. o ≡ bound_slot slot.now term.now row) }
 {
     match slot {

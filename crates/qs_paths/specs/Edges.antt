@@ -1,5 +1,5 @@
 -- Triples that are lent, and triples found by an end.
-use Rattle.std.specs.Prelude.{◌≡◌, List, [], map, Option, Some, None, Vec}
+use Rattle.std.specs.Prelude.{◌≡◌, ◌&&◌, Bool, List, [], map, Option, Some, None, Vec}
 use Rattle.std.specs.Borrow.{Bor}
 use Rattle.std.specs.List.{filter}
 use Rattle.std.specs.Map.{lookup}
@@ -7,7 +7,7 @@ use Rattle.qs_terms.specs.declared.term.Term.{Term}
 use Rattle.qs_terms.specs.Dataset.{Triple, triple_of}
 use Rattle.qs_terms.specs.Statement.{Statement}
 use Rattle.qs_terms.specs.Term.{same_term}
-use Rattle.qs_paths.specs.Steps.{Graph}
+use Rattle.qs_paths.specs.Steps.{Graph, agrees}
 
 -- the values that are lent
 abbrev pub lent : {X : Type 0} → List (Bor X) → List X
@@ -32,8 +32,16 @@ at_node entries x = triples_at (lookup (same_term x) entries)
 abbrev pub IsKeyed : {Z : Type 0} → (Triple → Term) → List (Term × Vec (Bor Statement) Z) → Graph → Type 0
 IsKeyed end entries graph = (x : Term) → at_node entries x ≡ filter (λ t. same_term x (end t)) graph
 
--- those of the triples that alone may have these ends
-abbrev pub having : Option Term → Option Term → Graph → Graph
-having None None graph = graph
-having None (Some y) graph = filter (λ t. same_term y t.object) graph
-having (Some x) right graph = filter (λ t. same_term x t.subject) graph
+-- the triple has these ends and this predicate, as far as they are given
+abbrev pub has : Option Term → Option Term → Option Term → Triple → Bool
+has left predicate right t = agrees left t.subject && (agrees predicate t.predicate && agrees right t.object)
+
+-- those of the triples that do
+abbrev pub having : Option Term → Option Term → Option Term → Graph → Graph
+having left predicate right graph = filter (has left predicate right) graph
+
+-- those of the triples that stand at an end: the left one where it is given, else the right one
+abbrev pub at_end : Option Term → Option Term → Graph → Graph
+at_end None None graph = graph
+at_end None (Some y) graph = filter (λ t. same_term y t.object) graph
+at_end (Some x) right graph = filter (λ t. same_term x t.subject) graph

@@ -6,9 +6,10 @@ ghost use Rattle.std.specs.Option.{option_copied};
 ghost use Rattle.qs_terms.specs.Dataset.{triple_of, graph_of, nodes_of};
 ghost use Rattle.qs_terms.specs.Term.{same_term};
 ghost use Rattle.qs_terms.specs.declared.term.Term.{Term as TermValue};
-ghost use Rattle.qs_paths.specs.Edges.{lent, triples, having, at_node, IsKeyed};
+ghost use Rattle.qs_paths.specs.Edges.{lent, triples, has, having, at_end, at_node, IsKeyed};
 
 use crate::source::{Edge, Source};
+use crate::steps::agrees;
 use qs_terms::{Quad, Term};
 use std::alloc::{AllocError, Global};
 use std::collections::BTreeMap;
@@ -160,9 +161,9 @@ impl<'a> Edges<'a> {
         !begins_none | !ends_none
     }
 
-    /// The triples that alone may have these ends.
+    /// The triples that stand at an end: the left one where it is given, else the right one.
     fn quads<'s>(&'s self, left: Option<&Term>, right: Option<&Term>) -> &'s [&'a Quad]
-        ensures { triples result.now ≡ having (option_copied left.entry) (option_copied right.entry) self.now }
+        ensures { triples result.now ≡ at_end (option_copied left.entry) (option_copied right.entry) self.now }
     {
         match (left, right) {
             (Some(left), _) => self.from(left),
@@ -172,14 +173,40 @@ impl<'a> Edges<'a> {
     }
 }
 
-/// The triples of lent quads as edges.
-#[tactic(auto, using(crate::proofs::Finds::triples_more))]
-fn edges_of<'s, 'a>(alloc: Global, quads: &'s [&'a Quad]) -> Result<Vec<Edge<'s>>, AllocError>
-    ensures { IfOk result (λ edges. edges.items ≡ triples quads.now) }
+/// Whether the triple of the quad has these ends and this predicate, as far as they are given.
+fn has(quad: &Quad, left: Option<&Term>, predicate: Option<&Term>, right: Option<&Term>) -> bool
+    ensures { result ≡ has (option_copied left.entry) (option_copied predicate.entry) (option_copied right.entry) (triple_of quad.now) }
+{
+    agrees(left, quad.subject())
+        && agrees(predicate, quad.predicate())
+        && agrees(right, quad.object())
+}
+
+/// Puts the triple of the quad at the end, where it is one.
+fn put_if<'s>(edges: &mut Vec<Edge<'s>>, is_one: bool, quad: &'s Quad) -> Result<(), AllocError>
+    ensures { OnOk result (edges.new.items ≡ edges.old.items ++ (if is_one then triple_of quad.now ∷ [] else [])) }
+{
+    if is_one {
+        edges.push(Edge::new(quad.subject(), quad.predicate(), quad.object()))?;
+    }
+    Ok(())
+}
+
+/// Those triples of lent quads that have these ends and this predicate, as edges.
+#[tactic(auto, using(crate::proofs::Finds::had_more))]
+fn edges_of<'s, 'a>(
+    alloc: Global,
+    quads: &'s [&'a Quad],
+    left: Option<&Term>,
+    predicate: Option<&Term>,
+    right: Option<&Term>,
+) -> Result<Vec<Edge<'s>>, AllocError>
+    ensures { IfOk result (λ edges. edges.items ≡ having (option_copied left.entry) (option_copied predicate.entry) (option_copied right.entry) (triples quads.now)) }
 {
     let mut edges = Vec::new(alloc);
     for quad in quads {
-        edges.push(Edge::new(quad.subject(), quad.predicate(), quad.object()))?;
+        let is_one = has(*quad, left, predicate, right);
+        put_if(&mut edges, is_one, *quad)?;
     }
     Ok(edges)
 }
@@ -187,13 +214,15 @@ fn edges_of<'s, 'a>(alloc: Global, quads: &'s [&'a Quad]) -> Result<Vec<Edge<'s>
 impl<'q> Source for Edges<'q> {
     ghost graph = { λ e. e };
 
+    #[tactic(auto, using(crate::proofs::Finds::had_at_end))]
     fn having<'a>(
         &'a self,
         alloc: Global,
-        left: Option<&'a Term>,
-        right: Option<&'a Term>,
+        left: Option<&Term>,
+        predicate: Option<&Term>,
+        right: Option<&Term>,
     ) -> Result<Vec<Edge<'a>>, AllocError> {
-        let edges = edges_of(alloc, self.quads(left, right))?;
+        let edges = edges_of(alloc, self.quads(left, right), left, predicate, right)?;
         Ok(edges)
     }
 

@@ -67,15 +67,15 @@ impl<'a> Edge<'a> {
 pub trait Source {
     ghost graph: { Self → List Triple };
 
-    /// The edges that alone may have these ends: those from the left one, where it is given; else those to the right one, where it is;
-    /// else all. They come in no promised order.
+    /// The edges that have these ends and this predicate, as far as they are given. They come in no promised order.
     fn having<'a>(
         &'a self,
         alloc: Global,
-        left: Option<&'a Term>,
-        right: Option<&'a Term>,
+        left: Option<&Term>,
+        predicate: Option<&Term>,
+        right: Option<&Term>,
     ) -> Result<Vec<Edge<'a>>, AllocError>
-        ensures { IfOk result (λ edges. SameBag edges.items (having (option_copied left.entry) (option_copied right.entry) (graph self.now))) };
+        ensures { IfOk result (λ edges. SameBag edges.items (having (option_copied left.entry) (option_copied predicate.entry) (option_copied right.entry) (graph self.now))) };
 
     /// Whether the term is a node of the graph: the subject or the object of a triple.
     fn has_node<'a>(&'a self, term: &'a Term) -> bool

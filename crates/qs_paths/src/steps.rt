@@ -17,7 +17,8 @@ use qs_ast::path::NegatedIri;
 use qs_terms::{Iri, Term};
 use std::alloc::{AllocError, Global};
 
-fn agrees(end: Option<&Term>, term: &Term) -> bool
+/// Whether an end is open, or this term.
+pub(crate) fn agrees(end: Option<&Term>, term: &Term) -> bool
     ensures { result ≡ Rattle.qs_paths.specs.Steps.agrees (option_copied end.entry) term.now }
 {
     match end {
@@ -52,8 +53,20 @@ fn put_kept<'a>(
     Ok(())
 }
 
+fn ends<'a>(edge: &Edge<'a>) -> Pair<'a>
+    ensures { result ≡ pair_of edge.now }
+{
+    Pair::new(edge.subject(), edge.object())
+}
+
+fn all_ends<'a>(alloc: Global, edges: &[Edge<'a>]) -> Result<Vec<Pair<'a>>, AllocError>
+    ensures { IfOk result (λ ps. ps.items ≡ map pair_of edges.now) }
+{
+    edges.iter().map(|edge| ends(edge)).collect(alloc)
+}
+
 /// One pair for each triple with this predicate.
-#[tactic(auto, using(crate::proofs::Finds::along_more))]
+#[tactic(auto, using(crate::proofs::Finds::along_had))]
 pub fn along_iri<'a, E: Source>(
     alloc: Global,
     edges: &'a E,
@@ -63,12 +76,11 @@ pub fn along_iri<'a, E: Source>(
 ) -> Result<Vec<Pair<'a>>, AllocError>
     ensures { IfOk result (λ ps. SameBag ps.items (along (same_term (term_is.Iri iri.now)) (E.graph edges.now) (option_copied left.entry) (option_copied right.entry))) }
 {
-    let found = edges.having(alloc, left, right)?;
-    let mut pairs = Vec::new(alloc);
-    for edge in found.as_slice() {
-        let passes = is_iri(iri, edge.predicate());
-        put_kept(&mut pairs, passes, edge, left, right)?;
-    }
+    let predicate = Term::Iri(iri.try_clone()?);
+    let found = edges.having(alloc, left, Some(&predicate), right);
+    drop(predicate);
+    let found = found?;
+    let pairs = all_ends(alloc, found.as_slice())?;
     Ok(pairs)
 }
 
@@ -123,7 +135,7 @@ fn along_outside<'a, E: Source>(
 ) -> Result<Vec<Pair<'a>>, AllocError>
     ensures { IfOk result (λ ps. SameBag ps.items (along (Rattle.qs_paths.specs.Steps.is_outside inverse members.now) (E.graph edges.now) (option_copied left.entry) (option_copied right.entry))) }
 {
-    let found = edges.having(alloc, left, right)?;
+    let found = edges.having(alloc, left, None, right)?;
     let mut pairs = Vec::new(alloc);
     for edge in found.as_slice() {
         let passes = is_outside(members, inverse, edge.predicate());

@@ -31,12 +31,7 @@ fn copied(term: Option<&Term>) -> Result<Option<Term>, AllocError>
     }
 }
 
-fn slot_term(
-    blanks: usize,
-    first: u64,
-    row: &Row,
-    slot: &Slot,
-) -> Result<Option<Term>, AllocError>
+fn slot_term(blanks: usize, first: u64, row: &Row, slot: &Slot) -> Result<Option<Term>, AllocError>
     requires { first + blanks < 2 ^ 64 }
     ensures { IfOk result (λ t. t ≡ spec.slot_term blanks first row.now slot.now) }
 {

@@ -26,10 +26,6 @@ module _ (all xs left : List (List ℕ)) (is : all ≡ xs ++ left) where
 
 -- ---- what a filter leaves
 
-pub filter_all : (ts : List Triple) → filter (λ t. true) ts ≡ ts
-filter_all [] = refl
-filter_all (t ∷ ts) = ap (λ l. t ∷ l) (filter_all ts)
-
 pub filter_none : (p : Triple → Bool) (ts : List Triple) → ((t : Triple) → Contains ts t → p t ≡ false) → filter p ts ≡ []
 filter_none p [] h = refl
 filter_none p (t ∷ ts) h = at (p t) (h t (here t ts)) (filter_none p ts (λ u k. h u (there t u ts k)))

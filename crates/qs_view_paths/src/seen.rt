@@ -1,7 +1,7 @@
 //! The edges of the graph that is active over a view.
 
-ghost use Rattle.std.specs.Prelude.{◌≡◌, None, Some, map, IfOk};
-ghost use Rattle.std.specs.List.{filter, list_any};
+ghost use Rattle.std.specs.Prelude.{◌≡◌, map, IfOk, MatchOption};
+ghost use Rattle.std.specs.List.{list_any};
 ghost use Rattle.std.specs.Option.{option_copied};
 ghost use Rattle.qs_terms.specs.Bag.{SameBag};
 ghost use Rattle.qs_terms.specs.Dataset.{nodes_of};
@@ -9,7 +9,7 @@ ghost use Rattle.qs_terms.specs.Term.{same_term};
 ghost use Rattle.qs_store.specs.Triples.{IsTriple, AreTriples};
 ghost use Rattle.qs_ops.specs.Graph.{active_graph};
 ghost use Rattle.qs_paths.specs.Edges.{having};
-ghost use Rattle.qs_view_paths.specs.inner.Said.{said};
+ghost use Rattle.qs_view_paths.specs.inner.Said.{said, IsGiven, IsUnknown};
 
 use qs_paths::{Edge, Source};
 use qs_store::{Active, Triples, View};
@@ -37,10 +37,11 @@ fn edge_of<'v, V: View>(
     view: &'v V,
     active: Active,
     subject: Option<u32>,
+    predicate: Option<u32>,
     object: Option<u32>,
     triple: [u32; 3],
 ) -> Edge<'v>
-    requires { IsTriple (V.content view.now) (V.default_seen view.now) active subject None object triple }
+    requires { IsTriple (V.content view.now) (V.default_seen view.now) active subject predicate object triple }
     ensures { result ≡ said (V.content view.now).known triple }
 {
     let [subject, predicate, object] = triple;
@@ -53,68 +54,32 @@ fn edges_of<'v, V: View>(
     view: &'v V,
     active: Active,
     subject: Option<u32>,
+    predicate: Option<u32>,
     object: Option<u32>,
     triples: Triples<'_>,
 ) -> Result<Vec<Edge<'v>>, AllocError>
-    requires { AreTriples (V.content view.now) (V.default_seen view.now) active subject None object triples }
+    requires { AreTriples (V.content view.now) (V.default_seen view.now) active subject predicate object triples }
     ensures { IfOk result (λ edges. edges.items ≡ map (said (V.content view.now).known) triples.entry) }
 {
     let mut edges = Vec::new(alloc);
     for triple in triples {
-        let edge = edge_of(view, active, subject, object, triple);
+        let edge = edge_of(view, active, subject, predicate, object, triple);
         edges.push(edge)?;
     }
     Ok(edges)
 }
 
-/// The edges from a node.
-fn edges_from<'v, V: View>(
-    alloc: Global,
-    view: &'v V,
-    active: Active,
-    node: &Term,
-) -> Result<Vec<Edge<'v>>, AllocError>
-    ensures { IfOk result (λ edges. SameBag edges.items (filter (λ t. same_term node.now t.subject) (active_graph (V.content view.now) (V.default_seen view.now) active))) }
+/// The number of a term that is given, or none where it isn't known.
+fn given<V: View>(view: &V, term: Option<&Term>) -> Option<Option<u32>>
+    ensures { MatchOption result (IsUnknown (V.content view.now).known (option_copied term.entry)) (IsGiven (V.content view.now).known (option_copied term.entry)) }
 {
-    let _count = view.count();
-    let _terms = view.terms();
-    let Some(number) = view.find(node) else {
-        return Ok(Vec::new(alloc));
+    let Some(term) = term else {
+        return Some(None);
     };
-    let triples = view.scan(active, Some(number), None, None);
-    edges_of(alloc, view, active, Some(number), None, triples)
-}
-
-/// The edges to a node.
-fn edges_to<'v, V: View>(
-    alloc: Global,
-    view: &'v V,
-    active: Active,
-    node: &Term,
-) -> Result<Vec<Edge<'v>>, AllocError>
-    ensures { IfOk result (λ edges. SameBag edges.items (filter (λ t. same_term node.now t.object) (active_graph (V.content view.now) (V.default_seen view.now) active))) }
-{
-    let _count = view.count();
-    let _terms = view.terms();
-    let Some(number) = view.find(node) else {
-        return Ok(Vec::new(alloc));
-    };
-    let triples = view.scan(active, None, None, Some(number));
-    edges_of(alloc, view, active, None, Some(number), triples)
-}
-
-/// All edges.
-fn edges_all<'v, V: View>(
-    alloc: Global,
-    view: &'v V,
-    active: Active,
-) -> Result<Vec<Edge<'v>>, AllocError>
-    ensures { IfOk result (λ edges. SameBag edges.items (active_graph (V.content view.now) (V.default_seen view.now) active)) }
-{
-    let _count = view.count();
-    let _terms = view.terms();
-    let triples = view.scan(active, None, None, None);
-    edges_of(alloc, view, active, None, None, triples)
+    match view.find(term) {
+        Some(number) => Some(Some(number)),
+        None => None,
+    }
 }
 
 fn edges_having<'v, V: View>(
@@ -122,15 +87,24 @@ fn edges_having<'v, V: View>(
     view: &'v V,
     active: Active,
     left: Option<&Term>,
+    predicate: Option<&Term>,
     right: Option<&Term>,
 ) -> Result<Vec<Edge<'v>>, AllocError>
-    ensures { IfOk result (λ edges. SameBag edges.items (having (option_copied left.entry) (option_copied right.entry) (active_graph (V.content view.now) (V.default_seen view.now) active))) }
+    ensures { IfOk result (λ edges. SameBag edges.items (having (option_copied left.entry) (option_copied predicate.entry) (option_copied right.entry) (active_graph (V.content view.now) (V.default_seen view.now) active))) }
 {
-    match (left, right) {
-        (Some(left), _) => edges_from(alloc, view, active, left),
-        (None, Some(right)) => edges_to(alloc, view, active, right),
-        (None, None) => edges_all(alloc, view, active),
-    }
+    let _count = view.count();
+    let _terms = view.terms();
+    let Some(subject) = given(view, left) else {
+        return Ok(Vec::new(alloc));
+    };
+    let Some(predicate) = given(view, predicate) else {
+        return Ok(Vec::new(alloc));
+    };
+    let Some(object) = given(view, right) else {
+        return Ok(Vec::new(alloc));
+    };
+    let triples = view.scan(active, subject, predicate, object);
+    edges_of(alloc, view, active, subject, predicate, object, triples)
 }
 
 /// Whether a triple begins or ends at the term.
@@ -155,10 +129,11 @@ impl<'v, V: View> Source for Seen<'v, V> {
     fn having<'a>(
         &'a self,
         alloc: Global,
-        left: Option<&'a Term>,
-        right: Option<&'a Term>,
+        left: Option<&Term>,
+        predicate: Option<&Term>,
+        right: Option<&Term>,
     ) -> Result<Vec<Edge<'a>>, AllocError> {
-        edges_having(alloc, self.view, self.active, left, right)
+        edges_having(alloc, self.view, self.active, left, predicate, right)
     }
 
     fn has_node<'a>(&'a self, term: &'a Term) -> bool {
