@@ -16,7 +16,7 @@ use Rattle.qs_ast.specs.declared.update.Operation.{Operation}
 use Rattle.qs_ast.specs.declared.update.Operation.TheVariants as operation
 use Rattle.qs_ast.specs.declared.update.Update.{Update}
 use Rattle.qs_limits.specs.Large as large
-use Rattle.qs_names.specs.Names.{nothing_declared}
+use Rattle.qs_resolve.specs.Names.{nothing_declared}
 use Rattle.qs_resolve.specs.declared.resolver.Resolver.{Resolver}
 use Rattle.qs_resolve.specs.Leaves.{iri}
 use Rattle.qs_resolve.specs.Pattern.{group_of}
@@ -25,7 +25,7 @@ use Rattle.qs_resolve.specs.Resolved.{start, if_lawful, resolved_update}
 use Rattle.qs_resolve.specs.Resolving.{Resolving, ◌>>=◌, pure}
 use Rattle.qs_resolve.specs.Update.{quads, template, target_of, transfer, with_graph, modify, operation_of, operation_behind, step, steps, update}
 use Rattle.qs_scope.specs.KeepsScope.{update_keeps_scope}
-use Rattle.qs_settle.specs.Settled.{screened, by_place, in_scope, variables_of, listed_update, update_outcome}
+use Rattle.qs_syntax.specs.Outcome.{screened, by_place, in_scope, variables_of, listed_update, update_outcome}
 use Rattle.qs_syntax.specs.Outcome.{AfterScreen, IsUpdateOutcome}
 use Rattle.qs_blanks.specs.Written.{operation_values_have_no_blank, update_values_have_no_blank}
 use Rattle.qs_blanks.proofs.Lists.{each_append, all_pass}

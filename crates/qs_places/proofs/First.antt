@@ -10,9 +10,9 @@ use Rattle.qs_terms.specs.Outcome.{Outcome, and_then}
 use Rattle.qs_terms.specs.declared.fault.QFault.{QFault}
 use Rattle.qs_terms.specs.declared.fault.QFault.TheVariants as fault
 use Rattle.qs_terms.specs.declared.fault.TermFault.{TermFault}
-use Rattle.qs_names.specs.Names.{Names, absolute, joined, is_colon, full, prefixed, declare, with_prefix}
+use Rattle.qs_resolve.specs.Names.{Names, absolute, joined, is_colon, full, prefixed, declare, with_prefix}
 use Rattle.qs_resolve.specs.declared.resolver.Resolver.{Resolver}
-use Rattle.qs_settle.specs.Settled.{by_place, earlier, nearer, in_scope}
+use Rattle.qs_syntax.specs.Outcome.{by_place, earlier, nearer, in_scope}
 use Rattle.qs_tree.specs.declared.token.Span.{Span}
 use Rattle.qs_tree.specs.declared.token.Token.{Token}
 use Rattle.qs_places.specs.NameFaults.{Role, iri, name, prefix, keyword, nothing, role, Before, anything, declares, declared, at_token, kept, fault_of, Place, look, behind, faults_from, at}

@@ -25,8 +25,8 @@ use Rattle.qs_tree.specs.declared.token.Span.{Span}
 use Rattle.qs_tree.specs.declared.token.Token.{Token}
 use Rattle.qs_tree.specs.declared.triples.Form.{Form}
 use Rattle.qs_tree.specs.declared.triples.Form.TheVariants as tree_form
-use Rattle.qs_names.specs.Names as of
-use Rattle.qs_names.specs.Names.{Names}
+use Rattle.qs_resolve.specs.Names as of
+use Rattle.qs_resolve.specs.Names.{Names}
 use Rattle.qs_resolve.specs.Expression.{expression_of}
 use Rattle.qs_resolve.specs.Leaves.{variable}
 use Rattle.qs_resolve.specs.Pattern.{group_of}

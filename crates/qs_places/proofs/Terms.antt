@@ -17,8 +17,8 @@ use Rattle.qs_ast.specs.declared.term.TermPattern.TheVariants as term
 use Rattle.qs_terms.specs.declared.term.Term.TheVariants as value
 use Rattle.qs_escapes.specs.Piece.{piece}
 use Rattle.qs_ast.specs.declared.term.VarOrIri.TheVariants as var_or_iri_ast
-use Rattle.qs_names.specs.Names as of
-use Rattle.qs_names.specs.Names.{Names}
+use Rattle.qs_resolve.specs.Names as of
+use Rattle.qs_resolve.specs.Names.{Names}
 use Rattle.qs_resolve.specs.Data.{value_of}
 use Rattle.qs_resolve.specs.Leaves.{iri, var_or_iri, literal, term_of, settled}
 use Rattle.qs_resolve.specs.Path.{predicate}

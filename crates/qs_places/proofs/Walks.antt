@@ -3,7 +3,7 @@ use Rattle.std.proofs.Common.{◌≡◌, List, [], ◌∷◌, ◌++◌, Ok, Err,
 use Rattle.qs_terms.specs.Outcome.{Outcome, and_then}
 use Rattle.qs_terms.specs.declared.fault.QFault.{QFault}
 use Rattle.qs_tree.specs.declared.token.Token.{Token}
-use Rattle.qs_names.specs.Names.{Names}
+use Rattle.qs_resolve.specs.Names.{Names}
 use Rattle.qs_resolve.specs.declared.resolver.Resolver.{Resolver}
 use Rattle.qs_resolve.specs.Resolving.{Resolving, ◌>>=◌, pure}
 use Rattle.qs_places.specs.NameFaults.{Place, look, behind, fault_of, faults_from, at}

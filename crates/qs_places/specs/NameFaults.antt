@@ -7,7 +7,7 @@ use Rattle.qs_tree.specs.declared.kind.Kind.{Kind}
 use Rattle.qs_tree.specs.declared.kind.Kind.TheVariants as k
 use Rattle.qs_tree.specs.declared.token.Span.{Span}
 use Rattle.qs_tree.specs.declared.token.Token.{Token}
-use Rattle.qs_names.specs.Names.{Names, nothing_declared, full, prefixed, declare}
+use Rattle.qs_resolve.specs.Names.{Names, nothing_declared, full, prefixed, declare}
 
 -- what a token is to names: `<..>`, `prefix:local`, `prefix:`, `PREFIX`, or nothing
 pub data Role : Type 0 where

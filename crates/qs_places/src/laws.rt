@@ -3,7 +3,7 @@
 ghost use Rattle.std.specs.Prelude.{◌≡◌, List, ℕ};
 ghost use Rattle.qs_grammar.specs.Grammar.{Spells};
 ghost use Rattle.qs_limits.specs.Large as large;
-ghost use Rattle.qs_settle.specs.Settled.{query_outcome, update_outcome};
+ghost use Rattle.qs_syntax.specs.Outcome.{query_outcome, update_outcome};
 ghost use Rattle.qs_syntax.specs.Text.{AreTokensOf};
 ghost use Rattle.qs_tree.specs.Rules as rules;
 ghost use Rattle.qs_tree.specs.Table.{grammar};

@@ -1,3 +1,8 @@
+mod Either
+pub mod Pieces
+pub mod Decimals
+pub mod Literals
+pub mod Prefixes
 pub mod Equations
 pub mod TripleEquations
 pub mod PatternEquations

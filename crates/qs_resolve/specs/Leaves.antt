@@ -15,7 +15,7 @@ use Rattle.qs_ast.specs.declared.term.TermPattern.TheVariants as term
 use Rattle.qs_ast.specs.declared.term.VarOrIri.{VarOrIri}
 use Rattle.qs_ast.specs.declared.term.VarOrIri.TheVariants as name
 use Rattle.qs_terms.specs.Literal.{Literal, typed, xsd_string}
-use Rattle.qs_names.specs.Names as of
+use Rattle.qs_resolve.specs.Names as of
 use Rattle.qs_resolve.specs.declared.resolver.Resolver.{Resolver}
 use Rattle.qs_terms.specs.Outcome.{Outcome, and_then}
 use Rattle.qs_resolve.specs.Resolving.{Resolving, ◌<$>◌}

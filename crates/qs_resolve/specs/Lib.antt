@@ -1,3 +1,4 @@
+pub mod Names
 pub mod Resolving
 pub mod Leaves
 pub mod Path
@@ -8,3 +9,4 @@ pub mod Pattern
 pub mod Query
 pub mod Update
 pub mod Resolved
+pub mod inner

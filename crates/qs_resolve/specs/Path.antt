@@ -8,7 +8,7 @@ use Rattle.qs_tree.specs.declared.path.Path.TheOpen.{Path-F, Predicate as Single
 use Rattle.qs_ast.specs.declared.path.Path.{Path}
 use Rattle.qs_ast.specs.declared.path.Path.TheVariants as path
 use Rattle.qs_ast.specs.declared.path.NegatedIri.{NegatedIri}
-use Rattle.qs_names.specs.Names as of
+use Rattle.qs_resolve.specs.Names as of
 use Rattle.qs_terms.specs.Outcome.{and_then}
 use Rattle.qs_resolve.specs.Resolving.{Resolving, ◌>>=◌, ◌<$>◌, pure, all}
 

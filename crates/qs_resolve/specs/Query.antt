@@ -31,7 +31,7 @@ use Rattle.qs_ast.specs.declared.query.SelectItem.{SelectItem}
 use Rattle.qs_ast.specs.declared.query.SelectItem.TheVariants as item
 use Rattle.qs_ast.specs.declared.query.SolutionModifiers.{SolutionModifiers}
 use Rattle.qs_ast.specs.declared.term.Variable.{Variable}
-use Rattle.qs_names.specs.Names as of
+use Rattle.qs_resolve.specs.Names as of
 use Rattle.qs_resolve.specs.Data.{inline_data}
 use Rattle.qs_resolve.specs.Expression.{expression_of}
 use Rattle.qs_resolve.specs.Leaves.{variable}

@@ -5,7 +5,7 @@ use Rattle.qs_tree.specs.declared.update.Update.{Update as WrittenUpdate}
 use Rattle.qs_ast.specs.declared.query.Query.{Query}
 use Rattle.qs_ast.specs.declared.term.Variable.{Variable}
 use Rattle.qs_ast.specs.declared.update.Update.{Update}
-use Rattle.qs_names.specs.Names.{Names, nothing_declared}
+use Rattle.qs_resolve.specs.Names.{Names, nothing_declared}
 use Rattle.qs_resolve.specs.declared.resolver.Resolver.{Resolver}
 use Rattle.qs_resolve.specs.Query.{query}
 use Rattle.qs_terms.specs.Outcome.{Outcome, and_then}

@@ -2,16 +2,22 @@
 //! lists of properties and of objects are written out as triples, the triples of a group that have nothing but filters between them
 //! are one block, and each `[` is a blank node of its own.
 //!
+//! `specs/Names.antt` says what a name, a string or a number of the text stands for, given the prefixes that are declared so far.
 //! `specs/Resolving.antt` has the steps that all definitions are made of; `Leaves.antt`, `Path.antt`, `Expression.antt`,
 //! `Triples.antt`, `Data.antt`, `Pattern.antt`, `Query.antt` and `Update.antt` go through the trees form by form, and
 //! `Resolved.antt` has the whole.
 #![tactic(auto)]
 
 mod expression;
+mod iri;
 mod leaves;
+mod literal;
+mod names;
+mod number;
 mod open_group;
 mod path;
 mod pattern;
+mod piece;
 mod query;
 mod resolve;
 mod resolver;
@@ -19,4 +25,5 @@ mod table;
 mod triples;
 mod update;
 
+pub use names::Names;
 pub use resolve::{resolve_query, resolve_update};

@@ -4,11 +4,11 @@ ghost use Rattle.std.specs.Prelude.{◌≡◌, IfOk, IfErr, Ok, Err, Some, None,
 ghost use Rattle.qs_terms.specs.Outcome.{OrWantOfMemory};
 ghost use Rattle.qs_resolve.specs.Resolved as spec;
 
+use crate::names::Names;
 use crate::resolver::Resolver;
 use qs_ast::query::Query;
 use qs_ast::term::Variable;
 use qs_ast::update::Update;
-use qs_names::Names;
 use qs_terms::QFault;
 use qs_tree::query::Query as WrittenQuery;
 use qs_tree::update::Update as WrittenUpdate;

@@ -3,7 +3,7 @@
 ghost use Rattle.std.specs.Prelude.{◌≡◌};
 ghost use Rattle.qs_resolve.specs.Resolved.{start};
 
-use qs_names::Names;
+use crate::names::Names;
 
 /// The names of the text, and what has been met so far.
 #[derive(Drop)]

@@ -2,7 +2,7 @@
 use Rattle.std.proofs.Common.{◌≡◌, inl, inr, ℕ, Option, Some, Err, refl, sym, ap, ◌∙◌, subst}
 use Rattle.std.proofs.lemmas.Bool.{cond-true, cond-false, lt-ltb, le-ltb}
 use Rattle.std.specs.Prelude.{nat_lt, if◌then◌else◌}
-use Rattle.qs_settle.specs.Settled.{by_place, earlier}
+use Rattle.qs_syntax.specs.Outcome.{by_place, earlier}
 use Rattle.qs_terms.specs.Outcome.{Outcome, and_then}
 use Rattle.qs_terms.specs.declared.fault.QFault.{QFault}
 use Rattle.qs_terms.specs.declared.fault.QFault.TheVariants as fault

@@ -6,3 +6,7 @@ pub mod NoTokens
 pub mod Granted
 pub mod Listed
 pub mod FirstPlace
+pub mod SettledListed
+pub mod Places
+pub mod Nothing
+pub mod Within

@@ -1,7 +1,6 @@
 -- What a text comes to is settled from its tokens and their tree.
 use Rattle.std.proofs.Common.{◌≡◌, ℕ, List, Ok, Err, sym, inl, inr}
-use Rattle.qs_settle.specs.Settled.{screened}
-use Rattle.qs_syntax.specs.Outcome.{AfterScreen, IsParsed}
+use Rattle.qs_syntax.specs.Outcome.{screened, AfterScreen, IsParsed}
 use Rattle.qs_terms.specs.Outcome.{Outcome}
 use Rattle.qs_tree.specs.declared.token.Token.{Token}
 use Rattle.qs_tree.specs.Sparql.{Rule}

@@ -5,7 +5,7 @@ use Rattle.qs_grammar.specs.Grammar.{Spells, read, whole}
 use Rattle.qs_grammar.specs.declared.fault.Fault.TheVariants as reading
 use Rattle.qs_grammar.proofs.Whole.{found_spelt, is_due, none_spelt}
 use Rattle.std.proofs.lemmas.Str.{chars-nil}
-use Rattle.qs_settle.specs.Settled.{screened, update_outcome, no_operation}
+use Rattle.qs_syntax.specs.Outcome.{screened, update_outcome, no_operation, IsQueryOutcome, IsUpdateOutcome}
 use Rattle.qs_ast.specs.declared.update.Update.{Update}
 use Rattle.qs_terms.specs.declared.fault.QFault.TheVariants as fault
 use Rattle.qs_tree.specs.declared.token.Token.{Token}
@@ -14,7 +14,6 @@ use Rattle.qs_tree.specs.Rules as rules
 use Rattle.qs_tree.specs.Sparql.{sparql}
 use Rattle.qs_tree.specs.Table.{grammar}
 use Rattle.qs_tree.proofs.Sure.{lawful, passes_each, examples, query_starts, update_starts}
-use Rattle.qs_syntax.specs.Outcome.{IsQueryOutcome, IsUpdateOutcome}
 use Rattle.qs_syntax.specs.Text.{AreTokensOf, IsBlamed}
 
 nothing_read : whole (read grammar 0 query []) ≡ Err (reading.Syntax 0)

@@ -9,9 +9,8 @@ use Rattle.qs_tree.specs.declared.token.Token.{Token}
 use Rattle.qs_tree.specs.Sparql.{Rule}
 use Rattle.qs_tree.specs.Table.{grammar, IsUnambiguous}
 use Rattle.qs_terms.specs.Outcome.{Outcome}
-use Rattle.qs_settle.specs.Settled.{screened}
+use Rattle.qs_syntax.specs.Outcome.{screened, AfterScreen, IsParsed}
 use Rattle.qs_syntax.specs.Kinds.{token_of}
-use Rattle.qs_syntax.specs.Outcome.{AfterScreen, IsParsed}
 use Rattle.qs_syntax.specs.Text.{IsBlamed, place_of_number}
 
 module _ {A : Type 0} (start : Rule A) where

@@ -11,9 +11,8 @@ use Rattle.qs_tree.specs.declared.token.Token.{Token}
 use Rattle.qs_tree.specs.Sparql.{Rule, sparql}
 use Rattle.qs_tree.specs.Table.{grammar}
 use Rattle.qs_tree.proofs.Sure.{lawful, passes_each, examples}
-use Rattle.qs_settle.specs.Settled.{screened}
+use Rattle.qs_syntax.specs.Outcome.{screened, AfterScreen, IsParsed}
 use Rattle.qs_syntax.specs.Kinds.{token_of}
-use Rattle.qs_syntax.specs.Outcome.{AfterScreen, IsParsed}
 use Rattle.qs_syntax.specs.Text.{IsBlamed, place_of_number}
 use Rattle.qs_syntax.proofs.Remembers.{wants_none}
 

@@ -6,7 +6,7 @@ use Rattle.qs_escapes.specs.Decoded.{decoded, unescaped}
 use Rattle.qs_escapes.specs.Escape.{uchar, string_escape}
 use Rattle.qs_escapes.specs.Piece.{piece}
 use Rattle.qs_forms.specs.Backslashes.{escapes_begin}
-use Rattle.qs_names.specs.Names.{is_colon, marks}
+use Rattle.qs_resolve.specs.Names.{is_colon, marks}
 use Rattle.qs_terms.specs.Iri.{is_excluded}
 use Rattle.qs_terms.specs.Tag.{is_tag}
 use Rattle.qs_tree.specs.declared.kind.Kind.{Kind}

@@ -1,42 +1,138 @@
--- What a text comes to: its query or its update, or the one fault that is due. In this order, each where none before it is due:
---   no token begins at a place (StopsAt): Syntax at the place
---   a token is left out, then too many brackets are open (screened): LeftOut with the first such token, TooLarge at the first such bracket
---   the tokens spell no tree (IsBlamed): Syntax at the token from which on none is spelt, or at the end
---   a name can't be resolved, or a limit of trees is passed (by_place): Prefix or RelativeIri at the first such name, or TooLarge at the
---   first such place; whichever place comes first, at one place the name's
---   a literal isn't lawful (lawful), then a rule of scope is broken (in_scope): Scope
--- IsParsed has the first of these, AfterScreen the next two; query_outcome and update_outcome, which stand in Settled.antt, the others.
-use Rattle.std.specs.Prelude.{◌≡◌, ◌⊎◌, ℕ, List, length, Ok, Err}
+-- What a text comes to: its query or its update, or the one fault that is due. From top to bottom stand the faults in the order in which
+-- they are due, each where none above it is:
+--   1. no token begins at a place of the text: Syntax there
+--   2. a token is left out, then a bracket is too much: LeftOut with the first such token, TooLarge at the first such bracket
+--   3. the tokens spell no tree: Syntax at the token from which on none is spelt, or at the end
+--   4. a name can't be resolved, or a limit of trees is passed: whichever has the first place, at one place the name's
+--   5. a literal isn't lawful, then a rule of scope is broken: Scope
+use Rattle.std.specs.Prelude.{◌≡◌, ◌⊎◌, ℕ, Bool, true, false, nat_lt, List, [], ◌∷◌, ◌++◌, length, Option, Some, None, Ok, Err, if◌then◌else◌}
+use Rattle.std.specs.List.{fold}
 use Rattle.qs_grammar.specs.Grammar.{Spells}
 use Rattle.qs_lex.specs.Lexes.{StopsAt}
+use Rattle.qs_terms.specs.Outcome.{Outcome, and_then}
+use Rattle.qs_terms.specs.declared.fault.QFault.{QFault}
 use Rattle.qs_terms.specs.declared.fault.QFault.TheVariants as fault
+use Rattle.qs_tree.specs.declared.kind.Kind.{Kind}
+use Rattle.qs_tree.specs.declared.kind.Kind.TheVariants as kind
+use Rattle.qs_tree.specs.declared.query.Query.{Query as WrittenQuery}
 use Rattle.qs_tree.specs.declared.token.Token.{Token}
+use Rattle.qs_tree.specs.declared.update.Update.{Update as WrittenUpdate}
 use Rattle.qs_tree.specs.Rules as rules
 use Rattle.qs_tree.specs.Sparql.{Rule}
 use Rattle.qs_tree.specs.Table.{grammar}
 use Rattle.qs_ast.specs.declared.query.Query.{Query}
+use Rattle.qs_ast.specs.declared.term.Variable.{Variable}
 use Rattle.qs_ast.specs.declared.update.Update.{Update}
+use Rattle.qs_limits.specs.Brackets.{brackets}
+use Rattle.qs_limits.specs.Large as large
+use Rattle.qs_limits.specs.LeftOut.{left_out}
+use Rattle.qs_resolve.specs.Names.{Names, variable, nothing_declared}
+use Rattle.qs_resolve.specs.Resolved.{resolved_query, resolved_update}
+use Rattle.qs_scope.specs.KeepsScope.{query_keeps_scope, update_keeps_scope}
+use Rattle.qs_scope.specs.VariablesIn.{query_variables, update_variables}
 use Rattle.qs_syntax.specs.Text.{AreTokensOf, IsBlamed}
-use Rattle.qs_terms.specs.Outcome.{Outcome}
-use Rattle.qs_settle.specs.Settled.{screened, query_outcome, update_outcome}
 
--- ---- the whole, in the order in which faults are due
+-- ---- 1. no token begins at a place of the text; or its tokens decide
 
--- where no token stands in the way: the tree that is spelt decides, or its want
+abbrev pub ByTokens : {B : Type 0} → (List Token → Outcome B → Type 0) → List ℕ → Outcome B → Type 0
+ByTokens Decide text outcome =
+    ((place : ℕ) × StopsAt text place × (outcome ≡ Err (fault.Syntax place)))
+    ⊎ ((tokens : List Token) × AreTokensOf text tokens × Decide tokens outcome)
+
+-- ---- 2. the first word that is left out, and then the first bracket that is too much
+
+abbrev pub bracketed : Option ℕ → Outcome (Unit {0})
+bracketed None = Ok tt
+bracketed (Some place) = Err (fault.TooLarge place)
+
+abbrev pub unless_left_out : Option (List ℕ) → Option ℕ → Outcome (Unit {0})
+unless_left_out None place = bracketed place
+unless_left_out (Some word) place = Err (fault.LeftOut word)
+
+unfoldable pub screened : List ℕ → List Token → Outcome (Unit {0})
+screened text tokens = unless_left_out (left_out text tokens) (brackets tokens)
+
+-- ---- 3. where no token stands in the way: the tree that is spelt decides, or its want
+
 abbrev pub AfterScreen : {A B : Type 0} → Rule A → (A → Outcome B) → List ℕ → List Token → Outcome (Unit {0}) → Outcome B → Type 0
 AfterScreen start settle text tokens (Err f) outcome = outcome ≡ Err f
 AfterScreen {A} start settle text tokens (Ok done) outcome =
     ((tree : A) × Spells grammar start tokens tree × (outcome ≡ settle tree))
     ⊎ ((place : ℕ) × IsBlamed start (length text) tokens place × (outcome ≡ Err (fault.Syntax place)))
 
+-- ---- 4. over the tree: whichever of a name's fault and of a limit's has the first place, and at one place the name's
+
+abbrev pub nearer : QFault → ℕ → Option ℕ → QFault
+nearer f at None = f
+nearer f at (Some place) = if nat_lt place at then fault.TooLarge place else f
+
+abbrev pub earlier : QFault → Option ℕ → QFault
+earlier (fault.Prefix at) large = nearer (fault.Prefix at) at large
+earlier (fault.RelativeIri at) large = nearer (fault.RelativeIri at) at large
+earlier other large = other
+
+-- (5: where there is neither, a literal that isn't lawful is a fault of scope)
+abbrev pub lawful : {A : Type 0} → Option A → Outcome A
+lawful None = Err fault.Scope
+lawful (Some a) = Ok a
+
+abbrev pub within : {A : Type 0} → Option A → Option ℕ → Outcome A
+within found None = lawful found
+within found (Some place) = Err (fault.TooLarge place)
+
+abbrev pub by_place : {A : Type 0} → Outcome (Option A) → Option ℕ → Outcome A
+by_place (Ok found) place = within found place
+by_place (Err f) place = Err (earlier f place)
+
+-- ---- 5. and last the rules of scope
+
+abbrev pub in_scope : {A : Type 0} → (A → Bool) → A → Outcome A
+in_scope keeps a = if keeps a then Ok a else Err fault.Scope
+
+-- ---- the variables of the text, as often as they stand in it
+
+abbrev pub is_variable : Kind → Bool
+is_variable kind.Var = true
+is_variable other = false
+
+unfoldable pub with_variable : Names → List Variable → Token → List Variable
+with_variable names found t = if is_variable t.kind then found ++ record { name = variable names t.span } ∷ [] else found
+
+abbrev pub named : Names → List Token → List Variable
+named names tokens = fold (with_variable names) [] tokens
+
+abbrev pub variables_of : List ℕ → List Token → List Variable
+variables_of text tokens = named (nothing_declared text) tokens
+
+-- ---- 4 and 5 of a tree: those variables, and behind them those of the tree, are listed at last, each once
+
+abbrev pub listed_query : Query → Query
+listed_query query = record query { variables = query_variables query }
+
+unfoldable pub query_outcome : List ℕ → List Token → WrittenQuery → Outcome Query
+query_outcome text tokens q =
+    and_then (and_then (by_place (resolved_query text (variables_of text tokens) q) (large.query q)) (in_scope query_keeps_scope))
+    (λ kept. Ok (listed_query kept))
+
+abbrev pub listed_update : Update → Update
+listed_update update = record update { variables = update_variables update }
+
+unfoldable pub update_outcome : List ℕ → List Token → WrittenUpdate → Outcome Update
+update_outcome text tokens u =
+    and_then (and_then (by_place (resolved_update text (variables_of text tokens) u) (large.update u)) (in_scope update_keeps_scope))
+    (λ kept. Ok (listed_update kept))
+
+-- what no token spells: one step, without an operation
+abbrev pub no_operation : WrittenUpdate
+no_operation = record { steps = record { prologue = []; operation = None } ∷ [] }
+
+-- ---- the whole
+
 abbrev pub IsOutcomeOfTokens : {A B : Type 0} → Rule A → (A → Outcome B) → List ℕ → List Token → Outcome B → Type 0
 IsOutcomeOfTokens start settle text tokens outcome = AfterScreen start settle text tokens (screened text tokens) outcome
 
--- the text is no list of tokens, or its tokens decide
 abbrev pub IsParsed : {A B : Type 0} → Rule A → (List Token → A → Outcome B) → List ℕ → Outcome B → Type 0
-IsParsed start settle text outcome =
-    ((place : ℕ) × StopsAt text place × (outcome ≡ Err (fault.Syntax place)))
-    ⊎ ((tokens : List Token) × AreTokensOf text tokens × IsOutcomeOfTokens start (settle tokens) text tokens outcome)
+IsParsed start settle text outcome = ByTokens (λ tokens. IsOutcomeOfTokens start (settle tokens) text tokens) text outcome
 
 abbrev pub IsQueryOutcome : List ℕ → Outcome Query → Type 0
 IsQueryOutcome text outcome = IsParsed rules.query (query_outcome text) text outcome

@@ -10,7 +10,6 @@ ghost use Rattle.qs_scope.specs.VariablesIn.{in_query, in_update};
 ghost use Rattle.qs_escapes.specs.Piece.{piece};
 ghost use Rattle.qs_limits.specs.Large as large;
 ghost use Rattle.qs_resolve.specs.Resolved.{resolved_query, resolved_update};
-ghost use Rattle.qs_settle.specs.Settled.{query_outcome, update_outcome, variables_of};
 ghost use Rattle.qs_lex.specs.Fault.{HasToken};
 ghost use Rattle.qs_lex.specs.Lexes.{Lexeme, Lexes};
 ghost use Rattle.qs_terms.specs.Outcome.{Outcome};
@@ -22,11 +21,11 @@ ghost use Rattle.qs_tree.specs.declared.token.Token.{Token};
 ghost use Rattle.qs_syntax.specs.FirstPlace.{IsOfName, IsFirst};
 ghost use Rattle.qs_syntax.specs.Granted.{IsGrantedToken};
 ghost use Rattle.qs_syntax.specs.Kinds.{token_of};
-ghost use Rattle.qs_syntax.specs.Outcome.{IsQueryOutcome, IsUpdateOutcome};
+ghost use Rattle.qs_syntax.specs.Outcome.{variables_of, query_outcome, update_outcome, IsQueryOutcome, IsUpdateOutcome};
 ghost use Rattle.qs_syntax.specs.Text.{AreTokensOf};
 
 use qs_lex::laws::{one_token_list, some_token_list, tokens_are_sound};
-use qs_settle::laws::settled_variables_are_listed;
+use qs_scope::laws::all_variables_are_listed;
 use qs_tree::laws::one_tree;
 
 /// A text comes to one thing at most: one query, or one fault; and so does it as an update.
@@ -77,5 +76,5 @@ pub fn variables_are_listed()
     ensures of_query { (text : List ℕ) (query : Query) → IsQueryOutcome text (Ok query) → AreListed query.variables (in_query query) }
     ensures of_update { (text : List ℕ) (update : Update) → IsUpdateOutcome text (Ok update) → AreListed update.variables (in_update update) }
 {
-    settled_variables_are_listed();
+    all_variables_are_listed();
 }

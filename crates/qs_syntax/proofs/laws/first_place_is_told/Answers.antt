@@ -4,7 +4,7 @@ use Rattle.qs_ast.specs.declared.update.Update.{Update}
 use Rattle.qs_limits.specs.Large as large
 use Rattle.qs_resolve.specs.Resolved.{resolved_query, resolved_update}
 use Rattle.qs_scope.specs.KeepsScope.{query_keeps_scope, update_keeps_scope}
-use Rattle.qs_settle.specs.Settled.{in_scope, variables_of, listed_query, listed_update, query_outcome, update_outcome}
+use Rattle.qs_syntax.specs.Outcome.{in_scope, variables_of, listed_query, listed_update, query_outcome, update_outcome}
 use Rattle.qs_syntax.proofs.FirstPlace as law
 use Rattle.qs_syntax.proofs.laws.first_place_is_told.Goals as goal
 

@@ -1,4 +1,4 @@
-use Rattle.qs_settle.specs.Settled.{query_outcome, update_outcome}
+use Rattle.qs_syntax.specs.Outcome.{query_outcome, update_outcome}
 use Rattle.qs_tree.proofs.Sure.{query_starts, update_starts}
 use Rattle.qs_tree.specs.Rules as rules
 use Rattle.qs_syntax.proofs.SomeOutcome as law

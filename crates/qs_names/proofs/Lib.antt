@@ -1,5 +1,0 @@
-mod Either
-pub mod Pieces
-pub mod Decimals
-pub mod Literals
-pub mod Prefixes

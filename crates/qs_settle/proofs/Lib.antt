@@ -1,4 +1,0 @@
-pub mod Listed
-pub mod Places
-pub mod Nothing
-pub mod Within
