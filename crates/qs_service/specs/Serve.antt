@@ -41,7 +41,7 @@ CountsFault old new (Ok a) = new ≡ old
 CountsFault old new (Err e) = new ≡ one_more old
 
 -- ---- what the reading alone came to
--- (Inner: it serves proofs, and no promise of the product is read by it.)
+-- (It serves proofs: no promise of the product is read by it.)
 
 abbrev pub ListensTo : Meaning → Bounds → Content → List ℕ → Result (Option Message) ServeFault → Content → Option (List ℕ) → Type 0
 ListensTo m bounds old read (Ok (Some reply)) new left = IsAnsweredWith m bounds old read new reply

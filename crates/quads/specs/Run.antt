@@ -21,7 +21,7 @@ abbrev pub IsRun : Job → Option (List ℕ) → Option (List ℕ) → ℕ → �
 IsRun job taken taken2 faults faults2 ran = IsWholeRun job taken taken2 faults faults2 ran ⊎ IsCutRun job taken taken2 faults faults2 ran
 
 -- the sink took a front of the bytes; where it took them all, its status is this one, and else a call of it failed, and it is 1
--- (Inner: it serves proofs, and no promise of the product is read by it.)
+-- (It serves proofs: no promise of the product is read by it.)
 abbrev pub Prints : List ℕ → ℕ → Option (List ℕ) → Option (List ℕ) → ℕ → ℕ → Ran → Type 0
 Prints bytes s taken taken2 faults faults2 ran =
     (ran.written ≤ length bytes) × Appends taken taken2 (take ran.written bytes)
@@ -29,7 +29,7 @@ Prints bytes s taken taken2 faults faults2 ran =
     ⊎ ((ran.written < length bytes) × (ran.status ≡ 1) × (faults2 ≡ one_more faults)))
 
 -- the same of whatever is due, and may have been begun
--- (Inner: it serves proofs, and no promise of the product is read by it.)
+-- (It serves proofs: no promise of the product is read by it.)
 abbrev pub Runs : (List ℕ → ℕ → Type 0) → (List ℕ → Type 0) → Option (List ℕ) → Option (List ℕ) → ℕ → ℕ → Ran → Type 0
 Runs Due Begun taken taken2 faults faults2 ran =
     ((bytes : List ℕ) × Due bytes ran.status × (ran.written ≡ length bytes) × Appends taken taken2 bytes × (faults2 ≡ faults))
