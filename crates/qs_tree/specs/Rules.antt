@@ -101,6 +101,63 @@ use Rattle.qs_tree.specs.Sparql.{Name, Rule}
 use Rattle.qs_tree.specs.Sparql as name
 use Rattle.qs_tree.specs.Trees.{singles, is_there, path_operand, path_chain, repeated, inverted, property_of, operand_of, chain, addend_of, sum, related, element_of, group_of, steps_of}
 
+-- ==== the standard's productions (SPARQL 1.1 Query, 19.8): their numbers, the definition below, and what it spells
+
+-- [2, 28] query: Query = Prologue (Select | Construct | Ask) Values?
+-- [4, 6] prologue: Prologue = ("PREFIX" PNAME_NS IRIREF)*
+-- [7, 9] select: Select = "SELECT" ("DISTINCT" | "REDUCED")? (Item+ | "*") Where Mods
+-- [9] item: Item = VAR | "(" Expr "AS" VAR ")"
+-- [10] construct: Construct = "CONSTRUCT" ("{" Tmpl? "}" Where Mods | "WHERE" "{" Tmpl? "}" Mods)
+-- [12] ask: Ask = "ASK" Where Mods
+-- [17] where_clause: Where = "WHERE"? Group
+-- [18, 25] modifiers: Mods = ("ORDER" "BY" Order+)? (Limit Offset? | Offset Limit?)?
+-- [24] order: Order = ("ASC" | "DESC") "(" Expr ")" | Constraint | VAR
+-- [26] limit: Limit = "LIMIT" INTEGER
+-- [27] offset: Offset = "OFFSET" INTEGER
+-- [29] update: Update = Prologue (Op (";" Update)?)?
+-- [30, 32-43, 47] operation: Op = "INSERT" "DATA" Quads | "DELETE" "DATA" Quads | "DELETE" "WHERE" Quads
+--     | ("WITH" Iri)? ("DELETE" Quads ("INSERT" Quads)? | "INSERT" Quads) "WHERE" Group
+--     | ("CLEAR" | "DROP") "SILENT"? ("GRAPH" Iri | "DEFAULT" | "NAMED" | "ALL")
+--     | "CREATE" "SILENT"? "GRAPH" Iri
+--     | ("ADD" | "MOVE" | "COPY") "SILENT"? End "TO" End, left-factored at "INSERT" and "DELETE"
+-- [45, 46] graph_or_default: End = "DEFAULT" | "GRAPH"? Iri
+-- [48-52] quads: Quads = "{" Tmpl? ("GRAPH" (VAR | Iri) "{" Tmpl? "}" "."? Tmpl?)* "}"
+-- [53, 54] group_rule: Group = "{" Triples? (Element "."? Triples?)* "}"
+-- [56-58, 60, 66-68] element: Element = Group ("UNION" Group)* | "OPTIONAL" Group | "MINUS" Group
+--     | "GRAPH" (VAR | Iri) Group | "FILTER" Constraint
+--     | "BIND" "(" Expr "AS" VAR ")" | Values
+-- [61-64] values: Values = "VALUES" (VAR "{" Value* "}" | "(" VAR* ")" "{" ("(" Value* ")")* "}")
+-- [65] data_value: Value = Iri | Literal | "UNDEF"
+-- [69] constraint: Constraint = "(" Expr ")" | Call
+-- [72] list: List = "(" (Expr ("," Expr)*)? ")"
+-- [52, 55, 74] triples_rule: Triples = Same ("." Triples?)?
+--     Tmpl = Triples with Verb = VAR | Iri | "a"
+-- [75, 81, 99, 101] same_subject: Same = Node Props | "[" Props "]" Props?
+-- [77, 83] properties_rule: Props = Verb Objects (";" (Verb Objects)?)*
+-- [78, 84, 85] verb: Verb = VAR | Path, in templates VAR | Iri | "a"
+-- [79, 86] objects: Objects = Object ("," Object)*
+-- [80, 87, 104, 105] object: Object = Node | "[" Props "]", left-factored at "["
+-- [88, 89] path_rule: Path = Seq ("|" Seq)*
+-- [90] path_sequence: Seq = Elt ("/" Elt)*
+-- [91-93] path_element: Elt = "^"? Prim ("?" | "*" | "+")?
+-- [94] path_primary: Prim = Iri | "a" | "!" Neg | "(" Path ")"
+-- [95] negated: Neg = One | "(" (One ("|" One)*)? ")"
+-- [96] negated_one: One = "^"? (Iri | "a")
+-- [110, 111] expression_rule: Expr = And ("||" And)*
+-- [112] conjunction: And = Rel ("&&" Rel)*
+-- [113, 114] relational: Rel = Add (("=" | "!=" | "<" | ">" | "<=" | ">=") Add | "NOT"? "IN" List)?
+-- [115, 116] additive: Add = Mul ("+" Mul | "-" Mul | SIGNED ("*" Unary)*)*
+-- [117] product: Mul = Unary ("*" Unary)*
+-- [118] unary: Unary = ("!" | "+" | "-")? Atom
+-- [119, 120] atom: Atom = "(" Expr ")" | Call | Iri | Literal | VAR
+-- [121] call: Call = "BOUND" "(" VAR ")" | "IF" "(" Expr "," Expr "," Expr ")" | ("COALESCE" | "CONCAT") List
+--     | ("ISIRI" | ..) "(" Expr ")" | ("SAMETERM" | ..) "(" Expr "," Expr ")"
+-- [106, 109, 138] term: Node = VAR | Iri | Literal | BLANK | "[" "]", here without the last
+-- [129-135] literal: Literal = STRING (LANGTAG | "^^" Iri)? | INTEGER | SIGNED | "true" | "false"
+-- [136, 137] iri: Iri = IRIREF | PNAME_LN | PNAME_NS
+
+-- ==== what the procedures read, in the order in which one needs another
+
 -- ---- tokens
 
 -- one token of the kind
