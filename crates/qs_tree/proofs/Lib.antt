@@ -2,3 +2,4 @@ pub mod Sure
 pub mod Unambiguous
 pub mod WordRows
 pub mod TreeRows
+pub mod ByLength

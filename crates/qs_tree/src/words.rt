@@ -1,6 +1,6 @@
 //! The kinds of words and marks, as they are written.
 
-ghost use Rattle.std.specs.Prelude.{◌≡◌, map};
+ghost use Rattle.std.specs.Prelude.{◌≡◌, map, filter, length, nat_eq};
 ghost use Rattle.std.specs.Str.{bytes_eq, str_eq_ignore_ascii_case};
 ghost use Rattle.qs_tree.specs.declared.kind.Kind.TheVariants as k;
 ghost use Rattle.qs_tree.specs.Words.{find_kind};
@@ -8,68 +8,90 @@ ghost use Rattle.qs_tree.specs.Words as spec;
 
 use crate::kind::Kind;
 
-// Keywords and names of functions, which are matched without regard to case.
-const KEYWORDS: [(&str, Kind); 59] = [
-    ("prefix", Kind::Prefix),
-    ("select", Kind::Select),
-    ("distinct", Kind::Distinct),
-    ("reduced", Kind::Reduced),
+// Keywords and names of functions, which are matched without regard to case; by their lengths, so that a word is compared with few.
+const OF_TWO: [(&str, Kind); 5] = [
     ("as", Kind::As),
-    ("construct", Kind::Construct),
-    ("where", Kind::Where),
-    ("ask", Kind::Ask),
-    ("order", Kind::Order),
     ("by", Kind::By),
-    ("asc", Kind::Asc),
-    ("desc", Kind::Desc),
-    ("limit", Kind::Limit),
-    ("offset", Kind::Offset),
-    ("union", Kind::Union),
-    ("optional", Kind::Optional),
-    ("minus", Kind::Minus),
-    ("graph", Kind::Graph),
-    ("filter", Kind::Filter),
-    ("bind", Kind::Bind),
-    ("values", Kind::Values),
-    ("undef", Kind::Undef),
-    ("not", Kind::Not),
     ("in", Kind::In),
+    ("to", Kind::To),
+    ("if", Kind::If),
+];
+
+const OF_THREE: [(&str, Kind); 6] = [
+    ("ask", Kind::Ask),
+    ("asc", Kind::Asc),
+    ("not", Kind::Not),
+    ("all", Kind::All),
+    ("add", Kind::Add),
+    ("str", Kind::Str),
+];
+
+const OF_FOUR: [(&str, Kind); 9] = [
+    ("desc", Kind::Desc),
+    ("bind", Kind::Bind),
     ("true", Kind::True),
-    ("false", Kind::False),
-    ("insert", Kind::Insert),
-    ("delete", Kind::Delete),
     ("data", Kind::Data),
     ("with", Kind::With),
-    ("clear", Kind::Clear),
     ("drop", Kind::Drop),
-    ("silent", Kind::Silent),
-    ("default", Kind::Default),
-    ("named", Kind::Named),
-    ("all", Kind::All),
-    ("create", Kind::Create),
-    ("add", Kind::Add),
     ("move", Kind::Move),
     ("copy", Kind::Copy),
-    ("to", Kind::To),
+    ("lang", Kind::Lang),
+];
+
+const OF_FIVE: [(&str, Kind); 13] = [
+    ("where", Kind::Where),
+    ("order", Kind::Order),
+    ("limit", Kind::Limit),
+    ("union", Kind::Union),
+    ("minus", Kind::Minus),
+    ("graph", Kind::Graph),
+    ("undef", Kind::Undef),
+    ("false", Kind::False),
+    ("clear", Kind::Clear),
+    ("named", Kind::Named),
     ("bound", Kind::Bound),
-    ("if", Kind::If),
-    ("coalesce", Kind::Coalesce),
-    ("concat", Kind::Concat),
-    ("sameterm", Kind::SameTerm),
     ("isiri", Kind::IsIri),
     ("isuri", Kind::IsUri),
-    ("isblank", Kind::IsBlank),
-    ("isliteral", Kind::IsLiteral),
-    ("isnumeric", Kind::IsNumeric),
-    ("str", Kind::Str),
-    ("lang", Kind::Lang),
-    ("datatype", Kind::Datatype),
-    ("langmatches", Kind::LangMatches),
+];
+
+const OF_SIX: [(&str, Kind); 11] = [
+    ("prefix", Kind::Prefix),
+    ("select", Kind::Select),
+    ("offset", Kind::Offset),
+    ("filter", Kind::Filter),
+    ("values", Kind::Values),
+    ("insert", Kind::Insert),
+    ("delete", Kind::Delete),
+    ("silent", Kind::Silent),
+    ("create", Kind::Create),
+    ("concat", Kind::Concat),
     ("strlen", Kind::StrLen),
-    ("contains", Kind::Contains),
-    ("strstarts", Kind::StrStarts),
+];
+
+const OF_SEVEN: [(&str, Kind); 4] = [
+    ("reduced", Kind::Reduced),
+    ("default", Kind::Default),
+    ("isblank", Kind::IsBlank),
     ("strends", Kind::StrEnds),
 ];
+
+const OF_EIGHT: [(&str, Kind); 6] = [
+    ("distinct", Kind::Distinct),
+    ("optional", Kind::Optional),
+    ("coalesce", Kind::Coalesce),
+    ("sameterm", Kind::SameTerm),
+    ("datatype", Kind::Datatype),
+    ("contains", Kind::Contains),
+];
+
+const OF_NINE: [(&str, Kind); 4] = [
+    ("construct", Kind::Construct),
+    ("isliteral", Kind::IsLiteral),
+    ("isnumeric", Kind::IsNumeric),
+    ("strstarts", Kind::StrStarts),
+];
+
+const OF_ELEVEN: [(&str, Kind); 1] = [("langmatches", Kind::LangMatches)];
 
 // Marks, which are matched as they are written.
 const MARKS: [(&str, Kind); 26] = [
@@ -100,6 +122,24 @@ const MARKS: [(&str, Kind); 26] = [
     (">=", Kind::GreaterOrEqual),
     ("&&", Kind::AndAnd),
 ];
+
+// the keywords of so many bytes
+fn keywords_of(count: usize) -> &'static [(&'static str, Kind)]
+    ensures { map (λ row. (row.0.now, row.1)) result.now ≡ filter (λ row. nat_eq (length row.0) count) spec.keywords }
+{
+    match count {
+        2 => &OF_TWO,
+        3 => &OF_THREE,
+        4 => &OF_FOUR,
+        5 => &OF_FIVE,
+        6 => &OF_SIX,
+        7 => &OF_SEVEN,
+        8 => &OF_EIGHT,
+        9 => &OF_NINE,
+        11 => &OF_ELEVEN,
+        _ => &[],
+    }
+}
 
 fn like_keyword(a: &str, b: &str) -> bool
     ensures { result ≡ str_eq_ignore_ascii_case a.now b.now }
@@ -145,7 +185,7 @@ pub fn word_kind(word: &str) -> Kind
     if same_mark(word, "a") {
         return Kind::A;
     }
-    find_keyword(&KEYWORDS, word)
+    find_keyword(keywords_of(word.len()), word)
 }
 
 /// The kind of a mark.
