@@ -1,9 +1,9 @@
 //! The names that were met so far.
 
-ghost use Rattle.std.specs.Prelude.{◌≡◌, ◌≤◌, [], ◌∷◌, ◌++◌, length, take, drop, OnOk};
+ghost use Rattle.std.specs.Prelude.{◌≡◌, ◌≤◌, [], ◌∷◌, ◌++◌, length, take, drop, Some, OnOk, OnErr};
 ghost use Rattle.std.specs.Ordering.{nat_cmp};
 ghost use Rattle.std.specs.Cmp.Lexicographic.{slice_cmp};
-ghost use Rattle.std.specs.BTreeMap.{get};
+ghost use Rattle.std.specs.BTreeMap.{get, Updates, IsUnchanged};
 ghost use Rattle.qs_scope.specs.Names.{contains};
 ghost use Rattle.qs_scope.specs.Places.{first_with, place_of};
 
@@ -52,6 +52,29 @@ fn first_place<'a>(index: &BTreeMap<Name<'a>, Places>, name: &Name<'a>, last: us
     }
 }
 
+// The name stands at the place too: it is its last, and where it has none before also its first.
+fn meet<'a>(
+    index: &mut BTreeMap<Name<'a>, Places>,
+    name: Name<'a>,
+    place: usize,
+) -> Result<(), AllocError>
+    ensures met { OnOk result (Updates (slice_cmp nat_cmp) index.old index.new name.entry (Some (record { first = first_with place (get (slice_cmp nat_cmp) index.old name.entry); last = place }))) }
+    ensures unmet { OnErr result (IsUnchanged index.old index.new) }
+{
+    let fresh = Places {
+        first: place,
+        last: place,
+    };
+    match index.entry(name) {
+        Ok(entry) => {
+            let places = entry.or_insert(fresh);
+            places.last = place;
+            Ok(())
+        }
+        Err(_) => Err(AllocError),
+    }
+}
+
 impl<'a> Seen<'a> {
     pub fn new(alloc: Global) -> Seen<'a>
         ensures { result ≡ [] }
@@ -77,11 +100,10 @@ impl<'a> Seen<'a> {
     pub fn push(&mut self, name: &'a Text) -> Result<(), AllocError>
         ensures { OnOk result (self.new ≡ self.old ++ name.now ∷ []) }
     {
-        let last = self.names.len();
-        let first = first_place(&self.index, &Name::new(name), last);
+        let place = self.names.len();
         self.names.push(Name::new(name))?;
-        match self.index.insert(Name::new(name), Places { first, last }) {
-            Ok(_) => Ok(()),
+        match meet(&mut self.index, Name::new(name), place) {
+            Ok(()) => Ok(()),
             Err(_) => {
                 self.names.pop();
                 Err(AllocError)
