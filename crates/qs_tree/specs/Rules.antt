@@ -1,17 +1,4 @@
 -- The grammar, line by line.
---
--- The standard's productions (SPARQL 1.1 Query, 19.8), as far as they are read. Each stands as a comment over the definition that says it,
--- from those that need no other to the whole:
---   Query (query), Prologue (prologue), Select (select), Item (item), Construct (construct), Ask (ask), Where (where_clause),
---   Mods (modifiers), Limit (limit), Offset (offset), Order (order), Group (group_rule), Element (element), Constraint (constraint),
---   Values (values), Value (data_value), Triples (triples_rule), Same (same_subject), Props (properties_rule), Objects (objects),
---   Object (object), Node (term), Verb (verb), Path (path_rule), Seq (path_sequence), Elt (path_element), Prim (path_primary),
---   Neg (negated), One (negated_one), Tmpl (triples_rule), Expr (expression_rule), And (conjunction), Rel (relational), Add (additive),
---   Mul (product), Unary (unary), Atom (atom), Call (call), List (list), Iri (iri), Literal (literal), Update (update), Op (operation),
---   End (graph_or_default), Quads (quads).
---
--- Pieces of these, between them, are what the procedures read: a definition over which there is no name with `=`. Each stands where the next one
--- needs it.
 use Rattle.std.specs.Prelude.{true, false, List, [], ◌∷◌, ◌++◌, Option, Some, None}
 use Rattle.qs_grammar.specs.Rule.{token, many, made, placed, ref}
 use Rattle.qs_grammar.specs.Notation.{◌<$>◌, ◌>>◌, ◌<<◌, ◌&◌, ◌<|>◌, or, opt, cons, kept, joined}
