@@ -64,30 +64,39 @@ fn is_told(service: &mut Service) -> bool {
 }
 
 /// Whether the store holds the quad of the update, or nothing.
-fn is_kept(service: &Service, is_stored: bool) -> bool {
+pub fn is_kept(service: &Service, is_stored: bool) -> bool {
     let store = service.store();
     let (quads, terms) = if is_stored { (1, 3) } else { (0, 0) };
     store.count() == quads && store.terms() == terms && store.next_blank() == 0
 }
 
-fn replies(service: &Service) -> Outcome {
-    let is_stored = is_reply(service, 2, fixed(Fixed::NoContent));
-    let asked = is_reply(service, 1, if is_stored { TRUE } else { FALSE });
-    let dumped = is_reply(service, 3, if is_stored { ONE_QUAD } else { NO_QUAD });
-    if !is_kept(service, is_stored) {
+/// Whether a request that was refused, sent again by another connection, has its reply, behind which the quad of the update is stored.
+fn is_answered_again(service: &mut Service, request: &[u8], due: &[u8]) -> bool {
+    service.join_conn(4).is_ok()
+        && service.piece(4, request).is_ok()
+        && is_reply(&*service, 4, due)
+        && is_kept(&*service, true)
+}
+
+fn replies(service: &mut Service) -> Outcome {
+    let is_stored = is_reply(&*service, 2, fixed(Fixed::NoContent));
+    let asked = is_reply(&*service, 1, if is_stored { TRUE } else { FALSE });
+    let dumped = is_reply(&*service, 3, if is_stored { ONE_QUAD } else { NO_QUAD });
+    if !is_kept(&*service, is_stored) {
         return Outcome::Wrong;
     }
-    if is_stored && asked && dumped {
-        return Outcome::Whole;
-    }
     // (one growth is refused, so one connection is told of it, and the others have their replies)
-    if (is_wanting(service, 2) && asked && dumped)
-        || (is_stored && is_wanting(service, 1) && dumped)
-        || (is_stored && asked && is_wanting(service, 3))
-    {
-        return Outcome::Refused;
+    if is_stored && asked && dumped {
+        Outcome::Whole
+    } else if is_wanting(&*service, 2) && asked && dumped {
+        Outcome::Refused.or_wrong(is_answered_again(service, INSERT, fixed(Fixed::NoContent)))
+    } else if is_stored && is_wanting(&*service, 1) && dumped {
+        Outcome::Refused.or_wrong(is_answered_again(service, ASK, TRUE))
+    } else if is_stored && asked && is_wanting(&*service, 3) {
+        Outcome::Refused.or_wrong(is_answered_again(service, DUMP, ONE_QUAD))
+    } else {
+        Outcome::Wrong
     }
-    Outcome::Wrong
 }
 
 /// What the replies and the store come to.
@@ -95,7 +104,7 @@ pub fn interleaved(alloc: Global, hasher: Option<RandomState>) -> Outcome {
     match service(alloc, hasher) {
         Some(mut service) => {
             let outcome = if is_told(&mut service) {
-                replies(&service)
+                replies(&mut service)
             } else {
                 Outcome::Wrong
             };

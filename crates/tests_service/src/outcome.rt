@@ -8,3 +8,10 @@ pub enum Outcome {
     Refused,
     Wrong,
 }
+
+impl Outcome {
+    /// This, unless something isn't right.
+    pub fn or_wrong(self, is_right: bool) -> Outcome {
+        if is_right { self } else { Outcome::Wrong }
+    }
+}
