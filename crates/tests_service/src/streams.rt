@@ -1,6 +1,6 @@
 //! One connection over a stream.
 
-use crate::interleaved::{ASK, INSERT, TRUE, service};
+use crate::interleaved::{ASK, INSERT, TRUE, is_kept, service};
 use crate::memory::{Memory, STEP};
 use qs_http::{Fixed, fixed};
 use qs_service::{ServeFault, Served, Service};
@@ -49,26 +49,62 @@ fn fronts_are_silent(alloc: Global, service: &mut Service) -> bool {
 fn reads_fail(alloc: Global, service: &mut Service) -> bool {
     for calls in 0..8 {
         let is = is_served(alloc, service, INSERT, calls, Err(ServeFault::Read), b"");
-        if !is || service.store().count() != 0 {
+        if !is || !is_kept(&*service, false) {
             return false;
         }
     }
     true
 }
 
+/// Whether the update ends so, and stands.
+fn stands(
+    alloc: Global,
+    service: &mut Service,
+    calls: u64,
+    served: Result<Served, ServeFault>,
+    output: &[u8],
+) -> bool {
+    is_kept(&*service, false)
+        && is_served(alloc, service, INSERT, calls, served, output)
+        && is_kept(&*service, true)
+}
+
+/// The same over a service of its own.
+fn stands_alone(
+    alloc: Global,
+    hasher: Option<RandomState>,
+    calls: u64,
+    served: Result<Served, ServeFault>,
+    output: &[u8],
+) -> bool {
+    match service(alloc, hasher) {
+        Some(mut service) => {
+            let is = stands(alloc, &mut service, calls, served, output);
+            drop(service);
+            is
+        }
+        None => false,
+    }
+}
+
 /// Its reply of 46 bytes goes out in three. Where one of these fails, the update stands, and what went out is told.
-fn writes_fail(alloc: Global, service: &mut Service) -> bool {
+fn writes_fail(alloc: Global, hasher: Option<RandomState>) -> bool {
     let reply = fixed(Fixed::NoContent);
     for calls in 0..3 {
         let written = calls * STEP;
         let front = reply.get(..written).unwrap_or(reply);
         let told = Err(ServeFault::Write { written });
-        let is = is_served(alloc, service, INSERT, 8 + calls as u64, told, front);
-        if !is || service.store().count() != 1 {
+        if !stands_alone(alloc, hasher, 8 + calls as u64, told, front) {
             return false;
         }
     }
-    is_served(alloc, service, INSERT, 11, Ok(Served::Answered(204)), reply)
+    true
+}
+
+/// None of these fails.
+fn all_goes_out(alloc: Global, service: &mut Service) -> bool {
+    let reply = fixed(Fixed::NoContent);
+    stands(alloc, service, 11, Ok(Served::Answered(204)), reply)
 }
 
 /// The query of 62 bytes is read in four calls, and its reply goes out in six, in front of the body, and two.
@@ -87,7 +123,7 @@ fn serves_one_over_a_stream(rt: HostRuntime) {
         Some(mut service) => {
             let is = fronts_are_silent(alloc, &mut service)
                 && reads_fail(alloc, &mut service)
-                && writes_fail(alloc, &mut service)
+                && all_goes_out(alloc, &mut service)
                 && bodies_fail(alloc, &mut service);
             drop(service);
             is
@@ -95,4 +131,9 @@ fn serves_one_over_a_stream(rt: HostRuntime) {
         None => false,
     };
     assert!(rt; is);
+}
+
+#[test]
+fn tells_what_went_out(rt: HostRuntime) {
+    assert!(rt; writes_fail(rt.alloc(), RandomState::new(&rt).ok()));
 }
