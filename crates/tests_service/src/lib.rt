@@ -6,6 +6,8 @@
 #[cfg(test)]
 mod growth;
 #[cfg(test)]
+mod handed_back;
+#[cfg(test)]
 mod interleaved;
 #[cfg(test)]
 mod memory;
