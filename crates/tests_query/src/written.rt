@@ -52,7 +52,7 @@ impl Sink for Device {
 
 /// Whether the whole text went out where there were calls enough, or else the count that is told, by one fault; or memory was wanting
 /// before anything went out.
-fn goes_out(alloc: Global, quads: &[Quad], calls: u64) -> Outcome {
+fn outcome_of(alloc: Global, quads: &[Quad], calls: u64) -> Outcome {
     let mut device = Device {
         calls,
         taken: 0,
@@ -72,6 +72,15 @@ fn goes_out(alloc: Global, quads: &[Quad], calls: u64) -> Outcome {
         Err(WriteFault::Memory) if device.taken == 0 && device.faults == 0 => Outcome::Refused,
         Err(WriteFault::Memory) => Outcome::Wrong,
     }
+}
+
+/// The same; where memory was wanting, the whole text goes out once more.
+fn goes_out(alloc: Global, quads: &[Quad], calls: u64) -> Outcome {
+    let outcome = outcome_of(alloc, quads, calls);
+    if outcome == Outcome::Refused && outcome_of(alloc, quads, CALLS) != Outcome::Whole {
+        return Outcome::Wrong;
+    }
+    outcome
 }
 
 /// Whether the quads go out with so many calls, and are made one text.
