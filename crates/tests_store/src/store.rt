@@ -173,17 +173,28 @@ fn draft_once(store: &mut Store, quads: &[Quad], is_kept: bool) -> Outcome {
     }
 }
 
+/// The same; where memory was wanting, another draft is whole.
+fn draft_again(store: &mut Store, quads: &[Quad], is_kept: bool) -> Outcome {
+    match draft_once(store, quads, is_kept) {
+        Outcome::Refused => {
+            let is_whole = draft_once(store, quads, is_kept) == Outcome::Whole;
+            Outcome::Refused.or_wrong(is_whole)
+        }
+        outcome => outcome,
+    }
+}
+
 fn draft_twice(store: &mut Store, quads: &[Quad]) -> Outcome {
     let to_base = change_store(store, quads, &TO_BASE);
     let outcome = changed(&*store, quads, to_base, &NOTHING, &BASE);
     if outcome != Outcome::Whole {
         return outcome;
     }
-    let outcome = draft_once(store, quads, false);
+    let outcome = draft_again(store, quads, false);
     if outcome != Outcome::Whole {
         return outcome;
     }
-    draft_once(store, quads, true)
+    draft_again(store, quads, true)
 }
 
 /// What comes of changes of a store, each of which is refused for want of memory or else done.
