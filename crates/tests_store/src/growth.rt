@@ -2,7 +2,7 @@
 //! memory for an answer, and then everything is as it was.
 
 use crate::outcome::Outcome;
-use crate::{dict, index, loads, requests, store, terms, whole_graphs};
+use crate::{dict, index, loads, requests, rows, store, terms, whole_graphs};
 use qs_store::DefaultGraph;
 use std::alloc::Global;
 use std::hash::RandomState;
@@ -93,4 +93,14 @@ fn loads_strict(rt: HostRuntime) {
 #[test]
 fn loads_tolerant(rt: HostRuntime) {
     assert!(rt; loads::outcome(rt.alloc(), RandomState::new(&rt).ok()) != Outcome::Wrong);
+}
+
+#[test]
+fn rows_strict(rt: HostRuntime) {
+    assert!(rt; rows::outcome(rt.alloc(), RandomState::new(&rt).ok()) == Outcome::Whole);
+}
+
+#[test]
+fn rows_tolerant(rt: HostRuntime) {
+    assert!(rt; rows::outcome(rt.alloc(), RandomState::new(&rt).ok()) != Outcome::Wrong);
 }

@@ -28,6 +28,8 @@ mod quads;
 #[cfg(test)]
 mod requests;
 #[cfg(test)]
+mod rows;
+#[cfg(test)]
 mod seen;
 #[cfg(test)]
 mod store;

@@ -70,7 +70,7 @@ const ROWS: &[Row] = &[
     },
 ];
 
-fn is_want_of_memory(loaded: &Result<(), LoadFault>) -> bool {
+pub fn is_want_of_memory(loaded: &Result<(), LoadFault>) -> bool {
     match loaded {
         Err(LoadFault::Text(fault)) => fault.kind == NqFaultKind::Memory,
         Err(LoadFault::Store(fault)) => *fault == StoreFault::Memory,
