@@ -11,6 +11,7 @@ mod index;
 mod lex;
 mod line;
 mod nquads;
+mod parts;
 mod resident;
 mod results;
 mod serve;

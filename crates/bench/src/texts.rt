@@ -1,6 +1,7 @@
 //! Texts of a size, and what they are read to.
 
 use crate::line::line;
+use crate::parts;
 use crate::timing::{Work, show};
 use qs_lex::tokens;
 use qs_syntax::{parse_query, parse_update};
@@ -76,7 +77,10 @@ fn run_sample(rt: &HostRuntime, sample: &Sample, bytes: Option<u32>) -> io::Resu
     let text = text_of(rt.alloc(), sample, units(sample, bytes))?;
     match bytes {
         None => tell(rt, sample, read(rt.alloc(), sample.reading, &text)),
-        Some(_) => show(rt, sample.name, Work::ReadText(sample.reading, &text)),
+        Some(_) => {
+            show(rt, sample.name, Work::ReadText(sample.reading, &text))?;
+            parts::show(rt, sample.reading, &text)
+        }
     }
 }
 
