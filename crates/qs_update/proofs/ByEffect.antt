@@ -1,22 +1,31 @@
 -- Operations over a draft, by what they do.
-use Rattle.std.proofs.Common.{◌≡◌, ℕ, false, List, Option, Ok, Err, refl, sym, subst}
+use Rattle.std.proofs.Common.{◌≡◌, ℕ, true, false, List, Option, Ok, Err, refl, sym, subst}
 use Rattle.qs_terms.specs.Outcome.{Outcome, OneOrWantOfMemory}
 use Rattle.qs_terms.specs.Statement.{Statement, same_graph}
 use Rattle.qs_terms.specs.declared.fault.QFault.{QFault}
 use Rattle.qs_terms.specs.declared.term.Term.{Term}
 use Rattle.qs_ast.specs.declared.term.Variable.{Variable}
 use Rattle.qs_ast.specs.declared.update.Operation.{Operation}
+use Rattle.qs_ast.specs.declared.update.Transfer.{Transfer}
 use Rattle.qs_store.specs.Content.{Content, Held}
 use Rattle.qs_store.specs.Same.{SameSet}
+use Rattle.qs_store.specs.declared.removal.Removal.{Removal}
 use Rattle.qs_update.specs.inner.Carried.{BecomesOne}
-use Rattle.qs_update.specs.Effect.{put_over, IsEffect}
-use Rattle.qs_update.specs.Graphs.{copies}
+use Rattle.qs_update.specs.Effect.{put_over, removed_by, transferred, IsEffect}
+use Rattle.qs_update.specs.Graphs.{copies, exists, graph_name}
 use Rattle.qs_update.specs.Request.{bounds_of, IsCarriedOut, IsOperation}
 use Rattle.qs_update.specs.declared.effect.Effect.{Effect}
 
 -- a graph put into another one
 pub put_over_other : (removed : List Statement) (from to : Option Term) (quads : List Statement) (next : ℕ) → same_graph from to ≡ false → put_over removed from to quads next ≡ record { removed = removed; added = copies from to quads; next = next }
 put_over_other removed from to quads next e = rw e refl
+
+-- a graph that is there, put over another one
+pub transferred_there : (removal : Removal) (t : Transfer) (quads : List Statement) (next : ℕ) (from to : Option Term) → from ≡ graph_name t.from → to ≡ graph_name t.to → exists from quads ≡ true
+    → Ok (put_over (removed_by removal from to quads) from to quads next) ≡ transferred removal t quads next
+transferred_there removal t quads next from to f g h =
+    let there : exists (graph_name t.from) quads ≡ true = subst (λ x. exists x quads ≡ true) f h in
+    rw (there, f, g) refl
 
 module _ (max_rows : ℕ) (variables : List Variable) (held : Held) where
   abbrev Becomes : Operation → Outcome (Unit {0}) → Content → Type 0
