@@ -1,7 +1,7 @@
 //! Measures the parts of the store. The first argument names a part, and the second its size: then the part's times are printed, or
 //! its memory where a word stands behind the size, which for the store is the number of changes by which its quads are added. N-Quads
-//! have a file's name for a size: then the time of reading is printed, or that of writing where a word stands behind the name. Without
-//! a size a part works at a small size, and what it prints is always the same; with no argument all parts do so in turn.
+//! have a file's name for a size: then the time of reading is printed, or that of writing where a word stands behind the name; queries
+//! the names of a file of N-Quads and of one with a text. Without a size a part works at a small size, and what it prints is always the same; with no argument all parts do so in turn.
 #![tactic(auto)]
 
 mod dict;
@@ -12,6 +12,7 @@ mod lex;
 mod line;
 mod nquads;
 mod parts;
+mod queries;
 mod resident;
 mod results;
 mod serve;
@@ -24,7 +25,8 @@ mod timing;
 use std::{env, io};
 
 const PARTS: &[&str] = &[
-    "dict", "expr", "http", "index", "lex", "nquads", "results", "serve", "store", "syntax",
+    "dict", "expr", "http", "index", "lex", "nquads", "queries", "results", "serve", "store",
+    "syntax",
 ];
 
 fn main(rt: HostRuntime) -> io::Result<()> {
@@ -59,6 +61,7 @@ fn one(
         "index" => index::run(rt, size),
         "lex" => texts::run(rt, lex::SAMPLES, size),
         "nquads" => nquads::run(rt, argument, is_memory),
+        "queries" => queries::run(rt, argument, word),
         "results" => results::run(rt, size, is_memory),
         "serve" => serve::run(rt, size),
         "store" => store::run(rt, size, size_of(word)),

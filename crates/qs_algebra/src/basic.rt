@@ -73,7 +73,7 @@ fn term_slot<'a>(
     ensures { IfOk result (λ s. s ≡ spec.term_slot names.now hidden.now term.now) }
 {
     match term {
-        TermPattern::Variable(variable) => Ok(Slot::Variable(names.place(&variable.name))),
+        TermPattern::Variable(variable) => Ok(Slot::Variable(names.place(variable.text()))),
         TermPattern::Iri(iri) => iri_slot(alloc, before, iri),
         TermPattern::Literal(literal) => literal_slot(alloc, before, literal),
         TermPattern::Blank(blank) => Ok(Slot::Variable(hidden.number(names, blank)?)),
@@ -90,7 +90,7 @@ fn verb_slot<'a>(
     ensures { IfOk result (λ s. s ≡ spec.verb_slot names.now verb.now) }
 {
     match verb {
-        Verb::Variable(variable) => Ok(Some(Slot::Variable(names.place(&variable.name)))),
+        Verb::Variable(variable) => Ok(Some(Slot::Variable(names.place(variable.text())))),
         Verb::Iri(iri) => Ok(Some(iri_slot(alloc, before, iri)?)),
         Verb::Path(_) => Ok(None),
     }

@@ -22,7 +22,7 @@ pub fn expr_of<'a>(
     ensures { IfOk result (λ e. e ≡ spec.expr_of names.now expression.now) }
 {
     match expression {
-        Expression::Variable(variable) => Ok(Expr::Variable(names.place(&variable.name))),
+        Expression::Variable(variable) => Ok(Expr::Variable(names.place(variable.text()))),
         Expression::Iri(iri) => Ok(Expr::Term(Term::Iri(iri.try_clone()?))),
         Expression::Literal(lit) => Ok(Expr::Term(Term::Literal(lit.try_clone()?))),
         Expression::Or(parts) => Ok(Expr::Or(exprs_of(alloc, names, parts.as_slice())?)),
@@ -53,7 +53,7 @@ pub fn expr_of<'a>(
             let inner = boxed(alloc, names, inner.get())?;
             Ok(Expr::Signed(sign(*by), inner))
         }
-        Expression::Bound(variable) => Ok(Expr::Bound(names.place(&variable.name))),
+        Expression::Bound(variable) => Ok(Expr::Bound(names.place(variable.text()))),
         Expression::If(test, then, otherwise) => {
             let test = boxed(alloc, names, test.get())?;
             let (test, then) = beside(test, boxed(alloc, names, then.get()))?;

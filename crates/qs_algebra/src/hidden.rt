@@ -9,6 +9,7 @@ ghost use Rattle.qs_algebra.specs.Numbers as spec;
 use qs_ast::pattern::Triple;
 use qs_ast::term::{BlankNode, TermPattern};
 use qs_scope::Seen;
+use qs_shared::Shared;
 use qs_terms::Text;
 use std::alloc::{AllocError, Global};
 
@@ -76,11 +77,11 @@ impl<'a> Hidden<'a> {
         }
     }
 
-    fn add_label(&mut self, label: &'a Text) -> Result<(), AllocError>
+    fn add_label(&mut self, label: &'a Shared<Text>) -> Result<(), AllocError>
         ensures labels { OnOk result (self.new.labels ≡ spec.add_label self.old.labels label.now) }
         ensures span { OnOk result (self.new.span ≡ self.old.span) }
     {
-        if self.labels.contains(label) {
+        if self.labels.contains(label.get().as_str()) {
             return Ok(());
         }
         self.labels.push(label)
@@ -130,7 +131,7 @@ impl<'a> Hidden<'a> {
         ensures { IfOk result (λ n. n ≡ spec.hidden_number names.now self.now blank.now) }
     {
         match blank {
-            BlankNode::Label(label) => sum(names.len(), self.labels.place(label)),
+            BlankNode::Label(label) => sum(names.len(), self.labels.place(label.get().as_str())),
             BlankNode::Anonymous(number) => {
                 let first = sum(names.len(), self.labels.len())?;
                 sum(first, number.saturating_sub(least(self.span)))

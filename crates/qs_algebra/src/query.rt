@@ -81,7 +81,7 @@ fn put_item<'a>(
         SelectItem::Variable(_) => Ok(()),
         SelectItem::As(value, variable) => {
             let value = expr_of(alloc, names, value)?;
-            steps.push(Step::Extend(names.place(&variable.name), value))
+            steps.push(Step::Extend(names.place(variable.text()), value))
         }
     }
 }
@@ -141,7 +141,7 @@ fn names_of(alloc: Global, variables: &[Variable]) -> Result<Items<Text>, AllocE
 {
     let mut names = Items::new(alloc);
     for variable in variables {
-        let name = variable.name.try_clone(alloc)?;
+        let name = variable.name.get().try_clone(alloc)?;
         names.push(name)?;
     }
     Ok(names)

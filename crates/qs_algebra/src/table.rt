@@ -21,7 +21,7 @@ fn numbers<'a>(
 {
     let mut numbers = Items::new(alloc);
     for variable in variables {
-        numbers.push(names.place(&variable.name))?;
+        numbers.push(names.place(variable.text()))?;
     }
     Ok(numbers)
 }

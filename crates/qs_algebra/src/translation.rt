@@ -85,7 +85,7 @@ pub fn in_graph<'a>(
     let part = Boxed::new(alloc, part)?;
     match name {
         VarOrIri::Variable(variable) => {
-            Ok(Pattern::EachGraph(names.place(&variable.name), part))
+            Ok(Pattern::EachGraph(names.place(variable.text()), part))
         }
         VarOrIri::Iri(iri) => {
             let name = iri.try_clone()?;
@@ -170,7 +170,7 @@ fn step<'a>(alloc: Global, names: &Seen<'a>, pattern: &'a GraphPattern) -> Resul
         }
         GraphPattern::Bind(value, variable) => {
             let expr = expr_of(alloc, names, value)?;
-            Ok(Step::Extend(names.place(&variable.name), expr))
+            Ok(Step::Extend(names.place(variable.text()), expr))
         }
     }
 }

@@ -1,21 +1,58 @@
 -- Solutions found by the terms of a variable.
-use Rattle.std.proofs.Common.{◌≡◌, ℕ, zero, suc, ◌+◌, ◌<◌, ◌≤◌, Bool, true, false, ◌&&◌, cond, if◌then◌else◌, List, [], ◌∷◌, ◌++◌, length, take, get_or, Option, Some, None, refl, sym, ◌∙◌, ap, subst}
+use Rattle.std.proofs.Common.{◌≡◌, ℕ, zero, suc, ◌+◌, ◌<◌, ◌≤◌, Bool, true, false, ◌&&◌, cond, if◌then◌else◌, List, [], ◌∷◌, ◌++◌, length, take, get_or, Option, Some, None, nat_cmp, is_eq, refl, sym, ◌∙◌, ap, subst}
 use Rattle.std.specs.Prelude.{Vec}
 use Rattle.std.specs.Borrow.{Bor}
 use Rattle.std.specs.BTreeMap.{is_at, insert_entry}
 use Rattle.std.specs.Map.{lookup, set_value}
+use Rattle.std.specs.Ordering.{ordering_then}
+use Rattle.std.specs.declared.cmp.Ordering.{Ordering}
 use Rattle.std.specs.List.{filter, list_all}
 use Rattle.std.specs.Option.{is_some}
 use Rattle.std.proofs.lemmas.List.{take_all, append-nil}
 use Rattle.qs_terms.specs.declared.term.Term.{Term}
 use Rattle.qs_terms.specs.Term.{same_term}
 use Rattle.qs_terms.proofs.FirstOnes.{filter-append}
-use Rattle.qs_terms.proofs.SameTerm.{same_term-Decides}
-use Rattle.qs_paths.proofs.Keyed.{order_at, order, find, find_is, find_set, find_insert}
+use Rattle.qs_terms.proofs.SameTerm.{same_term-Decides, eq_is}
+use Rattle.qs_hashed.specs.Hashed.{hash_of}
+use Rattle.qs_hashed.proofs.Entries as entries
+use Rattle.qs_hashed.proofs.Tests.{tells}
+use Rattle.qs_terms.specs.contracts.term.TermHash.TheImpl as hashing
+use Rattle.qs_terms.specs.contracts.term.TermOrd.TheImpl as ord
+use Rattle.qs_terms.specs.contracts.term.TermOrd.TheImpl.Laws as law
 use Rattle.qs_solutions.specs.Solution.{Solution, term_at, same_cell, compatible_terms, compatible}
 use Rattle.qs_eval.specs.inner.Keyed.{is_bound, binds, rows_in, at_term, IsKeyed, IsBoundIn, AreFoundBy}
 use Rattle.qs_eval.specs.inner.Lent.{lent}
 use Rattle.qs_eval.proofs.LentLaws.{lent-append, lent_next}
+
+-- ---- entries
+
+-- terms stand in the order of their hashes, and where these are equal in their own
+abbrev pub hash : Term → ℕ
+hash t = hash_of (hashing.ghosts.hash_input t)
+
+abbrev pub order : Term → Term → Ordering
+order a b = ordering_then (nat_cmp (hash a) (hash b)) (ord.ghosts.cmp a b)
+
+abbrev order_at : Term → Term → Ordering
+order_at a = order a
+
+test_at : (a b : Term) → is_eq (order_at a b) ≡ same_term a b
+test_at a b = tells same_term same_term-Decides hash ord.ghosts.cmp (λ x y. sym (eq_is x y) ∙ law.matches_eq-law x y) a b
+
+module _ {V : Type 0} where
+  abbrev find : Term → List (Term × V) → Option V
+  find x es = lookup (same_term x) es
+
+  find_is : (x : Term) (es : List (Term × V)) → lookup (is_at (order_at x)) es ≡ find x es
+  find_is x es = entries.find_is same_term same_term-Decides order test_at x es
+
+  find_set : (x k : Term) (es : List (Term × V)) (v w : V) → find k es ≡ Some v → find x (set_value (is_at (order_at k)) es w) ≡ cond (same_term x k) (Some w) (find x es)
+  find_set x k es v w h = entries.find_set same_term same_term-Decides order test_at x k es v w h
+
+  find_insert : (x : Term) (k : Term) (es : List (Term × V)) (w : V) → find x (insert_entry order es k w) ≡ cond (same_term x k) (Some w) (find x es)
+  find_insert x k es w = entries.find_insert same_term same_term-Decides order test_at x k es w
+
+-- ---- rows at terms
 
 module _ {Z : Type 0} where
   more_at : (b : Bool) (o : Option (Vec (Bor Solution) Z)) (w : Vec (Bor Solution) Z) (r : Bor Solution) → (b ≡ true → lent w.items ≡ rows_in o ++ r.now ∷ []) → rows_in (cond b (Some w) o) ≡ rows_in o ++ (if b then r.now ∷ [] else [])

@@ -1,13 +1,14 @@
 //! Rows of the right side of a join, found by the terms of a variable.
 
-ghost use Rattle.std.specs.Prelude.{◌≡◌, ◌++◌, [], ◌∷◌, if◌then◌else◌, IfOk, OnOk};
+ghost use Rattle.std.specs.Prelude.{◌≡◌, ◌++◌, [], ◌∷◌, if◌then◌else◌, Some, IfOk, OnOk, IfSome};
 ghost use Rattle.std.specs.List.{filter, list_all};
 ghost use Rattle.qs_terms.specs.Term.{same_term};
 ghost use Rattle.qs_terms.specs.declared.term.Term.{Term as TermValue};
-ghost use Rattle.qs_solutions.specs.Solution.{compatible};
+ghost use Rattle.qs_solutions.specs.Solution.{compatible, term_at};
 ghost use Rattle.qs_eval.specs.inner.Keyed.{is_bound, binds, at_term, IsKeyed, IsBoundIn};
 ghost use Rattle.qs_eval.specs.inner.Lent.{lent};
 
+use qs_hashed::Hashed;
 use qs_solutions::Row;
 use qs_terms::Term;
 use std::alloc::{AllocError, Global};
@@ -20,7 +21,7 @@ use std::marker::Model;
 pub struct Keyed<'a> {
     all: Vec<&'a Row>,
     variable: Option<usize>,
-    by_term: BTreeMap<Term, Vec<&'a Row>>,
+    by_term: BTreeMap<Hashed<Term>, Vec<&'a Row>>,
 }
 
 impl<'a> Model for Keyed<'a> {
@@ -50,27 +51,27 @@ fn lend<'a>(alloc: Global, rows: &'a [Row]) -> Result<Vec<&'a Row>, AllocError>
 /// Puts the row behind those at the term.
 fn put<'a>(
     alloc: Global,
-    map: &mut BTreeMap<Term, Vec<&'a Row>>,
+    map: &mut BTreeMap<Hashed<Term>, Vec<&'a Row>>,
     term: &Term,
     row: &'a Row,
 ) -> Result<(), AllocError>
     ensures { OnOk result ((x : TermValue) → at_term map.new.entries x ≡ at_term map.old.entries x ++ (if same_term x term.now then row.now ∷ [] else [])) }
 {
-    if let Some(there) = map.get_mut(term) {
+    let key = Hashed::new(term.try_clone()?);
+    if let Some(there) = map.get_mut(&key) {
         there.push(row)?;
         return Ok(());
     }
     let mut there = Vec::new(alloc);
     there.push(row)?;
-    let term = term.try_clone()?;
-    map.insert(term, there)?;
+    map.insert(key, there)?;
     Ok(())
 }
 
 /// Puts the row behind those at its term of the variable, if it has one.
 fn put_bound<'a>(
     alloc: Global,
-    map: &mut BTreeMap<Term, Vec<&'a Row>>,
+    map: &mut BTreeMap<Hashed<Term>, Vec<&'a Row>>,
     variable: usize,
     row: &'a Row,
 ) -> Result<(), AllocError>
@@ -87,7 +88,7 @@ fn keyed_by<'a>(
     alloc: Global,
     variable: usize,
     rows: &[&'a Row],
-) -> Result<BTreeMap<Term, Vec<&'a Row>>, AllocError>
+) -> Result<BTreeMap<Hashed<Term>, Vec<&'a Row>>, AllocError>
     ensures { IfOk result (λ map. IsKeyed variable map.entries (lent rows.now)) }
 {
     let mut map = BTreeMap::new(alloc);
@@ -137,8 +138,8 @@ fn none_of<'e, 'a>(rows: &'e [&'a Row]) -> &'e [&'a Row]
 
 /// The rows that stand at the term; none of all the rows where none does.
 fn standing<'e, 'a>(
-    map: &'e BTreeMap<Term, Vec<&'a Row>>,
-    term: &Term,
+    map: &'e BTreeMap<Hashed<Term>, Vec<&'a Row>>,
+    term: &Hashed<Term>,
     all: &'e [&'a Row],
 ) -> &'e [&'a Row]
     ensures { lent result.now ≡ at_term map.now.entries term.now }
@@ -146,6 +147,17 @@ fn standing<'e, 'a>(
     match map.get(term) {
         Some(there) => there.as_slice(),
         None => none_of(all),
+    }
+}
+
+/// The term that the row binds the variable to, as a key.
+fn key_of(row: &Row, variable: usize) -> Option<Hashed<Term>>
+    ensures { IfSome result (λ key. term_at row.now variable ≡ Some key) }
+{
+    let term = row.term(variable)?;
+    match term.try_clone() {
+        Ok(term) => Some(Hashed::new(term)),
+        Err(_) => None,
     }
 }
 
@@ -199,8 +211,8 @@ impl<'a> Keyed<'a> {
         let Some(variable) = self.variable else {
             return self.all.as_slice();
         };
-        match row.term(variable) {
-            Some(term) => standing(&self.by_term, term, self.all.as_slice()),
+        match key_of(row, variable) {
+            Some(term) => standing(&self.by_term, &term, self.all.as_slice()),
             None => self.all.as_slice(),
         }
     }

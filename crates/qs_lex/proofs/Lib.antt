@@ -1,8 +1,12 @@
 pub mod Apart
+pub mod Ascii
 pub mod Start
 pub mod Begin
 pub mod Prefix
 pub mod TokenList
+pub mod Steps
+pub mod Passing
+pub mod Stays
 pub mod Unique
 pub mod Places
 pub mod SomeReading

@@ -1,17 +1,12 @@
 -- From the longest front to a token list.
-use Rattle.std.proofs.Common.{◌≡◌, ◌≤◌, ◌<◌, ℕ, zero, suc, ◌+◌, ◌-◌, Bool, true, false, ◌&&◌, ◌==◌, List, [], ◌∷◌, ◌++◌, Some, length, take, drop, map, refl, sym, ap, ◌∙◌, subst, true≢false, encode_utf8, encode_utf8_all, IsUtf8, chars, IsCharBoundary, arith, length-append, take_at, drop_at}
+use Rattle.std.proofs.Common.{◌≡◌, ◌≤◌, ◌<◌, ℕ, zero, suc, ◌-◌, Bool, true, false, ◌&&◌, ◌==◌, List, [], ◌∷◌, ◌++◌, Some, length, take, drop, refl, sym, ap, ◌∙◌, subst, true≢false, encode_utf8, encode_utf8_all, IsUtf8, chars, IsCharBoundary, arith, length-append, take_at, drop_at}
 use Rattle.std.specs.Str.{all_scalars}
 use Rattle.std.proofs.lemmas.Str.{encodes-append, encodes-chars, scalars-chars, chars-encodes, length-le-encodes, IsCharBoundary-at_seam, chars-nil, chars_past_char}
-use Rattle.std.proofs.lemmas.List.{nil_from_length, map-append}
-use Rattle.std.specs.Prelude.{Result, Ok, Err, IsErr, IsErrAnd, MatchResult}
-use Rattle.qs_lex.specs.Fault.{HasToken, IsFaultOf}
-use Rattle.qs_terms.specs.declared.fault.QFault.{QFault}
-use Rattle.qs_terms.specs.declared.fault.QFault.TheVariants.{Memory}
+use Rattle.std.proofs.lemmas.List.{nil_from_length}
 use Rattle.qs_lex.specs.Table.{table}
 use Rattle.qs_regular.specs.Longest.{IsFirst, best, LongestFront}
-use Rattle.qs_lex.specs.Lexes.{Lexeme, lexeme, Reads, IsLongest, IsPlace, skip}
+use Rattle.qs_lex.specs.Lexes.{Lexeme, Reads, IsLongest, IsPlace, skip}
 use Rattle.qs_lex.specs.declared.token.Class.{Class}
-use Rattle.qs_lex.specs.declared.token.Token.{Token}
 use Rattle.qs_regular.proofs.Longest.{best-some, here-none}
 
 -- ---- a token more
@@ -100,21 +95,3 @@ shorter bs rest c f = omega (arith, ap length f, length-append (encode_utf8 c) r
 pub some_from : (n : ℕ) → false ≡ (n == 0) → 0 < n
 some_from zero e = absurd (true≢false (sym e))
 some_from (suc n) e = omega arith
-
-pub pushed_reads : (n : ℕ) (cs rest : List ℕ) (old new : List Token) (t : Token) (x more : List ℕ) → new ≡ old ++ t ∷ [] → Reads n cs (map lexeme old) rest
-    → skip false rest ≡ x ++ more → IsLongest t.class x more → t.text.now ≡ encode_utf8_all x → IsPlace n (x ++ more) t.place → Reads n cs (map lexeme new) more
-pushed_reads n cs rest old new t x more e r s l w p =
-    let list : map lexeme new ≡ map lexeme old ++ lexeme t ∷ [] = ap (map lexeme) e ∙ map-append lexeme old (t ∷ []) in
-    rw list (reads_snoc n cs (map lexeme old) rest (lexeme t) x more r s l w p)
-
-pub refused_reads : (n : ℕ) (cs rest : List ℕ) (old : List Token) (k : Class) (place : ℕ) (x more : List ℕ) → Reads n cs (map lexeme old) rest
-    → skip false rest ≡ x ++ more → IsLongest k x more → IsPlace n (x ++ more) place → (ts : List Lexeme) × (left : List ℕ) × Reads n cs ts left × (0 < length ts)
-refused_reads n cs rest old k place x more r s l p =
-    let t : Lexeme = record { class = k; place = place; text = encode_utf8_all x } in
-    let e : length (map lexeme old ++ t ∷ []) ≡ length (map lexeme old) + 1 = length-append (map lexeme old) (t ∷ []) in
-    (map lexeme old ++ t ∷ [], more, reads_snoc n cs (map lexeme old) rest t x more r s l refl p, omega (arith, e))
-
-pub memory_due : {A : Type 0} (P : A → Type 0) (text : List ℕ) (r : Result A QFault) → IsErr r → IsErrAnd r (λ f. f ≡ Memory) → HasToken text
-    → MatchResult r P (λ fault. IsFaultOf text fault)
-memory_due P text (Ok v) n e h = absurd e
-memory_due P text (Err f) n e h = subst (λ z. IsFaultOf text z) (sym e) h

@@ -7,3 +7,4 @@ pub mod NameState
 pub mod NumberState
 pub mod StringState
 pub mod Prefix
+pub mod Steady

@@ -6,8 +6,9 @@ ghost use Rattle.qs_regular.specs.Character.{is_hex, hex_value, is_iri_scalar};
 ghost use Rattle.qs_lex.specs.inner.IriState.{left_of_iri};
 ghost use Rattle.qs_lex.specs.declared.iri_state.IriState.TheVariants.{Body};
 
+use crate::letter::is_iri_char;
 use crate::token::Class;
-use qs_regular::character::{is_iri_char, is_iri_scalar};
+use qs_regular::character::is_iri_scalar;
 use qs_regular::hex_digits::HexDigits;
 use qs_regular::push::{Pushed, push};
 

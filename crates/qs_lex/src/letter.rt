@@ -1,7 +1,10 @@
-//! Classes of characters of SPARQL alone.
+//! Classes of characters: those of SPARQL alone, and those of names and IRIs with ASCII or letters first, which most are.
 
 ghost use Rattle.std.specs.Prelude.{◌≡◌};
+ghost use Rattle.qs_regular.specs.Character.{is_base, is_chars, is_iri_char, is_u};
 ghost use Rattle.qs_lex.specs.Table.{is_escapable, is_exponent, is_sign, is_word_char};
+
+use qs_regular::character;
 
 /// `e` or `E`.
 #[tactic(auto, unfolding(crate::specs::Table::is_exponent))]
@@ -54,4 +57,44 @@ pub fn is_escapable(c: char) -> bool
             | '@'
             | '%'
     )
+}
+
+/// What a name may begin with.
+#[tactic(auto, using(crate::proofs::Ascii::ascii_base))]
+pub fn is_base(c: char) -> bool
+    ensures { result ≡ is_base c }
+{
+    if (c as u32) < 0x80 {
+        character::is_letter(c)
+    } else {
+        character::is_base(c)
+    }
+}
+
+/// The same, or `_`.
+#[tactic(auto, unfolding(qs_regular::specs::Character::is_u))]
+pub fn is_u(c: char) -> bool
+    ensures { result ≡ is_u c }
+{
+    is_base(c) || c == '_'
+}
+
+/// What a name may hold.
+#[tactic(auto, using(crate::proofs::Ascii::ascii_chars))]
+pub fn is_chars(c: char) -> bool
+    ensures { result ≡ is_chars c }
+{
+    if (c as u32) < 0x80 {
+        is_word_char(c) || c == '-'
+    } else {
+        character::is_chars(c)
+    }
+}
+
+/// What an IRI may hold.
+#[tactic(auto, using(crate::proofs::Ascii::word_iri))]
+pub fn is_iri_char(c: char) -> bool
+    ensures { result ≡ is_iri_char c }
+{
+    is_word_char(c) || character::is_iri_char(c)
 }

@@ -1,52 +1,81 @@
-//! From a text to its tokens.
+//! A text that is read a token at a time.
 
-ghost use Rattle.std.specs.Prelude.{◌≡◌, length, map, All, AllPairs, IfOk, MatchResult, true};
-ghost use Rattle.std.specs.Str.{chars};
-ghost use Rattle.qs_lex.specs.Fault.{IsFaultOf};
-ghost use Rattle.qs_lex.specs.Lexes.{Lexes, lexeme};
-ghost use Rattle.qs_lex.specs.Place.{IsSliceOf, StandsBefore};
-ghost use Rattle.qs_lex.specs.inner.Prefix.{IsBarren, IsNoPrefix};
+ghost use Rattle.std.specs.Prelude.{◌≡◌, ◌<◌, ◌≤◌, ◌+◌, [], List, length, IfOk, IfErr, IfSome, OnSome};
+ghost use Rattle.qs_lex.specs.Lexes.{Lexeme, StopsAt};
+ghost use Rattle.qs_lex.specs.Unread.{HasRead, HasComeTo};
 
 use crate::gap::after_gap;
 use crate::longest::longest;
 use crate::run::{Run, has_no_prefix, look};
 use crate::token::Token;
-use qs_terms::QFault;
-use std::alloc::Global;
+use std::marker::Model;
 
-/// The tokens of a text: at each place, behind white space and comments, the longest token that the table has.
-///
-/// # Errors
-/// `QFault::Syntax` with the first byte place, behind white space and comments, at which no token begins. `QFault::Memory`
-/// where a growth was refused, which is asked for only once a token was read.
-pub fn tokens(alloc: Global, text: &str) -> Result<Vec<Token<'_>>, QFault>
-    ensures reading { MatchResult result (λ v. Lexes text.now (map lexeme v.items)) (λ fault. IsFaultOf text.now fault) }
-    ensures slices { IfOk result (λ v. All (IsSliceOf text.now) v.items) }
-    ensures ascending { IfOk result (λ v. AllPairs StandsBefore v.items) }
-{
-    let mut tokens = Vec::new(alloc);
-    let mut rest = text;
-    let mut ahead = Run {
-        left: text.len(),
-        barren: false,
-    };
-    'tokens: loop {
-        let front = after_gap(rest);
-        if front.is_empty() {
-            return Ok(tokens);
+/// A text that is read a token at a time, without memory.
+#[derive(Drop)]
+pub struct Lexer<'a> {
+    text: &'a str,
+    rest: &'a str,
+    ahead: Run,
+}
+
+impl<'a> Model for Lexer<'a> {
+    ghost use Rattle.std.specs.Prelude.{◌≡◌, ◌≤◌, true, length};
+    ghost use Rattle.std.specs.Str.{chars};
+    ghost use Rattle.qs_lex.specs.Unread.{Unread};
+    ghost use Rattle.qs_lex.specs.inner.Prefix.{IsBarren};
+
+    ghost Value = { Unread };
+
+    ghost view = { λ l. record { bytes = l.text.now; rest = l.rest.now } };
+
+    ghost invariant = { λ l. (length l.rest.now ≤ length l.text.now) × (l.ahead.barren ≡ true → IsBarren (chars l.rest.now) l.ahead.left) };
+}
+
+impl<'a> Lexer<'a> {
+    /// A lexer of the text, which has read nothing.
+    pub fn new(text: &'a str) -> Lexer<'a>
+        ensures bytes { result.bytes ≡ text.now }
+        ensures read { HasRead [] result }
+    {
+        Lexer {
+            text,
+            rest: text,
+            ahead: Run {
+                left: text.len(),
+                barren: false,
+            },
         }
-        let place = text.len() - front.len();
-        ahead = look(ahead, front);
+    }
+
+    /// The next token, which is the longest that the table has behind white space and comments, or `None` behind the last one.
+    /// Behind an error the lexer stands where it stood.
+    ///
+    /// # Errors
+    /// The first byte place, behind white space and comments, at which no token begins.
+    pub fn next(&mut self) -> Result<Option<Token<'a>>, usize>
+        ensures bytes { self.new.bytes ≡ self.old.bytes }
+        ensures next { IfOk result (λ next. (ts : List Lexeme) → HasRead ts self.old → HasComeTo ts next self.new) }
+        ensures shorter { IfOk result (λ next. OnSome next (length self.new.rest < length self.old.rest)) }
+        ensures within { IfOk result (λ next. IfSome next (λ t. t.place + length t.text.now ≤ length self.old.bytes)) }
+        ensures fault { IfErr result (λ place. (ts : List Lexeme) → HasRead ts self.old → StopsAt self.old.bytes place) }
+        ensures kept { IfErr result (λ _. self.new ≡ self.old) }
+    {
+        let front = after_gap(self.rest);
+        if front.is_empty() {
+            return Ok(None);
+        }
+        let place = self.text.len() - front.len();
+        let ahead = look(self.ahead, front);
         let Some((class, len)) = longest(front, has_no_prefix(ahead, front)) else {
-            return Err(QFault::Syntax { place });
+            return Err(place);
         };
         let (slice, after) = front.split_at(len);
-        let token = Token {
+        self.rest = after;
+        self.ahead = ahead;
+        Ok(Some(Token {
             class,
             place,
             text: slice,
-        };
-        tokens.push(token)?;
-        rest = after;
+        }))
     }
 }

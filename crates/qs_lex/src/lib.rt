@@ -14,8 +14,11 @@ mod number_state;
 mod quote;
 mod run;
 mod state;
+mod steady;
 mod string_state;
 pub mod token;
+pub mod token_list;
 
-pub use crate::lexer::tokens;
+pub use crate::lexer::Lexer;
 pub use crate::token::{Class, Token};
+pub use crate::token_list::tokens;

@@ -1,9 +1,9 @@
 //! The longest token at the front of a text.
 
-ghost use Rattle.std.specs.Prelude.{◌≡◌, ◌⊎◌, MatchOption, [], true};
+ghost use Rattle.std.specs.Prelude.{◌≡◌, ◌⊎◌, ◌≤◌, ◌-◌, length, MatchOption, [], true};
 ghost use Rattle.std.specs.Str.{chars};
 ghost use Rattle.qs_regular.specs.Longest.{best, here};
-ghost use Rattle.qs_regular.specs.inner.Scan.{hold};
+ghost use Rattle.qs_regular.specs.inner.Scan.{hold, later};
 ghost use Rattle.qs_regular.specs.Character.{is_letter};
 ghost use Rattle.qs_lex.specs.Table.{table};
 ghost use Rattle.qs_lex.specs.inner.State.{left};
@@ -34,6 +34,17 @@ fn begin(c: char, no_prefix: bool) -> Option<State>
     State::start(c)
 }
 
+/// The text behind the characters at its front that leave the state as it is.
+fn past(state: State, text: &str) -> &str
+    ensures len { length result.now ≤ length text.now }
+    ensures found { best (left state) (chars text.now) ≡ later (best (left state) (chars result.now)) (length text.now - length result.now) None }
+{
+    match state.steady() {
+        Some(steady) => steady.behind(text),
+        None => text,
+    }
+}
+
 /// The class and the length of the longest token at the front.
 pub fn longest(text: &str, no_prefix: bool) -> Option<(Class, usize)>
     requires { no_prefix ≡ true → IsNoPrefix (chars text.now) }
@@ -47,15 +58,18 @@ pub fn longest(text: &str, no_prefix: bool) -> Option<(Class, usize)>
         return None;
     };
     let mut state = begun;
-    let mut len = first.len_utf8();
+    let mut left = past(begun, rest.as_str());
     let mut found = None;
-    'chars: while let Some(c) = rest.next() {
-        found = kept(found, state, len);
+    'states: loop {
+        found = kept(found, state, text.len() - left.len());
+        let mut ahead = left.chars();
+        let Some(c) = ahead.next() else {
+            return found;
+        };
         let Some(next) = state.step(c) else {
             return found;
         };
         state = next;
-        len += c.len_utf8();
+        left = past(next, ahead.as_str());
     }
-    kept(found, state, len)
 }

@@ -4,11 +4,9 @@ ghost use Rattle.std.specs.Prelude.{◌≡◌, MatchOption, []};
 ghost use Rattle.qs_regular.specs.Longest.{advance, here};
 ghost use Rattle.qs_lex.specs.inner.NameState.{left_of_name};
 
-use crate::letter::{is_escapable, is_word_char};
+use crate::letter::{is_chars, is_escapable, is_u, is_word_char};
 use crate::token::Class;
-use qs_regular::character::{
-    is_chars, is_digit, is_hex, is_letter, is_letter_or_digit, is_mark_in_name, is_u,
-};
+use qs_regular::character::{is_digit, is_hex, is_letter, is_letter_or_digit, is_mark_in_name};
 
 /// What has been read of a name.
 #[derive(Clone, Copy, PartialEq, Eq, Debug)]

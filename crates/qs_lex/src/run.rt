@@ -5,7 +5,7 @@ ghost use Rattle.std.specs.Str.{chars};
 ghost use Rattle.qs_lex.specs.inner.Prefix.{IsBarren, IsNoPrefix, names};
 ghost use Rattle.qs_regular.specs.Character.{is_letter};
 
-use qs_regular::character::is_chars;
+use crate::letter::is_chars;
 
 /// How many bytes are left behind a run, and whether no prefix within it goes on to a colon.
 #[derive(Clone, Copy)]
@@ -54,12 +54,20 @@ pub fn run_at(text: &str) -> Run
     Run { left, barren: true }
 }
 
-/// The run that a front is in.
+/// Whether a name may begin here that is a word or a prefix of ASCII: nothing else asks what run it is in.
+fn begins_with_letter(front: &str) -> bool {
+    match front.as_bytes().first() {
+        Some(byte) => byte.is_ascii_alphabetic(),
+        None => false,
+    }
+}
+
+/// The run that a front is in, where it begins with a letter.
 pub fn look(ahead: Run, front: &str) -> Run
     requires { ahead.barren ≡ true → IsBarren (chars front.now) ahead.left }
     ensures { result.barren ≡ true → IsBarren (chars front.now) result.left }
 {
-    if ahead.left < front.len() {
+    if ahead.left < front.len() || !begins_with_letter(front) {
         ahead
     } else {
         run_at(front)

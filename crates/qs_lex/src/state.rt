@@ -1,19 +1,22 @@
 //! The state of the scanner within a token.
 
-ghost use Rattle.std.specs.Prelude.{◌≡◌, MatchOption, [], false};
+ghost use Rattle.std.specs.Prelude.{◌≡◌, IfSome, MatchOption, ℕ, [], false, true};
 ghost use Rattle.qs_regular.specs.Longest.{advance, here};
 ghost use Rattle.qs_regular.specs.Character.{is_base, is_digit, is_letter};
 ghost use Rattle.qs_lex.specs.inner.Start.{begun};
 ghost use Rattle.qs_lex.specs.inner.State.{left};
+ghost use Rattle.qs_lex.specs.inner.Steady.{is_steady};
 
 use crate::iri_state::IriState;
+use crate::letter::is_base;
 use crate::mark_state::MarkState;
 use crate::name_state::NameState;
 use crate::number_state::NumberState;
 use crate::quote::Quote;
+use crate::steady::Steady;
 use crate::string_state::StringState;
 use crate::token::Class;
-use qs_regular::character::{is_base, is_digit, is_letter};
+use qs_regular::character::{is_digit, is_letter};
 
 /// What has been read of a token.
 #[derive(Clone, Copy)]
@@ -64,6 +67,21 @@ impl State {
             State::Name(state) => state.class(),
             State::Number(state) => state.class(),
             State::String(state) => state.class(),
+        }
+    }
+
+    /// Characters that leave all as it is, where a token may hold many of them in a row.
+    #[tactic(auto, using(crate::proofs::Stays::plain, crate::proofs::Stays::word, crate::proofs::Stays::local, crate::proofs::Stays::variable, crate::proofs::Stays::body, crate::proofs::Stays::short, crate::proofs::Stays::long))]
+    pub fn steady(self) -> Option<Steady>
+        ensures { IfSome result (λ kept. (c : ℕ) → is_steady kept c ≡ true → advance (left self) c ≡ left self) }
+    {
+        match self {
+            State::Name(NameState::Plain | NameState::Word) => Some(Steady::Word),
+            State::Name(NameState::Local | NameState::Variable) => Some(Steady::Word),
+            State::Iri(IriState::Body) => Some(Steady::Iri),
+            State::String(StringState::Short(quote)) => Some(Steady::Quoted(quote)),
+            State::String(StringState::Long(quote)) => Some(Steady::Quoted(quote)),
+            _ => None,
         }
     }
 

@@ -19,7 +19,6 @@ mod output;
 mod part;
 mod place;
 mod reader;
-mod recent;
 mod run;
 mod state;
 mod written;

@@ -13,11 +13,10 @@ use crate::class::Class;
 use crate::fault::NqFaultKind;
 use crate::labels::Labels;
 use crate::place::Place;
-use crate::recent::Recent;
 use qs_escapes::Escapes;
 use qs_escapes::decoded::decoded;
 use qs_escapes::piece::piece;
-use qs_terms::{Iri, TermFault, Text};
+use qs_terms::{Iri, Recent, TermFault, Text};
 use std::alloc::Global;
 
 /// A part of a statement.
@@ -88,7 +87,7 @@ fn new_iri(alloc: Global, recent: &mut Recent, text: &str) -> Result<Part, NqFau
     let text = decoded(alloc, text, Escapes::Codepoints)?;
     match Iri::new(alloc, text) {
         Ok(iri) => {
-            recent.note(&iri)?;
+            recent.note("", iri.text(), &iri)?;
             Ok(Part::Iri(iri))
         }
         Err(TermFault::Memory) => Err(NqFaultKind::Memory),
@@ -101,7 +100,7 @@ fn new_iri(alloc: Global, recent: &mut Recent, text: &str) -> Result<Part, NqFau
 fn iri(alloc: Global, recent: &mut Recent, text: &str) -> Result<Part, NqFaultKind>
     ensures { (n : Numbering) → WithOrWantOf Memory (iri_part n (checked_iri (decoded_text uchar text.now))) result n }
 {
-    match recent.iri(text)? {
+    match recent.iri("", text)? {
         Some(known) => Ok(Part::Iri(known)),
         None => new_iri(alloc, recent, text),
     }

@@ -18,6 +18,7 @@ use Rattle.qs_terms.proofs.FirstOnes.{filter-append}
 use Rattle.qs_terms.proofs.SameTerm.{same_term-Decides, eq_is}
 use Rattle.qs_terms.specs.contracts.term.TermOrd.TheImpl as ord
 use Rattle.qs_terms.specs.contracts.term.TermOrd.TheImpl.Laws as law
+use Rattle.qs_hashed.proofs.Entries as entries
 use Rattle.qs_paths.specs.Edges.{lent, triples, triples_at, at_node, IsKeyed}
 use Rattle.qs_paths.specs.Steps.{Graph}
 use Rattle.qs_paths.proofs.Members.{Mem, mem_at, mem_once, mem_of_once, mem_flat, mem_of_flat, mem_filter, mem_of_filter, mem_in, not_in}
@@ -34,62 +35,21 @@ order_at a = order a
 test_at : (a b : Term) → is_eq (order_at a b) ≡ same_term a b
 test_at a b = sym (law.matches_eq-law a b) ∙ eq_is a b
 
-apart_at : (x k e : Term) → same_term k e ≡ false → same_term x k ≡ true → same_term x e ≡ true → ⊥
-apart_at x k e f a b =
-    let i : k ≡ e = sym ((same_term-Decides x k).0 a) ∙ (same_term-Decides x e).0 b in
-    let t : same_term k e ≡ true = (same_term-Decides k e).1 i in
-    let z : true ≡ false = sym t ∙ f in cc
-
 module _ {V : Type 0} where
   abbrev pub find : Term → List (Term × V) → Option V
   find x es = lookup (same_term x) es
 
   -- the map finds a term by its value
   pub find_is : (x : Term) (es : List (Term × V)) → lookup (is_at (order_at x)) es ≡ find x es
-  find_is x [] = refl
-  find_is x (e ∷ es) = rw (test_at x e.0, find_is x es) refl
-
-  twice_at : (a b : Bool) (v w : Option V) (r s : Option V) → (a ≡ true → b ≡ true → ⊥) → s ≡ cond a v r → cond b w s ≡ cond a v (cond b w r)
-  twice_at true true v w r s apart e = absurd (apart refl refl)
-  twice_at true false v w r s apart e = e
-  twice_at false true v w r s apart e = refl
-  twice_at false false v w r s apart e = e
-
-  again_at : (b : Bool) (v w r : Option V) → cond b v r ≡ cond b v (cond b w r)
-  again_at true v w r = refl
-  again_at false v w r = refl
+  find_is x es = entries.find_is same_term same_term-Decides order test_at x es
 
   -- a value that is written at a key that is there
   pub find_set : (x k : Term) (es : List (Term × V)) (v w : V) → find k es ≡ Some v → find x (set_value (is_at (order_at k)) es w) ≡ cond (same_term x k) (Some w) (find x es)
-  find_set x k [] v w h = let z : None ≡ Some v = h in cc
-  find_set x k (e ∷ es) v w h =
-      ap (λ c. find x (cond c ((e.0, w) ∷ es) (e ∷ set_value (is_at (order_at k)) es w))) (test_at k e.0)
-      ∙ by (same_term k e.0) refl (λ g. find_set x k es v w g)
-    where
-      by : (c : Bool) → same_term k e.0 ≡ c → (find k es ≡ Some v → find x (set_value (is_at (order_at k)) es w) ≡ cond (same_term x k) (Some w) (find x es))
-          → find x (cond c ((e.0, w) ∷ es) (e ∷ set_value (is_at (order_at k)) es w)) ≡ cond (same_term x k) (Some w) (cond (same_term x e.0) (Some e.1) (find x es))
-      by true i ih =
-          ap (λ (z : Term). cond (same_term x z) (Some w) (find x es)) (sym ((same_term-Decides k e.0).0 i))
-          ∙ (again_at (same_term x k) (Some w) (Some e.1) (find x es) ∙ ap (λ (z : Term). cond (same_term x k) (Some w) (cond (same_term x z) (Some e.1) (find x es))) ((same_term-Decides k e.0).0 i))
-      by false i ih =
-          twice_at (same_term x k) (same_term x e.0) (Some w) (Some e.1) (find x es) _ (apart_at x k e.0 i)
-          (ih (sym (ap (λ c. cond c (Some e.1) (find k es)) i) ∙ h))
+  find_set x k es v w h = entries.find_set same_term same_term-Decides order test_at x k es v w h
 
   -- a new key
   pub find_insert : (x : Term) (k : Term) (es : List (Term × V)) (w : V) → find x (insert_entry order es k w) ≡ cond (same_term x k) (Some w) (find x es)
-  find_insert x k [] w = refl
-  find_insert x k (e ∷ es) w = by (order k e.0) refl (find_insert x k es w)
-    where
-      by : (o : Ordering) → order k e.0 ≡ o → find x (insert_entry order es k w) ≡ cond (same_term x k) (Some w) (find x es)
-          → find x (match_ordering o ((k, w) ∷ e ∷ es) ((e.0, w) ∷ es) (e ∷ insert_entry order es k w)) ≡ cond (same_term x k) (Some w) (cond (same_term x e.0) (Some e.1) (find x es))
-      by Less o ih = refl
-      by Equal o ih =
-          let i : k ≡ e.0 = (same_term-Decides k e.0).0 (sym (test_at k e.0) ∙ ap is_eq o) in
-          ap (λ (z : Term). cond (same_term x z) (Some w) (find x es)) (sym i)
-          ∙ (again_at (same_term x k) (Some w) (Some e.1) (find x es) ∙ ap (λ (z : Term). cond (same_term x k) (Some w) (cond (same_term x z) (Some e.1) (find x es))) i)
-      by Greater o ih =
-          twice_at (same_term x k) (same_term x e.0) (Some w) (Some e.1) (find x es) _
-          (apart_at x k e.0 (sym (test_at k e.0) ∙ ap is_eq o)) ih
+  find_insert x k es w = entries.find_insert same_term same_term-Decides order test_at x k es w
 
 -- ---- what stands at a node
 

@@ -27,8 +27,7 @@ use Rattle.qs_ops.specs.Tests.{Extends, IsDropped, AreWanted}
 use Rattle.qs_groups.specs.Stages.{through}
 use Rattle.qs_groups.specs.declared.kept.Kept.{Kept}
 use Rattle.qs_plan.specs.inner.Groups.{KeepsDropped}
-use Rattle.qs_plan.specs.Some.{AreSome}
-use Rattle.qs_plan.proofs.Enough.{some_all}
+use Rattle.qs_plan.specs.inner.Collected.{Collection, Collects}
 use Rattle.qs_plan.proofs.Fitted.{basic_is, found_rows, unit_matches}
 use Rattle.qs_plan.proofs.Groups.{AreKept, some_kept}
 
@@ -146,7 +145,7 @@ whole_wanted width whole graph conditions triples found l w =
     (found_rows width whole triples graph (found ++ w.others) (map f (found ++ w.others)) l (IsPermutation-sym _ _ w.whole) (IsPermutation-refl _))
 
 pub kept_wanted : (width whole : ℕ) (graph : Graph) (conditions : List Expr) (b : BasicPattern) (triples : List TriplePattern) (found rows all : List Solution) → whole ≡ width + b.hidden → b.paths ≡ [] → triples ≡ b.triples → AreWanted conditions width found (matches whole triples graph)
-    → AreSome None rows (map (front width width) found) → all ≡ kept conditions rows → SameBag all (kept conditions (basic width b graph))
+    → SameBag rows (map (front width width) found) → all ≡ kept conditions rows → SameBag all (kept conditions (basic width b graph))
 kept_wanted width whole graph conditions b triples found rows all e none t w s k =
     let f : Solution → Solution = front width width in
     let A : List Solution = map f found in
@@ -155,7 +154,7 @@ kept_wanted width whole graph conditions b triples found rows all e none t w s k
     let cut : SameBag (A ++ B) ys = whole_wanted width whole graph conditions triples found (omega (arith, e)) w in
     let gone : kept conditions B ≡ [] = none_hold conditions B (all_fronts conditions width w.others w.dropped) in
     let both : kept conditions (A ++ B) ≡ kept conditions A = kept_append conditions A B ∙ (ap (λ xs. kept conditions A ++ xs) gone ∙ append-nil (kept conditions A)) in
-    let first : SameBag (kept conditions rows) (kept conditions A) = filter_same (all_hold conditions) rows A (some_all rows A s) in
+    let first : SameBag (kept conditions rows) (kept conditions A) = filter_same (all_hold conditions) rows A s in
     let then : SameBag (kept conditions A) (kept conditions ys) = subst (λ xs. SameBag xs (kept conditions ys)) both (filter_same (all_hold conditions) (A ++ B) ys cut) in
     let last : ys ≡ basic width b graph = sym (basic_is width whole b graph triples e none t) in
     subst (λ xs. SameBag xs (kept conditions (basic width b graph))) (sym k)
@@ -175,19 +174,19 @@ group_alone width quads graph p steps ss conditions cs b rows is e f j none h =
     (group_arm width quads graph p steps ss conditions cs (basic width b graph) (kept cs (basic width b graph)) is e f (subst (λ xs. SameBag (basic width b graph) xs) (sym k) (IsPermutation-refl _)) refl)
 
 -- what a search with tests finds, as far as the conditions hold behind the steps
-module _ (most : Option ℕ) (width whole : ℕ) (quads : List Statement) (graph : Graph) (conditions : List Expr) (ss : List Step) (ks : List Kept) where
+module _ (old : Collection) (width whole : ℕ) (quads : List Statement) (graph : Graph) (conditions : List Expr) (ss : List Step) (ks : List Kept) where
   abbrev F : List Solution → List Solution
   F xs = kept conditions (fold (λ left s. step width quads s graph left) xs ss)
 
-  pub some_wanted : (triples : List TriplePattern) (found rows : List Solution) → AreKept ks F → width ≤ whole → AllByRecursion KeepsDropped ss → AreWanted conditions width found (matches whole triples graph)
-      → AreSome most rows (flat_map (through ks) (map (front width width) found)) → AreSome most rows (F (map (take width) (matches whole triples graph)))
-  some_wanted triples found rows h l k w s =
+  pub some_wanted : (triples : List TriplePattern) (found : List Solution) (new : Collection) → AreKept ks F → width ≤ whole → AllByRecursion KeepsDropped ss → AreWanted conditions width found (matches whole triples graph)
+      → Collects old new (flat_map (through ks) (map (front width width) found)) → Collects old new (F (map (take width) (matches whole triples graph)))
+  some_wanted triples found new h l k w s =
       let A : List Solution = map (front width width) found in
       let B : List Solution = map (front width width) w.others in
       let none : F B ≡ [] = none_hold conditions _ (all_stepped conditions width quads graph ss k B (all_fronts conditions width w.others w.dropped)) in
       let gone : flat_map (through ks) B ≡ [] = empty (flat_map (through ks) B) (F B) (h B) none in
       let both : flat_map (through ks) (A ++ B) ≡ flat_map (through ks) A = flat_map-append (through ks) A B ∙ (ap (λ xs. flat_map (through ks) A ++ xs) gone ∙ append-nil (flat_map (through ks) A)) in
-      some_kept most ks F rows (A ++ B) (map (take width) (matches whole triples graph)) h (whole_wanted width whole graph conditions triples found l w) (subst (AreSome most rows) (sym both) s)
+      some_kept old ks F new (A ++ B) (map (take width) (matches whole triples graph)) h (whole_wanted width whole graph conditions triples found l w) (subst (Collects old new) (sym both) s)
     where
       empty : (xs ys : List Solution) → SameBag xs ys → ys ≡ [] → xs ≡ []
       empty [] ys b e = refl

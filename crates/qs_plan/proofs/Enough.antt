@@ -1,6 +1,6 @@
--- Some of the solutions, or all of them.
-use Rattle.std.proofs.Common.{◌≡◌, ℕ, ◌+◌, ◌≤◌, true, true≢false, Option, None, List, [], ◌++◌, length, map, take, refl, sym, ◌∙◌, ap, subst, append-nil, inl, inr}
-use Rattle.std.proofs.lemmas.List.Sorted.{IsPermutation-refl, IsPermutation-sym, IsPermutation-trans}
+-- Solutions of basic graph patterns that are collected.
+use Rattle.std.proofs.Common.{◌≡◌, ℕ, ◌+◌, ◌≤◌, Option, Some, None, List, [], ◌∷◌, map, take, sym, ◌∙◌, ap, subst}
+use Rattle.std.proofs.lemmas.List.Sorted.{IsPermutation-refl, IsPermutation-sym, IsPermutation-map}
 use Rattle.std.specs.Option.{option_map}
 use Rattle.qs_terms.specs.Bag.{SameBag}
 use Rattle.qs_terms.specs.declared.term.Term.{Term}
@@ -10,38 +10,34 @@ use Rattle.qs_patterns.specs.declared.pattern.BasicPattern.{BasicPattern}
 use Rattle.qs_patterns.specs.declared.pattern.TriplePattern.{TriplePattern}
 use Rattle.qs_ops.specs.Coming.{GivesOne}
 use Rattle.qs_ops.specs.Row.{Cells, row_solution, front}
-use Rattle.qs_plan.specs.Some.{AreSome, is_enough}
-use Rattle.qs_plan.proofs.Fitted.{last_row, found_rows, without_paths}
+use Rattle.qs_plan.specs.inner.Collected.{Collection, Collects, IsPart, with_rows}
+use Rattle.qs_plan.proofs.Collecting.{collects_same, nothing_left, one_came}
+use Rattle.qs_plan.proofs.Fitted.{found_rows, given, without_paths}
 
-pub all_some : (most : Option ℕ) (rows all : List Solution) → SameBag rows all → AreSome most rows all
-all_some most rows all h = ([], subst (SameBag all) (sym (append-nil rows)) (IsPermutation-sym rows all h), inl refl)
+-- ---- one match more
 
-pub some_all : (rows all : List Solution) → AreSome None rows all → SameBag rows all
-some_all rows all h = elim h.2 as (λ _. SameBag rows all) [
-  | inl e ↦ IsPermutation-sym all rows (subst (SameBag all) (ap (λ l. rows ++ l) e ∙ append-nil rows) h.1)
-  | inr e ↦ absurd (true≢false (sym e))
-]
+module _ (known : List Term) (f : Solution → Solution) (old : Collection) (all : List Solution) (mid : Collection) (left after : List Solution) (o : Option Cells) (h : IsPart old all mid (map f left)) (g : GivesOne left (option_map (row_solution known) o) after) where
+  pub one_found : (seen : List Term) (new : Collection) (back : List Solution) (row : Cells) (m : Solution) → known ≡ seen → o ≡ Some row → m ≡ f (row_solution seen row) → new ≡ with_rows mid (m ∷ []) → back ≡ after → IsPart old all new (map f back)
+  one_found seen new back row m k is e i j =
+      let r : Solution = row_solution known row in
+      let n : SameBag left (r ∷ back) = subst (λ (l : List Solution). SameBag left (r ∷ l)) (sym j) (given known left after o row is g) in
+      let same : m ≡ f r = e ∙ ap (λ (t : List Term). f (row_solution t row)) (sym k) in
+      one_came old all mid new (map f left) (map f back) (f r) h (IsPermutation-map f left (r ∷ back) n) (i ∙ ap (λ (x : Solution). with_rows mid (x ∷ [])) same)
 
-pub some_same : (most : Option ℕ) (rows a b : List Solution) → SameBag b a → AreSome most rows a → AreSome most rows b
-some_same most rows a b h k = (k.0, IsPermutation-trans b a (rows ++ k.0) h k.1, k.2)
+  pub none_found : o ≡ None → Collects old mid all
+  none_found is =
+      let e : GivesOne left None after = subst (λ (x : Option Cells). GivesOne left (option_map (row_solution known) x) after) is g in
+      nothing_left old all mid (map f left) h (ap (map f) e.0)
 
--- where so many suffice, the others are left
-pub enough_rows : (most : Option ℕ) (f : Solution → Solution) (first rows left : List Solution) (n : ℕ) → SameBag (map f first) (rows ++ map f left) → n ≡ length rows → is_enough most n ≡ true
-    → AreSome most rows (map f first)
-enough_rows most f first rows left n h e k = (map f left, h, inr (ap (is_enough most) (sym e) ∙ k))
+-- ---- basic graph patterns
 
-pub last_of_all : (most : Option ℕ) (known : List Term) (f : Solution → Solution) (first rows left new : List Solution) (o : Option Cells) → SameBag (map f first) (rows ++ map f left) → o ≡ None → GivesOne left (option_map (row_solution known) o) new
-    → AreSome most rows (map f first)
-last_of_all most known f first rows left new o h n g = all_some most rows (map f first) (last_row known f first rows left new o h n g)
+module _ (old new : Collection) (width whole : ℕ) where
+  pub maps_collected : (triples : List TriplePattern) (graph : Graph) (found : List Solution) → width ≤ whole → SameBag found (matches whole triples graph) → Collects old new (map (front width width) found) → Collects old new (map (take width) (matches whole triples graph))
+  maps_collected triples graph found l h k =
+      let all : List Solution = map (front width width) found in
+      collects_same old new all (map (take width) (matches whole triples graph)) (IsPermutation-sym _ _ (found_rows width whole triples graph found all l h (IsPermutation-refl all))) k
 
-pub some_found : (most : Option ℕ) (width whole : ℕ) (triples : List TriplePattern) (graph : Graph) (found rows : List Solution) → width ≤ whole → SameBag found (matches whole triples graph) → AreSome most rows (map (front width width) found)
-    → AreSome most rows (map (take width) (matches whole triples graph))
-some_found most width whole triples graph found rows l h k =
-    let all : List Solution = map (front width width) found in
-    some_same most rows all (map (take width) (matches whole triples graph)) (IsPermutation-sym _ _ (found_rows width whole triples graph found all l h (IsPermutation-refl all))) k
-
-pub some_without_paths : (most : Option ℕ) (width whole : ℕ) (pattern : BasicPattern) (graph : Graph) (rows : List Solution) → whole ≡ width + pattern.hidden → pattern.paths ≡ []
-    → AreSome most rows (map (take width) (matches whole pattern.triples graph)) → AreSome most rows (basic width pattern graph)
-some_without_paths most width whole pattern graph rows e none k =
-    let all : List Solution = map (take width) (matches whole pattern.triples graph) in
-    some_same most rows all (basic width pattern graph) (IsPermutation-sym _ _ (without_paths width whole pattern graph all e none (IsPermutation-refl all))) k
+  pub basic_collected : (pattern : BasicPattern) (graph : Graph) → whole ≡ width + pattern.hidden → pattern.paths ≡ [] → Collects old new (map (take width) (matches whole pattern.triples graph)) → Collects old new (basic width pattern graph)
+  basic_collected pattern graph e none k =
+      let all : List Solution = map (take width) (matches whole pattern.triples graph) in
+      collects_same old new all (basic width pattern graph) (IsPermutation-sym _ _ (without_paths width whole pattern graph all e none (IsPermutation-refl all))) k

@@ -1,10 +1,10 @@
 -- Solutions cut to the named variables.
-use Rattle.std.proofs.Common.{◌≡◌, ℕ, zero, suc, ◌+◌, ◌<◌, ◌≤◌, Bool, true, false, cond, Option, Some, None, if◌then◌else◌, List, [], ◌∷◌, ◌++◌, length, map, take, refl, sym, ◌∙◌, ap, subst, arith, append-nil}
+use Rattle.std.proofs.Common.{◌≡◌, ℕ, zero, suc, ◌+◌, ◌<◌, ◌≤◌, Bool, true, false, cond, Option, Some, None, if◌then◌else◌, List, [], ◌∷◌, ◌++◌, length, map, take, refl, sym, ◌∙◌, ap, subst, arith}
 use Rattle.std.specs.List.{filter, flat_map, list_any}
 use Rattle.std.proofs.lemmas.Bool.Decides.{nat_tests}
 use Rattle.std.proofs.lemmas.List.{length-take-le}
 use Rattle.std.specs.Option.{option_map}
-use Rattle.std.proofs.lemmas.List.Sorted.{IsPermutation-sym, IsPermutation-trans, IsPermutation-map, IsPermutation-append_right, length_permutation}
+use Rattle.std.proofs.lemmas.List.Sorted.{IsPermutation-trans, IsPermutation-map, length_permutation}
 use Rattle.qs_terms.specs.Bag.{SameBag}
 use Rattle.qs_terms.specs.declared.term.Term.{Term}
 use Rattle.qs_solutions.specs.Operators.{join}
@@ -127,25 +127,8 @@ unit_matches width whole triples graph l =
 
 -- ---- one row more
 
-pub last_row : (known : List Term) (f : Solution → Solution) (first rows left new : List Solution) (o : Option Cells) → SameBag (map f first) (rows ++ map f left) → o ≡ None → GivesOne left (option_map (row_solution known) o) new → SameBag rows (map f first)
-last_row known f first rows left new o h n g =
-    let e : GivesOne left None new = subst (λ (x : Option Cells). GivesOne left (option_map (row_solution known) x) new) n g in
-    IsPermutation-sym _ _ (subst (SameBag (map f first)) (ap (λ l. rows ++ map f l) e.0 ∙ append-nil rows) h)
-
-assoc : (xs : List Solution) (y : Solution) (zs : List Solution) → (xs ++ y ∷ []) ++ zs ≡ xs ++ y ∷ zs
-assoc [] y zs = refl
-assoc (x ∷ xs) y zs = ap (λ l. x ∷ l) (assoc xs y zs)
-
-given : (known : List Term) (left new : List Solution) (o : Option Cells) (row : Cells) → o ≡ Some row → GivesOne left (option_map (row_solution known) o) new → SameBag left (row_solution known row ∷ new)
+pub given : (known : List Term) (left new : List Solution) (o : Option Cells) (row : Cells) → o ≡ Some row → GivesOne left (option_map (row_solution known) o) new → SameBag left (row_solution known row ∷ new)
 given known left new o row e g = subst (λ (x : Option Cells). GivesOne left (option_map (row_solution known) x) new) e g
-
-pub next_row : (known seen : List Term) (f : Solution → Solution) (first rows left mid new more : List Solution) (o : Option Cells) (row : Cells) (m : Solution) → known ≡ seen → SameBag (map f first) (rows ++ map f left) → o ≡ Some row → GivesOne left (option_map (row_solution known) o) mid → m ≡ f (row_solution seen row) → more ≡ rows ++ m ∷ [] → new ≡ mid → SameBag (map f first) (more ++ map f new)
-next_row known seen f first rows left mid new more o row m k h is g e i j =
-    let r : Solution = row_solution known row in
-    let n : SameBag left (r ∷ new) = subst (λ (l : List Solution). SameBag left (r ∷ l)) (sym j) (given known left mid o row is g) in
-    let w : SameBag (rows ++ map f left) (rows ++ f r ∷ map f new) = IsPermutation-append_right rows (map f left) (f r ∷ map f new) (IsPermutation-map f left (r ∷ new) n) in
-    let x : more ≡ rows ++ f r ∷ [] = i ∙ ap (λ (y : Solution). rows ++ y ∷ []) (e ∙ ap (λ (t : List Term). f (row_solution t row)) (sym k)) in
-    subst (SameBag (map f first)) (sym (ap (λ l. l ++ map f new) x ∙ assoc rows (f r) (map f new))) (IsPermutation-trans _ _ _ h w)
 
 pub fewer : (known : List Term) (left mid new : List Solution) (o : Option Cells) (row : Cells) → o ≡ Some row → GivesOne left (option_map (row_solution known) o) mid → new ≡ mid → length new < length left
 fewer known left mid new o row is g j = omega (arith, length_permutation left (row_solution known row ∷ mid) (given known left mid o row is g), ap length j)

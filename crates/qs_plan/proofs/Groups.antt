@@ -1,21 +1,21 @@
 -- Groups whose right sides are evaluated.
-use Rattle.std.proofs.Common.{◌≡◌, ◌⊎◌, ℕ, ◌+◌, ◌-◌, ◌<◌, ◌≤◌, nat_le, Bool, true, false, true≢false, not, cond, Option, Some, None, List, [], ◌∷◌, ◌++◌, length, map, take, drop, get_or, refl, sym, ◌∙◌, ap, subst, arith, append-nil, append_assoc, length-append, inl, inr}
+use Rattle.std.proofs.Common.{◌≡◌, ◌⊎◌, ℕ, ◌+◌, ◌<◌, ◌≤◌, Bool, true, false, true≢false, not, cond, Option, Some, None, List, [], ◌∷◌, ◌++◌, length, map, take, drop, get_or, refl, sym, ◌∙◌, ap, subst, arith, append-nil, append_assoc, inl, inr}
 use Rattle.std.specs.Borrow.{Bor}
 use Rattle.std.specs.List.{filter, flat_map, fold, list_any}
 use Rattle.std.specs.Option.{option_map}
-use Rattle.std.proofs.lemmas.Bool.Decides.{nat_tests}
 use Rattle.std.proofs.lemmas.Grind.{flat_map-append}
 use Rattle.std.proofs.lemmas.List.{take_all, take_more, take-append-drop}
 use Rattle.std.proofs.lemmas.List.Concat.{flat_map_single}
 use Rattle.std.proofs.lemmas.List.Sorted.{IsPermutation-refl, IsPermutation-sym, IsPermutation-trans, IsPermutation-map, IsPermutation-append, IsPermutation-append_left, IsPermutation-append_right, IsPermutation-append_comm, length_permutation}
 use Rattle.qs_terms.specs.Bag.{SameBag}
+use Rattle.qs_terms.specs.Dataset.{names_of}
 use Rattle.qs_terms.specs.Statement.{Statement}
 use Rattle.qs_terms.specs.declared.term.Term.{Term}
 use Rattle.qs_solutions.specs.Solution.{Solution, unbound}
 use Rattle.qs_solutions.specs.Operators as of
 use Rattle.qs_expr.specs.declared.expr.Expr.{Expr}
 use Rattle.qs_patterns.specs.Basic.{Graph, basic, matches}
-use Rattle.qs_patterns.specs.Eval.{all_hold, eval, extended, in_named, kept as all_kept, step}
+use Rattle.qs_patterns.specs.Eval.{all_hold, eval, extended, in_named, in_each, kept as all_kept, step}
 use Rattle.qs_patterns.specs.declared.pattern.BasicPattern.{BasicPattern}
 use Rattle.qs_patterns.specs.declared.pattern.TriplePattern.{TriplePattern}
 use Rattle.qs_patterns.specs.declared.pattern.Pattern.{Pattern}
@@ -24,7 +24,7 @@ use Rattle.qs_patterns.specs.declared.pattern.Pattern.TheVariants.{Basic, Group,
 use Rattle.qs_patterns.proofs.Meaning.{eval_basic, step_join}
 use Rattle.qs_patterns.specs.declared.pattern.Step.{Step}
 use Rattle.qs_patterns.specs.declared.pattern.Step.TheVariants.{Join, LeftJoin, Minus, Extend}
-use Rattle.qs_eval.proofs.Arms.{group_arm, union_arm, graph_arm, join_arm, left_join_arm, minus_arm, extend_arm, step_more}
+use Rattle.qs_eval.proofs.Arms.{group_arm, union_arm, graph_arm, each_arm, join_arm, left_join_arm, minus_arm, extend_arm, step_more}
 use Rattle.qs_eval.proofs.Operators.{filter_same, flat_map_same}
 use Rattle.qs_ops.specs.Coming.{GivesOne}
 use Rattle.qs_ops.specs.Row.{Cells, row_solution}
@@ -35,9 +35,10 @@ use Rattle.qs_groups.specs.declared.kept.Kept.TheVariants as kept
 use Rattle.qs_groups.specs.declared.stages.Waiting.{Waiting}
 use Rattle.qs_groups.proofs.Moves.{coming_before, coming_same}
 use Rattle.qs_plan.specs.inner.Groups.{IsKept, Took, ahead}
-use Rattle.qs_plan.specs.Some.{AreSome, is_enough, still}
+use Rattle.qs_plan.specs.Some.{is_enough}
+use Rattle.qs_plan.specs.inner.Collected.{Collection, Collects, IsPart, with_rows}
 use Rattle.qs_plan.proofs.Fitted.{basic_is, unit_matches}
-use Rattle.qs_plan.proofs.Enough.{all_some, some_same}
+use Rattle.qs_plan.proofs.Collecting.{collects_same, left_alike, nothing_left, none_put, one_came, with_rows_more}
 
 pub same : (xs ys : List Solution) → xs ≡ ys → SameBag xs ys
 same xs ys e = subst (SameBag xs) e (IsPermutation-refl xs)
@@ -143,19 +144,6 @@ module _ (known : List Term) (f : Solution → Solution) where
 
 -- ---- what has come so far
 
--- a part of all that has come
-module _ (all : List Solution) where
-  pub one_came : (rows new left left2 : List Solution) (m : Solution) → SameBag all (rows ++ left) → SameBag left (m ∷ left2) → new ≡ rows ++ m ∷ [] → SameBag all (new ++ left2)
-  one_came rows new left left2 m h g e =
-      subst (λ (l : List Solution). SameBag all l) (sym (ap (λ l. l ++ left2) e ∙ append_assoc rows (m ∷ []) left2))
-      (IsPermutation-trans all (rows ++ left) (rows ++ m ∷ left2) h (IsPermutation-append_right rows left (m ∷ left2) g))
-
-  pub nothing_left : (most : Option ℕ) (rows left : List Solution) → SameBag all (rows ++ left) → left ≡ [] → AreSome most rows all
-  nothing_left most rows left h e = all_some most rows all (IsPermutation-sym all rows (subst (SameBag all) (ap (λ l. rows ++ l) e ∙ append-nil rows) h))
-
-  pub enough_came : (most : Option ℕ) (rows left : List Solution) (n : ℕ) → SameBag all (rows ++ left) → n ≡ length rows → is_enough most n ≡ true → AreSome most rows all
-  enough_came most rows left n h e k = (left, h, inr (ap (is_enough most) (sym e) ∙ k))
-
 one_given : (old new : List Solution) (o : Option Solution) (m : Solution) → o ≡ Some m → machine.GivesOne old o new → SameBag old (m ∷ new)
 one_given old new o m is g = subst (λ (x : Option Solution). machine.GivesOne old x new) is g
 
@@ -163,11 +151,11 @@ none_given : (old new : List Solution) (o : Option Solution) → o ≡ None → 
 none_given old new o is g = subst (λ (x : Option Solution). machine.GivesOne old x new) is g
 
 -- those that wait alone
-pub coming_one : (all rows new left left2 : List Solution) (o : Option Solution) (m : Solution) → SameBag all (rows ++ left) → o ≡ Some m → machine.GivesOne left o left2 → new ≡ rows ++ m ∷ [] → SameBag all (new ++ left2)
-coming_one all rows new left left2 o m h is g e = one_came all rows new left left2 m h (one_given left left2 o m is g) e
+pub coming_one : (start : Collection) (all : List Solution) (mid new : Collection) (left left2 : List Solution) (o : Option Solution) (m : Solution) → IsPart start all mid left → o ≡ Some m → machine.GivesOne left o left2 → new ≡ with_rows mid (m ∷ []) → IsPart start all new left2
+coming_one start all mid new left left2 o m h is g e = one_came start all mid new left left2 m h (one_given left left2 o m is g) e
 
-pub coming_none : (most : Option ℕ) (all rows left left2 : List Solution) (o : Option Solution) → SameBag all (rows ++ left) → o ≡ None → machine.GivesOne left o left2 → AreSome most rows all
-coming_none most all rows left left2 o h is g = nothing_left all most rows left h (none_given left left2 o is g).0
+pub coming_none : (start : Collection) (all : List Solution) (new : Collection) (left left2 : List Solution) (o : Option Solution) → IsPart start all new left → o ≡ None → machine.GivesOne left o left2 → Collects start new all
+coming_none start all new left left2 o h is g = nothing_left start all new left h (none_given left left2 o is g).0
 
 pub coming_fewer : (left left2 : List Solution) (o : Option Solution) (m : Solution) → o ≡ Some m → machine.GivesOne left o left2 → length left2 < length left
 coming_fewer left left2 o m is g = omega (arith, length_permutation left (m ∷ left2) (one_given left left2 o m is g))
@@ -177,8 +165,8 @@ module _ (ks : List Kept) (left : List Solution) (ws ws2 : List Waiting) (o : Op
   ahead_given : (m : Solution) → o ≡ Some m → SameBag (ahead ks left ws) (m ∷ ahead ks left ws2)
   ahead_given m is = IsPermutation-append_left (flat_map (through ks) left) (coming ks ws) (m ∷ coming ks ws2) (one_given (coming ks ws) (coming ks ws2) o m is g)
 
-  pub ahead_one : (all rows new : List Solution) (m : Solution) → o ≡ Some m → SameBag all (rows ++ ahead ks left ws) → new ≡ rows ++ m ∷ [] → SameBag all (new ++ ahead ks left ws2)
-  ahead_one all rows new m is h e = one_came all rows new (ahead ks left ws) (ahead ks left ws2) m h (ahead_given m is) e
+  pub ahead_one : (start : Collection) (all : List Solution) (mid new : Collection) (m : Solution) → o ≡ Some m → IsPart start all mid (ahead ks left ws) → new ≡ with_rows mid (m ∷ []) → IsPart start all new (ahead ks left ws2)
+  ahead_one start all mid new m is h e = one_came start all mid new (ahead ks left ws) (ahead ks left ws2) m h (ahead_given m is) e
 
   pub ahead_fewer : (m : Solution) → o ≡ Some m → length (ahead ks left ws2) < length (ahead ks left ws)
   ahead_fewer m is = omega (arith, length_permutation (ahead ks left ws) (m ∷ ahead ks left ws2) (ahead_given m is))
@@ -190,21 +178,20 @@ module _ (ks : List Kept) (left : List Solution) (ws ws2 : List Waiting) (o : Op
   ahead_same : o ≡ None → ahead ks left ws ≡ ahead ks left ws2
   ahead_same is = let h = none_given (coming ks ws) (coming ks ws2) o is g in ap (λ l. l ++ flat_map (through ks) left) (h.0 ∙ sym h.1)
 
-  pub ahead_took : (all rows left2 : List Solution) (ws3 : List Waiting) (b : Bool) → o ≡ None → SameBag all (rows ++ ahead ks left ws) → Took b left ws2 left2 ws3 → SameBag all (rows ++ ahead ks left2 ws3)
-  ahead_took all rows left2 ws3 b is h t =
-      IsPermutation-trans all (rows ++ ahead ks left ws2) (rows ++ ahead ks left2 ws3) (subst (λ (l : List Solution). SameBag all (rows ++ l)) (ahead_same is) h)
-      (IsPermutation-append_right rows (ahead ks left ws2) (ahead ks left2 ws3) (took_ahead ks b left left2 ws2 ws3 t))
+  pub ahead_took : (start : Collection) (all : List Solution) (new : Collection) (left2 : List Solution) (ws3 : List Waiting) (b : Bool) → o ≡ None → IsPart start all new (ahead ks left ws) → Took b left ws2 left2 ws3 → IsPart start all new (ahead ks left2 ws3)
+  ahead_took start all new left2 ws3 b is h t =
+      left_alike start all new (ahead ks left ws2) (ahead ks left2 ws3) (subst (IsPart start all new) (ahead_same is) h) (took_ahead ks b left left2 ws2 ws3 t)
 
   pub took_less : (left2 : List Solution) (ws3 : List Waiting) (b : Bool) → o ≡ None → Took b left ws2 left2 ws3 → b ≡ true → length (ahead ks left2 ws3) + length left2 < length (ahead ks left ws) + length left
   took_less left2 ws3 b is t e =
       let k : Took true left ws2 left2 ws3 = subst (λ (x : Bool). Took x left ws2 left2 ws3) e t in
       omega (arith, took_shorter ks left left2 ws2 ws3 k, length_permutation (ahead ks left ws2) (ahead ks left2 ws3) (took_ahead ks b left left2 ws2 ws3 t), ap length (ahead_same is))
 
-  pub took_last : (most : Option ℕ) (all rows left2 : List Solution) (ws3 : List Waiting) (b : Bool) → o ≡ None → SameBag all (rows ++ ahead ks left ws) → Took b left ws2 left2 ws3 → b ≡ false → AreSome most rows all
-  took_last most all rows left2 ws3 b is h t e =
+  pub took_last : (start : Collection) (all : List Solution) (new : Collection) (left2 : List Solution) (ws3 : List Waiting) (b : Bool) → o ≡ None → IsPart start all new (ahead ks left ws) → Took b left ws2 left2 ws3 → b ≡ false → Collects start new all
+  took_last start all new left2 ws3 b is h t e =
       let k : Took false left ws2 left2 ws3 = subst (λ (x : Bool). Took x left ws2 left2 ws3) e t in
       let n : ahead ks left ws ≡ [] = ap (λ l. l ++ flat_map (through ks) left) (none_given (coming ks ws) (coming ks ws2) o is g).0 ∙ ap (flat_map (through ks)) k.0 in
-      nothing_left all most rows (ahead ks left ws) h n
+      nothing_left start all new (ahead ks left ws) h n
 
 -- ---- all together
 
@@ -225,25 +212,25 @@ both_took ks a b left left1 left2 none ws1 empty ws2 all e f h k j =
     let x : coming ks all ≡ c2 ++ c1 = ap (coming ks) j ∙ flat_map-append (onward ks) ws2 ws1 in
     subst (λ (l : List Solution). SameBag (l ++ F left2) (F left)) (sym x) w
 
-pub some_kept : (most : Option ℕ) (ks : List Kept) (f : List Solution → List Solution) (rows xs ys : List Solution) → AreKept ks f → SameBag xs ys → AreSome most rows (flat_map (through ks) xs) → AreSome most rows (f ys)
-some_kept most ks f rows xs ys h s a =
-    some_same most rows (flat_map (through ks) xs) (f ys)
+pub some_kept : (old : Collection) (ks : List Kept) (f : List Solution → List Solution) (new : Collection) (xs ys : List Solution) → AreKept ks f → SameBag xs ys → Collects old new (flat_map (through ks) xs) → Collects old new (f ys)
+some_kept old ks f new xs ys h s a =
+    collects_same old new (flat_map (through ks) xs) (f ys)
     (IsPermutation-sym _ _ (IsPermutation-trans _ _ _ (flat_map_same (through ks) (through ks) xs ys s (λ t. IsPermutation-refl (through ks t))) (h ys))) a
 
-pub all_wait : (most : Option ℕ) (ks : List Kept) (rows xs : List Solution) (ws : List Waiting) → SameBag ws (map (before 0) xs) → AreSome most rows (coming ks ws) → AreSome most rows (flat_map (through ks) xs)
-all_wait most ks rows xs ws b h =
-    some_same most rows (coming ks ws) (flat_map (through ks) xs)
+pub all_wait : (old new : Collection) (ks : List Kept) (xs : List Solution) (ws : List Waiting) → SameBag ws (map (before 0) xs) → Collects old new (coming ks ws) → Collects old new (flat_map (through ks) xs)
+all_wait old new ks xs ws b h =
+    collects_same old new (coming ks ws) (flat_map (through ks) xs)
     (IsPermutation-sym _ _ (subst (SameBag (coming ks ws)) (coming_before ks 0 xs) (coming_same ks ws (map (before 0) xs) b))) h
 
-module _ (most : Option ℕ) (ks all : List Kept) (rows : List Solution) (is : ks ≡ all) where
-  pub from_two : (a b : Bool) (left left1 left2 : List Solution) (none ws1 empty ws2 ws : List Waiting) → none ≡ [] → empty ≡ [] → Took a left none left1 ws1 → Took b left1 empty left2 ws2 → ws ≡ ws2 ++ ws1 → AreSome most rows (ahead ks left2 ws) → AreSome most rows (flat_map (through all) left)
+module _ (old : Collection) (ks all : List Kept) (new : Collection) (is : ks ≡ all) where
+  pub from_two : (a b : Bool) (left left1 left2 : List Solution) (none ws1 empty ws2 ws : List Waiting) → none ≡ [] → empty ≡ [] → Took a left none left1 ws1 → Took b left1 empty left2 ws2 → ws ≡ ws2 ++ ws1 → Collects old new (ahead ks left2 ws) → Collects old new (flat_map (through all) left)
   from_two a b left left1 left2 none ws1 empty ws2 ws e f h k j s =
-      subst (λ (l : List Kept). AreSome most rows (flat_map (through l) left)) is
-      (some_same most rows (ahead ks left2 ws) (flat_map (through ks) left) (IsPermutation-sym _ _ (both_took ks a b left left1 left2 none ws1 empty ws2 ws e f h k j)) s)
+      subst (λ (l : List Kept). Collects old new (flat_map (through l) left)) is
+      (collects_same old new (ahead ks left2 ws) (flat_map (through ks) left) (IsPermutation-sym _ _ (both_took ks a b left left1 left2 none ws1 empty ws2 ws e f h k j)) s)
 
-  pub from_rows : (f : List Solution → List Solution) (xs ys : List Solution) (ws : List Waiting) → SameBag ws (map (before 0) xs) → AreKept all f → SameBag xs ys → AreSome most rows (coming ks ws) → AreSome most rows (f ys)
+  pub from_rows : (f : List Solution → List Solution) (xs ys : List Solution) (ws : List Waiting) → SameBag ws (map (before 0) xs) → AreKept all f → SameBag xs ys → Collects old new (coming ks ws) → Collects old new (f ys)
   from_rows f xs ys ws e h b s =
-      some_kept most all f rows xs ys h b (all_wait most all rows xs ws e (subst (λ (l : List Kept). AreSome most rows (coming l ws)) is s))
+      some_kept old all f new xs ys h b (all_wait old new all xs ws e (subst (λ (l : List Kept). Collects old new (coming l ws)) is s))
 
 pub all_stepped : (f : List Solution → Step → List Solution) (ks : List Kept) (ss : List Step) (i : ℕ) → length ss ≤ i → AreKept ks (λ xs. fold f xs (take i ss)) → AreKept ks (λ xs. fold f xs ss)
 all_stepped f ks ss i l h = subst (λ (l : List Step). AreKept ks (λ xs. fold f xs l)) (take_all i ss l) h
@@ -258,76 +245,69 @@ module _ (width whole : ℕ) (quads : List Statement) (graph : Graph) (ss rest :
   abbrev F : List Solution → Step → List Solution
   F left one = step width quads one graph left
 
-  pub stepped_first : (some : List Solution) (most : Option ℕ) (conditions : List Expr) → AreSome most some (all_kept conditions (fold F (F (unbound width ∷ []) s) rest)) → AreSome most some (all_kept conditions (fold F (unbound width ∷ []) ss))
-  stepped_first some most conditions h = subst (λ (l : List Step). AreSome most some (all_kept conditions (fold F (unbound width ∷ []) l))) (sym (first_rest ss rest s is l e)) h
+  pub stepped_first : (old new : Collection) (conditions : List Expr) → Collects old new (all_kept conditions (fold F (F (unbound width ∷ []) s) rest)) → Collects old new (all_kept conditions (fold F (unbound width ∷ []) ss))
+  stepped_first old new conditions h = subst (λ (l : List Step). Collects old new (all_kept conditions (fold F (unbound width ∷ []) l))) (sym (first_rest ss rest s is l e)) h
 
-  pub triples_first : (some : List Solution) (most : Option ℕ) (conditions : List Expr) (b : BasicPattern) (triples : List TriplePattern) → s ≡ Join (Basic b) → b.paths ≡ [] → whole ≡ width + b.hidden → triples ≡ b.triples
-      → AreSome most some (all_kept conditions (fold F (map (take width) (matches whole triples graph)) rest)) → AreSome most some (all_kept conditions (fold F (unbound width ∷ []) ss))
-  triples_first some most conditions b triples j none w t h =
+  pub triples_first : (old new : Collection) (conditions : List Expr) (b : BasicPattern) (triples : List TriplePattern) → s ≡ Join (Basic b) → b.paths ≡ [] → whole ≡ width + b.hidden → triples ≡ b.triples
+      → Collects old new (all_kept conditions (fold F (map (take width) (matches whole triples graph)) rest)) → Collects old new (all_kept conditions (fold F (unbound width ∷ []) ss))
+  triples_first old new conditions b triples j none w t h =
       let all : List Solution = map (take width) (matches whole triples graph) in
       let c : basic width b graph ≡ all = basic_is width whole b graph triples w none t in
       let k : F (unbound width ∷ []) s ≡ all = ap (λ x. F (unbound width ∷ []) x) j ∙ (step_join width quads graph (Basic b) (unbound width ∷ []) ∙ (ap (of.join (unbound width ∷ [])) (eval_basic width quads graph b ∙ c) ∙ sym (unit_matches width whole triples graph (omega (arith, w))))) in
-      stepped_first some most conditions (subst (λ (xs : List Solution). AreSome most some (all_kept conditions (fold F xs rest))) (sym k) h)
+      stepped_first old new conditions (subst (λ (xs : List Solution). Collects old new (all_kept conditions (fold F xs rest))) (sym k) h)
 
 -- ---- patterns of each kind
 
-module _ (width : ℕ) (quads : List Statement) (graph : Graph) (p : Pattern) (most : Option ℕ) (rows : List Solution) where
-  pub some_basic : (b : BasicPattern) → p ≡ Basic b → AreSome most rows (basic width b graph) → AreSome most rows (eval width quads p graph)
-  some_basic b is h = subst (AreSome most rows) (sym (ap (λ q. eval width quads q graph) is ∙ eval_basic width quads graph b)) h
+module _ (width : ℕ) (quads : List Statement) (graph : Graph) (p : Pattern) (old new : Collection) where
+  pub some_basic : (b : BasicPattern) → p ≡ Basic b → Collects old new (basic width b graph) → Collects old new (eval width quads p graph)
+  some_basic b is h = subst (Collects old new) (sym (ap (λ q. eval width quads q graph) is ∙ eval_basic width quads graph b)) h
 
-  pub some_group : (steps ss : List Step) (conditions cs : List Expr) → p ≡ Group steps conditions → ss ≡ steps → cs ≡ conditions → AreSome most rows (all_kept cs (fold (λ left s. step width quads s graph left) (unbound width ∷ []) ss)) → AreSome most rows (eval width quads p graph)
+  pub some_group : (steps ss : List Step) (conditions cs : List Expr) → p ≡ Group steps conditions → ss ≡ steps → cs ≡ conditions → Collects old new (all_kept cs (fold (λ left s. step width quads s graph left) (unbound width ∷ []) ss)) → Collects old new (eval width quads p graph)
   some_group steps ss conditions cs is e f h =
       let found : List Solution = fold (λ left s. step width quads s graph left) (unbound width ∷ []) ss in
-      some_same most rows (all_kept cs found) (eval width quads p graph) (IsPermutation-sym _ _ (group_arm width quads graph p steps ss conditions cs found (all_kept cs found) is e f (IsPermutation-refl found) refl)) h
+      collects_same old new (all_kept cs found) (eval width quads p graph) (IsPermutation-sym _ _ (group_arm width quads graph p steps ss conditions cs found (all_kept cs found) is e f (IsPermutation-refl found) refl)) h
 
-  pub some_union : (parts ps : List Pattern) → p ≡ Union parts → ps ≡ parts → AreSome most rows (flat_map (λ part. eval width quads part graph) ps) → AreSome most rows (eval width quads p graph)
+  pub some_union : (parts ps : List Pattern) → p ≡ Union parts → ps ≡ parts → Collects old new (flat_map (λ part. eval width quads part graph) ps) → Collects old new (eval width quads p graph)
   some_union parts ps is e h =
       let found : List Solution = flat_map (λ part. eval width quads part graph) ps in
-      some_same most rows found (eval width quads p graph) (IsPermutation-sym _ _ (union_arm width quads graph p parts ps found is e (IsPermutation-refl found))) h
+      collects_same old new found (eval width quads p graph) (IsPermutation-sym _ _ (union_arm width quads graph p parts ps found is e (IsPermutation-refl found))) h
 
-  pub some_graph : (name : Term) (a part : Pattern) → p ≡ named.Graph name a → part ≡ a → AreSome most rows (in_named quads name (eval width quads part)) → AreSome most rows (eval width quads p graph)
+  pub some_graph : (name : Term) (a part : Pattern) → p ≡ named.Graph name a → part ≡ a → Collects old new (in_named quads name (eval width quads part)) → Collects old new (eval width quads p graph)
   some_graph name a part is e h =
       let found : List Solution = in_named quads name (eval width quads part) in
-      some_same most rows found (eval width quads p graph) (IsPermutation-sym _ _ (graph_arm width quads graph p name a part found is e (IsPermutation-refl found))) h
+      collects_same old new found (eval width quads p graph) (IsPermutation-sym _ _ (graph_arm width quads graph p name a part found is e (IsPermutation-refl found))) h
+
+  pub some_each : (v : ℕ) (a part : Pattern) → p ≡ named.EachGraph v a → part ≡ a → Collects old new (in_each width quads v (eval width quads part) (names_of quads)) → Collects old new (eval width quads p graph)
+  some_each v a part is e h =
+      let found : List Solution = in_each width quads v (eval width quads part) (names_of quads) in
+      collects_same old new found (eval width quads p graph) (IsPermutation-sym _ _ (each_arm width quads graph p v a part (names_of quads) found is e refl (IsPermutation-refl found))) h
 
 -- ---- one part after another
 
-nat_step : (m n k : ℕ) → nat_le (m - n) k ≡ true → nat_le m (n + k) ≡ true
-nat_step m n k h = grind (arith, nat_tests)
-
-behind_enough : (most : Option ℕ) (n : ℕ) (more : List Solution) (rows : List Solution) → n ≡ length rows → is_enough (still most n) (length more) ≡ true → is_enough most (length (rows ++ more)) ≡ true
-behind_enough None n more rows e h = h
-behind_enough (Some m) n more rows e h =
-    subst (λ (k : ℕ). nat_le m k ≡ true) (ap (λ k. k + length more) e ∙ sym (length-append rows more)) (nat_step m n (length more) h)
-
-module _ {X : Type 0} (most : Option ℕ) (f : X → List Solution) (ps : List X) (i : ℕ) where
-  pub more_some : (p : X) (rows more new : List Solution) (n : ℕ) (beside : Option ℕ) → i < length ps → p ≡ get_or ps i p → AreSome most rows (flat_map f (take i ps)) → n ≡ length rows → is_enough most n ≡ false → beside ≡ still most n → AreSome beside more (f p) → new ≡ rows ++ more
-      → AreSome most new (flat_map f (take (i + 1) ps))
-  more_some p rows more new n beside lt is h e k b g j =
-      let none : h.0 ≡ [] = no_rest h.2 in
-      let so_far : SameBag (flat_map f (take i ps)) rows = subst (λ (l : List Solution). SameBag (flat_map f (take i ps)) l) (ap (λ l. rows ++ l) none ∙ append-nil rows) h.1 in
+module _ {X : Type 0} (old : Collection) (f : X → List Solution) (ps : List X) (i : ℕ) where
+  pub more_parts : (p : X) (mid new : Collection) (b : Bool) → i < length ps → p ≡ get_or ps i p → Collects old mid (flat_map f (take i ps)) → b ≡ is_enough mid.most (length mid.rows) → b ≡ false → Collects mid new (f p) → Collects old new (flat_map f (take (i + 1) ps))
+  more_parts p mid new b lt is h e k g =
+      let some : List Solution = h.0 in
+      let more : List Solution = g.0 in
+      let so_far : SameBag (flat_map f (take i ps)) some = subst (λ (l : List Solution). SameBag (flat_map f (take i ps)) l) (ap (λ l. some ++ l) (no_rest h.4) ∙ append-nil some) h.2 in
       let all : flat_map f (take (i + 1) ps) ≡ flat_map f (take i ps) ++ f p = ap (flat_map f) (take_more ps i p lt) ∙ (flat_map-append f (take i ps) (get_or ps i p ∷ []) ∙ ap (λ xs. flat_map f (take i ps) ++ xs) (append-nil (f (get_or ps i p)) ∙ ap f (sym is))) in
-      let both : SameBag (flat_map f (take i ps) ++ f p) (rows ++ (more ++ g.0)) = IsPermutation-append _ _ _ _ so_far g.1 in
-      let bag : SameBag (flat_map f (take (i + 1) ps)) (new ++ g.0) = subst (λ (l : List Solution). SameBag l (new ++ g.0)) (sym all) (subst (SameBag (flat_map f (take i ps) ++ f p)) (sym (ap (λ l. l ++ g.0) j ∙ append_assoc rows more g.0)) both) in
-      (g.0, bag, rest g.2)
+      let both : SameBag (flat_map f (take i ps) ++ f p) (some ++ (more ++ g.1)) = IsPermutation-append _ _ _ _ so_far g.2 in
+      let bag : SameBag (flat_map f (take (i + 1) ps)) ((some ++ more) ++ g.1) = subst (λ (l : List Solution). SameBag l ((some ++ more) ++ g.1)) (sym all) (subst (SameBag (flat_map f (take i ps) ++ f p)) (sym (append_assoc some more g.1)) both) in
+      (some ++ more, g.1, bag, g.3 ∙ (ap (λ (c : Collection). with_rows c more) h.3 ∙ with_rows_more old some more), g.4)
     where
-      no_rest : (h.0 ≡ []) ⊎ (is_enough most (length rows) ≡ true) → h.0 ≡ []
+      no_rest : (h.1 ≡ []) ⊎ (is_enough mid.most (length mid.rows) ≡ true) → h.1 ≡ []
       no_rest (inl q) = q
-      no_rest (inr q) = absurd (true≢false (sym q ∙ (ap (is_enough most) (sym e) ∙ k)))
+      no_rest (inr q) = absurd (true≢false (sym q ∙ (sym e ∙ k)))
 
-      rest : (g.0 ≡ []) ⊎ (is_enough beside (length more) ≡ true) → (g.0 ≡ []) ⊎ (is_enough most (length new) ≡ true)
-      rest (inl q) = inl q
-      rest (inr q) = inr (ap (λ (l : List Solution). is_enough most (length l)) j ∙ behind_enough most n more rows e (subst (λ (o : Option ℕ). is_enough o (length more) ≡ true) b q))
-
-  pub enough_parts : (rows : List Solution) (n : ℕ) → AreSome most rows (flat_map f (take i ps)) → n ≡ length rows → is_enough most n ≡ true → AreSome most rows (flat_map f ps)
-  enough_parts rows n h e k =
+  pub enough_parts : (new : Collection) (b : Bool) → Collects old new (flat_map f (take i ps)) → b ≡ is_enough new.most (length new.rows) → b ≡ true → Collects old new (flat_map f ps)
+  enough_parts new b h e k =
       let others : List Solution = flat_map f (drop i ps) in
       let all : flat_map f ps ≡ flat_map f (take i ps) ++ others = ap (flat_map f) (sym (take-append-drop i ps)) ∙ flat_map-append f (take i ps) (drop i ps) in
-      let bag : SameBag (flat_map f (take i ps) ++ others) (rows ++ (h.0 ++ others)) = subst (SameBag (flat_map f (take i ps) ++ others)) (append_assoc rows h.0 others) (IsPermutation-append_left others (flat_map f (take i ps)) (rows ++ h.0) h.1) in
-      (h.0 ++ others, subst (λ (l : List Solution). SameBag l (rows ++ (h.0 ++ others))) (sym all) bag, inr (ap (is_enough most) (sym e) ∙ k))
+      let bag : SameBag (flat_map f (take i ps) ++ others) (h.0 ++ (h.1 ++ others)) = subst (SameBag (flat_map f (take i ps) ++ others)) (append_assoc h.0 h.1 others) (IsPermutation-append_left others (flat_map f (take i ps)) (h.0 ++ h.1) h.2) in
+      (h.0, h.1 ++ others, subst (λ (l : List Solution). SameBag l (h.0 ++ (h.1 ++ others))) (sym all) bag, h.3, inr (sym e ∙ k))
 
-  pub all_parts : (rows : List Solution) → length ps ≤ i → AreSome most rows (flat_map f (take i ps)) → AreSome most rows (flat_map f ps)
-  all_parts rows l h = subst (λ (xs : List X). AreSome most rows (flat_map f xs)) (take_all i ps l) h
+  pub all_parts : (new : Collection) → length ps ≤ i → Collects old new (flat_map f (take i ps)) → Collects old new (flat_map f ps)
+  all_parts new l h = subst (λ (xs : List X). Collects old new (flat_map f xs)) (take_all i ps l) h
 
-pub no_parts : {X : Type 0} (most : Option ℕ) (f : X → List Solution) (rows : List Solution) → rows ≡ [] → AreSome most rows (flat_map f [])
-no_parts most f rows e = all_some most rows [] (same rows [] e)
+pub no_parts : (old : Collection) → Collects old old []
+no_parts old = ([], [], IsPermutation-refl [], none_put old, inl refl)

@@ -1,3 +1,5 @@
+pub mod Known
+pub mod Collecting
 pub mod Each
 pub mod Fitted
 pub mod Groups
@@ -5,3 +7,4 @@ pub mod Enough
 pub mod Names
 pub mod SeenQuads
 pub mod Early
+pub mod NamedGraphs

@@ -21,7 +21,7 @@ use Rattle.qs_eval.proofs.Named.{is_named}
 use Rattle.qs_ops.specs.Graph.{named_graph, active_graph}
 use Rattle.qs_ops.proofs.Scanned.{number_there}
 use Rattle.qs_plan.specs.inner.Graphs.{IsGraphNamed}
-use Rattle.qs_plan.specs.Some.{AreSome}
+use Rattle.qs_plan.specs.inner.Collected.{Collection, Collects}
 
 record Among (p : Statement → Bool) (xs : List Statement) : Type 0 where
   pub of : Statement
@@ -116,11 +116,11 @@ in_graph c d name part n o rows h e k =
     let f : in_named c.quads name part ≡ part (graph_of c.quads (Some name)) = rw g.0 refl in
     subst (SameBag rows) (ap part (g.1 d) ∙ sym f) k
 
-pub some_in_graph : (c : Content) (d : DefaultGraph) (name : Term) (part : Found) (n : ℕ) (o : Option ℕ) (most : Option ℕ) (rows : List Solution) → IsGraphNamed c name o → o ≡ Some n → AreSome most rows (part (active_graph c d (Graph n))) → AreSome most rows (in_named c.quads name part)
-some_in_graph c d name part n o most rows h e k =
+pub some_in_graph : (c : Content) (d : DefaultGraph) (name : Term) (part : Found) (n : ℕ) (o : Option ℕ) (old new : Collection) → IsGraphNamed c name o → o ≡ Some n → Collects old new (part (active_graph c d (Graph n))) → Collects old new (in_named c.quads name part)
+some_in_graph c d name part n o old new h e k =
     let g : IsGraphNamed c name (Some n) = subst (IsGraphNamed c name) e h in
     let f : in_named c.quads name part ≡ part (graph_of c.quads (Some name)) = rw g.0 refl in
-    subst (AreSome most rows) (ap part (g.1 d) ∙ sym f) k
+    subst (Collects old new) (ap part (g.1 d) ∙ sym f) k
 
 pub in_none : (c : Content) (name : Term) (part : Found) (o : Option ℕ) (rows : List Solution) → IsGraphNamed c name o → o ≡ None → rows ≡ [] → SameBag rows (in_named c.quads name part)
 in_none c name part o rows h e z =

@@ -26,7 +26,7 @@ use Rattle.qs_patterns.specs.declared.pattern.Pattern.TheOpen.{Pattern-F, Basic,
 use Rattle.qs_eval.proofs.Named.{is_named as is_named_by}
 use Rattle.qs_ops.specs.Graph.{active_graph, is_named as has_name}
 use Rattle.qs_plan.specs.inner.Graphs.{IsGraphNamed}
-use Rattle.qs_plan.specs.Some.{AreSome}
+use Rattle.qs_plan.specs.inner.Collected.{Collection, Collects}
 use Rattle.qs_plan.specs.Seen.{seen, seen_of}
 
 -- ---- the elements of a list, each once
@@ -314,7 +314,7 @@ pub solutions_are_seen : (c : Content) → IsContent c → (d : DefaultGraph) (w
 solutions_are_seen c lawful d width p name active rows h k =
     subst (SameBag rows) (ap (eval width c.quads p) h ∙ sym (eval_seen c lawful width d p (graph_of (seen_of c d) name))) k
 
--- and some of them
-pub some_are_seen : (c : Content) → IsContent c → (d : DefaultGraph) (width : ℕ) (p : Pattern) (name : Option Term) (active : Active) (most : Option ℕ) (rows : List Solution) → IsActiveFor c d name active → AreSome most rows (eval width c.quads p (active_graph c d active)) → AreSome most rows (eval width (seen_of c d) p (graph_of (seen_of c d) name))
-some_are_seen c lawful d width p name active most rows h k =
-    subst (AreSome most rows) (ap (eval width c.quads p) h ∙ sym (eval_seen c lawful width d p (graph_of (seen_of c d) name))) k
+-- and those that are collected
+pub collected_are_seen : (c : Content) → IsContent c → (d : DefaultGraph) (width : ℕ) (p : Pattern) (name : Option Term) (active : Active) (old new : Collection) → IsActiveFor c d name active → Collects old new (eval width c.quads p (active_graph c d active)) → Collects old new (eval width (seen_of c d) p (graph_of (seen_of c d) name))
+collected_are_seen c lawful d width p name active old new h k =
+    subst (Collects old new) (ap (eval width c.quads p) h ∙ sym (eval_seen c lawful width d p (graph_of (seen_of c d) name))) k

@@ -1,6 +1,6 @@
 //! Groups, solution by solution.
 
-ghost use Rattle.std.specs.Prelude.{◌≡◌, ◌<◌, ◌≤◌, List, [], ◌∷◌, true, length, map, take, drop, IfOk, IfSome};
+ghost use Rattle.std.specs.Prelude.{◌≡◌, ◌<◌, ◌≤◌, List, [], ◌∷◌, true, length, map, take, drop, IfOk, OnOk, IfSome};
 ghost use Rattle.std.specs.List.{AllByRecursion, flat_map, fold};
 ghost use Rattle.qs_terms.specs.Bag.{SameBag};
 ghost use Rattle.qs_solutions.specs.Solution.{Solution, unbound};
@@ -11,10 +11,10 @@ ghost use Rattle.qs_patterns.specs.declared.pattern.Step.TheVariants.{Join};
 ghost use Rattle.qs_groups.specs.Stages.{before, coming, kept_of, through};
 ghost use Rattle.qs_ops.specs.Graph.{active_graph};
 ghost use Rattle.qs_ops.specs.Row.{front};
+ghost use Rattle.qs_plan.specs.inner.Collected.{Collects};
 ghost use Rattle.qs_plan.specs.inner.Groups.{IsKept, KeepsDropped, Took, ahead};
-ghost use Rattle.qs_plan.specs.Some.{AreSome};
 
-use crate::basic::is_enough;
+use crate::collected::Collected;
 use crate::evaluate::{solutions, stepped};
 use qs_expr::Expr;
 use qs_groups::{Kept, Stage, Waiting, next_of, put_all, staged};
@@ -98,7 +98,7 @@ fn take<V: View>(
     }
 }
 
-/// What the stages make of the rows that wait and of the matches that are left: all, or as many as suffice.
+/// Collects what the stages make of the rows that wait and of the matches that are left: all, or as many as suffice.
 fn searched<V: View>(
     alloc: Global,
     view: &V,
@@ -106,21 +106,20 @@ fn searched<V: View>(
     stages: &[Stage<'_>],
     matches: &mut Matches<'_, V>,
     waiting: &mut Vec<Waiting>,
-    most: Option<u64>,
-) -> Result<Vec<Row>, AllocError>
+    found: &mut Collected<'_>,
+) -> Result<(), AllocError>
     requires { matches.old.known ≡ (V.content view.now).known }
-    ensures { IfOk result (λ rows. AreSome most rows.items (ahead (map kept_of stages.now) (map (front width width) matches.old.rows) waiting.old.items)) }
+    ensures { OnOk result (Collects found.old found.new (ahead (map kept_of stages.now) (map (front width width) matches.old.rows) waiting.old.items)) }
 {
-    let mut rows = Vec::new(alloc);
     'search: loop {
-        if is_enough(most, rows.len()) {
-            return Ok(rows);
+        if found.is_enough() {
+            return Ok(());
         }
         match next_of(alloc, stages, waiting)? {
-            Some(row) => rows.push(row)?,
+            Some(row) => found.put(alloc, row)?,
             None => {
                 if !take(alloc, view, width, matches, waiting)? {
-                    return Ok(rows);
+                    return Ok(());
                 }
             }
         }
@@ -135,17 +134,17 @@ fn last_of(alloc: Global, width: usize, waiting: &[Waiting]) -> Result<Row, Allo
     }
 }
 
-/// What the stages make of the first matches, of which at most two wait, and of those that are left.
+/// Collects what the stages make of the first matches, of which at most two wait, and of those that are left.
 fn staged_from<V: View>(
     alloc: Global,
     view: &V,
     width: usize,
     all: &[Kept<'_>],
     matches: &mut Matches<'_, V>,
-    most: Option<u64>,
-) -> Result<Vec<Row>, AllocError>
+    found: &mut Collected<'_>,
+) -> Result<(), AllocError>
     requires { matches.old.known ≡ (V.content view.now).known }
-    ensures { IfOk result (λ rows. AreSome most rows.items (flat_map (through all.now) (map (front width width) matches.old.rows))) }
+    ensures { OnOk result (Collects found.old found.new (flat_map (through all.now) (map (front width width) matches.old.rows))) }
 {
     let mut first = Vec::new(alloc);
     let has_first = take(alloc, view, width, matches, &mut first)?;
@@ -154,16 +153,9 @@ fn staged_from<V: View>(
     waiting.append(&mut first)?;
     let like = last_of(alloc, width, waiting.as_slice())?;
     let stages = staged(alloc, all, like, has_first && !has_second)?;
-    let rows = searched(
-        alloc,
-        view,
-        width,
-        stages.as_slice(),
-        matches,
-        &mut waiting,
-        most,
-    )?;
-    Ok(rows)
+    let stages = stages.as_slice();
+    searched(alloc, view, width, stages, matches, &mut waiting, found)?;
+    Ok(())
 }
 
 /// Whether the step binds no variable anew, so that a condition that is settled before it is settled.
@@ -191,7 +183,7 @@ fn all_keep_dropped(steps: &[Step]) -> bool
     true
 }
 
-/// What the steps make of the matches of triple patterns, as far as all conditions hold: all, or as many as suffice. Where no step binds a
+/// Collects what the steps make of the matches of triple patterns, as far as all conditions hold: all, or as many as suffice. Where no step binds a
 /// variable anew, a condition is tested in the search as soon as its variables are bound.
 fn streamed<V: View>(
     alloc: Global,
@@ -202,20 +194,20 @@ fn streamed<V: View>(
     conditions: &[Expr],
     view: &V,
     active: Active,
-    most: Option<u64>,
-) -> Result<Vec<Row>, AllocError>
+    found: &mut Collected<'_>,
+) -> Result<(), AllocError>
     requires { width ≤ whole }
-    ensures { IfOk result (λ rows. AreSome most rows.items (kept conditions.now (fold (λ left s. step width (V.content view.now).quads s (active_graph (V.content view.now) (V.default_seen view.now) active) left) (map (take width) (matches whole triples.now (active_graph (V.content view.now) (V.default_seen view.now) active))) steps.now))) }
+    ensures { OnOk result (Collects found.old found.new (kept conditions.now (fold (λ left s. step width (V.content view.now).quads s (active_graph (V.content view.now) (V.default_seen view.now) active) left) (map (take width) (matches whole triples.now (active_graph (V.content view.now) (V.default_seen view.now) active))) steps.now))) }
 {
     let all = kept_steps(alloc, width, steps, conditions, view, active)?;
     if !all_keep_dropped(steps) {
         let mut matches = Matches::of(alloc, view, active, whole, triples)?;
-        let rows = staged_from(alloc, view, width, all.as_slice(), &mut matches, most)?;
-        return Ok(rows);
+        staged_from(alloc, view, width, all.as_slice(), &mut matches, found)?;
+        return Ok(());
     }
     let mut matches = Matches::under(alloc, view, active, whole, triples, width, conditions)?;
-    let rows = staged_from(alloc, view, width, all.as_slice(), &mut matches, most)?;
-    Ok(rows)
+    staged_from(alloc, view, width, all.as_slice(), &mut matches, found)?;
+    Ok(())
 }
 
 /// Has the rows wait before the first stage.
@@ -227,29 +219,28 @@ fn all_waiting(alloc: Global, rows: Vec<Row>) -> Result<Vec<Waiting>, AllocError
     Ok(waiting)
 }
 
-/// What the stages make of the rows that wait: all, or as many as suffice.
+/// Collects what the stages make of the rows that wait: all, or as many as suffice.
 fn finished(
     alloc: Global,
     stages: &[Stage<'_>],
     waiting: &mut Vec<Waiting>,
-    most: Option<u64>,
-) -> Result<Vec<Row>, AllocError>
-    ensures { IfOk result (λ rows. AreSome most rows.items (coming (map kept_of stages.now) waiting.old.items)) }
+    found: &mut Collected<'_>,
+) -> Result<(), AllocError>
+    ensures { OnOk result (Collects found.old found.new (coming (map kept_of stages.now) waiting.old.items)) }
 {
-    let mut rows = Vec::new(alloc);
     'search: loop {
-        if is_enough(most, rows.len()) {
-            return Ok(rows);
+        if found.is_enough() {
+            return Ok(());
         }
         match next_of(alloc, stages, waiting)? {
-            None => return Ok(rows),
-            Some(row) => rows.push(row)?,
+            None => return Ok(()),
+            Some(row) => found.put(alloc, row)?,
         }
     }
 }
 
-/// What the steps make of the rows, in whichever order these stand, as far as all conditions hold: all, or as many as suffice.
-fn some_of_rows<V: View>(
+/// Collects what the steps make of the rows, in whichever order these stand, as far as all conditions hold: all, or as many as suffice.
+fn collect_from_rows<V: View>(
     alloc: Global,
     width: usize,
     rows: Vec<Row>,
@@ -257,17 +248,17 @@ fn some_of_rows<V: View>(
     conditions: &[Expr],
     view: &V,
     active: Active,
-    most: Option<u64>,
-) -> Result<Vec<Row>, AllocError>
-    ensures { IfOk result (λ some. (xs : List Solution) → SameBag rows.items xs → AreSome most some.items (kept conditions.now (fold (λ left s. step width (V.content view.now).quads s (active_graph (V.content view.now) (V.default_seen view.now) active) left) xs steps.now))) }
+    found: &mut Collected<'_>,
+) -> Result<(), AllocError>
+    ensures { OnOk result ((xs : List Solution) → SameBag rows.items xs → Collects found.old found.new (kept conditions.now (fold (λ left s. step width (V.content view.now).quads s (active_graph (V.content view.now) (V.default_seen view.now) active) left) xs steps.now))) }
 {
     let all = kept_steps(alloc, width, steps, conditions, view, active)?;
     let mut waiting = all_waiting(alloc, rows)?;
     let like = last_of(alloc, width, waiting.as_slice())?;
     let is_single = waiting.len() < 2;
     let stages = staged(alloc, all.as_slice(), like, is_single)?;
-    let some = finished(alloc, stages.as_slice(), &mut waiting, most)?;
-    Ok(some)
+    finished(alloc, stages.as_slice(), &mut waiting, found)?;
+    Ok(())
 }
 
 /// The basic graph pattern that the step joins, where it has no paths.
@@ -313,35 +304,35 @@ fn rest_of(steps: &[Step]) -> &[Step]
     &steps[1..]
 }
 
-/// The solutions of a group: all, or as many as suffice. Where it begins with triple patterns, no more of their matches are held than
+/// Collects the solutions of a group: all, or as many as suffice. Where it begins with triple patterns, no more of their matches are held than
 /// suffice.
-pub(crate) fn some_of_group<V: View>(
+pub(crate) fn collect_group<V: View>(
     alloc: Global,
     width: usize,
     steps: &[Step],
     conditions: &[Expr],
     view: &V,
     active: Active,
-    most: Option<u64>,
-) -> Result<Vec<Row>, AllocError>
-    ensures { IfOk result (λ some. AreSome most some.items (kept conditions.now (fold (λ left s. step width (V.content view.now).quads s (active_graph (V.content view.now) (V.default_seen view.now) active) left) (unbound width ∷ []) steps.now))) }
+    found: &mut Collected<'_>,
+) -> Result<(), AllocError>
+    ensures { OnOk result (Collects found.old found.new (kept conditions.now (fold (λ left s. step width (V.content view.now).quads s (active_graph (V.content view.now) (V.default_seen view.now) active) left) (unbound width ∷ []) steps.now))) }
 {
     let unit = unit(alloc, width)?;
     if steps.is_empty() {
-        let some = some_of_rows(alloc, width, unit, steps, conditions, view, active, most)?;
-        return Ok(some);
+        collect_from_rows(alloc, width, unit, steps, conditions, view, active, found)?;
+        return Ok(());
     }
     let first = &steps[0];
     let rest = rest_of(steps);
     if let Some(basic) = triples_alone(first) {
         let whole = width.checked_add(basic.hidden).ok_or(AllocError)?;
         let triples = basic.triples.as_slice();
-        let some = streamed(
-            alloc, width, whole, triples, rest, conditions, view, active, most,
+        streamed(
+            alloc, width, whole, triples, rest, conditions, view, active, found,
         )?;
-        return Ok(some);
+        return Ok(());
     }
     let rows = stepped(alloc, width, first, view, active, unit)?;
-    let some = some_of_rows(alloc, width, rows, rest, conditions, view, active, most)?;
-    Ok(some)
+    collect_from_rows(alloc, width, rows, rest, conditions, view, active, found)?;
+    Ok(())
 }

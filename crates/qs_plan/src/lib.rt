@@ -3,6 +3,7 @@
 #![tactic(auto)]
 
 mod basic;
+mod collected;
 mod evaluate;
 mod graphs;
 mod group;
@@ -10,4 +11,4 @@ mod seen;
 mod some;
 
 pub use evaluate::solutions;
-pub use seen::{solutions_seen, some_solutions_seen};
+pub use seen::{distinct_solutions_seen, solutions_seen, some_solutions_seen};

@@ -7,11 +7,12 @@ ghost use Rattle.qs_terms.specs.Dataset.{graph_of};
 ghost use Rattle.qs_patterns.specs.Eval.{eval};
 ghost use Rattle.qs_ops.specs.Graph.{active_graph};
 ghost use Rattle.qs_plan.specs.Seen.{seen_of};
-ghost use Rattle.qs_plan.specs.Some.{AreSome};
+ghost use Rattle.qs_plan.specs.Some.{AreSome, AreSomeDistinct};
 
+use crate::collected::Collected;
 use crate::evaluate::solutions;
 use crate::graphs::graph_named;
-use crate::some::some_of;
+use crate::some::collect;
 use qs_patterns::Pattern;
 use qs_solutions::Row;
 use qs_store::{Active, View};
@@ -62,6 +63,27 @@ pub fn some_solutions_seen<V: View>(
 {
     let _count = view.count();
     let active = active_of(view, name);
-    let rows = some_of(alloc, width, pattern, view, active, most)?;
-    Ok(rows)
+    let mut found = Collected::new(alloc, None, most);
+    collect(alloc, width, pattern, view, active, &mut found)?;
+    Ok(found.into_rows())
+}
+
+/// The terms of these variables in some of these solutions, each once: as many as suffice, or all. No two that are the same are held, and
+/// none beyond those that suffice, where the pattern is searched solution by solution.
+pub fn distinct_solutions_seen<V: View>(
+    alloc: Global,
+    width: usize,
+    pattern: &Pattern,
+    view: &V,
+    name: Option<&Term>,
+    columns: &[usize],
+    most: Option<u64>,
+) -> Result<Vec<Row>, AllocError>
+    ensures { IfOk result (λ rows. AreSomeDistinct columns.now most rows.items (eval width (seen_of (V.content view.now) (V.default_seen view.now)) pattern.now (graph_of (seen_of (V.content view.now) (V.default_seen view.now)) (option_copied name.entry)))) }
+{
+    let _count = view.count();
+    let active = active_of(view, name);
+    let mut found = Collected::new(alloc, Some(columns), most);
+    collect(alloc, width, pattern, view, active, &mut found)?;
+    Ok(found.into_rows())
 }

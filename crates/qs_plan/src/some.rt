@@ -1,15 +1,22 @@
 //! Some of the solutions of a pattern: as many as suffice, or all.
 
-ghost use Rattle.std.specs.Prelude.{◌≡◌, IfOk};
+ghost use Rattle.std.specs.Prelude.{◌≡◌, ◌&&◌, nat_lt, length, IfOk, OnOk};
 ghost use Rattle.std.specs.List.{flat_map};
-ghost use Rattle.qs_patterns.specs.Eval.{eval, in_named};
+ghost use Rattle.qs_terms.specs.Bag.{SameBag};
+ghost use Rattle.qs_terms.specs.Dataset.{names_of};
+ghost use Rattle.qs_patterns.specs.Eval.{eval, in_named, in_each};
+ghost use Rattle.qs_store.specs.Graphs.{AreGraphs, IsGraph};
 ghost use Rattle.qs_ops.specs.Graph.{active_graph};
-ghost use Rattle.qs_plan.specs.Some.{AreSome, still};
+ghost use Rattle.qs_plan.specs.Some.{is_enough, AreSome};
+ghost use Rattle.qs_plan.specs.inner.EachGraph.{in_one};
+ghost use Rattle.qs_plan.specs.inner.Collected.{Collects};
 
-use crate::basic::{is_enough, some_of_basic};
+use crate::basic::collect_basic;
+use crate::collected::{Collected, put_all};
 use crate::evaluate::solutions;
-use crate::graphs::graph_named;
-use crate::group::some_of_group;
+use crate::graphs::{graph_named, graphs, name_of};
+use crate::group::collect_group;
+use qs_eval::with_name;
 use qs_patterns::Pattern;
 use qs_solutions::Row;
 use qs_store::{Active, View};
@@ -17,90 +24,69 @@ use qs_terms::Term;
 use std::alloc::{AllocError, Global};
 
 /// Of a basic graph pattern or a group; of another pattern all.
-fn some_of_one<V: View>(
+fn collect_one<V: View>(
     alloc: Global,
     width: usize,
     pattern: &Pattern,
     view: &V,
     active: Active,
-    most: Option<u64>,
-) -> Result<Vec<Row>, AllocError>
-    ensures { IfOk result (λ rows. AreSome most rows.items (eval width (V.content view.now).quads pattern.now (active_graph (V.content view.now) (V.default_seen view.now) active))) }
+    found: &mut Collected<'_>,
+) -> Result<(), AllocError>
+    ensures { OnOk result (Collects found.old found.new (eval width (V.content view.now).quads pattern.now (active_graph (V.content view.now) (V.default_seen view.now) active))) }
 {
     match pattern {
-        Pattern::Basic(basic) => {
-            let rows = some_of_basic(alloc, width, basic, view, active, most)?;
-            Ok(rows)
-        }
+        Pattern::Basic(basic) => collect_basic(alloc, width, basic, view, active, found),
         Pattern::Group(steps, conditions) => {
             let steps = steps.as_slice();
             let conditions = conditions.as_slice();
-            let rows = some_of_group(alloc, width, steps, conditions, view, active, most)?;
-            Ok(rows)
+            collect_group(alloc, width, steps, conditions, view, active, found)
         }
         _ => {
             let rows = solutions(alloc, width, pattern, view, active)?;
-            Ok(rows)
+            put_all(alloc, rows, found)
         }
-    }
-}
-
-/// How many suffice beside so many.
-fn still(most: Option<u64>, count: usize) -> Option<u64>
-    ensures { result ≡ still most count }
-{
-    match most {
-        None => None,
-        Some(most) => Some(most.saturating_sub(count as u64)),
     }
 }
 
 /// Of all the patterns.
-fn some_of_all<V: View>(
+fn collect_all<V: View>(
     alloc: Global,
     width: usize,
     parts: &[Pattern],
     view: &V,
     active: Active,
-    most: Option<u64>,
-) -> Result<Vec<Row>, AllocError>
-    ensures { IfOk result (λ rows. AreSome most rows.items (flat_map (λ part. eval width (V.content view.now).quads part (active_graph (V.content view.now) (V.default_seen view.now) active)) parts.now)) }
+    found: &mut Collected<'_>,
+) -> Result<(), AllocError>
+    ensures { OnOk result (Collects found.old found.new (flat_map (λ part. eval width (V.content view.now).quads part (active_graph (V.content view.now) (V.default_seen view.now) active)) parts.now)) }
 {
-    let mut rows = Vec::new(alloc);
     for part in parts {
-        let count = rows.len();
-        if is_enough(most, count) {
-            return Ok(rows);
+        if found.is_enough() {
+            return Ok(());
         }
-        let beside = still(most, count);
-        let mut more = some_of_one(alloc, width, part, view, active, beside)?;
-        rows.append(&mut more)?;
+        collect_one(alloc, width, part, view, active, found)?;
     }
-    Ok(rows)
+    Ok(())
 }
 
 /// Of a pattern in the graph of this name, if there is one.
-fn some_of_graph<V: View>(
+fn collect_in_graph<V: View>(
     alloc: Global,
     width: usize,
     name: &Term,
     part: &Pattern,
     view: &V,
-    most: Option<u64>,
-) -> Result<Vec<Row>, AllocError>
-    ensures { IfOk result (λ rows. AreSome most rows.items (in_named (V.content view.now).quads name.now (eval width (V.content view.now).quads part.now))) }
+    found: &mut Collected<'_>,
+) -> Result<(), AllocError>
+    ensures { OnOk result (Collects found.old found.new (in_named (V.content view.now).quads name.now (eval width (V.content view.now).quads part.now))) }
 {
     match graph_named(view, name) {
-        Some(number) => {
-            let rows = some_of_one(alloc, width, part, view, Active::Graph(number), most)?;
-            Ok(rows)
-        }
-        None => Ok(Vec::new(alloc)),
+        Some(number) => collect_one(alloc, width, part, view, Active::Graph(number), found),
+        None => Ok(()),
     }
 }
 
-/// Of any pattern of `width` named variables over a view, where this graph is active.
-pub(crate) fn some_of<V: View>(
+/// Some of these solutions in a list of their own.
+fn some_of<V: View>(
     alloc: Global,
     width: usize,
     pattern: &Pattern,
@@ -110,19 +96,141 @@ pub(crate) fn some_of<V: View>(
 ) -> Result<Vec<Row>, AllocError>
     ensures { IfOk result (λ rows. AreSome most rows.items (eval width (V.content view.now).quads pattern.now (active_graph (V.content view.now) (V.default_seen view.now) active))) }
 {
+    let mut found = Collected::new(alloc, None, most);
+    collect_one(alloc, width, pattern, view, active, &mut found)?;
+    Ok(found.into_rows())
+}
+
+/// All solutions in the graph, joined with the one that binds the variable to its name.
+fn all_named<V: View>(
+    alloc: Global,
+    width: usize,
+    variable: usize,
+    part: &Pattern,
+    view: &V,
+    number: u32,
+) -> Result<Vec<Row>, AllocError>
+    requires { IsGraph (V.content view.now) number }
+    ensures { IfOk result (λ rows. SameBag rows.items (in_one (V.content view.now) width variable (eval width (V.content view.now).quads part.now) number)) }
+{
+    let rows = solutions(alloc, width, part, view, Active::Graph(number))?;
+    let name = name_of(view, number);
+    let rows = with_name(alloc, width, variable, name, rows.as_slice())?;
+    Ok(rows)
+}
+
+/// Whether the rows found suffice, of which some aren't left.
+fn falls_short(most: Option<u64>, found: &[Row], left: &[Row]) -> bool
+    ensures { result ≡ (is_enough most (length found.now) && nat_lt (length left.now) (length found.now)) }
+{
+    match most {
+        None => false,
+        Some(most) => most <= found.len() as u64 && left.len() < found.len(),
+    }
+}
+
+/// Some of them. Where the name takes solutions away from those that suffice, all are found.
+fn some_named<V: View>(
+    alloc: Global,
+    width: usize,
+    variable: usize,
+    part: &Pattern,
+    view: &V,
+    number: u32,
+    most: Option<u64>,
+) -> Result<Vec<Row>, AllocError>
+    requires { IsGraph (V.content view.now) number }
+    ensures { IfOk result (λ rows. AreSome most rows.items (in_one (V.content view.now) width variable (eval width (V.content view.now).quads part.now) number)) }
+{
+    let rows = some_of(alloc, width, part, view, Active::Graph(number), most)?;
+    let name = name_of(view, number);
+    let named = with_name(alloc, width, variable, name, rows.as_slice())?;
+    if falls_short(most, rows.as_slice(), named.as_slice()) {
+        let all = all_named(alloc, width, variable, part, view, number)?;
+        return Ok(all);
+    }
+    Ok(named)
+}
+
+/// Of a pattern in one named graph.
+fn collect_in_one<V: View>(
+    alloc: Global,
+    width: usize,
+    variable: usize,
+    part: &Pattern,
+    view: &V,
+    number: u32,
+    found: &mut Collected<'_>,
+) -> Result<(), AllocError>
+    requires { IsGraph (V.content view.now) number }
+    ensures { OnOk result (Collects found.old found.new (in_one (V.content view.now) width variable (eval width (V.content view.now).quads part.now) number)) }
+{
+    let most = found.most_of_all();
+    let rows = some_named(alloc, width, variable, part, view, number, most)?;
+    put_all(alloc, rows, found)
+}
+
+/// Of a pattern in one named graph after another.
+fn collect_in_each<V: View>(
+    alloc: Global,
+    width: usize,
+    variable: usize,
+    part: &Pattern,
+    view: &V,
+    graphs: &[u32],
+    found: &mut Collected<'_>,
+) -> Result<(), AllocError>
+    requires { AreGraphs (V.content view.now) graphs.now }
+    ensures { OnOk result (Collects found.old found.new (in_each width (V.content view.now).quads variable (eval width (V.content view.now).quads part.now) (names_of (V.content view.now).quads))) }
+{
+    let _count = view.count();
+    let _terms = view.terms();
+    for number in graphs {
+        if found.is_enough() {
+            return Ok(());
+        }
+        collect_in_one(alloc, width, variable, part, view, *number, found)?;
+    }
+    Ok(())
+}
+
+/// Of a pattern in each named graph.
+fn collect_named<V: View>(
+    alloc: Global,
+    width: usize,
+    variable: usize,
+    part: &Pattern,
+    view: &V,
+    found: &mut Collected<'_>,
+) -> Result<(), AllocError>
+    ensures { OnOk result (Collects found.old found.new (in_each width (V.content view.now).quads variable (eval width (V.content view.now).quads part.now) (names_of (V.content view.now).quads))) }
+{
+    let graphs = graphs(view)?;
+    collect_in_each(alloc, width, variable, part, view, graphs.as_slice(), found)
+}
+
+/// Of any pattern of `width` named variables over a view, where this graph is active.
+pub(crate) fn collect<V: View>(
+    alloc: Global,
+    width: usize,
+    pattern: &Pattern,
+    view: &V,
+    active: Active,
+    found: &mut Collected<'_>,
+) -> Result<(), AllocError>
+    ensures { OnOk result (Collects found.old found.new (eval width (V.content view.now).quads pattern.now (active_graph (V.content view.now) (V.default_seen view.now) active))) }
+{
     match pattern {
-        Pattern::Union(parts) => {
-            let parts = parts.as_slice();
-            let rows = some_of_all(alloc, width, parts, view, active, most)?;
-            Ok(rows)
-        }
-        Pattern::Graph(name, part) => {
-            let rows = some_of_graph(alloc, width, name, part.get(), view, most)?;
-            Ok(rows)
-        }
-        _ => {
-            let rows = some_of_one(alloc, width, pattern, view, active, most)?;
-            Ok(rows)
-        }
+        Pattern::Union(parts) => collect_all(alloc, width, parts.as_slice(), view, active, found),
+        Pattern::Graph(name, part) => collect_in_graph(alloc, width, name, part.get(), view, found),
+        Pattern::EachGraph(variable, part) => collect_named(
+            alloc,
+            width,
+            *variable,
+            part.get(),
+            view,
+            found,
+        ),
+        _ => collect_one(alloc, width, pattern, view, active, found),
     }
 }

@@ -6,3 +6,4 @@ pub mod Prefixes
 pub mod Equations
 pub mod TripleEquations
 pub mod PatternEquations
+pub mod Again

@@ -4,12 +4,14 @@ ghost use Rattle.std.specs.Prelude.{◌≡◌, Some, Ok};
 ghost use Rattle.std.specs.List.{before_first, after_first};
 ghost use Rattle.qs_terms.specs.Iri.{checked_iri};
 ghost use Rattle.qs_terms.specs.Outcome.{OrWantOfMemory};
+ghost use Rattle.qs_escapes.specs.Decoded.{decoded as decoded_text};
+ghost use Rattle.qs_escapes.specs.Escape.{uchar};
 ghost use Rattle.qs_resolve.specs.Names.{full, is_colon};
 
 use crate::piece::inside;
 use qs_escapes::Escapes;
 use qs_escapes::decoded::{decoded, joined};
-use qs_terms::{Iri, QFault, TermFault, Text};
+use qs_terms::{Iri, QFault, Recent, TermFault, Text};
 use qs_tree::token::Span;
 use std::alloc::Global;
 
@@ -26,21 +28,80 @@ pub(crate) fn absolute(alloc: Global, place: usize, text: Text) -> Result<Iri, Q
     }
 }
 
-/// The IRI that is written as `<..>`.
-#[tactic(auto, unfolding(crate::specs::Names::full))]
-pub(crate) fn full_iri(alloc: Global, text: &str, span: Span) -> Result<Iri, QFault>
-    ensures { OrWantOfMemory (full text.now span) result }
+// The same of a text that begins with an IRI.
+fn absolute_behind(alloc: Global, place: usize, front: &Iri, text: Text) -> Result<Iri, QFault>
+    ensures { OrWantOfMemory (Rattle.qs_resolve.specs.Names.absolute place (checked_iri text)) result }
 {
-    let text = decoded(alloc, inside(text, span, 1), Escapes::Codepoints)?;
-    absolute(alloc, span.start, text)
+    match Iri::behind(alloc, front, text) {
+        Ok(iri) => Ok(iri),
+        Err(TermFault::Memory) => Err(QFault::Memory),
+        Err(_) => Err(QFault::RelativeIri { place }),
+    }
 }
 
-/// The IRI that a prefix stands for, and a local name behind it.
-pub(crate) fn expanded(alloc: Global, place: usize, start: &str, local: &str) -> Result<Iri, QFault>
+// The IRI that stands between `<` and `>`, which is noted.
+fn new_full_iri(
+    alloc: Global,
+    recent: &mut Recent,
+    place: usize,
+    written: &str,
+) -> Result<Iri, QFault>
+    ensures { OrWantOfMemory (Rattle.qs_resolve.specs.Names.absolute place (checked_iri (decoded_text uchar written.now))) result }
+{
+    let text = decoded(alloc, written, Escapes::Codepoints)?;
+    let iri = absolute(alloc, place, text)?;
+    recent.note("", written, &iri)?;
+    Ok(iri)
+}
+
+/// The IRI that is written as `<..>`. One that was read not long ago is neither checked nor copied.
+#[tactic(auto, using(crate::proofs::Again::full_again), unfolding(crate::specs::Names::full))]
+pub(crate) fn full_iri(
+    alloc: Global,
+    recent: &mut Recent,
+    text: &str,
+    span: Span,
+) -> Result<Iri, QFault>
+    ensures { OrWantOfMemory (full text.now span) result }
+{
+    let written = inside(text, span, 1);
+    match recent.iri("", written)? {
+        Some(known) => Ok(known),
+        None => new_full_iri(alloc, recent, span.start, written),
+    }
+}
+
+// The IRI that a prefix stands for, and a local name behind it, which is noted.
+fn new_expanded(
+    alloc: Global,
+    recent: &mut Recent,
+    place: usize,
+    start: &Iri,
+    local: &str,
+) -> Result<Iri, QFault>
     ensures { OrWantOfMemory (Rattle.qs_resolve.specs.Names.joined place (Some start.now) local.now) result }
 {
-    let text = joined(alloc, start, local)?;
-    absolute(alloc, place, text)
+    let text = joined(alloc, start.text(), local)?;
+    let iri = absolute_behind(alloc, place, start, text)?;
+    recent.note(start.text(), local, &iri)?;
+    Ok(iri)
+}
+
+/// The IRI that a prefix stands for, and a local name behind it. One that was read not long ago is neither joined nor checked.
+#[tactic(auto, using(crate::proofs::Again::joined_again))]
+pub(crate) fn expanded(
+    alloc: Global,
+    recent: &mut Recent,
+    place: usize,
+    start: &Iri,
+    local: &str,
+) -> Result<Iri, QFault>
+    ensures { OrWantOfMemory (Rattle.qs_resolve.specs.Names.joined place (Some start.now) local.now) result }
+{
+    match recent.iri(start.text(), local)? {
+        Some(known) => Ok(known),
+        None => new_expanded(alloc, recent, place, start, local),
+    }
 }
 
 /// The parts before and behind the first colon.
@@ -54,11 +115,24 @@ pub(crate) fn parted(name: &str) -> (&str, &str)
     }
 }
 
-/// The IRI rdf:type.
+// The IRI rdf:type, which is noted.
 #[tactic(auto, unfolding(crate::specs::Names::rdf_type))]
-pub(crate) fn rdf_type(alloc: Global) -> Result<Iri, QFault>
+fn new_rdf_type(alloc: Global, recent: &mut Recent) -> Result<Iri, QFault>
     ensures { OrWantOfMemory (Ok Rattle.qs_resolve.specs.Names.rdf_type) result }
 {
     let text = Text::new(alloc, RDF_TYPE)?;
-    absolute(alloc, 0, text)
+    let iri = absolute(alloc, 0, text)?;
+    recent.note("", RDF_TYPE, &iri)?;
+    Ok(iri)
+}
+
+/// The IRI rdf:type.
+#[tactic(auto, unfolding(crate::specs::Names::rdf_type))]
+pub(crate) fn rdf_type(alloc: Global, recent: &mut Recent) -> Result<Iri, QFault>
+    ensures { OrWantOfMemory (Ok Rattle.qs_resolve.specs.Names.rdf_type) result }
+{
+    match recent.iri("", RDF_TYPE)? {
+        Some(known) => Ok(known),
+        None => new_rdf_type(alloc, recent),
+    }
 }

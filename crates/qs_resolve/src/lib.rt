@@ -19,6 +19,7 @@ mod path;
 mod pattern;
 mod piece;
 mod query;
+mod recent_names;
 mod resolve;
 mod resolver;
 mod table;

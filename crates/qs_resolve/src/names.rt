@@ -7,13 +7,16 @@ ghost use Rattle.std.specs.Str.{bytes_eq};
 ghost use Rattle.qs_terms.specs.OrWantOf.{BecomesOrWantOf};
 ghost use Rattle.qs_terms.specs.Outcome.{OrWantOfMemory};
 ghost use Rattle.qs_terms.specs.declared.fault.QFault.TheVariants.{Memory};
+ghost use Rattle.qs_resolve.specs.Names.{declared as declared_in, expanded as expanded_name};
 
 use crate::iri::{expanded, full_iri, parted, rdf_type};
 use crate::literal::{boolean, integer, plain, string, tagged, with_datatype};
 use crate::number::decimal;
 use crate::piece::{before_end, behind, whole};
+use crate::recent_names::RecentNames;
+use qs_ast::shared::Shared;
 use qs_ast::term::Variable;
-use qs_terms::{Iri, Lit, QFault, Text};
+use qs_terms::{Iri, Lit, QFault, Recent, Text};
 use qs_tree::path::Predicate;
 use qs_tree::query::PrefixDeclaration;
 use qs_tree::term::{Annotation, Iri as WrittenIri, Literal};
@@ -28,6 +31,8 @@ pub struct Names<'a> {
     alloc: Global,
     text: &'a str,
     prefixes: BTreeMap<&'a str, Iri>,
+    recent: Recent,
+    recent_names: RecentNames,
 }
 
 impl<'a> Model for Names<'a> {
@@ -38,8 +43,32 @@ impl<'a> Model for Names<'a> {
     ghost view = { λ n. record { text = n.text.now; prefixes = declared n.prefixes.entries } };
 }
 
+// The IRI that a prefix stands for.
+fn declared<'m>(prefixes: &'m BTreeMap<&str, Iri>, prefix: &str) -> Option<&'m Iri>
+    ensures { option_copied result ≡ lookup (bytes_eq prefix.now) (declared_in prefixes.now.entries) }
+{
+    prefixes.get(prefix)
+}
+
+// The IRI of a name with a prefix.
+fn with_prefix(
+    alloc: Global,
+    prefixes: &BTreeMap<&str, Iri>,
+    recent: &mut Recent,
+    place: usize,
+    name: &str,
+) -> Result<Iri, QFault>
+    ensures { OrWantOfMemory (expanded_name (declared_in prefixes.now.entries) place name.now) result }
+{
+    let (prefix, local) = parted(name);
+    let Some(start) = declared(prefixes, prefix) else {
+        return Err(QFault::Prefix { place });
+    };
+    expanded(alloc, recent, place, start, local)
+}
+
 impl<'a> Names<'a> {
-    ghost use Rattle.qs_resolve.specs.Names.{variable, label, full, iri, predicate, literal, declare, count, nothing_declared};
+    ghost use Rattle.qs_resolve.specs.Names.{variable, label, full, iri, prefixed, predicate, literal, annotated, declare, count, nothing_declared};
 
     /// The names of a text in which no prefix is declared yet. Takes no memory.
     pub fn new(alloc: Global, text: &'a str) -> Names<'a>
@@ -49,6 +78,8 @@ impl<'a> Names<'a> {
             alloc,
             text,
             prefixes: BTreeMap::new(alloc),
+            recent: Recent::new(alloc),
+            recent_names: RecentNames::new(alloc),
         }
     }
 
@@ -61,7 +92,7 @@ impl<'a> Names<'a> {
         ensures answer { BecomesOrWantOf Memory (declare self.old declaration.now) result self.new }
         ensures refused { OnErr result (self.new ≡ self.old) }
     {
-        let iri = full_iri(self.alloc, self.text, declaration.iri)?;
+        let iri = full_iri(self.alloc, &mut self.recent, self.text, declaration.iri)?;
         let prefix = before_end(self.text, declaration.prefix, 1);
         self.prefixes.insert(prefix, iri)?;
         Ok(())
@@ -69,19 +100,23 @@ impl<'a> Names<'a> {
 
     /// The variable, by its name without the `?` or `$`.
     #[tactic(auto, unfolding(crate::specs::Names::variable))]
-    pub fn variable(&self, span: Span) -> Result<Variable, AllocError>
-        ensures { IfOk result (λ v. v ≡ record { name = variable self.now span }) }
+    pub fn variable(&mut self, span: Span) -> Result<Variable, AllocError>
+        ensures answer { IfOk result (λ v. v ≡ record { name = variable self.old span }) }
+        ensures names { self.new ≡ self.old }
     {
-        let name = Text::new(self.alloc, behind(self.text, span, 1))?;
+        let name = behind(self.text, span, 1);
+        let name = self.recent_names.text(self.alloc, name)?;
         Ok(Variable { name })
     }
 
     /// The label of a blank node, without the `_:`.
     #[tactic(auto, unfolding(crate::specs::Names::label))]
-    pub fn label(&self, span: Span) -> Result<Text, AllocError>
-        ensures { IfOk result (λ t. t ≡ label self.now span) }
+    pub fn label(&mut self, span: Span) -> Result<Shared<Text>, AllocError>
+        ensures answer { IfOk result (λ t. t ≡ label self.old span) }
+        ensures names { self.new ≡ self.old }
     {
-        Text::new(self.alloc, behind(self.text, span, 2))
+        let label = behind(self.text, span, 2);
+        self.recent_names.text(self.alloc, label)
     }
 
     /// The IRI that is written as `<..>` or with a prefix (SPARQL 1.1 Query, 4.1.1).
@@ -89,11 +124,12 @@ impl<'a> Names<'a> {
     /// # Errors
     /// `QFault::Prefix` with the place of a name whose prefix isn't declared, `QFault::RelativeIri` with that of an IRI without a
     /// scheme, and `QFault::Memory`.
-    pub fn iri(&self, written: WrittenIri) -> Result<Iri, QFault>
-        ensures { OrWantOfMemory (iri self.now written) result }
+    pub fn iri(&mut self, written: WrittenIri) -> Result<Iri, QFault>
+        ensures answer { OrWantOfMemory (iri self.old written) result }
+        ensures names { self.new ≡ self.old }
     {
         match written {
-            WrittenIri::Full(span) => full_iri(self.alloc, self.text, span),
+            WrittenIri::Full(span) => full_iri(self.alloc, &mut self.recent, self.text, span),
             WrittenIri::Prefixed(span) => self.prefixed(span),
         }
     }
@@ -102,12 +138,13 @@ impl<'a> Names<'a> {
     ///
     /// # Errors
     /// Those of `iri`.
-    pub fn predicate(&self, written: Predicate) -> Result<Iri, QFault>
-        ensures { OrWantOfMemory (predicate self.now written) result }
+    pub fn predicate(&mut self, written: Predicate) -> Result<Iri, QFault>
+        ensures answer { OrWantOfMemory (predicate self.old written) result }
+        ensures names { self.new ≡ self.old }
     {
         match written {
             Predicate::Iri(iri) => self.iri(iri),
-            Predicate::RdfType => rdf_type(self.alloc),
+            Predicate::RdfType => rdf_type(self.alloc, &mut self.recent),
         }
     }
 
@@ -115,8 +152,9 @@ impl<'a> Names<'a> {
     ///
     /// # Errors
     /// Those of its datatype's IRI, and `QFault::Memory`.
-    pub fn literal(&self, written: Literal) -> Result<Option<Lit>, QFault>
-        ensures { OrWantOfMemory (literal self.now written) result }
+    pub fn literal(&mut self, written: Literal) -> Result<Option<Lit>, QFault>
+        ensures answer { OrWantOfMemory (literal self.old written) result }
+        ensures names { self.new ≡ self.old }
     {
         match written {
             Literal::String(span, annotation) => {
@@ -136,26 +174,28 @@ impl<'a> Names<'a> {
         decimal(whole(self.text, span).as_bytes())
     }
 
-    // The IRI that a prefix stands for.
-    fn declared(&self, prefix: &str) -> Option<&Iri>
-        ensures { option_copied result ≡ lookup (bytes_eq prefix.now) self.now.prefixes }
-    {
-        self.prefixes.get(prefix)
-    }
-
     #[tactic(auto, unfolding(crate::specs::Names::prefixed))]
-    fn prefixed(&self, span: Span) -> Result<Iri, QFault>
-        ensures { OrWantOfMemory (Rattle.qs_resolve.specs.Names.prefixed self.now span) result }
+    fn prefixed(&mut self, span: Span) -> Result<Iri, QFault>
+        ensures answer { OrWantOfMemory (prefixed self.old span) result }
+        ensures names { self.new ≡ self.old }
     {
-        let (prefix, local) = parted(whole(self.text, span));
-        let Some(start) = self.declared(prefix) else {
-            return Err(QFault::Prefix { place: span.start });
-        };
-        expanded(self.alloc, span.start, start.text(), local)
+        let name = whole(self.text, span);
+        with_prefix(
+            self.alloc,
+            &self.prefixes,
+            &mut self.recent,
+            span.start,
+            name,
+        )
     }
 
-    fn annotated(&self, form: Text, annotation: Option<Annotation>) -> Result<Option<Lit>, QFault>
-        ensures { OrWantOfMemory (Rattle.qs_resolve.specs.Names.annotated self.now form annotation) result }
+    fn annotated(
+        &mut self,
+        form: Text,
+        annotation: Option<Annotation>,
+    ) -> Result<Option<Lit>, QFault>
+        ensures answer { OrWantOfMemory (annotated self.old form annotation) result }
+        ensures names { self.new ≡ self.old }
     {
         match annotation {
             None => plain(self.alloc, form),

@@ -97,7 +97,7 @@ impl<'a> Resolver<'a> {
         let inner = self.shared_blank(alloc)?;
         let subject = subject.share()?;
         let verb = verb.share()?;
-        let object = inner.get().try_clone(alloc)?;
+        let object = inner.get().share()?;
         found.push(Triple {
             subject,
             verb,

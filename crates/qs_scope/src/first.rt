@@ -12,7 +12,6 @@ use std::alloc::{AllocError, Global};
 
 // The variable of the name behind the others, unless the name stands before its place.
 fn put_first<'a>(
-    alloc: Global,
     names: &Seen<'a>,
     found: &mut Items<Variable>,
     place: usize,
@@ -23,7 +22,7 @@ fn put_first<'a>(
     if names.is_before(place, name.text()) {
         return Ok(());
     }
-    let variable = name.variable(alloc)?;
+    let variable = name.variable()?;
     found.push(variable)
 }
 
@@ -35,7 +34,7 @@ pub fn first_of_names(alloc: Global, names: &Seen<'_>) -> Result<Items<Variable>
     let all = names.as_slice();
     let mut found = Items::new(alloc);
     for place in 0..all.len() {
-        put_first(alloc, names, &mut found, place, &all[place])?;
+        put_first(names, &mut found, place, &all[place])?;
     }
     Ok(found)
 }

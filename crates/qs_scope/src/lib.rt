@@ -8,6 +8,7 @@ mod in_expression;
 mod in_group;
 mod in_query;
 mod in_update;
+mod key;
 mod labels;
 pub mod laws;
 mod met;

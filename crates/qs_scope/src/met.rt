@@ -4,6 +4,7 @@ ghost use Rattle.std.specs.Prelude.{◌≡◌, ◌∷◌, [], ◌++◌, OnOk};
 ghost use Rattle.qs_scope.specs.Met as spec;
 
 use crate::seen::Seen;
+use qs_ast::shared::Shared;
 use qs_terms::Text;
 use std::alloc::{AllocError, Global};
 
@@ -25,14 +26,14 @@ impl<'a> Met<'a> {
     }
 
     /// One more name, which need not be new.
-    pub fn push(&mut self, name: &'a Text) -> Result<(), AllocError>
+    pub fn push(&mut self, name: &'a Shared<Text>) -> Result<(), AllocError>
         ensures { OnOk result (self.new ≡ record { names = self.old.names ++ name.now ∷ []; keeps = self.old.keeps }) }
     {
         self.names.push(name)
     }
 
     /// One more name, which has to be new.
-    pub fn add_new(&mut self, name: &'a Text) -> Result<(), AllocError>
+    pub fn add_new(&mut self, name: &'a Shared<Text>) -> Result<(), AllocError>
         ensures { OnOk result (self.new ≡ spec.add_new self.old name.now) }
     {
         let place = self.names.len();
@@ -40,10 +41,10 @@ impl<'a> Met<'a> {
     }
 
     /// One more label of the run that began at the place.
-    pub fn add_label(&mut self, start: usize, label: &'a Text) -> Result<(), AllocError>
+    pub fn add_label(&mut self, start: usize, label: &'a Shared<Text>) -> Result<(), AllocError>
         ensures { OnOk result (self.new ≡ spec.add_label start self.old label.now) }
     {
-        if self.names.is_before(start, label) {
+        if self.names.is_before(start, label.get().as_str()) {
             self.keeps = false;
         }
         self.names.push(label)

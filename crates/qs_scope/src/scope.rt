@@ -133,7 +133,7 @@ fn pattern<'a>(
             group(alloc, names, inner)
         }
         GraphPattern::Bind(_, variable) => {
-            let taken = names.is_from(start, &variable.name);
+            let taken = names.is_from(start, variable.text());
             push_variable(names, variable)?;
             Ok(!taken)
         }

@@ -7,7 +7,9 @@ ghost use Rattle.std.specs.BTreeMap.{get, Updates, IsUnchanged};
 ghost use Rattle.qs_scope.specs.Names.{contains};
 ghost use Rattle.qs_scope.specs.Places.{first_with, place_of};
 
+use crate::key::{Key, key_of};
 use crate::name::Name;
+use qs_ast::shared::Shared;
 use qs_terms::Text;
 use std::alloc::{AllocError, Global};
 use std::collections::BTreeMap;
@@ -24,7 +26,7 @@ struct Places {
 #[derive(Drop)]
 pub struct Seen<'a> {
     names: Vec<Name<'a>>,
-    index: BTreeMap<Name<'a>, Places>,
+    index: BTreeMap<Key<'a>, Places>,
 }
 
 impl<'a> Model for Seen<'a> {
@@ -43,7 +45,7 @@ impl<'a> Model for Seen<'a> {
 }
 
 // The first place of the name, or the one that is given where it has none.
-fn first_place<'a>(index: &BTreeMap<Name<'a>, Places>, name: &Name<'a>, last: usize) -> usize
+fn first_place<'a>(index: &BTreeMap<Key<'a>, Places>, name: &Key<'a>, last: usize) -> usize
     ensures { result ≡ first_with last (get (slice_cmp nat_cmp) index.now name.now) }
 {
     match index.get(name) {
@@ -54,8 +56,8 @@ fn first_place<'a>(index: &BTreeMap<Name<'a>, Places>, name: &Name<'a>, last: us
 
 // The name stands at the place too: it is its last, and where it has none before also its first.
 fn meet<'a>(
-    index: &mut BTreeMap<Name<'a>, Places>,
-    name: Name<'a>,
+    index: &mut BTreeMap<Key<'a>, Places>,
+    name: Key<'a>,
     place: usize,
 ) -> Result<(), AllocError>
     ensures met { OnOk result (Updates (slice_cmp nat_cmp) index.old index.new name.entry (Some (record { first = first_with place (get (slice_cmp nat_cmp) index.old name.entry); last = place }))) }
@@ -97,12 +99,12 @@ impl<'a> Seen<'a> {
         self.names.as_slice()
     }
 
-    pub fn push(&mut self, name: &'a Text) -> Result<(), AllocError>
+    pub fn push(&mut self, name: &'a Shared<Text>) -> Result<(), AllocError>
         ensures { OnOk result (self.new ≡ self.old ++ name.now ∷ []) }
     {
         let place = self.names.len();
         self.names.push(Name::new(name))?;
-        match meet(&mut self.index, Name::new(name), place) {
+        match meet(&mut self.index, key_of(name), place) {
             Ok(()) => Ok(()),
             Err(_) => {
                 self.names.pop();
@@ -112,36 +114,36 @@ impl<'a> Seen<'a> {
     }
 
     /// The place at which the name was first met; the count of all where it wasn't.
-    pub fn place(&self, name: &'a Text) -> usize
+    pub fn place(&self, name: &'a str) -> usize
         ensures { result ≡ place_of self.now name.now }
     {
         let last = self.names.len();
-        first_place(&self.index, &Name::new(name), last)
+        first_place(&self.index, &Key::new(name), last)
     }
 
     /// Whether the name was met.
     #[tactic(auto, using(crate::proofs::FirstsKept::whole))]
-    pub fn contains(&self, name: &'a Text) -> bool
+    pub fn contains(&self, name: &'a str) -> bool
         ensures { result ≡ Rattle.qs_scope.specs.Names.contains self.now name.now }
     {
         self.is_before(self.len(), name)
     }
 
     /// Whether the name was met before the place.
-    pub fn is_before(&self, place: usize, name: &'a Text) -> bool
+    pub fn is_before(&self, place: usize, name: &'a str) -> bool
         ensures { result ≡ contains (take place self.now) name.now }
     {
-        match self.index.get(&Name::new(name)) {
+        match self.index.get(&Key::new(name)) {
             Some(places) => places.first < place,
             None => false,
         }
     }
 
     /// Whether the name was met at the place or later.
-    pub fn is_from(&self, place: usize, name: &'a Text) -> bool
+    pub fn is_from(&self, place: usize, name: &'a str) -> bool
         ensures { result ≡ contains (drop place self.now) name.now }
     {
-        match self.index.get(&Name::new(name)) {
+        match self.index.get(&Key::new(name)) {
             Some(places) => place <= places.last,
             None => false,
         }

@@ -23,20 +23,20 @@ use Rattle.qs_select.specs.declared.selection.Selection.{Selection}
 use Rattle.qs_select.proofs.Ordered.{rows_in_order, constructed, has_any, counted}
 use Rattle.qs_select.proofs.Fronts.{rows_from_front, graph_from_front}
 
-same_of_all : (rows all rest : List Solution) → SameBag all (rows ++ rest) → rest ≡ [] → SameBag rows all
+pub same_of_all : (rows all rest : List Solution) → SameBag all (rows ++ rest) → rest ≡ [] → SameBag rows all
 same_of_all rows all rest h e = IsPermutation-sym all rows (subst (SameBag all) (ap (λ l. rows ++ l) e ∙ append-nil rows) h)
 
 -- ---- a part of more solutions
 
 module _ (slice : Slice) (xs ys : List Solution) where
-  part_same : (limit : ℕ) → slice.limit ≡ Some limit → slice.offset + limit ≤ length xs → sliced slice xs ≡ sliced slice (xs ++ ys)
+  pub part_same : (limit : ℕ) → slice.limit ≡ Some limit → slice.offset + limit ≤ length xs → sliced slice xs ≡ sliced slice (xs ++ ys)
   part_same limit e h =
       let behind : drop slice.offset (xs ++ ys) ≡ drop slice.offset xs ++ ys = drop-append-le slice.offset xs ys (omega (arith, h)) in
       let within : take limit (drop slice.offset xs ++ ys) ≡ take limit (drop slice.offset xs) = take-append-le limit (drop slice.offset xs) ys (omega (arith, h, length-drop slice.offset xs)) in
       ap (λ (l : Option ℕ). limited l (drop slice.offset xs)) e ∙ (sym (ap (take limit) behind ∙ within) ∙ sym (ap (λ (l : Option ℕ). limited l (drop slice.offset (xs ++ ys))) e))
 
 -- there are too many of so many
-too_many : (slice : Slice) (xs : List Solution) (max_rows : ℕ) → AllowsMore slice.limit max_rows → slice.offset + max_rows < length xs → max_rows < length (sliced slice xs)
+pub too_many : (slice : Slice) (xs : List Solution) (max_rows : ℕ) → AllowsMore slice.limit max_rows → slice.offset + max_rows < length xs → max_rows < length (sliced slice xs)
 too_many slice xs max_rows a h = at slice.limit a
   where
     at : (l : Option ℕ) → AllowsMore l max_rows → max_rows < length (limited l (drop slice.offset xs))
@@ -68,12 +68,12 @@ refused_graph : (asked : Construction) (next max_rows : ℕ) (all : List Solutio
 refused_graph asked next max_rows all o h (inl p) = p.1
 refused_graph asked next max_rows all o h (inr p) = absurd (omega (arith, h, p.0))
 
-weaker : {X : Type 0} (P Q : Outcome X → Type 0) → ((o : Outcome X) → P o → Q o) → (o : Outcome X) → OneOrWantOfMemory P o → OneOrWantOfMemory Q o
+pub weaker : {X : Type 0} (P Q : Outcome X → Type 0) → ((o : Outcome X) → P o → Q o) → (o : Outcome X) → OneOrWantOfMemory P o → OneOrWantOfMemory Q o
 weaker P Q f (Ok r) due = f (Ok r) due
 weaker P Q f (Err e) due = λ other. f (Err e) (due other)
 
 -- without conditions any order will do
-unordered : (conditions : List OrderCondition) (all : List Solution) → conditions ≡ [] → IsOrdered conditions all
+pub unordered : (conditions : List OrderCondition) (all : List Solution) → conditions ≡ [] → IsOrdered conditions all
 unordered conditions all e = subst (λ (cs : List OrderCondition). IsOrdered cs all) (sym e) (λ i j d l k. refl)
 
 -- what becomes of the front of some becomes of all

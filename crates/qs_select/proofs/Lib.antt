@@ -6,3 +6,5 @@ pub mod Once
 pub mod Ordered
 pub mod Rows
 pub mod Enough
+pub mod AnyOrder
+pub mod Columns

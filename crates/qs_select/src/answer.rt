@@ -1,6 +1,6 @@
 //! Queries over a view of the store.
 
-ghost use Rattle.std.specs.Prelude.{◌≡◌, IfOk, Ok};
+ghost use Rattle.std.specs.Prelude.{◌≡◌, [], IfOk, Ok};
 ghost use Rattle.std.specs.Option.{option_copied};
 ghost use Rattle.qs_eval.specs.inner.Lent.{lent};
 ghost use Rattle.qs_terms.specs.Bag.{SameBag, once};
@@ -8,7 +8,7 @@ ghost use Rattle.qs_terms.specs.Dataset.{graph_of};
 ghost use Rattle.qs_terms.specs.Outcome.{OneOrWantOfMemory};
 ghost use Rattle.qs_terms.specs.Statement.{same_statement};
 ghost use Rattle.qs_plan.specs.Seen.{seen, seen_of};
-ghost use Rattle.qs_plan.specs.Some.{AreSome};
+ghost use Rattle.qs_plan.specs.Some.{AreSome, AreSomeDistinct};
 ghost use Rattle.qs_select.specs.inner.InOrder as in_order;
 ghost use Rattle.qs_select.specs.Outcome.{IsSelected, IsBuilt, IsConstructed, IsAsked, IsAllSolutions, IsOutcomeOfQuery};
 ghost use Rattle.qs_select.specs.Sequence.{dataset_of, whole};
@@ -20,10 +20,11 @@ use crate::sequence::{
     enough, enough_for_slice, listed_rows, needed, needed_to_select, projected, put_in_order,
     sliced,
 };
+use crate::unordered::part_of;
 use qs_algebra::NamedPattern;
 use qs_answer::Answer;
 use qs_ast::query::Query;
-use qs_plan::some_solutions_seen;
+use qs_plan::{distinct_solutions_seen, some_solutions_seen};
 use qs_solutions::Row;
 use qs_store::View;
 use qs_template::{each_once, instances};
@@ -50,6 +51,28 @@ fn some_solutions<V: View>(
     )
 }
 
+// the terms of these variables in some of the solutions, each once
+fn some_distinct<V: View>(
+    alloc: Global,
+    pattern: &NamedPattern,
+    view: &V,
+    active: Option<&Term>,
+    columns: &[usize],
+    most: Option<u64>,
+) -> Result<Vec<Row>, AllocError>
+    ensures { IfOk result (λ rows. let set = seen_of (V.content view.now) (V.default_seen view.now) in AreSomeDistinct columns.now most rows.items (whole pattern.now set (graph_of set (option_copied active.entry)))) }
+{
+    distinct_solutions_seen(
+        alloc,
+        pattern.names.len(),
+        &pattern.pattern,
+        view,
+        active,
+        columns,
+        most,
+    )
+}
+
 // the sequence of the solutions in this order
 fn rows_of(
     alloc: Global,
@@ -68,7 +91,8 @@ fn rows_of(
     Ok(Items::from_vec(rows))
 }
 
-fn sequence<V: View>(
+// the solutions in an order of the conditions
+fn ordered<V: View>(
     alloc: Global,
     asked: &Selection,
     view: &V,
@@ -82,6 +106,56 @@ fn sequence<V: View>(
     let count = needed_to_select(asked);
     let front = put_in_order(alloc, asked.order.as_slice(), all.as_slice(), count)?;
     rows_of(alloc, asked, front, max_rows)
+}
+
+// some of the solutions, projected and without duplicates where these are eliminated: all, or as many rows as suffice
+fn listed<V: View>(
+    alloc: Global,
+    asked: &Selection,
+    view: &V,
+    active: Option<&Term>,
+    most: Option<u64>,
+) -> Result<Vec<Row>, AllocError>
+    ensures { IfOk result (λ rows. let set = seen_of (V.content view.now) (V.default_seen view.now) in in_order.AreListed asked.now most rows.items (whole asked.now.pattern set (graph_of set (option_copied active.entry)))) }
+{
+    if asked.is_distinct {
+        let columns = asked.columns.as_slice();
+        let rows = some_distinct(alloc, &asked.pattern, view, active, columns, most)?;
+        return Ok(rows);
+    }
+    let rows = some_solutions(alloc, &asked.pattern, view, active, most)?;
+    Ok(rows)
+}
+
+// the solutions in any order
+fn unordered<V: View>(
+    alloc: Global,
+    asked: &Selection,
+    view: &V,
+    active: Option<&Term>,
+    max_rows: u64,
+) -> Result<Items<Row>, QFault>
+    requires { asked.now.order ≡ [] }
+    ensures { let set = seen_of (V.content view.now) (V.default_seen view.now) in OneOrWantOfMemory (in_order.IsRows asked.now (whole asked.now.pattern set (graph_of set (option_copied active.entry))) max_rows) result }
+{
+    let most = enough_for_slice(asked.slice, asked.order.as_slice(), max_rows);
+    let rows = listed(alloc, asked, view, active, most)?;
+    part_of(alloc, asked, rows, max_rows)
+}
+
+fn sequence<V: View>(
+    alloc: Global,
+    asked: &Selection,
+    view: &V,
+    active: Option<&Term>,
+    max_rows: u64,
+) -> Result<Items<Row>, QFault>
+    ensures { let set = seen_of (V.content view.now) (V.default_seen view.now) in OneOrWantOfMemory (in_order.IsRows asked.now (whole asked.now.pattern set (graph_of set (option_copied active.entry))) max_rows) result }
+{
+    if asked.order.is_empty() {
+        return unordered(alloc, asked, view, active, max_rows);
+    }
+    ordered(alloc, asked, view, active, max_rows)
 }
 
 // the rows with the names of the variables

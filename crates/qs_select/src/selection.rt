@@ -45,8 +45,8 @@ fn those_among<'a>(
 {
     let mut vars = Items::new(alloc);
     for variable in variables {
-        if scope.contains(&variable.name) {
-            let name = variable.name.try_clone(alloc)?;
+        if scope.contains(variable.text()) {
+            let name = variable.name.get().try_clone(alloc)?;
             vars.push(name)?;
         }
     }
@@ -86,15 +86,13 @@ fn all_listed<'a>(
 }
 
 // the variable that an item lists
-fn item_variable(alloc: Global, item: &SelectItem) -> Result<Variable, AllocError>
+fn item_variable(item: &SelectItem) -> Result<Variable, AllocError>
     ensures { IfOk result (λ v. v ≡ spec.item_variable item.now) }
 {
-    let variable = match item {
-        SelectItem::Variable(variable) => variable,
-        SelectItem::As(_, variable) => variable,
-    };
-    let name = variable.name.try_clone(alloc)?;
-    Ok(Variable { name })
+    match item {
+        SelectItem::Variable(variable) => variable.share(),
+        SelectItem::As(_, variable) => variable.share(),
+    }
 }
 
 fn item_variables(alloc: Global, items: &[SelectItem]) -> Result<Items<Variable>, AllocError>
@@ -102,7 +100,7 @@ fn item_variables(alloc: Global, items: &[SelectItem]) -> Result<Items<Variable>
 {
     let mut variables = Items::new(alloc);
     for item in items {
-        let variable = item_variable(alloc, item)?;
+        let variable = item_variable(item)?;
         variables.push(variable)?;
     }
     Ok(variables)
@@ -114,7 +112,7 @@ fn names(alloc: Global, variables: &[Variable]) -> Result<Items<Text>, AllocErro
 {
     let mut names = Items::new(alloc);
     for variable in variables {
-        let name = variable.name.try_clone(alloc)?;
+        let name = variable.name.get().try_clone(alloc)?;
         names.push(name)?;
     }
     Ok(names)
@@ -153,7 +151,7 @@ fn numbers<'a>(
 {
     let mut columns = Items::new(alloc);
     for name in vars {
-        columns.push(names.place(name))?;
+        columns.push(names.place(name.as_str()))?;
     }
     Ok(columns)
 }

@@ -58,7 +58,7 @@ pub fn enough_for_slice(slice: Slice, conditions: &[OrderCondition], max_rows: u
     slice.offset.checked_add(limit)
 }
 
-/// How many of them suffice for the SELECT. Without duplicates all are needed: any of them may be one.
+/// How many of them suffice for a SELECT whose solutions are put in order. Without duplicates all are needed: any of them may be one.
 pub fn enough(asked: &Selection, max_rows: u64) -> Option<u64>
     ensures { IfSome result (AreEnough asked.now max_rows) }
 {

@@ -68,7 +68,7 @@ impl Row {
     pub fn unbound(alloc: Global, width: usize) -> Result<Row, AllocError>
         ensures { IfOk result (λ r. r ≡ unbound width) }
     {
-        let mut cells = Vec::new(alloc);
+        let mut cells = Vec::with_capacity(alloc, width)?;
         for _ in 0..width {
             cells.push(None)?;
         }
@@ -114,7 +114,7 @@ impl Row {
     pub fn try_clone(&self, alloc: Global) -> Result<Row, AllocError>
         ensures { IfOk result (λ r. r ≡ self.now) }
     {
-        let mut cells = Vec::new(alloc);
+        let mut cells = Vec::with_capacity(alloc, self.cells.len())?;
         for cell in self.cells.as_slice() {
             let cell = copied(cell.as_ref())?;
             cells.push(cell)?;
@@ -126,7 +126,7 @@ impl Row {
     pub fn projected(&self, alloc: Global, columns: &[usize]) -> Result<Row, AllocError>
         ensures { IfOk result (λ r. r ≡ projected columns.now self.now) }
     {
-        let mut cells = Vec::new(alloc);
+        let mut cells = Vec::with_capacity(alloc, columns.len())?;
         for column in columns {
             let cell = copied(self.term(*column))?;
             cells.push(cell)?;
@@ -187,8 +187,9 @@ impl Row {
     pub fn merged(&self, alloc: Global, other: &Row) -> Result<Row, AllocError>
         ensures { IfOk result (λ r. r ≡ merge self.now other.now) }
     {
-        let mut cells = Vec::new(alloc);
-        for variable in 0..self.len().max(other.len()) {
+        let width = self.len().max(other.len());
+        let mut cells = Vec::with_capacity(alloc, width)?;
+        for variable in 0..width {
             let term = first_of(self.term(variable), other.term(variable));
             let cell = copied(term)?;
             cells.push(cell)?;

@@ -1,4 +1,3 @@
-pub mod Slices
 pub mod OneOutcome
 pub mod Remembers
 pub mod SomeOutcome

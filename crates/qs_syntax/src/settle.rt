@@ -69,11 +69,12 @@ fn is_variable(kind: Kind) -> bool
 
 #[tactic(auto, unfolding(crate::specs::Outcome::with_variable))]
 fn keep_variable(
-    names: &Names<'_>,
+    names: &mut Names<'_>,
     found: &mut Items<Variable>,
     token: &Token,
 ) -> Result<(), AllocError>
-    ensures { OnOk result (found.new ≡ spec.with_variable names.now found.old token.now) }
+    ensures found { OnOk result (found.new ≡ spec.with_variable names.old found.old token.now) }
+    ensures names { names.new ≡ names.old }
 {
     if !is_variable(token.kind) {
         return Ok(());
@@ -82,8 +83,12 @@ fn keep_variable(
     found.push(variable)
 }
 
-fn named(alloc: Global, names: &Names<'_>, tokens: &[Token]) -> Result<Items<Variable>, AllocError>
-    ensures { IfOk result (λ v. v ≡ spec.named names.now tokens.now) }
+fn named(
+    alloc: Global,
+    names: &mut Names<'_>,
+    tokens: &[Token],
+) -> Result<Items<Variable>, AllocError>
+    ensures { IfOk result (λ v. v ≡ spec.named names.old tokens.now) }
 {
     let mut found = Items::new(alloc);
     for token in tokens {
@@ -95,8 +100,8 @@ fn named(alloc: Global, names: &Names<'_>, tokens: &[Token]) -> Result<Items<Var
 fn variables(alloc: Global, text: &str, tokens: &[Token]) -> Result<Items<Variable>, AllocError>
     ensures { IfOk result (λ v. v ≡ spec.variables_of text.now tokens.now) }
 {
-    let names = Names::new(alloc, text);
-    named(alloc, &names, tokens)
+    let mut names = Names::new(alloc, text);
+    named(alloc, &mut names, tokens)
 }
 
 // where a limit is passed none, since what comes of it is a fault

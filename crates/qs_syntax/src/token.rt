@@ -1,18 +1,17 @@
 //! The tokens of a text, by kind.
 
-ghost use Rattle.std.specs.Prelude.{◌≡◌, ◌<◌, length, map, All, IfOk, IfErr, MatchResult};
+ghost use Rattle.std.specs.Prelude.{◌≡◌, ◌≤◌, ◌+◌, length, MatchResult};
 ghost use Rattle.qs_lex.specs.Fault.{IsFaultOf};
 ghost use Rattle.qs_lex.specs.Lexes.{lexeme};
-ghost use Rattle.qs_lex.specs.Place.{IsSliceOf};
 ghost use Rattle.qs_syntax.specs.Kinds.{kind_of, token_of};
 ghost use Rattle.qs_syntax.specs.Text.{AreTokensOf};
 
-use qs_lex::Class;
+use qs_lex::{Class, Lexer};
 use qs_terms::QFault;
 use qs_tree::kind::Kind;
 use qs_tree::token::{Span, Token};
 use qs_tree::words::{mark_kind, word_kind};
-use std::alloc::{AllocError, Global};
+use std::alloc::Global;
 
 fn kind_of(class: Class, text: &str) -> Kind
     ensures { result ≡ kind_of class text.now }
@@ -35,7 +34,7 @@ fn kind_of(class: Class, text: &str) -> Kind
 }
 
 fn token_of(text: &str, t: &qs_lex::Token<'_>) -> Token
-    requires { IsSliceOf text.now t.now }
+    requires { t.now.place + length t.now.text.now ≤ length text.now }
     ensures { result ≡ token_of (lexeme t.now) }
 {
     let _ends_within = text.len();
@@ -48,23 +47,6 @@ fn token_of(text: &str, t: &qs_lex::Token<'_>) -> Token
     }
 }
 
-fn tokens_of(
-    alloc: Global,
-    text: &str,
-    lexemes: &[qs_lex::Token<'_>],
-) -> Result<Vec<Token>, AllocError>
-    requires { All (IsSliceOf text.now) lexemes.now }
-    ensures kinds { IfOk result (λ v. v.items ≡ map token_of (map lexeme lexemes.now)) }
-    ensures kept { IfErr result (λ _. 0 < length lexemes.now) }
-{
-    let mut tokens = Vec::with_capacity(alloc, lexemes.len())?;
-    for i in 0..lexemes.len() {
-        let next = token_of(text, &lexemes[i]);
-        tokens.push(next)?;
-    }
-    Ok(tokens)
-}
-
 /// The tokens of a text by kind, each with the bytes of the text where it stands.
 ///
 /// # Errors
@@ -73,6 +55,13 @@ fn tokens_of(
 pub fn tokens(alloc: Global, text: &str) -> Result<Vec<Token>, QFault>
     ensures { MatchResult result (λ v. AreTokensOf text.now v.items) (λ fault. IsFaultOf text.now fault) }
 {
-    let lexemes = qs_lex::tokens(alloc, text)?;
-    Ok(tokens_of(alloc, text, &lexemes)?)
+    let mut tokens = Vec::new(alloc);
+    let mut lexer = Lexer::new(text);
+    'tokens: loop {
+        match lexer.next() {
+            Ok(Some(lexeme)) => tokens.push(token_of(text, &lexeme))?,
+            Ok(None) => return Ok(tokens),
+            Err(place) => return Err(QFault::Syntax { place }),
+        }
+    }
 }

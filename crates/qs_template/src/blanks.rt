@@ -58,7 +58,10 @@ impl<'a> Blanks<'a> {
         ensures { result ≡ spec.number_in self.now blank.now }
     {
         match blank {
-            BlankNode::Label(label) => self.labels.get(&label).copied(),
+            BlankNode::Label(label) => {
+                let text = label.get();
+                self.labels.get(&text).copied()
+            }
             BlankNode::Anonymous(place) => self.anonymous.get(place).copied(),
         }
     }
@@ -112,7 +115,7 @@ impl<'a> Blanks<'a> {
     {
         let number = self.len();
         match blank {
-            BlankNode::Label(label) => self.put_label(blank, label, number),
+            BlankNode::Label(label) => self.put_label(blank, label.get(), number),
             BlankNode::Anonymous(place) => self.put_anonymous(blank, *place, number),
         }
     }

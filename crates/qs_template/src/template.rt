@@ -90,7 +90,7 @@ fn term_slot<'a>(
     ensures { IfOk result (λ s. s ≡ spec.term_slot names.now blanks.now term.now) }
 {
     match term {
-        TermPattern::Variable(variable) => Ok(Slot::Variable(names.place(&variable.name))),
+        TermPattern::Variable(variable) => Ok(Slot::Variable(names.place(variable.text()))),
         TermPattern::Iri(iri) => iri_slot(alloc, iri),
         TermPattern::Literal(literal) => literal_slot(alloc, literal),
         TermPattern::Blank(blank) => Ok(blank_slot(blanks, blank)),
@@ -105,7 +105,7 @@ fn verb_slot<'a>(
     ensures { IfOk result (λ s. s ≡ spec.verb_slot names.now verb.now) }
 {
     match verb {
-        Verb::Variable(variable) => Ok(Some(Slot::Variable(names.place(&variable.name)))),
+        Verb::Variable(variable) => Ok(Some(Slot::Variable(names.place(variable.text())))),
         Verb::Iri(iri) => Ok(Some(iri_slot(alloc, iri)?)),
         Verb::Path(_) => Ok(None),
     }
@@ -121,7 +121,7 @@ fn graph_slot<'a>(
     match graph {
         None => Ok(None),
         Some(VarOrIri::Variable(variable)) => {
-            Ok(Some(Slot::Variable(names.place(&variable.name))))
+            Ok(Some(Slot::Variable(names.place(variable.text()))))
         }
         Some(VarOrIri::Iri(iri)) => Ok(Some(iri_slot(alloc, iri)?)),
     }

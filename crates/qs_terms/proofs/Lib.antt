@@ -6,3 +6,4 @@ pub mod FirstOnes
 pub mod DatasetSteps
 pub mod Puts
 pub mod Datatypes
+pub mod Behind

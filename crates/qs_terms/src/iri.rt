@@ -96,12 +96,37 @@ fn check(bytes: &[u8]) -> Result<(), TermFault>
     Ok(())
 }
 
+// As `check`, where the bytes may begin with an IRI: then only what stands behind it is looked through.
+#[tactic(auto, using(crate::proofs::Behind::behind_scheme, crate::proofs::Behind::behind_excluded))]
+fn check_behind(front: &Iri, bytes: &[u8]) -> Result<(), TermFault>
+    ensures answer { MatchResult result (λ _. checked_iri bytes.now ≡ Ok bytes.now) (λ f. checked_iri bytes.now ≡ Err f) }
+    ensures lawful { OnOk result (IsTrue (is_iri_text bytes.now)) }
+{
+    let Some(rest) = bytes.strip_prefix(front.text().as_bytes()) else {
+        return check(bytes);
+    };
+    if has_excluded(rest) {
+        return Err(TermFault::BadChar);
+    }
+    Ok(())
+}
+
 impl Iri {
     /// The IRI of a text. A missing scheme is told before an excluded character; neither takes memory.
     pub fn new(alloc: Global, text: Text) -> Result<Iri, TermFault>
         ensures { ValueOrWantOf Memory (checked_iri text) result }
     {
         check(text.as_str().as_bytes())?;
+        let text = Shared::new(alloc, text)?;
+        Ok(Iri { text })
+    }
+
+    /// The IRI of a text, as by `new`. Where the text begins with the given IRI, as that of a prefixed name does, only what stands
+    /// behind is looked through.
+    pub fn behind(alloc: Global, front: &Iri, text: Text) -> Result<Iri, TermFault>
+        ensures { ValueOrWantOf Memory (checked_iri text) result }
+    {
+        check_behind(front, text.as_str().as_bytes())?;
         let text = Shared::new(alloc, text)?;
         Ok(Iri { text })
     }

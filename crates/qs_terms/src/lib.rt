@@ -3,7 +3,7 @@
 //! A term is an IRI, a blank node or a literal, and a quad is a triple with the name of its graph. `dataset` reads lists of
 //! quads as sets. Texts are seen as their bytes. `fault` has why a term or a request is refused, and `device` the devices that
 //! take and give bytes and count their faults. `datatype` has the IRIs of the datatypes that the rules name, which literals
-//! keep by their names.
+//! keep by their names. `Recent` has IRIs that were read not long ago.
 //!
 //! The definitions stand in `specs/`: lawful texts in `Iri.antt`, `Tag.antt` and `Literal.antt`, datatypes in `Datatype.antt`,
 //! terms in `Term.antt`, quads in `Statement.antt`, bags in `Bag.antt`, names and nodes in `Dataset.antt`, devices in
@@ -18,6 +18,7 @@ mod fault;
 mod iri;
 mod literal;
 mod quad;
+mod recent;
 mod tag;
 mod term;
 mod text;
@@ -27,5 +28,6 @@ pub use fault::{QFault, TermFault};
 pub use iri::Iri;
 pub use literal::Lit;
 pub use quad::Quad;
+pub use recent::Recent;
 pub use term::Term;
 pub use text::Text;

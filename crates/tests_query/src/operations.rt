@@ -27,7 +27,7 @@ const TEXT: &str =
 fn text_of_graph(block: &QuadBlock) -> &str {
     match &block.graph {
         None => "",
-        Some(VarOrIri::Variable(variable)) => variable.name.as_str(),
+        Some(VarOrIri::Variable(variable)) => variable.text(),
         Some(VarOrIri::Iri(iri)) => iri.text(),
     }
 }

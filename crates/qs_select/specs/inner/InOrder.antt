@@ -1,9 +1,10 @@
 -- The sequence of solutions that stand in some order already.
-use Rattle.std.specs.Prelude.{◌≡◌, ◌⊎◌, ◌<◌, ◌≤◌, ℕ, ◌+◌, false, nat_lt, List, [], length, Option, Some, None, Ok, Err, if◌then◌else◌}
+use Rattle.std.specs.Prelude.{◌≡◌, ◌⊎◌, ◌<◌, ◌≤◌, ℕ, ◌+◌, Bool, true, false, nat_lt, List, [], ◌++◌, length, map, get_or, Option, Some, None, Ok, Err, if◌then◌else◌}
 use Rattle.qs_terms.specs.Bag.{SameBag}
 use Rattle.qs_terms.specs.Outcome.{Outcome, and_then}
 use Rattle.qs_terms.specs.declared.fault.QFault.TheVariants.{TooManyRows}
-use Rattle.qs_solutions.specs.Solution.{Solution}
+use Rattle.qs_solutions.specs.Solution.{Solution, projected}
+use Rattle.qs_plan.specs.Some.{is_enough}
 use Rattle.qs_answer.specs.declared.answer.Answer.{Answer}
 use Rattle.qs_answer.specs.declared.answer.Answer.TheVariants.{Solutions}
 use Rattle.qs_order.specs.declared.condition.OrderCondition.{OrderCondition}
@@ -71,3 +72,20 @@ bounded max_rows all = if nat_lt max_rows (length all) then Err TooManyRows else
 -- the same of the solutions in some order
 abbrev pub AreFew : List Solution → ℕ → Outcome (List Solution) → Type 0
 AreFew solutions max_rows outcome = (all : List Solution) × SameBag all solutions × (outcome ≡ bounded max_rows all)
+
+-- ---- without conditions
+
+-- the variables are the first ones, in order
+abbrev pub AreFirstColumns : List ℕ → Type 0
+AreFirstColumns columns = (i : ℕ) → i < length columns → get_or columns i 0 ≡ i
+
+-- the rows with the terms of the variables of the answer alone, which rows without duplicates are already
+abbrev pub projected_where : Bool → List ℕ → List Solution → List Solution
+projected_where true columns rows = rows
+projected_where false columns rows = map (projected columns) rows
+
+-- the rows are some of the solutions, as they are listed: all, unless the rows suffice
+abbrev pub AreListed : Selection → Option ℕ → List Solution → List Solution → Type 0
+AreListed asked most rows solutions =
+    (some rest : List Solution) × SameBag solutions (some ++ rest) × (projected_where asked.is_distinct asked.columns rows ≡ listed_rows asked some)
+    × ((rest ≡ []) ⊎ (is_enough most (length rows) ≡ true))

@@ -1,14 +1,18 @@
 use Rattle.std.proofs.Common.{◌++◌, ◌∷◌, [], ap, sym, ◌∙◌}
 use Rattle.std.specs.BTreeMap.{insert_entry}
-use Rattle.qs_paths.proofs.Keyed.{order}
-use Rattle.qs_eval.proofs.KeyedRows.{put_there, put_new}
+use Rattle.std.specs.Prelude.{if◌then◌else◌}
+use Rattle.qs_terms.specs.Term.{same_term}
+use Rattle.qs_eval.specs.inner.Keyed.{at_term}
+use Rattle.qs_eval.proofs.KeyedRows.{order, put_there, put_new}
 use Rattle.qs_eval.proofs.keyed.put.Goals as goal
 
 pub returns-in-Some : goal.returns-in-Some
-returns-in-Some c =
-    put_there c.args.term.now c.args.row c.args.map.now.entries _ c.in-Some.there.now c.push.new.self (sym c.in-Some.ensures.value) c.in_ok-push.ensures.items (c.get_mut.follows.holds c.push.new.self).0
+returns-in-Some c x =
+    put_there c.new-key.result c.args.row c.args.map.now.entries _ c.in-Some.there.now c.push.new.self (sym c.in-Some.ensures.value) c.in_ok-push.ensures.items (c.get_mut.follows.holds c.push.new.self).0 x
+    ∙ ap (λ k. at_term c.args.map.now.entries x ++ (if same_term x k then c.args.row.now ∷ [] else [])) (c.new-key.ensures ∙ c.in_ok-try_clone.ensures)
 
 pub returns : goal.returns
-returns c =
-    put_new c.args.term.now c.args.row c.args.map.now.entries c.insert.new.self.entries c.push-2.new.self (sym c.in_default.ensures.value) (c.in_ok-push-2.ensures.items ∙ ap (λ l. l ++ c.args.row ∷ []) c.new-there.ensures.items)
-    (c.in_ok-insert.ensures.entries ∙ (ap (λ m. insert_entry order m.entries c.in_ok-term.term c.push-2.new.self) c.get_mut.follows.holds-at-none ∙ ap (λ k. insert_entry order c.args.map.now.entries k c.push-2.new.self) c.in_ok-term.ensures))
+returns c x =
+    put_new c.new-key.result c.args.row c.args.map.now.entries c.insert.new.self.entries c.push-2.new.self (sym c.in_default.ensures.value) (c.in_ok-push-2.ensures.items ∙ ap (λ l. l ++ c.args.row ∷ []) c.new-there.ensures.items)
+    (c.in_ok-insert.ensures.entries ∙ ap (λ m. insert_entry order m.entries c.new-key.result c.push-2.new.self) c.get_mut.follows.holds-at-none) x
+    ∙ ap (λ k. at_term c.args.map.now.entries x ++ (if same_term x k then c.args.row.now ∷ [] else [])) (c.new-key.ensures ∙ c.in_ok-try_clone.ensures)

@@ -1,10 +1,10 @@
-use Rattle.std.proofs.Common.{◌++◌, map, length}
-use Rattle.qs_terms.specs.Bag.{SameBag}
+use Rattle.std.proofs.Common.{map, length}
 use Rattle.qs_groups.specs.Stages.{coming, kept_of}
+use Rattle.qs_plan.specs.inner.Collected.{IsPart}
 use Rattle.qs_plan.proofs.group.finished.Given as goal
 
 abbrev pub invariant-search : goal.invariant-search
-invariant-search l = SameBag (coming (map kept_of l.stages) l.fn.waiting.items) (l.rows.items ++ coming (map kept_of l.stages) l.waiting.items)
+invariant-search l = IsPart l.fn.found (coming (map kept_of l.stages) l.fn.waiting.items) l.found (coming (map kept_of l.stages) l.waiting.items)
 
 abbrev pub decreases-search : goal.decreases-search
 decreases-search l = length (coming (map kept_of l.stages) l.waiting.items)

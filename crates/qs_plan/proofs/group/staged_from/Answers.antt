@@ -6,6 +6,6 @@ use Rattle.qs_plan.proofs.group.staged_from.Goals as goal
 
 pub returns : goal.returns
 returns g c =
-    from_two c.args.most (map kept_of c.as_slice-2.result.now) c.args.all.now c.in_ok-rows.rows.items (ap (map kept_of) c.as_slice-2.ensures.value ∙ c.in_ok-stages.ensures) c.in_ok-has_first.has_first c.in_ok-has_second.has_second
+    from_two c.args.found.now (map kept_of c.as_slice-stages.result.now) c.args.all.now c.searched.new.found (ap (map kept_of) c.as_slice-stages.ensures.value ∙ c.in_ok-stages.ensures) c.in_ok-has_first.has_first c.in_ok-has_second.has_second
     (map (front c.args.width c.args.width) c.args.matches.now.rows) (map (front c.args.width c.args.width) c.take.new.matches.rows) (map (front c.args.width c.args.width) c.take-2.new.matches.rows)
-    c.new-first.result.items c.take.new.waiting.items c.new-waiting.result.items c.take-2.new.waiting.items c.append.new.self.items c.new-first.ensures.items c.new-waiting.ensures.items c.in_ok-has_first.ensures.took c.in_ok-has_second.ensures.took c.in_ok-append.ensures.items c.in_ok-rows.ensures
+    c.new-first.result.items c.take.new.waiting.items c.new-waiting.result.items c.take-2.new.waiting.items c.append.new.self.items c.new-first.ensures.items c.new-waiting.ensures.items c.in_ok-has_first.ensures.took c.in_ok-has_second.ensures.took c.in_ok-append.ensures.items c.in_ok-searched.ensures

@@ -16,10 +16,10 @@ pub returns-then-not-all_keep_dropped : goal.returns-then-not-all_keep_dropped
 returns-then-not-all_keep_dropped g c =
     let f : List Solution → Step → List Solution = λ left s. step c.args.width (g.V.View.content c.args.view.now).quads s (active_graph (g.V.View.content c.args.view.now) (g.V.View.default_seen c.args.view.now) c.args.active) left in
     let found : List Solution = map (front c.args.width c.args.width) c.in_ok-matches.matches.rows in
-    some_kept c.args.most c.in_ok-all.all.items (λ xs. kept c.args.conditions.now (fold f xs c.args.steps.now)) c.in_ok-rows.rows.items found (map (take c.args.width) (matches c.args.whole c.args.triples.now (active_graph (g.V.View.content c.args.view.now) (g.V.View.default_seen c.args.view.now) c.args.active))) c.in_ok-all.ensures
-    (found_rows c.args.width c.args.whole c.args.triples.now (active_graph (g.V.View.content c.args.view.now) (g.V.View.default_seen c.args.view.now) c.args.active) c.in_ok-matches.matches.rows found c.requires c.in_ok-matches.ensures.rows (IsPermutation-refl found)) (rw c.as_slice.ensures.value at c.in_ok-rows.ensures)
+    some_kept c.args.found.now c.in_ok-all.all.items (λ xs. kept c.args.conditions.now (fold f xs c.args.steps.now)) c.staged_from.new.found found (map (take c.args.width) (matches c.args.whole c.args.triples.now (active_graph (g.V.View.content c.args.view.now) (g.V.View.default_seen c.args.view.now) c.args.active))) c.in_ok-all.ensures
+    (found_rows c.args.width c.args.whole c.args.triples.now (active_graph (g.V.View.content c.args.view.now) (g.V.View.default_seen c.args.view.now) c.args.active) c.in_ok-matches.matches.rows found c.requires c.in_ok-matches.ensures.rows (IsPermutation-refl found)) (rw c.as_slice.ensures.value at c.in_ok-staged_from.ensures)
 
 pub returns : goal.returns
 returns g c =
-    some_wanted c.args.most c.args.width c.args.whole (g.V.View.content c.args.view.now).quads (active_graph (g.V.View.content c.args.view.now) (g.V.View.default_seen c.args.view.now) c.args.active) c.args.conditions.now c.args.steps.now c.in_ok-all.all.items c.args.triples.now c.in_ok-matches-2.matches.rows c.in_ok-rows-2.rows.items
-    c.in_ok-all.ensures c.requires (c.all_keep_dropped.ensures c.if-not-all_keep_dropped.false) c.in_ok-matches-2.ensures.rows (rw c.as_slice-2.ensures.value at c.in_ok-rows-2.ensures)
+    some_wanted c.args.found.now c.args.width c.args.whole (g.V.View.content c.args.view.now).quads (active_graph (g.V.View.content c.args.view.now) (g.V.View.default_seen c.args.view.now) c.args.active) c.args.conditions.now c.args.steps.now c.in_ok-all.all.items c.args.triples.now c.in_ok-matches-2.matches.rows c.staged_from-2.new.found
+    c.in_ok-all.ensures c.requires (c.all_keep_dropped.ensures c.if-not-all_keep_dropped.false) c.in_ok-matches-2.ensures.rows (rw c.as_slice-2.ensures.value at c.in_ok-staged_from-2.ensures)

@@ -5,7 +5,8 @@ use Rattle.qs_eval.specs.inner.Lent.{lent}
 use Rattle.qs_eval.proofs.Same.{same_solution-Decides}
 use Rattle.qs_eval.proofs.Known.{was_new, was_known, on_false}
 use Rattle.qs_select.proofs.Cells.{read, order, reads}
-use Rattle.qs_select.proofs.Known.{kept_new, kept_known, knows_more, knows_still, lent_taken_more, lent_more}
+use Rattle.qs_plan.proofs.Known.{kept_new, kept_known, knows_more, knows_still}
+use Rattle.qs_select.proofs.Known.{lent_taken_more, lent_more}
 use Rattle.qs_select.proofs.distinct.firsts.Goals.{then-branch+in_ok-push, else-branch}
 use Rattle.qs_select.proofs.distinct.firsts.Goals as goal
 

@@ -4,7 +4,7 @@ use Rattle.qs_solutions.specs.Solution.{projected, same_solution}
 use Rattle.qs_eval.specs.inner.Lent.{lent}
 use Rattle.qs_eval.proofs.Same.{same_solution-Decides}
 use Rattle.qs_select.proofs.Cells.{read, order, reads}
-use Rattle.qs_select.proofs.Known.{Knows}
+use Rattle.qs_plan.proofs.Known.{Knows}
 use Rattle.qs_select.proofs.distinct.firsts.Given as goal
 
 abbrev pub invariant-loop-row : goal.invariant-loop-row

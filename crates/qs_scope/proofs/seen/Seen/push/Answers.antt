@@ -18,6 +18,6 @@ invariant_of-self-in-Ok c =
     let items : c.push.new.self.items ≡ names ++ name ∷ [] = with_name names c.in_ok-push.ensures.items c.new.ensures in
     let updated : (q : Name) → get (slice_cmp nat_cmp) c.meet.new.index q ≡ cond (is_at (slice_cmp nat_cmp name) q) (Some places) (old q) =
     λ q. c.in-Ok.ensures.met.0 q
-    ∙ ap (λ k. cond (is_at (slice_cmp nat_cmp k) q) (Some (record { first = first_with c.len-place.result (old k); last = c.len-place.result })) (old q)) c.new-2.ensures
+    ∙ ap (λ k. cond (is_at (slice_cmp nat_cmp k) q) (Some (record { first = first_with c.len-place.result (old k); last = c.len-place.result })) (old q)) c.key_of.ensures
     ∙ ap (λ n. cond (is_at (slice_cmp nat_cmp name) q) (Some (record { first = first_with n (old name); last = n })) (old q)) place in
     rw items (index_with names name old (get (slice_cmp nat_cmp) c.meet.new.index) c.self.invariant places refl refl updated)
