@@ -66,7 +66,7 @@ one_waits i first ws new rows left all m h e f =
 pub all_wait : (i : ℕ) (first ws : List Waiting) (rows all : List Solution) → SameBag (ws ++ map (before i) rows) (first ++ map (before i) all) → rows ≡ [] → SameBag ws (first ++ map (before i) all)
 all_wait i first ws rows all h e = subst (λ xs. SameBag xs (first ++ map (before i) all)) (ap (λ xs. ws ++ map (before i) xs) e ∙ append-nil ws) h
 
-same : (xs ys : List Solution) → xs ≡ ys → SameBag xs ys
+pub same : {X : Type 0} (xs ys : List X) → xs ≡ ys → SameBag xs ys
 same xs ys e = subst (SameBag xs) e (IsPermutation-refl xs)
 
 -- rows that wait before one place

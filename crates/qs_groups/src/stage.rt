@@ -1,10 +1,10 @@
-//! What one step of a group makes of a solution (SPARQL 1.1 Query, 18.5).
+//! The steps of a group with the solutions of their right sides by their terms.
 
-ghost use Rattle.std.specs.Prelude.{◌≡◌, ◌++◌, map, IfOk, OnOk};
-ghost use Rattle.qs_groups.specs.Stages.{kept_of, made};
+ghost use Rattle.std.specs.Prelude.{◌≡◌, map, IfOk};
+ghost use Rattle.qs_groups.specs.Stages.{kept_of};
 
 use crate::kept::Kept;
-use qs_eval::{Keyed, bind_value, put_joined, put_kept, put_left_joined, takes_away};
+use qs_eval::Keyed;
 use qs_expr::Expr;
 use qs_solutions::Row;
 use std::alloc::{AllocError, Global};
@@ -17,44 +17,6 @@ pub enum Stage<'a> {
     Minus(Keyed<'a>),
     Extend(usize, &'a Expr),
     Filter(&'a [Expr]),
-}
-
-/// Puts what the stage makes of the row behind the others.
-fn put_made(
-    alloc: Global,
-    stage: &Stage<'_>,
-    mut row: Row,
-    rows: &mut Vec<Row>,
-) -> Result<(), AllocError>
-    ensures { OnOk result (rows.new.items ≡ rows.old.items ++ made (kept_of stage.now) row) }
-{
-    match stage {
-        Stage::Join(right) => put_joined(alloc, &row, right, rows),
-        Stage::LeftJoin(right, conditions) => {
-            put_left_joined(alloc, &row, right, *conditions, rows)
-        }
-        Stage::Minus(right) => {
-            if !takes_away(right, &row) {
-                rows.push(row)?;
-            }
-            Ok(())
-        }
-        Stage::Extend(variable, expr) => {
-            bind_value(alloc, *variable, *expr, &mut row)?;
-            rows.push(row)?;
-            Ok(())
-        }
-        Stage::Filter(conditions) => put_kept(alloc, row, *conditions, rows),
-    }
-}
-
-/// What the stage makes of the row.
-pub(crate) fn made(alloc: Global, stage: &Stage<'_>, row: Row) -> Result<Vec<Row>, AllocError>
-    ensures { IfOk result (λ rows. rows.items ≡ made (kept_of stage.now) row) }
-{
-    let mut rows = Vec::new(alloc);
-    put_made(alloc, stage, row, &mut rows)?;
-    Ok(rows)
 }
 
 /// The rows of a right side by their terms, unless a single row is joined to them.

@@ -1,10 +1,11 @@
 //! The way of solutions through a list of stages.
 
-ghost use Rattle.std.specs.Prelude.{◌≡◌, ◌++◌, map, IfOk, OnOk};
+ghost use Rattle.std.specs.Prelude.{◌≡◌, ◌++◌, [], ◌∷◌, map, IfOk, OnOk};
 ghost use Rattle.qs_terms.specs.Bag.{SameBag};
-ghost use Rattle.qs_groups.specs.Stages.{GivesOne, IsMove, before, coming, kept_of};
+ghost use Rattle.qs_groups.specs.Stages.{GivesOne, IsMove, before, coming, kept_of, made};
 
-use crate::stage::{Stage, made};
+use crate::stage::Stage;
+use qs_eval::{bind_value, put_joined, put_kept, put_left_joined, takes_away};
 use qs_solutions::Row;
 use sqlite_items::at;
 use std::alloc::{AllocError, Global};
@@ -40,6 +41,47 @@ pub fn put_all(
     }
 }
 
+/// Has the row wait before the stage at this place.
+fn put_one(place: usize, row: Row, waiting: &mut Vec<Waiting>) -> Result<(), AllocError>
+    ensures { OnOk result (waiting.new.items ≡ waiting.old.items ++ before place row ∷ []) }
+{
+    waiting.push(Waiting { at: place, row })?;
+    Ok(())
+}
+
+/// Has what the stage makes of the row wait before the stage at this place (SPARQL 1.1 Query, 18.5). A row that alone can be made takes no
+/// list of its own.
+fn put_made(
+    alloc: Global,
+    stage: &Stage<'_>,
+    place: usize,
+    mut row: Row,
+    waiting: &mut Vec<Waiting>,
+) -> Result<(), AllocError>
+    ensures { OnOk result (SameBag waiting.new.items (waiting.old.items ++ map (before place) (made (kept_of stage.now) row))) }
+{
+    let mut rows = Vec::new(alloc);
+    match stage {
+        Stage::Join(right) => put_joined(alloc, &row, right, &mut rows)?,
+        Stage::LeftJoin(right, conditions) => {
+            put_left_joined(alloc, &row, right, *conditions, &mut rows)?;
+        }
+        Stage::Minus(right) => {
+            if !takes_away(right, &row) {
+                put_one(place, row, waiting)?;
+            }
+            return Ok(());
+        }
+        Stage::Extend(variable, expr) => {
+            bind_value(alloc, *variable, *expr, &mut row)?;
+            put_one(place, row, waiting)?;
+            return Ok(());
+        }
+        Stage::Filter(conditions) => put_kept(alloc, row, *conditions, &mut rows)?,
+    }
+    put_all(place, rows, waiting)
+}
+
 /// One move: the last row that waits goes through its stage, or is finished.
 fn advance(
     alloc: Global,
@@ -55,9 +97,8 @@ fn advance(
     let Some(stage) = at(stages, place) else {
         return Ok(Move::Gave(row));
     };
-    let rows = made(alloc, stage, row)?;
     let place = place.checked_add(1).ok_or(AllocError)?;
-    put_all(place, rows, waiting)?;
+    put_made(alloc, stage, place, row, waiting)?;
     Ok(Move::Moved)
 }
 

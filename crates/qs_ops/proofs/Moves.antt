@@ -1,5 +1,6 @@
 -- The cursors of a list of triple patterns, move by move.
-use Rattle.std.proofs.Common.{◌≡◌, ◌+◌, ◌<◌, ℕ, zero, suc, List, [], ◌∷◌, ◌++◌, length, drop, Some, None, refl, sym, ◌∙◌, ap, subst, append_assoc, append-nil, arith, slice_get}
+use Rattle.std.proofs.Common.{◌≡◌, ◌+◌, ◌-◌, ◌<◌, ◌≤◌, ℕ, zero, suc, List, [], ◌∷◌, ◌++◌, length, take, drop, Some, None, refl, sym, ◌∙◌, ap, subst, append_assoc, append-nil, length-append, arith, slice_get, slice_index_or, slice_set}
+use Rattle.std.proofs.lemmas.List.{take_all, take_more, take_more_set, take-set, length-set}
 use Rattle.std.specs.List.{flat_map}
 use Rattle.std.proofs.lemmas.List.Sorted.{IsPermutation-refl, IsPermutation-sym, IsPermutation-trans, IsPermutation-append_left, length_permutation}
 use Rattle.qs_terms.specs.Bag.{SameBag}
@@ -34,6 +35,12 @@ get_from [] zero k rest e = cc
 get_from [] (suc i) k rest e = cc
 get_from (q ∷ ks) zero k rest e = ap Some (let h : q ≡ k = cc in h)
 get_from (q ∷ ks) (suc i) k rest e = get_from ks i k rest e
+
+snoc_last : (xs ys : List Level) (x y : Level) → xs ++ x ∷ [] ≡ ys ++ y ∷ [] → x ≡ y
+snoc_last [] [] x y e = cc
+snoc_last [] (b ∷ ys) x y e = let h : 1 ≡ suc (length ys + 1) = ap length e ∙ ap suc (length-append ys (y ∷ [])) in absurd (omega (arith, h))
+snoc_last (a ∷ xs) [] x y e = let h : suc (length xs + 1) ≡ 1 = sym (ap suc (length-append xs (x ∷ []))) ∙ ap length e in absurd (omega (arith, h))
+snoc_last (a ∷ xs) (b ∷ ys) x y e = snoc_last xs ys x y (let h : xs ++ x ∷ [] ≡ ys ++ y ∷ [] = cc in h)
 
 pub get_within : (ks : List Seek) (i : ℕ) (k : Seek) → slice_get ks i ≡ Some k → i < length ks
 get_within [] i k e = cc
@@ -87,7 +94,7 @@ module _ (known : List Term) (s : Search) where
       subst (λ (i : ℕ). SameBag (here known s (drop i ks) l) (sifted known s ks (row_solution known l.row))) (sym z)
       (here_fresh ks l (fresh ks ks l (ap (λ i. drop i ks) z) (subst (λ i. IsOpen known s.graph ks i (row_solution known l.row) l.cursor) (sym z) o)))
 
-  -- the facts of one pop, over plain variables
+  -- the facts of one move, over plain variables
   pub gave : (ks : List Seek) (old ls : List Level) (l : Level) → old ≡ ls ++ l ∷ [] → slice_get ks l.at ≡ None → IsMove known s ks old (Gave l.row) ls
   gave ks old ls l e g = ap (coming known s ks) e ∙ (coming_push ks ls l ∙ ap (λ x. here known s x l ++ coming known s ks ls) (from_none ks l.at g))
 
@@ -100,30 +107,86 @@ module _ (known : List Term) (s : Search) where
       let m : moves known s ks old ≡ 1 + moves known s ks ls = ap (moves known s ks) e ∙ (moves_push ks ls l ∙ ap (λ x. x + moves known s ks ls) f) in
       (same _ _ (ap (coming known s ks) e ∙ (coming_push ks ls l ∙ ap (λ x. x ++ coming known s ks ls) h)), omega arith)
 
-  -- the row goes on at the next triple pattern
-  pub hit : (ks : List Seek) (old ls : List Level) (l n next : Level) (k : Seek) → old ≡ ls ++ l ∷ [] → n.at ≡ l.at → slice_get ks l.at ≡ Some k → rest_of known s.tests k (row_solution known l.row) l.cursor ≡ row_solution known next.row ∷ rest_of known s.tests k (row_solution known n.row) n.cursor
-      → next.at ≡ l.at + 1 → IsOpen known s.graph ks next.at (row_solution known next.row) next.cursor → IsMove known s ks old Moved ((ls ++ n ∷ []) ++ next ∷ [])
-  hit ks old ls l n next k e a g q t o =
-      let rest : List Seek = drop (suc l.at) ks in
-      let r : Solution = row_solution known next.row in
-      let now : List Level = ls ++ n ∷ [] in
-      let b : drop l.at ks ≡ k ∷ rest = from_get ks l.at k g in
-      let bn : drop n.at ks ≡ k ∷ rest = ap (λ i. drop i ks) a ∙ b in
-      let bt : drop next.at ks ≡ rest = ap (λ i. drop i ks) (let i : next.at ≡ suc l.at = omega arith in i) in
-      let cl : coming known s ks old ≡ here known s (k ∷ rest) l ++ coming known s ks ls = ap (coming known s ks) e ∙ (coming_push ks ls l ∙ ap (λ y. here known s y l ++ coming known s ks ls) b) in
-      let cn : coming known s ks now ≡ here known s (k ∷ rest) n ++ coming known s ks ls = coming_push ks ls n ∙ ap (λ y. here known s y n ++ coming known s ks ls) bn in
-      let hl : here known s (k ∷ rest) l ≡ sifted known s rest r ++ here known s (k ∷ rest) n = ap (flat_map (sifted known s rest)) q in
-      let left : coming known s ks old ≡ sifted known s rest r ++ coming known s ks now = cl ∙ (ap (λ y. y ++ coming known s ks ls) hl ∙ (append_assoc (sifted known s rest r) (here known s (k ∷ rest) n) (coming known s ks ls) ∙ ap (λ y. sifted known s rest r ++ y) (sym cn))) in
-      let ml : moves known s ks old ≡ effort known s (k ∷ rest) l + moves known s ks ls = ap (moves known s ks) e ∙ (moves_push ks ls l ∙ ap (λ y. effort known s y l + moves known s ks ls) b) in
-      let mn : moves known s ks now ≡ effort known s (k ∷ rest) n + moves known s ks ls = moves_push ks ls n ∙ ap (λ y. effort known s y n + moves known s ks ls) bn in
-      let el : effort known s (k ∷ rest) l ≡ 1 + ((1 + full known s rest r) + summed (full known s rest) (rest_of known s.tests k (row_solution known n.row) n.cursor)) = ap (λ xs. 1 + summed (full known s rest) xs) q in
-      let f : IsFresh rest next = fresh ks rest next bt o in
-      let ch : SameBag (here known s (drop next.at ks) next) (sifted known s rest r) = subst (λ (y : List Seek). SameBag (here known s y next) (sifted known s rest r)) (sym bt) (here_fresh rest next f) in
-      let mh : effort known s (drop next.at ks) next ≡ full known s rest r = ap (λ y. effort known s y next) bt ∙ effort_fresh rest next f in
-      let mt : moves known s ks (now ++ next ∷ []) ≡ full known s rest r + moves known s ks now = moves_push ks now next ∙ ap (λ y. y + moves known s ks now) mh in
-      let ct : SameBag (coming known s ks (now ++ next ∷ [])) (sifted known s rest r ++ coming known s ks now) =
-      subst (λ (y : List Solution). SameBag y (sifted known s rest r ++ coming known s ks now)) (sym (coming_push ks now next)) (IsPermutation-append_left (coming known s ks now) (here known s (drop next.at ks) next) (sifted known s rest r) ch) in
-      (IsPermutation-trans _ _ _ (same _ _ left) (IsPermutation-sym _ _ ct), omega arith)
+  -- the last cursor has given a row r
+  module _ (ks : List Seek) (old ls : List Level) (l n : Level) (k : Seek) (r : Solution) (e : old ≡ ls ++ l ∷ []) (a : n.at ≡ l.at) (g : slice_get ks l.at ≡ Some k) (q : rest_of known s.tests k (row_solution known l.row) l.cursor ≡ r ∷ rest_of known s.tests k (row_solution known n.row) n.cursor) where
+    abbrev rest : List Seek
+    rest = drop (suc l.at) ks
+
+    abbrev now : List Level
+    now = ls ++ n ∷ []
+
+    before : drop l.at ks ≡ k ∷ rest
+    before = from_get ks l.at k g
+
+    behind : drop n.at ks ≡ k ∷ rest
+    behind = ap (λ i. drop i ks) a ∙ before
+
+    left : coming known s ks old ≡ sifted known s rest r ++ coming known s ks now
+    left =
+        let cl : coming known s ks old ≡ here known s (k ∷ rest) l ++ coming known s ks ls = ap (coming known s ks) e ∙ (coming_push ks ls l ∙ ap (λ y. here known s y l ++ coming known s ks ls) before) in
+        let cn : coming known s ks now ≡ here known s (k ∷ rest) n ++ coming known s ks ls = coming_push ks ls n ∙ ap (λ y. here known s y n ++ coming known s ks ls) behind in
+        let hl : here known s (k ∷ rest) l ≡ sifted known s rest r ++ here known s (k ∷ rest) n = ap (flat_map (sifted known s rest)) q in
+        cl ∙ (ap (λ y. y ++ coming known s ks ls) hl ∙ (append_assoc (sifted known s rest r) (here known s (k ∷ rest) n) (coming known s ks ls) ∙ ap (λ y. sifted known s rest r ++ y) (sym cn)))
+
+    -- it is finished where no triple pattern is left
+    finished : slice_get ks (l.at + 1) ≡ None → coming known s ks old ≡ r ∷ coming known s ks now
+    finished t =
+        let b : rest ≡ [] = ap (λ i. drop i ks) (let i : suc l.at ≡ l.at + 1 = omega arith in i) ∙ from_none ks (l.at + 1) t in
+        left ∙ ap (λ y. sifted known s y r ++ coming known s ks now) b
+
+    -- and goes on at the next one
+    hit : (next : Level) → row_solution known next.row ≡ r → next.at ≡ l.at + 1 → IsOpen known s.graph ks next.at (row_solution known next.row) next.cursor → IsMove known s ks old Moved (now ++ next ∷ [])
+    hit next v t o =
+        let bt : drop next.at ks ≡ rest = ap (λ i. drop i ks) (let i : next.at ≡ suc l.at = omega arith in i) in
+        let ml : moves known s ks old ≡ effort known s (k ∷ rest) l + moves known s ks ls = ap (moves known s ks) e ∙ (moves_push ks ls l ∙ ap (λ y. effort known s y l + moves known s ks ls) before) in
+        let mn : moves known s ks now ≡ effort known s (k ∷ rest) n + moves known s ks ls = moves_push ks ls n ∙ ap (λ y. effort known s y n + moves known s ks ls) behind in
+        let el : effort known s (k ∷ rest) l ≡ 1 + ((1 + full known s rest r) + summed (full known s rest) (rest_of known s.tests k (row_solution known n.row) n.cursor)) = ap (λ xs. 1 + summed (full known s rest) xs) q in
+        let f : IsFresh rest next = fresh ks rest next bt o in
+        let ch : SameBag (here known s (drop next.at ks) next) (sifted known s rest r) = subst (λ (m : Solution). SameBag (here known s (drop next.at ks) next) (sifted known s rest m)) v (subst (λ (y : List Seek). SameBag (here known s y next) (sifted known s rest (row_solution known next.row))) (sym bt) (here_fresh rest next f)) in
+        let mh : effort known s (drop next.at ks) next ≡ full known s rest r = ap (λ y. effort known s y next) bt ∙ (effort_fresh rest next f ∙ ap (full known s rest) v) in
+        let mt : moves known s ks (now ++ next ∷ []) ≡ full known s rest r + moves known s ks now = moves_push ks now next ∙ ap (λ y. y + moves known s ks now) mh in
+        let ct : SameBag (coming known s ks (now ++ next ∷ [])) (sifted known s rest r ++ coming known s ks now) =
+        subst (λ (y : List Solution). SameBag y (sifted known s rest r ++ coming known s ks now)) (sym (coming_push ks now next)) (IsPermutation-append_left (coming known s ks now) (here known s (drop next.at ks) next) (sifted known s rest r) ch) in
+        (IsPermutation-trans _ _ _ (same _ _ left) (IsPermutation-sym _ _ ct), omega arith)
+
+  -- the same where the last of so many levels is changed in its place
+  module _ (ks : List Seek) (old : List Level) (count : ℕ) (l : Level) (e : count ≡ length old) (p : 0 < count) (v : l ≡ slice_index_or old (count - 1) l) where
+    abbrev others : List Level
+    others = take (count - 1) old
+
+    within : count - 1 < length old
+    within = omega arith
+
+    all_taken : (n : ℕ) → length old ≤ n → take n old ≡ old
+    all_taken n h = take_all n old h
+
+    the_last : old ≡ others ++ l ∷ []
+    the_last =
+        sym (all_taken (count - 1 + 1) (omega arith)) ∙ (take_more old (count - 1) l within ∙ ap (λ x. others ++ x ∷ []) (sym v))
+
+    put_last : (n : Level) → slice_set old (count - 1) n ≡ others ++ n ∷ []
+    put_last n =
+        let h : length (slice_set old (count - 1) n) ≡ length old = length-set old (count - 1) n in
+        sym (take_all (count - 1 + 1) (slice_set old (count - 1) n) (omega arith)) ∙ take_more_set old (count - 1) n within
+
+    others_are : (n : Level) → take (length (slice_set old (count - 1) n) - 1) (slice_set old (count - 1) n) ≡ others
+    others_are n = ap (λ k. take (k - 1) (slice_set old (count - 1) n)) (length-set old (count - 1) n ∙ sym e) ∙ take-set old (count - 1) n
+
+    pub last_gave : (ls : List Level) (m : Level) → slice_get ks l.at ≡ None → slice_set old (count - 1) l ≡ ls ++ m ∷ [] → IsMove known s ks old (Gave m.row) ls
+    last_gave ls m g h =
+        let w : old ≡ ls ++ m ∷ [] = the_last ∙ (sym (put_last l) ∙ h) in
+        gave ks old ls m w (ap (λ i. slice_get ks i) (ap (λ x. x.at) (snoc_last ls others m l (sym w ∙ the_last))) ∙ g)
+
+    pub last_spent : (k : Seek) (n : Level) (new : List Level) → slice_get ks l.at ≡ Some k → rest_of known s.tests k (row_solution known l.row) l.cursor ≡ [] → new ≡ take (length (slice_set old (count - 1) n) - 1) (slice_set old (count - 1) n) → IsMove known s ks old Moved new
+    last_spent k n new g q h = subst (IsMove known s ks old Moved) (sym (h ∙ others_are n)) (spent ks old others l k the_last g q)
+
+    pub last_finished : (k : Seek) (n : Level) (r : Solution) → n.at ≡ l.at → slice_get ks l.at ≡ Some k → rest_of known s.tests k (row_solution known l.row) l.cursor ≡ r ∷ rest_of known s.tests k (row_solution known n.row) n.cursor → slice_get ks (l.at + 1) ≡ None → coming known s ks old ≡ r ∷ coming known s ks (slice_set old (count - 1) n)
+    last_finished k n r a g q t = finished ks old others l n k r the_last a g q t ∙ ap (λ xs. r ∷ coming known s ks xs) (sym (put_last n))
+
+    pub last_hit : (k : Seek) (n next : Level) (new : List Level) → n.at ≡ l.at → slice_get ks l.at ≡ Some k → rest_of known s.tests k (row_solution known l.row) l.cursor ≡ row_solution known next.row ∷ rest_of known s.tests k (row_solution known n.row) n.cursor → next.at ≡ l.at + 1 → IsOpen known s.graph ks next.at (row_solution known next.row) next.cursor → new ≡ slice_set old (count - 1) n ++ next ∷ [] → IsMove known s ks old Moved new
+    last_hit k n next new a g q t o h =
+        subst (IsMove known s ks old Moved) (sym (h ∙ ap (λ xs. xs ++ next ∷ []) (put_last n)))
+        (hit ks old others l n k (row_solution known next.row) the_last a g q next refl t o)
 
 -- a bag like an empty one is empty
 pub none_left : (xs ys : List Solution) → SameBag xs ys → ys ≡ [] → xs ≡ []

@@ -43,7 +43,7 @@ fn put<V: View>(
     Ok(())
 }
 
-/// The first `width` variables of the solution that the row stands for, with terms of its own.
+/// The first `width` variables of the solution that the row stands for.
 #[tactic(auto, using(crate::proofs::Fronts::front_more))]
 pub fn solution<V: View>(
     alloc: Global,

@@ -31,7 +31,7 @@ pub(crate) fn keyed_rows<'a>(
     ensures rows { IfOk result (λ keyed. map row_of keyed.items ≡ rows.now) }
     ensures keys { IfOk result (λ keyed. All (IsKeyed conditions.now) keyed.items) }
 {
-    let mut keyed = Vec::new(alloc);
+    let mut keyed = Vec::with_capacity(alloc, rows.len())?;
     for row in rows {
         let keys = keys_of(alloc, conditions, row)?;
         keyed.push(Keyed { keys, row })?;
@@ -56,7 +56,7 @@ fn sort(conditions: &[OrderCondition], keyed: &mut Vec<Keyed<'_>>)
 pub(crate) fn rows_of<'a>(alloc: Global, keyed: &[Keyed<'a>]) -> Result<Vec<&'a Row>, AllocError>
     ensures { IfOk result (λ rows. lent rows.items ≡ map row_of keyed.now) }
 {
-    let mut rows = Vec::new(alloc);
+    let mut rows = Vec::with_capacity(alloc, keyed.len())?;
     for one in keyed {
         rows.push(one.row)?;
     }
@@ -66,7 +66,7 @@ pub(crate) fn rows_of<'a>(alloc: Global, keyed: &[Keyed<'a>]) -> Result<Vec<&'a 
 pub(crate) fn lent_rows<'a>(alloc: Global, rows: &'a [Row]) -> Result<Vec<&'a Row>, AllocError>
     ensures { IfOk result (λ all. lent all.items ≡ rows.now) }
 {
-    let mut all = Vec::new(alloc);
+    let mut all = Vec::with_capacity(alloc, rows.len())?;
     for row in rows {
         all.push(row)?;
     }

@@ -20,7 +20,7 @@ pub fn keys_of(
 ) -> Result<Vec<Key>, AllocError>
     ensures { IfOk result (λ keys. keys.items ≡ spec.keys_of conditions.now row.now) }
 {
-    let mut keys = Vec::new(alloc);
+    let mut keys = Vec::with_capacity(alloc, conditions.len())?;
     for condition in conditions {
         let key = order_key(alloc, &condition.key, row)?;
         keys.push(key)?;

@@ -148,10 +148,10 @@ module _ (graph : Graph) (f : AtEnds) (tied : Tied graph f) (x : Term) where
       ])
   sound_on OneOrMore u y ne h s = leads_on step cs x u y (inside OneOrMore u h) h (leads_one step cs u y s)
 
-  get_mem : (terms : List Term) (at : ℕ) (u : Term) → at < length terms → u ≡ get_or terms at u → Mem u (take (at + 1) terms)
+  pub get_mem : (terms : List Term) (at : ℕ) (u : Term) → at < length terms → u ≡ get_or terms at u → Mem u (take (at + 1) terms)
   get_mem terms at u lt is = subst (λ (l : List Term). Mem u l) (sym (take_more terms at u lt)) (mem_right u (take at terms) (get_or terms at u ∷ []) (inl is))
 
-  mem_take : (n : ℕ) (u : Term) (terms : List Term) → Mem u (take n terms) → Mem u terms
+  pub mem_take : (n : ℕ) (u : Term) (terms : List Term) → Mem u (take n terms) → Mem u terms
   mem_take n u terms m = subst (λ (l : List Term). Mem u l) (take-append-drop n terms) (mem_left u (take n terms) (drop n terms) m)
 
   pub search_on : (repetition : Repetition) (terms terms' : List Term) (at : ℕ) (u : Term) (next : List Pair) → repetition ≢ ZeroOrOne → Searching repetition terms at → at < length terms → u ≡ get_or terms at u → SameBag next (f (Some u) None) → terms' ≡ with_all terms (rights next) → Searching repetition terms' (at + 1)

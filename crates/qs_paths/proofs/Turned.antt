@@ -3,7 +3,7 @@ use Rattle.std.proofs.Common.{◌≡◌, ℕ, ◌+◌, ◌<◌, ◌≤◌, Bool,
 use Rattle.std.specs.Borrow.{Bor}
 use Rattle.std.specs.List.{filter, flat_map}
 use Rattle.std.proofs.lemmas.List.{take_more, take_all, append-nil}
-use Rattle.std.proofs.lemmas.List.Sorted.{IsPermutation-append, IsPermutation-map, IsPermutation-refl, IsPermutation-trans}
+use Rattle.std.proofs.lemmas.List.Sorted.{IsPermutation-append, IsPermutation-map, IsPermutation-trans}
 use Rattle.std.proofs.lemmas.Grind.{flat_map-append}
 use Rattle.qs_terms.specs.declared.term.Term.{Term}
 use Rattle.qs_terms.specs.Bag.{SameBag, Distinct}
@@ -21,7 +21,7 @@ use Rattle.qs_paths.specs.Pairs.{AtEnds, is_step, pairs}
 use Rattle.qs_paths.specs.Walk.{IsWalk, IsCount, Leads}
 use Rattle.qs_paths.proofs.Members.{Mem, mem_at, mem_filter, mem_of_filter, mem_map, mem_of_map, not_in, is_out, same_bag, distinct_filter, distinct_once}
 use Rattle.qs_paths.proofs.Near.{Tied, tied, tied_swapped, start_candidate, candidate, candidates_closed}
-use Rattle.qs_paths.proofs.Arms.{same_pair-Decides, same_at, filter_same_by, flat_map_same}
+use Rattle.qs_paths.proofs.Arms.{same_pair-Decides, same_at, filter_same_by}
 use Rattle.qs_paths.proofs.WalkLaws.{walks_repeat, repeat_walks}
 use Rattle.qs_paths.proofs.ClosureLaws.{closure_has, in_closure, mem_ends, ends_reach, reaches_near, step_pair, pair_step, distinct_map, distinct_from, distinct_starts}
 use Rattle.qs_paths.proofs.Steady.{Steady, steady}
@@ -60,7 +60,7 @@ distinct_swapped (e ∷ es) d = (
   distinct_swapped es d.1,
 )
 
-agrees_open : (es : List Term) → filter (agrees None) es ≡ es
+pub agrees_open : (es : List Term) → filter (agrees None) es ≡ es
 agrees_open [] = refl
 agrees_open (e ∷ es) = ap (λ l. e ∷ l) (agrees_open es)
 
@@ -151,10 +151,9 @@ from_more g ts i x rows more rows' lt is h m e =
     lent-append [] ys = refl
     lent-append (x ∷ xs) ys = ap (λ l. x.now ∷ l) (lent-append xs ys)
 
--- from each term of a list in any order
-pub from_all : (g : Term → List Pair) (ts us : List (Bor Term)) (i : ℕ) (ns : List Term) (rows : List Pair) → length ts ≤ i → ts ≡ us → SameBag (lent us) ns → SameBag rows (flat_map g (lent (take i ts))) → SameBag rows (flat_map g ns)
-from_all g ts us i ns rows le e h k =
-    IsPermutation-trans rows _ _ (subst (λ l. SameBag rows (flat_map g (lent l))) (take_all i ts le ∙ e) k) (flat_map_same g g (lent us) ns h (λ t. IsPermutation-refl (g t)))
+-- from all of them
+pub from_all : (g : Term → List Pair) (ts us : List (Bor Term)) (i : ℕ) (all rows : List Pair) → length ts ≤ i → ts ≡ us → SameBag (flat_map g (lent us)) all → SameBag rows (flat_map g (lent (take i ts))) → SameBag rows all
+from_all g ts us i all rows le e h k = IsPermutation-trans rows _ _ (subst (λ l. SameBag rows (flat_map g (lent l))) (take_all i ts le ∙ e) k) h
 
 -- one pass backwards
 pub turned_arm : (f : AtEnds) (b : Bool) (x : Term) (inverse rows : List Pair) → b ≡ true → SameBag inverse (f None (Some x)) → rows ≡ map swapped inverse → SameBag rows (turned b f (Some x) None)

@@ -6,12 +6,16 @@ use Rattle.std.specs.BTreeSet.{insert_key}
 use Rattle.std.specs.Cmp.Lexicographic.{slice_cmp}
 use Rattle.std.specs.List.{fold, list_any}
 use Rattle.std.specs.Option.{option_cmp}
-use Rattle.std.specs.Ordering.{ordering_then}
+use Rattle.std.specs.Ordering.{nat_cmp, ordering_then}
 use Rattle.std.specs.declared.cmp.Ordering.{Ordering}
 use Rattle.std.specs.declared.cmp.Ordering.TheVariants.{Less, Equal, Greater}
 use Rattle.std.proofs.lemmas.List.Sorted.{IsPermutation-refl, IsPermutation-sym, IsPermutation-trans, IsPermutation-append_right}
 use Rattle.std.proofs.lemmas.List.{map-append}
+use Rattle.std.specs.Hash as fed
+use Rattle.qs_hashed.specs.Hashed.{hash_of}
+use Rattle.qs_hashed.proofs.Tests as hashed
 use Rattle.qs_terms.specs.Bag.{SameBag, once, with_new}
+use Rattle.qs_terms.specs.contracts.term.TermHash.TheImpl as hashing
 use Rattle.qs_terms.specs.declared.term.Term.{Term}
 use Rattle.qs_terms.proofs.FirstOnes.{once_with}
 use Rattle.qs_solutions.specs.Solution.{Solution, projected, same_cell, same_solution}
@@ -43,15 +47,19 @@ cells_tell [] (y ∷ b) = refl
 cells_tell (x ∷ a) [] = refl
 cells_tell (x ∷ a) (y ∷ b) = then_eq (order_of_cells x y) (slice_cmp order_of_cells a b) ∙ rw (cell_tells x y, cells_tell a b) refl
 
+abbrev pub hash : Solution → ℕ
+hash m = hash_of (fed.slice (fed.option hashing.ghosts.hash_input) m)
+
 module _ {Z : Type 0} where
   abbrev pub read : Vec (Option Term) Z → Solution
   read v = v.items
 
+  -- by their hashes first
   abbrev pub order : Vec (Option Term) Z → Vec (Option Term) Z → Ordering
-  order v w = slice_cmp order_of_cells v.items w.items
+  order v w = ordering_then (nat_cmp (hash v.items) (hash w.items)) (slice_cmp order_of_cells v.items w.items)
 
   reads : (v w : Vec (Option Term) Z) → is_eq (order v w) ≡ same_solution (read v) (read w)
-  reads v w = cells_tell v.items w.items
+  reads v w = hashed.tells same_solution same_solution-Decides hash (slice_cmp order_of_cells) (λ a b. sym (cells_tell a b)) v.items w.items
 
   module _ (key : Vec (Option Term) Z) (keys : List (Vec (Option Term) Z)) (rows new : List Solution) (m : Solution) (is : key.items ≡ m) (knows : KnowsAll keys rows) where
     had : (b : Bool) → list_any (is_at (order key)) keys ≡ b → list_any (same_solution m) rows ≡ b

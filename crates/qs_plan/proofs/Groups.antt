@@ -102,12 +102,13 @@ more_kept f ss i s ks new k lt is e h g xs =
     step_more f xs ss i s (flat_map (through ks) xs) (flat_map (through new) xs) lt is (h xs)
     (λ ys b. subst (λ (l : List Solution). SameBag l (f ys s)) (sym (ap (λ l. flat_map (through l) xs) e ∙ all_last ks k xs)) (g (flat_map (through ks) xs) ys b))
 
-pub with_conditions : (f : List Solution → List Solution) (ks new : List Kept) (conditions : Bor (List Expr)) → new ≡ ks ++ kept.Filter conditions ∷ [] → AreKept ks f → AreKept new (λ xs. all_kept conditions.now (f xs))
+pub with_filter : (ks new : List Kept) (conditions : Bor (List Expr)) (xs : List Solution) → new ≡ ks ++ kept.Filter conditions ∷ [] → flat_map (through new) xs ≡ all_kept conditions.now (flat_map (through ks) xs)
+with_filter ks new conditions xs e = ap (λ l. flat_map (through l) xs) e ∙ (all_last ks (kept.Filter conditions) xs ∙ filter_one (all_hold conditions.now) (flat_map (through ks) xs))
+
+pub with_conditions : (f : List Solution → List Solution) (ks new : List Kept) (conditions : List Expr) → ((xs : List Solution) → flat_map (through new) xs ≡ all_kept conditions (flat_map (through ks) xs)) → AreKept ks f → AreKept new (λ xs. all_kept conditions (f xs))
 with_conditions f ks new conditions e h xs =
-    let p = all_hold conditions.now in
-    subst (λ (l : List Solution). SameBag l (filter p (f xs)))
-    (sym (ap (λ l. flat_map (through l) xs) e ∙ (all_last ks (kept.Filter conditions) xs ∙ filter_one p (flat_map (through ks) xs))))
-    (filter_same p (flat_map (through ks) xs) (f xs) (h xs))
+    let p = all_hold conditions in
+    subst (λ (l : List Solution). SameBag l (filter p (f xs))) (sym (e xs)) (filter_same p (flat_map (through ks) xs) (f xs) (h xs))
 
 -- ---- rows that wait
 

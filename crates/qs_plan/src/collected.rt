@@ -7,6 +7,7 @@ ghost use Rattle.qs_solutions.specs.Solution.{projected, same_solution};
 ghost use Rattle.qs_plan.specs.Some.{is_enough};
 ghost use Rattle.qs_plan.specs.inner.Collected.{Collects, KnowsAll, nothing, with_rows};
 
+use qs_hashed::Hashed;
 use qs_solutions::Row;
 use qs_terms::Term;
 use std::alloc::{AllocError, Global};
@@ -17,7 +18,7 @@ use std::marker::Model;
 #[derive(Drop)]
 pub(crate) struct Collected<'c> {
     rows: Vec<Row>,
-    known: BTreeSet<Vec<Option<Term>>>,
+    known: BTreeSet<Hashed<Vec<Option<Term>>>>,
     columns: Option<&'c [usize]>,
     most: Option<u64>,
 }
@@ -78,14 +79,14 @@ fn push_new(
     row: &Row,
     columns: &[usize],
     rows: &mut Vec<Row>,
-    known: &mut BTreeSet<Vec<Option<Term>>>,
+    known: &mut BTreeSet<Hashed<Vec<Option<Term>>>>,
 ) -> Result<(), AllocError>
     requires { KnowsAll known.old.keys rows.old.items }
     ensures rows { OnOk result (rows.new.items ≡ with_new same_solution rows.old.items (projected columns.now row.now)) }
     ensures known { KnowsAll known.new.keys rows.new.items }
 {
     let cells = cells(alloc, row, columns)?;
-    if !known.insert(cells)? {
+    if !known.insert(Hashed::new(cells))? {
         return Ok(());
     }
     match push_projected(alloc, row, columns, rows) {

@@ -52,6 +52,17 @@ fn kept_step<'p, V: View>(
     }
 }
 
+/// Puts the conditions behind the steps, if there are any.
+fn put_conditions<'p>(conditions: &'p [Expr], all: &mut Vec<Kept<'p>>) -> Result<(), AllocError>
+    ensures { OnOk result ((xs : List Solution) → flat_map (through all.new.items) xs ≡ kept conditions.now (flat_map (through all.old.items) xs)) }
+{
+    if conditions.is_empty() {
+        return Ok(());
+    }
+    all.push(Kept::Filter(conditions))?;
+    Ok(())
+}
+
 /// The steps with the solutions of their right sides, and behind them the conditions.
 fn kept_steps<'p, V: View>(
     alloc: Global,
@@ -68,7 +79,7 @@ fn kept_steps<'p, V: View>(
         let one = kept_step(alloc, width, one, view, active)?;
         all.push(one)?;
     }
-    all.push(Kept::Filter(conditions))?;
+    put_conditions(conditions, &mut all)?;
     Ok(all)
 }
 

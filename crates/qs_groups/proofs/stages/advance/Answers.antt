@@ -1,5 +1,5 @@
-use Rattle.std.proofs.Common.{map, rules}
-use Rattle.qs_groups.specs.Stages.{kept_of}
+use Rattle.std.proofs.Common.{map, refl, rules}
+use Rattle.qs_groups.specs.Stages.{kept_of, made}
 use Rattle.qs_groups.proofs.Moves.{gave, moved, no_stage, the_stage}
 use Rattle.qs_groups.proofs.stages.advance.Goals as goal
 
@@ -10,4 +10,4 @@ returns-in_default-at c =
 pub returns : goal.returns
 returns c =
     moved (map kept_of c.args.stages.now) c.args.waiting.now.items c.pop.new.self.items c.in-Some.next (rw c.in-Some.is at c.pop.ensures.items)
-    (kept_of c.in-Some-at.stage.now) c.in_ok-place.place c.in_ok-rows.rows.items c.put_all.new.waiting.items (the_stage c.args.stages.now c.in-Some.next.at c.in-Some-at.stage.now (search rules)) (search rules) c.in_ok-rows.ensures c.in_ok-put_all.ensures
+    (kept_of c.in-Some-at.stage.now) c.in_ok-place.place (made (kept_of c.in-Some-at.stage.now) c.in-Some.next.row) c.put_made.new.waiting.items (the_stage c.args.stages.now c.in-Some.next.at c.in-Some-at.stage.now (search rules)) (search rules) refl c.in_ok-put_made.ensures

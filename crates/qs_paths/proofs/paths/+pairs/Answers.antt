@@ -5,7 +5,6 @@ use Rattle.std.proofs.lemmas.List.{take_all}
 use Rattle.std.proofs.lemmas.List.Sorted.{IsPermutation-trans}
 use Rattle.qs_terms.specs.Bag.{SameBag}
 use Rattle.qs_ast.specs.declared.path.Path.{the_lemmas}
-use Rattle.qs_paths.specs.Closure.{from_start}
 use Rattle.qs_paths.specs.Edges.{lent}
 use Rattle.qs_paths.specs.inner.Found.{with_all, rights, turned, node_or_open, into_pair}
 use Rattle.qs_paths.specs.Pair.{swapped}
@@ -15,7 +14,7 @@ use Rattle.qs_paths.proofs.Arms.{any_arm, any_more, inverse_arm, part_before}
 use Rattle.qs_paths.proofs.Chains.{seconds_same, firsts_same, behind_more, before_more, exchanged, part_behind}
 use Rattle.qs_paths.proofs.Near.{tied}
 use Rattle.qs_paths.proofs.Search.{begun_both, begun_steps, optional_at, search_begins, search_on, search_falls, search_result}
-use Rattle.qs_paths.proofs.Turned.{tied_turned, right_arm, found_from, from_more, from_all, turned_arm}
+use Rattle.qs_paths.proofs.Turned.{tied_turned, right_arm, found_from, turned_arm}
 use Rattle.qs_paths.proofs.paths.+pairs.Goals as goal
 
 pub pairs-returns-in_ok-rows-in-Alternative : goal.pairs-returns-in_ok-rows-in-Alternative
@@ -96,11 +95,6 @@ pairs_from-returns g t c =
     found_from c.args.repetition (is_step (turned c.args.backward (pairs (g.E.Source.graph c.args.edges.now) c.args.path.now))) (g.E.Source.graph c.args.edges.now) (option_copied c.args.end) c.args.start.now (lent c.in_ok-found.found.terms.items) (lent c.as_slice.result.now) c.new-rows.result.items c.put_ends.new.pairs.items
     c.new-rows.ensures.items (ap lent c.as_slice.ensures.value) c.in_ok-found.ensures c.in_ok-put_ends.ensures
 
-pub pairs_from_all-loop-start-preserved : goal.pairs_from_all-loop-start-preserved
-pairs_from_all-loop-start-preserved g t c =
-    from_more (from_start c.args.repetition (is_step (pairs (g.E.Source.graph c.args.edges.now) c.args.path.now)) (g.E.Source.graph c.args.edges.now) None) c.as_slice-start-items.result.now c.loop-start.start-index c.start-item.result c.loop-start.rows.items c.in_ok-more.more.items c.append.new.self.items
-    c.loop-start-test.true c.start-item.is c.loop-start.invariant c.in_ok-more.ensures c.in_ok-append.ensures.items
-
 pub reached-returns-in-ZeroOrOne : goal.reached-returns-in-ZeroOrOne
 reached-returns-in-ZeroOrOne g t c =
     optional_at (g.E.Source.graph c.args.edges.now) (turned c.args.backward (pairs (g.E.Source.graph c.args.edges.now) c.args.path.now)) (tied_turned (g.E.Source.graph c.args.edges.now) c.args.backward (pairs (g.E.Source.graph c.args.edges.now) c.args.path.now) (tied (g.E.Source.graph c.args.edges.now) c.args.path.now)) c.args.start.now c.args.repetition (lent c.begin.new.found.terms.items) (lent c.begin.new.found.terms.items) c.in-ZeroOrOne.is refl c.in_ok-begin.ensures.holds
@@ -133,8 +127,3 @@ searched-returns g t c =
 pub stepped-returns-in_ok-rows : goal.stepped-returns-in_ok-rows
 stepped-returns-in_ok-rows g t c =
     turned_arm (pairs (g.E.Source.graph c.args.edges.now) c.args.path.now) c.args.backward c.args.term.now c.in_ok-inverse.inverse.items c.in_ok-rows.rows.items c.if-backward.true c.in_ok-inverse.ensures (c.in_ok-rows.ensures ∙ ap (map swapped) c.as_slice.ensures.value)
-
-pub pairs_from_all-returns : goal.pairs_from_all-returns
-pairs_from_all-returns g t c =
-    from_all (from_start c.args.repetition (is_step (pairs (g.E.Source.graph c.args.edges.now) c.args.path.now)) (g.E.Source.graph c.args.edges.now) None) c.as_slice-start-items.result.now c.in_ok-starts.starts.terms.items c.loop-start.start-index _ c.loop-start.rows.items
-    c.loop-start-test.false c.as_slice-start-items.ensures.value c.in_ok-starts.ensures.terms c.loop-start.invariant

@@ -20,5 +20,5 @@ loop-one-preserved g c =
 pub returns : goal.returns
 returns g c =
     let f : List Solution → Step → List Solution = λ left s. step c.args.width (g.V.View.content c.args.view.now).quads s (active_graph (g.V.View.content c.args.view.now) (g.V.View.default_seen c.args.view.now) c.args.active) left in
-    with_conditions (λ xs. fold f xs c.args.steps.now) c.loop-one.all.items c.push-2.new.self.items c.args.conditions c.in_ok-push-2.ensures.items
+    with_conditions (λ xs. fold f xs c.args.steps.now) c.loop-one.all.items c.put_conditions.new.all.items c.args.conditions.now c.in_ok-put_conditions.ensures
     (all_stepped f c.loop-one.all.items c.args.steps.now c.loop-one.one-index c.loop-one-test.false c.loop-one.invariant)
