@@ -49,8 +49,8 @@ fn put_one(place: usize, row: Row, waiting: &mut Vec<Waiting>) -> Result<(), All
     Ok(())
 }
 
-/// Has what the stage makes of the row wait before the stage at this place (SPARQL 1.1 Query, 18.5). A row that alone can be made takes no
-/// list of its own.
+/// Has what the stage makes of the row wait before the stage at this place (SPARQL 1.1 Query, 18.5). What MINUS and BIND make takes no list
+/// of its own.
 fn put_made(
     alloc: Global,
     stage: &Stage<'_>,

@@ -1,4 +1,5 @@
-//! Closures with both ends open: the path's pairs are found once, and its walks followed along them from each node.
+//! Closures with both ends open: the path's pairs are found once, and walks followed along them; under `+` from their left ends, else from
+//! each node.
 
 ghost use Rattle.std.specs.Prelude.{◌≡◌, ◌≢◌, [], true, None, IfOk, OnOk};
 ghost use Rattle.std.specs.List.{list_any};
