@@ -29,8 +29,9 @@ impl<T: Hash> Model for Hashed<T> {
     ghost invariant = { λ h. h.hash ≡ hash_of (T.hash_input h.value) };
 }
 
+/// The hash of a value. It takes in no secret: who chooses values may choose some with equal hashes.
 #[tactic(auto, unfolding(crate::specs::Hashed::hash_of))]
-fn hash_of<T: Hash>(value: &T) -> u64
+pub fn hash_of<T: Hash>(value: &T) -> u64
     ensures { result ≡ hash_of (T.hash_input value.now) }
 {
     let mut state = FoldHasher::default();

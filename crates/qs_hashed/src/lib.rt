@@ -5,4 +5,4 @@
 
 mod hashed;
 
-pub use hashed::Hashed;
+pub use hashed::{Hashed, hash_of};
