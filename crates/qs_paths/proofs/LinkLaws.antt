@@ -1,20 +1,20 @@
--- Terms kept at terms that are lent.
-use Rattle.std.proofs.Common.{◌≡◌, ℕ, ◌+◌, ◌<◌, ◌≤◌, Bool, true, false, ◌||◌, cond, if◌then◌else◌, List, [], ◌∷◌, ◌++◌, length, take, get_or, map, Option, Some, None, is_eq, nat_cmp, refl, sym, ◌∙◌, ap, subst}
-use Rattle.std.specs.Prelude.{Vec}
+-- Maps from terms that are lent to their numbers, and links between numbers.
+use Rattle.std.proofs.Common.{◌≡◌, ℕ, zero, suc, ◌+◌, ◌<◌, Bool, true, false, ◌||◌, cond, List, [], ◌∷◌, ◌++◌, length, take, get_or, set, map, Option, Some, None, is_eq, nat_cmp, refl, sym, ◌∙◌, ap, subst, arith}
+use Rattle.std.specs.Prelude.{Vec, All}
 use Rattle.std.specs.Borrow.{Bor}
 use Rattle.std.specs.BTreeMap.{is_at, insert_entry}
-use Rattle.std.specs.BTreeSet.{insert_key}
-use Rattle.std.specs.Map.{lookup, set_value}
-use Rattle.std.specs.List.{filter, list_any}
+use Rattle.std.specs.Map.{lookup}
+use Rattle.std.specs.List.{list_any}
 use Rattle.std.specs.Ordering.{match_ordering, ordering_then}
 use Rattle.std.specs.declared.cmp.Ordering.{Ordering}
 use Rattle.std.specs.declared.cmp.Ordering.TheVariants.{Less, Equal, Greater}
+use Rattle.std.proofs.lemmas.List.{length-append, length-map, get_or_default}
 use Rattle.std.proofs.Math.ListN.{get_or-map}
-use Rattle.std.proofs.lemmas.List.{take_more, take_all, append-nil}
+use Rattle.std.proofs.lemmas.List.Elements.{All-nil, All-cons, All-append, All-get_or}
+use Rattle.std.proofs.lemmas.List.Folds.{list_any-append}
 use Rattle.qs_terms.specs.declared.term.Term.{Term}
-use Rattle.qs_terms.specs.Bag.{with_new}
+use Rattle.qs_terms.specs.Bag.{Distinct}
 use Rattle.qs_terms.specs.Term.{same_term}
-use Rattle.qs_terms.proofs.FirstOnes.{filter-append}
 use Rattle.qs_terms.proofs.SameTerm.{same_term-Decides, eq_is}
 use Rattle.qs_hashed.specs.Hashed.{hash_of}
 use Rattle.qs_hashed.proofs.Entries as entries
@@ -23,10 +23,11 @@ use Rattle.qs_terms.specs.contracts.term.TermHash.TheImpl as hashing
 use Rattle.qs_terms.specs.contracts.term.TermOrd.TheImpl as ord
 use Rattle.qs_terms.specs.contracts.term.TermOrd.TheImpl.Laws as law
 use Rattle.qs_paths.specs.Edges.{lent}
-use Rattle.qs_paths.specs.Pair.{Pair, pair}
-use Rattle.qs_paths.specs.inner.Found.{Knows, rights}
-use Rattle.qs_paths.specs.inner.Links.{values, terms_in, at_term, rights_from, AreLinks}
-use Rattle.qs_paths.proofs.Finds.{map-append, kept_new, kept_known, knows_more}
+use Rattle.qs_paths.specs.Pair.{pair}
+use Rattle.qs_paths.specs.inner.Links.{AreBelow, Finds, IsAt, IsWeb, leads_to, named, put_at, rows_of}
+use Rattle.qs_paths.proofs.Finds.{map-append}
+use Rattle.qs_paths.proofs.Members.{distinct_with_new}
+use Rattle.qs_paths.proofs.Numbers.{at_end, at_more, leads_more, named_last}
 
 -- ---- entries whose keys are lent
 
@@ -57,15 +58,6 @@ module _ {V : Type 0} where
   lookup_valued p [] = refl
   lookup_valued p (e ∷ es) = ap (λ o. cond (p e.0.now) (Some e.1) o) (lookup_valued p es)
 
-  set_valued : (p : Term → Bool) (es : List (Bor Term × V)) (w : V) → valued (set_value (λ (k : Bor Term). p k.now) es w) ≡ set_value p (valued es) w
-  set_valued p [] w = refl
-  set_valued p (e ∷ es) w = by (p e.0.now) (set_valued p es w)
-    where
-      by : (b : Bool) → valued (set_value (λ (k : Bor Term). p k.now) es w) ≡ set_value p (valued es) w
-          → valued (cond b ((e.0, w) ∷ es) (e ∷ set_value (λ (k : Bor Term). p k.now) es w)) ≡ cond b ((e.0.now, w) ∷ valued es) ((e.0.now, e.1) ∷ set_value p (valued es) w)
-      by true h = refl
-      by false h = ap (λ l. (e.0.now, e.1) ∷ l) h
-
   insert_valued : (k : Bor Term) (es : List (Bor Term × V)) (w : V) → valued (insert_entry order es k w) ≡ insert_entry by_hash (valued es) k.now w
   insert_valued k [] w = refl
   insert_valued k (e ∷ es) w = by (by_hash k.now e.0.now) (insert_valued k es w)
@@ -81,13 +73,6 @@ module _ {V : Type 0} where
   find_is x [] = refl
   find_is x (e ∷ es) = rw (test_at x e.0.now, find_is x es) refl
 
-  find_set : (x k : Term) (es : List (Bor Term × V)) (v w : V) → find k es ≡ Some v → find x (set_value (is_at (order_at k)) es w) ≡ cond (same_term x k) (Some w) (find x es)
-  find_set x k es v w h =
-      lookup_valued (same_term x) (set_value (is_at (order_at k)) es w)
-      ∙ (ap (lookup (same_term x)) (set_valued (is_at (by_hash k)) es w)
-      ∙ (entries.find_set same_term same_term-Decides by_hash test_at x k (valued es) v w (sym (lookup_valued (same_term k) es) ∙ h)
-      ∙ ap (λ o. cond (same_term x k) (Some w) o) (sym (lookup_valued (same_term x) es))))
-
   find_insert : (x : Term) (k : Bor Term) (es : List (Bor Term × V)) (w : V) → find x (insert_entry order es k w) ≡ cond (same_term x k.now) (Some w) (find x es)
   find_insert x k es w =
       lookup_valued (same_term x) (insert_entry order es k w)
@@ -95,99 +80,92 @@ module _ {V : Type 0} where
       ∙ (entries.find_insert same_term same_term-Decides by_hash test_at x k.now (valued es) w
       ∙ ap (λ o. cond (same_term x k.now) (Some w) o) (sym (lookup_valued (same_term x) es))))
 
--- ---- terms at terms
+-- ---- numbers of terms
 
-lent-append : (xs ys : List (Bor Term)) → lent (xs ++ ys) ≡ lent xs ++ lent ys
+pub lent-append : (xs ys : List (Bor Term)) → lent (xs ++ ys) ≡ lent xs ++ lent ys
 lent-append xs ys = map-append (λ (z : Bor Term). z.now) xs ys
 
-module _ {Z : Type 0} where
-  more_at : (b : Bool) (o : Option (Vec (Bor Term) Z)) (w : Vec (Bor Term) Z) (r : Bor Term) → (b ≡ true → lent w.items ≡ terms_in o ++ r.now ∷ []) → terms_in (cond b (Some w) o) ≡ terms_in o ++ (if b then r.now ∷ [] else [])
-  more_at true o w r h = h refl
-  more_at false o w r h = sym (append-nil (terms_in o))
+-- what the map finds
+pub found_at : (entries : List (Bor Term × ℕ)) (terms : List Term) (rows : List (List ℕ)) (x : Term) (n : ℕ) → IsWeb entries terms rows → lookup (is_at (order_at x)) entries ≡ Some n → IsAt terms n x
+found_at entries terms rows x n w e = subst (λ (o : Option ℕ). Finds terms x o) (sym (find_is x entries) ∙ e) (w.finds x)
 
-  -- the term goes behind those that are there
-  pub put_there : (k r : Bor Term) (es es' : List (Bor Term × Vec (Bor Term) Z)) (v w : Vec (Bor Term) Z) → lookup (is_at (order_at k.now)) es ≡ Some v → w.items ≡ v.items ++ r ∷ [] → es' ≡ set_value (is_at (order_at k.now)) es w
-      → (x : Term) → at_term es' x ≡ at_term es x ++ (if same_term x k.now then r.now ∷ [] else [])
-  put_there k r es es' v w h i e x =
-      let f : find k.now es ≡ Some v = sym (find_is k.now es) ∙ h in
-      ap (λ l. at_term l x) e ∙ (ap terms_in (find_set x k.now es v w f)
-      ∙ more_at (same_term x k.now) (find x es) w r (λ t.
-      ap lent i ∙ (lent-append v.items (r ∷ []) ∙ ap (λ l. l ++ r.now ∷ []) (sym (ap (λ z. terms_in (find z es)) ((same_term-Decides x k.now).0 t) ∙ ap terms_in f)))))
+pub found_none : (entries : List (Bor Term × ℕ)) (terms : List Term) (rows : List (List ℕ)) (x : Term) → IsWeb entries terms rows → lookup (is_at (order_at x)) entries ≡ None → list_any (same_term x) terms ≡ false
+found_none entries terms rows x w e = subst (λ (o : Option ℕ). Finds terms x o) (sym (find_is x entries) ∙ e) (w.finds x)
 
-  -- or alone
-  pub put_new : (k r : Bor Term) (es es' : List (Bor Term × Vec (Bor Term) Z)) (w : Vec (Bor Term) Z) → lookup (is_at (order_at k.now)) es ≡ None → w.items ≡ r ∷ [] → es' ≡ insert_entry order es k w
-      → (x : Term) → at_term es' x ≡ at_term es x ++ (if same_term x k.now then r.now ∷ [] else [])
-  put_new k r es es' w h i e x =
-      let f : find k.now es ≡ None = sym (find_is k.now es) ∙ h in
-      ap (λ l. at_term l x) e ∙ (ap terms_in (find_insert x k es w)
-      ∙ more_at (same_term x k.now) (find x es) w r (λ t.
-      ap lent i ∙ ap (λ l. l ++ r.now ∷ []) (sym (ap (λ z. terms_in (find z es)) ((same_term-Decides x k.now).0 t) ∙ ap terms_in f))))
+finds_more : (terms : List Term) (k x : Term) (n : ℕ) (o : Option ℕ) (b : Bool) → same_term x k ≡ b → n ≡ length terms → Finds terms x o → Finds (terms ++ k ∷ []) x (cond b (Some n) o)
+finds_more terms k x n o true e l h = subst (λ (z : Term). IsAt (terms ++ k ∷ []) n z) (sym ((same_term-Decides x k).0 e)) (at_end terms k n l)
+finds_more terms k x n None false e l h = list_any-append (same_term x) terms (k ∷ []) ∙ (ap (λ b. b || (same_term x k || false)) h ∙ ap (λ b. b || false) e)
+finds_more terms k x n (Some m) false e l h = at_more terms (k ∷ []) m x h
 
-  -- one pair more
-  pub links_more : (ps : List Pair) (i : ℕ) (p : Pair) (es es' : List (Bor Term × Vec (Bor Term) Z)) → i < length ps → p ≡ get_or ps i p → AreLinks es (take i ps)
-      → ((x : Term) → at_term es' x ≡ at_term es x ++ (if same_term x p.left then p.right ∷ [] else [])) → AreLinks es' (take (i + 1) ps)
-  links_more ps i p es es' lt is h put x =
-      put x ∙ (ap (λ l. l ++ (if same_term x p.left then p.right ∷ [] else [])) (h x)
-      ∙ sym (ap (rights_from x) (take_more ps i p lt ∙ ap (λ z. take i ps ++ z ∷ []) (sym is)) ∙ (ap rights (filter-append (λ (e : Pair). same_term x e.left) (take i ps) (p ∷ []))
-      ∙ (map-append (λ (e : Pair). e.right) (filter (λ (e : Pair). same_term x e.left) (take i ps)) (filter (λ (e : Pair). same_term x e.left) (p ∷ []))
-      ∙ ap (λ l. rights_from x (take i ps) ++ l) (one (same_term x p.left))))))
-    where
-      one : (b : Bool) → rights (cond b (p ∷ []) []) ≡ (if b then p.right ∷ [] else [])
-      one true = refl
-      one false = refl
+more_below : (terms : List Term) (k : Term) (rows : List (List ℕ)) → All (AreBelow (length terms)) rows → All (AreBelow (length (terms ++ k ∷ []))) (rows ++ [] ∷ [])
+more_below terms k rows h =
+    All-append (AreBelow (length (terms ++ k ∷ []))) rows ([] ∷ [])
+    (λ i d lt j e l. let b : get_or (get_or rows i d) j e < length terms = h i d lt j e l in let s : length (terms ++ k ∷ []) ≡ length terms + 1 = length-append terms (k ∷ []) in omega (arith, b, s))
+    (All-cons (AreBelow (length (terms ++ k ∷ []))) [] [] (All-nil (λ i. i < length (terms ++ k ∷ []))) (All-nil (AreBelow (length (terms ++ k ∷ [])))))
 
-  pub links_all : (ps : List Pair) (i : ℕ) (es : List (Bor Term × Vec (Bor Term) Z)) → length ps ≤ i → AreLinks es (take i ps) → AreLinks es ps
-  links_all ps i es le h = subst (λ l. AreLinks es l) (take_all i ps le) h
+-- a new term has the next number, and an empty row
+pub web_more : (entries entries' : List (Bor Term × ℕ)) (terms : List Term) (rows : List (List ℕ)) (k : Bor Term) (n : ℕ) → IsWeb entries terms rows → list_any (same_term k.now) terms ≡ false → n ≡ length terms → entries' ≡ insert_entry order entries k n
+    → IsWeb entries' (terms ++ k.now ∷ []) (rows ++ [] ∷ [])
+web_more entries entries' terms rows k n w f l e = record {
+  finds = λ x. subst (λ (o : Option ℕ). Finds (terms ++ k.now ∷ []) x o) (sym (ap (find x) e ∙ find_insert x k entries n)) (finds_more terms k.now x n (find x entries) (same_term x k.now) refl l (w.finds x));
+  distinct = subst (λ b. Distinct same_term (cond b terms (terms ++ k.now ∷ []))) f (distinct_with_new same_term same_term-Decides k.now terms w.distinct);
+  long = let a : length (rows ++ [] ∷ []) ≡ length rows + 1 = length-append rows ([] ∷ []) in let b : length (terms ++ k.now ∷ []) ≡ length terms + 1 = length-append terms (k.now ∷ []) in omega (arith, a, b, w.long);
+  below = more_below terms k.now rows w.below;
+}
 
-  -- what is found
-  pub stands : (x : Term) (es : List (Bor Term × Vec (Bor Term) Z)) (v : Vec (Bor Term) Z) (terms : List (Bor Term)) → lookup (is_at (order_at x)) es ≡ Some v → terms ≡ v.items → lent terms ≡ at_term es x
-  stands x es v terms f e = ap lent e ∙ sym (ap terms_in (sym (find_is x es) ∙ f))
+lent_last : (terms terms' : List (Bor Term)) (k q : Bor Term) → terms' ≡ terms ++ q ∷ [] → q ≡ k → lent terms' ≡ lent terms ++ k.now ∷ []
+lent_last terms terms' k q t e = ap lent t ∙ (lent-append terms (q ∷ []) ∙ ap (λ z. lent terms ++ z.now ∷ []) e)
 
-  pub stands_none : (x : Term) (es : List (Bor Term × Vec (Bor Term) Z)) (terms : List (Bor Term)) → lookup (is_at (order_at x)) es ≡ None → terms ≡ [] → lent terms ≡ at_term es x
-  stands_none x es terms f e = ap lent e ∙ sym (ap terms_in (sym (find_is x es) ∙ f))
+rows_last : {Z : Type 0} (next next' : List (Vec ℕ Z)) (v : Vec ℕ Z) → next' ≡ next ++ v ∷ [] → v.items ≡ [] → rows_of next' ≡ rows_of next ++ [] ∷ []
+rows_last next next' v e i = ap rows_of e ∙ (map-append (λ (z : Vec ℕ _). z.items) next (v ∷ []) ∙ ap (λ l. rows_of next ++ l ∷ []) i)
 
--- ---- sets of terms that are lent with their hashes
+pub put_web : {Z : Type 0} (entries entries' : List (Bor Term × ℕ)) (terms terms' : List (Bor Term)) (next next' : List (Vec ℕ Z)) (k q : Bor Term) (n : ℕ) (v : Vec ℕ Z) → IsWeb entries (lent terms) (rows_of next)
+    → list_any (same_term k.now) (lent terms) ≡ false → n ≡ length (lent terms) → entries' ≡ insert_entry order entries k n → terms' ≡ terms ++ q ∷ [] → q ≡ k → next' ≡ next ++ v ∷ [] → v.items ≡ [] → IsWeb entries' (lent terms') (rows_of next')
+put_web entries entries' terms terms' next next' k q n v w f l e t d r i =
+    subst (λ (x : List Term). IsWeb entries' x (rows_of next')) (sym (lent_last terms terms' k q t d))
+    (subst (λ (x : List (List ℕ)). IsWeb entries' (lent terms ++ k.now ∷ []) x) (sym (rows_last next next' v r i)) (web_more entries entries' (lent terms) (rows_of next) k n w f l e))
 
-abbrev pub lent_order : Bor (Bor Term) → Bor (Bor Term) → Ordering
-lent_order a b = order a.now b.now
+pub put_leads : {Z : Type 0} (entries : List (Bor Term × ℕ)) (terms terms' : List (Bor Term)) (next next' : List (Vec ℕ Z)) (k q : Bor Term) (v : Vec ℕ Z) → IsWeb entries (lent terms) (rows_of next)
+    → terms' ≡ terms ++ q ∷ [] → q ≡ k → next' ≡ next ++ v ∷ [] → v.items ≡ [] → (x : Term) → leads_to (lent terms') (rows_of next') x ≡ leads_to (lent terms) (rows_of next) x
+put_leads entries terms terms' next next' k q v w t d r i x =
+    ap (λ (l : List Term). leads_to l (rows_of next') x) (lent_last terms terms' k q t d)
+    ∙ (ap (λ (l : List (List ℕ)). leads_to (lent terms ++ k.now ∷ []) l x) (rows_last next next' v r i) ∙ leads_more (lent terms) (rows_of next) k.now x w.long w.below)
 
-abbrev pub lent_order_at : Term → Bor (Bor Term) → Ordering
-lent_order_at a b = order_at a b.now
+-- ---- pairs
 
-inserted_lent : (q : Bor (Bor Term)) (ks : List (Bor (Bor Term))) → lent (insert_key lent_order ks q) ≡ insert_key order (lent ks) q.now
-inserted_lent q [] = refl
-inserted_lent q (k ∷ ks) = by (order q.now k.now) (inserted_lent q ks)
-  where
-    by : (o : Ordering) → lent (insert_key lent_order ks q) ≡ insert_key order (lent ks) q.now → lent (match_ordering o (q ∷ k ∷ ks) (k ∷ ks) (k ∷ insert_key lent_order ks q)) ≡ match_ordering o (q.now ∷ k.now ∷ lent ks) (k.now ∷ lent ks) (k.now ∷ insert_key order (lent ks) q.now)
-    by Less h = refl
-    by Equal h = refl
-    by Greater h = ap (λ l. k.now ∷ l) h
+-- rows of numbers
+pub rows_put : {Z : Type 0} (next : List (Vec ℕ Z)) (at n : ℕ) (v w : Vec ℕ Z) → at < length next → v ≡ get_or next at v → w.items ≡ v.items ++ n ∷ [] → rows_of (set next at w) ≡ put_at (rows_of next) at n
+rows_put [] at n v w lt is e = absurd (omega (arith, lt))
+rows_put (u ∷ next) zero n v w lt is e = ap (λ l. l ∷ rows_of next) (e ∙ ap (λ (z : Vec ℕ _). z.items ++ n ∷ []) is)
+rows_put (u ∷ next) (suc at) n v w lt is e = ap (λ l. u.items ∷ l) (rows_put next at n v w (omega (arith, lt)) is e)
 
-any_lent : (q : Term) (ks : List (Bor (Bor Term))) → list_any (is_at (lent_order_at q)) ks ≡ list_any (is_at (order_at q)) (lent ks)
-any_lent q [] = refl
-any_lent q (k ∷ ks) = ap (λ b. is_at (order_at q) k.now || b) (any_lent q ks)
+pub row_is : {Z : Type 0} (next : List (Vec ℕ Z)) (at : ℕ) (v : Vec ℕ Z) → at < length next → v ≡ get_or next at v → v.items ≡ get_or (rows_of next) at []
+row_is [] at v lt is = absurd (omega (arith, lt))
+row_is (u ∷ next) zero v lt is = ap (λ (z : Vec ℕ _). z.items) is
+row_is (u ∷ next) (suc at) v lt is = row_is next at v (omega (arith, lt)) is
 
-last_lent : (q : Bor (Bor Term)) (fs fs' : List (Bor (Bor Term))) → fs' ≡ fs ++ q ∷ [] → lent fs' ≡ lent fs ++ q.now ∷ []
-last_lent q fs fs' f = ap lent f ∙ map-append (λ (z : Bor (Bor Term)). z.now) fs (q ∷ [])
+pub row_under : {Z : Type 0} (count : ℕ) (next : List (Vec ℕ Z)) (at : ℕ) (v : Vec ℕ Z) (row : List ℕ) → at < length next → v ≡ get_or next at v → row ≡ v.items → All (AreBelow count) (rows_of next) → AreBelow count row
+row_under count next at v row lt is e h =
+    subst (AreBelow count) (sym (e ∙ row_is next at v lt is))
+    (All-get_or (AreBelow count) (rows_of next) at [] (let s : length (rows_of next) ≡ length next = length-map next (λ (z : Vec ℕ _). z.items) in omega (arith, lt, s)) h)
 
-pub lent_new : (q : Bor (Bor Term)) (ks fs fs' : List (Bor (Bor Term))) → Knows (values ks) (values fs) → list_any (is_at (lent_order_at q.now.now)) ks ≡ false → fs' ≡ fs ++ q ∷ [] → values fs' ≡ with_new same_term (values fs) q.now.now
-lent_new q ks fs fs' h e f = kept_new q.now (lent ks) (lent fs) (lent fs') h (sym (any_lent q.now.now ks) ∙ e) (last_lent q fs fs' f)
+pub reached_more : (x : Term) (terms : List (Bor Term)) (ns : List ℕ) (i n : ℕ) (y : Bor Term) → i < length ns → n ≡ get_or ns i n → n < length terms → y ≡ get_or terms n y
+    → map (pair x) (named x (lent terms) (take (i + 1) ns)) ≡ map (pair x) (named x (lent terms) (take i ns)) ++ pair x y.now ∷ []
+reached_more x terms ns i n y lt is k e =
+    ap (map (pair x)) (named_last x (lent terms) ns i n lt)
+    ∙ (map-append (pair x) (named x (lent terms) (take i ns)) (get_or (lent terms) (get_or ns i n) x ∷ [])
+    ∙ ap (λ z. map (pair x) (named x (lent terms) (take i ns)) ++ pair x z ∷ [])
+    (ap (λ j. get_or (lent terms) j x) (sym is)
+    ∙ (get_or_default (lent terms) n x y.now (let s : length (lent terms) ≡ length terms = length-map terms (λ (z : Bor Term). z.now) in omega (arith, k, s))
+    ∙ (get_or-map (λ (z : Bor Term). z.now) terms n y ∙ ap (λ (z : Bor Term). z.now) (sym e)))))
 
-pub lent_known : (q : Bor (Bor Term)) (ks fs : List (Bor (Bor Term))) → Knows (values ks) (values fs) → list_any (is_at (lent_order_at q.now.now)) ks ≡ true → values fs ≡ with_new same_term (values fs) q.now.now
-lent_known q ks fs h e = kept_known q.now (lent ks) (lent fs) (lent fs) h (sym (any_lent q.now.now ks) ∙ e) refl
+-- ---- lengths
 
-pub lent_more : (q : Bor (Bor Term)) (ks ks' fs fs' : List (Bor (Bor Term))) → Knows (values ks) (values fs) → ks' ≡ insert_key lent_order ks q → fs' ≡ fs ++ q ∷ [] → Knows (values ks') (values fs')
-lent_more q ks ks' fs fs' h e f = knows_more q.now (lent ks) (lent ks') (lent fs) (lent fs') h (ap lent e ∙ inserted_lent q ks) (last_lent q fs fs' f)
+pub terms_long : (terms : List (Bor Term)) → length (lent terms) ≡ length terms
+terms_long terms = length-map terms (λ (z : Bor Term). z.now)
 
-pub value_at : (xs ys : List (Bor (Bor Term))) (i : ℕ) (d : Bor (Bor Term)) → d ≡ get_or xs i d → xs ≡ ys → d.now.now ≡ get_or (values ys) i d.now.now
-value_at xs ys i d is e =
-    ap (λ z. z.now.now) is
-    ∙ (sym (get_or-map (λ (z : Bor Term). z.now) (lent xs) i d.now ∙ ap (λ z. z.now) (get_or-map (λ (z : Bor (Bor Term)). z.now) xs i d))
-    ∙ ap (λ l. get_or (values l) i d.now.now) e)
+pub named_long : (d : Term) (names : List Term) (ns : List ℕ) → length (named d names ns) ≡ length ns
+named_long d names ns = length-map ns (λ (m : ℕ). get_or names m d)
 
-pub reached_more : (x : Term) (y : Bor (Bor Term)) (ys : List (Bor (Bor Term))) (i : ℕ) → i < length ys → y ≡ get_or ys i y → map (pair x) (values (take (i + 1) ys)) ≡ map (pair x) (values (take i ys)) ++ pair x y.now.now ∷ []
-reached_more x y ys i lt is =
-    ap (λ l. map (pair x) (values l)) (take_more ys i y lt ∙ ap (λ z. take i ys ++ z ∷ []) (sym is))
-    ∙ (ap (λ l. map (pair x) (lent l)) (map-append (λ (z : Bor (Bor Term)). z.now) (take i ys) (y ∷ []))
-    ∙ (ap (map (pair x)) (lent-append (lent (take i ys)) (y.now ∷ []))
-    ∙ map-append (pair x) (values (take i ys)) (y.now.now ∷ [])))
+pub below_terms : (rounds : List ℕ) (terms : List (Bor Term)) (ns : List ℕ) → length rounds ≡ length terms → AreBelow (length rounds) ns → AreBelow (length (lent terms)) ns
+below_terms rounds terms ns e h = subst (λ n. AreBelow n ns) (e ∙ sym (terms_long terms)) h

@@ -1,25 +1,25 @@
 //! Closures with both ends open: the path's pairs are found once, and walks followed along them; under `+` from their left ends, else from
 //! each node.
 
-ghost use Rattle.std.specs.Prelude.{◌≡◌, ◌≢◌, [], true, None, IfOk, OnOk};
+ghost use Rattle.std.specs.Prelude.{◌≡◌, ◌≢◌, [], length, true, None, IfOk, OnOk};
 ghost use Rattle.std.specs.List.{list_any};
 ghost use Rattle.qs_terms.specs.Bag.{SameBag};
 ghost use Rattle.qs_terms.specs.Dataset.{nodes_of};
 ghost use Rattle.qs_terms.specs.Term.{same_term};
 ghost use Rattle.qs_paths.specs.Closure.{closure, ends};
 ghost use Rattle.qs_paths.specs.Edges.{lent};
-ghost use Rattle.qs_paths.specs.inner.Found.{Knows, Holds, begins};
-ghost use Rattle.qs_paths.specs.inner.Links.{values, HasSteps, AreStarts};
+ghost use Rattle.qs_paths.specs.inner.Found.{Holds, begins};
+ghost use Rattle.qs_paths.specs.inner.Links.{AreStarts, HasSteps, IsAt, IsMarked, IsWeb, named, rows_of};
 ghost use Rattle.qs_paths.specs.Pairs.{is_step, pairs};
 ghost use Rattle.qs_tree.specs.declared.path.Repetition.TheVariants.{ZeroOrOne};
 
 use crate::found::{Found, left_ends, nodes};
-use crate::links::{Links, links_of};
+use crate::links::{Links, Numbered, links_of};
 use crate::pair::Pair;
-use crate::reached::{Reached, hashed, put_reached};
+use crate::reached::{Reached, put_reached};
 use crate::source::Source;
+use crate::sweep::put_in_order;
 use qs_ast::path::Path;
-use qs_hashed::Hashed;
 use qs_terms::Term;
 use qs_tree::path::Repetition;
 use std::alloc::{AllocError, Global};
@@ -59,91 +59,112 @@ pub fn linked_from_all<'a, E: Source>(
     requires { SameBag steps.now (pairs (E.graph edges.now) path.now None None) }
     ensures { IfOk result (λ ps. SameBag ps.items (closure repetition (is_step (pairs (E.graph edges.now) path.now)) (E.graph edges.now) None None)) }
 {
-    let links = links_of(alloc, steps)?;
-    let starts = starts_of(alloc, edges, path, repetition, steps)?;
-    let keys = hashed(alloc, starts.terms.as_slice())?;
+    let mut links = links_of(alloc, steps)?;
+    let ends = starts_of(alloc, edges, path, repetition, steps)?;
+    let mut starts = links.numbered(alloc, ends.terms.as_slice())?;
+    put_in_order(alloc, &links, &mut starts)?;
+    let mut found = Reached::new(alloc, links.terms.as_slice().len())?;
     let mut rows = Vec::new(alloc);
-    for start in keys.as_slice() {
-        let found = linked(alloc, edges, path, repetition, &links, start)?;
-        put_reached(&mut rows, start, found.terms.as_slice())?;
+    for start in starts.as_slice() {
+        walk(edges, path, repetition, &links, start, &mut found)?;
+        put_reached(
+            &mut rows,
+            links.terms.as_slice(),
+            start.term,
+            found.numbers.as_slice(),
+        )?;
     }
     Ok(rows)
 }
 
-/// What the closure leads to from a node, each once.
-fn linked<'s, 'a, E: Source>(
-    alloc: Global,
+/// Finds what the closure leads to from a node, each once.
+fn walk<'a, E: Source>(
     edges: &'a E,
     path: &Path,
     repetition: Repetition,
-    links: &'s Links<'a>,
-    start: &'s Hashed<&'a Term>,
-) -> Result<Reached<'s, 'a>, AllocError>
-    requires links { HasSteps links.now.by_left.entries (pairs (E.graph edges.now) path.now) }
-    requires node { list_any (same_term start.now.now) (nodes_of (E.graph edges.now)) ≡ true }
-    ensures { IfOk result (λ f. SameBag (values f.terms.items) (ends repetition (is_step (pairs (E.graph edges.now) path.now)) (E.graph edges.now) start.now.now)) }
+    links: &Links<'a>,
+    start: &Numbered<'a>,
+    found: &mut Reached,
+) -> Result<(), AllocError>
+    requires web { IsWeb links.now.numbers.entries (lent links.now.terms.items) (rows_of links.now.next.items) }
+    requires links { HasSteps (lent links.now.terms.items) (rows_of links.now.next.items) (pairs (E.graph edges.now) path.now) }
+    requires at { IsAt (lent links.now.terms.items) start.now.number start.now.term.now }
+    requires node { list_any (same_term start.now.term.now) (nodes_of (E.graph edges.now)) ≡ true }
+    requires long { length found.old.rounds.items ≡ length links.now.terms.items }
+    requires marked { IsMarked found.old.round found.old.rounds.items found.old.numbers.items }
+    ensures ends { OnOk result (SameBag (named start.now.term.now (lent links.now.terms.items) found.new.numbers.items) (ends repetition (is_step (pairs (E.graph edges.now) path.now)) (E.graph edges.now) start.now.term.now)) }
+    ensures long { OnOk result (length found.new.rounds.items ≡ length links.now.terms.items) }
+    ensures marked { OnOk result (IsMarked found.new.round found.new.rounds.items found.new.numbers.items) }
 {
-    let mut found = Reached::new(alloc);
-    begin(edges, path, repetition, links, start, &mut found)?;
+    found.clear()?;
+    begin(edges, path, repetition, links, start, found)?;
     match repetition {
-        Repetition::ZeroOrOne => Ok(found),
+        Repetition::ZeroOrOne => Ok(()),
         _ => {
-            followed(edges, path, repetition, links, start, &mut found)?;
-            Ok(found)
+            follow(edges, path, repetition, links, start, found)?;
+            Ok(())
         }
     }
 }
 
 /// Puts what is led to before the search: by no step, or by one.
-fn begin<'s, 'a, E: Source>(
+fn begin<'a, E: Source>(
     edges: &'a E,
     path: &Path,
     repetition: Repetition,
-    links: &'s Links<'a>,
-    start: &'s Hashed<&'a Term>,
-    found: &mut Reached<'s, 'a>,
+    links: &Links<'a>,
+    start: &Numbered<'a>,
+    found: &mut Reached,
 ) -> Result<(), AllocError>
-    requires links { HasSteps links.now.by_left.entries (pairs (E.graph edges.now) path.now) }
-    requires node { list_any (same_term start.now.now) (nodes_of (E.graph edges.now)) ≡ true }
-    requires empty { values found.old.terms.items ≡ [] }
-    requires known { Knows (values found.old.known.keys) (values found.old.terms.items) }
-    ensures known { OnOk result (Knows (values found.new.known.keys) (values found.new.terms.items)) }
-    ensures holds { OnOk result (Holds (values found.new.terms.items) (begins repetition (is_step (pairs (E.graph edges.now) path.now)) start.now.now)) }
+    requires web { IsWeb links.now.numbers.entries (lent links.now.terms.items) (rows_of links.now.next.items) }
+    requires links { HasSteps (lent links.now.terms.items) (rows_of links.now.next.items) (pairs (E.graph edges.now) path.now) }
+    requires at { IsAt (lent links.now.terms.items) start.now.number start.now.term.now }
+    requires node { list_any (same_term start.now.term.now) (nodes_of (E.graph edges.now)) ≡ true }
+    requires empty { found.old.numbers.items ≡ [] }
+    requires long { length found.old.rounds.items ≡ length links.now.terms.items }
+    requires marked { IsMarked found.old.round found.old.rounds.items found.old.numbers.items }
+    ensures holds { OnOk result (Holds (named start.now.term.now (lent links.now.terms.items) found.new.numbers.items) (begins repetition (is_step (pairs (E.graph edges.now) path.now)) start.now.term.now)) }
+    ensures long { OnOk result (length found.new.rounds.items ≡ length links.now.terms.items) }
+    ensures marked { OnOk result (IsMarked found.new.round found.new.rounds.items found.new.numbers.items) }
 {
     match repetition {
         Repetition::ZeroOrOne => {
-            found.add(start)?;
-            links.lead_on(start, found)?;
+            found.add(start.number)?;
+            links.lead_on(start.number, found)?;
             Ok(())
         }
-        Repetition::ZeroOrMore => found.add(start),
+        Repetition::ZeroOrMore => found.add(start.number),
         Repetition::OneOrMore => {
-            links.lead_on(start, found)?;
+            links.lead_on(start.number, found)?;
             Ok(())
         }
     }
 }
 
-/// Breadth first: goes on from each term that was found, once, until nothing new is found.
-fn followed<'s, 'a, E: Source>(
+/// Breadth first: goes on from each number that was found, once, until nothing new is found.
+fn follow<'a, E: Source>(
     edges: &'a E,
     path: &Path,
     repetition: Repetition,
-    links: &'s Links<'a>,
-    start: &'s Hashed<&'a Term>,
-    found: &mut Reached<'s, 'a>,
+    links: &Links<'a>,
+    start: &Numbered<'a>,
+    found: &mut Reached,
 ) -> Result<(), AllocError>
     requires closing { repetition ≢ ZeroOrOne }
-    requires links { HasSteps links.now.by_left.entries (pairs (E.graph edges.now) path.now) }
-    requires node { list_any (same_term start.now.now) (nodes_of (E.graph edges.now)) ≡ true }
-    requires known { Knows (values found.old.known.keys) (values found.old.terms.items) }
-    requires holds { Holds (values found.old.terms.items) (begins repetition (is_step (pairs (E.graph edges.now) path.now)) start.now.now) }
-    ensures { OnOk result (SameBag (values found.new.terms.items) (ends repetition (is_step (pairs (E.graph edges.now) path.now)) (E.graph edges.now) start.now.now)) }
+    requires web { IsWeb links.now.numbers.entries (lent links.now.terms.items) (rows_of links.now.next.items) }
+    requires links { HasSteps (lent links.now.terms.items) (rows_of links.now.next.items) (pairs (E.graph edges.now) path.now) }
+    requires node { list_any (same_term start.now.term.now) (nodes_of (E.graph edges.now)) ≡ true }
+    requires long { length found.old.rounds.items ≡ length links.now.terms.items }
+    requires marked { IsMarked found.old.round found.old.rounds.items found.old.numbers.items }
+    requires holds { Holds (named start.now.term.now (lent links.now.terms.items) found.old.numbers.items) (begins repetition (is_step (pairs (E.graph edges.now) path.now)) start.now.term.now) }
+    ensures ends { OnOk result (SameBag (named start.now.term.now (lent links.now.terms.items) found.new.numbers.items) (ends repetition (is_step (pairs (E.graph edges.now) path.now)) (E.graph edges.now) start.now.term.now)) }
+    ensures long { OnOk result (length found.new.rounds.items ≡ length links.now.terms.items) }
+    ensures marked { OnOk result (IsMarked found.new.round found.new.rounds.items found.new.numbers.items) }
 {
     let mut at = 0;
     while at < found.len() {
-        let term = found.term(at);
-        links.lead_on(term, found)?;
+        let number = found.number(at);
+        links.lead_on(number, found)?;
         at += 1;
     }
     Ok(())

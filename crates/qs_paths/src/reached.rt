@@ -1,99 +1,109 @@
-//! Terms that a search along links reached, each once.
+//! Numbers that a walk along links reached, each once.
 
-ghost use Rattle.std.specs.Prelude.{◌≡◌, ◌<◌, ◌++◌, [], length, map, slice_index_or, IfOk, OnOk};
+ghost use Rattle.std.specs.Prelude.{◌≡◌, ◌<◌, ◌++◌, [], All, length, map, slice_index_or, IfOk, OnOk};
 ghost use Rattle.qs_terms.specs.Bag.{with_new};
-ghost use Rattle.qs_terms.specs.Term.{same_term};
 ghost use Rattle.qs_paths.specs.Edges.{lent};
 ghost use Rattle.qs_paths.specs.Pair.{pair};
-ghost use Rattle.qs_paths.specs.inner.Found.{Knows, with_all};
-ghost use Rattle.qs_paths.specs.inner.Links.{values};
+ghost use Rattle.qs_paths.specs.inner.Links.{AreBelow, IsMarked, named, same_number, with_numbers};
 
 use crate::pair::Pair;
-use qs_hashed::Hashed;
 use qs_terms::Term;
 use std::alloc::{AllocError, Global};
-use std::collections::BTreeSet;
 
-/// Terms with their hashes in the order in which they were reached, and the set of them. They are lent, so that none is hashed again.
+/// Numbers in the order in which they were reached, and for each number the last round in which it was. A walk is a round, so that what one
+/// reached needn't be taken back before the next.
 #[derive(Drop)]
-pub struct Reached<'s, 'a> {
-    pub terms: Vec<&'s Hashed<&'a Term>>,
-    pub known: BTreeSet<&'s Hashed<&'a Term>>,
+pub struct Reached {
+    pub numbers: Vec<usize>,
+    pub rounds: Vec<usize>,
+    pub round: usize,
 }
 
-impl<'s, 'a> Reached<'s, 'a> {
-    pub fn new(alloc: Global) -> Reached<'s, 'a>
-        ensures empty { values result.terms.items ≡ [] }
-        ensures known { Knows (values result.known.keys) (values result.terms.items) }
+impl Reached {
+    /// None of so many numbers.
+    pub fn new(alloc: Global, count: usize) -> Result<Reached, AllocError>
+        ensures long { IfOk result (λ r. length r.rounds.items ≡ count) }
+        ensures marked { IfOk result (λ r. IsMarked r.round r.rounds.items r.numbers.items) }
     {
-        Reached {
-            terms: Vec::new(alloc),
-            known: BTreeSet::new(alloc),
-        }
+        let mut rounds = Vec::new(alloc);
+        rounds.resize(count, 0)?;
+        Ok(Reached {
+            numbers: Vec::new(alloc),
+            rounds,
+            round: 1,
+        })
+    }
+
+    /// Begins the next round, with none reached.
+    pub fn clear(&mut self) -> Result<(), AllocError>
+        requires { IsMarked self.old.round self.old.rounds.items self.old.numbers.items }
+        ensures numbers { OnOk result (self.new.numbers.items ≡ []) }
+        ensures long { OnOk result (length self.new.rounds.items ≡ length self.old.rounds.items) }
+        ensures marked { OnOk result (IsMarked self.new.round self.new.rounds.items self.new.numbers.items) }
+    {
+        self.round = self.round.checked_add(1).ok_or(AllocError)?;
+        self.numbers.clear();
+        Ok(())
     }
 
     pub fn len(&self) -> usize
-        ensures { result ≡ length (values self.now.terms.items) }
+        ensures { result ≡ length self.now.numbers.items }
     {
-        self.terms.as_slice().len()
+        self.numbers.as_slice().len()
     }
 
-    pub fn term(&self, at: usize) -> &'s Hashed<&'a Term>
-        requires { at < length (values self.now.terms.items) }
-        ensures { result.now.now ≡ slice_index_or (values self.now.terms.items) at result.now.now }
+    pub fn number(&self, at: usize) -> usize
+        requires { at < length self.now.numbers.items }
+        ensures { result ≡ slice_index_or self.now.numbers.items at result }
     {
-        let terms = self.terms.as_slice();
-        terms[at]
+        self.numbers[at]
     }
 
-    /// Puts the term at the end, if it isn't there yet.
-    pub fn add(&mut self, term: &'s Hashed<&'a Term>) -> Result<(), AllocError>
-        requires { Knows (values self.old.known.keys) (values self.old.terms.items) }
-        ensures terms { OnOk result (values self.new.terms.items ≡ with_new same_term (values self.old.terms.items) term.now.now) }
-        ensures known { OnOk result (Knows (values self.new.known.keys) (values self.new.terms.items)) }
+    /// Puts the number at the end, if it isn't there yet.
+    pub fn add(&mut self, number: usize) -> Result<(), AllocError>
+        requires below { number < length self.old.rounds.items }
+        requires marked { IsMarked self.old.round self.old.rounds.items self.old.numbers.items }
+        ensures numbers { OnOk result (self.new.numbers.items ≡ with_new same_number self.old.numbers.items number) }
+        ensures long { OnOk result (length self.new.rounds.items ≡ length self.old.rounds.items) }
+        ensures marked { OnOk result (IsMarked self.new.round self.new.rounds.items self.new.numbers.items) }
     {
-        if self.known.insert(term)? {
-            self.terms.push(term)?;
+        if self.rounds[number] == self.round {
+            return Ok(());
         }
+        self.numbers.push(number)?;
+        self.rounds[number] = self.round;
         Ok(())
     }
 
-    /// Puts the terms at the end, each if it isn't there yet.
-    #[tactic(auto, using(crate::proofs::Finds::all_more))]
-    pub fn add_all(&mut self, terms: &'s [Hashed<&'a Term>]) -> Result<(), AllocError>
-        requires { Knows (values self.old.known.keys) (values self.old.terms.items) }
-        ensures terms { OnOk result (values self.new.terms.items ≡ with_all (values self.old.terms.items) (lent terms.now)) }
-        ensures known { OnOk result (Knows (values self.new.known.keys) (values self.new.terms.items)) }
+    #[tactic(auto, using(crate::proofs::Numbers::numbers_more))]
+    /// Puts the numbers at the end, each if it isn't there yet.
+    pub fn add_all(&mut self, numbers: &[usize]) -> Result<(), AllocError>
+        requires below { AreBelow (length self.old.rounds.items) numbers.now }
+        requires marked { IsMarked self.old.round self.old.rounds.items self.old.numbers.items }
+        ensures numbers { OnOk result (self.new.numbers.items ≡ with_numbers self.old.numbers.items numbers.now) }
+        ensures long { OnOk result (length self.new.rounds.items ≡ length self.old.rounds.items) }
+        ensures marked { OnOk result (IsMarked self.new.round self.new.rounds.items self.new.numbers.items) }
     {
-        for term in terms {
-            self.add(term)?;
+        for number in numbers {
+            self.add(*number)?;
         }
         Ok(())
     }
 }
 
-/// The terms with their hashes.
-pub fn hashed<'a>(alloc: Global, terms: &[&'a Term]) -> Result<Vec<Hashed<&'a Term>>, AllocError>
-    ensures { IfOk result (λ hs. hs.items ≡ terms.now) }
-{
-    let mut hashed = Vec::new(alloc);
-    for term in terms {
-        hashed.push(Hashed::new(*term))?;
-    }
-    Ok(hashed)
-}
-
-/// Puts the pairs from a term to those that were reached.
+/// Puts the pairs from a term to those of the numbers.
 #[tactic(auto, using(crate::proofs::LinkLaws::reached_more))]
 pub fn put_reached<'a>(
     pairs: &mut Vec<Pair<'a>>,
-    start: &Hashed<&'a Term>,
-    ends: &[&Hashed<&'a Term>],
+    terms: &[&'a Term],
+    start: &'a Term,
+    numbers: &[usize],
 ) -> Result<(), AllocError>
-    ensures { OnOk result (pairs.new.items ≡ pairs.old.items ++ map (pair start.now.now) (values ends.now)) }
+    requires { AreBelow (length terms.now) numbers.now }
+    ensures { OnOk result (pairs.new.items ≡ pairs.old.items ++ map (pair start.now) (named start.now (lent terms.now) numbers.now)) }
 {
-    for end in ends {
-        pairs.push(Pair::new(*start.get(), *end.get()))?;
+    for number in numbers {
+        pairs.push(Pair::new(start, terms[*number]))?;
     }
     Ok(())
 }

@@ -1,11 +1,10 @@
-use Rattle.std.proofs.Common.{◌≡◌, take}
-use Rattle.qs_paths.specs.Edges.{lent}
-use Rattle.qs_paths.specs.inner.Found.{Knows, with_all}
-use Rattle.qs_paths.specs.inner.Links.{values}
+use Rattle.std.proofs.Common.{◌≡◌, length, take}
+use Rattle.qs_paths.specs.inner.Links.{IsMarked, with_numbers}
 use Rattle.qs_paths.proofs.reached.Reached.add_all.Given as goal
 
-abbrev pub invariant-loop-term : goal.invariant-loop-term
-invariant-loop-term l = record {
-  known : Knows (values l.self.known.keys) (values l.self.terms.items);
-  terms : values l.self.terms.items ≡ with_all (values l.fn.self.terms.items) (lent (take l.term-index l.terms));
+abbrev pub invariant-loop-number : goal.invariant-loop-number
+invariant-loop-number l = record {
+  numbers : l.self.numbers.items ≡ with_numbers l.fn.self.numbers.items (take l.number-index l.numbers);
+  long : length l.self.rounds.items ≡ length l.fn.self.rounds.items;
+  marked : IsMarked l.self.round l.self.rounds.items l.self.numbers.items;
 }
