@@ -1,18 +1,17 @@
 //! Rows of the right side of a join, found by the terms of a variable.
 
-ghost use Rattle.std.specs.Prelude.{◌≡◌, ◌++◌, [], ◌∷◌, if◌then◌else◌, Some, IfOk, OnOk, IfSome};
-ghost use Rattle.std.specs.List.{filter, list_all};
-ghost use Rattle.qs_terms.specs.Term.{same_term};
-ghost use Rattle.qs_terms.specs.declared.term.Term.{Term as TermValue};
-ghost use Rattle.qs_solutions.specs.Solution.{compatible, term_at};
-ghost use Rattle.qs_eval.specs.inner.Keyed.{is_bound, binds, at_term, IsKeyed, IsBoundIn};
+ghost use Rattle.std.specs.Prelude.{◌≡◌, ◌<◌, ◌≤◌, true, false, [], length, map, All, IfOk, OnOk};
+ghost use Rattle.std.specs.List.{filter, list_all, HoldsAt};
+ghost use Rattle.std.specs.List.Sorted.{IsPermutation, IsPartitionPoint, IsSortedBy, IsStableBy};
+ghost use Rattle.qs_solutions.specs.Solution.{compatible};
+ghost use Rattle.qs_eval.specs.inner.Keyed.{is_bound, is_before, is_lower, row_of};
+ghost use Rattle.qs_eval.specs.inner.Keyed.{AreKeyed, BindAlike, IsBoundIn, IsOther, IsPartAt, IsPlaced};
 ghost use Rattle.qs_eval.specs.inner.Lent.{lent};
 
 use qs_hashed::Hashed;
 use qs_solutions::Row;
 use qs_terms::Term;
 use std::alloc::{AllocError, Global};
-use std::collections::BTreeMap;
 use std::marker::Model;
 
 /// Rows that are lent. Where a variable is bound in all of them, they are found by its terms, so that a row to join is held against those
@@ -21,7 +20,17 @@ use std::marker::Model;
 pub struct Keyed<'a> {
     all: Vec<&'a Row>,
     variable: Option<usize>,
-    by_term: BTreeMap<Hashed<Term>, Vec<&'a Row>>,
+
+    // the terms of the variable, ascending, and at each its row; those of one term stand in the order of all the rows
+    keys: Vec<Hashed<&'a Term>>,
+    rows: Vec<&'a Row>,
+}
+
+/// A row with its term of the variable.
+#[derive(Drop)]
+struct Placed<'a> {
+    key: Hashed<&'a Term>,
+    row: &'a Row,
 }
 
 impl<'a> Model for Keyed<'a> {
@@ -34,68 +43,78 @@ impl<'a> Model for Keyed<'a> {
 
     ghost view = { λ k. lent k.all.items };
 
-    ghost invariant = { λ k. IsBoundIn k.variable (lent k.all.items) × AreFoundBy k.variable k.by_term.entries (lent k.all.items) };
+    ghost invariant = { λ k. IsBoundIn k.variable (lent k.all.items) × AreFoundBy k.variable k.keys.items k.rows.items (lent k.all.items) };
 }
 
 /// The rows, lent one by one.
 fn lend<'a>(alloc: Global, rows: &'a [Row]) -> Result<Vec<&'a Row>, AllocError>
     ensures { IfOk result (λ all. lent all.items ≡ rows.now) }
 {
-    let mut all = Vec::new(alloc);
+    let mut all = Vec::with_capacity(alloc, rows.len())?;
     for row in rows {
         all.push(row)?;
     }
     Ok(all)
 }
 
-/// Puts the row behind those at the term.
-fn put<'a>(
+/// The rows that bind the variable, each with its term.
+fn bound_rows<'a>(
     alloc: Global,
-    map: &mut BTreeMap<Hashed<Term>, Vec<&'a Row>>,
-    term: &Term,
-    row: &'a Row,
-) -> Result<(), AllocError>
-    ensures { OnOk result ((x : TermValue) → at_term map.new.entries x ≡ at_term map.old.entries x ++ (if same_term x term.now then row.now ∷ [] else [])) }
-{
-    let key = Hashed::new(term.try_clone()?);
-    if let Some(there) = map.get_mut(&key) {
-        there.push(row)?;
-        return Ok(());
-    }
-    let mut there = Vec::new(alloc);
-    there.push(row)?;
-    map.insert(key, there)?;
-    Ok(())
-}
-
-/// Puts the row behind those at its term of the variable, if it has one.
-fn put_bound<'a>(
-    alloc: Global,
-    map: &mut BTreeMap<Hashed<Term>, Vec<&'a Row>>,
     variable: usize,
-    row: &'a Row,
-) -> Result<(), AllocError>
-    ensures { OnOk result ((x : TermValue) → at_term map.new.entries x ≡ at_term map.old.entries x ++ (if binds variable x row.now then row.now ∷ [] else [])) }
+    rows: &[&'a Row],
+) -> Result<Vec<Placed<'a>>, AllocError>
+    ensures keys { IfOk result (λ placed. All (IsPlaced variable) placed.items) }
+    ensures rows { IfOk result (λ placed. BindAlike variable (map row_of placed.items) (lent rows.now)) }
 {
-    match row.term(variable) {
-        Some(term) => put(alloc, map, term, row),
-        None => Ok(()),
+    let mut placed = Vec::with_capacity(alloc, rows.len())?;
+    for row in rows {
+        let row: &'a Row = *row;
+        if let Some(term) = row.term(variable) {
+            let key = Hashed::new(term);
+            placed.push(Placed { key, row })?;
+        }
     }
+    Ok(placed)
 }
 
-/// The rows by their terms of the variable.
+/// Puts them in the order of their terms; those of one term keep theirs.
+fn sort(placed: &mut Vec<Placed<'_>>) -> Result<(), AllocError>
+    ensures permutation { IsPermutation placed.old.items placed.new.items }
+    ensures order { OnOk result (IsSortedBy is_before placed.new.items) }
+    ensures stable { IsStableBy is_before placed.old.items placed.new.items }
+{
+    placed.sort_by(|a, b| a.key.cmp(&b.key))
+}
+
+/// The terms and the rows, each by themselves.
+fn taken_apart<'a>(
+    alloc: Global,
+    placed: Vec<Placed<'a>>,
+) -> Result<(Vec<Hashed<&'a Term>>, Vec<&'a Row>), AllocError>
+    ensures keys { IfOk result (λ lists. lists.0.items ≡ map (λ p. p.key) placed.entry.items) }
+    ensures rows { IfOk result (λ lists. lists.1.items ≡ map (λ p. p.row) placed.entry.items) }
+{
+    let mut keys = Vec::with_capacity(alloc, placed.len())?;
+    let mut rows = Vec::with_capacity(alloc, placed.len())?;
+    for one in placed {
+        let Placed { key, row } = one;
+        keys.push(key)?;
+        rows.push(row)?;
+    }
+    Ok((keys, rows))
+}
+
+/// The terms of the variable, ascending, and the rows at them.
 fn keyed_by<'a>(
     alloc: Global,
     variable: usize,
     rows: &[&'a Row],
-) -> Result<BTreeMap<Hashed<Term>, Vec<&'a Row>>, AllocError>
-    ensures { IfOk result (λ map. IsKeyed variable map.entries (lent rows.now)) }
+) -> Result<(Vec<Hashed<&'a Term>>, Vec<&'a Row>), AllocError>
+    ensures { IfOk result (λ lists. AreKeyed variable lists.0.items lists.1.items (lent rows.now)) }
 {
-    let mut map = BTreeMap::new(alloc);
-    for row in rows {
-        put_bound(alloc, &mut map, variable, *row)?;
-    }
-    Ok(map)
+    let mut placed = bound_rows(alloc, variable, rows)?;
+    sort(&mut placed)?;
+    taken_apart(alloc, placed)
 }
 
 fn is_bound_in_all(rows: &[Row], variable: usize) -> bool
@@ -130,35 +149,39 @@ fn variable_of(left: &[Row], right: &[Row]) -> Option<usize>
     variable_like(&left[0], right)
 }
 
-fn none_of<'e, 'a>(rows: &'e [&'a Row]) -> &'e [&'a Row]
-    ensures { result.now ≡ [] }
+/// The place of the first key that isn't below this one.
+fn first_at(keys: &[Hashed<&Term>], key: &Hashed<&Term>) -> usize
+    requires { IsSortedBy is_lower keys.now }
+    ensures within { result ≤ length keys.now }
+    ensures point { IsPartitionPoint (λ y. is_lower y key.now ≡ true) (λ y. is_lower y key.now ≡ false) keys.now result }
 {
-    &rows[..0]
+    keys.partition_point(|other| *other < *key)
 }
 
-/// The rows that stand at the term; none of all the rows where none does.
-fn standing<'e, 'a>(
-    map: &'e BTreeMap<Hashed<Term>, Vec<&'a Row>>,
-    term: &Hashed<Term>,
-    all: &'e [&'a Row],
-) -> &'e [&'a Row]
-    ensures { lent result.now ≡ at_term map.now.entries term.now }
+/// The place, from the first on, of a key that is another; behind the last where none is.
+fn end_at(keys: &[Hashed<&Term>], key: &Hashed<&Term>, first: usize) -> usize
+    requires { first ≤ length keys.now }
+    ensures from { first ≤ result }
+    ensures within { result ≤ length keys.now }
+    ensures other { result < length keys.now → HoldsAt (IsOther key.now.now) keys.now result }
 {
-    match map.get(term) {
-        Some(there) => there.as_slice(),
-        None => none_of(all),
+    let mut end = first;
+    while end < keys.len() && keys[end] == *key {
+        end += 1;
     }
+    end
 }
 
-/// The term that the row binds the variable to, as a key.
-fn key_of(row: &Row, variable: usize) -> Option<Hashed<Term>>
-    ensures { IfSome result (λ key. term_at row.now variable ≡ Some key) }
+/// The rows at the term. Keys are told apart by the whole term, since whoever chooses terms may choose many with one hash.
+fn standing<'e, 'a>(keys: &[Hashed<&'a Term>], rows: &'e [&'a Row], term: &Term) -> &'e [&'a Row]
+    requires order { IsSortedBy is_lower keys.now }
+    requires as_many { length keys.now ≡ length rows.now }
+    ensures { IsPartAt term.now keys.now rows.now result.now }
 {
-    let term = row.term(variable)?;
-    match term.try_clone() {
-        Ok(term) => Some(Hashed::new(term)),
-        Err(_) => None,
-    }
+    let key = Hashed::new(term);
+    let first = first_at(keys, &key);
+    let end = end_at(keys, &key, first);
+    &rows[first..end]
 }
 
 impl<'a> Keyed<'a> {
@@ -168,14 +191,15 @@ impl<'a> Keyed<'a> {
         ensures { IfOk result (λ k. k ≡ right.now) }
     {
         let all = lend(alloc, right)?;
-        let by_term = match variable {
+        let (keys, rows) = match variable {
             Some(variable) => keyed_by(alloc, variable, all.as_slice())?,
-            None => BTreeMap::new(alloc),
+            None => (Vec::new(alloc), Vec::new(alloc)),
         };
         Ok(Keyed {
             all,
             variable,
-            by_term,
+            keys,
+            rows,
         })
     }
 
@@ -211,8 +235,8 @@ impl<'a> Keyed<'a> {
         let Some(variable) = self.variable else {
             return self.all.as_slice();
         };
-        match key_of(row, variable) {
-            Some(term) => standing(&self.by_term, &term, self.all.as_slice()),
+        match row.term(variable) {
+            Some(term) => standing(self.keys.as_slice(), self.rows.as_slice(), term),
             None => self.all.as_slice(),
         }
     }

@@ -76,7 +76,7 @@ fn rows_of(
 ) -> Result<Vec<Row>, AllocError>
     ensures { IfOk result (λ rows. rows.items ≡ map (spec.ends_bound width pattern.now) (filter (spec.fits pattern.now) pairs.now)) }
 {
-    let mut rows = Vec::new(alloc);
+    let mut rows = Vec::with_capacity(alloc, pairs.len())?;
     for pair in pairs {
         if fits(pattern, pair) {
             let row = ends_bound(alloc, width, pattern, pair)?;
