@@ -1,12 +1,10 @@
 -- From the least keys in order to the first solutions of an order.
 use Rattle.std.proofs.Common.{◌≡◌, refl, sym, ap, ◌∙◌, subst, arith}
 use Rattle.std.proofs.lemmas.List.{take_all, take_at, take-map}
-use Rattle.std.proofs.lemmas.List.Elements.{All-cons}
-use Rattle.std.proofs.lemmas.List.Sorted.{ranks_by, length_permutation, IsPermutation-refl, IsPermutation-trans, IsPermutation-append_left, All-permutation}
+use Rattle.std.proofs.lemmas.List.Sorted.{ranks_by, length_permutation, IsPermutation-refl, IsPermutation-trans}
 use Rattle.std.specs.Cmp.{IsTotalOrder}
 use Rattle.std.specs.List.{All}
-use Rattle.std.specs.List.Sorted.{IsPermutation, IsSortedBy, IsSplitAroundBy}
-use Rattle.std.specs.Prelude.{ℕ, ◌≤◌, false, List, [], ◌∷◌, ◌++◌, length, map, take, slice_index_or}
+use Rattle.std.specs.Prelude.{ℕ, ◌≤◌, List, [], ◌++◌, length, map, take}
 use Rattle.qs_solutions.specs.Solution.{Solution}
 use Rattle.qs_terms.specs.Bag.{SameBag}
 use Rattle.qs_values.specs.Sorting as of
@@ -17,21 +15,6 @@ use Rattle.qs_order.specs.inner.Keyed.{IsKeyed, is_lower, row_of, AreLeast}
 use Rattle.qs_order.specs.Order.{AreFirst, IsOrdered}
 use Rattle.qs_order.specs.declared.condition.OrderCondition.{OrderCondition}
 use Rattle.qs_order.specs.declared.keyed.Keyed.{Keyed}
-
--- those before an element of the order, once they are in order
-pub are_least : (cs : List OrderCondition) (keyed front least back : List Keyed) (x : Keyed) (n : ℕ) → IsTotalOrder of.compare_keys → IsPermutation keyed (front ++ x ∷ back) → length front ≡ n → IsSplitAroundBy (is_lower cs) front x back
-    → IsPermutation front least → IsSortedBy (is_lower cs) least → AreLeast cs keyed n least
-are_least cs keyed front least back x n t moved long split again up =
-    let o = ranks_by (lists_total t cs) (λ (k : Keyed). k.keys.items) in
-    let none : (a : Keyed) → is_lower cs x a ≡ false → All (λ b. is_lower cs b a ≡ false) (x ∷ back) =
-    λ a e. All-cons (λ b. is_lower cs b a ≡ false) x back e (λ k d p. o.chain (slice_index_or back k d) x a (split.1 k d p) e) in
-    let all : All (λ a. All (λ b. is_lower cs b a ≡ false) (x ∷ back)) front = λ k d p. none (slice_index_or front k d) (split.0 k d p) in (
-      x ∷ back,
-      IsPermutation-trans _ _ _ moved (IsPermutation-append_left (x ∷ back) front least again),
-      length_permutation front least again ∙ long,
-      up,
-      All-permutation (λ a. All (λ b. is_lower cs b a ≡ false) (x ∷ back)) front least again all,
-    )
 
 pub first_rows : (cs : List OrderCondition) (keyed least : List Keyed) (rows first : List Solution) (n : ℕ) → IsTotalOrder of.compare_keys → map row_of keyed ≡ rows → All (IsKeyed cs) keyed → AreLeast cs keyed n least → first ≡ map row_of least
     → AreFirst cs rows n first

@@ -45,7 +45,7 @@ pub(crate) fn order_of(conditions: &[OrderCondition], a: &Keyed<'_>, b: &Keyed<'
     compared(conditions, a.keys.as_slice(), b.keys.as_slice())
 }
 
-fn sort(conditions: &[OrderCondition], keyed: &mut Vec<Keyed<'_>>)
+pub(crate) fn sort(conditions: &[OrderCondition], keyed: &mut Vec<Keyed<'_>>)
     ensures permutation { IsPermutation keyed.old.items keyed.new.items }
     ensures order { IsSortedBy (is_lower conditions.now) keyed.new.items }
 {
