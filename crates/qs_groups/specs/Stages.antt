@@ -1,5 +1,5 @@
 -- What the steps of a group make of solutions (SPARQL 1.1 Query, 18.5), one after another, and those that wait before them.
-use Rattle.std.specs.Prelude.{◌≡◌, ℕ, ◌+◌, ◌<◌, List, [], ◌∷◌, drop, Option, None, Some}
+use Rattle.std.specs.Prelude.{◌≡◌, ℕ, ◌+◌, ◌<◌, List, [], ◌∷◌, ◌++◌, drop, Option, None, Some}
 use Rattle.std.specs.List.{flat_map}
 use Rattle.qs_terms.specs.Bag.{SameBag}
 use Rattle.qs_solutions.specs.Operators.{merges, or_alone, minus}
@@ -50,6 +50,10 @@ onward ss w = through (drop w.at ss) w.row
 -- what becomes of those that wait
 abbrev pub coming : List Kept → List Waiting → List Solution
 coming ss ws = flat_map (onward ss) ws
+
+-- what becomes of those that wait and of those that are left
+abbrev pub ahead : List Kept → List Solution → List Waiting → List Solution
+ahead ss left ws = coming ss ws ++ flat_map (through ss) left
 
 -- the sum over a list
 abbrev pub summed : {X : Type 0} → (X → ℕ) → List X → ℕ

@@ -83,15 +83,15 @@ slot_there c t n s e =
 
 -- ---- a variable that is bound
 
-some_term : (o : Option Term) → is_used o ≡ true → (t : Term) × (o ≡ Some t)
+pub some_term : (o : Option Term) → is_used o ≡ true → (t : Term) × (o ≡ Some t)
 some_term None h = let f : false ≡ true = h in cc
 some_term (Some t) h = (t, refl)
 
-none_term : (o : Option Term) → is_used o ≡ false → o ≡ None
+pub none_term : (o : Option Term) → is_used o ≡ false → o ≡ None
 none_term None h = refl
 none_term (Some t) h = let f : true ≡ false = h in cc
 
-itself : (t : Term) → same_term t t ≡ true
+pub itself : (t : Term) → same_term t t ≡ true
 itself t = (same_term-Decides t t).1 refl
 
 -- the variable has this number already
@@ -101,7 +101,7 @@ bound_same known m v n e u =
     let c : bound_term (row_solution known m) v ≡ Some t.0 = at_cell known m v ∙ (ap (cell_term known) (sym e) ∙ t.1) in
     rw t.1 (rw c (rw (itself t.0) refl))
 
-other_term : (c : Content) → IsSeen c → (a n : ℕ) (t u : Term) → term_at c.known a ≡ Some t → term_at c.known n ≡ Some u → a ≢ n → (b : Bool) → same_term t u ≡ b → b ≡ false
+pub other_term : (c : Content) → IsSeen c → (a n : ℕ) (t u : Term) → term_at c.known a ≡ Some t → term_at c.known n ≡ Some u → a ≢ n → (b : Bool) → same_term t u ≡ b → b ≡ false
 other_term c s a n t u e f ne true q =
     let k : t ≡ u = (same_term-Decides t u).0 q in
     absurd (ne (same_number c.known s.lawful.terms_once a n u (e ∙ ap Some k) f))

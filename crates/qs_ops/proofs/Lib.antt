@@ -6,6 +6,7 @@ pub mod Moves
 pub mod Known
 pub mod Orders
 pub mod Fronts
+pub mod Both
 pub mod Named
 pub mod Needed
 pub mod Settled

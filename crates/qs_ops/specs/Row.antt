@@ -32,6 +32,10 @@ front (suc i) zero m = []
 front (suc i) (suc n) [] = unbound (suc n)
 front (suc i) (suc n) (t ∷ m) = t ∷ front i n m
 
+-- the first n variables of the solution that a row stands for
+abbrev pub front_solution : List Term → ℕ → Cells → Solution
+front_solution known n m = front n n (row_solution known m)
+
 -- m with the variable bound to the term, if there is one
 abbrev pub with_term : Solution → ℕ → Option Term → Solution
 with_term m v None = m

@@ -6,6 +6,7 @@ mod bind;
 mod cursor;
 mod matches;
 mod order;
+mod pairs;
 mod place;
 mod row;
 mod search;
@@ -14,5 +15,7 @@ mod terms;
 mod tests;
 
 pub use matches::Matches;
+pub use pairs::{are_compatible, merged, number, share};
 pub use row::Row;
 pub use terms::{solution, term};
+pub use tests::Front;

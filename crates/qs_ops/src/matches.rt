@@ -24,7 +24,7 @@ use std::alloc::{AllocError, Global};
 use std::marker::Model;
 
 /// The content of a view is lawful.
-fn is_seen<V: View>(view: &V)
+pub(crate) fn is_seen<V: View>(view: &V)
     ensures { IsSeen (V.content view.now) }
 {
     let _count = view.count();
@@ -170,6 +170,13 @@ impl<'a, V: View> Matches<'a, V> {
         let tests = tests_of(alloc, named, conditions)?;
         let matches = Matches::start(alloc, view, active, tests, seeks, width)?;
         Ok(matches)
+    }
+
+    /// What is searched.
+    pub fn view(&self) -> &'a V
+        ensures { (V.content result.now).known ≡ self.now.known }
+    {
+        self.view
     }
 
     /// The next row, or none where there is none left.

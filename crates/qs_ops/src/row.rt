@@ -33,8 +33,15 @@ impl Row {
         Ok(Row { cells })
     }
 
+    /// So many variables as there are cells.
+    pub(crate) fn of(cells: Vec<Option<u32>>) -> Row
+        ensures { result ≡ cells.items }
+    {
+        Row { cells }
+    }
+
     /// The number of a variable's term; none for a variable past the last.
-    pub(crate) fn cell(&self, variable: usize) -> Option<u32>
+    pub fn cell(&self, variable: usize) -> Option<u32>
         ensures { result ≡ cell_at self.now variable }
     {
         match self.cells.get(variable) {

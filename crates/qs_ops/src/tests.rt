@@ -29,13 +29,13 @@ pub struct Tests<'c> {
 
 /// The first variables of a row.
 #[derive(Drop)]
-struct Named<'r, V: View> {
-    view: &'r V,
-    row: &'r Row,
-    width: usize,
+pub struct Front<'r, V: View> {
+    pub view: &'r V,
+    pub row: &'r Row,
+    pub width: usize,
 }
 
-impl<'r, V: View> Bindings for Named<'r, V> {
+impl<'r, V: View> Bindings for Front<'r, V> {
     ghost use Rattle.qs_ops.specs.Row.{front, row_solution};
 
     ghost solution = { λ n. front n.width n.width (row_solution (V.content n.view.now).known n.row.now) };
@@ -104,12 +104,12 @@ pub(crate) fn lets<V: View>(
     ensures { IfOk result (λ b. b ≡ lets tests.now (row_solution (V.content view.now).known before.now) (row_solution (V.content view.now).known row.now)) }
 {
     let width = tests.named;
-    let before = Named {
+    let before = Front {
         view,
         row: before,
         width,
     };
-    let now = Named { view, row, width };
+    let now = Front { view, row, width };
     passes_all(alloc, tests.list.as_slice(), &before, &now)
 }
 

@@ -26,10 +26,10 @@ use Rattle.qs_ops.specs.Row.{front}
 use Rattle.qs_ops.specs.Tests.{Extends, IsDropped, AreWanted}
 use Rattle.qs_groups.specs.Stages.{through}
 use Rattle.qs_groups.specs.declared.kept.Kept.{Kept}
-use Rattle.qs_plan.specs.inner.Groups.{KeepsDropped}
+use Rattle.qs_plan.specs.inner.Groups.{AreKept, KeepsDropped}
 use Rattle.qs_plan.specs.inner.Collected.{Collection, Collects}
 use Rattle.qs_plan.proofs.Fitted.{basic_is, found_rows, unit_matches}
-use Rattle.qs_plan.proofs.Groups.{AreKept, some_kept}
+use Rattle.qs_plan.proofs.Groups.{some_kept}
 
 all_append : {X : Type 0} (P : X → Type 0) (xs ys : List X) → AllByRecursion P xs → AllByRecursion P ys → AllByRecursion P (xs ++ ys)
 all_append P [] ys h k = k

@@ -1,12 +1,12 @@
 -- Groups whose right sides are evaluated.
-use Rattle.std.proofs.Common.{◌≡◌, ◌⊎◌, ℕ, ◌+◌, ◌<◌, ◌≤◌, Bool, true, false, true≢false, not, cond, Option, Some, None, List, [], ◌∷◌, ◌++◌, length, map, take, drop, get_or, refl, sym, ◌∙◌, ap, subst, arith, append-nil, append_assoc, inl, inr}
+use Rattle.std.proofs.Common.{◌≡◌, ◌⊎◌, ℕ, zero, suc, ◌+◌, ◌<◌, ◌≤◌, Bool, true, false, true≢false, not, cond, Option, Some, None, List, [], ◌∷◌, ◌++◌, length, map, take, drop, get_or, refl, sym, ◌∙◌, ap, subst, arith, append-nil, append_assoc, inl, inr}
 use Rattle.std.specs.Borrow.{Bor}
 use Rattle.std.specs.List.{filter, flat_map, fold, list_any}
 use Rattle.std.specs.Option.{option_map}
 use Rattle.std.proofs.lemmas.Grind.{flat_map-append}
 use Rattle.std.proofs.lemmas.List.{take_all, take_more, take-append-drop}
 use Rattle.std.proofs.lemmas.List.Concat.{flat_map_single}
-use Rattle.std.proofs.lemmas.List.Sorted.{IsPermutation-refl, IsPermutation-sym, IsPermutation-trans, IsPermutation-map, IsPermutation-append, IsPermutation-append_left, IsPermutation-append_right, IsPermutation-append_comm, length_permutation}
+use Rattle.std.proofs.lemmas.List.Sorted.{IsPermutation-refl, IsPermutation-sym, IsPermutation-trans, IsPermutation-append, IsPermutation-append_left, IsPermutation-append_right, IsPermutation-append_comm, length_permutation}
 use Rattle.qs_terms.specs.Bag.{SameBag}
 use Rattle.qs_terms.specs.Dataset.{names_of}
 use Rattle.qs_terms.specs.Statement.{Statement}
@@ -27,14 +27,14 @@ use Rattle.qs_patterns.specs.declared.pattern.Step.TheVariants.{Join, LeftJoin, 
 use Rattle.qs_eval.proofs.Arms.{group_arm, union_arm, graph_arm, each_arm, join_arm, left_join_arm, minus_arm, extend_arm, step_more}
 use Rattle.qs_eval.proofs.Operators.{filter_same, flat_map_same}
 use Rattle.qs_ops.specs.Coming.{GivesOne}
-use Rattle.qs_ops.specs.Row.{Cells, row_solution}
+use Rattle.qs_ops.specs.Row.{Cells, front_solution}
 use Rattle.qs_groups.specs.Stages as machine
-use Rattle.qs_groups.specs.Stages.{before, coming, made, onward, through}
+use Rattle.qs_groups.specs.Stages.{ahead, before, coming, made, onward, through}
 use Rattle.qs_groups.specs.declared.kept.Kept.{Kept}
 use Rattle.qs_groups.specs.declared.kept.Kept.TheVariants as kept
 use Rattle.qs_groups.specs.declared.stages.Waiting.{Waiting}
 use Rattle.qs_groups.proofs.Moves.{coming_before, coming_same}
-use Rattle.qs_plan.specs.inner.Groups.{IsKept, Took, ahead}
+use Rattle.qs_plan.specs.inner.Groups.{AreKept, IsKept, Took}
 use Rattle.qs_plan.specs.Some.{is_enough}
 use Rattle.qs_plan.specs.inner.Collected.{Collection, Collects, IsPart, with_rows}
 use Rattle.qs_plan.proofs.Fitted.{basic_is, unit_matches}
@@ -78,7 +78,7 @@ flat_ap : (f g : Solution → List Solution) → ((m : Solution) → f m ≡ g m
 flat_ap f g h [] = refl
 flat_ap f g h (x ∷ xs) = ap (λ l. l ++ flat_map f xs) (h x) ∙ ap (λ l. g x ++ l) (flat_ap f g h xs)
 
-through_nil : (xs : List Solution) → flat_map (through []) xs ≡ xs
+pub through_nil : (xs : List Solution) → flat_map (through []) xs ≡ xs
 through_nil [] = refl
 through_nil (x ∷ xs) = ap (λ l. x ∷ l) (through_nil xs)
 
@@ -88,10 +88,6 @@ through_last (q ∷ ks) k m = flat_ap (through (ks ++ k ∷ [])) (λ x. flat_map
 
 pub all_last : (ks : List Kept) (k : Kept) (xs : List Solution) → flat_map (through (ks ++ k ∷ [])) xs ≡ flat_map (made k) (flat_map (through ks) xs)
 all_last ks k xs = flat_ap (through (ks ++ k ∷ [])) (λ x. flat_map (made k) (through ks x)) (through_last ks k) xs ∙ flat_flat (through ks) (made k) xs
-
--- of each list the steps make the bag that f makes
-abbrev pub AreKept : List Kept → (List Solution → List Solution) → Type 0
-AreKept ks f = (xs : List Solution) → SameBag (flat_map (through ks) xs) (f xs)
 
 pub none_kept : (ks : List Kept) (f : List Solution → Step → List Solution) → ks ≡ [] → AreKept ks (λ xs. fold f xs [])
 none_kept ks f e xs = same _ _ (ap (λ l. flat_map (through l) xs) e ∙ through_nil xs)
@@ -110,6 +106,46 @@ with_conditions f ks new conditions e h xs =
     let p = all_hold conditions in
     subst (λ (l : List Solution). SameBag l (filter p (f xs))) (sym (e xs)) (filter_same p (flat_map (through ks) xs) (f xs) (h xs))
 
+-- some steps, and others behind them
+through_both : (ks more : List Kept) (m : Solution) → through (ks ++ more) m ≡ flat_map (through more) (through ks m)
+through_both [] more m = sym (append-nil (through more m))
+through_both (q ∷ ks) more m = flat_ap (through (ks ++ more)) (λ x. flat_map (through more) (through ks x)) (through_both ks more) (made q m) ∙ flat_flat (through ks) (through more) (made q m)
+
+pub all_both : (ks more : List Kept) (xs : List Solution) → flat_map (through (ks ++ more)) xs ≡ flat_map (through more) (flat_map (through ks) xs)
+all_both ks more xs = flat_ap (through (ks ++ more)) (λ x. flat_map (through more) (through ks x)) (through_both ks more) xs ∙ flat_flat (through ks) (through more) xs
+
+fold_behind : (f : List Solution → Step → List Solution) (xs : List Solution) (ss ts : List Step) → fold f xs (ss ++ ts) ≡ fold f (fold f xs ss) ts
+fold_behind f xs [] ts = refl
+fold_behind f xs (s ∷ ss) ts = fold_behind f (f xs s) ss ts
+
+-- the first steps by numbers, and the others with the conditions by terms
+pub two_phases : (f : List Solution → Step → List Solution) (p : List Solution → List Solution) (ss rest : List Step) (n : ℕ) (ks more : List Kept) → rest ≡ drop n ss → AreKept ks (λ xs. fold f xs (take n ss)) → AreKept more (λ xs. p (fold f xs rest)) → ((xs ys : List Solution) → SameBag xs ys → SameBag (flat_map (through more) xs) (flat_map (through more) ys))
+    → AreKept (ks ++ more) (λ xs. p (fold f xs ss))
+two_phases f p ss rest n ks more e h k alike xs =
+    let first : List Solution = fold f xs (take n ss) in
+    let both : fold f first rest ≡ fold f xs ss = ap (fold f first) e ∙ (sym (fold_behind f xs (take n ss) (drop n ss)) ∙ ap (fold f xs) (take-append-drop n ss)) in
+    subst (λ l. SameBag l (p (fold f xs ss))) (sym (all_both ks more xs))
+    (IsPermutation-trans _ _ _ (alike (flat_map (through ks) xs) first (h xs)) (subst (λ l. SameBag (flat_map (through more) first) (p l)) both (k first)))
+
+pub through_alike : (ks : List Kept) (xs ys : List Solution) → SameBag xs ys → SameBag (flat_map (through ks) xs) (flat_map (through ks) ys)
+through_alike ks xs ys h = flat_map_same (through ks) (through ks) xs ys h (λ t. IsPermutation-refl (through ks t))
+
+-- all of them by numbers
+pub one_phase : (f : List Solution → Step → List Solution) (conditions : List Expr) (ss rest : List Step) (n : ℕ) (ks new more : List Kept) → rest ≡ drop n ss → length rest ≡ 0 → more ≡ [] → AreKept ks (λ xs. fold f xs (take n ss)) → ((xs : List Solution) → flat_map (through new) xs ≡ all_kept conditions (flat_map (through ks) xs))
+    → AreKept (new ++ more) (λ xs. all_kept conditions (fold f xs ss))
+one_phase f conditions ss rest n ks new more e none m h put xs =
+    let p = all_hold conditions in
+    let t : take n ss ≡ ss = whole n ss (ap length (sym e) ∙ none) in
+    let k : SameBag (flat_map (through ks) xs) (fold f xs ss) = subst (λ l. SameBag (flat_map (through ks) xs) (fold f xs l)) t (h xs) in
+    let c : flat_map (through (new ++ more)) xs ≡ all_kept conditions (flat_map (through ks) xs) = ap (λ l. flat_map (through (new ++ l)) xs) m ∙ (ap (λ l. flat_map (through l) xs) (append-nil new) ∙ put xs) in
+    subst (λ l. SameBag l (filter p (fold f xs ss))) (sym c) (filter_same p (flat_map (through ks) xs) (fold f xs ss) k)
+  where
+    whole : (n : ℕ) (ss : List Step) → length (drop n ss) ≡ 0 → take n ss ≡ ss
+    whole zero [] h = refl
+    whole zero (s ∷ ss) h = absurd (omega (arith, h))
+    whole (suc n) [] h = refl
+    whole (suc n) (s ∷ ss) h = ap (λ l. s ∷ l) (whole n ss h)
+
 -- ---- rows that wait
 
 module _ (ks : List Kept) where
@@ -127,21 +163,20 @@ module _ (ks : List Kept) where
   pub took_shorter : (left left2 : List Solution) (ws ws2 : List Waiting) → Took true left ws left2 ws2 → length left2 < length left
   took_shorter left left2 ws ws2 h = omega (arith, length_permutation left (h.0 ∷ left2) h.1)
 
--- ---- one match more
+-- ---- one row by numbers more
 
-module _ (known : List Term) (f : Solution → Solution) where
-  pub took_one : (old mid new : List Solution) (o : Option Cells) (row : Cells) (m : Solution) (ws ws2 : List Waiting) → o ≡ Some row → GivesOne old (option_map (row_solution known) o) mid → new ≡ mid → m ≡ f (row_solution known row) → ws2 ≡ ws ++ before 0 m ∷ []
-      → Took true (map f old) ws (map f new) ws2
+module _ (known : List Term) (width : ℕ) where
+  pub took_one : (old mid new : List Solution) (o : Option Cells) (row : Cells) (m : Solution) (ws ws2 : List Waiting) → o ≡ Some row → GivesOne old (option_map (front_solution known width) o) mid → new ≡ mid → m ≡ front_solution known width row → ws2 ≡ ws ++ before 0 m ∷ []
+      → Took true old ws new ws2
   took_one old mid new o row m ws ws2 is g j e w =
-      let r : Solution = row_solution known row in
-      let h : SameBag old (r ∷ mid) = subst (λ (x : Option Cells). GivesOne old (option_map (row_solution known) x) mid) is g in
-      let n : SameBag old (r ∷ new) = subst (λ (l : List Solution). SameBag old (r ∷ l)) (sym j) h in
-      (f r, IsPermutation-map f old (r ∷ new) n, w ∙ ap (λ x. ws ++ before 0 x ∷ []) e)
+      let r : Solution = front_solution known width row in
+      let h : SameBag old (r ∷ mid) = subst (λ (x : Option Cells). GivesOne old (option_map (front_solution known width) x) mid) is g in
+      (r, subst (λ (l : List Solution). SameBag old (r ∷ l)) (sym j) h, w ∙ ap (λ x. ws ++ before 0 x ∷ []) e)
 
-  pub took_none : (old new : List Solution) (o : Option Cells) (ws : List Waiting) → o ≡ None → GivesOne old (option_map (row_solution known) o) new → Took false (map f old) ws (map f new) ws
+  pub took_none : (old new : List Solution) (o : Option Cells) (ws : List Waiting) → o ≡ None → GivesOne old (option_map (front_solution known width) o) new → Took false old ws new ws
   took_none old new o ws is g =
-      let h : GivesOne old None new = subst (λ (x : Option Cells). GivesOne old (option_map (row_solution known) x) new) is g in
-      (ap (map f) h.0, ap (map f) h.1, refl)
+      let h : GivesOne old None new = subst (λ (x : Option Cells). GivesOne old (option_map (front_solution known width) x) new) is g in
+      (h.0, h.1, refl)
 
 -- ---- what has come so far
 

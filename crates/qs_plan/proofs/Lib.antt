@@ -3,6 +3,7 @@ pub mod Collecting
 pub mod Each
 pub mod Fitted
 pub mod Groups
+pub mod ByNumber
 pub mod Enough
 pub mod Names
 pub mod SeenQuads

@@ -1,12 +1,12 @@
 -- The solutions in one named graph after another, as far as they are wanted.
-use Rattle.std.proofs.Common.{◌≡◌, ℕ, ◌<◌, ◌≤◌, Bool, true, false, ◌&&◌, nat_lt, nat_le, inl, inr, ◌⊎◌, Option, Some, None, List, [], ◌∷◌, ◌++◌, length, get_or, zero, suc, map, refl, sym, ◌∙◌, ap, subst, arith, true≢false, length-append}
+use Rattle.std.proofs.Common.{◌≡◌, ℕ, ◌<◌, Bool, true, false, ◌&&◌, nat_lt, nat_le, inl, inr, ◌⊎◌, Option, Some, None, List, [], ◌∷◌, ◌++◌, length, get_or, zero, suc, map, refl, sym, ◌∙◌, ap, subst, arith, true≢false, length-append}
 use Rattle.std.specs.List.{flat_map, fold}
 use Rattle.std.specs.Prelude.{IfSome}
 use Rattle.std.proofs.lemmas.Grind.{flat_map-append}
 use Rattle.std.proofs.lemmas.List.{append-nil}
-use Rattle.std.proofs.lemmas.List.Sorted.{IsPermutation-refl, IsPermutation-sym, IsPermutation-trans}
+use Rattle.std.proofs.lemmas.List.Sorted.{IsPermutation-refl, IsPermutation-sym}
 use Rattle.qs_terms.specs.Bag.{SameBag}
-use Rattle.qs_terms.specs.Dataset.{graph_of, names_of}
+use Rattle.qs_terms.specs.Dataset.{names_of}
 use Rattle.qs_terms.specs.declared.term.Term.{Term}
 use Rattle.qs_dict.specs.Dict.{term_at}
 use Rattle.qs_store.specs.Content.{Content, IsContent, KnowsItsTerms}

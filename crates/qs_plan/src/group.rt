@@ -1,6 +1,6 @@
 //! Groups, solution by solution.
 
-ghost use Rattle.std.specs.Prelude.{◌≡◌, ◌<◌, ◌≤◌, List, [], ◌∷◌, true, length, map, take, drop, IfOk, OnOk, IfSome};
+ghost use Rattle.std.specs.Prelude.{◌≡◌, ◌≤◌, List, [], ◌∷◌, ◌++◌, true, length, map, take, drop, IfOk, OnOk, IfSome};
 ghost use Rattle.std.specs.List.{AllByRecursion, flat_map, fold};
 ghost use Rattle.qs_terms.specs.Bag.{SameBag};
 ghost use Rattle.qs_solutions.specs.Solution.{Solution, unbound};
@@ -8,16 +8,19 @@ ghost use Rattle.qs_patterns.specs.Basic.{matches};
 ghost use Rattle.qs_patterns.specs.Eval.{step, kept};
 ghost use Rattle.qs_patterns.specs.declared.pattern.Pattern.TheVariants.{Basic};
 ghost use Rattle.qs_patterns.specs.declared.pattern.Step.TheVariants.{Join};
-ghost use Rattle.qs_groups.specs.Stages.{before, coming, kept_of, through};
+ghost use Rattle.qs_groups.specs.Stages.{ahead, before, coming, kept_of, through};
+ghost use Rattle.qs_joins.specs.Joined.{kept_of as number_step};
 ghost use Rattle.qs_ops.specs.Graph.{active_graph};
 ghost use Rattle.qs_ops.specs.Row.{front};
 ghost use Rattle.qs_plan.specs.inner.Collected.{Collects};
-ghost use Rattle.qs_plan.specs.inner.Groups.{IsKept, KeepsDropped, Took, ahead};
+ghost use Rattle.qs_plan.specs.inner.Groups.{AreKept, IsKept, IsOver, KeepsDropped, Took};
 
 use crate::collected::Collected;
 use crate::evaluate::{solutions, stepped};
+use crate::numbers::{put_filter, put_variables, stages_of};
 use qs_expr::Expr;
 use qs_groups::{Kept, Stage, Waiting, next_of, put_all, staged};
+use qs_joins::Joined;
 use qs_ops::{Matches, solution};
 use qs_patterns::{BasicPattern, Pattern, Step, TriplePattern};
 use qs_solutions::Row;
@@ -83,19 +86,19 @@ fn kept_steps<'p, V: View>(
     Ok(all)
 }
 
-/// Has the next match wait before the first stage, if there is one.
+/// Has the next row by numbers wait before the first stage, if there is one.
 fn take<V: View>(
     alloc: Global,
     view: &V,
     width: usize,
-    matches: &mut Matches<'_, V>,
+    joined: &mut Joined<'_, V>,
     waiting: &mut Vec<Waiting>,
 ) -> Result<bool, AllocError>
-    requires { matches.old.known ≡ (V.content view.now).known }
-    ensures known { matches.new.known ≡ matches.old.known }
-    ensures took { IfOk result (λ b. Took b (map (front width width) matches.old.rows) waiting.old.items (map (front width width) matches.new.rows) waiting.new.items) }
+    requires { IsOver (V.content view.now).known width joined.old }
+    ensures over { IsOver (V.content view.now).known width joined.new }
+    ensures took { IfOk result (λ b. Took b joined.old.rows waiting.old.items joined.new.rows waiting.new.items) }
 {
-    match matches.next(alloc)? {
+    match joined.next(alloc)? {
         None => Ok(false),
         Some(row) => {
             let solution = solution(alloc, view, &row, width)?;
@@ -103,24 +106,24 @@ fn take<V: View>(
                 at: 0,
                 row: solution,
             })?;
-            matches.give_back(row)?;
+            joined.give_back(row)?;
             Ok(true)
         }
     }
 }
 
-/// Collects what the stages make of the rows that wait and of the matches that are left: all, or as many as suffice.
+/// Collects what the stages make of the rows that wait and of those by numbers that are left: all, or as many as suffice.
 fn searched<V: View>(
     alloc: Global,
     view: &V,
     width: usize,
     stages: &[Stage<'_>],
-    matches: &mut Matches<'_, V>,
+    joined: &mut Joined<'_, V>,
     waiting: &mut Vec<Waiting>,
     found: &mut Collected<'_>,
 ) -> Result<(), AllocError>
-    requires { matches.old.known ≡ (V.content view.now).known }
-    ensures { OnOk result (Collects found.old found.new (ahead (map kept_of stages.now) (map (front width width) matches.old.rows) waiting.old.items)) }
+    requires { IsOver (V.content view.now).known width joined.old }
+    ensures { OnOk result (Collects found.old found.new (ahead (map kept_of stages.now) joined.old.rows waiting.old.items)) }
 {
     'search: loop {
         if found.is_enough() {
@@ -129,7 +132,7 @@ fn searched<V: View>(
         match next_of(alloc, stages, waiting)? {
             Some(row) => found.put(alloc, row)?,
             None => {
-                if !take(alloc, view, width, matches, waiting)? {
+                if !take(alloc, view, width, joined, waiting)? {
                     return Ok(());
                 }
             }
@@ -145,27 +148,27 @@ fn last_of(alloc: Global, width: usize, waiting: &[Waiting]) -> Result<Row, Allo
     }
 }
 
-/// Collects what the stages make of the first matches, of which at most two wait, and of those that are left.
+/// Collects what the stages make of the first rows by numbers, of which at most two wait, and of those that are left.
 fn staged_from<V: View>(
     alloc: Global,
     view: &V,
     width: usize,
     all: &[Kept<'_>],
-    matches: &mut Matches<'_, V>,
+    joined: &mut Joined<'_, V>,
     found: &mut Collected<'_>,
 ) -> Result<(), AllocError>
-    requires { matches.old.known ≡ (V.content view.now).known }
-    ensures { OnOk result (Collects found.old found.new (flat_map (through all.now) (map (front width width) matches.old.rows))) }
+    requires { IsOver (V.content view.now).known width joined.old }
+    ensures { OnOk result (Collects found.old found.new (flat_map (through all.now) joined.old.rows)) }
 {
     let mut first = Vec::new(alloc);
-    let has_first = take(alloc, view, width, matches, &mut first)?;
+    let has_first = take(alloc, view, width, joined, &mut first)?;
     let mut waiting = Vec::new(alloc);
-    let has_second = take(alloc, view, width, matches, &mut waiting)?;
+    let has_second = take(alloc, view, width, joined, &mut waiting)?;
     waiting.append(&mut first)?;
     let like = last_of(alloc, width, waiting.as_slice())?;
     let stages = staged(alloc, all, like, has_first && !has_second)?;
     let stages = stages.as_slice();
-    searched(alloc, view, width, stages, matches, &mut waiting, found)?;
+    searched(alloc, view, width, stages, joined, &mut waiting, found)?;
     Ok(())
 }
 
@@ -194,6 +197,67 @@ fn all_keep_dropped(steps: &[Step]) -> bool
     true
 }
 
+/// The steps behind the first `count`.
+fn rest_of(steps: &[Step], count: usize) -> &[Step]
+    requires { count ≤ length steps.now }
+    ensures { result.now ≡ drop count steps.now }
+{
+    &steps[count..]
+}
+
+/// The steps of a group with the solutions of their right sides: by numbers as far as that goes, and behind these by terms.
+#[derive(Drop)]
+struct Phases<'p> {
+    numbers: Vec<qs_joins::Stage<'p>>,
+    terms: Vec<Kept<'p>>,
+}
+
+/// The steps with the solutions of their right sides, and behind them the conditions, for solutions that bind the variables of the triple
+/// patterns.
+fn phases_of<'p, V: View>(
+    alloc: Global,
+    width: usize,
+    triples: &[TriplePattern],
+    steps: &'p [Step],
+    conditions: &'p [Expr],
+    view: &V,
+    active: Active,
+) -> Result<Phases<'p>, AllocError>
+    ensures { IfOk result (λ p. AreKept (map (number_step (V.content view.now).known width) p.numbers.items ++ p.terms.items) (λ xs. kept conditions.now (fold (λ left s. step width (V.content view.now).quads s (active_graph (V.content view.now) (V.default_seen view.now) active) left) xs steps.now))) }
+{
+    let mut likely = Vec::new(alloc);
+    put_variables(triples, width, &mut likely)?;
+    let mut numbers = stages_of(alloc, width, steps, &mut likely, view, active)?;
+    let rest = rest_of(steps, numbers.len());
+    if rest.is_empty() {
+        put_filter(conditions, &mut numbers)?;
+        return Ok(Phases {
+            numbers,
+            terms: Vec::new(alloc),
+        });
+    }
+    let terms = kept_steps(alloc, width, rest, conditions, view, active)?;
+    Ok(Phases { numbers, terms })
+}
+
+/// Collects what the steps make of the matches, as far as all conditions hold: all, or as many as suffice.
+fn phased<'a, V: View>(
+    alloc: Global,
+    view: &'a V,
+    width: usize,
+    phases: Phases<'a>,
+    matches: Matches<'a, V>,
+    found: &mut Collected<'_>,
+) -> Result<(), AllocError>
+    requires { matches.known ≡ (V.content view.now).known }
+    ensures { OnOk result (Collects found.old found.new (flat_map (through (map (number_step (V.content view.now).known width) phases.entry.numbers.items ++ phases.entry.terms.items)) (map (front width width) matches.entry.rows))) }
+{
+    let Phases { numbers, terms } = phases;
+    let mut joined = Joined::new(alloc, width, matches, numbers);
+    staged_from(alloc, view, width, terms.as_slice(), &mut joined, found)?;
+    Ok(())
+}
+
 /// Collects what the steps make of the matches of triple patterns, as far as all conditions hold: all, or as many as suffice. Where no step binds a
 /// variable anew, a condition is tested in the search as soon as its variables are bound.
 fn streamed<V: View>(
@@ -210,14 +274,14 @@ fn streamed<V: View>(
     requires { width ≤ whole }
     ensures { OnOk result (Collects found.old found.new (kept conditions.now (fold (λ left s. step width (V.content view.now).quads s (active_graph (V.content view.now) (V.default_seen view.now) active) left) (map (take width) (matches whole triples.now (active_graph (V.content view.now) (V.default_seen view.now) active))) steps.now))) }
 {
-    let all = kept_steps(alloc, width, steps, conditions, view, active)?;
+    let phases = phases_of(alloc, width, triples, steps, conditions, view, active)?;
     if !all_keep_dropped(steps) {
-        let mut matches = Matches::of(alloc, view, active, whole, triples)?;
-        staged_from(alloc, view, width, all.as_slice(), &mut matches, found)?;
+        let matches = Matches::of(alloc, view, active, whole, triples)?;
+        phased(alloc, view, width, phases, matches, found)?;
         return Ok(());
     }
-    let mut matches = Matches::under(alloc, view, active, whole, triples, width, conditions)?;
-    staged_from(alloc, view, width, all.as_slice(), &mut matches, found)?;
+    let matches = Matches::under(alloc, view, active, whole, triples, width, conditions)?;
+    phased(alloc, view, width, phases, matches, found)?;
     Ok(())
 }
 
@@ -308,13 +372,6 @@ fn unit(alloc: Global, width: usize) -> Result<Vec<Row>, AllocError>
     Ok(rows)
 }
 
-fn rest_of(steps: &[Step]) -> &[Step]
-    requires { 0 < length steps.now }
-    ensures { result.now ≡ drop 1 steps.now }
-{
-    &steps[1..]
-}
-
 /// Collects the solutions of a group: all, or as many as suffice. Where it begins with triple patterns, no more of their matches are held than
 /// suffice.
 pub(crate) fn collect_group<V: View>(
@@ -334,7 +391,7 @@ pub(crate) fn collect_group<V: View>(
         return Ok(());
     }
     let first = &steps[0];
-    let rest = rest_of(steps);
+    let rest = rest_of(steps, 1);
     if let Some(basic) = triples_alone(first) {
         let whole = width.checked_add(basic.hidden).ok_or(AllocError)?;
         let triples = basic.triples.as_slice();

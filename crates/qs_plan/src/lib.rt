@@ -7,6 +7,7 @@ mod collected;
 mod evaluate;
 mod graphs;
 mod group;
+mod numbers;
 mod seen;
 mod some;
 

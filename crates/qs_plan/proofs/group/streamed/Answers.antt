@@ -1,7 +1,10 @@
-use Rattle.std.proofs.Common.{List, map, take}
+use Rattle.std.proofs.Common.{List, map, take, ◌++◌}
 use Rattle.std.specs.List.{fold}
 use Rattle.std.proofs.lemmas.List.Sorted.{IsPermutation-refl}
+use Rattle.qs_terms.specs.declared.term.Term.{Term}
 use Rattle.qs_solutions.specs.Solution.{Solution}
+use Rattle.qs_groups.specs.declared.kept.Kept.{Kept}
+use Rattle.qs_joins.specs.Joined.{kept_of as number_step}
 use Rattle.qs_patterns.specs.Basic.{matches}
 use Rattle.qs_patterns.specs.Eval.{kept, step}
 use Rattle.qs_patterns.specs.declared.pattern.Step.{Step}
@@ -14,12 +17,16 @@ use Rattle.qs_plan.proofs.group.streamed.Goals as goal
 
 pub returns-then-not-all_keep_dropped : goal.returns-then-not-all_keep_dropped
 returns-then-not-all_keep_dropped g c =
+    let known : List Term = (g.V.View.content c.args.view.now).known in
     let f : List Solution → Step → List Solution = λ left s. step c.args.width (g.V.View.content c.args.view.now).quads s (active_graph (g.V.View.content c.args.view.now) (g.V.View.default_seen c.args.view.now) c.args.active) left in
+    let ks : List Kept = map (number_step known c.args.width) c.in_ok-phases.phases.numbers.items ++ c.in_ok-phases.phases.terms.items in
     let found : List Solution = map (front c.args.width c.args.width) c.in_ok-matches.matches.rows in
-    some_kept c.args.found.now c.in_ok-all.all.items (λ xs. kept c.args.conditions.now (fold f xs c.args.steps.now)) c.staged_from.new.found found (map (take c.args.width) (matches c.args.whole c.args.triples.now (active_graph (g.V.View.content c.args.view.now) (g.V.View.default_seen c.args.view.now) c.args.active))) c.in_ok-all.ensures
-    (found_rows c.args.width c.args.whole c.args.triples.now (active_graph (g.V.View.content c.args.view.now) (g.V.View.default_seen c.args.view.now) c.args.active) c.in_ok-matches.matches.rows found c.requires c.in_ok-matches.ensures.rows (IsPermutation-refl found)) (rw c.as_slice.ensures.value at c.in_ok-staged_from.ensures)
+    some_kept c.args.found.now ks (λ xs. kept c.args.conditions.now (fold f xs c.args.steps.now)) c.phased.new.found found (map (take c.args.width) (matches c.args.whole c.args.triples.now (active_graph (g.V.View.content c.args.view.now) (g.V.View.default_seen c.args.view.now) c.args.active))) c.in_ok-phases.ensures
+    (found_rows c.args.width c.args.whole c.args.triples.now (active_graph (g.V.View.content c.args.view.now) (g.V.View.default_seen c.args.view.now) c.args.active) c.in_ok-matches.matches.rows found c.requires c.in_ok-matches.ensures.rows (IsPermutation-refl found)) c.in_ok-phased.ensures
 
 pub returns : goal.returns
 returns g c =
-    some_wanted c.args.found.now c.args.width c.args.whole (g.V.View.content c.args.view.now).quads (active_graph (g.V.View.content c.args.view.now) (g.V.View.default_seen c.args.view.now) c.args.active) c.args.conditions.now c.args.steps.now c.in_ok-all.all.items c.args.triples.now c.in_ok-matches-2.matches.rows c.staged_from-2.new.found
-    c.in_ok-all.ensures c.requires (c.all_keep_dropped.ensures c.if-not-all_keep_dropped.false) c.in_ok-matches-2.ensures.rows (rw c.as_slice-2.ensures.value at c.in_ok-staged_from-2.ensures)
+    let known : List Term = (g.V.View.content c.args.view.now).known in
+    let ks : List Kept = map (number_step known c.args.width) c.in_ok-phases.phases.numbers.items ++ c.in_ok-phases.phases.terms.items in
+    some_wanted c.args.found.now c.args.width c.args.whole (g.V.View.content c.args.view.now).quads (active_graph (g.V.View.content c.args.view.now) (g.V.View.default_seen c.args.view.now) c.args.active) c.args.conditions.now c.args.steps.now ks c.args.triples.now c.in_ok-matches-2.matches.rows c.phased-2.new.found
+    c.in_ok-phases.ensures c.requires (c.all_keep_dropped.ensures c.if-not-all_keep_dropped.false) c.in_ok-matches-2.ensures.rows c.in_ok-phased-2.ensures
