@@ -4,7 +4,6 @@ pub mod SomeOutcome
 pub mod NoTokens
 pub mod Granted
 pub mod Listed
-pub mod FirstPlace
 pub mod SettledListed
 pub mod Places
 pub mod Nothing

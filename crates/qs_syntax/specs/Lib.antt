@@ -2,4 +2,3 @@ pub mod Kinds
 pub mod Text
 pub mod Granted
 pub mod Outcome
-pub mod FirstPlace

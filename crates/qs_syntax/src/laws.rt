@@ -64,13 +64,6 @@ pub fn empty_text_is_no_query()
     one_token_list();
 }
 
-/// Of a name that can't be resolved and of a limit that is passed the one with the first place in the text is told, and at one place
-/// the name's.
-pub fn first_place_is_told()
-    ensures of_query { (text : List ℕ) (tokens : List Token) (tree : WrittenQuery) (f : QFault) (at limit : ℕ) → resolved_query text (variables_of text tokens) tree ≡ Err f → IsOfName f at → large.query tree ≡ Some limit → IsFirst f at limit (query_outcome text tokens tree) }
-    ensures of_update { (text : List ℕ) (tokens : List Token) (tree : WrittenUpdate) (f : QFault) (at limit : ℕ) → resolved_update text (variables_of text tokens) tree ≡ Err f → IsOfName f at → large.update tree ≡ Some limit → IsFirst f at limit (update_outcome text tokens tree) }
-{}
-
 /// Each variable that stands anywhere in the query of a text is among the variables that the query lists; and so in an update.
 pub fn variables_are_listed()
     ensures of_query { (text : List ℕ) (query : Query) → IsQueryOutcome text (Ok query) → AreListed query.variables (in_query query) }

@@ -3,7 +3,6 @@ pub mod SameTerm
 pub mod SameStatement
 pub mod Counts
 pub mod FirstOnes
-pub mod DatasetSteps
 pub mod Puts
 pub mod Datatypes
 pub mod Behind

@@ -2,7 +2,7 @@
 
 use crate::outcome::Outcome;
 use qs_nquads::{NqFault, NqFaultKind, read};
-use qs_terms::{Quad, Term, dataset};
+use qs_terms::{Quad, dataset};
 use std::alloc::{AllocError, Global};
 use std::cmp::Ordering;
 use std::hash::RandomState;
@@ -56,13 +56,11 @@ fn numbers_labels(rt: HostRuntime) {
     }
 }
 
-/// Whether the default graph comes first, then the named one by its subjects; and quads are found that are there.
+/// Whether the default graph comes first, then the named one by its subjects; and the next number is above those of the blank nodes.
 fn are_ordered(first: &Quad, second: &Quad, third: &Quad, last: &[Quad]) -> bool {
     second.order(first) == Ordering::Less
         && third.order(first) == Ordering::Greater
         && third.order(third) == Ordering::Equal
-        && dataset::contains(last, third)
-        && !dataset::contains(last, first)
         && dataset::is_above_blanks(4, last)
         && !dataset::is_above_blanks(3, last)
 }
@@ -81,36 +79,17 @@ fn is_copied(alloc: Global, quad: &Quad) -> Result<bool, AllocError> {
     Ok(is_same)
 }
 
-/// How many nodes the graph has.
-fn count_nodes(alloc: Global, quads: &[Quad], graph: Option<&Term>) -> Result<usize, AllocError> {
-    let nodes = dataset::nodes(alloc, quads, graph)?;
-    let count = nodes.len();
-    drop(nodes);
-    Ok(count)
-}
-
-/// How many named graphs there are.
-fn count_names(alloc: Global, quads: &[Quad]) -> Result<usize, AllocError> {
-    let names = dataset::names(alloc, quads)?;
-    let count = names.len();
-    drop(names);
-    Ok(count)
-}
-
-/// Whether each quad is copied, and there is one name; the graph of that name has two blank nodes and the literal that is the object of
-/// both, and the default graph a blank node and the literal.
-fn are_listed(alloc: Global, quads: &[Quad]) -> Result<bool, AllocError> {
+/// Whether each quad is copied, and no copy differs.
+fn are_copied(alloc: Global, quads: &[Quad]) -> Result<bool, AllocError> {
     for quad in quads {
-        let graph = quad.graph();
-        let count = if graph.is_some() { 3 } else { 2 };
-        if !is_copied(alloc, quad)? || count_nodes(alloc, quads, graph)? != count {
+        if !is_copied(alloc, quad)? {
             return Ok(false);
         }
     }
-    Ok(count_names(alloc, quads)? == 1)
+    Ok(true)
 }
 
-/// Whether the quads are read, compared and copied, and their names and nodes found.
+/// Whether the quads are read, compared and copied.
 pub fn outcome(alloc: Global, hasher: Option<RandomState>) -> Outcome {
     dataset::same_bag_by_counts();
     let Some(hasher) = hasher else {
@@ -119,10 +98,10 @@ pub fn outcome(alloc: Global, hasher: Option<RandomState>) -> Outcome {
     match read(alloc, hasher, DATA, 1) {
         Ok((quads, _)) => {
             let are_compared = compare(quads.as_slice());
-            let are_listed = are_listed(alloc, quads.as_slice());
+            let are_copied = are_copied(alloc, quads.as_slice());
             drop(quads);
-            match are_listed {
-                Ok(are_listed) => Outcome::of_answer(are_compared && are_listed),
+            match are_copied {
+                Ok(are_copied) => Outcome::of_answer(are_compared && are_copied),
                 Err(_) => Outcome::Refused,
             }
         }

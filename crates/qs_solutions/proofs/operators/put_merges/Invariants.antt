@@ -1,6 +1,0 @@
-use Rattle.std.proofs.Common.{◌≡◌, ◌++◌, take}
-use Rattle.qs_solutions.specs.Operators.{merges}
-use Rattle.qs_solutions.proofs.operators.put_merges.Given as goal
-
-abbrev pub invariant-loop-other : goal.invariant-loop-other
-invariant-loop-other l = l.rows.items ≡ l.fn.rows.items ++ merges (take l.other-index l.right) l.row
