@@ -173,31 +173,6 @@ impl Dict {
         Ok(number)
     }
 
-    /// The same of a term that is handed over: where it is new it is put last as it is. A term that is there is hashed once, and a new
-    /// one twice.
-    pub fn number_owned(&mut self, term: Term) -> Result<u32, DictFault>
-        ensures number { IfOk result (λ n. number_of self.new.terms term ≡ Some n) }
-        ensures terms { OnOk result (self.new.terms ≡ with_new same_term self.old.terms term) }
-        ensures limit { self.new.limit ≡ self.old.limit }
-        ensures lawful { IsDictionary self.new }
-        ensures refused { OnErr result (self.new ≡ self.old) }
-        ensures present { (n : ℕ) → number_of self.old.terms term ≡ Some n → (result ≡ Ok n) × (self.new ≡ self.old) }
-        ensures full { (result ≡ Err Full) ↔ ((number_of self.old.terms term ≡ None) × (length self.old.terms ≡ self.old.limit)) }
-        ensures kept { KeepsNumbers (length self.old.terms) self.old.terms self.new.terms }
-    {
-        match self.known(&term) {
-            Ok(None) => self.put(term),
-            Ok(Some(number)) => {
-                drop(term);
-                Ok(number)
-            }
-            Err(fault) => {
-                drop(term);
-                Err(fault)
-            }
-        }
-    }
-
     /// Takes the last terms out, so that `len` are left, or all where there are no more.
     pub fn cut(&mut self, len: u32)
         ensures terms { self.new.terms ≡ take len self.old.terms }

@@ -1,3 +1,5 @@
+//! Why no tree was read.
+
 use std::alloc::AllocError;
 
 /// Why no tree was read.

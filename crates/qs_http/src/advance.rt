@@ -1,3 +1,5 @@
+//! A stage of reading, one piece further.
+
 ghost use Rattle.std.specs.Prelude.{◌≡◌, ◌<◌, ◌≤◌, ◌+◌, ◌++◌, length, Some, IfOk};
 ghost use Rattle.qs_http.specs.HeadEnd.{head_end, head_limit};
 ghost use Rattle.qs_http.specs.Feeding.{Feeds, StandsAt};

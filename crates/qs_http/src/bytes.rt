@@ -1,3 +1,5 @@
+//! Pieces of a request's bytes.
+
 ghost use Rattle.std.specs.Prelude.{◌≡◌, ◌==◌, ◌^◌, SomeIff, ◌≤◌, ◌<◌, length, take};
 ghost use Rattle.qs_http.specs.HeadEnd.{leading};
 ghost use Rattle.qs_http.specs.Head.{is_number};

@@ -1,3 +1,5 @@
+//! The checks of a request's head, in their order.
+
 ghost use Rattle.std.specs.Prelude.{◌≡◌};
 
 use crate::bytes::is_number;

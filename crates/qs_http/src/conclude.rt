@@ -1,3 +1,5 @@
+//! What the bytes of a request result in once its head has ended.
+
 ghost use Rattle.std.specs.Prelude.{◌≡◌, ◌≤◌, length, Some};
 ghost use Rattle.qs_http.specs.HeadEnd.{head_end};
 ghost use Rattle.qs_http.specs.inner.HeadView.{plain, IsSound};

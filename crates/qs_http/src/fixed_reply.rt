@@ -1,3 +1,5 @@
+//! Replies that are the same bytes each time.
+
 use std::alloc::AllocError;
 
 /// The replies that are the same bytes each time.

@@ -1,3 +1,5 @@
+//! The head of a request: its first line and its fields.
+
 ghost use Rattle.std.specs.Prelude.{◌≡◌, ◌++◌, SomeIff, ◌+◌, ◌≤◌, ◌<◌, ℕ, List, [], ◌∷◌, length, IfSome};
 ghost use Rattle.httparse.specs.Spans.{IsRequestWithin};
 ghost use Rattle.qs_http.specs.inner.HeadView.{ReadsAs};

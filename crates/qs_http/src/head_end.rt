@@ -1,3 +1,5 @@
+//! Where the head of a request ends.
+
 ghost use Rattle.std.specs.Prelude.{◌≡◌, IsNone};
 ghost use Rattle.qs_http.specs.Place.{place_after, ends_head, end_from, place_from};
 

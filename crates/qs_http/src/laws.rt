@@ -1,3 +1,5 @@
+//! What holds of all bytes of requests.
+
 ghost use Rattle.qs_http.specs.Laws.{RequestsAreUnique, RequestsAreKept, UnfinishedRequestsAreShort, CutsDoNotMatter};
 
 /// Bytes come to one thing at most: a request, a refusal, or more bytes are wanted.

@@ -1,3 +1,5 @@
+//! The media types of replies.
+
 /// What the body of a reply is.
 #[derive(Clone, Copy, Debug, PartialEq, Eq)]
 pub enum Media {

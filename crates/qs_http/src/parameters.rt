@@ -1,3 +1,5 @@
+//! The parameters of a query string or of a form.
+
 ghost use Rattle.std.specs.Prelude.{◌≡◌, List, ℕ, IfOk};
 ghost use Rattle.std.specs.Str.{bytes_eq};
 ghost use Rattle.qs_http.specs.declared.request.Request.{Request};

@@ -1,3 +1,5 @@
+//! The bytes of replies.
+
 ghost use Rattle.std.specs.Prelude.{◌≡◌, ◌++◌, IfOk};
 ghost use Rattle.qs_http.specs.Reply.{line, phrase_of, status_line, body_fields, front_of, reply_of, fixed_of, IsReplyStatus};
 

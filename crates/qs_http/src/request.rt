@@ -1,3 +1,5 @@
+//! What a request asks for.
+
 use qs_terms::Text;
 
 /// What a connection asks for (SPARQL 1.1 Protocol, 2). A contract sees a text as its bytes.

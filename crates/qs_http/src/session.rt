@@ -1,3 +1,5 @@
+//! The one request of a connection, read piece by piece.
+
 ghost use Rattle.std.specs.Prelude.{◌≡◌, []};
 ghost use Rattle.std.specs.Option.{option_copied};
 ghost use Rattle.qs_http.specs.Feeding.{Reading, Feeds};

@@ -1,3 +1,5 @@
+//! How far a request has been read.
+
 use crate::fixed_reply::Fixed;
 use crate::head_end::Place;
 use crate::request::Request;

@@ -1,4 +1,4 @@
-// Lists of entries that are put into an order or taken out of it, and the entries of named graphs among them.
+//! Lists of entries that are put into an order or taken out of it, and the entries of named graphs among them.
 ghost use Rattle.std.specs.Prelude.{◌≡◌, ◌+◌, ◌≤◌, true, false, length, map, take, drop};
 ghost use Rattle.std.specs.List.{All};
 ghost use Rattle.std.specs.List.Sorted.{IsPermutation};

@@ -1,4 +1,4 @@
-// Comparisons of entries with one another.
+//! Comparisons of entries with one another.
 ghost use Rattle.std.specs.Prelude.{◌≡◌, ◌+◌, ◌*◌, ◌^◌, ◌≤◌, length};
 ghost use Rattle.qs_index.specs.Entry.{is_before, begins};
 ghost use Rattle.qs_index.specs.Graph.{is_named};

@@ -1,4 +1,4 @@
-// Pages that are filled whole, by entries that ascend.
+//! Pages that are filled whole, by entries that ascend.
 ghost use Rattle.std.specs.Prelude.{◌≡◌, ◌+◌, ◌-◌, ◌<◌, ◌≤◌, [], length, take};
 ghost use Rattle.qs_index.specs.Entries.{HaveFour, IsUnion};
 ghost use Rattle.qs_index.specs.Entry.{skip_before, with_entry};

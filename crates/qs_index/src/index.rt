@@ -1,4 +1,4 @@
-// The set of entries in three orders, and in three of the named graphs where they are asked for.
+//! The set of entries in three orders, and in three of the named graphs where they are asked for.
 ghost use Rattle.std.specs.Prelude.{◌≡◌, ℕ, ◌+◌, ◌<◌, ◌≤◌, ◌^◌, ◌↔◌, min, Bool, true, false, List, [], ◌∷◌, length, map, IsTrue, IfSome, IfNone};
 ghost use Rattle.std.specs.Bool.{OnTrue, OnFalse};
 ghost use Rattle.std.specs.Result.{OnOk};
@@ -291,33 +291,6 @@ impl Index {
             order.scan(from, lookup.prefix, lookup.given),
             lookup.permutation,
         )
-    }
-
-    /// About how many entries of a graph have the subject, predicate and object that are given: a hint that promises nothing. It is
-    /// exact where they stand in one page or in two. It takes no memory, and goes over no entries.
-    pub fn estimate(
-        &self,
-        graph: u32,
-        subject: Option<u32>,
-        predicate: Option<u32>,
-        object: Option<u32>,
-    ) -> u64 {
-        let lookup = Lookup::new(graph, subject, predicate, object);
-        let order = self.order(lookup.permutation);
-        order.estimate(lookup.prefix, lookup.given)
-    }
-
-    /// About how many entries of all named graphs have the subject, predicate and object that are given, as `estimate` does. It tells 0
-    /// where the index was made without orders of the named graphs.
-    pub fn estimate_named(
-        &self,
-        subject: Option<u32>,
-        predicate: Option<u32>,
-        object: Option<u32>,
-    ) -> u64 {
-        let lookup = Lookup::of_named(subject, predicate, object);
-        let order = self.order(lookup.permutation);
-        order.estimate(lookup.prefix, lookup.given)
     }
 
     /// The least graph number above `after` that an entry has. It takes no memory.

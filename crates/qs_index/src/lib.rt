@@ -5,7 +5,6 @@
 
 mod batch;
 mod entry;
-mod estimate;
 mod fill;
 mod index;
 mod named;

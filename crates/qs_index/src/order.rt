@@ -1,4 +1,4 @@
-// One order of the entries: sorted pages seen as one ascending list.
+//! One order of the entries: sorted pages seen as one ascending list.
 ghost use Rattle.std.specs.Prelude.{◌≡◌, ℕ, ◌+◌, ◌-◌, ◌<◌, ◌≤◌, ◌^◌, List, [], ◌∷◌, length, take, drop, IsTrue, ◌↔◌, MatchOption};
 ghost use Rattle.std.specs.Bool.{OnTrue, OnFalse};
 ghost use Rattle.std.specs.Result.{OnOk};
@@ -7,7 +7,6 @@ ghost use Rattle.qs_index.specs.Layout.{Layout, joined, page_at, rest_at, room_o
 ghost use Rattle.qs_index.specs.Entries.{Entries, IsUnion, IsDifference, IsOrdered};
 ghost use Rattle.qs_index.specs.Entry.{IsAscending, skip_before, with_entry, without_entry, beginning};
 
-use crate::estimate::{distance, last_with};
 use crate::fill::fill;
 use crate::order_scan::OrderScan;
 use crate::pages::{HALF, PAGE, Pages, Place, Reader};
@@ -283,45 +282,6 @@ impl Order {
         let _count = self.pages.len();
         let mut reader = Reader::new(&self.pages);
         find(&mut reader, prefix)
-    }
-
-    // Where the entries that aren't before `prefix` begin.
-    fn place_from(&self, prefix: &Prefix) -> Place {
-        match self.first(prefix) {
-            Some(found) => found.place,
-            None => Place {
-                page: self.pages.len(),
-                at: 0,
-            },
-        }
-    }
-
-    // Where the entries behind an entry begin.
-    fn place_behind(&self, entry: &[u32; 4]) -> Place {
-        let Some(found) = self.first(&Prefix::new(*entry, 4)) else {
-            return Place {
-                page: self.pages.len(),
-                at: 0,
-            };
-        };
-        let place = found.place;
-        let there = found.entry;
-        if there == *entry {
-            return Place {
-                page: place.page,
-                at: place.at.saturating_add(1),
-            };
-        }
-        place
-    }
-
-    /// About how many entries begin with the first `given` numbers of `prefix`.
-    pub fn estimate(&self, prefix: [u32; 4], given: usize) -> u64
-        requires { given ≤ 4 }
-    {
-        let from = self.place_from(&Prefix::new(prefix, given));
-        let to = self.place_behind(&last_with(prefix, given));
-        u64::try_from(distance(&self.pages, from, to)).unwrap_or(u64::MAX)
     }
 
     /// The entries that begin with the first `given` numbers of `prefix`, which are looked for about `from` first.

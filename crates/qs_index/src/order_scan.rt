@@ -1,4 +1,4 @@
-// A scan of one order.
+//! A scan of one order.
 ghost use Rattle.std.specs.Prelude.{◌≡◌, ℕ, ◌+◌, ◌*◌, ◌^◌, ◌<◌, ◌≤◌, List, [], length, true, slice_index_or};
 ghost use Rattle.std.specs.Iterator.{item_count};
 ghost use Rattle.qs_index.specs.Digits.{digits};

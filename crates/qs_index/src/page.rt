@@ -1,4 +1,4 @@
-// A page: a short list of entries.
+//! A page: a short list of entries.
 ghost use Rattle.std.specs.Prelude.{◌≡◌, ℕ, ◌-◌, ◌<◌, ◌≤◌, List, [], length, take, drop, IfOk, slice_index_or, vec_capacity};
 ghost use Rattle.std.specs.List.{insert, remove};
 ghost use Rattle.qs_index.specs.Layout.{IsPage, IsLastOf};

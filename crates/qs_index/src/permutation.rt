@@ -1,4 +1,4 @@
-// The orders of the places of an entry, and which of them a scan uses.
+//! The orders of the places of an entry, and which of them a scan uses.
 ghost use Rattle.std.specs.Prelude.{◌≡◌, ◌≤◌, take, map};
 ghost use Rattle.std.specs.List.{All};
 ghost use Rattle.qs_index.specs.Entry.{IsEntry};

@@ -1,4 +1,4 @@
-// What the entries of a scan begin with.
+//! What the entries of a scan begin with.
 ghost use Rattle.std.specs.Prelude.{◌≡◌, ℕ, ◌<◌, ◌≤◌, ◌==◌, List, length, take};
 ghost use Rattle.qs_index.specs.Entry.{is_before, begins};
 ghost use Rattle.qs_index.specs.Prefix.{IsFilled};

@@ -1,4 +1,4 @@
-// A scan of the index.
+//! A scan of the index.
 ghost use Rattle.std.specs.Prelude.{◌≡◌, ℕ, ◌+◌, ◌*◌, ◌≤◌, List, map};
 ghost use Rattle.std.specs.Iterator.{item_count};
 ghost use Rattle.qs_index.specs.Digits.{digits};

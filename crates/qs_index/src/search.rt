@@ -1,4 +1,4 @@
-// Binary searches in the pages of one order.
+//! Binary searches in the pages of one order.
 ghost use Rattle.std.specs.Prelude.{◌≡◌, ℕ, ◌+◌, ◌-◌, ◌*◌, ◌<◌, ◌≤◌, ◌^◌, List, [], ◌∷◌, length, drop, true, false, slice_index_or, IfOk, IfErr, IfSome, IfNone};
 ghost use Rattle.qs_index.specs.Digits.{digits};
 ghost use Rattle.qs_index.specs.Layout.{Layout, Reading, joined, page_at, rest_at};

@@ -1,4 +1,4 @@
-// The pages of one order, in blocks of 256 that are full but the last: a page is found by its number at once, and one that comes or goes
+//! The pages of one order, in blocks of 256 that are full but the last: a page is found by its number at once, and one that comes or goes
 // moves half of a block at most, and one page of each block behind.
 ghost use Rattle.std.specs.Prelude.{◌≡◌, ℕ, ◌+◌, ◌-◌, ◌*◌, ◌<◌, ◌≤◌, ◌^◌, min, List, [], ◌∷◌, ◌++◌, length, take, drop, IfOk, OnOk, IfSome, IsSome, slice_index_or, slice_set, option_to_list};
 ghost use Rattle.std.specs.List.{insert, remove};

@@ -103,16 +103,6 @@ impl Quad {
         &self.object
     }
 
-    /// The terms of the four places, without taking memory.
-    pub fn into_terms(self) -> (Option<Term>, Term, Term, Term)
-        ensures graph { result.0 ≡ self.graph }
-        ensures subject { result.1 ≡ self.subject }
-        ensures predicate { result.2 ≡ self.predicate }
-        ensures object { result.3 ≡ self.object }
-    {
-        (self.graph, self.subject, self.predicate, self.object)
-    }
-
     /// Whether the quad stands in the graph of this name, or in the default graph where none is given.
     pub fn is_in(&self, graph: Option<&Term>) -> bool
         ensures { result ≡ same_graph self.now.graph (option_copied graph.entry) }

@@ -44,13 +44,6 @@ impl Text {
         self.inner.as_str()
     }
 
-    /// The string that it was made of, without taking memory.
-    pub fn into_string(self) -> String
-        ensures { string_bytes result ≡ self }
-    {
-        self.inner
-    }
-
     /// An equal text of its own.
     pub fn try_clone(&self, alloc: Global) -> Result<Text, AllocError>
         ensures { IfOk result (λ t. t ≡ self.now) }

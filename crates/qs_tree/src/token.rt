@@ -1,3 +1,5 @@
+//! Tokens, and the pieces of the text that they are.
+
 use crate::kind::Kind;
 
 /// A piece of the text, from one byte up to another.

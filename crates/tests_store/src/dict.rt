@@ -10,7 +10,7 @@ use std::hash::RandomState;
 /// Whether the blank node gets the number, and is found by it.
 fn gets(dict: &mut Dict, blank: u64, want: Result<u32, DictFault>) -> bool {
     let term = Term::Blank(blank);
-    let is_it = dict.number_owned(Term::Blank(blank)) == want
+    let is_it = dict.number(&term) == want
         && dict.number(&term) == want
         && dict.find(&term) == want.ok();
     drop(term);

@@ -119,15 +119,11 @@ fn are_graphs_found(index: &Index) -> bool {
     true
 }
 
-/// Whether the entries are counted, known and estimated.
+/// Whether the entries are counted and known.
 fn are_known(index: &Index) -> bool {
     index.len() == 5
         && index.contains(&A)
         && !index.contains(&[1, 2, 3, 5])
-        && index.estimate(1, None, None, None) == 3
-        && index.estimate(1, Some(2), Some(3), Some(4)) == 1
-        && index.estimate(2, None, None, None) == 0
-        && index.estimate_named(Some(1), None, None) == 3
 }
 
 /// Whether two entries, and one that isn't there, are taken out at once.
