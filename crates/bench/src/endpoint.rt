@@ -12,7 +12,7 @@ const HEAD: usize = 16384;
 /// The sizes of the pieces in which the bytes of a request come.
 const PIECES: &[usize] = &[1, 64, 4096, 8388608];
 
-/// A kind of body: its media type, and its text, which is one unit again and again behind a front.
+/// A kind of body: its media type, and its text, which is one unit again and again after a front.
 struct Kind {
     name: &'static str,
     media: &'static str,
@@ -48,7 +48,7 @@ fn request_of(alloc: Global, kind: &Kind, size: usize) -> Result<Vec<u8>, AllocE
     Ok(bytes)
 }
 
-// Fills the head, and puts the body behind it. A unit has 12 bytes or more.
+// Fills the head, and puts the body after it. A unit has 12 bytes or more.
 fn put_rest(bytes: &mut Vec<u8>, kind: &Kind, size: usize) -> Result<(), AllocError> {
     bytes.resize(HEAD - 4, b'a')?;
     bytes.extend_from_slice(b"\r\n\r\n")?;
@@ -74,7 +74,7 @@ pub fn is_ready(alloc: Global, bytes: &[u8], piece: usize) -> bool {
     feed(&mut session, bytes, piece)
 }
 
-/// How many bytes a reply with that body has; 0 for want of memory.
+/// How many bytes a reply with that body has; 0 where memory runs out.
 pub fn reply_len(alloc: Global, body: &[u8]) -> u64 {
     match reply(alloc, StatusCode::OK, Media::NQuads, body) {
         Ok(bytes) => bytes.len() as u64,

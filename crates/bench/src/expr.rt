@@ -3,9 +3,9 @@
 use crate::line::line;
 use crate::terms::lawful;
 use crate::timing::{Work, show};
-use qs_beside::{beside, boxed_two};
+use qs_beside::{keep_beside, box_pair};
 use qs_expr::{BinaryFunction, Comparison, Expr, holds};
-use qs_solutions::Row;
+use qs_algebra_solutions::Row;
 use qs_terms::{Term, datatype};
 use sqlite_items::{Boxed, Items};
 use std::alloc::{AllocError, Global};
@@ -20,7 +20,7 @@ enum Case {
 
 const CASES: &[Case] = &[Case::Numbers, Case::Texts];
 
-/// How many of the solutions meet the condition; 0 for want of memory.
+/// How many of the solutions meet the condition; 0 where memory runs out.
 pub fn holding(alloc: Global, condition: &Expr, rows: &[Row]) -> u64 {
     let mut count: u64 = 0;
     for row in rows {
@@ -39,7 +39,7 @@ fn operands(
     datatype: &str,
 ) -> Result<(Boxed<Expr>, Boxed<Expr>), AllocError> {
     let term = lawful(Term::literal(alloc, form, datatype))?;
-    boxed_two(alloc, (Expr::Variable(0), Expr::Term(term)))
+    box_pair(alloc, (Expr::Variable(0), Expr::Term(term)))
 }
 
 fn compared(alloc: Global, comparison: Comparison, form: &str) -> Result<Expr, AllocError> {
@@ -53,7 +53,7 @@ fn list<T: Drop>(
     first: T,
     second: Result<T, AllocError>,
 ) -> Result<Items<T>, AllocError> {
-    let (first, second) = beside(first, second)?;
+    let (first, second) = keep_beside(first, second)?;
     let mut items = Items::new(alloc);
     items.push(first)?;
     items.push(second)?;

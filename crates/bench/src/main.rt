@@ -1,6 +1,6 @@
 //! Measures the parts of the store. The first argument names a part, and the second its size: then the part's times are printed, or
-//! its memory where a word stands behind the size, which for the store is the number of changes by which its quads are added. N-Quads
-//! have a file's name for a size: then the time of reading is printed, or that of writing where a word stands behind the name; queries
+//! its memory where a word stands after the size, which for the store is the number of changes by which its quads are added. N-Quads
+//! have a file's name for a size: then the time of reading is printed, or that of writing where a word stands after the name; queries
 //! the names of a file of N-Quads and of one with a text. Without a size a part works at a small size, and what it prints is always the same; with no argument all parts do so in turn.
 #![tactic(auto)]
 
@@ -45,7 +45,7 @@ fn all(rt: &HostRuntime) -> io::Result<()> {
     Ok(())
 }
 
-/// The part of that name, with the argument behind it, and the one behind that.
+/// The part of that name, with the argument after it, and the one after that.
 fn one(
     rt: &HostRuntime,
     part: &str,

@@ -18,7 +18,7 @@ pub fn read_all(alloc: Global, hasher: RandomState, bytes: &[u8]) -> (u64, u64) 
     }
 }
 
-/// The number of the quads, which go into a device that keeps nothing; 0 for want of memory.
+/// The number of the quads, which go into a device that keeps nothing; 0 where memory runs out.
 pub fn write_all(alloc: Global, quads: &[Quad]) -> u64 {
     let mut out = Counted::new(io::sink());
     match write(alloc, quads, &mut out) {
@@ -49,7 +49,7 @@ fn run_write(rt: &HostRuntime, hasher: RandomState, name: &str) -> io::Result<()
     show(rt, "written:", Work::WriteQuads(&quads))
 }
 
-/// With a file's name its quads and the time, that of letting the quads go among it, or the time of writing them; without one the quads
+/// With a file's name its quads and the time, that of dropping the quads among it, or the time of writing them; without one the quads
 /// of a short text.
 pub fn run(rt: &HostRuntime, name: Option<&String>, is_written: bool) -> io::Result<()> {
     let hasher = RandomState::new(rt)?;

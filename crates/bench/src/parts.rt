@@ -3,22 +3,22 @@
 use crate::line::line;
 use crate::texts::Reading;
 use crate::timing::{RUNS, micros};
-use qs_ast::query::Query;
-use qs_ast::update::Update;
-use qs_resolve::{resolve_query, resolve_update};
-use qs_scope::{query_keeps_scope, query_variables, update_keeps_scope, update_variables};
+use qs_syntax_ast::query::Query;
+use qs_syntax_ast::update::Update;
+use qs_syntax_resolve::{resolve_query, resolve_update};
+use qs_syntax_scope::{query_keeps_scope, query_variables, update_keeps_scope, update_variables};
 use qs_syntax::{parse_query, parse_update, tokens};
 use qs_terms::QFault;
-use qs_tree::query::Query as QueryTree;
-use qs_tree::token::Token;
-use qs_tree::update::Update as UpdateTree;
+use qs_syntax_tree::query::Query as QueryTree;
+use qs_syntax_tree::token::Token;
+use qs_syntax_tree::update::Update as UpdateTree;
 use sqlite_items::Items;
 use std::alloc::Global;
 use std::io;
 use std::time::Instant;
 
 // Lets a large value go in one place.
-fn let_go<T: Drop>(_value: T) {}
+fn drop_value<T: Drop>(_value: T) {}
 
 fn lexing(rt: &HostRuntime, text: &str) -> u64 {
     let mut least = u64::MAX;
@@ -26,7 +26,7 @@ fn lexing(rt: &HostRuntime, text: &str) -> u64 {
         let start = Instant::now(rt);
         let found = tokens(rt.alloc(), text);
         least = least.min(micros(rt, start));
-        let_go(found);
+        drop_value(found);
     }
     least
 }
@@ -35,9 +35,9 @@ fn query_tree(rt: &HostRuntime, tokens: &[Token]) -> u64 {
     let mut least = u64::MAX;
     for _run in 0..RUNS {
         let start = Instant::now(rt);
-        let found = qs_parser::query(rt.alloc(), tokens);
+        let found = qs_syntax_parser::query(rt.alloc(), tokens);
         least = least.min(micros(rt, start));
-        let_go(found);
+        drop_value(found);
     }
     least
 }
@@ -46,9 +46,9 @@ fn update_tree(rt: &HostRuntime, tokens: &[Token]) -> u64 {
     let mut least = u64::MAX;
     for _run in 0..RUNS {
         let start = Instant::now(rt);
-        let found = qs_parser::update(rt.alloc(), tokens);
+        let found = qs_syntax_parser::update(rt.alloc(), tokens);
         least = least.min(micros(rt, start));
-        let_go(found);
+        drop_value(found);
     }
     least
 }
@@ -59,7 +59,7 @@ fn query_names(rt: &HostRuntime, text: &str, tree: &QueryTree) -> u64 {
         let start = Instant::now(rt);
         let found = resolve_query(rt.alloc(), text, Items::new(rt.alloc()), tree);
         least = least.min(micros(rt, start));
-        let_go(found);
+        drop_value(found);
     }
     least
 }
@@ -70,7 +70,7 @@ fn update_names(rt: &HostRuntime, text: &str, tree: &UpdateTree) -> u64 {
         let start = Instant::now(rt);
         let found = resolve_update(rt.alloc(), text, Items::new(rt.alloc()), tree);
         least = least.min(micros(rt, start));
-        let_go(found);
+        drop_value(found);
     }
     least
 }
@@ -82,8 +82,8 @@ fn query_scope(rt: &HostRuntime, query: &Query) -> u64 {
         let keeps = query_keeps_scope(rt.alloc(), query);
         let variables = query_variables(rt.alloc(), query);
         least = least.min(micros(rt, start));
-        let_go(keeps);
-        let_go(variables);
+        drop_value(keeps);
+        drop_value(variables);
     }
     least
 }
@@ -95,15 +95,15 @@ fn update_scope(rt: &HostRuntime, update: &Update) -> u64 {
         let keeps = update_keeps_scope(rt.alloc(), update);
         let variables = update_variables(rt.alloc(), update);
         least = least.min(micros(rt, start));
-        let_go(keeps);
-        let_go(variables);
+        drop_value(keeps);
+        drop_value(variables);
     }
     least
 }
 
 fn dropping<T: Drop>(rt: &HostRuntime, value: T) -> u64 {
     let start = Instant::now(rt);
-    let_go(value);
+    drop_value(value);
     micros(rt, start)
 }
 
@@ -113,7 +113,7 @@ fn query(rt: &HostRuntime, text: &str) -> io::Result<()> {
         return Ok(());
     };
     let tree_time = query_tree(rt, &tokens);
-    let names = match qs_parser::query(rt.alloc(), &tokens) {
+    let names = match qs_syntax_parser::query(rt.alloc(), &tokens) {
         Ok(tree) => query_names(rt, text, &tree),
         Err(_) => 0,
     };
@@ -132,7 +132,7 @@ fn update(rt: &HostRuntime, text: &str) -> io::Result<()> {
         return Ok(());
     };
     let tree_time = update_tree(rt, &tokens);
-    let names = match qs_parser::update(rt.alloc(), &tokens) {
+    let names = match qs_syntax_parser::update(rt.alloc(), &tokens) {
         Ok(tree) => update_names(rt, text, &tree),
         Err(_) => 0,
     };

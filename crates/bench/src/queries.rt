@@ -2,7 +2,7 @@
 
 use crate::line::line;
 use crate::timing::{RUNS, micros};
-use qs_load::load;
+use qs_store_load::load;
 use qs_query::{Answer, answer};
 use qs_store::Store;
 use qs_terms::QFault;
@@ -18,7 +18,7 @@ const QUERY: &str = "SELECT ?p { ?s ?p ?o }";
 const MAX_ROWS: u64 = 1_000_000;
 
 // Lets a large value go in one place.
-fn let_go<T: Drop>(_value: T) {}
+fn drop_value<T: Drop>(_value: T) {}
 
 fn store_of(rt: &HostRuntime, bytes: &[u8]) -> io::Result<Store> {
     let hasher = RandomState::new(rt)?;
@@ -26,7 +26,7 @@ fn store_of(rt: &HostRuntime, bytes: &[u8]) -> io::Result<Store> {
     match load(rt.alloc(), hasher, &mut store, bytes) {
         Ok(()) => Ok(store),
         Err(_) => {
-            let_go(store);
+            drop_value(store);
             Err(io::Error::from(io::ErrorKind::InvalidData))
         }
     }
@@ -48,7 +48,7 @@ fn asked(rt: &HostRuntime, text: &str, store: &Store) -> (u64, u64) {
     let answered = answer(rt.alloc(), text, store, MAX_ROWS);
     let time = micros(rt, start);
     let count = count_of(&answered);
-    let_go(answered);
+    drop_value(answered);
     (count, time)
 }
 
@@ -94,17 +94,17 @@ fn run_files(rt: &HostRuntime, data: &str, name: &str) -> io::Result<()> {
     let text = text_of(fs::read(rt, name)?)?;
     let bytes = fs::read(rt, data)?;
     let store = store_of(rt, &bytes);
-    let_go(bytes);
+    drop_value(bytes);
     let mut store = store?;
     let outcome = show(rt, &text, name.ends_with(".ru"), &mut store);
-    let_go(store);
+    drop_value(store);
     outcome
 }
 
 fn run_short(rt: &HostRuntime) -> io::Result<()> {
     let store = store_of(rt, DATA)?;
     let (count, _) = asked(rt, QUERY, &store);
-    let_go(store);
+    drop_value(store);
     line(rt, &[("answered with", count)])
 }
 

@@ -2,9 +2,9 @@
 
 use crate::terms::{lawful, text};
 use crate::timing::{Work, show};
-use qs_answer::Answer;
+use qs_query_answer::Answer;
 use qs_results::{json, ntriples};
-use qs_solutions::Row;
+use qs_algebra_solutions::Row;
 use qs_terms::{Term, Text};
 use sqlite_items::Items;
 use std::alloc::{AllocError, Global};
@@ -49,7 +49,7 @@ fn text_of(alloc: Global, answer: &Answer) -> Result<String, AllocError> {
     }
 }
 
-/// The length of the answer's text; 0 for want of memory.
+/// The length of the answer's text; 0 where memory runs out.
 pub fn text_len(alloc: Global, answer: &Answer) -> u64 {
     match text_of(alloc, answer) {
         Ok(text) => text.len() as u64,

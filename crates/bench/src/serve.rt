@@ -5,7 +5,7 @@ ghost use Rattle.std.specs.Prelude.{Some};
 
 use crate::line::line;
 use crate::store::quads::{Part, quads};
-use crate::store::work::{change, let_go};
+use crate::store::work::{change, drop_value};
 use crate::timing::{RUNS, micros};
 use qs_service::{Served, Service};
 use qs_store::Store;
@@ -68,13 +68,13 @@ impl<'a> Stream for Memory<'a> {
 fn service_of(alloc: Global, state: RandomState, quads: &[Quad]) -> Option<Service> {
     let mut store = Store::new(alloc, u32::MAX, state);
     if !change(&mut store, &[], quads) {
-        let_go(store);
+        drop_value(store);
         return None;
     }
     match Service::new(alloc, store, 1_000_000) {
         Ok(service) => Some(service),
         Err(store) => {
-            let_go(store);
+            drop_value(store);
             None
         }
     }
@@ -95,7 +95,7 @@ fn dump(rt: &HostRuntime, service: &mut Service, room: usize) -> Result<(u64, u6
         _ => u64::MAX,
     };
     let len = stream.output.len() as u64;
-    let_go(stream);
+    drop_value(stream);
     Ok((len, time))
 }
 
@@ -184,7 +184,7 @@ pub fn run(rt: &HostRuntime, size: Option<u32>) -> io::Result<()> {
     match service_of(rt.alloc(), state, &quads) {
         Some(mut service) => {
             let outcome = show_all(rt, &mut service, size.is_some());
-            let_go(service);
+            drop_value(service);
             outcome
         }
         None => Err(io::Error::from(io::ErrorKind::OutOfMemory)),

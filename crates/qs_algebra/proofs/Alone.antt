@@ -1,11 +1,11 @@
 -- Groups of one step.
 use Rattle.std.proofs.Common.{◌≡◌, ℕ, List, [], ◌∷◌, sym, ap, ◌∙◌}
 use Rattle.qs_expr.specs.declared.expr.Expr.{Expr}
-use Rattle.qs_patterns.specs.declared.pattern.Pattern.{Pattern}
-use Rattle.qs_patterns.specs.declared.pattern.Pattern.TheOpen as level
-use Rattle.qs_patterns.specs.declared.pattern.Pattern.TheVariants.{Group}
-use Rattle.qs_patterns.specs.declared.pattern.Step.{out-Step, out-roll-Step}
-use Rattle.qs_patterns.specs.declared.pattern.Step.TheVariants.{Join, LeftJoin, Minus, Extend, rolls-Join, rolls-LeftJoin, rolls-Minus, rolls-Extend}
+use Rattle.qs_algebra_patterns.specs.declared.pattern.Pattern.{Pattern}
+use Rattle.qs_algebra_patterns.specs.declared.pattern.Pattern.TheOpen as level
+use Rattle.qs_algebra_patterns.specs.declared.pattern.Pattern.TheVariants.{Group}
+use Rattle.qs_algebra_patterns.specs.declared.pattern.Step.{out-Step, out-roll-Step}
+use Rattle.qs_algebra_patterns.specs.declared.pattern.Step.TheVariants.{Join, LeftJoin, Minus, Extend, rolls-Join, rolls-LeftJoin, rolls-Minus, rolls-Extend}
 use Rattle.qs_algebra.specs.Translation.{alone, unfiltered}
 
 pub join : (p : Pattern) → unfiltered (Join p ∷ []) ≡ p

@@ -1,13 +1,13 @@
 -- A union's operands are closed groups.
 use Rattle.std.proofs.Common.{◌≡◌, List, [], ◌∷◌, map, refl, sym, ap, ◌∙◌}
-use Rattle.qs_ast.specs.declared.pattern.Group.{Group}
-use Rattle.qs_ast.specs.declared.pattern.GraphPattern.{GraphPattern, fold-roll-GraphPattern}
-use Rattle.qs_ast.specs.declared.pattern.GraphPattern.TheOpen as level
-use Rattle.qs_ast.specs.declared.pattern.GraphPattern.TheVariants.{Union, rolls-Union}
-use Rattle.qs_patterns.specs.declared.pattern.Pattern.{Pattern}
-use Rattle.qs_patterns.specs.declared.pattern.Step.{Step}
-use Rattle.qs_patterns.specs.declared.pattern.Step.TheVariants.{Join}
-use Rattle.qs_scope.specs.Names.{Name}
+use Rattle.qs_syntax_ast.specs.declared.pattern.Group.{Group}
+use Rattle.qs_syntax_ast.specs.declared.pattern.GraphPattern.{GraphPattern, fold-roll-GraphPattern}
+use Rattle.qs_syntax_ast.specs.declared.pattern.GraphPattern.TheOpen as level
+use Rattle.qs_syntax_ast.specs.declared.pattern.GraphPattern.TheVariants.{Union, rolls-Union}
+use Rattle.qs_algebra_patterns.specs.declared.pattern.Pattern.{Pattern}
+use Rattle.qs_algebra_patterns.specs.declared.pattern.Step.{Step}
+use Rattle.qs_algebra_patterns.specs.declared.pattern.Step.TheVariants.{Join}
+use Rattle.qs_syntax_scope.specs.Names.{Name}
 use Rattle.qs_algebra.specs.Translation.{one_or_union, closed, step_level, group_level, group_parts, group_pattern, step_of}
 use Rattle.qs_algebra.specs.declared.parts.GroupParts.{GroupParts}
 

@@ -3,19 +3,19 @@
 use Rattle.std.specs.Prelude.{List, Option, Some, None, option_map}
 use Rattle.std.specs.List.{filter_map}
 use Rattle.qs_terms.specs.declared.term.Term.TheVariants as value
-use Rattle.qs_ast.specs.declared.pattern.Triple.{Triple}
-use Rattle.qs_ast.specs.declared.pattern.Verb.{Verb}
-use Rattle.qs_ast.specs.declared.pattern.Verb.TheVariants as verb
-use Rattle.qs_ast.specs.declared.path.Path.{Path}
-use Rattle.qs_ast.specs.declared.term.TermPattern.{TermPattern}
-use Rattle.qs_ast.specs.declared.term.TermPattern.TheVariants as term
-use Rattle.qs_scope.specs.Names.{Name}
-use Rattle.qs_scope.specs.Places.{place_of}
-use Rattle.qs_patterns.specs.declared.pattern.Slot.{Slot}
-use Rattle.qs_patterns.specs.declared.pattern.Slot.TheVariants as slot
-use Rattle.qs_patterns.specs.declared.pattern.TriplePattern.{TriplePattern}
-use Rattle.qs_patterns.specs.declared.pattern.PathPattern.{PathPattern}
-use Rattle.qs_patterns.specs.declared.pattern.BasicPattern.{BasicPattern}
+use Rattle.qs_syntax_ast.specs.declared.pattern.Triple.{Triple}
+use Rattle.qs_syntax_ast.specs.declared.pattern.Verb.{Verb}
+use Rattle.qs_syntax_ast.specs.declared.pattern.Verb.TheVariants as verb
+use Rattle.qs_syntax_ast.specs.declared.path.Path.{Path}
+use Rattle.qs_syntax_ast.specs.declared.term.TermPattern.{TermPattern}
+use Rattle.qs_syntax_ast.specs.declared.term.TermPattern.TheVariants as term
+use Rattle.qs_syntax_scope.specs.Names.{Name}
+use Rattle.qs_syntax_scope.specs.Places.{place_of}
+use Rattle.qs_algebra_patterns.specs.declared.pattern.Slot.{Slot}
+use Rattle.qs_algebra_patterns.specs.declared.pattern.Slot.TheVariants as slot
+use Rattle.qs_algebra_patterns.specs.declared.pattern.TriplePattern.{TriplePattern}
+use Rattle.qs_algebra_patterns.specs.declared.pattern.PathPattern.{PathPattern}
+use Rattle.qs_algebra_patterns.specs.declared.pattern.BasicPattern.{BasicPattern}
 use Rattle.qs_algebra.specs.declared.hidden.Hidden.{Hidden}
 use Rattle.qs_algebra.specs.Numbers.{hidden_of, hidden_number, width}
 

@@ -1,17 +1,17 @@
 -- The expressions of a text, with their variables by numbers (SPARQL 1.1 Query, 17).
 use Rattle.std.specs.Prelude.{List, [], ◌∷◌}
 use Rattle.qs_terms.specs.declared.term.Term.TheVariants as term
-use Rattle.qs_tree.specs.declared.expression.Comparison.{Comparison as WrittenComparison}
-use Rattle.qs_tree.specs.declared.expression.Comparison.TheVariants as written_comparison
-use Rattle.qs_tree.specs.declared.expression.Sign.{Sign as WrittenSign}
-use Rattle.qs_tree.specs.declared.expression.Sign.TheVariants as written_sign
-use Rattle.qs_tree.specs.declared.expression.UnaryFunction.{UnaryFunction as WrittenUnary}
-use Rattle.qs_tree.specs.declared.expression.UnaryFunction.TheVariants as written_unary
-use Rattle.qs_tree.specs.declared.expression.BinaryFunction.{BinaryFunction as WrittenBinary}
-use Rattle.qs_tree.specs.declared.expression.BinaryFunction.TheVariants as written_binary
-use Rattle.qs_ast.specs.declared.expression.Expression.{Expression, fold-Expression}
-use Rattle.qs_ast.specs.declared.expression.Addend.{Addend as WrittenAddend, fold-Addend}
-use Rattle.qs_ast.specs.declared.expression.Expression.TheOpen.{Expression-F, Addend-F}
+use Rattle.qs_syntax_tree.specs.declared.expression.Comparison.{Comparison as WrittenComparison}
+use Rattle.qs_syntax_tree.specs.declared.expression.Comparison.TheVariants as written_comparison
+use Rattle.qs_syntax_tree.specs.declared.expression.Sign.{Sign as WrittenSign}
+use Rattle.qs_syntax_tree.specs.declared.expression.Sign.TheVariants as written_sign
+use Rattle.qs_syntax_tree.specs.declared.expression.UnaryFunction.{UnaryFunction as WrittenUnary}
+use Rattle.qs_syntax_tree.specs.declared.expression.UnaryFunction.TheVariants as written_unary
+use Rattle.qs_syntax_tree.specs.declared.expression.BinaryFunction.{BinaryFunction as WrittenBinary}
+use Rattle.qs_syntax_tree.specs.declared.expression.BinaryFunction.TheVariants as written_binary
+use Rattle.qs_syntax_ast.specs.declared.expression.Expression.{Expression, fold-Expression}
+use Rattle.qs_syntax_ast.specs.declared.expression.Addend.{Addend as WrittenAddend, fold-Addend}
+use Rattle.qs_syntax_ast.specs.declared.expression.Expression.TheOpen.{Expression-F, Addend-F}
 use Rattle.qs_expr.specs.declared.operator.Comparison.{Comparison}
 use Rattle.qs_expr.specs.declared.operator.Comparison.TheVariants.{Equal, NotEqual, Less, Greater, LessOrEqual, GreaterOrEqual}
 use Rattle.qs_expr.specs.declared.operator.Sign.{Sign}
@@ -23,8 +23,8 @@ use Rattle.qs_expr.specs.declared.operator.BinaryFunction.TheVariants.{SameTerm,
 use Rattle.qs_expr.specs.declared.expr.Expr.{Expr}
 use Rattle.qs_expr.specs.declared.expr.Expr.TheVariants as expr
 use Rattle.qs_expr.specs.declared.expr.Addend.{Addend}
-use Rattle.qs_scope.specs.Names.{Name}
-use Rattle.qs_scope.specs.Places.{place_of}
+use Rattle.qs_syntax_scope.specs.Names.{Name}
+use Rattle.qs_syntax_scope.specs.Places.{place_of}
 
 abbrev pub comparison : WrittenComparison → Comparison
 comparison written_comparison.Equal = Equal

@@ -1,15 +1,15 @@
--- The numbers of variables: those of the text first, by their places in its list; behind them the hidden variables of a basic graph
--- pattern, which its blank nodes are (SPARQL 1.1 Query, 4.1.4): those with a label by the first place of the label, and behind these
+-- The numbers of variables: those of the text first, by their places in its list; after them the hidden variables of a basic graph
+-- pattern, which its blank nodes are (SPARQL 1.1 Query, 4.1.4): those with a label by the first place of the label, and after these
 -- those without one, by where they begin in the text.
 use Rattle.std.specs.Prelude.{ℕ, ◌+◌, ◌-◌, List, [], ◌∷◌, ◌++◌, length, min, max, Option, Some, None, if◌then◌else◌}
 use Rattle.std.specs.List.{fold}
-use Rattle.qs_ast.specs.declared.pattern.Triple.{Triple}
-use Rattle.qs_ast.specs.declared.term.BlankNode.{BlankNode}
-use Rattle.qs_ast.specs.declared.term.BlankNode.TheVariants as blank
-use Rattle.qs_ast.specs.declared.term.TermPattern.{TermPattern}
-use Rattle.qs_ast.specs.declared.term.TermPattern.TheVariants as term
-use Rattle.qs_scope.specs.Names.{Name, contains}
-use Rattle.qs_scope.specs.Places.{place_of}
+use Rattle.qs_syntax_ast.specs.declared.pattern.Triple.{Triple}
+use Rattle.qs_syntax_ast.specs.declared.term.BlankNode.{BlankNode}
+use Rattle.qs_syntax_ast.specs.declared.term.BlankNode.TheVariants as blank
+use Rattle.qs_syntax_ast.specs.declared.term.TermPattern.{TermPattern}
+use Rattle.qs_syntax_ast.specs.declared.term.TermPattern.TheVariants as term
+use Rattle.qs_syntax_scope.specs.Names.{Name, contains}
+use Rattle.qs_syntax_scope.specs.Places.{place_of}
 use Rattle.qs_algebra.specs.declared.hidden.Hidden.{Hidden}
 use Rattle.qs_algebra.specs.declared.hidden.Span.{Span}
 
@@ -54,7 +54,7 @@ width_of (Some s) = s.greatest - s.least + 1
 abbrev pub width : Hidden → ℕ
 width hidden = length hidden.labels + width_of hidden.span
 
--- the number of a hidden variable, behind those of the named ones
+-- the number of a hidden variable, after those of the named ones
 abbrev pub hidden_number : List Name → Hidden → BlankNode → ℕ
 hidden_number names hidden (blank.Label label) = length names + place_of hidden.labels label
 hidden_number names hidden (blank.Anonymous n) = length names + length hidden.labels + (n - least_of hidden.span)

@@ -3,31 +3,31 @@
 use Rattle.std.specs.Prelude.{ℕ, List, [], ◌∷◌, ◌++◌, map, Option, Some, None}
 use Rattle.std.specs.List.{flat_map}
 use Rattle.qs_terms.specs.declared.term.Term.TheVariants as value
-use Rattle.qs_ast.specs.declared.pattern.Group.{Group, fold-Group}
-use Rattle.qs_ast.specs.declared.pattern.GraphPattern.{GraphPattern, fold-GraphPattern}
-use Rattle.qs_ast.specs.declared.pattern.GraphPattern.TheOpen.{Group-F, GraphPattern-F, Triples, Union, Optional, Minus, Graph, Bind, Values}
-use Rattle.qs_ast.specs.declared.pattern.InlineData.{InlineData}
-use Rattle.qs_ast.specs.declared.pattern.Triple.{Triple}
-use Rattle.qs_ast.specs.declared.query.Projection.{Projection}
-use Rattle.qs_ast.specs.declared.query.Projection.TheVariants as projection
-use Rattle.qs_ast.specs.declared.query.Query.{Query}
-use Rattle.qs_ast.specs.declared.query.QueryForm.{QueryForm}
-use Rattle.qs_ast.specs.declared.query.QueryForm.TheVariants as form
-use Rattle.qs_ast.specs.declared.query.SelectItem.{SelectItem}
-use Rattle.qs_ast.specs.declared.query.SelectItem.TheVariants as item
-use Rattle.qs_ast.specs.declared.term.Variable.{Variable}
-use Rattle.qs_ast.specs.declared.term.VarOrIri.{VarOrIri}
-use Rattle.qs_ast.specs.declared.term.VarOrIri.TheVariants as name
-use Rattle.qs_ast.specs.declared.update.QuadBlock.{QuadBlock}
-use Rattle.qs_scope.specs.Firsts.{names_of}
-use Rattle.qs_scope.specs.Names.{Name}
-use Rattle.qs_scope.specs.Places.{place_of}
-use Rattle.qs_patterns.specs.declared.pattern.Pattern.{Pattern}
-use Rattle.qs_patterns.specs.declared.pattern.Pattern.TheVariants as pattern
-use Rattle.qs_patterns.specs.declared.pattern.Pattern.TheOpen as level
-use Rattle.qs_patterns.specs.declared.pattern.Step.{Step, out-Step}
-use Rattle.qs_patterns.specs.declared.pattern.Step.TheVariants as step
-use Rattle.qs_patterns.specs.declared.pattern.Table.{Table}
+use Rattle.qs_syntax_ast.specs.declared.pattern.Group.{Group, fold-Group}
+use Rattle.qs_syntax_ast.specs.declared.pattern.GraphPattern.{GraphPattern, fold-GraphPattern}
+use Rattle.qs_syntax_ast.specs.declared.pattern.GraphPattern.TheOpen.{Group-F, GraphPattern-F, Triples, Union, Optional, Minus, Graph, Bind, Values}
+use Rattle.qs_syntax_ast.specs.declared.pattern.InlineData.{InlineData}
+use Rattle.qs_syntax_ast.specs.declared.pattern.Triple.{Triple}
+use Rattle.qs_syntax_ast.specs.declared.query.Projection.{Projection}
+use Rattle.qs_syntax_ast.specs.declared.query.Projection.TheVariants as projection
+use Rattle.qs_syntax_ast.specs.declared.query.Query.{Query}
+use Rattle.qs_syntax_ast.specs.declared.query.QueryForm.{QueryForm}
+use Rattle.qs_syntax_ast.specs.declared.query.QueryForm.TheVariants as form
+use Rattle.qs_syntax_ast.specs.declared.query.SelectItem.{SelectItem}
+use Rattle.qs_syntax_ast.specs.declared.query.SelectItem.TheVariants as item
+use Rattle.qs_syntax_ast.specs.declared.term.Variable.{Variable}
+use Rattle.qs_syntax_ast.specs.declared.term.VarOrIri.{VarOrIri}
+use Rattle.qs_syntax_ast.specs.declared.term.VarOrIri.TheVariants as name
+use Rattle.qs_syntax_ast.specs.declared.update.QuadBlock.{QuadBlock}
+use Rattle.qs_syntax_scope.specs.Firsts.{names_of}
+use Rattle.qs_syntax_scope.specs.Names.{Name}
+use Rattle.qs_syntax_scope.specs.Places.{place_of}
+use Rattle.qs_algebra_patterns.specs.declared.pattern.Pattern.{Pattern}
+use Rattle.qs_algebra_patterns.specs.declared.pattern.Pattern.TheVariants as pattern
+use Rattle.qs_algebra_patterns.specs.declared.pattern.Pattern.TheOpen as level
+use Rattle.qs_algebra_patterns.specs.declared.pattern.Step.{Step, out-Step}
+use Rattle.qs_algebra_patterns.specs.declared.pattern.Step.TheVariants as step
+use Rattle.qs_algebra_patterns.specs.declared.pattern.Table.{Table}
 use Rattle.qs_expr.specs.declared.expr.Expr.{Expr}
 use Rattle.qs_algebra.specs.Basic.{basic_pattern}
 use Rattle.qs_algebra.specs.Expressions.{expr_of}
@@ -53,7 +53,7 @@ number_of names v = place_of names v.name
 abbrev pub table_of : List Name → InlineData → Table
 table_of names table = record { variables = map (number_of names) table.variables; rows = table.rows }
 
--- ---- the steps and the filters of a group, and the group that is closed behind them
+-- ---- the steps and the filters of a group, and the group that is closed after them
 
 -- the only step of a group: a pattern that is joined to the empty solution alone is that pattern
 abbrev pub alone : Step → level.Step-F Pattern Step → Pattern
@@ -134,7 +134,7 @@ selected_steps names (form.Select select) = projection_steps names select.projec
 selected_steps names (form.Construct construct) = []
 selected_steps names (form.Ask ask) = []
 
--- what stands behind a query's pattern: it is joined with the trailing VALUES, and then extended by the select expressions
+-- what stands after a query's pattern: it is joined with the trailing VALUES, and then extended by the select expressions
 abbrev pub behind : List Name → Query → List Step
 behind names query = trailing_steps names query.values ++ selected_steps names query.form
 

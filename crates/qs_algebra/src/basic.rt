@@ -3,17 +3,17 @@
 ghost use Rattle.std.specs.Prelude.{◌≡◌, ◌↔◌, IfOk, IsTrue};
 ghost use Rattle.std.specs.List.{filter_map};
 ghost use Rattle.qs_algebra.specs.Basic as spec;
-ghost use Rattle.qs_patterns.specs.declared.pattern.Slot.TheVariants as slot;
+ghost use Rattle.qs_algebra_patterns.specs.declared.pattern.Slot.TheVariants as slot;
 ghost use Rattle.qs_terms.specs.declared.term.Term.TheVariants as value;
 
 use crate::hidden::{Hidden, hidden_of};
 use crate::path::shared;
-use qs_ast::path::Path;
-use qs_ast::pattern::{Triple, Verb};
-use qs_ast::term::TermPattern;
-use qs_beside::beside;
-use qs_patterns::{BasicPattern, PathPattern, Slot, TriplePattern};
-use qs_scope::Seen;
+use qs_syntax_ast::path::Path;
+use qs_syntax_ast::pattern::{Triple, Verb};
+use qs_syntax_ast::term::TermPattern;
+use qs_beside::keep_beside;
+use qs_algebra_patterns::{BasicPattern, PathPattern, Slot, TriplePattern};
+use qs_syntax_scope::Seen;
 use qs_shared::Shared;
 use qs_terms::{Iri, Lit, Term};
 use sqlite_items::Items;
@@ -209,7 +209,7 @@ pub fn basic_pattern<'a>(
 {
     let hidden = hidden_of(alloc, triples)?;
     let paths = path_patterns(alloc, names, &hidden, triples)?;
-    let (paths, triples) = beside(paths, triple_patterns(alloc, names, &hidden, triples))?;
+    let (paths, triples) = keep_beside(paths, triple_patterns(alloc, names, &hidden, triples))?;
     let hidden = hidden.width()?;
     Ok(BasicPattern {
         triples,

@@ -1,17 +1,17 @@
 //! The patterns of DELETE WHERE (SPARQL 1.1 Update, 3.1.3.3).
 
 ghost use Rattle.std.specs.Prelude.{◌≡◌, map, IfOk};
-ghost use Rattle.qs_scope.specs.Firsts as first;
+ghost use Rattle.qs_syntax_scope.specs.Firsts as first;
 ghost use Rattle.qs_algebra.specs.Translation as spec;
 
 use crate::basic::basic_pattern;
 use crate::named::NamedPattern;
 use crate::query::named;
 use crate::translation::{in_graph, unfiltered};
-use qs_ast::term::{VarOrIri, Variable};
-use qs_ast::update::QuadBlock;
-use qs_patterns::{Pattern, Step};
-use qs_scope::{Seen, numbered};
+use qs_syntax_ast::term::{VarOrIri, Variable};
+use qs_syntax_ast::update::QuadBlock;
+use qs_algebra_patterns::{Pattern, Step};
+use qs_syntax_scope::{Seen, numbered};
 use sqlite_items::Items;
 use std::alloc::{AllocError, Global};
 

@@ -4,10 +4,10 @@ ghost use Rattle.std.specs.Prelude.{◌≡◌, map, IfOk};
 ghost use Rattle.qs_algebra.specs.Expressions as spec;
 
 use crate::operator::{binary_function, comparison, sign, unary_function};
-use qs_ast::expression::{Addend as WrittenAddend, Expression};
-use qs_beside::beside;
+use qs_syntax_ast::expression::{Addend as WrittenAddend, Expression};
+use qs_beside::keep_beside;
 use qs_expr::{Addend, Expr};
-use qs_scope::Seen;
+use qs_syntax_scope::Seen;
 use qs_terms::Term;
 use sqlite_items::{Boxed, Items};
 use std::alloc::{AllocError, Global};
@@ -29,22 +29,22 @@ pub fn expr_of<'a>(
         Expression::And(parts) => Ok(Expr::And(exprs_of(alloc, names, parts.as_slice())?)),
         Expression::Compare(by, a, b) => {
             let a = boxed(alloc, names, a.get())?;
-            let (a, b) = beside(a, boxed(alloc, names, b.get()))?;
+            let (a, b) = keep_beside(a, boxed(alloc, names, b.get()))?;
             Ok(Expr::Compare(comparison(*by), a, b))
         }
         Expression::In(inner, parts) => {
             let inner = boxed(alloc, names, inner.get())?;
-            let (inner, parts) = beside(inner, exprs_of(alloc, names, parts.as_slice()))?;
+            let (inner, parts) = keep_beside(inner, exprs_of(alloc, names, parts.as_slice()))?;
             Ok(Expr::In(inner, parts))
         }
         Expression::NotIn(inner, parts) => {
             let inner = boxed(alloc, names, inner.get())?;
-            let (inner, parts) = beside(inner, exprs_of(alloc, names, parts.as_slice()))?;
+            let (inner, parts) = keep_beside(inner, exprs_of(alloc, names, parts.as_slice()))?;
             Ok(Expr::NotIn(inner, parts))
         }
         Expression::Sum(first, more) => {
             let first = boxed(alloc, names, first.get())?;
-            let (first, more) = beside(first, addends_of(alloc, names, more.as_slice()))?;
+            let (first, more) = keep_beside(first, addends_of(alloc, names, more.as_slice()))?;
             Ok(Expr::Sum(first, more))
         }
         Expression::Product(parts) => product_of(alloc, names, parts.as_slice()),
@@ -56,9 +56,9 @@ pub fn expr_of<'a>(
         Expression::Bound(variable) => Ok(Expr::Bound(names.place(variable.text()))),
         Expression::If(test, then, otherwise) => {
             let test = boxed(alloc, names, test.get())?;
-            let (test, then) = beside(test, boxed(alloc, names, then.get()))?;
+            let (test, then) = keep_beside(test, boxed(alloc, names, then.get()))?;
             let two = (test, then);
-            let ((test, then), otherwise) = beside(two, boxed(alloc, names, otherwise.get()))?;
+            let ((test, then), otherwise) = keep_beside(two, boxed(alloc, names, otherwise.get()))?;
             Ok(Expr::If(test, then, otherwise))
         }
         Expression::Coalesce(parts) => {
@@ -71,7 +71,7 @@ pub fn expr_of<'a>(
         }
         Expression::Binary(function, a, b) => {
             let a = boxed(alloc, names, a.get())?;
-            let (a, b) = beside(a, boxed(alloc, names, b.get()))?;
+            let (a, b) = keep_beside(a, boxed(alloc, names, b.get()))?;
             Ok(Expr::Binary(binary_function(*function), a, b))
         }
     }
@@ -101,7 +101,7 @@ fn product_of<'a>(
         None => Ok(Expr::Coalesce(Items::new(alloc))),
         Some((first, more)) => {
             let first = boxed(alloc, names, first)?;
-            let (first, more) = beside(first, exprs_of(alloc, names, more))?;
+            let (first, more) = keep_beside(first, exprs_of(alloc, names, more))?;
             Ok(Expr::Product(first, more))
         }
     }

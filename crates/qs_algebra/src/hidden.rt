@@ -3,12 +3,12 @@
 ghost use Rattle.std.specs.Prelude.{◌≡◌, ◌+◌, length, IfOk, OnOk, Some};
 ghost use Rattle.std.specs.List.{fold};
 ghost use Rattle.std.specs.Option.{IfSome};
-ghost use Rattle.qs_scope.specs.Names.{contains};
+ghost use Rattle.qs_syntax_scope.specs.Names.{contains};
 ghost use Rattle.qs_algebra.specs.Numbers as spec;
 
-use qs_ast::pattern::Triple;
-use qs_ast::term::{BlankNode, TermPattern};
-use qs_scope::Seen;
+use qs_syntax_ast::pattern::Triple;
+use qs_syntax_ast::term::{BlankNode, TermPattern};
+use qs_syntax_scope::Seen;
 use qs_shared::Shared;
 use qs_terms::Text;
 use std::alloc::{AllocError, Global};
@@ -126,7 +126,7 @@ impl<'a> Hidden<'a> {
         }
     }
 
-    /// The number of a blank node's variable, behind those of the named ones.
+    /// The number of a blank node's variable, after those of the named ones.
     pub fn number<'b>(&self, names: &Seen<'b>, blank: &'a BlankNode) -> Result<usize, AllocError>
         ensures { IfOk result (λ n. n ≡ spec.hidden_number names.now self.now blank.now) }
     {

@@ -1,6 +1,6 @@
 //! Patterns that know their variables.
 
-use qs_patterns::Pattern;
+use qs_algebra_patterns::Pattern;
 use qs_terms::Text;
 use sqlite_items::Items;
 

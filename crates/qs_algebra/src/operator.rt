@@ -4,7 +4,7 @@ ghost use Rattle.std.specs.Prelude.{◌≡◌};
 ghost use Rattle.qs_algebra.specs.Expressions as spec;
 
 use qs_expr::{BinaryFunction, Comparison, Sign, UnaryFunction};
-use qs_tree::expression as written;
+use qs_syntax_tree::expression as written;
 
 pub fn comparison(comparison: written::Comparison) -> Comparison
     ensures { result ≡ spec.comparison comparison }

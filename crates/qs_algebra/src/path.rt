@@ -2,9 +2,9 @@
 
 ghost use Rattle.std.specs.Prelude.{◌≡◌, ◌↔◌, IfOk, IsTrue};
 
-use qs_ast::path::{NegatedIri, Path};
+use qs_syntax_ast::path::{NegatedIri, Path};
 use qs_shared::Shared;
-use qs_tree::path::Repetition;
+use qs_syntax_tree::path::Repetition;
 use sqlite_items::{Boxed, Items};
 use std::alloc::{AllocError, Global};
 

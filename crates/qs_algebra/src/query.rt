@@ -2,7 +2,7 @@
 
 ghost use Rattle.std.specs.List.{flat_map};
 ghost use Rattle.std.specs.Prelude.{◌≡◌, ◌++◌, IfOk, OnOk};
-ghost use Rattle.qs_scope.specs.Firsts as first;
+ghost use Rattle.qs_syntax_scope.specs.Firsts as first;
 ghost use Rattle.qs_algebra.specs.Translation as spec;
 
 use crate::basic::basic_pattern;
@@ -10,12 +10,12 @@ use crate::expression::expr_of;
 use crate::named::NamedPattern;
 use crate::table::table_of;
 use crate::translation::{group_pattern, unfiltered};
-use qs_ast::pattern::{Group, InlineData};
-use qs_ast::query::{Construct, Projection, Query, QueryForm, SelectItem};
-use qs_ast::term::Variable;
-use qs_beside::beside;
-use qs_patterns::{Pattern, Step};
-use qs_scope::{Seen, numbered};
+use qs_syntax_ast::pattern::{Group, InlineData};
+use qs_syntax_ast::query::{Construct, Projection, Query, QueryForm, SelectItem};
+use qs_syntax_ast::term::Variable;
+use qs_beside::keep_beside;
+use qs_algebra_patterns::{Pattern, Step};
+use qs_syntax_scope::{Seen, numbered};
 use qs_terms::Text;
 use sqlite_items::Items;
 use std::alloc::{AllocError, Global};
@@ -50,7 +50,7 @@ fn form_pattern<'a>(
     }
 }
 
-/// The trailing VALUES, if there is one, behind the steps.
+/// The trailing VALUES, if there is one, after the steps.
 fn put_trailing<'a>(
     alloc: Global,
     names: &Seen<'a>,
@@ -68,7 +68,7 @@ fn put_trailing<'a>(
     }
 }
 
-/// The expression of an item of SELECT, if it is one, behind the steps.
+/// The expression of an item of SELECT, if it is one, after the steps.
 fn put_item<'a>(
     alloc: Global,
     names: &Seen<'a>,
@@ -100,7 +100,7 @@ fn put_items<'a>(
     Ok(())
 }
 
-/// The select expressions of the form, from left to right, behind the steps.
+/// The select expressions of the form, from left to right, after the steps.
 fn put_selected<'a>(
     alloc: Global,
     names: &Seen<'a>,
@@ -119,7 +119,7 @@ fn put_selected<'a>(
     }
 }
 
-/// The pattern of the form with what stands behind it.
+/// The pattern of the form with what stands after it.
 fn with_steps<'a>(
     alloc: Global,
     names: &Seen<'a>,
@@ -155,7 +155,7 @@ pub fn named(
 ) -> Result<NamedPattern, AllocError>
     ensures { IfOk result (λ p. p ≡ spec.named variables.now pattern) }
 {
-    let (pattern, names) = beside(pattern, names_of(alloc, variables))?;
+    let (pattern, names) = keep_beside(pattern, names_of(alloc, variables))?;
     Ok(NamedPattern { names, pattern })
 }
 

@@ -3,10 +3,10 @@
 ghost use Rattle.std.specs.Prelude.{◌≡◌, map, IfOk};
 ghost use Rattle.qs_algebra.specs.Translation as spec;
 
-use qs_ast::pattern::InlineData;
-use qs_ast::term::Variable;
-use qs_patterns::Table;
-use qs_scope::Seen;
+use qs_syntax_ast::pattern::InlineData;
+use qs_syntax_ast::term::Variable;
+use qs_algebra_patterns::Table;
+use qs_syntax_scope::Seen;
 use qs_terms::Term;
 use sqlite_items::Items;
 use std::alloc::{AllocError, Global};

@@ -7,11 +7,11 @@ use crate::basic::basic_pattern;
 use crate::expression::{expr_of, exprs_of};
 use crate::parts::GroupParts;
 use crate::table::table_of;
-use qs_ast::pattern::{GraphPattern, Group};
-use qs_ast::term::VarOrIri;
-use qs_beside::beside;
-use qs_patterns::{Pattern, Step};
-use qs_scope::Seen;
+use qs_syntax_ast::pattern::{GraphPattern, Group};
+use qs_syntax_ast::term::VarOrIri;
+use qs_beside::keep_beside;
+use qs_algebra_patterns::{Pattern, Step};
+use qs_syntax_scope::Seen;
 use qs_terms::Term;
 use sqlite_items::{Boxed, Items};
 use std::alloc::{AllocError, Global};
@@ -43,7 +43,7 @@ pub fn unfiltered(alloc: Global, mut steps: Items<Step>) -> Result<Pattern, Allo
     }
 }
 
-/// A group that is closed behind its last step, with its filters.
+/// A group that is closed after its last step, with its filters.
 fn closed(alloc: Global, group: GroupParts) -> Result<Pattern, AllocError>
     ensures { IfOk result (λ p. p ≡ spec.closed group) }
 {
@@ -58,7 +58,7 @@ fn closed(alloc: Global, group: GroupParts) -> Result<Pattern, AllocError>
 fn optional(alloc: Global, group: GroupParts) -> Result<Step, AllocError>
     ensures { IfOk result (λ s. s ≡ spec.optional group) }
 {
-    let (conditions, part) = beside(group.conditions, unfiltered(alloc, group.steps))?;
+    let (conditions, part) = keep_beside(group.conditions, unfiltered(alloc, group.steps))?;
     Ok(Step::LeftJoin(part, conditions))
 }
 
@@ -117,7 +117,7 @@ fn group_parts<'a>(
     ensures { IfOk result (λ parts. parts ≡ spec.group_parts names.now group.now) }
 {
     let steps = steps(alloc, names, group.patterns.as_slice())?;
-    let (steps, conditions) = beside(steps, exprs_of(alloc, names, group.filters.as_slice()))?;
+    let (steps, conditions) = keep_beside(steps, exprs_of(alloc, names, group.filters.as_slice()))?;
     Ok(GroupParts { steps, conditions })
 }
 

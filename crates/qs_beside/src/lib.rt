@@ -8,7 +8,7 @@ use sqlite_items::{Boxed, Items};
 use std::alloc::{AllocError, Global};
 
 /// What was made first, beside what was made then.
-pub fn beside<A: Drop, B, E>(first: A, second: Result<B, E>) -> Result<(A, B), E>
+pub fn keep_beside<A: Drop, B, E>(first: A, second: Result<B, E>) -> Result<(A, B), E>
     ensures found { IfOk second (λ b. result ≡ Ok (first, b)) }
     ensures fault { IfErr second (λ e. result ≡ Err e) }
 {
@@ -18,8 +18,8 @@ pub fn beside<A: Drop, B, E>(first: A, second: Result<B, E>) -> Result<(A, B), E
     }
 }
 
-/// Puts an item behind the others, once what was done before has succeeded.
-pub fn push_behind<T: Drop>(
+/// Puts an item after the others, once what was done before has succeeded.
+pub fn push_after<T: Drop>(
     done: Result<(), AllocError>,
     items: &mut Items<T>,
     item: T,
@@ -31,7 +31,7 @@ pub fn push_behind<T: Drop>(
 }
 
 /// Two values, each in a box.
-pub fn boxed_two<T: Drop>(alloc: Global, two: (T, T)) -> Result<(Boxed<T>, Boxed<T>), AllocError>
+pub fn box_pair<T: Drop>(alloc: Global, two: (T, T)) -> Result<(Boxed<T>, Boxed<T>), AllocError>
     ensures { IfOk result (λ boxes. boxes ≡ two) }
 {
     let (first, second) = two;
@@ -40,13 +40,13 @@ pub fn boxed_two<T: Drop>(alloc: Global, two: (T, T)) -> Result<(Boxed<T>, Boxed
 }
 
 /// Three values, each in a box.
-pub fn boxed_three<T: Drop>(
+pub fn box_three<T: Drop>(
     alloc: Global,
     three: ((T, T), T),
 ) -> Result<((Boxed<T>, Boxed<T>), Boxed<T>), AllocError>
     ensures { IfOk result (λ boxes. boxes ≡ three) }
 {
     let (two, third) = three;
-    let two = boxed_two(alloc, two)?;
+    let two = box_pair(alloc, two)?;
     Ok((two, Boxed::new(alloc, third)?))
 }

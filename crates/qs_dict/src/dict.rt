@@ -7,7 +7,7 @@ ghost use Rattle.qs_dict.specs.declared.fault.DictFault.TheVariants.{Full, Memor
 ghost use Rattle.qs_dict.specs.Dict.{IsDictionary, IsInUse, KeepsNumbers, term_at, number_of};
 
 use crate::fault::DictFault;
-use crate::recent::Recent;
+use crate::number_cache::NumberCache;
 use indexmap::IndexSet;
 use qs_terms::Term;
 use std::alloc::Global;
@@ -19,7 +19,7 @@ use std::marker::Model;
 pub struct Dict {
     terms: IndexSet<Term, RandomState>,
     limit: u32,
-    recent: Recent,
+    recent: NumberCache,
 }
 
 impl Model for Dict {
@@ -43,7 +43,7 @@ impl Dict {
         Dict {
             terms: IndexSet::with_hasher(alloc, hasher),
             limit,
-            recent: Recent::new(),
+            recent: NumberCache::new(),
         }
     }
 

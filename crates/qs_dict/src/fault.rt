@@ -12,7 +12,7 @@ pub enum DictFault {
     /// The term is new, and there are as many terms as the limit allows.
     #[error("the dictionary is full")]
     Full,
-    /// Want of memory.
+    /// Running out of memory.
     #[error("out of memory")]
     Memory,
 }

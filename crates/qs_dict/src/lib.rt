@@ -3,7 +3,7 @@
 
 mod dict;
 mod fault;
-mod recent;
+mod number_cache;
 
 pub use dict::Dict;
 pub use fault::DictFault;

@@ -2,8 +2,8 @@
 use Rattle.std.proofs.Common.{◌≡◌, ◌==◌, Bool, true, false, List, [], ◌∷◌, map, length, Some, None, refl, ap, sym, ◌∙◌, arith}
 use Rattle.std.specs.List.{fold}
 use borrow.Author.Tests.{eqb-true}
-use Rattle.qs_solutions.specs.Solution.{Solution}
-use Rattle.qs_values.specs.Values.{boolean_term}
+use Rattle.qs_algebra_solutions.specs.Solution.{Solution}
+use Rattle.qs_expr_values.specs.Values.{boolean_term}
 use Rattle.qs_expr.specs.Calls.{Value}
 use Rattle.qs_expr.specs.Truth.{either, denied}
 use Rattle.qs_expr.specs.Makes.{makes, addend_makes, some}

@@ -2,7 +2,7 @@
 use Rattle.std.proofs.Common.{◌≡◌, ℕ, ◌+◌, ◌<◌, ◌≤◌, Bool, true, false, List, ◌∷◌, map, drop, length, get_or, Option, Some, None, refl, ap, sym, ◌∙◌, subst}
 use Rattle.std.specs.Option.{option_map, option_and_then}
 use Rattle.std.proofs.lemmas.List.{drop_all}
-use Rattle.qs_solutions.specs.Solution.{Solution}
+use Rattle.qs_algebra_solutions.specs.Solution.{Solution}
 use Rattle.qs_terms.specs.declared.term.Term.{Term}
 use Rattle.qs_expr.specs.Calls.{joined, strings}
 use Rattle.qs_expr.specs.Comes.{Errs}

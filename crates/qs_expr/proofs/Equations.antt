@@ -3,9 +3,9 @@ use Rattle.std.proofs.Common.{rules, ◌≡◌, ℕ, true, ◌||◌, List, map, 
 use Rattle.std.specs.Option.{is_some, option_map, option_and_then}
 use Rattle.std.specs.List.{fold}
 use Rattle.qs_terms.specs.declared.term.Term.{Term as RdfTerm}
-use Rattle.qs_solutions.specs.Solution.{Solution, term_at}
-use Rattle.qs_values.specs.Number.{in_range}
-use Rattle.qs_values.specs.Values.{boolean_term}
+use Rattle.qs_algebra_solutions.specs.Solution.{Solution, term_at}
+use Rattle.qs_expr_values.specs.Number.{in_range}
+use Rattle.qs_expr_values.specs.Values.{boolean_term}
 use Rattle.qs_expr.specs.Truth.{any, every, denied}
 use Rattle.qs_expr.specs.Calls.{joined, strings, unary, binary}
 use Rattle.qs_expr.specs.Makes.{makes, addend_makes, some}

@@ -5,7 +5,7 @@ use Rattle.std.specs.Option.{option_map, option_and_then, unwrap_or}
 use Rattle.std.specs.Prelude.{ℕ}
 use Rattle.qs_terms.specs.Literal.{Literal}
 use Rattle.qs_terms.specs.declared.term.Term.{Term}
-use Rattle.qs_values.specs.Values.{strung}
+use Rattle.qs_expr_values.specs.Values.{strung}
 use Rattle.qs_expr.specs.Calls.{Value, string_of, literal_parts, strings, forms, agreed, common_tag, joined}
 use Rattle.qs_expr.specs.inner.Joined.{SoFar, Tag, nothing, with_tag, with_parts, with_value, joined_from}
 

@@ -4,8 +4,8 @@ use Rattle.std.specs.Prelude.{pos, negsuc}
 use Rattle.std.specs.Str.{chars}
 use Rattle.qs_terms.specs.Literal.{xsd_string, xsd_integer, xsd_boolean, rdf_lang_string, typed, tagged}
 use Rattle.qs_terms.specs.declared.term.Term.TheVariants.{Iri, Blank, Literal}
-use Rattle.qs_values.specs.Number.{integer_of, in_range}
-use Rattle.qs_values.specs.Values.{integer_term, boolean_term, text_term}
+use Rattle.qs_expr_values.specs.Number.{integer_of, in_range}
+use Rattle.qs_expr_values.specs.Values.{integer_term, boolean_term, text_term}
 use Rattle.qs_expr.specs.Calls.{Value, unary, binary, strings, joined}
 use Rattle.qs_expr.specs.Truth.{either, both, any, every, denied}
 use Rattle.qs_expr.specs.Meaning.{truth, among, number, added, multiplied, with_sign, choice, first_value, compared}

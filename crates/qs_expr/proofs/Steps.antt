@@ -3,9 +3,9 @@ use Rattle.std.proofs.Common.{◌≡◌, ℕ, suc, ◌+◌, ◌<◌, List, [], �
 use Rattle.std.specs.Prelude.{ℤ}
 use Rattle.std.specs.Int.{w128}
 use Rattle.std.specs.Int.RustNames.{FitsSigned}
-use Rattle.qs_values.specs.Number.{in_range}
-use Rattle.qs_values.proofs.Numbers.{fits}
-use Rattle.qs_solutions.specs.Solution.{Solution}
+use Rattle.qs_expr_values.specs.Number.{in_range}
+use Rattle.qs_expr_values.proofs.Numbers.{fits}
+use Rattle.qs_algebra_solutions.specs.Solution.{Solution}
 use Rattle.qs_expr.specs.Calls.{Value}
 use Rattle.qs_expr.specs.Meaning.{SignedValue, meaning, addend_meaning, added, multiplied}
 use Rattle.std.specs.List.{fold}

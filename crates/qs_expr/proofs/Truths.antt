@@ -1,7 +1,7 @@
 -- The effective boolean value of a boolean is the boolean.
 use Rattle.std.proofs.Common.{◌≡◌, Bool, true, false, Option, Some, None, refl, ap, ◌∙◌}
 use Rattle.qs_terms.specs.Literal.{xsd_boolean}
-use Rattle.qs_values.specs.Values.{boolean_term}
+use Rattle.qs_expr_values.specs.Values.{boolean_term}
 use Rattle.qs_expr.specs.Calls.{Value}
 use Rattle.qs_expr.specs.Meaning.{truth, boolean_value}
 

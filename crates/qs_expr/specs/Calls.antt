@@ -8,8 +8,8 @@ use Rattle.qs_terms.specs.Literal.{xsd_string}
 use Rattle.qs_terms.specs.Term.{same_term, same_tag}
 use Rattle.qs_terms.specs.declared.term.Term.{Term}
 use Rattle.qs_terms.specs.declared.term.Term.TheVariants as term
-use Rattle.qs_values.specs.Text.{stands_in, matches_range}
-use Rattle.qs_values.specs.Values.{Worth, integer, boolean, text, other, worth, is_literal, boolean_term, integer_term, text_term, strung}
+use Rattle.qs_expr_values.specs.Text.{stands_in, matches_range}
+use Rattle.qs_expr_values.specs.Values.{Worth, integer, boolean, text, other, worth, is_literal, boolean_term, integer_term, text_term, strung}
 use Rattle.qs_expr.specs.declared.operator.UnaryFunction.{UnaryFunction}
 use Rattle.qs_expr.specs.declared.operator.UnaryFunction.TheVariants.{IsIri, IsBlank, IsLiteral, IsNumeric, Str, Lang, Datatype, StrLen}
 use Rattle.qs_expr.specs.declared.operator.BinaryFunction.{BinaryFunction}

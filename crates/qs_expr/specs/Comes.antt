@@ -1,23 +1,23 @@
--- What the evaluator answers: what is due, an error only where one is due, and want of memory only where memory is taken.
+-- What the evaluator answers: what is due, an error only where one is due, and running out of memory only where memory is taken.
 use Rattle.std.specs.Prelude.{◌≡◌, ℕ, List, Bool, true, Option, Some, None, Result, MatchResult}
 use Rattle.std.specs.Borrow.{Bor}
 use Rattle.std.specs.Option.{option_copied}
 use Rattle.qs_terms.specs.declared.term.Term.{Term}
 use Rattle.qs_terms.specs.declared.term.Term.TheVariants as rdf
 use Rattle.qs_terms.specs.Literal.{xsd_string, rdf_lang_string}
-use Rattle.qs_values.specs.Value.{term_of, datatype_text}
-use Rattle.qs_values.specs.declared.datatype.Datatype.{Datatype}
-use Rattle.qs_values.specs.Values.{boolean_term}
-use Rattle.qs_values.specs.declared.value.Value.{Value}
+use Rattle.qs_expr_values.specs.Value.{term_of, datatype_text}
+use Rattle.qs_expr_values.specs.declared.datatype.Datatype.{Datatype}
+use Rattle.qs_expr_values.specs.Values.{boolean_term}
+use Rattle.qs_expr_values.specs.declared.value.Value.{Value}
 use Rattle.qs_expr.specs.declared.fault.ExprFault.{ExprFault}
 use Rattle.qs_expr.specs.declared.fault.ExprFault.TheVariants.{TypeError, Memory}
 
--- an error only where one is due; memory may be wanting where it is taken
+-- an error only where one is due; memory may run out where it is taken
 abbrev pub Errs : {X : Type 0} → Bool → Option X → ExprFault → Type 0
 Errs makes due TypeError = due ≡ None
 Errs makes due Memory = makes ≡ true
 
--- what is due, or want of memory
+-- what is due, or running out of memory
 abbrev pub Comes : {X : Type 0} → Bool → Option X → Result X ExprFault → Type 0
 Comes makes due result = MatchResult result (λ x. due ≡ Some x) (Errs makes due)
 

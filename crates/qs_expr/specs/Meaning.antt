@@ -4,9 +4,9 @@ use Rattle.std.specs.Option.{is_some, option_map, option_and_then}
 use Rattle.std.specs.List.{fold}
 use Rattle.std.specs.Ordering.{is_lt, is_gt, is_le, is_ge}
 use Rattle.qs_terms.specs.declared.term.Term.{Term}
-use Rattle.qs_solutions.specs.Solution.{Solution, term_at}
-use Rattle.qs_values.specs.Number.{in_range}
-use Rattle.qs_values.specs.Values.{worth, ebv, equal, compare, boolean_term, integer_term, is_true}
+use Rattle.qs_algebra_solutions.specs.Solution.{Solution, term_at}
+use Rattle.qs_expr_values.specs.Number.{in_range}
+use Rattle.qs_expr_values.specs.Values.{worth, ebv, equal, compare, boolean_term, integer_term, is_true}
 use Rattle.qs_expr.specs.Calls.{Value, integer_of_worth, unary, binary, strings, joined}
 use Rattle.qs_expr.specs.Truth.{any, every, denied}
 use Rattle.qs_expr.specs.declared.operator.Comparison.{Comparison}

@@ -2,14 +2,14 @@
 
 ghost use Rattle.std.specs.Prelude.{◌≡◌};
 ghost use Rattle.std.specs.Option.{option_copied};
-ghost use Rattle.qs_solutions.specs.Solution.{Solution, term_at};
+ghost use Rattle.qs_algebra_solutions.specs.Solution.{Solution, term_at};
 
-use qs_solutions::Row;
+use qs_algebra_solutions::Row;
 use qs_terms::Term;
 
-/// What gives variables their terms: a solution, or what stands for one.
+/// What gives variables their terms: a solution, or what denotes one.
 pub trait Bindings {
-    // The solution that it stands for.
+    // The solution that it denotes.
     ghost solution: { Self → Solution };
 
     /// The term of a variable, if it is bound.

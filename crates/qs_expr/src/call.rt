@@ -3,8 +3,8 @@
 ghost use Rattle.std.specs.Prelude.{◌≡◌, []};
 ghost use Rattle.std.specs.Option.{option_copied, option_map, unwrap_or};
 ghost use Rattle.qs_terms.specs.declared.term.Term.TheVariants as rdf;
-ghost use Rattle.qs_values.specs.Value.{term_of};
-ghost use Rattle.qs_values.specs.Values as of;
+ghost use Rattle.qs_expr_values.specs.Value.{term_of};
+ghost use Rattle.qs_expr_values.specs.Values as of;
 ghost use Rattle.qs_expr.specs.Calls as spec;
 ghost use Rattle.qs_expr.specs.Comes.{parts_seen, forms_seen, iri_of, tagged_datatype};
 ghost use Rattle.qs_expr.specs.declared.operator.UnaryFunction.TheVariants as unary_function;
@@ -13,7 +13,7 @@ ghost use Rattle.qs_expr.specs.declared.operator.BinaryFunction.TheVariants as b
 use crate::operator::{BinaryFunction, UnaryFunction};
 use crate::relation::number;
 use qs_terms::{Lit, Term};
-use qs_values::{
+use qs_expr_values::{
     Datatype, Value, Worth, boolean_form, contains, count, digits, ends, is_literal, is_same,
     matches_range, starts, worth_of,
 };

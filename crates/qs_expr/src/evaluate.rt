@@ -3,10 +3,10 @@
 ghost use Rattle.std.specs.Prelude.{◌≡◌, true, map, Some, None, Ok, Err, MatchResult, MatchOption, string_bytes};
 ghost use Rattle.std.specs.List.{fold};
 ghost use Rattle.std.specs.Option.{option_and_then, option_map};
-ghost use Rattle.qs_values.specs.Number.{in_range};
-ghost use Rattle.qs_values.specs.Value.{term_of};
-ghost use Rattle.qs_values.specs.Values as of_terms;
-ghost use Rattle.qs_values.specs.declared.value.Value.TheVariants as seen;
+ghost use Rattle.qs_expr_values.specs.Number.{in_range};
+ghost use Rattle.qs_expr_values.specs.Value.{term_of};
+ghost use Rattle.qs_expr_values.specs.Values as of_terms;
+ghost use Rattle.qs_expr_values.specs.declared.value.Value.TheVariants as seen;
 ghost use Rattle.qs_expr.specs.Calls as of_calls;
 ghost use Rattle.qs_expr.specs.Comes.{Comes, ComesAs, Tells};
 ghost use Rattle.qs_expr.specs.inner.Joined as joining;
@@ -23,7 +23,7 @@ use crate::joined::{add, finish};
 use crate::operator::{BinaryFunction, Comparison, Sign, UnaryFunction};
 use crate::relation::{compared, number, with_factor, with_part, with_sign};
 use qs_terms::Lit;
-use qs_values::{Value, ebv, equal};
+use qs_expr_values::{Value, ebv, equal};
 use std::alloc::Global;
 
 fn of_option(truth: Option<bool>) -> Result<bool, ExprFault>
@@ -232,7 +232,7 @@ fn is_every<B: Bindings>(alloc: Global, parts: &[Expr], bindings: &B) -> Result<
     }
 }
 
-/// A comparison, behind its first operand
+/// A comparison, after its first operand
 #[cycle(value)]
 #[inline(never)]
 fn is_related<B: Bindings>(
@@ -248,7 +248,7 @@ fn is_related<B: Bindings>(
     of_option(compared(comparison, x, &y))
 }
 
-/// A function of two arguments, behind the first
+/// A function of two arguments, after the first
 #[cycle(value)]
 #[inline(never)]
 fn is_tested<B: Bindings>(
@@ -284,7 +284,7 @@ fn function_of<'a, B: Bindings>(
     }
 }
 
-/// IN, behind the first operand
+/// IN, after the first operand
 #[cycle(value)]
 #[inline(never)]
 fn is_among<B: Bindings>(

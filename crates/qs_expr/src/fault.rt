@@ -9,7 +9,7 @@ use std::alloc::AllocError;
 pub enum ExprFault {
     /// The expression errs (SPARQL 1.1 Query, 17.2 and 17.3).
     TypeError,
-    /// Want of memory.
+    /// Running out of memory.
     Memory,
 }
 

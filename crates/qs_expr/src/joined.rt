@@ -3,13 +3,13 @@
 ghost use Rattle.std.specs.Prelude.{◌≡◌, string_bytes};
 ghost use Rattle.std.specs.Option.{option_copied};
 ghost use Rattle.qs_terms.specs.Term.{same_tag};
-ghost use Rattle.qs_values.specs.Value.{term_of};
+ghost use Rattle.qs_expr_values.specs.Value.{term_of};
 ghost use Rattle.qs_expr.specs.inner.Joined as spec;
 
 use crate::call::string_of;
 use crate::fault::ExprFault;
 use qs_terms::{Lit, Term, Text};
-use qs_values::Value;
+use qs_expr_values::Value;
 
 fn literal_of(term: &Term) -> Option<&Lit>
     ensures { spec.tag_in (option_copied result) ≡ spec.tag_of_term term.now }

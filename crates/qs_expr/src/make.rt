@@ -2,19 +2,19 @@
 
 ghost use Rattle.std.specs.Prelude.{◌≡◌, ◌||◌, false, true, IfOk, OnErr};
 ghost use Rattle.std.specs.Option.{is_some};
-ghost use Rattle.qs_values.specs.Sorting.{key_of, has_text};
+ghost use Rattle.qs_expr_values.specs.Sorting.{key_of, has_text};
 ghost use Rattle.qs_expr.specs.Comes.{Comes};
 ghost use Rattle.qs_expr.specs.Makes.{makes};
 ghost use Rattle.qs_expr.specs.Meaning.{meaning};
 ghost use Rattle.qs_expr.specs.Meaning as spec;
-ghost use Rattle.qs_values.specs.Values as of_terms;
+ghost use Rattle.qs_expr_values.specs.Values as of_terms;
 
 use crate::bindings::Bindings;
 use crate::evaluate::{truth, value};
 use crate::expr::Expr;
 use crate::fault::ExprFault;
 use qs_terms::Term;
-use qs_values::{Key, Value, made};
+use qs_expr_values::{Key, Value, made};
 use std::alloc::{AllocError, Global};
 
 /// The term that the expression means. Memory is taken for the term, and by CONCAT.
@@ -32,7 +32,7 @@ pub fn eval<B: Bindings>(alloc: Global, expr: &Expr, bindings: &B) -> Result<Ter
 pub fn ebv(term: &Term) -> Result<bool, ExprFault>
     ensures { Comes false (of_terms.ebv term.now) result }
 {
-    match qs_values::ebv(&Value::Term(term)) {
+    match qs_expr_values::ebv(&Value::Term(term)) {
         Some(truth) => Ok(truth),
         None => Err(ExprFault::TypeError),
     }
@@ -56,8 +56,8 @@ pub fn order_key<B: Bindings>(alloc: Global, expr: &Expr, bindings: &B) -> Resul
     ensures memory { OnErr result ((makes expr.now || has_text (key_of (meaning (B.solution bindings.now) expr.now))) ≡ true) }
 {
     match value(alloc, expr, bindings) {
-        Ok(value) => qs_values::order_key(alloc, Some(&value)),
-        Err(ExprFault::TypeError) => qs_values::order_key(alloc, None),
+        Ok(value) => qs_expr_values::order_key(alloc, Some(&value)),
+        Err(ExprFault::TypeError) => qs_expr_values::order_key(alloc, None),
         Err(ExprFault::Memory) => Err(AllocError),
     }
 }

@@ -2,20 +2,20 @@
 
 ghost use Rattle.std.specs.Prelude.{◌≡◌, None, Some};
 ghost use Rattle.std.specs.Option.{option_map};
-ghost use Rattle.qs_values.specs.Value.{term_of};
-ghost use Rattle.qs_values.specs.Values as of;
-ghost use Rattle.qs_values.specs.Number.{in_range};
+ghost use Rattle.qs_expr_values.specs.Value.{term_of};
+ghost use Rattle.qs_expr_values.specs.Values as of;
+ghost use Rattle.qs_expr_values.specs.Number.{in_range};
 ghost use Rattle.qs_expr.specs.Calls.{integer_of_worth};
 ghost use Rattle.qs_expr.specs.Meaning as spec;
 
 use crate::operator::{Comparison, Sign};
-use qs_values::{Value, Worth, added, equal, multiplied, negated, subtracted, worth_of};
+use qs_expr_values::{Value, Worth, added, equal, multiplied, negated, subtracted, worth_of};
 use std::cmp::Ordering;
 
 fn order(a: &Value<'_>, b: &Value<'_>) -> Option<Ordering>
     ensures { result ≡ of.compare (of.worth (term_of a.entry.now)) (of.worth (term_of b.entry.now)) }
 {
-    qs_values::compared(worth_of(a), worth_of(b))
+    qs_expr_values::compared(worth_of(a), worth_of(b))
 }
 
 /// `=`, `!=`, `<`, `>`, `<=`, `>=`; none is an error.
@@ -74,7 +74,7 @@ pub(crate) fn with_factor(product: i128, factor: i128) -> Option<i128>
     multiplied(product, factor)
 }
 
-/// The number behind a sign.
+/// The number after a sign.
 pub(crate) fn with_sign(sign: Sign, number: i128) -> Option<i128>
     ensures { result ≡ in_range (Some (spec.with_sign sign number)) }
 {

@@ -2,10 +2,10 @@
 use Rattle.std.proofs.Common.{suc, one-add, take, not, ◌||◌, ◌&&◌, ◌==◌, ◌≡◌, ℕ, ◌+◌, ◌<◌, Bool, true, false, List, [], ◌∷◌, ◌++◌, length, get_or, drop, refl, ap, sym, ◌∙◌, arith, if◌then◌else◌, Option, None, Some}
 use Rattle.std.proofs.lemmas.List.{drop_more}
 use Rattle.std.proofs.lemmas.Bool.{cond-true, cond-false, true≢false}
-use Rattle.qs_http.specs.declared.head_end.Place.{Place}
-use Rattle.qs_http.specs.declared.head_end.Place.TheVariants.{Leading, Line, Feed, FeedReturn}
+use Rattle.qs_http.specs.declared.head_end.HeadState.{HeadState}
+use Rattle.qs_http.specs.declared.head_end.HeadState.TheVariants.{Leading, Line, Feed, FeedReturn}
 use Rattle.qs_http.specs.HeadEnd.{later, is_line_break, leading, without_leading, begins_with_feed, begins_with_return_feed, end_of_head, head_limit, head_end}
-use Rattle.qs_http.specs.Place.{place_after, ends_head, end_from, place_from}
+use Rattle.qs_http.specs.HeadState.{place_after, ends_head, end_from, place_from}
 
 pub later-zero : (o : Option ℕ) → later 0 o ≡ o
 later-zero None = refl
@@ -22,47 +22,47 @@ pub later-None : (i : ℕ) (o : Option ℕ) → later i o ≡ None → o ≡ Non
 later-None i None none = refl
 later-None i (Some n) none = absurd (Some-None none)
 
-pub end_from-nil : (place : Place) → end_from place [] ≡ None
+pub end_from-nil : (place : HeadState) → end_from place [] ≡ None
 unfolding end_from
 end_from-nil place = refl
 
-pub place_from-nil : (place : Place) → place_from place [] ≡ place
+pub place_from-nil : (place : HeadState) → place_from place [] ≡ place
 unfolding place_from
 place_from-nil place = refl
 
-pub end_from-found : (place : Place) (b : ℕ) (bytes : List ℕ) → ends_head place b ≡ true → end_from place (b ∷ bytes) ≡ Some 1
+pub end_from-found : (place : HeadState) (b : ℕ) (bytes : List ℕ) → ends_head place b ≡ true → end_from place (b ∷ bytes) ≡ Some 1
 unfolding end_from
 end_from-found place b bytes ends = rw ends refl
 
-pub end_from-on : (place : Place) (b : ℕ) (bytes : List ℕ) → ends_head place b ≡ false
+pub end_from-on : (place : HeadState) (b : ℕ) (bytes : List ℕ) → ends_head place b ≡ false
     → end_from place (b ∷ bytes) ≡ later 1 (end_from (place_after place b) bytes)
 unfolding end_from
 end_from-on place b bytes ends = rw ends refl
 
-pub place_from-on : (place : Place) (b : ℕ) (bytes : List ℕ) → place_from place (b ∷ bytes) ≡ place_from (place_after place b) bytes
+pub place_from-on : (place : HeadState) (b : ℕ) (bytes : List ℕ) → place_from place (b ∷ bytes) ≡ place_from (place_after place b) bytes
 unfolding place_from
 place_from-on place b bytes = refl
 
 -- one byte on in a list
-pub end_found_at : (place : Place) (xs : List ℕ) (i : ℕ) → i < length xs → ends_head place (get_or xs i 0) ≡ true
+pub end_found_at : (place : HeadState) (xs : List ℕ) (i : ℕ) → i < length xs → ends_head place (get_or xs i 0) ≡ true
     → later i (end_from place (drop i xs)) ≡ Some (i + 1)
 end_found_at place xs i below ends =
     ap (λ (l : List ℕ). later i (end_from place l)) (drop_more xs i 0 below)
     ∙ ap (later i) (end_from-found place (get_or xs i 0) (drop (i + 1) xs) ends)
 
-pub end_on_at : (place : Place) (xs : List ℕ) (i : ℕ) → i < length xs → ends_head place (get_or xs i 0) ≡ false
+pub end_on_at : (place : HeadState) (xs : List ℕ) (i : ℕ) → i < length xs → ends_head place (get_or xs i 0) ≡ false
     → later i (end_from place (drop i xs)) ≡ later (i + 1) (end_from (place_after place (get_or xs i 0)) (drop (i + 1) xs))
 end_on_at place xs i below ends =
     ap (λ (l : List ℕ). later i (end_from place l)) (drop_more xs i 0 below)
     ∙ ap (later i) (end_from-on place (get_or xs i 0) (drop (i + 1) xs) ends) ∙ later-later i 1 _
 
-pub place_on_at : (place : Place) (xs : List ℕ) (i : ℕ) → i < length xs
+pub place_on_at : (place : HeadState) (xs : List ℕ) (i : ℕ) → i < length xs
     → place_from place (drop i xs) ≡ place_from (place_after place (get_or xs i 0)) (drop (i + 1) xs)
 place_on_at place xs i below =
     ap (place_from place) (drop_more xs i 0 below) ∙ place_from-on place (get_or xs i 0) (drop (i + 1) xs)
 
 -- two pieces
-append_case : (place : Place) (x : ℕ) (xs ys : List ℕ) (ends : Bool) → ends_head place x ≡ ends
+append_case : (place : HeadState) (x : ℕ) (xs ys : List ℕ) (ends : Bool) → ends_head place x ≡ ends
     → (end_from (place_after place x) xs ≡ None
     → end_from (place_after place x) (xs ++ ys) ≡ later (length xs) (end_from (place_from (place_after place x) xs) ys))
     → end_from place (x ∷ xs) ≡ None
@@ -73,7 +73,7 @@ append_case place x xs ys false is rest none =
     ∙ later-later 1 (length xs) _
     ∙ ap (λ (k : ℕ). later k (end_from (place_from (place_after place x) xs) ys)) (omega arith)
 
-pub end_from-append : (place : Place) (xs ys : List ℕ) → end_from place xs ≡ None
+pub end_from-append : (place : HeadState) (xs ys : List ℕ) → end_from place xs ≡ None
     → end_from place (xs ++ ys) ≡ later (length xs) (end_from (place_from place xs) ys)
 unfolding end_from place_from
 end_from-append place [] ys none = sym (later-zero _)
@@ -84,7 +84,7 @@ kept_later : (o p : Option ℕ) (n : ℕ) → ((m : ℕ) → o ≡ Some m → p 
 kept_later None p n same is = absurd (Some-None (sym is))
 kept_later (Some m) p n same is = ap (later 1) (same m refl) ∙ is
 
-kept_case : (place : Place) (x : ℕ) (xs ys : List ℕ) (n : ℕ) (ends : Bool) → ends_head place x ≡ ends
+kept_case : (place : HeadState) (x : ℕ) (xs ys : List ℕ) (n : ℕ) (ends : Bool) → ends_head place x ≡ ends
     → ((m : ℕ) → end_from (place_after place x) xs ≡ Some m → end_from (place_after place x) (xs ++ ys) ≡ Some m)
     → end_from place (x ∷ xs) ≡ Some n → end_from place (x ∷ (xs ++ ys)) ≡ Some n
 kept_case place x xs ys n true ends rest is =
@@ -94,19 +94,19 @@ kept_case place x xs ys n false ends rest is =
     ∙ kept_later (end_from (place_after place x) xs) _ n rest (sym (end_from-on place x xs ends) ∙ is)
 
 -- an end stays, whatever comes
-pub end_from-kept : (place : Place) (xs ys : List ℕ) (n : ℕ) → end_from place xs ≡ Some n → end_from place (xs ++ ys) ≡ Some n
+pub end_from-kept : (place : HeadState) (xs ys : List ℕ) (n : ℕ) → end_from place xs ≡ Some n → end_from place (xs ++ ys) ≡ Some n
 unfolding end_from place_from
 end_from-kept place [] ys n is = absurd (Some-None (sym is))
 end_from-kept place (x ∷ xs) ys n is =
     kept_case place x xs ys n (ends_head place x) refl (λ m. end_from-kept (place_after place x) xs ys m) is
 
-pub place_from-append : (place : Place) (xs ys : List ℕ) → place_from place (xs ++ ys) ≡ place_from (place_from place xs) ys
+pub place_from-append : (place : HeadState) (xs ys : List ℕ) → place_from place (xs ++ ys) ≡ place_from (place_from place xs) ys
 unfolding place_from
 place_from-append place [] ys = refl
 place_from-append place (x ∷ xs) ys = place_from-append (place_after place x) xs ys
 
 -- up to the end nothing more is looked at
-front_case : (place : Place) (x : ℕ) (xs : List ℕ) (n : ℕ) (ends : Bool) → ends_head place x ≡ ends
+front_case : (place : HeadState) (x : ℕ) (xs : List ℕ) (n : ℕ) (ends : Bool) → ends_head place x ≡ ends
     → ((m : ℕ) → end_from (place_after place x) xs ≡ Some m → end_from (place_after place x) (take m xs) ≡ Some m)
     → end_from place (x ∷ xs) ≡ Some n → end_from place (take n (x ∷ xs)) ≡ Some n
 front_case place x xs n true ends rest is =
@@ -116,7 +116,7 @@ front_case place x xs n true ends rest is =
 front_case place x xs n false ends rest is =
     front_later place x xs n (end_from (place_after place x) xs) refl ends rest (sym (end_from-on place x xs ends) ∙ is)
   where
-    front_later : (place : Place) (x : ℕ) (xs : List ℕ) (n : ℕ) (o : Option ℕ) → end_from (place_after place x) xs ≡ o → ends_head place x ≡ false
+    front_later : (place : HeadState) (x : ℕ) (xs : List ℕ) (n : ℕ) (o : Option ℕ) → end_from (place_after place x) xs ≡ o → ends_head place x ≡ false
         → ((m : ℕ) → end_from (place_after place x) xs ≡ Some m → end_from (place_after place x) (take m xs) ≡ Some m)
         → later 1 (end_from (place_after place x) xs) ≡ Some n → end_from place (take n (x ∷ xs)) ≡ Some n
     front_later place x xs n None o_is ends rest is = absurd (Some-None (sym is ∙ ap (later 1) o_is))
@@ -126,7 +126,7 @@ front_case place x xs n false ends rest is =
         let same : suc m ≡ n = omega (arith, next) in
         ap (λ (k : ℕ). end_from place (take k (x ∷ xs))) (sym same) ∙ end_from-on place x (take m xs) ends ∙ ap (later 1) (rest m o_is) ∙ sum
 
-pub end_from-front : (place : Place) (xs : List ℕ) (n : ℕ) → end_from place xs ≡ Some n → end_from place (take n xs) ≡ Some n
+pub end_from-front : (place : HeadState) (xs : List ℕ) (n : ℕ) → end_from place xs ≡ Some n → end_from place (take n xs) ≡ Some n
 unfolding end_from
 end_from-front place [] n is = absurd (Some-None (sym is))
 end_from-front place (x ∷ xs) n is = front_case place x xs n (ends_head place x) refl (λ m. end_from-front (place_after place x) xs m) is
@@ -159,17 +159,17 @@ end_of_head-feed b bytes is = rw is (by_next (begins_with_feed bytes) (begins_wi
 
 finds_line : (b : ℕ) (bytes : List ℕ) (is : Bool) → (b == 10) ≡ is → Finds bytes → end_from Line (b ∷ bytes) ≡ end_of_head (b ∷ bytes)
 finds_line b bytes true is rest =
-    end_from-on Line b bytes refl ∙ ap (λ (p : Place). later 1 (end_from p bytes)) (cond-true _ _ _ is)
+    end_from-on Line b bytes refl ∙ ap (λ (p : HeadState). later 1 (end_from p bytes)) (cond-true _ _ _ is)
     ∙ ap (later 1) rest.feed ∙ sym (end_of_head-feed b bytes is)
 finds_line b bytes false is rest =
-    end_from-on Line b bytes refl ∙ ap (λ (p : Place). later 1 (end_from p bytes)) (cond-false _ _ _ is)
+    end_from-on Line b bytes refl ∙ ap (λ (p : HeadState). later 1 (end_from p bytes)) (cond-false _ _ _ is)
     ∙ ap (later 1) rest.line ∙ sym (end_of_head-other b bytes is)
 
 finds_return : (b : ℕ) (bytes : List ℕ) (is : Bool) → (b == 10) ≡ is → Finds bytes → end_from FeedReturn (b ∷ bytes) ≡ after_return (b ∷ bytes)
 unfolding after_return
 finds_return b bytes true is rest = end_from-found FeedReturn b bytes is ∙ sym (cond-true _ _ _ is)
 finds_return b bytes false is rest =
-    end_from-on FeedReturn b bytes is ∙ ap (λ (p : Place). later 1 (end_from p bytes)) (cond-false _ _ _ is)
+    end_from-on FeedReturn b bytes is ∙ ap (λ (p : HeadState). later 1 (end_from p bytes)) (cond-false _ _ _ is)
     ∙ ap (later 1) rest.line ∙ sym (cond-false _ _ _ is ∙ end_of_head-other b bytes is)
 
 finds_feed : (b : ℕ) (bytes : List ℕ) (is return : Bool) → (b == 10) ≡ is → (b == 13) ≡ return → Finds bytes
@@ -177,7 +177,7 @@ finds_feed : (b : ℕ) (bytes : List ℕ) (is return : Bool) → (b == 10) ≡ i
 unfolding after_feed after_return
 finds_feed b bytes true return is is_return rest = end_from-found Feed b bytes is ∙ sym (cond-true _ _ _ is)
 finds_feed b bytes false true is is_return rest =
-    end_from-on Feed b bytes is ∙ ap (λ (p : Place). later 1 (end_from p bytes)) (cond-true _ _ _ is_return)
+    end_from-on Feed b bytes is ∙ ap (λ (p : HeadState). later 1 (end_from p bytes)) (cond-true _ _ _ is_return)
     ∙ ap (later 1) rest.feed_return ∙ by_next (begins_with_feed bytes) refl
     ∙ ap (λ (r : Bool). if r && begins_with_feed bytes then Some 2 else end_of_head (b ∷ bytes)) (sym is_return) ∙ sym (cond-false _ _ _ is)
   where
@@ -186,7 +186,7 @@ finds_feed b bytes false true is is_return rest =
     by_next true feed = ap (later 1) (cond-true _ _ _ feed) ∙ sym (cond-true _ _ _ feed)
     by_next false feed = ap (later 1) (cond-false _ _ _ feed) ∙ sym (cond-false _ _ _ feed ∙ end_of_head-other b bytes is)
 finds_feed b bytes false false is is_return rest =
-    end_from-on Feed b bytes is ∙ ap (λ (p : Place). later 1 (end_from p bytes)) (cond-false _ _ _ is_return ∙ cond-false _ _ _ is)
+    end_from-on Feed b bytes is ∙ ap (λ (p : HeadState). later 1 (end_from p bytes)) (cond-false _ _ _ is_return ∙ cond-false _ _ _ is)
     ∙ ap (later 1) rest.line ∙ sym (end_of_head-other b bytes is)
     ∙ ap (λ (r : Bool). if r && begins_with_feed bytes then Some 2 else end_of_head (b ∷ bytes)) (sym is_return) ∙ sym (cond-false _ _ _ is)
 
@@ -207,12 +207,12 @@ leading_case : (b : ℕ) (bytes : List ℕ) (breaks : Bool) → is_line_break b 
     → end_from Leading (b ∷ bytes) ≡ later (leading (b ∷ bytes)) (end_of_head (without_leading (b ∷ bytes)))
 leading_case b bytes true breaks rest =
     let count : leading (b ∷ bytes) ≡ suc (leading bytes) = ap (λ (r : Bool). if not (not r) then 1 + leading bytes else 0) breaks ∙ one-add (leading bytes) in
-    end_from-on Leading b bytes refl ∙ ap (λ (p : Place). later 1 (end_from p bytes)) (cond-true _ _ _ breaks)
+    end_from-on Leading b bytes refl ∙ ap (λ (p : HeadState). later 1 (end_from p bytes)) (cond-true _ _ _ breaks)
     ∙ ap (later 1) rest ∙ later-later 1 (leading bytes) _ ∙ ap (λ (k : ℕ). later k (end_of_head (without_leading bytes))) (omega arith)
     ∙ ap (λ (k : ℕ). later k (end_of_head (drop k (b ∷ bytes)))) (sym count)
 leading_case b bytes false breaks rest =
     let count : leading (b ∷ bytes) ≡ 0 = ap (λ (r : Bool). if not (not r) then 1 + leading bytes else 0) breaks in
-    end_from-on Leading b bytes refl ∙ ap (λ (p : Place). later 1 (end_from p bytes)) (cond-false _ _ _ breaks)
+    end_from-on Leading b bytes refl ∙ ap (λ (p : HeadState). later 1 (end_from p bytes)) (cond-false _ _ _ breaks)
     ∙ ap (later 1) (finds bytes).line ∙ sym (end_of_head-other b bytes (second_false (b == 13) (b == 10) breaks))
     ∙ sym (later-zero _) ∙ ap (λ (k : ℕ). later k (end_of_head (drop k (b ∷ bytes)))) (sym count)
 

@@ -1,4 +1,4 @@
--- The bytes come to one thing, and it stays once it has come.
+-- The bytes result in one thing, and it stays once it has come.
 use Rattle.std.proofs.Common.{◌≡◌, ◌∙◌, ap, sym, refl, ℕ, List, [], take, Option, None, Some, arith}
 use Rattle.httparse.proofs.GrammarLemmas.{request_unique}
 use Rattle.qs_http.specs.Outcome.{Outcome}

@@ -3,8 +3,8 @@ use Rattle.std.proofs.Common.{◌≡◌, ◌∙◌, ap, sym, refl, subst, ℕ, s
 use Rattle.std.proofs.lemmas.List.{take_all, length-take, drop-append-le, take-append-le, append-nil}
 use Rattle.std.proofs.lemmas.Bool.{cond-true, cond-false, ltb-true, ltb-false, true≢false, leb-true, leb-false, le-leb, lt-ltb}
 use Rattle.std.proofs.Math.Seq.{take-append-add}
-use Rattle.qs_http.specs.declared.head_end.Place.{Place}
-use Rattle.qs_http.specs.declared.head_end.Place.TheVariants.{Leading}
+use Rattle.qs_http.specs.declared.head_end.HeadState.{HeadState}
+use Rattle.qs_http.specs.declared.head_end.HeadState.TheVariants.{Leading}
 use Rattle.qs_http.specs.declared.stage.Step.{Step}
 use Rattle.qs_http.specs.declared.stage.Step.TheVariants as step
 use Rattle.qs_http.specs.declared.fixed_reply.Fixed.{Fixed}
@@ -12,9 +12,9 @@ use Rattle.qs_http.specs.declared.fixed_reply.Fixed.TheVariants.{HeadTooLarge, B
 use Rattle.qs_http.specs.declared.request.Request.{Request}
 use Rattle.qs_http.specs.Outcome.{Outcome, More, Ready, Refused}
 use Rattle.qs_http.specs.HeadEnd.{later, head_end, head_limit, without_leading, leading}
-use Rattle.qs_http.specs.Place.{place_after, ends_head, end_from, place_from}
+use Rattle.qs_http.specs.HeadState.{place_after, ends_head, end_from, place_from}
 use Rattle.qs_http.specs.Head.{Head, is_get, is_post, at_query, at_update, at_data, body_length}
-use Rattle.qs_http.specs.Checks.{first_due, head_checks, lacks_host, is_elsewhere, misses_query, misses_update, misses_data, lacks_length, has_bad_length, has_long_body}
+use Rattle.qs_http.specs.Checks.{first_due, head_checks, lacks_host, is_unknown_path, query_method_not_allowed, update_method_not_allowed, data_method_not_allowed, lacks_length, has_bad_length, has_long_body}
 use Rattle.qs_http.specs.RequestOf.{IsReading, ReadsHead, outcome_at, of_reading, of_sound_head, of_body, unless_due, IsRequestOf}
 use Rattle.qs_http.specs.Stage.{AwaitsBody, EndsAt, IsStep, IsHeadStep}
 use Rattle.qs_http.specs.Feeding.{Seen, Reading, Done, seen_at, StandsAt, Feeds, FeedsAll}
@@ -40,7 +40,7 @@ bound_later : (o : Option ℕ) (n k : ℕ) → ((m : ℕ) → o ≡ Some m → m
 bound_later None n k below is = absurd (Some-None (sym is))
 bound_later (Some m) n k below is = let same : 1 + m ≡ n = cc in omega (arith, below m refl, same)
 
-bound_case : (place : Place) (x : ℕ) (xs : List ℕ) (n : ℕ) (ends : Bool) → ends_head place x ≡ ends
+bound_case : (place : HeadState) (x : ℕ) (xs : List ℕ) (n : ℕ) (ends : Bool) → ends_head place x ≡ ends
     → ((m : ℕ) → end_from (place_after place x) xs ≡ Some m → m ≤ length xs) → end_from place (x ∷ xs) ≡ Some n → n ≤ suc (length xs)
 bound_case place x xs n true ends below is =
     let one : Some 1 ≡ Some n = sym (end_from-found place x xs ends) ∙ is in
@@ -48,7 +48,7 @@ bound_case place x xs n true ends below is =
 bound_case place x xs n false ends below is =
     bound_later (end_from (place_after place x) xs) n (length xs) below (sym (end_from-on place x xs ends) ∙ is)
 
-pub end_from_within : (place : Place) (xs : List ℕ) (n : ℕ) → end_from place xs ≡ Some n → n ≤ length xs
+pub end_from_within : (place : HeadState) (xs : List ℕ) (n : ℕ) → end_from place xs ≡ Some n → n ≤ length xs
 unfolding end_from
 end_from_within place [] n is = absurd (Some-None (sym is))
 end_from_within place (x ∷ xs) n is = bound_case place x xs n (ends_head place x) refl (λ m. end_from_within (place_after place x) xs m) is
@@ -72,7 +72,7 @@ head_end-on bytes piece none short =
     ∙ ap (end_from Leading) (take-append head_limit bytes piece ∙ ap (λ (l : List ℕ). l ++ take (head_limit - length bytes) piece) whole)
     ∙ end_from-append Leading bytes _ (ap (end_from Leading) (sym whole) ∙ sym (head_end-searched bytes) ∙ none)
 
--- what the bytes come to, the head's end known
+-- what the bytes result in, the head's end known
 pub request_at : (bytes : List ℕ) (end : ℕ) (reading : Option Head) (outcome : Outcome) → head_end bytes ≡ Some end
     → IsReading (without_leading (take end bytes)) reading → outcome ≡ of_reading reading (drop end bytes) → IsRequestOf bytes outcome
 request_at bytes end reading outcome ends reads is = record {
@@ -133,23 +133,23 @@ step_at bytes end h (step.Refused fixed) ends reads is =
     elim is [ inl due ↦ inl (request_at bytes end (Some h) _ ends reads (sym due)) | inr memory ↦ inr memory ]
 
 -- a piece comes while the head is read
-pub head_goes_on : (bytes piece joined front : List ℕ) (before : ℕ) (place : Place) (found : Option ℕ) → before ≡ length bytes
+pub head_goes_on : (bytes piece joined front : List ℕ) (before : ℕ) (place : HeadState) (found : Option ℕ) → before ≡ length bytes
     → head_end bytes ≡ None → length bytes < head_limit → place ≡ place_from Leading bytes → joined ≡ bytes ++ piece
     → front ≡ take (head_limit - before) piece → found ≡ end_from place front → head_end joined ≡ later before found
 head_goes_on bytes piece joined front before place found before_is none short place_is joined_is front_is found_is =
-    let end_of : Place → Option ℕ = λ p. end_from p (take (head_limit - length bytes) piece) in
+    let end_of : HeadState → Option ℕ = λ p. end_from p (take (head_limit - length bytes) piece) in
     let front_here : front ≡ take (head_limit - length bytes) piece = front_is ∙ ap (λ (k : ℕ). take (head_limit - k) piece) before_is in
     let found_here : end_from (place_from Leading bytes) (take (head_limit - length bytes) piece) ≡ found =
     ap end_of (sym place_is) ∙ ap (end_from place) (sym front_here) ∙ sym found_is in
     ap head_end joined_is ∙ head_end-on bytes piece none short ∙ ap (later (length bytes)) found_here
     ∙ ap (λ (k : ℕ). later k found) (sym before_is)
 
-pub place_goes_on : (bytes piece joined front : List ℕ) (before : ℕ) (place next : Place) → before ≡ length bytes → length joined < head_limit
+pub place_goes_on : (bytes piece joined front : List ℕ) (before : ℕ) (place next : HeadState) → before ≡ length bytes → length joined < head_limit
     → place ≡ place_from Leading bytes → joined ≡ bytes ++ piece → front ≡ take (head_limit - before) piece → next ≡ place_from place front
     → next ≡ place_from Leading joined
 place_goes_on bytes piece joined front before place next before_is short place_is joined_is front_is next_is =
     let whole = front_is ∙ take_all (head_limit - before) piece (omega (arith, length-append bytes piece, ap length joined_is)) in
-    next_is ∙ ap (place_from place) whole ∙ ap (λ (p : Place). place_from p piece) place_is
+    next_is ∙ ap (place_from place) whole ∙ ap (λ (p : HeadState). place_from p piece) place_is
     ∙ sym (place_from-append Leading bytes piece) ∙ ap (place_from Leading) (sym joined_is)
 
 pub drop_whole : (i : ℕ) (xs : List ℕ) → take (length xs - i) (drop i xs) ≡ drop i xs
@@ -174,20 +174,20 @@ pub none_due : (due : Bool) (fixed : Fixed) (rest : Option Fixed) → (if due th
 none_due true fixed rest none = absurd (Some-None none)
 none_due false fixed rest none = (refl, none)
 
-from_elsewhere : (h : Head) → is_elsewhere h ≡ false → not (at_query h || at_update h || at_data h) ≡ false
-unfolding is_elsewhere
+from_elsewhere : (h : Head) → is_unknown_path h ≡ false → not (at_query h || at_update h || at_data h) ≡ false
+unfolding is_unknown_path
 from_elsewhere h e = e
 
-from_query : (h : Head) → misses_query h ≡ false → (at_query h && not (is_get h || is_post h)) ≡ false
-unfolding misses_query
+from_query : (h : Head) → query_method_not_allowed h ≡ false → (at_query h && not (is_get h || is_post h)) ≡ false
+unfolding query_method_not_allowed
 from_query h e = e
 
-from_update : (h : Head) → misses_update h ≡ false → (at_update h && not (is_post h)) ≡ false
-unfolding misses_update
+from_update : (h : Head) → update_method_not_allowed h ≡ false → (at_update h && not (is_post h)) ≡ false
+unfolding update_method_not_allowed
 from_update h e = e
 
-from_data : (h : Head) → misses_data h ≡ false → (at_data h && not (is_get h)) ≡ false
-unfolding misses_data
+from_data : (h : Head) → data_method_not_allowed h ≡ false → (at_data h && not (is_get h)) ≡ false
+unfolding data_method_not_allowed
 from_data h e = e
 
 from_long : (h : Head) → has_long_body h ≡ false → (is_post h && ltb 4194304 (body_length h)) ≡ false
@@ -212,16 +212,16 @@ short_from h query update data_path get true true g e q u d l is = absurd (true�
 pub sound_length : (h : Head) → first_due (head_checks h) ≡ None → is_get h ≡ false → body_length h ≤ 4194304
 sound_length h none posts =
     let r0 = none_due (lacks_host h) _ _ none in
-    let r1 = none_due (is_elsewhere h) _ _ r0.1 in
-    let r2 = none_due (misses_query h) _ _ r1.1 in
-    let r3 = none_due (misses_update h) _ _ r2.1 in
-    let r4 = none_due (misses_data h) _ _ r3.1 in
+    let r1 = none_due (is_unknown_path h) _ _ r0.1 in
+    let r2 = none_due (query_method_not_allowed h) _ _ r1.1 in
+    let r3 = none_due (update_method_not_allowed h) _ _ r2.1 in
+    let r4 = none_due (data_method_not_allowed h) _ _ r3.1 in
     let r5 = none_due (lacks_length h) _ _ r4.1 in
     let r6 = none_due (has_bad_length h) _ _ r5.1 in
     let r7 = none_due (has_long_body h) _ _ r6.1 in
     short_from h (at_query h) (at_update h) (at_data h) (is_get h) (is_post h) (ltb 4194304 (body_length h)) posts (from_elsewhere h r1.0) (from_query h r2.0) (from_update h r3.0) (from_data h r4.0) (from_long h r7.0) refl
 
--- once they come to something, further bytes don't change it
+-- once they result in something, further bytes don't change it
 sound_kept : (h : Head) (behind more : List ℕ) (get short : Bool) → is_get h ≡ get → ltb (length behind) (body_length h) ≡ short
     → (of_sound_head h behind ≡ More → ⊥) → of_sound_head h (behind ++ more) ≡ of_sound_head h behind
 sound_kept h behind more true short gets is done = cond-true _ _ _ gets ∙ sym (cond-true _ _ _ gets)
@@ -267,7 +267,7 @@ pub request_kept : (bytes more : List ℕ) (outcome : Outcome) → IsRequestOf b
 request_kept bytes more outcome x done = kept_by_end bytes more outcome (head_end bytes) refl done x.reading x.reads x.is
 
 -- a piece brings the head's end
-pub head_ends : (bytes piece front last : List ℕ) (before room found : ℕ) (place : Place) → before ≡ length bytes
+pub head_ends : (bytes piece front last : List ℕ) (before room found : ℕ) (place : HeadState) → before ≡ length bytes
     → head_end bytes ≡ None → length bytes < head_limit → place ≡ place_from Leading bytes → room ≡ head_limit - before
     → front ≡ take room piece → Some found ≡ end_from place front → last ≡ take found piece
     → (head_end (bytes ++ last) ≡ Some (length (bytes ++ last))) × (found ≤ length piece)
@@ -283,13 +283,13 @@ head_ends bytes piece front last before room found place before_is none short pl
     ∙ take_all (head_limit - length bytes) (take found piece) (omega (arith, size)) ∙ sym cut in
     let goes : head_end (bytes ++ last) ≡ later (length bytes) (Some found) =
     head_end-on bytes last none short
-    ∙ ap (λ (p : Place). later (length bytes) (end_from p (take (head_limit - length bytes) last))) (sym place_is)
+    ∙ ap (λ (p : HeadState). later (length bytes) (end_from p (take (head_limit - length bytes) last))) (sym place_is)
     ∙ ap (λ (l : List ℕ). later (length bytes) (end_from place l)) whole
     ∙ ap (later (length bytes)) (end_from-front place (take room piece) found ends) in
     let last_size : length last ≡ found = ap length last_is ∙ size in
     (goes ∙ ap (λ (k : ℕ). Some k) (omega (arith, length-append bytes last, last_size)), many)
 
--- what bytes came to isn't changed by more
+-- what bytes resulted in isn't changed by more
 pub ends_more : (bytes more whole : List ℕ) (seen : Seen) → bytes ++ more ≡ whole → EndsAt bytes seen → StandsAt whole seen
 ends_more bytes more whole seen is x =
     elim x [

@@ -18,18 +18,18 @@ unfoldable pub lacks_host : Head → Bool
 lacks_host h = h.minor == 1 && not (has_one (values_of (codes "host") h))
 
 -- the target up to its first `?` isn't one of the three paths
-unfoldable pub is_elsewhere : Head → Bool
-is_elsewhere h = not (at_query h || at_update h || at_data h)
+unfoldable pub is_unknown_path : Head → Bool
+is_unknown_path h = not (at_query h || at_update h || at_data h)
 
 -- the method isn't one of the path's
-unfoldable pub misses_query : Head → Bool
-misses_query h = at_query h && not (is_get h || is_post h)
+unfoldable pub query_method_not_allowed : Head → Bool
+query_method_not_allowed h = at_query h && not (is_get h || is_post h)
 
-unfoldable pub misses_update : Head → Bool
-misses_update h = at_update h && not (is_post h)
+unfoldable pub update_method_not_allowed : Head → Bool
+update_method_not_allowed h = at_update h && not (is_post h)
 
-unfoldable pub misses_data : Head → Bool
-misses_data h = at_data h && not (is_get h)
+unfoldable pub data_method_not_allowed : Head → Bool
+data_method_not_allowed h = at_data h && not (is_get h)
 
 -- the rest are checks of a POST: there is a Transfer-Encoding, or no Content-Length
 unfoldable pub lacks_length : Head → Bool
@@ -51,10 +51,10 @@ has_other_media h =
 abbrev pub head_checks : Head → List Check
 head_checks h =
     (lacks_host h, BadRequest)
-    ∷ (is_elsewhere h, NotFound)
-    ∷ (misses_query h, QueryMethod)
-    ∷ (misses_update h, UpdateMethod)
-    ∷ (misses_data h, DataMethod)
+    ∷ (is_unknown_path h, NotFound)
+    ∷ (query_method_not_allowed h, QueryMethod)
+    ∷ (update_method_not_allowed h, UpdateMethod)
+    ∷ (data_method_not_allowed h, DataMethod)
     ∷ (lacks_length h, NoLength)
     ∷ (has_bad_length h, BadRequest)
     ∷ (has_long_body h, BodyTooLarge)

@@ -4,11 +4,11 @@ use Rattle.qs_http.specs.Outcome.{Outcome, More}
 use Rattle.qs_http.specs.RequestOf.{IsRequestOf}
 use Rattle.qs_http.specs.Feeding.{Seen, Reading, StandsAt, FeedsAll}
 
--- bytes come to one thing at most
+-- bytes result in one thing at most
 abbrev pub RequestsAreUnique : Type 0
 RequestsAreUnique = (bytes : List ℕ) (a b : Outcome) → IsRequestOf bytes a → IsRequestOf bytes b → a ≡ b
 
--- once they come to something, further bytes don't change it
+-- once they result in something, further bytes don't change it
 abbrev pub RequestsAreKept : Type 0
 RequestsAreKept = (bytes more : List ℕ) (outcome : Outcome) → IsRequestOf bytes outcome → outcome ≢ More → IsRequestOf (bytes ++ more) outcome
 
@@ -21,6 +21,6 @@ abbrev pub joined : List (List ℕ) → List ℕ
 joined [] = []
 joined (piece ∷ pieces) = piece ++ joined pieces
 
--- however the bytes are cut, a session comes to what they come to joined
+-- however the bytes are cut, a session results in what they result in joined
 abbrev pub CutsDoNotMatter : Type 0
 CutsDoNotMatter = (pieces : List (List ℕ)) (seen : Seen) → FeedsAll (Reading []) pieces seen → StandsAt (joined pieces) seen

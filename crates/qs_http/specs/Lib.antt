@@ -1,5 +1,5 @@
 pub mod HeadEnd
-pub mod Place
+pub mod HeadState
 pub mod Outcome
 pub mod Head
 pub mod Checks

@@ -1,4 +1,4 @@
--- What a connection's bytes can come to.
+-- What a connection's bytes can result in.
 use Rattle.qs_http.specs.declared.fixed_reply.Fixed.{Fixed}
 use Rattle.qs_http.specs.declared.request.Request.{Request}
 

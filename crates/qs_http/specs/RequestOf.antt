@@ -30,7 +30,7 @@ of_body h body =
 unfoldable pub of_get : Head → Outcome
 of_get h = if at_data h then Ready Dump else of_pairs (codes "query") Query (parameters_of h) []
 
--- what a head that passed the checks asks with these bytes behind it: a GET ends with its head, a POST with the last byte of its body
+-- what a head that passed the checks asks with these bytes after it: a GET ends with its head, a POST with the last byte of its body
 abbrev pub of_sound_head : Head → List ℕ → Outcome
 of_sound_head h behind =
     if is_get h then of_get h
@@ -55,7 +55,7 @@ abbrev pub ReadsHead : List ℕ → Option ℕ → Option Head → Type 0
 ReadsHead bytes None reading = reading ≡ None
 ReadsHead bytes (Some end) reading = IsReading (without_leading (take end bytes)) reading
 
--- the bytes come to this
+-- the bytes result in this
 pub record IsRequestOf (bytes : List ℕ) (outcome : Outcome) : Type 0 where
   pub reading : Option Head
   pub reads : ReadsHead bytes (head_end bytes) reading

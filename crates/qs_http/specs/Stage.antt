@@ -4,7 +4,7 @@ use Rattle.std.specs.Str.{is_utf8}
 use Rattle.qs_terms.specs.declared.text.Text.{Text}
 use Rattle.qs_http.specs.declared.fixed_reply.Fixed.{Fixed}
 use Rattle.qs_http.specs.declared.fixed_reply.Fixed.TheVariants.{BadRequest, Memory}
-use Rattle.qs_http.specs.declared.head_end.Place.TheVariants.{Leading}
+use Rattle.qs_http.specs.declared.head_end.HeadState.TheVariants.{Leading}
 use Rattle.qs_http.specs.declared.request.Request.{Request}
 use Rattle.qs_http.specs.declared.stage.Step.{Step}
 use Rattle.qs_http.specs.declared.stage.Step.TheVariants as step
@@ -14,7 +14,7 @@ use Rattle.qs_http.specs.declared.session.Progress.{Progress}
 use Rattle.qs_http.specs.declared.session.Progress.TheVariants as progress
 use Rattle.qs_http.specs.Outcome.{Outcome, More, Ready, Refused}
 use Rattle.qs_http.specs.HeadEnd.{head_end, head_limit, without_leading}
-use Rattle.qs_http.specs.Place.{place_from}
+use Rattle.qs_http.specs.HeadState.{place_from}
 use Rattle.qs_http.specs.Head.{Head, is_get, body_length}
 use Rattle.qs_http.specs.Checks.{first_due, head_checks}
 use Rattle.qs_http.specs.RequestOf.{of_reading, IsReading, IsRequestOf}
@@ -39,7 +39,7 @@ abbrev pub step_from : Result Request Fixed → Step
 step_from (Ok request) = step.Ready request
 step_from (Err fixed) = step.Refused fixed
 
--- what a head comes to with those bytes behind it, or no memory was found
+-- what a head results in with those bytes after it, or no memory was found
 abbrev pub IsHeadStep : Head → List ℕ → Step → Type 0
 IsHeadStep h behind (step.More size) =
     (first_due (head_checks h) ≡ None) × (is_get h ≡ false) × (body_length h ≡ size) × (length behind < size) × (size ≤ 4194304)
@@ -55,13 +55,13 @@ pub record AwaitsBody (bytes : List ℕ) (end size : ℕ) : Type 0 where
   pub posts : is_get head ≡ false
   pub size_is : body_length head ≡ size
 
--- what the bytes come to, or no memory was found for it
+-- what the bytes result in, or no memory was found for it
 abbrev pub IsStep : List ℕ → ℕ → Step → Type 0
 IsStep bytes end (step.More size) = AwaitsBody bytes end size × (length bytes < end + size) × (size ≤ 4194304) × (end ≤ head_limit)
 IsStep bytes end (step.Ready request) = IsRequestOf bytes (Ready request)
 IsStep bytes end (step.Refused fixed) = IsRequestOf bytes (Refused fixed) ⊎ (fixed ≡ Memory)
 
--- what the bytes came to, or no memory was found for it
+-- what the bytes resulted in, or no memory was found for it
 abbrev pub EndsAt : List ℕ → Seen → Type 0
 EndsAt bytes seen =
     ((outcome : Outcome) × IsRequestOf bytes outcome × (outcome ≢ More) × (seen ≡ Done outcome)) ⊎ (seen ≡ Done (Refused Memory))

@@ -8,7 +8,7 @@ ghost use Rattle.qs_http.specs.Stage.{AwaitsBody, EndsAt, IsStage, seen_of};
 use crate::bytes::front_of;
 use crate::conclude::conclude;
 use crate::fixed_reply::Fixed;
-use crate::head_end::{Place, find_end};
+use crate::head_end::{HeadState, find_end};
 use crate::stage::{Stage, Step};
 use std::alloc::{AllocError, Global};
 
@@ -29,7 +29,7 @@ pub fn advance(alloc: Global, stage: Stage, piece: &[u8]) -> Stage
     }
 }
 
-fn advance_head(alloc: Global, bytes: Vec<u8>, place: Place, piece: &[u8]) -> Stage
+fn advance_head(alloc: Global, bytes: Vec<u8>, place: HeadState, piece: &[u8]) -> Stage
     requires { IsStage (Stage.Head bytes place) }
     ensures step { Feeds (seen_of (Stage.Head bytes place)) piece.now (seen_of result) }
     ensures sound { IsStage result }
@@ -56,7 +56,7 @@ fn advance_head(alloc: Global, bytes: Vec<u8>, place: Place, piece: &[u8]) -> St
     }
 }
 
-/// The bytes with the piece behind them.
+/// The bytes with the piece after them.
 fn with_piece(bytes: Vec<u8>, piece: &[u8]) -> Result<Vec<u8>, AllocError>
     ensures { IfOk result (λ joined. joined.items ≡ bytes.items ++ piece.now) }
 {
@@ -65,7 +65,7 @@ fn with_piece(bytes: Vec<u8>, piece: &[u8]) -> Result<Vec<u8>, AllocError>
     Ok(bytes)
 }
 
-/// The stage of a head that ends with the bytes, and of what came behind it.
+/// The stage of a head that ends with the bytes, and of what came after it.
 fn advance_ended(alloc: Global, bytes: Vec<u8>, behind: &[u8]) -> Stage
     requires { head_end bytes.items ≡ Some (length bytes.items) }
     ensures step { StandsAt (bytes.items ++ behind.now) (seen_of result) }

@@ -8,7 +8,7 @@ use crate::head::Head;
 
 impl<'b> Head<'b> {
     ghost use Rattle.qs_http.specs.inner.HeadView.{plain, IsSound};
-    ghost use Rattle.qs_http.specs.Checks.{first_due, head_checks, lacks_host, is_elsewhere, misses_query, misses_update, misses_data, lacks_length, has_bad_length, has_long_body, has_other_media};
+    ghost use Rattle.qs_http.specs.Checks.{first_due, head_checks, lacks_host, is_unknown_path, query_method_not_allowed, update_method_not_allowed, data_method_not_allowed, lacks_length, has_bad_length, has_long_body, has_other_media};
 
     /// The first check that fails.
     pub fn due(&self) -> Option<Fixed>
@@ -17,13 +17,13 @@ impl<'b> Head<'b> {
     {
         if self.lacks_host() {
             Some(Fixed::BadRequest)
-        } else if self.is_elsewhere() {
+        } else if self.is_unknown_path() {
             Some(Fixed::NotFound)
-        } else if self.misses_query() {
+        } else if self.query_method_not_allowed() {
             Some(Fixed::QueryMethod)
-        } else if self.misses_update() {
+        } else if self.update_method_not_allowed() {
             Some(Fixed::UpdateMethod)
-        } else if self.misses_data() {
+        } else if self.data_method_not_allowed() {
             Some(Fixed::DataMethod)
         } else if self.lacks_length() {
             Some(Fixed::NoLength)
@@ -46,34 +46,34 @@ impl<'b> Head<'b> {
         self.spans.version == 1 && self.values(b"host").count != 1
     }
 
-    #[tactic(auto, unfolding(crate::specs::Checks::is_elsewhere))]
-    fn is_elsewhere(&self) -> bool
+    #[tactic(auto, unfolding(crate::specs::Checks::is_unknown_path))]
+    fn is_unknown_path(&self) -> bool
         requires { IsSound self.now }
-        ensures { result ≡ is_elsewhere (plain self.now) }
+        ensures { result ≡ is_unknown_path (plain self.now) }
     {
         !(self.at_query() || self.at_update() || self.at_data())
     }
 
-    #[tactic(auto, unfolding(crate::specs::Checks::misses_query))]
-    fn misses_query(&self) -> bool
+    #[tactic(auto, unfolding(crate::specs::Checks::query_method_not_allowed))]
+    fn query_method_not_allowed(&self) -> bool
         requires { IsSound self.now }
-        ensures { result ≡ misses_query (plain self.now) }
+        ensures { result ≡ query_method_not_allowed (plain self.now) }
     {
         self.at_query() && !(self.is_get() || self.is_post())
     }
 
-    #[tactic(auto, unfolding(crate::specs::Checks::misses_update))]
-    fn misses_update(&self) -> bool
+    #[tactic(auto, unfolding(crate::specs::Checks::update_method_not_allowed))]
+    fn update_method_not_allowed(&self) -> bool
         requires { IsSound self.now }
-        ensures { result ≡ misses_update (plain self.now) }
+        ensures { result ≡ update_method_not_allowed (plain self.now) }
     {
         self.at_update() && !self.is_post()
     }
 
-    #[tactic(auto, unfolding(crate::specs::Checks::misses_data))]
-    fn misses_data(&self) -> bool
+    #[tactic(auto, unfolding(crate::specs::Checks::data_method_not_allowed))]
+    fn data_method_not_allowed(&self) -> bool
         requires { IsSound self.now }
-        ensures { result ≡ misses_data (plain self.now) }
+        ensures { result ≡ data_method_not_allowed (plain self.now) }
     {
         self.at_data() && !self.is_get()
     }

@@ -16,7 +16,7 @@ use httparse::spans::{EMPTY_HEADER_SPAN, HeaderSpan};
 use qs_terms::Text;
 use std::alloc::Global;
 
-/// What the bytes come to, whose head ends there.
+/// What the bytes result in, whose head ends there.
 pub fn conclude(alloc: Global, bytes: &[u8], end: usize) -> Step
     requires ends { head_end bytes.now ≡ Some end }
     requires within { end ≤ length bytes.now }
@@ -36,7 +36,7 @@ pub fn conclude(alloc: Global, bytes: &[u8], end: usize) -> Step
     step_of_head(alloc, &head, &bytes[end..])
 }
 
-/// What a head comes to with those bytes behind it.
+/// What a head results in with those bytes after it.
 fn step_of_head(alloc: Global, head: &Head<'_>, behind: &[u8]) -> Step
     requires { IsSound head.now }
     ensures { IsHeadStep (plain head.now) behind.now result }

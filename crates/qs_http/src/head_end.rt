@@ -1,11 +1,11 @@
 //! Where the head of a request ends.
 
 ghost use Rattle.std.specs.Prelude.{◌≡◌, IsNone};
-ghost use Rattle.qs_http.specs.Place.{place_after, ends_head, end_from, place_from};
+ghost use Rattle.qs_http.specs.HeadState.{place_after, ends_head, end_from, place_from};
 
 /// What stands directly before the next byte of a request's head.
 #[derive(Clone, Copy, Debug, PartialEq, Eq)]
-pub enum Place {
+pub enum HeadState {
     /// CR and LF bytes before the head, or nothing.
     Leading,
     /// A byte of a line.
@@ -16,32 +16,32 @@ pub enum Place {
     FeedReturn,
 }
 
-impl Place {
+impl HeadState {
     /// Whether the byte ends the head.
     fn ends_head(self, byte: u8) -> bool
         ensures { result ≡ ends_head self byte }
     {
         match self {
-            Place::Leading | Place::Line => false,
-            Place::Feed | Place::FeedReturn => byte == b'\n',
+            HeadState::Leading | HeadState::Line => false,
+            HeadState::Feed | HeadState::FeedReturn => byte == b'\n',
         }
     }
 
-    /// The place behind the byte.
-    fn after(self, byte: u8) -> Place
+    /// The place after the byte.
+    fn after(self, byte: u8) -> HeadState
         ensures { result ≡ place_after self byte }
     {
         match (self, byte) {
-            (Place::Leading, b'\r' | b'\n') => Place::Leading,
-            (_, b'\n') => Place::Feed,
-            (Place::Feed, b'\r') => Place::FeedReturn,
-            _ => Place::Line,
+            (HeadState::Leading, b'\r' | b'\n') => HeadState::Leading,
+            (_, b'\n') => HeadState::Feed,
+            (HeadState::Feed, b'\r') => HeadState::FeedReturn,
+            _ => HeadState::Line,
         }
     }
 }
 
-/// How many bytes of `piece` there are up to the head's end, and the place behind the piece where it hasn't come.
-pub fn find_end(piece: &[u8], place: &mut Place) -> Option<usize>
+/// How many bytes of `piece` there are up to the head's end, and the place after the piece where it hasn't come.
+pub fn find_end(piece: &[u8], place: &mut HeadState) -> Option<usize>
     ensures end { result ≡ end_from place.old piece.now }
     ensures place { IsNone result → place.new ≡ place_from place.old piece.now }
 {

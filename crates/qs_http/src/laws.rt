@@ -2,12 +2,12 @@
 
 ghost use Rattle.qs_http.specs.Laws.{RequestsAreUnique, RequestsAreKept, UnfinishedRequestsAreShort, CutsDoNotMatter};
 
-/// Bytes come to one thing at most: a request, a refusal, or more bytes are wanted.
+/// Bytes result in one thing at most: a request, a refusal, or more bytes are wanted.
 pub fn requests_are_unique()
     ensures { RequestsAreUnique }
 {}
 
-/// Once bytes come to a request or a refusal, further bytes don't change it.
+/// Once bytes result in a request or a refusal, further bytes don't change it.
 pub fn requests_are_kept()
     ensures { RequestsAreKept }
 {}
@@ -17,7 +17,7 @@ pub fn unfinished_requests_are_short()
     ensures { UnfinishedRequestsAreShort }
 {}
 
-/// However bytes are cut into pieces, a session comes to what they come to joined.
+/// However bytes are cut into pieces, a session results in what they result in joined.
 pub fn cuts_do_not_matter()
     ensures { CutsDoNotMatter }
 {}

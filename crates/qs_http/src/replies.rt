@@ -8,7 +8,7 @@ use crate::media::Media;
 use http::StatusCode;
 use std::alloc::{AllocError, Global};
 
-/// The whole bytes of a reply with that status, type and body: its `front` and the body. The one error is want of memory.
+/// The whole bytes of a reply with that status, type and body: its `front` and the body. The one error is running out of memory.
 pub fn reply(
     alloc: Global,
     status: StatusCode,
@@ -23,8 +23,8 @@ pub fn reply(
     Ok(bytes)
 }
 
-/// The bytes of a reply with that status and type up to its body, which has so many bytes: behind them the body can go out from where
-/// it stands, without a copy. `reply` is these bytes and the body. The one error is want of memory.
+/// The bytes of a reply with that status and type up to its body, which has so many bytes: after them the body can go out from where
+/// it stands, without a copy. `reply` is these bytes and the body. The one error is running out of memory.
 pub fn front(
     alloc: Global,
     status: StatusCode,

@@ -6,7 +6,7 @@ ghost use Rattle.qs_http.specs.Feeding.{Reading, Feeds};
 
 use crate::advance::advance;
 use crate::fixed_reply::Fixed;
-use crate::head_end::Place;
+use crate::head_end::HeadState;
 use crate::request::Request;
 use crate::stage::Stage;
 use std::alloc::Global;
@@ -26,8 +26,8 @@ pub enum Progress {
 
 /// The one request of a connection, read piece by piece.
 ///
-/// A contract sees the joined bytes while they come to nothing yet, and then what they came to.
-/// No byte behind the request's last is kept, and a request takes at most 16,384 bytes of head and
+/// A contract sees the joined bytes while they result in nothing yet, and then what they resulted in.
+/// No byte after the request's last is kept, and a request takes at most 16,384 bytes of head and
 /// 4,194,304 of body.
 #[derive(Drop)]
 pub struct Session {
@@ -58,7 +58,7 @@ impl Session {
             alloc,
             stage: Stage::Head {
                 bytes: Vec::new(alloc),
-                place: Place::Leading,
+                place: HeadState::Leading,
             },
         }
     }

@@ -1,7 +1,7 @@
 //! How far a request has been read.
 
 use crate::fixed_reply::Fixed;
-use crate::head_end::Place;
+use crate::head_end::HeadState;
 use crate::request::Request;
 
 /// How far a request has been read.
@@ -10,7 +10,7 @@ pub enum Stage {
     /// The head hasn't ended.
     Head {
         bytes: Vec<u8>,
-        place: Place,
+        place: HeadState,
     },
     /// The head ends there, and a body of that size is due.
     Body {
@@ -24,7 +24,7 @@ pub enum Stage {
     Refused(Fixed),
 }
 
-/// What the bytes up to the head's end or further come to; where more are wanted, the length of the body.
+/// What the bytes up to the head's end or further result in; where more are wanted, the length of the body.
 #[derive(Drop)]
 pub enum Step {
     More(usize),

@@ -6,7 +6,7 @@ use Rattle.std.proofs.lemmas.Bool.{cases_order, false≢true}
 use Rattle.std.proofs.lemmas.List.{set_comm, get_or_append_left, get_or-append-add, set-append_left, get_or_read, length-set}
 use Rattle.std.proofs.lemmas.List.Edits.{length-insert, length-remove}
 use Rattle.qs_index.specs.Layout.{page_at}
-use Rattle.qs_index.specs.inner.Tiers.{flat, block_at, gap_at, HasGap, IsTiered}
+use Rattle.qs_index.specs.inner.PageBlocks.{flat, block_at, gap_at, HasGap, IsTiered}
 
 abbrev Block' : Type 0
 Block' = List (List (List ℕ))
@@ -84,7 +84,7 @@ gap_at_same j k e = ap (λ i. gap_at i k) e ∙ gap_self k
 at_block : {A : Type 0} (j k : ℕ) → (j < k → A) → (j ≡ k → A) → (k < j → A) → A
 at_block j k l s m = ⊎_elim s (λ h. ⊎_elim l m h) (cases_order j k)
 
--- a full list of blocks with a page more has its gap behind the last page
+-- a full list of blocks with a page more has its gap after the last page
 pub gap_start : (j count q m : ℕ) → 256 * q ≤ count → count < 256 * q + 256 → m ≡ min 256 (count - 256 * j) → m + gap_at j q ≡ min 256 (count + 1 - 256 * j)
 gap_start j count q m l h e = at_block j q (λ o. let g = gap_below j q o in omega arith) (λ o. let g = gap_at_same j q o in omega arith) (λ o. let g = gap_above j q o in omega arith)
 
@@ -180,7 +180,7 @@ sizes_fewer (x ∷ xs) zero (suc j) b h e = omega arith
 sizes_fewer (x ∷ xs) (suc k) zero b h e = omega arith
 sizes_fewer (x ∷ xs) (suc k) (suc j) b h e = sizes_fewer xs k j b (omega (arith, h)) e
 
--- an empty block behind the others
+-- an empty block after the others
 pub flat_push : (blocks : List Block') → flat (blocks ++ [] ∷ []) ≡ flat blocks
 flat_push [] = refl
 flat_push (b ∷ bs) = ap (λ r. b ++ r) (flat_push bs)

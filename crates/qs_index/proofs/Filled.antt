@@ -23,7 +23,7 @@ pub from_not : (b : Bool) → false ≡ not b → b ≡ true
 from_not true e = refl
 from_not false e = absurd (false≢true e)
 
--- a page put behind all others
+-- a page put after all others
 pub insert_last : (pages : List (List (List ℕ))) (k : ℕ) (page : List (List ℕ)) → k ≡ length pages → insert pages k page ≡ pages ++ page ∷ []
 insert_last pages k page e =
     ap (λ r. r ++ page ∷ drop k pages) (take_all k pages (omega arith)) ∙ ap (λ r. pages ++ page ∷ r) (drop_all k pages (omega arith))
@@ -44,7 +44,7 @@ last_behind x xs e =
     let n = length_push xs x in
     sym (ap (λ r. get_or r (length r - 1) []) w ∙ get_or_at xs x [] [] (length (xs ++ x ∷ []) - 1) (omega arith))
 
--- an entry put behind all others, into the last page
+-- an entry put after all others, into the last page
 pub rest_last : (pages : List (List (List ℕ))) (m : ℕ) → m + 1 ≡ length pages → rest_at pages m (length (page_at pages m)) ≡ []
 rest_last pages m h = rest_next_page pages m (length (page_at pages m)) (omega arith) refl ∙ rest_end pages (m + 1) 0 (omega arith)
 

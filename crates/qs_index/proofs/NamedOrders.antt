@@ -79,7 +79,7 @@ pub order_without : (permutation : Permutation) (x t : List ℕ) (xs ys zs : Lis
 order_without permutation x t xs ys zs r h s o u m e a v =
     named_without permutation x xs zs h u m (order_removed permutation x t (named_entries xs) ys zs r s (IsAscending-filter is_named xs u) (filter_has is_named x xs m h) o e a v)
 
--- the entries of named graphs behind those of the default graph
+-- the entries of named graphs after those of the default graph
 behind : (k : ℕ) (all : List (List ℕ)) → All (λ e. is_named e ≡ false) (take k all) → (x : List ℕ) → Contains all x → is_named x ≡ true → Contains (drop k all) x
 behind k all d x c h =
     ⊎_elim (λ a. absurd (false≢true (sym (All-contains (λ e. is_named e ≡ false) (take k all) x d a) ∙ h))) (λ b. b)

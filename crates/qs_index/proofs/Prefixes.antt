@@ -38,7 +38,7 @@ begins_same (q ∷ p) (a ∷ x) h b = at_test (eqb a q) refl (λ t. begins_same 
     at_test true e i b = let s = i b in let k : a ≡ q = eqb-true a q e in cc
     at_test false e i b = absurd (false≢true b)
 
--- behind an entry that begins with four numbers none does
+-- after an entry that begins with four numbers none does
 run_ends : (p e : List ℕ) (rest : List (List ℕ)) → length p ≡ 4 → IsAscending (e ∷ rest) → HaveFour (e ∷ rest) → begins p e ≡ true → run_of p rest ≡ []
 run_ends p e [] n u all b = refl
 run_ends p e (x ∷ xs) n u all b = at_test (begins p x) refl

@@ -5,7 +5,7 @@ use Rattle.qs_index.specs.Entries.{HaveFour}
 use Rattle.qs_index.specs.Entry.{beginning, run_of, skip_before, IsAscending}
 use Rattle.qs_index.specs.Layout.{joined, page_at, rest_at, HasPageSizes}
 use Rattle.qs_index.specs.OrderScan.{IsSound, waiting, IsHead}
-use Rattle.qs_index.specs.inner.Place.{IsFound}
+use Rattle.qs_index.specs.inner.PagePosition.{IsFound}
 use Rattle.qs_index.proofs.Ascending.{beginning_is_run}
 use Rattle.qs_index.proofs.Places.{rest_end}
 

@@ -1,3 +1,3 @@
 -- What serves proofs alone: no promise of the product is read by it.
-pub mod Tiers
-pub mod Place
+pub mod PageBlocks
+pub mod PagePosition

@@ -5,9 +5,9 @@ ghost use Rattle.qs_index.specs.Entry.{skip_before, with_entry};
 ghost use Rattle.qs_index.specs.Layout.{joined, page_at, room_of, used_of};
 
 use crate::entry::is_less;
-use crate::pages::{PAGE, Pages, Place};
+use crate::pages::{PAGE, Pages, PagePosition};
 
-// Puts an entry behind all others: into the last page, or into a new one where that is full.
+// Puts an entry after all others: into the last page, or into a new one where that is full.
 fn append(pages: &mut Pages, entry: [u32; 4])
     requires some { 0 < length pages.old.pages }
     requires behind { skip_before entry (joined pages.old.pages) ≡ [] }
@@ -20,7 +20,7 @@ fn append(pages: &mut Pages, entry: [u32; 4])
     let page = pages.len() - 1;
     let at = pages.page_len(page);
     if at < PAGE {
-        pages.put(Place { page, at }, entry);
+        pages.put(PagePosition { page, at }, entry);
         return;
     }
     pages.put_last(entry);

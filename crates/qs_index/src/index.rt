@@ -16,7 +16,7 @@ ghost use Rattle.qs_index.specs.Permutation.{order_used, named_order_used, turne
 use crate::batch::{insert_turned, remove_turned};
 use crate::named::Named;
 use crate::order::Order;
-use crate::pages::Place;
+use crate::pages::PagePosition;
 use crate::permutation::{Lookup, Permutation};
 use crate::prefix::Prefix;
 use crate::scan::Scan;
@@ -227,11 +227,11 @@ impl Index {
     }
 
     /// The same as `scan`, looked for from a place of an earlier scan of the same order (`Scan::place`): where it begins in the same page,
-    /// at that place or behind it, the search takes two looks for each binary digit of the distance, and two more. Elsewhere it costs
+    /// at that place or after it, the search takes two looks for each binary digit of the distance, and two more. Elsewhere it costs
     /// two looks more than that of `scan`. A place is a hint alone: any place gives the same entries.
     pub fn scan_from(
         &self,
-        from: Place,
+        from: PagePosition,
         graph: u32,
         subject: Option<u32>,
         predicate: Option<u32>,
@@ -270,11 +270,11 @@ impl Index {
     }
 
     /// The same as `scan_named`, looked for from a place of an earlier scan of the same order (`Scan::place`): where it begins in the same page,
-    /// at that place or behind it, the search takes two looks for each binary digit of the distance, and two more. Elsewhere it costs
+    /// at that place or after it, the search takes two looks for each binary digit of the distance, and two more. Elsewhere it costs
     /// two looks more than that of `scan_named`. A place is a hint alone: any place gives the same entries.
     pub fn scan_named_from(
         &self,
-        from: Place,
+        from: PagePosition,
         subject: Option<u32>,
         predicate: Option<u32>,
         object: Option<u32>,

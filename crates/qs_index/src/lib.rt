@@ -16,8 +16,8 @@ pub mod permutation;
 pub mod prefix;
 mod scan;
 mod search;
-mod tiers;
+mod page_blocks;
 
 pub use index::Index;
-pub use pages::Place;
+pub use pages::PagePosition;
 pub use scan::Scan;

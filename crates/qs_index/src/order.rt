@@ -9,14 +9,14 @@ ghost use Rattle.qs_index.specs.Entry.{IsAscending, skip_before, with_entry, wit
 
 use crate::fill::fill;
 use crate::order_scan::OrderScan;
-use crate::pages::{HALF, PAGE, Pages, Place, Reader};
+use crate::pages::{HALF, PAGE, Pages, PagePosition, Reader};
 use crate::prefix::Prefix;
 use crate::search::{Found, NOWHERE, find, locate, locate_from};
 use std::alloc::{AllocError, Global};
 use std::marker::Model;
 
 // Puts an entry in front of those that aren't before it, in a page that isn't full.
-fn put_before(pages: &mut Pages, place: Place, entry: [u32; 4])
+fn put_before(pages: &mut Pages, place: PagePosition, entry: [u32; 4])
     requires page { place.page < length pages.old.pages }
     requires at { place.at ≤ length (page_at pages.old.pages place.page) }
     requires free { length (page_at pages.old.pages place.page) < 256 }
@@ -28,7 +28,7 @@ fn put_before(pages: &mut Pages, place: Place, entry: [u32; 4])
 }
 
 // Splits the page of a place if it is full, and gives the same place in the new pages.
-fn make_room(pages: &mut Pages, place: Place) -> Place
+fn make_room(pages: &mut Pages, place: PagePosition) -> PagePosition
     requires page { place.page < length pages.old.pages }
     requires at { place.at ≤ length (page_at pages.old.pages place.page) }
     requires room { 0 < room_of pages.old.pages pages.old.spare }
@@ -47,17 +47,17 @@ fn make_room(pages: &mut Pages, place: Place) -> Place
     if place.at <= HALF {
         return place;
     }
-    Place {
+    PagePosition {
         page: place.page + 1,
         at: place.at - HALF,
     }
 }
 
-// Whether an entry was put in or taken out, and a place to go on from behind it.
+// Whether an entry was put in or taken out, and a place to go on from after it.
 #[derive(Clone, Copy)]
 struct Edited {
     is_done: bool,
-    place: Place,
+    place: PagePosition,
 }
 
 /// The entries of one order, and how many inserts need no memory.
@@ -100,7 +100,7 @@ impl Order {
     }
 
     // Puts an entry in its place, looked for from an earlier place on.
-    fn insert_from(&mut self, from: Place, entry: [u32; 4]) -> Edited
+    fn insert_from(&mut self, from: PagePosition, entry: [u32; 4]) -> Edited
         requires { 0 < self.old.spare }
         ensures new { IsTrue result.is_done ↔ (¬ Contains self.old.entries entry) }
         ensures stood { OnFalse result.is_done (Contains self.old.entries entry) }
@@ -188,7 +188,7 @@ impl Order {
     }
 
     // Takes an entry out, looked for from an earlier place on.
-    fn remove_from(&mut self, from: Place, entry: [u32; 4]) -> Edited
+    fn remove_from(&mut self, from: PagePosition, entry: [u32; 4]) -> Edited
         ensures stood { IsTrue result.is_done ↔ Contains self.old.entries entry }
         ensures taken { OnTrue result.is_done (self.new.entries ≡ without_entry entry self.old.entries) }
         ensures kept { OnFalse result.is_done (self.new.entries ≡ self.old.entries) }
@@ -212,7 +212,7 @@ impl Order {
         self.count -= 1;
         Edited {
             is_done: true,
-            place: Place {
+            place: PagePosition {
                 page: place.page,
                 at: place.at.saturating_sub(1),
             },
@@ -285,7 +285,7 @@ impl Order {
     }
 
     /// The entries that begin with the first `given` numbers of `prefix`, which are looked for about `from` first.
-    pub fn scan(&self, from: Place, prefix: [u32; 4], given: usize) -> OrderScan<'_>
+    pub fn scan(&self, from: PagePosition, prefix: [u32; 4], given: usize) -> OrderScan<'_>
         requires { given ≤ 4 }
         ensures rest { result.rest ≡ beginning (take given prefix) self.now.entries }
         ensures handed { result.handed ≡ 0 }

@@ -8,14 +8,14 @@ ghost use Rattle.qs_index.specs.Entry.{begins, beginning, run_of, IsAscending};
 ghost use Rattle.qs_index.specs.Scan.{ScanState, NextOfScan};
 ghost use Rattle.qs_index.specs.OrderScan.{state_of, waiting, IsHead, IsSound};
 
-use crate::pages::{Place, Reader};
+use crate::pages::{PagePosition, Reader};
 use crate::prefix::Prefix;
 use crate::search::find_from;
 use std::marker::Model;
 
 // The entry at a place: the one that the search found there, or the one that is read.
 #[inline(always)]
-fn read(reader: &mut Reader<'_>, head: Option<[u32; 4]>, place: Place) -> [u32; 4]
+fn read(reader: &mut Reader<'_>, head: Option<[u32; 4]>, place: PagePosition) -> [u32; 4]
     requires page { place.page < length reader.old.pages }
     requires at { place.at < length (page_at reader.old.pages place.page) }
     requires countable { reader.old.looked + 1 < 2 ^ 128 }
@@ -30,9 +30,9 @@ fn read(reader: &mut Reader<'_>, head: Option<[u32; 4]>, place: Place) -> [u32; 
     }
 }
 
-// Where a scan goes on behind an entry that begins with its prefix: at the end where no other entry can.
+// Where a scan goes on after an entry that begins with its prefix: at the end where no other entry can.
 #[inline(always)]
-fn step(reader: &Reader<'_>, prefix: &Prefix, place: Place) -> Place
+fn step(reader: &Reader<'_>, prefix: &Prefix, place: PagePosition) -> PagePosition
     requires page { place.page < length reader.now.pages }
     requires at { place.at < length (page_at reader.now.pages place.page) }
     requires ascending { IsAscending (joined reader.now.pages) }
@@ -43,16 +43,16 @@ fn step(reader: &Reader<'_>, prefix: &Prefix, place: Place) -> Place
 {
     let held = reader.len();
     if prefix.is_whole() {
-        return Place { page: held, at: 0 };
+        return PagePosition { page: held, at: 0 };
     }
     let at = place.at + 1;
     if at < reader.page_len(place.page) {
-        return Place {
+        return PagePosition {
             page: place.page,
             at,
         };
     }
-    Place {
+    PagePosition {
         page: place.page + 1,
         at: 0,
     }
@@ -68,7 +68,7 @@ pub struct OrderScan<'a> {
     // The first entry until it is handed out, as the search has looked at it.
     head: Option<[u32; 4]>,
     // Where the search was told to begin, and at the end the place of the entry that was looked at last.
-    seen: Place,
+    seen: PagePosition,
 }
 
 impl<'a> Model for OrderScan<'a> {
@@ -81,7 +81,7 @@ impl<'a> Model for OrderScan<'a> {
 
 impl<'a> OrderScan<'a> {
     /// The scan of the entries that begin with `prefix`, which are looked for about `from` first.
-    pub fn new(reader: Reader<'a>, prefix: Prefix, from: Place) -> OrderScan<'a>
+    pub fn new(reader: Reader<'a>, prefix: Prefix, from: PagePosition) -> OrderScan<'a>
         requires ascending { IsAscending (joined reader.pages) }
         requires entries { HaveFour (joined reader.pages) }
         requires unread { reader.looked ≡ 0 }
@@ -112,9 +112,9 @@ impl<'a> OrderScan<'a> {
     }
 
     /// The place of the entry that is looked at next; at the end, of the one that was looked at last.
-    pub fn place(&self) -> Place {
+    pub fn place(&self) -> PagePosition {
         if self.page < self.reader.len() {
-            return Place {
+            return PagePosition {
                 page: self.page,
                 at: self.at,
             };
@@ -145,7 +145,7 @@ impl<'a> Iterator for OrderScan<'a> {
         if self.page >= held {
             return None;
         }
-        let place = Place {
+        let place = PagePosition {
             page: self.page,
             at: self.at,
         };

@@ -6,7 +6,7 @@ ghost use Rattle.qs_index.specs.Permutation.{restored};
 ghost use Rattle.qs_index.specs.Scan.{ScanState, NextOfScan};
 
 use crate::order_scan::OrderScan;
-use crate::pages::Place;
+use crate::pages::PagePosition;
 use crate::permutation::Permutation;
 use std::marker::Model;
 
@@ -31,8 +31,8 @@ impl<'a> Scan<'a> {
     }
 
     /// The place of the entry that is looked at next, and at the end of the one that was looked at last: a later scan of the same order
-    /// that has to begin near behind finds its first entry from there with few looks.
-    pub fn place(&self) -> Place {
+    /// that has to begin near after finds its first entry from there with few looks.
+    pub fn place(&self) -> PagePosition {
         self.inner.place()
     }
 

@@ -3,9 +3,9 @@ ghost use Rattle.std.specs.Prelude.{◌≡◌, ℕ, ◌+◌, ◌-◌, ◌*◌, �
 ghost use Rattle.qs_index.specs.Digits.{digits};
 ghost use Rattle.qs_index.specs.Layout.{Layout, Reading, joined, page_at, rest_at};
 ghost use Rattle.qs_index.specs.Entry.{is_before, IsAscending, skip_before};
-ghost use Rattle.qs_index.specs.inner.Place.{IsPlaceFor, IsPlaceOf, IsFound, IsReached};
+ghost use Rattle.qs_index.specs.inner.PagePosition.{IsPlaceFor, IsPlaceOf, IsFound, IsReached};
 
-use crate::pages::{Pages, Place, Reader};
+use crate::pages::{Pages, PagePosition, Reader};
 use crate::prefix::Prefix;
 
 // An entry that was compared, and the number of the page that it ends, or of its place in its page.
@@ -15,8 +15,8 @@ struct Bound {
     entry: [u32; 4],
 }
 
-/// A place behind all pages, from which a search can't go on.
-pub const NOWHERE: Place = Place {
+/// A place after all pages, from which a search can't go on.
+pub const NOWHERE: PagePosition = PagePosition {
     page: usize::MAX,
     at: 0,
 };
@@ -24,7 +24,7 @@ pub const NOWHERE: Place = Place {
 /// An entry that was found, and where it stands.
 #[derive(Clone, Copy)]
 pub struct Found {
-    pub place: Place,
+    pub place: PagePosition,
     pub entry: [u32; 4],
 }
 
@@ -86,7 +86,7 @@ fn first_in_page(
     let mut bound = to.entry;
     while low < high {
         let middle = low + (high - low) / 2;
-        let place = Place { page, at: middle };
+        let place = PagePosition { page, at: middle };
         let entry = reader.look(place);
         if prefix.is_after(&entry) {
             low = middle + 1;
@@ -120,7 +120,7 @@ pub fn find(reader: &mut Reader<'_>, prefix: &Prefix) -> Option<Found>
     let at = reader.page_len(page.at) - 1;
     let entry = page.entry;
     let bound = first_in_page(reader, page.at, 0, Bound { at, entry }, prefix);
-    let place = Place {
+    let place = PagePosition {
         page: page.at,
         at: bound.at,
     };
@@ -157,7 +157,7 @@ fn gallop(reader: &mut Reader<'_>, page: usize, from: usize, last: Bound, prefix
     let mut step = 1;
     while low + step <= last.at {
         let at = low + step - 1;
-        let entry = reader.look(Place { page, at });
+        let entry = reader.look(PagePosition { page, at });
         if !prefix.is_after(&entry) {
             return Part {
                 from: low,
@@ -176,7 +176,7 @@ fn gallop(reader: &mut Reader<'_>, page: usize, from: usize, last: Bound, prefix
 // The first entry that isn't before `prefix`, looked for in the page of an earlier place, whose entry is, before all pages are
 // searched.
 #[inline(always)]
-fn find_behind(reader: &mut Reader<'_>, from: Place, prefix: &Prefix) -> Option<Found>
+fn find_behind(reader: &mut Reader<'_>, from: PagePosition, prefix: &Prefix) -> Option<Found>
     requires ascending { IsAscending (joined reader.old.pages) }
     requires page { from.page < length reader.old.pages }
     requires at { from.at < length (page_at reader.old.pages from.page) }
@@ -191,7 +191,7 @@ fn find_behind(reader: &mut Reader<'_>, from: Place, prefix: &Prefix) -> Option<
     let held = reader.len();
     let page = from.page;
     let end = reader.page_len(page) - 1;
-    let entry = reader.look(Place { page, at: end });
+    let entry = reader.look(PagePosition { page, at: end });
     if prefix.is_after(&entry) {
         if page + 1 == held {
             return None;
@@ -200,7 +200,7 @@ fn find_behind(reader: &mut Reader<'_>, from: Place, prefix: &Prefix) -> Option<
     }
     let part = gallop(reader, page, from.at + 1, Bound { at: end, entry }, prefix);
     let bound = first_in_page(reader, page, part.from, part.to, prefix);
-    let place = Place { page, at: bound.at };
+    let place = PagePosition { page, at: bound.at };
     let entry = bound.entry;
     Some(Found { place, entry })
 }
@@ -223,7 +223,7 @@ fn find_before(reader: &mut Reader<'_>, from: Found, prefix: &Prefix) -> Option<
     if place.at == 0 {
         return find(reader, prefix);
     }
-    let front = reader.look(Place {
+    let front = reader.look(PagePosition {
         page: place.page,
         at: place.at - 1,
     });
@@ -233,9 +233,9 @@ fn find_before(reader: &mut Reader<'_>, from: Found, prefix: &Prefix) -> Option<
     find(reader, prefix)
 }
 
-/// The first entry that isn't before `prefix`, looked for about an earlier place where it stands near behind that.
+/// The first entry that isn't before `prefix`, looked for about an earlier place where it stands near after that.
 #[inline(always)]
-pub fn find_from(reader: &mut Reader<'_>, from: Place, prefix: &Prefix) -> Option<Found>
+pub fn find_from(reader: &mut Reader<'_>, from: PagePosition, prefix: &Prefix) -> Option<Found>
     requires ascending { IsAscending (joined reader.old.pages) }
     requires countable { reader.old.looked + 2 + 2 * digits (length (joined reader.old.pages)) < 2 ^ 128 }
     ensures some { IfSome result (λ found. IsFound prefix.now reader.old.pages found.place.page found.place.at found.entry) }
@@ -260,7 +260,7 @@ pub fn find_from(reader: &mut Reader<'_>, from: Place, prefix: &Prefix) -> Optio
 
 // Where an entry stands, or where it has to be put.
 #[inline(always)]
-fn locate_in(reader: Reader<'_>, from: Place, entry: &[u32; 4]) -> Result<Place, Place>
+fn locate_in(reader: Reader<'_>, from: PagePosition, entry: &[u32; 4]) -> Result<PagePosition, PagePosition>
     requires ascending { IsAscending (joined reader.pages) }
     requires some { 0 < length reader.pages }
     requires unread { reader.looked ≡ 0 }
@@ -273,7 +273,7 @@ fn locate_in(reader: Reader<'_>, from: Place, entry: &[u32; 4]) -> Result<Place,
     let Some(found) = find_from(&mut reader, from, &whole) else {
         let last = count - 1;
         let at = reader.page_len(last);
-        return Err(Place { page: last, at });
+        return Err(PagePosition { page: last, at });
     };
     if found.entry == *entry {
         return Ok(found.place);
@@ -281,9 +281,9 @@ fn locate_in(reader: Reader<'_>, from: Place, entry: &[u32; 4]) -> Result<Place,
     Err(found.place)
 }
 
-/// Where an entry stands, or where it has to be put, looked for from an earlier place on where it stands behind that.
+/// Where an entry stands, or where it has to be put, looked for from an earlier place on where it stands after that.
 #[inline(always)]
-pub fn locate_from(pages: &Pages, from: Place, entry: &[u32; 4]) -> Result<Place, Place>
+pub fn locate_from(pages: &Pages, from: PagePosition, entry: &[u32; 4]) -> Result<PagePosition, PagePosition>
     requires ascending { IsAscending (joined pages.now.pages) }
     requires some { 0 < length pages.now.pages }
     ensures found { IfOk result (λ place. IsPlaceOf entry.now pages.now.pages place.page place.at) }
@@ -294,7 +294,7 @@ pub fn locate_from(pages: &Pages, from: Place, entry: &[u32; 4]) -> Result<Place
 
 /// Where an entry stands, or where it has to be put.
 #[inline(always)]
-pub fn locate(pages: &Pages, entry: &[u32; 4]) -> Result<Place, Place>
+pub fn locate(pages: &Pages, entry: &[u32; 4]) -> Result<PagePosition, PagePosition>
     requires ascending { IsAscending (joined pages.now.pages) }
     requires some { 0 < length pages.now.pages }
     ensures found { IfOk result (λ place. IsPlaceOf entry.now pages.now.pages place.page place.at) }

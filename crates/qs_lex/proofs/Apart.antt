@@ -2,7 +2,7 @@
 use Rattle.std.proofs.Common.{◌≡◌, ℕ, Bool, true, false, ◌==◌, ◌||◌, refl, sym, subst, ap, ◌∙◌, eqb-true, true≢false, ◌⊎◌, inl, inr}
 use Rattle.std.specs.Char.{is_ascii_alphabetic, is_ascii_alphanumeric}
 use Rattle.std.specs.Int.{is_in_range}
-use Rattle.qs_regular.specs.Character.{is_digit, is_base, is_u, is_chars, is_mark_in_name, is_letter, is_letter_or_digit, is_iri_char, is_escaped}
+use Rattle.qs_lex_regular.specs.Character.{is_digit, is_base, is_pn_chars_u, is_pn_chars, is_mark_in_name, is_letter, is_letter_or_digit, is_iri_char, is_escaped}
 use Rattle.qs_lex.specs.Table.{is_exponent, is_sign, is_word_char}
 
 -- a class with c in it and x not in it tells them apart
@@ -64,29 +64,29 @@ backslash_iri = refl
 
 -- ---- names
 
-pub chars_colon : (c : ℕ) → is_chars c ≡ true → (c == 58) ≡ false
-unfolding is_chars is_u is_base is_digit is_mark_in_name
-chars_colon c h = apart is_chars c 58 h refl
+pub chars_colon : (c : ℕ) → is_pn_chars c ≡ true → (c == 58) ≡ false
+unfolding is_pn_chars is_pn_chars_u is_base is_digit is_mark_in_name
+chars_colon c h = apart is_pn_chars c 58 h refl
 
-pub chars_percent : (c : ℕ) → is_chars c ≡ true → (c == 37) ≡ false
-unfolding is_chars is_u is_base is_digit is_mark_in_name
-chars_percent c h = apart is_chars c 37 h refl
+pub chars_percent : (c : ℕ) → is_pn_chars c ≡ true → (c == 37) ≡ false
+unfolding is_pn_chars is_pn_chars_u is_base is_digit is_mark_in_name
+chars_percent c h = apart is_pn_chars c 37 h refl
 
-pub chars_backslash : (c : ℕ) → is_chars c ≡ true → (c == 92) ≡ false
-unfolding is_chars is_u is_base is_digit is_mark_in_name
-chars_backslash c h = apart is_chars c 92 h refl
+pub chars_backslash : (c : ℕ) → is_pn_chars c ≡ true → (c == 92) ≡ false
+unfolding is_pn_chars is_pn_chars_u is_base is_digit is_mark_in_name
+chars_backslash c h = apart is_pn_chars c 92 h refl
 
 pub word_colon : (c : ℕ) → is_word_char c ≡ true → (c == 58) ≡ false
 unfolding is_word_char
 word_colon c h = apart is_word_char c 58 h refl
 
-pub u_percent : (c : ℕ) → is_u c ≡ true → (c == 37) ≡ false
-unfolding is_u is_base
-u_percent c h = apart is_u c 37 h refl
+pub u_percent : (c : ℕ) → is_pn_chars_u c ≡ true → (c == 37) ≡ false
+unfolding is_pn_chars_u is_base
+u_percent c h = apart is_pn_chars_u c 37 h refl
 
-pub u_backslash : (c : ℕ) → is_u c ≡ true → (c == 92) ≡ false
-unfolding is_u is_base
-u_backslash c h = apart is_u c 92 h refl
+pub u_backslash : (c : ℕ) → is_pn_chars_u c ≡ true → (c == 92) ≡ false
+unfolding is_pn_chars_u is_base
+u_backslash c h = apart is_pn_chars_u c 92 h refl
 
 pub digit_percent : (c : ℕ) → is_digit c ≡ true → (c == 37) ≡ false
 unfolding is_digit
@@ -104,12 +104,12 @@ pub letter_or_digit_dash : (c : ℕ) → is_letter_or_digit c ≡ true → (c ==
 unfolding is_letter_or_digit
 letter_or_digit_dash c h = apart is_letter_or_digit c 45 h refl
 
-pub colon_chars : is_chars 58 ≡ false
-unfolding is_chars is_u is_base is_digit is_mark_in_name
+pub colon_chars : is_pn_chars 58 ≡ false
+unfolding is_pn_chars is_pn_chars_u is_base is_digit is_mark_in_name
 colon_chars = refl
 
-pub colon_u : is_u 58 ≡ false
-unfolding is_u is_base
+pub colon_u : is_pn_chars_u 58 ≡ false
+unfolding is_pn_chars_u is_base
 colon_u = refl
 
 pub colon_word : is_word_char 58 ≡ false
@@ -120,8 +120,8 @@ pub dot_word : is_word_char 46 ≡ false
 unfolding is_word_char
 dot_word = refl
 
-low_chars : is_chars 95 ≡ true
-unfolding is_chars is_u is_base is_digit is_mark_in_name
+low_chars : is_pn_chars 95 ≡ true
+unfolding is_pn_chars is_pn_chars_u is_base is_digit is_mark_in_name
 low_chars = refl
 
 pub letter_base : (c : ℕ) → is_ascii_alphabetic c ≡ true → is_base c ≡ true
@@ -140,15 +140,15 @@ pub or-cases : (a b : Bool) → (a || b) ≡ true → (a ≡ true) ⊎ (b ≡ tr
 or-cases true b h = inl refl
 or-cases false b h = inr h
 
-pub base_chars : (c : ℕ) → is_base c ≡ true → is_chars c ≡ true
-unfolding is_chars is_u
+pub base_chars : (c : ℕ) → is_base c ≡ true → is_pn_chars c ≡ true
+unfolding is_pn_chars is_pn_chars_u
 base_chars c h = rw h refl
 
-digit_chars : (c : ℕ) → is_digit c ≡ true → is_chars c ≡ true
-unfolding is_chars
-digit_chars c h = or-left ((is_u c || c == 45) || is_digit c) (is_mark_in_name c) (or-right (is_u c || c == 45) (is_digit c) h)
+digit_chars : (c : ℕ) → is_digit c ≡ true → is_pn_chars c ≡ true
+unfolding is_pn_chars
+digit_chars c h = or-left ((is_pn_chars_u c || c == 45) || is_digit c) (is_mark_in_name c) (or-right (is_pn_chars_u c || c == 45) (is_digit c) h)
 
-pub word_chars : (c : ℕ) → is_word_char c ≡ true → is_chars c ≡ true
+pub word_chars : (c : ℕ) → is_word_char c ≡ true → is_pn_chars c ≡ true
 unfolding is_word_char is_digit
 word_chars c h =
     elim (or-cases (is_ascii_alphanumeric c) (c == 95) h) [
@@ -159,7 +159,7 @@ word_chars c h =
         ])
         | inr b ↦ base_chars c (letter_base c (or-right (is_in_range 65 90 c) (is_in_range 97 122 c) b))
       ])
-      | inr u ↦ subst (λ z. is_chars z ≡ true) (sym (eqb-true c 95 u)) low_chars
+      | inr u ↦ subst (λ z. is_pn_chars z ≡ true) (sym (eqb-true c 95 u)) low_chars
     ]
 
 -- ---- texts

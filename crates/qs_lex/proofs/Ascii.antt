@@ -4,7 +4,7 @@ use Rattle.std.proofs.lemmas.Bool.{lt-leb, leb-true}
 use Rattle.std.proofs.Math.Dec.{leb}
 use Rattle.std.proofs.Math.Bool.{or-false}
 use Rattle.std.specs.Int.{is_in_range}
-use Rattle.qs_regular.specs.Character.{is_iri_char, within, is_digit, is_base, is_u, is_chars, is_mark_in_name, is_letter}
+use Rattle.qs_lex_regular.specs.Character.{is_iri_char, within, is_digit, is_base, is_pn_chars_u, is_pn_chars, is_mark_in_name, is_letter}
 use Rattle.qs_lex.specs.Table.{is_word_char}
 use Rattle.qs_lex.proofs.Apart.{apart}
 
@@ -44,8 +44,8 @@ turned : (upper lower low dash digit : Bool) → ((((upper || lower) || low) || 
 turned upper lower low dash true = or_true (((upper || lower) || low) || dash)
 turned upper lower low dash false = or-false (((upper || lower) || low) || dash)
 
-pub ascii_chars : (c : ℕ) → c < 128 → is_chars c ≡ (is_word_char c || c == 45)
-unfolding is_chars is_u is_word_char is_letter is_digit
+pub ascii_chars : (c : ℕ) → c < 128 → is_pn_chars c ≡ (is_word_char c || c == 45)
+unfolding is_pn_chars is_pn_chars_u is_word_char is_letter is_digit
 ascii_chars c h =
     or_left _ _ _ (ap (λ b. ((b || c == 95) || c == 45) || is_digit c) (ascii_base c h)) (ascii_mark c h)
     ∙ turned (is_in_range 65 90 c) (is_in_range 97 122 c) (c == 95) (c == 45) (is_in_range 48 57 c)

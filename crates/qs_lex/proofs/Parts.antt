@@ -6,17 +6,17 @@ use Rattle.std.proofs.lemmas.Bool.{and_parts, not-true, or_cases, cases_Bool}
 use Rattle.std.proofs.lemmas.Bool.Decides.{nat_tests}
 use Rattle.std.proofs.lemmas.Str.{encode_ascii, encodes-append}
 use lib.Utf8.{scalar, scalars, encode, encodes}
-use Rattle.qs_escapes.specs.Decoded.{unescaped}
-use Rattle.qs_escapes.specs.Escape.{string_escape}
-use Rattle.qs_regular.specs.Character.{is_one_of, is_digit, is_hex, is_base, is_u, is_mark_in_name, is_chars, is_iri_char, is_iri_scalar, is_scalar}
-use Rattle.qs_regular.specs.Form as form
-use Rattle.qs_regular.specs.Form.{Form, Spells, Pieces, none, more, one, many, nothing, maybe, plus, char, literal, ◌⨾◌, ◌∣◌}
-use Rattle.qs_regular.specs.Longest.{Table, IsFirst}
+use Rattle.qs_lex_escapes.specs.Decoded.{unescaped}
+use Rattle.qs_lex_escapes.specs.Escape.{string_escape}
+use Rattle.qs_lex_regular.specs.Character.{is_one_of, is_digit, is_hex, is_base, is_pn_chars_u, is_mark_in_name, is_pn_chars, is_iri_char, is_iri_scalar, is_scalar}
+use Rattle.qs_lex_regular.specs.Form as form
+use Rattle.qs_lex_regular.specs.Form.{Form, Spells, Pieces, none, more, one, many, nothing, maybe, plus, char, literal, ◌⨾◌, ◌∣◌}
+use Rattle.qs_lex_regular.specs.Longest.{Table, IsFirst}
 use Rattle.qs_terms.specs.Iri.{is_excluded}
-use Rattle.qs_forms.proofs.Bytes.{within, other_than, bytes_pass, first_byte, none_any}
-use Rattle.qs_forms.proofs.Escapes.{Stands, any, pieces_stand, string_character, string_codepoint, echar_stands, escapes_stand, lawful_iri, this_char}
-use Rattle.qs_forms.proofs.Spelled.{Within, spelled_pass}
-use Rattle.qs_forms.proofs.Tags.{tag_form, lawful_tag}
+use Rattle.qs_lex_forms.proofs.Bytes.{within, other_than, bytes_pass, first_byte, none_any}
+use Rattle.qs_lex_forms.proofs.Escapes.{Stands, any, pieces_stand, string_character, string_codepoint, echar_stands, escapes_stand, lawful_iri, this_char}
+use Rattle.qs_lex_forms.proofs.Spelled.{Within, spelled_pass}
+use Rattle.qs_lex_forms.proofs.Tags.{tag_form, lawful_tag}
 use Rattle.qs_lex.specs.Parts.{IsIri, IsName, IsPrefix, IsBehind, IsVariable, IsLangTag, IsString, IsMadeOf, begins_with}
 use Rattle.qs_lex.specs.Table.{table, IsToken, is_escapable, name_escape, prefix, pname_ns, local_first, local_middle, local_last, short_string, long_string}
 use Rattle.qs_lex.specs.declared.token.Class.{Class}
@@ -31,10 +31,10 @@ abbrev local : Form
 local = local_first ⨾ maybe (many local_middle ⨾ local_last)
 
 abbrev label_rest : Form
-label_rest = one (λ c. is_u c || is_digit c) ⨾ maybe (many (one (λ c. is_chars c || c == 46)) ⨾ one is_chars)
+label_rest = one (λ c. is_pn_chars_u c || is_digit c) ⨾ maybe (many (one (λ c. is_pn_chars c || c == 46)) ⨾ one is_pn_chars)
 
 abbrev variable_rest : Form
-variable_rest = one (λ c. is_u c || is_digit c) ⨾ many (one (λ c. is_u c || is_digit c || is_mark_in_name c))
+variable_rest = one (λ c. is_pn_chars_u c || is_digit c) ⨾ many (one (λ c. is_pn_chars_u c || is_digit c || is_mark_in_name c))
 
 -- of the classes that have parts
 abbrev HasForm : Class → List ℕ → Type 0
@@ -118,17 +118,17 @@ is_local b = not (is_excluded b) || b == 92
 high_local : (b : ℕ) → 128 ≤ b → is_local b ≡ true
 high_local b h = grind (arith, nat_tests)
 
-first_local : (c : ℕ) → (is_u c || c == 58 || is_digit c) ≡ true → is_local c ≡ true
-unfolding is_u is_base is_digit
-first_local = within (λ c. is_u c || c == 58 || is_digit c) is_local refl high_local
+first_local : (c : ℕ) → (is_pn_chars_u c || c == 58 || is_digit c) ≡ true → is_local c ≡ true
+unfolding is_pn_chars_u is_base is_digit
+first_local = within (λ c. is_pn_chars_u c || c == 58 || is_digit c) is_local refl high_local
 
-middle_local : (c : ℕ) → (is_chars c || c == 46 || c == 58) ≡ true → is_local c ≡ true
-unfolding is_chars is_u is_base is_digit is_mark_in_name
-middle_local = within (λ c. is_chars c || c == 46 || c == 58) is_local refl high_local
+middle_local : (c : ℕ) → (is_pn_chars c || c == 46 || c == 58) ≡ true → is_local c ≡ true
+unfolding is_pn_chars is_pn_chars_u is_base is_digit is_mark_in_name
+middle_local = within (λ c. is_pn_chars c || c == 46 || c == 58) is_local refl high_local
 
-last_local : (c : ℕ) → (is_chars c || c == 58) ≡ true → is_local c ≡ true
-unfolding is_chars is_u is_base is_digit is_mark_in_name
-last_local = within (λ c. is_chars c || c == 58) is_local refl high_local
+last_local : (c : ℕ) → (is_pn_chars c || c == 58) ≡ true → is_local c ≡ true
+unfolding is_pn_chars is_pn_chars_u is_base is_digit is_mark_in_name
+last_local = within (λ c. is_pn_chars c || c == 58) is_local refl high_local
 
 hex_local : (c : ℕ) → is_hex c ≡ true → is_local c ≡ true
 unfolding is_hex
@@ -168,13 +168,13 @@ prefix_first : (c : ℕ) → is_base c ≡ true → not (c == 58) ≡ true
 unfolding is_base
 prefix_first = within is_base (λ c. not (c == 58)) refl (other_than 58 (omega arith))
 
-prefix_middle : (c : ℕ) → (is_chars c || c == 46) ≡ true → not (c == 58) ≡ true
-unfolding is_chars is_u is_base is_digit is_mark_in_name
-prefix_middle = within (λ c. is_chars c || c == 46) (λ c. not (c == 58)) refl (other_than 58 (omega arith))
+prefix_middle : (c : ℕ) → (is_pn_chars c || c == 46) ≡ true → not (c == 58) ≡ true
+unfolding is_pn_chars is_pn_chars_u is_base is_digit is_mark_in_name
+prefix_middle = within (λ c. is_pn_chars c || c == 46) (λ c. not (c == 58)) refl (other_than 58 (omega arith))
 
-prefix_last : (c : ℕ) → is_chars c ≡ true → not (c == 58) ≡ true
-unfolding is_chars is_u is_base is_digit is_mark_in_name
-prefix_last = within is_chars (λ c. not (c == 58)) refl (other_than 58 (omega arith))
+prefix_last : (c : ℕ) → is_pn_chars c ≡ true → not (c == 58) ≡ true
+unfolding is_pn_chars is_pn_chars_u is_base is_digit is_mark_in_name
+prefix_last = within is_pn_chars (λ c. not (c == 58)) refl (other_than 58 (omega arith))
 
 within_prefix : Within (λ c. not (c == 58)) (maybe prefix)
 within_prefix = ((prefix_first, ((prefix_middle, prefix_last), tt)), tt)
@@ -201,7 +201,7 @@ prefix_token : (x : List ℕ) → scalars x ≡ true → HasForm class.PnameNs x
 unfolding name_of
 prefix_token x ok s = record { name = name_of x x [] ok s (sym (append-nil x)) refl; empty = refl }
 
--- ---- behind marks
+-- ---- after marks
 
 behind_mark : (c : ℕ) (x rest : List ℕ) → c < 128 → scalars x ≡ true → x ≡ c ∷ rest → IsBehind (c ∷ []) (encodes x)
 behind_mark c x rest l ok e =
@@ -275,7 +275,7 @@ short_slash q c h = or_second (c == q) (c == 92) (is_one_of (10 ∷ 13 ∷ []) c
 long_slash : (q c : ℕ) → long_char q c ≡ true → (c == 92) ≡ false
 long_slash q c h = or_second (c == q) (c == 92) false h
 
--- two texts behind one another
+-- two texts after one another
 both_stand : (x y : List ℕ) → Stands string_escape any x → Stands string_escape any y → Stands string_escape any (x ++ y)
 both_stand x y a b = pieces_stand string_escape any (Stands string_escape any) (λ z s. s) (x ++ y) (subst (Pieces (Stands string_escape any)) (ap (λ z. x ++ z) (append-nil y)) (more x (y ++ []) a (more y [] b none)))
 

@@ -2,8 +2,8 @@
 use Rattle.std.proofs.Common.{◌≡◌, ◌≤◌, ◌<◌, ℕ, ◌+◌, ◌-◌, Bool, true, false, cond, List, [], ◌∷◌, ◌++◌, Option, Some, None, option_map, length, refl, sym, ap, ◌∙◌, arith, add_assoc, encode_utf8, encode_utf8_all, length-append, IsUtf8, chars}
 use Rattle.std.specs.Char.{len_utf8}
 use Rattle.std.proofs.lemmas.Str.{chars_past_char, length-encode, len_utf8_bounds, encodes-chars}
-use Rattle.qs_regular.specs.Longest.{Table, advance, here, longer, best}
-use Rattle.qs_regular.specs.inner.Scan.{later}
+use Rattle.qs_lex_regular.specs.Longest.{Table, advance, here, longer, best}
+use Rattle.qs_lex_regular.specs.inner.Scan.{later}
 use Rattle.qs_lex.specs.inner.Steady.{pass}
 use Rattle.qs_lex.proofs.TokenList.{nothing_left}
 
@@ -93,7 +93,7 @@ passed fs p text left u v le e stays =
     let rest : length (encode_utf8_all (pass p (chars text))) ≡ length left = ap (λ z. length (encode_utf8_all z)) (sym e) ∙ ap length (encodes-chars left v) in
     passed_adds fs p stays (chars text) (length text - length left) (omega (arith, whole, rest, le)) ∙ ap (λ z. later (best fs z) (length text - length left) None) (sym e)
 
--- a scan that has read m bytes goes on behind characters that leave the table as it is
+-- a scan that has read m bytes goes on after characters that leave the table as it is
 pub goes_on : {K : Type 0} (t : Option (K × ℕ)) (fs : Table K) (rest left : List ℕ) (m n : ℕ) (found : Option (K × ℕ)) → t ≡ later (best fs (chars rest)) m found
     → best fs (chars rest) ≡ later (best fs (chars left)) (length rest - length left) None → m + length rest ≡ n → length left ≤ length rest → t ≡ later (best fs (chars left)) (n - length left) found
 goes_on t fs rest left m n found e f sizes le =

@@ -1,4 +1,4 @@
--- The tokens of a text are slices of it, one behind another.
+-- The tokens of a text are slices of it, one after another.
 use Rattle.std.proofs.Common.{◌≡◌, ◌≤◌, ◌<◌, ℕ, ◌+◌, Bool, true, false, cond, not, ◌==◌, List, [], ◌∷◌, ◌++◌, length, take, drop, map, refl, sym, ap, ◌∙◌, subst, arith, encode_utf8_all, chars, IsUtf8, length-append, append_assoc, take_at, drop_at, All, AllPairs, get_or}
 use Rattle.std.proofs.lemmas.List.Elements.{All-cons, All-nil}
 use Rattle.std.proofs.lemmas.List.Kept.{AllPairs-cons}
@@ -26,7 +26,7 @@ gap false [] = ([], refl)
 gap true (c ∷ cs) = let r : Gap (not (is_line_end c)) cs = gap (not (is_line_end c)) cs in (c ∷ r.0, ap (λ z. c ∷ z) r.1)
 gap false (c ∷ cs) = gap_by c cs (is_blank c) (c == 35) (gap false cs) (gap true cs)
 
--- ---- tokens behind a place
+-- ---- tokens after a place
 
 pub record Placed (text : List ℕ) (at : ℕ) (ts : List Token) : Type 0 where
   pub behind : All (λ t. at ≤ t.place) ts

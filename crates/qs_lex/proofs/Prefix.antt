@@ -3,17 +3,17 @@ use Rattle.std.proofs.Common.{◌≡◌, ◌⊎◌, ◌≤◌, ◌<◌, ℕ, Boo
 use Rattle.std.specs.Char.{len_utf8}
 use Rattle.std.proofs.lemmas.Str.{length-encode, len_utf8_bounds, chars_past_char, encodes-chars, IsUtf8-past_char, chars-nil}
 use Rattle.std.proofs.lemmas.List.{nil_from_length}
-use Rattle.qs_regular.specs.Form.{one, many, ◌⨾◌, char, maybe}
-use Rattle.qs_regular.specs.Character.{is_chars, is_letter}
+use Rattle.qs_lex_regular.specs.Form.{one, many, ◌⨾◌, char, maybe}
+use Rattle.qs_lex_regular.specs.Character.{is_pn_chars, is_letter}
 use Rattle.qs_lex.specs.Table.{is_word_char, local_first, table, Left}
-use Rattle.qs_regular.specs.Longest.{advance, here, longer, best}
-use Rattle.qs_regular.specs.inner.Scan.{later}
+use Rattle.qs_lex_regular.specs.Longest.{advance, here, longer, best}
+use Rattle.qs_lex_regular.specs.inner.Scan.{later}
 use Rattle.qs_lex.specs.inner.NameState.{named, inner, local_rest}
 use Rattle.qs_lex.specs.inner.Prefix.{names, IsBarren, IsNoPrefix, plain}
 use Rattle.qs_lex.specs.declared.token.Class.{Class}
 use Rattle.qs_lex.specs.declared.token.Class.TheVariants as class
 use Rattle.qs_lex.proofs.Apart.{chars_colon, word_colon, word_chars}
-use Rattle.qs_regular.proofs.Scan.{best-dead}
+use Rattle.qs_lex_regular.proofs.Scan.{best-dead}
 use Rattle.qs_lex.proofs.Begin.{at_first, scan_first}
 use Rattle.qs_lex.proofs.Start.{begun_word}
 use Rattle.qs_lex.specs.inner.Start.{begun}
@@ -27,26 +27,26 @@ words_and_prefixes = (class.PnameNs, maybe inner ⨾ char 58) ∷ (class.PnameLn
 
 -- ---- one character on
 
-prefix_chars : (c : ℕ) → is_chars c ≡ true → advance (named (maybe inner)) c ≡ named (maybe inner)
+prefix_chars : (c : ℕ) → is_pn_chars c ≡ true → advance (named (maybe inner)) c ≡ named (maybe inner)
 prefix_chars c h = let d : (c == 58) ≡ false = chars_colon c h in simp (h, d)
 
-prefix_dot : (c : ℕ) → is_chars c ≡ false → (c == 46) ≡ true → (c == 58) ≡ false → advance (named (maybe inner)) c ≡ named inner
+prefix_dot : (c : ℕ) → is_pn_chars c ≡ false → (c == 46) ≡ true → (c == 58) ≡ false → advance (named (maybe inner)) c ≡ named inner
 prefix_dot c h d e = simp (h, d, e)
 
-prefix_dead : (c : ℕ) → is_chars c ≡ false → (c == 46) ≡ false → (c == 58) ≡ false → advance (named (maybe inner)) c ≡ []
+prefix_dead : (c : ℕ) → is_pn_chars c ≡ false → (c == 46) ≡ false → (c == 58) ≡ false → advance (named (maybe inner)) c ≡ []
 prefix_dead c h d e = simp (h, d, e)
 
-inner_chars : (c : ℕ) → is_chars c ≡ true → advance (named inner) c ≡ named (maybe inner)
+inner_chars : (c : ℕ) → is_pn_chars c ≡ true → advance (named inner) c ≡ named (maybe inner)
 inner_chars c h = simp h
 
-inner_dot : (c : ℕ) → is_chars c ≡ false → (c == 46) ≡ true → advance (named inner) c ≡ named inner
+inner_dot : (c : ℕ) → is_pn_chars c ≡ false → (c == 46) ≡ true → advance (named inner) c ≡ named inner
 inner_dot c h d = simp (h, d)
 
-inner_dead : (c : ℕ) → is_chars c ≡ false → (c == 46) ≡ false → advance (named inner) c ≡ []
+inner_dead : (c : ℕ) → is_pn_chars c ≡ false → (c == 46) ≡ false → advance (named inner) c ≡ []
 inner_dead c h d = simp (h, d)
 
 word_word : (c : ℕ) → is_word_char c ≡ true → advance words_and_prefixes c ≡ words_and_prefixes
-word_word c h = let g : is_chars c ≡ true = word_chars c h in let d : (c == 58) ≡ false = word_colon c h in simp (h, g, d)
+word_word c h = let g : is_pn_chars c ≡ true = word_chars c h in let d : (c == 58) ≡ false = word_colon c h in simp (h, g, d)
 
 word_prefix : (c : ℕ) → is_word_char c ≡ false → advance words_and_prefixes c ≡ advance (named (maybe inner)) c
 word_prefix c h = simp h
@@ -73,7 +73,7 @@ not-both : (b : Bool) → (b && true) ≡ false → b ≡ false
 not-both true h = h
 not-both false h = refl
 
-prefix_none-by : (last : Bool) (c : ℕ) (cs : List ℕ) (a b : Bool) → is_chars c ≡ a → (c == 46) ≡ b → names last (c ∷ cs) ≡ false
+prefix_none-by : (last : Bool) (c : ℕ) (cs : List ℕ) (a b : Bool) → is_pn_chars c ≡ a → (c == 46) ≡ b → names last (c ∷ cs) ≡ false
     → ((l : Bool) → names l cs ≡ false → best (prefixes l) cs ≡ None) → best (prefixes last) (c ∷ cs) ≡ None
 unfolding prefixes
 prefix_none-by true c cs true b ha hb h rec =
@@ -98,7 +98,7 @@ prefix_none : (last : Bool) (cs : List ℕ) → names last cs ≡ false → best
 unfolding prefixes
 prefix_none true [] h = refl
 prefix_none false [] h = refl
-prefix_none last (c ∷ cs) h = prefix_none-by last c cs (is_chars c) (c == 46) refl refl h (λ l k. prefix_none l cs k)
+prefix_none last (c ∷ cs) h = prefix_none-by last c cs (is_pn_chars c) (c == 46) refl refl h (λ l k. prefix_none l cs k)
 
 none_behind : (c : ℕ) (o : Option (Class × ℕ)) → longer c o None ≡ None → o ≡ None
 none_behind c None e = refl
@@ -108,7 +108,7 @@ word_same-by : (c : ℕ) (cs : List ℕ) (a : Bool) → is_word_char c ≡ a →
     → (names true cs ≡ false → best words_and_prefixes cs ≡ best words cs) → best words_and_prefixes (c ∷ cs) ≡ best words (c ∷ cs)
 unfolding prefixes
 word_same-by c cs true ha h rec =
-    let g : is_chars c ≡ true = word_chars c ha in
+    let g : is_pn_chars c ≡ true = word_chars c ha in
     let on : names true cs ≡ false = rw g at h in
     best-step words_and_prefixes words_and_prefixes c cs (word_word c ha) ∙ (ap (λ z. longer c z (Some class.Word)) (rec on) ∙ sym (best-step words words c cs (only_word c ha)))
 word_same-by c cs false ha h rec =
@@ -142,7 +142,7 @@ same_place (x ∷ done) [] d c cs v e l m =
     absurd (omega (arith, bytes_suffix done (d ∷ cs), bytes_more c v, k))
 same_place (x ∷ done) (y ∷ u) d c cs v e l m = let t : done ++ d ∷ cs ≡ u ++ c ∷ v = cc in same_place done u d c cs v t l m
 
--- behind each letter so far a prefix goes on as it does here
+-- after each letter so far a prefix goes on as it does here
 abbrev pub SameBehind : List ℕ → ℕ → Bool → Type 0
 SameBehind cs left answer = (u v : List ℕ) (c : ℕ) → cs ≡ u ++ c ∷ v → left < length (encode_utf8_all (c ∷ v)) → is_letter c ≡ true → names true v ≡ answer
 
@@ -177,7 +177,7 @@ pub same_step : (cs done rest : List ℕ) (d : ℕ) (left : ℕ) (last next : Bo
 same_step cs done rest d left last next f n s e k u v c t l h =
     same_step-by cs done rest d left last next f n s e k u v c t l h (lt_or_le left (length (encode_utf8_all (c ∷ v))))
 
--- what is barren stays so behind a front
+-- what is barren stays so after a front
 pub barren_behind : (cs x more : List ℕ) (left : ℕ) → cs ≡ x ++ more → IsBarren cs left → IsBarren more left
 barren_behind cs x more left e b u v c t l h = b (x ++ u) v c (e ∙ (ap (λ z. x ++ z) t ∙ sym (append_assoc x u (c ∷ v)))) l h
 

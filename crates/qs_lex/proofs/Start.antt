@@ -2,8 +2,8 @@
 use Rattle.std.proofs.Common.{◌≡◌, ◌≢◌, ◌⊎◌, ℕ, Bool, true, false, ◌==◌, [], ◌∷◌, refl, sym, ◌∙◌, inl, inr, true≢false, ne_eqb, ◌<◌, ◌≤◌, arith}
 use Rattle.std.proofs.lemmas.Bool.Decides.{nat_tests}
 use Rattle.std.specs.Int.{is_in_range}
-use Rattle.qs_regular.specs.Form.{◌⨾◌, ◌∣◌, char}
-use Rattle.qs_regular.specs.Character.{is_base, is_digit, is_letter}
+use Rattle.qs_lex_regular.specs.Form.{◌⨾◌, ◌∣◌, char}
+use Rattle.qs_lex_regular.specs.Character.{is_base, is_digit, is_letter}
 use Rattle.qs_lex.specs.Table.{is_sign}
 use Rattle.qs_lex.specs.inner.State.{left}
 use Rattle.qs_lex.specs.inner.StringState.{short_body, long_body}

@@ -1,8 +1,8 @@
 -- Characters that leave what has been read of a token as it is.
 use Rattle.std.proofs.Common.{◌≡◌, ℕ, Bool, true, false, not, ◌==◌, ◌||◌, [], ◌∷◌, refl, sym, ap, ◌∙◌, true≢false}
 use Rattle.std.proofs.Math.Bool.{or-false}
-use Rattle.qs_regular.specs.Longest.{advance}
-use Rattle.qs_regular.specs.Character.{is_one_of, is_u, is_digit, is_chars, is_mark_in_name, is_iri_char}
+use Rattle.qs_lex_regular.specs.Longest.{advance}
+use Rattle.qs_lex_regular.specs.Character.{is_one_of, is_pn_chars_u, is_digit, is_pn_chars, is_mark_in_name, is_iri_char}
 use Rattle.qs_lex.specs.Table.{is_word_char}
 use Rattle.qs_lex.specs.inner.NameState.{left_of_name}
 use Rattle.qs_lex.specs.inner.IriState.{left_of_iri}
@@ -17,11 +17,11 @@ pub plain : (c : ℕ) → is_word_char c ≡ true → advance (left_of_name name
 plain c h = simp h
 
 pub word : (c : ℕ) → is_word_char c ≡ true → advance (left_of_name name.Word) c ≡ left_of_name name.Word
-word c h = let g : is_chars c ≡ true = word_chars c h in let d : (c == 58) ≡ false = word_colon c h in simp (h, g, d)
+word c h = let g : is_pn_chars c ≡ true = word_chars c h in let d : (c == 58) ≡ false = word_colon c h in simp (h, g, d)
 
 pub local : (c : ℕ) → is_word_char c ≡ true → advance (left_of_name name.Local) c ≡ left_of_name name.Local
 local c h =
-    let g : is_chars c ≡ true = word_chars c h in
+    let g : is_pn_chars c ≡ true = word_chars c h in
     let d : (c == 58) ≡ false = word_colon c h in
     let p : (c == 37) ≡ false = chars_percent c g in
     let b : (c == 92) ≡ false = chars_backslash c g in
@@ -31,14 +31,14 @@ word_dash : (c : ℕ) → is_word_char c ≡ true → (c == 45) ≡ false
 unfolding is_word_char
 word_dash c h = apart is_word_char c 45 h refl
 
-in_variable : (c : ℕ) → is_word_char c ≡ true → (is_u c || is_digit c || is_mark_in_name c) ≡ true
-unfolding is_chars
+in_variable : (c : ℕ) → is_word_char c ≡ true → (is_pn_chars_u c || is_digit c || is_mark_in_name c) ≡ true
+unfolding is_pn_chars
 in_variable c h =
     let d : (c == 45) ≡ false = word_dash c h in
-    ap (λ b. (b || is_digit c) || is_mark_in_name c) (sym (ap (λ b. is_u c || b) d ∙ or-false (is_u c))) ∙ word_chars c h
+    ap (λ b. (b || is_digit c) || is_mark_in_name c) (sym (ap (λ b. is_pn_chars_u c || b) d ∙ or-false (is_pn_chars_u c))) ∙ word_chars c h
 
 pub variable : (c : ℕ) → is_word_char c ≡ true → advance (left_of_name name.Variable) c ≡ left_of_name name.Variable
-variable c h = let g : (is_u c || is_digit c || is_mark_in_name c) ≡ true = in_variable c h in simp g
+variable c h = let g : (is_pn_chars_u c || is_digit c || is_mark_in_name c) ≡ true = in_variable c h in simp g
 
 pub body : (c : ℕ) → is_iri_char c ≡ true → advance (left_of_iri iri.Body) c ≡ left_of_iri iri.Body
 body c h =

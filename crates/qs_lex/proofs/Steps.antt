@@ -1,7 +1,7 @@
 -- What one step of a lexer does.
 use Rattle.std.proofs.Common.{◌≡◌, ◌≤◌, ◌<◌, ℕ, ◌-◌, false, List, [], ◌∷◌, ◌++◌, None, length, sym, ◌∙◌, subst, encode_utf8_all, chars, IsUtf8}
-use Rattle.qs_regular.specs.Longest.{best}
-use Rattle.qs_regular.proofs.Longest.{best-none}
+use Rattle.qs_lex_regular.specs.Longest.{best}
+use Rattle.qs_lex_regular.proofs.Longest.{best-none}
 use Rattle.qs_lex.specs.Lexes.{Lexeme, IsLongest, IsPlace, StopsAt, skip}
 use Rattle.qs_lex.specs.Table.{table}
 use Rattle.qs_lex.specs.Unread.{Unread, HasRead, HasComeTo}
@@ -25,7 +25,7 @@ read_all old text rest front ts v h f z =
     let nothing : skip false (chars rest) ≡ [] = sym f ∙ nothing_left front z in
     (h, (chars old.rest, h, subst (λ (u : Unread). skip false (chars u.rest) ≡ []) v nothing))
 
--- no token begins behind the gap
+-- no token begins after the gap
 pub read_stops : (old : Unread) (text rest front : List ℕ) (ts : List Lexeme) → unread text rest ≡ old → HasRead ts old → chars front ≡ skip false (chars rest) → IsUtf8 front
     → 0 < length front → length front ≤ length text → best table (chars front) ≡ None → StopsAt old.bytes (length text - length front)
 read_stops old text rest front ts v h f u some le none =

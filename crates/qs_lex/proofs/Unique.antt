@@ -5,7 +5,7 @@ use Rattle.qs_lex.specs.Fault.{HasToken}
 use Rattle.qs_lex.specs.Table.{table, IsToken}
 use Rattle.qs_lex.specs.Lexes.{Lexeme, Lexes, StopsAt, Reads, HasNoToken, skip}
 use Rattle.qs_lex.specs.declared.token.Class.{Class}
-use Rattle.qs_regular.proofs.Longest.{one_class, here-none}
+use Rattle.qs_lex_regular.proofs.Longest.{one_class, here-none}
 
 pub empty_token : (k : Class) → IsToken k [] → ⊥
 empty_token k h = here-none table k refl h

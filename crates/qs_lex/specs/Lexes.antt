@@ -42,7 +42,7 @@ HasNoToken cs = (k : Class) (u v : List ℕ) → cs ≡ u ++ v → IsToken k u �
 abbrev pub IsPlace : ℕ → List ℕ → ℕ → Type 0
 IsPlace n cs place = place + length (encode_utf8_all cs) ≡ n
 
--- Of a text of n bytes the characters cs are left; they begin with these tokens, and behind them with rest.
+-- Of a text of n bytes the characters cs are left; they begin with these tokens, and after them with rest.
 abbrev pub Reads : ℕ → List ℕ → List Lexeme → List ℕ → Type 0
 Reads n cs [] rest = cs ≡ rest
 Reads n cs (t ∷ ts) rest =
@@ -53,7 +53,7 @@ Reads n cs (t ∷ ts) rest =
 abbrev pub Lexes : List ℕ → List Lexeme → Type 0
 Lexes text ts = (rest : List ℕ) × Reads (length text) (chars text) ts rest × (skip false rest ≡ [])
 
--- behind some tokens no token begins, at this place
+-- after some tokens no token begins, at this place
 abbrev pub StopsAt : List ℕ → ℕ → Type 0
 StopsAt text place =
     (ts : List Lexeme) × (rest : List ℕ) × Reads (length text) (chars text) ts rest × (0 < length (skip false rest)) × HasNoToken (skip false rest) × IsPlace (length text) (skip false rest) place

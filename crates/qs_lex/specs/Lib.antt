@@ -1,7 +1,7 @@
-pub use Rattle.qs_regular.specs.Character
-pub use Rattle.qs_regular.specs.Form
-pub use Rattle.qs_regular.specs.Derivative
-pub use Rattle.qs_regular.specs.Longest
+pub use Rattle.qs_lex_regular.specs.Character
+pub use Rattle.qs_lex_regular.specs.Form
+pub use Rattle.qs_lex_regular.specs.Derivative
+pub use Rattle.qs_lex_regular.specs.Longest
 pub mod Table
 pub mod Lexes
 pub mod Place

@@ -2,9 +2,9 @@
 use Rattle.std.specs.Prelude.{◌≡◌, ◌⊎◌, ℕ, Bool, false, ◌==◌, List, [], ◌∷◌, ◌++◌, length, IsTrue}
 use Rattle.std.specs.List.{list_any}
 use Rattle.std.specs.Str.{IsUtf8}
-use Rattle.qs_escapes.specs.Decoded.{decoded, unescaped}
-use Rattle.qs_escapes.specs.Escape.{uchar, string_escape}
-use Rattle.qs_forms.specs.Backslashes.{escapes_begin}
+use Rattle.qs_lex_escapes.specs.Decoded.{decoded, unescaped}
+use Rattle.qs_lex_escapes.specs.Escape.{uchar, string_escape}
+use Rattle.qs_lex_forms.specs.Backslashes.{escapes_begin}
 use Rattle.qs_terms.specs.Iri.{is_excluded}
 use Rattle.qs_terms.specs.Tag.{is_tag}
 use Rattle.qs_lex.specs.Lexes.{Lexeme}
@@ -41,7 +41,7 @@ pub record IsPrefix (token : List ℕ) : Type 0 where
   pub name : IsName token
   pub empty : name.local ≡ []
 
--- behind a mark
+-- after a mark
 pub record IsBehind (mark token : List ℕ) : Type 0 where
   pub rest : List ℕ
   pub text : token ≡ mark ++ rest

@@ -1,9 +1,9 @@
 -- The token table: each class of tokens as a form over characters (SPARQL 1.1 Query, 19.8).
 use Rattle.std.specs.Prelude.{ℕ, Bool, not, ◌||◌, ◌==◌, List, [], ◌∷◌, codes}
 use Rattle.std.specs.Char.{is_ascii_alphanumeric}
-use Rattle.qs_regular.specs.Character.{is_one_of, is_digit, is_letter, is_letter_or_digit, is_hex, is_base, is_u, is_mark_in_name, is_chars, is_iri_char, is_scalar, is_iri_scalar}
-use Rattle.qs_regular.specs.Form.{Form, one, many, ◌⨾◌, ◌∣◌, maybe, plus, char, literal, echar, uchar}
-use Rattle.qs_regular.specs.Longest.{Table, IsFirst}
+use Rattle.qs_lex_regular.specs.Character.{is_one_of, is_digit, is_letter, is_letter_or_digit, is_hex, is_base, is_pn_chars_u, is_mark_in_name, is_pn_chars, is_iri_char, is_scalar, is_iri_scalar}
+use Rattle.qs_lex_regular.specs.Form.{Form, one, many, ◌⨾◌, ◌∣◌, maybe, plus, char, literal, echar, uchar}
+use Rattle.qs_lex_regular.specs.Longest.{Table, IsFirst}
 use Rattle.qs_lex.specs.declared.token.Class.{Class}
 use Rattle.qs_lex.specs.declared.token.Class.TheVariants as class
 
@@ -29,7 +29,7 @@ is_escapable = is_one_of (codes "_~.-!$&'()*+,;=/?#@%")
 
 -- BASE, then optionally (CHARS or `.`)* CHARS (PN_PREFIX, [168])
 abbrev pub prefix : Form
-prefix = one is_base ⨾ maybe (many (one (λ c. is_chars c || c == 46)) ⨾ one is_chars)
+prefix = one is_base ⨾ maybe (many (one (λ c. is_pn_chars c || c == 46)) ⨾ one is_pn_chars)
 
 -- PNAME_NS ([140]): optionally a prefix, then `:`
 abbrev pub pname_ns : Form
@@ -41,15 +41,15 @@ name_escape = literal "%" ⨾ one is_hex ⨾ one is_hex ∣ char 92 ⨾ one is_e
 
 -- L: U, `:`, a digit or X
 abbrev pub local_first : Form
-local_first = one (λ c. is_u c || c == 58 || is_digit c) ∣ name_escape
+local_first = one (λ c. is_pn_chars_u c || c == 58 || is_digit c) ∣ name_escape
 
 -- M: CHARS, `.`, `:` or X
 abbrev pub local_middle : Form
-local_middle = one (λ c. is_chars c || c == 46 || c == 58) ∣ name_escape
+local_middle = one (λ c. is_pn_chars c || c == 46 || c == 58) ∣ name_escape
 
 -- N: CHARS, `:` or X
 abbrev pub local_last : Form
-local_last = one (λ c. is_chars c || c == 58) ∣ name_escape
+local_last = one (λ c. is_pn_chars c || c == 58) ∣ name_escape
 
 -- ---- parts of numbers
 
@@ -72,7 +72,7 @@ exponent = one is_exponent ⨾ maybe sign ⨾ plus digit
 abbrev pub short_string : ℕ → Form
 short_string q = char q ⨾ many (echar ∣ uchar is_scalar ∣ one (λ c. not (is_one_of (q ∷ 92 ∷ 10 ∷ 13 ∷ []) c))) ⨾ char q
 
--- ([158], [159]): three marks, any number of ECHAR, UCHAR or characters other than the mark and `\`, each behind at most two
+-- ([158], [159]): three marks, any number of ECHAR, UCHAR or characters other than the mark and `\`, each after at most two
 -- marks, three marks
 abbrev pub long_string : ℕ → Form
 long_string q =
@@ -91,9 +91,9 @@ table =
     -- PNAME_LN ([141]): PNAME_NS, then L, then optionally M* N
     ∷ (class.PnameLn, pname_ns ⨾ local_first ⨾ maybe (many local_middle ⨾ local_last))
     -- BLANK ([142]): `_:`, U or a digit, then optionally (CHARS or `.`)* CHARS
-    ∷ (class.BlankLabel, literal "_:" ⨾ one (λ c. is_u c || is_digit c) ⨾ maybe (many (one (λ c. is_chars c || c == 46)) ⨾ one is_chars))
+    ∷ (class.BlankLabel, literal "_:" ⨾ one (λ c. is_pn_chars_u c || is_digit c) ⨾ maybe (many (one (λ c. is_pn_chars c || c == 46)) ⨾ one is_pn_chars))
     -- VAR ([143], [144], [166]): `?` or `$`, then U or a digit, then any number of U, digits and marks of names
-    ∷ (class.Var, one (is_one_of (codes "?$")) ⨾ one (λ c. is_u c || is_digit c) ⨾ many (one (λ c. is_u c || is_digit c || is_mark_in_name c)))
+    ∷ (class.Var, one (is_one_of (codes "?$")) ⨾ one (λ c. is_pn_chars_u c || is_digit c) ⨾ many (one (λ c. is_pn_chars_u c || is_digit c || is_mark_in_name c)))
     -- INTEGER ([146]): digits
     ∷ (class.Integer, plus digit)
     -- SIGNED ([149], [152]): a sign directly before digits
@@ -120,6 +120,6 @@ table =
 abbrev pub IsToken : Class → List ℕ → Type 0
 IsToken k x = IsFirst table k x
 
--- what is left of the table behind some characters
+-- what is left of the table after some characters
 abbrev pub Left : Type 0
 Left = Table Class

@@ -9,7 +9,7 @@ pub record Unread : Type 0 where
   pub bytes : List ℕ
   pub rest : List ℕ
 
--- a lexer has handed out these tokens of its text, and has come behind the last of them
+-- a lexer has handed out these tokens of its text, and has come after the last of them
 abbrev pub HasRead : List Lexeme → Unread → Type 0
 HasRead ts u = Reads (length u.bytes) (chars u.bytes) ts (chars u.rest)
 

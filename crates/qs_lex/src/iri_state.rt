@@ -1,16 +1,16 @@
 //! IRIs, `<` and `<=`, a character at a time.
 
 ghost use Rattle.std.specs.Prelude.{◌≡◌, MatchOption, [], ◌<◌, ◌≤◌, ◌^◌, ◌-◌, ◌+◌, ◌*◌, IsTrue};
-ghost use Rattle.qs_regular.specs.Longest.{advance, here};
-ghost use Rattle.qs_regular.specs.Character.{is_hex, hex_value, is_iri_scalar};
+ghost use Rattle.qs_lex_regular.specs.Longest.{advance, here};
+ghost use Rattle.qs_lex_regular.specs.Character.{is_hex, hex_value, is_iri_scalar};
 ghost use Rattle.qs_lex.specs.inner.IriState.{left_of_iri};
 ghost use Rattle.qs_lex.specs.declared.iri_state.IriState.TheVariants.{Body};
 
 use crate::letter::is_iri_char;
 use crate::token::Class;
-use qs_regular::character::is_iri_scalar;
-use qs_regular::hex_digits::HexDigits;
-use qs_regular::push::{Pushed, push};
+use qs_lex_regular::character::is_iri_scalar;
+use qs_lex_regular::hex_digits::HexDigits;
+use qs_lex_regular::push::{Pushed, push};
 
 /// What has been read of an IRI, or of a mark that begins with `<`.
 #[derive(Clone, Copy)]

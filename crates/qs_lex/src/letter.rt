@@ -1,10 +1,10 @@
 //! Classes of characters: those of SPARQL alone, and those of names and IRIs with ASCII or letters first, which most are.
 
 ghost use Rattle.std.specs.Prelude.{◌≡◌};
-ghost use Rattle.qs_regular.specs.Character.{is_base, is_chars, is_iri_char, is_u};
+ghost use Rattle.qs_lex_regular.specs.Character.{is_base, is_pn_chars, is_iri_char, is_pn_chars_u};
 ghost use Rattle.qs_lex.specs.Table.{is_escapable, is_exponent, is_sign, is_word_char};
 
-use qs_regular::character;
+use qs_lex_regular::character;
 
 /// `e` or `E`.
 #[tactic(auto, unfolding(crate::specs::Table::is_exponent))]
@@ -72,22 +72,22 @@ pub fn is_base(c: char) -> bool
 }
 
 /// The same, or `_`.
-#[tactic(auto, unfolding(qs_regular::specs::Character::is_u))]
-pub fn is_u(c: char) -> bool
-    ensures { result ≡ is_u c }
+#[tactic(auto, unfolding(qs_lex_regular::specs::Character::is_pn_chars_u))]
+pub fn is_pn_chars_u(c: char) -> bool
+    ensures { result ≡ is_pn_chars_u c }
 {
     is_base(c) || c == '_'
 }
 
 /// What a name may hold.
 #[tactic(auto, using(crate::proofs::Ascii::ascii_chars))]
-pub fn is_chars(c: char) -> bool
-    ensures { result ≡ is_chars c }
+pub fn is_pn_chars(c: char) -> bool
+    ensures { result ≡ is_pn_chars c }
 {
     if (c as u32) < 0x80 {
         is_word_char(c) || c == '-'
     } else {
-        character::is_chars(c)
+        character::is_pn_chars(c)
     }
 }
 

@@ -47,11 +47,11 @@ impl<'a> Lexer<'a> {
         }
     }
 
-    /// The next token, which is the longest that the table has behind white space and comments, or `None` behind the last one.
-    /// Behind an error the lexer stands where it stood.
+    /// The next token, which is the longest that the table has after white space and comments, or `None` after the last one.
+    /// After an error the lexer stands where it stood.
     ///
     /// # Errors
-    /// The first byte place, behind white space and comments, at which no token begins.
+    /// The first byte place, after white space and comments, at which no token begins.
     pub fn next(&mut self) -> Result<Option<Token<'a>>, usize>
         ensures bytes { self.new.bytes ≡ self.old.bytes }
         ensures next { IfOk result (λ next. (ts : List Lexeme) → HasRead ts self.old → HasComeTo ts next self.new) }

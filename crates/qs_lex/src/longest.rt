@@ -2,9 +2,9 @@
 
 ghost use Rattle.std.specs.Prelude.{◌≡◌, ◌⊎◌, ◌≤◌, ◌-◌, length, MatchOption, [], true};
 ghost use Rattle.std.specs.Str.{chars};
-ghost use Rattle.qs_regular.specs.Longest.{best, here};
-ghost use Rattle.qs_regular.specs.inner.Scan.{hold, later};
-ghost use Rattle.qs_regular.specs.Character.{is_letter};
+ghost use Rattle.qs_lex_regular.specs.Longest.{best, here};
+ghost use Rattle.qs_lex_regular.specs.inner.Scan.{hold, later};
+ghost use Rattle.qs_lex_regular.specs.Character.{is_letter};
 ghost use Rattle.qs_lex.specs.Table.{table};
 ghost use Rattle.qs_lex.specs.inner.State.{left};
 ghost use Rattle.qs_lex.specs.inner.Start.{begun};
@@ -13,7 +13,7 @@ ghost use Rattle.qs_lex.specs.inner.Prefix.{IsNoPrefix, plain};
 use crate::name_state::NameState;
 use crate::state::State;
 use crate::token::Class;
-use qs_regular::character::is_letter;
+use qs_lex_regular::character::is_letter;
 
 fn kept(found: Option<(Class, usize)>, state: State, len: usize) -> Option<(Class, usize)>
     ensures { result ≡ hold (here (left state)) len found }
@@ -24,7 +24,7 @@ fn kept(found: Option<(Class, usize)>, state: State, len: usize) -> Option<(Clas
     }
 }
 
-/// The state behind the first character of a token, where a letter begins a prefix or not.
+/// The state after the first character of a token, where a letter begins a prefix or not.
 fn begin(c: char, no_prefix: bool) -> Option<State>
     ensures { MatchOption result (begun c ≡ []) (λ next. (begun c ≡ left next) ⊎ ((no_prefix ≡ true) × (is_letter c ≡ true) × (left next ≡ plain))) }
 {
@@ -34,7 +34,7 @@ fn begin(c: char, no_prefix: bool) -> Option<State>
     State::start(c)
 }
 
-/// The text behind the characters at its front that leave the state as it is.
+/// The text after the characters at its front that leave the state as it is.
 fn past(state: State, text: &str) -> &str
     ensures len { length result.now ≤ length text.now }
     ensures found { best (left state) (chars text.now) ≡ later (best (left state) (chars result.now)) (length text.now - length result.now) None }

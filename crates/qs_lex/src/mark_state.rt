@@ -1,7 +1,7 @@
 //! Marks of one or two characters, a character at a time.
 
 ghost use Rattle.std.specs.Prelude.{◌≡◌, MatchOption, []};
-ghost use Rattle.qs_regular.specs.Longest.{advance, here};
+ghost use Rattle.qs_lex_regular.specs.Longest.{advance, here};
 ghost use Rattle.qs_lex.specs.inner.MarkState.{left_of_mark};
 
 use crate::token::Class;
@@ -13,7 +13,7 @@ pub enum MarkState {
     Bar,
     /// `^`
     Caret,
-    /// `!` or `>`, behind which a `=` may stand
+    /// `!` or `>`, after which a `=` may stand
     Equal,
     /// `&`
     Ampersand,

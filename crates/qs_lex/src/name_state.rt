@@ -1,12 +1,12 @@
 //! Names, words, blank node labels, variables and language tags, a character at a time.
 
 ghost use Rattle.std.specs.Prelude.{◌≡◌, MatchOption, []};
-ghost use Rattle.qs_regular.specs.Longest.{advance, here};
+ghost use Rattle.qs_lex_regular.specs.Longest.{advance, here};
 ghost use Rattle.qs_lex.specs.inner.NameState.{left_of_name};
 
-use crate::letter::{is_chars, is_escapable, is_u, is_word_char};
+use crate::letter::{is_pn_chars, is_escapable, is_pn_chars_u, is_word_char};
 use crate::token::Class;
-use qs_regular::character::{is_digit, is_hex, is_letter, is_letter_or_digit, is_mark_in_name};
+use qs_lex_regular::character::{is_digit, is_hex, is_letter, is_letter_or_digit, is_mark_in_name};
 
 /// What has been read of a name.
 #[derive(Clone, Copy, PartialEq, Eq, Debug)]
@@ -57,7 +57,7 @@ pub enum NameState {
     Tag,
     /// a language tag and `-`
     TagDash,
-    /// letters and digits behind a `-`
+    /// letters and digits after a `-`
     TagPart,
 }
 
@@ -94,7 +94,7 @@ impl NameState {
             NameState::Word => {
                 if is_word_char(c) {
                     Some(NameState::Word)
-                } else if is_chars(c) {
+                } else if is_pn_chars(c) {
                     Some(NameState::Prefix)
                 } else if c == '.' {
                     Some(NameState::PrefixDot)
@@ -105,7 +105,7 @@ impl NameState {
                 }
             }
             NameState::Prefix => {
-                if is_chars(c) {
+                if is_pn_chars(c) {
                     Some(NameState::Prefix)
                 } else if c == '.' {
                     Some(NameState::PrefixDot)
@@ -116,7 +116,7 @@ impl NameState {
                 }
             }
             NameState::PrefixDot => {
-                if is_chars(c) {
+                if is_pn_chars(c) {
                     Some(NameState::Prefix)
                 } else if c == '.' {
                     Some(NameState::PrefixDot)
@@ -125,7 +125,7 @@ impl NameState {
                 }
             }
             NameState::Colon => {
-                if is_u(c) || c == ':' || is_digit(c) {
+                if is_pn_chars_u(c) || c == ':' || is_digit(c) {
                     Some(NameState::Local)
                 } else if c == '%' {
                     Some(NameState::FirstPercent)
@@ -157,7 +157,7 @@ impl NameState {
                 }
             }
             NameState::Local => {
-                if is_chars(c) || c == ':' {
+                if is_pn_chars(c) || c == ':' {
                     Some(NameState::Local)
                 } else if c == '.' {
                     Some(NameState::LocalDot)
@@ -170,7 +170,7 @@ impl NameState {
                 }
             }
             NameState::LocalDot => {
-                if is_chars(c) || c == ':' {
+                if is_pn_chars(c) || c == ':' {
                     Some(NameState::Local)
                 } else if c == '.' {
                     Some(NameState::LocalDot)
@@ -211,14 +211,14 @@ impl NameState {
                 }
             }
             NameState::UnderscoreColon => {
-                if is_u(c) || is_digit(c) {
+                if is_pn_chars_u(c) || is_digit(c) {
                     Some(NameState::Blank)
                 } else {
                     None
                 }
             }
             NameState::Blank => {
-                if is_chars(c) {
+                if is_pn_chars(c) {
                     Some(NameState::Blank)
                 } else if c == '.' {
                     Some(NameState::BlankDot)
@@ -227,7 +227,7 @@ impl NameState {
                 }
             }
             NameState::BlankDot => {
-                if is_chars(c) {
+                if is_pn_chars(c) {
                     Some(NameState::Blank)
                 } else if c == '.' {
                     Some(NameState::BlankDot)
@@ -236,21 +236,21 @@ impl NameState {
                 }
             }
             NameState::Question => {
-                if is_u(c) || is_digit(c) {
+                if is_pn_chars_u(c) || is_digit(c) {
                     Some(NameState::Variable)
                 } else {
                     None
                 }
             }
             NameState::Dollar => {
-                if is_u(c) || is_digit(c) {
+                if is_pn_chars_u(c) || is_digit(c) {
                     Some(NameState::Variable)
                 } else {
                     None
                 }
             }
             NameState::Variable => {
-                if is_u(c) || is_digit(c) || is_mark_in_name(c) {
+                if is_pn_chars_u(c) || is_digit(c) || is_mark_in_name(c) {
                     Some(NameState::Variable)
                 } else {
                     None

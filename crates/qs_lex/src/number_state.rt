@@ -1,12 +1,12 @@
 //! Numbers, a character at a time.
 
 ghost use Rattle.std.specs.Prelude.{◌≡◌, MatchOption, []};
-ghost use Rattle.qs_regular.specs.Longest.{advance, here};
+ghost use Rattle.qs_lex_regular.specs.Longest.{advance, here};
 ghost use Rattle.qs_lex.specs.inner.NumberState.{left_of_number};
 
 use crate::letter::{is_exponent, is_sign};
 use crate::token::Class;
-use qs_regular::character::is_digit;
+use qs_lex_regular::character::is_digit;
 
 /// What has been read of a number.
 #[derive(Clone, Copy, PartialEq, Eq, Debug)]
@@ -23,13 +23,13 @@ pub enum NumberState {
     SignedPoint,
     /// digits and `.`
     WholePoint,
-    /// digits behind a `.`
+    /// digits after a `.`
     Fraction,
     /// `e`
     Exponent,
     /// `e` and a sign
     ExponentSign,
-    /// digits behind an `e`
+    /// digits after an `e`
     Power,
 }
 

@@ -3,11 +3,11 @@
 ghost use Rattle.std.specs.Prelude.{◌≡◌, MatchOption, List, ℕ, ◌∷◌, ◌&&◌, ◌==◌, true};
 ghost use Rattle.std.specs.Str.{chars};
 ghost use Rattle.qs_lex.specs.inner.Prefix.{IsBarren, IsNoPrefix, names};
-ghost use Rattle.qs_regular.specs.Character.{is_letter};
+ghost use Rattle.qs_lex_regular.specs.Character.{is_letter};
 
-use crate::letter::is_chars;
+use crate::letter::is_pn_chars;
 
-/// How many bytes are left behind a run, and whether no prefix within it goes on to a colon.
+/// How many bytes are left after a run, and whether no prefix within it goes on to a colon.
 #[derive(Clone, Copy)]
 pub struct Run {
     pub left: usize,
@@ -19,7 +19,7 @@ pub struct Run {
 fn goes_on(last: bool, c: char) -> Option<bool>
     ensures { MatchOption result ((cs : List ℕ) → names last (c ∷ cs) ≡ (c == 58 && last)) (λ next. ((cs : List ℕ) → names last (c ∷ cs) ≡ names next cs) × (is_letter c ≡ true → next ≡ true)) }
 {
-    if is_chars(c) {
+    if is_pn_chars(c) {
         Some(true)
     } else if c == '.' {
         Some(false)

@@ -1,8 +1,8 @@
 //! The state of the scanner within a token.
 
 ghost use Rattle.std.specs.Prelude.{◌≡◌, IfSome, MatchOption, ℕ, [], false, true};
-ghost use Rattle.qs_regular.specs.Longest.{advance, here};
-ghost use Rattle.qs_regular.specs.Character.{is_base, is_digit, is_letter};
+ghost use Rattle.qs_lex_regular.specs.Longest.{advance, here};
+ghost use Rattle.qs_lex_regular.specs.Character.{is_base, is_digit, is_letter};
 ghost use Rattle.qs_lex.specs.inner.Start.{begun};
 ghost use Rattle.qs_lex.specs.inner.State.{left};
 ghost use Rattle.qs_lex.specs.inner.Steady.{is_steady};
@@ -16,7 +16,7 @@ use crate::quote::Quote;
 use crate::steady::Steady;
 use crate::string_state::StringState;
 use crate::token::Class;
-use qs_regular::character::{is_digit, is_letter};
+use qs_lex_regular::character::{is_digit, is_letter};
 
 /// What has been read of a token.
 #[derive(Clone, Copy)]

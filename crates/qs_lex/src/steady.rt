@@ -2,7 +2,7 @@
 
 ghost use Rattle.std.specs.Prelude.{◌≡◌, ◌≤◌, length};
 ghost use Rattle.std.specs.Str.{chars};
-ghost use Rattle.qs_regular.specs.Character.{is_one_of};
+ghost use Rattle.qs_lex_regular.specs.Character.{is_one_of};
 ghost use Rattle.qs_lex.specs.inner.Steady.{is_steady, pass};
 
 use crate::letter::{is_iri_char, is_word_char};
@@ -32,7 +32,7 @@ impl Steady {
         }
     }
 
-    /// The text behind the steady characters at its front; the test is known where this is put in line.
+    /// The text after the steady characters at its front; the test is known where this is put in line.
     #[inline(always)]
     fn pass(self, text: &str) -> &str
         ensures chars { chars result.now ≡ pass (is_steady self) (chars text.now) }
@@ -49,7 +49,7 @@ impl Steady {
         left
     }
 
-    /// The text behind the steady characters at its front, with a loop for each test.
+    /// The text after the steady characters at its front, with a loop for each test.
     pub fn behind(self, text: &str) -> &str
         ensures chars { chars result.now ≡ pass (is_steady self) (chars text.now) }
         ensures len { length result.now ≤ length text.now }

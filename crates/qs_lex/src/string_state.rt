@@ -1,14 +1,14 @@
 //! Strings, a character at a time.
 
 ghost use Rattle.std.specs.Prelude.{◌≡◌, MatchOption, []};
-ghost use Rattle.qs_regular.specs.Longest.{advance, here};
+ghost use Rattle.qs_lex_regular.specs.Longest.{advance, here};
 ghost use Rattle.qs_lex.specs.inner.StringState.{left_of_string};
 
 use crate::quote::Quote;
 use crate::token::Class;
-use qs_regular::character::{is_escaped, is_scalar};
-use qs_regular::hex_digits::HexDigits;
-use qs_regular::push::{Pushed, push};
+use qs_lex_regular::character::{is_escaped, is_scalar};
+use qs_lex_regular::hex_digits::HexDigits;
+use qs_lex_regular::push::{Pushed, push};
 
 /// What has been read of a string.
 #[derive(Clone, Copy)]

@@ -10,10 +10,10 @@ use crate::token::Token;
 use qs_terms::QFault;
 use std::alloc::Global;
 
-/// The tokens of a text: at each place, behind white space and comments, the longest token that the table has.
+/// The tokens of a text: at each place, after white space and comments, the longest token that the table has.
 ///
 /// # Errors
-/// `QFault::Syntax` with the first byte place, behind white space and comments, at which no token begins. `QFault::Memory`
+/// `QFault::Syntax` with the first byte place, after white space and comments, at which no token begins. `QFault::Memory`
 /// where a growth was refused, which is asked for only once a token was read.
 pub fn tokens(alloc: Global, text: &str) -> Result<Vec<Token<'_>>, QFault>
     ensures reading { MatchResult result (λ v. Lexes text.now (map lexeme v.items)) (λ fault. IsFaultOf text.now fault) }

@@ -1,6 +1,6 @@
 -- Classes of characters that have no character in common.
 use Rattle.std.proofs.Common.{◌≡◌, ℕ, Bool, true, false, ◌==◌, refl, sym, ap, ◌∙◌, eqb-true, true≢false}
-use Rattle.qs_regular.specs.Character.{is_digit, is_base, is_u, is_chars, is_mark_in_name, is_letter, is_letter_or_digit, is_iri_char, is_escaped}
+use Rattle.qs_lex_regular.specs.Character.{is_digit, is_base, is_pn_chars_u, is_pn_chars, is_mark_in_name, is_letter, is_letter_or_digit, is_iri_char, is_escaped}
 use Rattle.qs_nquads.specs.Table.{is_string_char, is_label_char}
 
 -- a class with c in it and x not in it tells them apart
@@ -67,5 +67,5 @@ letter_or_digit_dash c h = apart is_letter_or_digit c 45 h refl
 -- ---- labels
 
 pub label_dot : (c : ℕ) → is_label_char c ≡ true → (c == 46) ≡ false
-unfolding is_label_char is_chars is_u is_base is_digit is_mark_in_name
+unfolding is_label_char is_pn_chars is_pn_chars_u is_base is_digit is_mark_in_name
 label_dot c h = apart is_label_char c 46 h refl

@@ -3,11 +3,11 @@ use Rattle.std.proofs.Common.{◌≡◌, ℕ, suc, ◌<◌, ◌≤◌, true, fal
 use Rattle.std.proofs.lemmas.Bool.{and_parts, cases_lt, cases_eq, ne_eqb}
 use Rattle.std.proofs.lemmas.Str.{encode_ascii, inside_one, encodes-append}
 use lib.Utf8.{scalar, scalars, encode, encodes, low_scalar}
-use Rattle.qs_escapes.specs.Escape.{string_escape}
-use Rattle.qs_escapes.specs.Decoded.{decoded_behind, decoded}
+use Rattle.qs_lex_escapes.specs.Escape.{string_escape}
+use Rattle.qs_lex_escapes.specs.Decoded.{decoded_behind, decoded}
 use Rattle.qs_nquads.specs.Written.{escaped_byte, escaped}
 
--- what holds of the four escapes, and of a byte that stands for itself
+-- what holds of the four escapes, and of a byte that denotes itself
 pub escape_cases : (P : ℕ → List ℕ → Type 0) → P 34 (92 ∷ 34 ∷ []) → P 92 (92 ∷ 92 ∷ []) → P 10 (92 ∷ 110 ∷ []) → P 13 (92 ∷ 114 ∷ [])
     → ((c : ℕ) → (c == 34) ≡ false → (c == 92) ≡ false → (c == 10) ≡ false → (c == 13) ≡ false → P c (c ∷ [])) → (c : ℕ) → P c (escaped_byte c)
 escape_cases P quote slash lf cr plain c =

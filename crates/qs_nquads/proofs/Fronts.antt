@@ -3,9 +3,9 @@ use Rattle.std.proofs.Common.{◌≡◌, ◌<◌, ℕ, Bool, true, false, ◌&&�
 use Rattle.std.specs.Str.{all_scalars}
 use Rattle.std.proofs.lemmas.Str.{encodes-append, encodes-chars, scalars-chars, length-le-encodes, IsCharBoundary-at_seam}
 use Rattle.qs_nquads.specs.Table.{table}
-use Rattle.qs_regular.specs.Longest.{IsFirst, best, LongestFront}
+use Rattle.qs_lex_regular.specs.Longest.{IsFirst, best, LongestFront}
 use Rattle.qs_nquads.specs.declared.class.Class.{Class}
-use Rattle.qs_regular.proofs.Longest.{best-some, here-none}
+use Rattle.qs_lex_regular.proofs.Longest.{best-some, here-none}
 
 and-right : (a b : Bool) → (a && b) ≡ true → b ≡ true
 and-right true b h = h
@@ -15,7 +15,7 @@ pub scalars_back : (x y : List ℕ) → all_scalars (x ++ y) ≡ true → all_sc
 scalars_back [] y h = h
 scalars_back (c ∷ x) y h = scalars_back x y (and-right _ (all_scalars (x ++ y)) h)
 
--- a text may be cut behind its longest front, which isn't empty
+-- a text may be cut after its longest front, which isn't empty
 pub record Front (bs : List ℕ) (n : ℕ) : Type 0 where
   pub boundary : IsCharBoundary bs n
   pub some : 0 < n

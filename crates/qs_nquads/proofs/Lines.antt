@@ -20,7 +20,7 @@ joined_step (c ∷ cs) (suc i) d h =
     let n : suc i + 1 ≡ suc (i + 1) = omega arith in
     ap (λ k. joined (take k (c ∷ cs))) n ∙ (ap (λ z. c ++ z) (joined_step cs i d (omega arith)) ∙ sym (append_assoc c (joined (take i cs)) (get_or cs i d)))
 
--- the text is what stands before a line, the line, and what stands behind it
+-- the text is what stands before a line, the line, and what stands after it
 pub joined_split : (ls : List (List ℕ)) (i : ℕ) (d : List ℕ) → i < length ls → (rest : List ℕ) × (joined ls ≡ joined (take i ls) ++ (get_or ls i d ++ rest))
 joined_split [] i d h = absurd (omega arith)
 joined_split (c ∷ cs) zero d h = (joined cs, refl)

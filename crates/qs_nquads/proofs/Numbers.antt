@@ -16,6 +16,6 @@ looked_up bytes label (e ∷ es) = rw (looked_up bytes label es) refl
 pub seen_last : {K : Type 0} (bytes : K → List ℕ) (es : List (K × ℕ)) (k : K) (v : ℕ) → seen bytes (es ++ (k, v) ∷ []) ≡ seen bytes es ++ (bytes k, v) ∷ []
 seen_last bytes es k v = map-append (λ e. (bytes e.0, e.1)) es ((k, v) ∷ [])
 
--- what holds of the numbers, and of one more, holds behind it
+-- what holds of the numbers, and of one more, holds after it
 pub values_last : (P : ℕ → Type 0) (es : List (List ℕ × ℕ)) (label : List ℕ) (v : ℕ) → All P (values_of es) → P v → All P (values_of (es ++ (label, v) ∷ []))
 values_last P es label v h p = subst (All P) (sym (map-append (λ e. e.1) es ((label, v) ∷ []))) (All-push P (values_of es) v h p)

@@ -17,7 +17,7 @@ IsUnused n = All (λ k. k < n.next) (values_of n.numbers)
 pub unused_at_first : (first : ℕ) → IsUnused (from first)
 unused_at_first first = All-nil (λ k. k < first)
 
--- a number was given, and the numbering behind it
+-- a number was given, and the numbering after it
 pub record Gives (n : Numbering) (given : ℕ × Numbering) : Type 0 where
   pub grows : n.next ≤ given.1.next
   pub unused : IsUnused given.1

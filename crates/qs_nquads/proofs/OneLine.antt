@@ -17,14 +17,14 @@ use Rattle.qs_nquads.specs.Gap.{behind_gap}
 use Rattle.qs_nquads.specs.Labels.{Numbering, number}
 use Rattle.qs_nquads.specs.Part.{takes_label}
 use Rattle.qs_terms.specs.Literal.{xsd_string}
-use Rattle.qs_nquads.specs.Place.{term_of, statement, goes_on, with_literal, after}
+use Rattle.qs_nquads.specs.StatementState.{term_of, statement, goes_on, with_literal, after}
 use Rattle.qs_nquads.specs.Reading.{Reading, State, goes, step, read, taken, placed, Comes, here, on}
 use Rattle.qs_nquads.specs.declared.node.Node.{Node}
 use Rattle.qs_nquads.specs.declared.node.Node.TheVariants as node
 use Rattle.qs_nquads.specs.declared.part.Part.{Part}
 use Rattle.qs_nquads.specs.declared.part.Part.TheVariants as part
-use Rattle.qs_nquads.specs.declared.place.Place.{Place}
-use Rattle.qs_nquads.specs.declared.place.Place.TheVariants as place
+use Rattle.qs_nquads.specs.declared.statement_state.StatementState.{StatementState}
+use Rattle.qs_nquads.specs.declared.statement_state.StatementState.TheVariants as place
 use Rattle.qs_nquads.specs.Next as next
 use Rattle.qs_nquads.proofs.Steps as steps
 use Rattle.qs_nquads.specs.Written.{label, iri_text, quoted, suffix, term_text, behind_space, with_graph, line}
@@ -32,7 +32,7 @@ use Rattle.qs_nquads.specs.Renumbered.{blanks_in, blanks_of, before, renumbered_
 use Rattle.qs_nquads.proofs.WrittenTokens.{Says, token_utf8, longest_of, no_gap, one_space, ascii_text, iri_says, string_says, carets_say, dot_says, end_says, tag_says, label_says, label_utf8, not-false}
 use Rattle.qs_nquads.proofs.Renumbering.{same, Agrees, Numbered, numbered, keeps, is_there, once_longer}
 
-abbrev pub at : Place → Numbering → List Statement → List ℕ → State
+abbrev pub at : StatementState → Numbering → List Statement → List ℕ → State
 at p n qs rest = record { reading = record { place = p; labels = n; quads = qs }; rest = rest }
 
 pub joined : (s t u : State) → Comes s t → Comes t u → Comes s u
@@ -50,7 +50,7 @@ left_behind x y = drop-append-le (length x) x y (omega arith) ∙ ap (λ z. z ++
 
 -- ---- one token
 
-module _ (p : Place) (n m : Numbering) (qs : List Statement) (token rest : List ℕ) (t : Part) (says : Says p n token rest t m) (u : IsUtf8 rest)
+module _ (p : StatementState) (n m : Numbering) (qs : List Statement) (token rest : List ℕ) (t : Part) (says : Says p n token rest t m) (u : IsUtf8 rest)
     (r : Reading) (e : placed qs m (after p t) ≡ Ok r) where
   whole_read : read (record { place = p; labels = n; quads = qs }) says.kind token ≡ Ok r
   whole_read = ap (λ z. taken p qs z) says.said ∙ e
@@ -146,12 +146,12 @@ module _ (first : ℕ) (all : List ℕ) (suffice : first + length (once same all
       let k : before b (once same all) ≡ before b (once same (xs ++ b ∷ [])) = ap (λ z. before b (once same z)) e ∙ keeps b more (xs ++ b ∷ []) (is_there b xs) in
       (r.behind, r.given ∙ ap (λ z. Ok (first + z, r.behind)) (sym k), r.agrees)
 
-  record NodeSays (p : Place) (n : Numbering) (xs : List ℕ) (t : Term) (rest : List ℕ) : Type 0 where
+  record NodeSays (p : StatementState) (n : Numbering) (xs : List ℕ) (t : Term) (rest : List ℕ) : Type 0 where
     behind : Numbering
     says : Says p n (term_text t) (32 ∷ rest) (part_for given t) behind
     agrees : Agrees first (xs ++ blanks_in t) behind
 
-  node_says : (p : Place) (n : Numbering) (xs more : List ℕ) (t : Term) (rest : List ℕ) → IsTerm t → is_node t ≡ true → takes_label p ≡ true → all ≡ (xs ++ blanks_in t) ++ more → Agrees first xs n → NodeSays p n xs t rest
+  node_says : (p : StatementState) (n : Numbering) (xs more : List ℕ) (t : Term) (rest : List ℕ) → IsTerm t → is_node t ≡ true → takes_label p ≡ true → all ≡ (xs ++ blanks_in t) ++ more → Agrees first xs n → NodeSays p n xs t rest
   unfolding part_for
   node_says p n xs more (term.Iri i) rest h s l e a =
       record { behind = n; says = iri_says p n i (32 ∷ rest) h.0 h.1; agrees = subst (λ z. Agrees first z n) (sym (append-nil xs)) a }
@@ -174,8 +174,8 @@ module _ (first : ℕ) (all : List ℕ) (suffice : first + length (once same all
   as_subject (term.Blank b) h = refl
   as_subject (term.Literal l) h = absurd (true≢false (sym h))
 
-  -- a place behind an object, before or behind what a string may have
-  record Behind (s : Node) (p : List ℕ) (o : Term) (here : Place) : Type 0 where
+  -- a place after an object, before or after what a string may have
+  record Behind (s : Node) (p : List ℕ) (o : Term) (here : StatementState) : Type 0 where
     takes : takes_label here ≡ true
     name : (t : Part) (g : Node) → after (place.Object s p o) t ≡ goes_on (place.Label s p o g) → after here t ≡ goes_on (place.Label s p o g)
     dot : after here part.Dot ≡ Ok (next.Quad (statement s p o None))
@@ -196,18 +196,18 @@ module _ (first : ℕ) (all : List ℕ) (suffice : first + length (once same all
   behind_form : (s : Node) (p form : List ℕ) → Behind s p (term.Literal (typed form xsd_string)) (place.Form s p form)
   behind_form s p form = record { takes = refl; name = plain_form s p form; dot = refl }
 
-  -- reading comes from a place before some text to a place behind an object, before the rest
+  -- reading comes from a place before some text to a place after an object, before the rest
   record Object (n : Numbering) (qs : List Statement) (s : Node) (p : List ℕ) (o : Term) (xs : List ℕ) (text rest : List ℕ) (t : Term) : Type 0 where
-    reached : Place
+    reached : StatementState
     numbers : Numbering
     comes : Comes (at (place.Predicate s p) n qs text) (at reached numbers qs rest)
     behind : Behind s p o reached
     agrees : Agrees first (xs ++ blanks_in t) numbers
 
-  -- behind a string: its suffix
+  -- after a string: its suffix
   Suffixed : (n : Numbering) (qs : List Statement) (s : Node) (p form d : List ℕ) (tag : Option (List ℕ)) (text rest : List ℕ) → Type 0
   Suffixed n qs s p form d tag text rest =
-      (pl : Place) × Comes (at (place.Form s p form) n qs text) (at pl n qs rest) × Behind s p (term.Literal (record { form = form; datatype = d; tag = tag })) pl
+      (pl : StatementState) × Comes (at (place.Form s p form) n qs text) (at pl n qs rest) × Behind s p (term.Literal (record { form = form; datatype = d; tag = tag })) pl
 
   tagged_suffix : (n : Numbering) (qs : List Statement) (s : Node) (p form d t : List ℕ) (tail : List ℕ) → fits_tag d (Some t) ≡ true → IsUtf8 (32 ∷ tail)
       → Suffixed n qs s p form d (Some t) ((64 ∷ t) ++ 32 ∷ tail) (32 ∷ tail)
@@ -296,7 +296,7 @@ module _ (first : ℕ) (all : List ℕ) (suffice : first + length (once same all
   as_label s p o (term.Literal l) h = absurd (true≢false (sym h))
 
   record Head (n : Numbering) (qs : List Statement) (xs : List ℕ) (s : Term) (i : List ℕ) (o : Term) (tail : List ℕ) : Type 0 where
-    reached : Place
+    reached : StatementState
     numbers : Numbering
     comes : Comes (at place.Start n qs (term_text s ++ behind_space (term.Iri i) (behind_space o (32 ∷ tail)))) (at reached numbers qs (32 ∷ tail))
     behind : Behind (node_of given s) i (renumbered_term given o) reached
@@ -332,8 +332,8 @@ module _ (first : ℕ) (all : List ℕ) (suffice : first + length (once same all
     pub comes : Comes (at place.Start n qs (line_then q rest)) (at place.Start numbers (qs ++ renumbered given q ∷ []) rest)
     pub agrees : Agrees first (xs ++ blanks_of q) numbers
 
-  -- ` .` and LF, behind which the statement is read
-  closing : (p : Place) (n : Numbering) (qs : List Statement) (rest : List ℕ) (q : Statement) → after p part.Dot ≡ Ok (next.Quad q) → IsUtf8 rest
+  -- ` .` and LF, after which the statement is read
+  closing : (p : StatementState) (n : Numbering) (qs : List Statement) (rest : List ℕ) (q : Statement) → after p part.Dot ≡ Ok (next.Quad q) → IsUtf8 rest
       → Comes (at p n qs (32 ∷ 46 ∷ 10 ∷ rest)) (at place.Start n (qs ++ q ∷ []) rest)
   closing p n qs rest q e u =
       let ends : IsUtf8 (10 ∷ rest) = ascii_text 10 (omega arith) rest u in
@@ -368,7 +368,7 @@ module _ (first : ℕ) (all : List ℕ) (suffice : first + length (once same all
       (e ∙ (first_more xs (blanks_in s) (blanks_in o) (blanks_in g) more ∙ ap (λ z. (xs ++ blanks_in s) ++ z) (append_assoc (blanks_in o) (blanks_in g) more))) a in
       let name : NodeSays head.reached head.numbers ((xs ++ blanks_in s) ++ blanks_in o) g (46 ∷ 10 ∷ rest) =
       node_says head.reached head.numbers ((xs ++ blanks_in s) ++ blanks_in o) more g (46 ∷ 10 ∷ rest) hg ng head.behind.takes (e ∙ third_more xs (blanks_in s) (blanks_in o) (blanks_in g) more) head.agrees in
-      let label_place : Place = place.Label (node_of given s) i (renumbered_term given o) (node_of given g) in
+      let label_place : StatementState = place.Label (node_of given s) i (renumbered_term given o) (node_of given g) in
       let at_name : Comes (at head.reached head.numbers qs (32 ∷ tail)) (at label_place name.behind qs (32 ∷ 46 ∷ 10 ∷ rest)) =
       behind_one_space head.reached head.numbers name.behind qs (term_text g) (32 ∷ 46 ∷ 10 ∷ rest) (part_for given g) name.says dot
       (record { place = label_place; labels = name.behind; quads = qs })

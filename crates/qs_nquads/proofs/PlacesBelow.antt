@@ -6,13 +6,13 @@ use Rattle.qs_terms.specs.Literal.{Literal, xsd_string, typed, checked_typed, ch
 use Rattle.qs_terms.specs.declared.fault.TermFault.{TermFault}
 use Rattle.qs_terms.specs.declared.term.Term.{Term}
 use Rattle.qs_terms.specs.declared.term.Term.TheVariants as term
-use Rattle.qs_nquads.specs.Place.{term_of, with_literal, at_start, at_subject, at_predicate, at_object, at_form, at_typed, at_label, at_done, after}
+use Rattle.qs_nquads.specs.StatementState.{term_of, with_literal, at_start, at_subject, at_predicate, at_object, at_form, at_typed, at_label, at_done, after}
 use Rattle.qs_nquads.specs.declared.fault.NqFaultKind.{NqFaultKind}
 use Rattle.qs_nquads.specs.declared.node.Node.{Node}
 use Rattle.qs_nquads.specs.declared.part.Part.{Part}
 use Rattle.qs_nquads.specs.declared.part.Part.TheVariants as part
-use Rattle.qs_nquads.specs.declared.place.Place.{Place}
-use Rattle.qs_nquads.specs.declared.place.Place.TheVariants as place
+use Rattle.qs_nquads.specs.declared.statement_state.StatementState.{StatementState}
+use Rattle.qs_nquads.specs.declared.statement_state.StatementState.TheVariants as place
 use Rattle.qs_nquads.specs.Next.{Next}
 use Rattle.qs_nquads.specs.Next as next
 use Rattle.qs_nquads.proofs.Larger.{larger_than_term}
@@ -23,7 +23,7 @@ is_node_below n s = is_term_below n (term_of s)
 abbrev are_ends_below : ℕ → Node → Term → Bool
 are_ends_below n s o = is_node_below n s && is_term_below n o
 
-abbrev pub is_place_below : ℕ → Place → Bool
+abbrev pub is_place_below : ℕ → StatementState → Bool
 is_place_below n place.Start = true
 is_place_below n (place.Subject s) = is_node_below n s
 is_place_below n (place.Predicate s p) = is_node_below n s
@@ -43,7 +43,7 @@ is_part_below n part.Dot = true
 is_part_below n part.LineEnd = true
 
 abbrev is_next_below : ℕ → Next → Bool
-is_next_below n (next.Place p) = is_place_below n p
+is_next_below n (next.StatementState p) = is_place_below n p
 is_next_below n (next.Quad q) = is_statement_below n q
 
 -- a fault has no blank nodes
@@ -62,7 +62,7 @@ module _ (m n : ℕ) (le : m ≤ n) where
       let parts = and_parts (is_node_below m s) (is_term_below m o) h in
       and_from _ _ (larger_than_node s parts.0) (larger_than_term m n le o parts.1)
 
-  pub larger_than_place : (p : Place) → is_place_below m p ≡ true → is_place_below n p ≡ true
+  pub larger_than_place : (p : StatementState) → is_place_below m p ≡ true → is_place_below n p ≡ true
   larger_than_place place.Start h = refl
   larger_than_place (place.Subject s) h = larger_than_node s h
   larger_than_place (place.Predicate s p) h = larger_than_node s h
@@ -122,7 +122,7 @@ module _ (n : ℕ) where
   below_done part.LineEnd = refl
   below_done t = refl
 
-  pub below_after : (p : Place) (t : Part) → is_place_below n p ≡ true → is_part_below n t ≡ true → is_outcome_below n (after p t) ≡ true
+  pub below_after : (p : StatementState) (t : Part) → is_place_below n p ≡ true → is_part_below n t ≡ true → is_outcome_below n (after p t) ≡ true
   below_after place.Start t h b = below_start t b
   below_after (place.Subject s) t h b = below_subject s h t
   below_after (place.Predicate s p) t h b = below_predicate s h p t b

@@ -3,16 +3,16 @@ use Rattle.std.proofs.Common.{◌≡◌, ◌≢◌, ◌⊎◌, inl, inr, ℕ, Li
 use Rattle.qs_terms.specs.Literal.{Literal, xsd_string, typed}
 use Rattle.qs_terms.specs.Statement.{Statement}
 use Rattle.qs_terms.specs.declared.term.Term.TheVariants as term
-use Rattle.qs_nquads.specs.Place.{at_form, at_object}
+use Rattle.qs_nquads.specs.StatementState.{at_form, at_object}
 use Rattle.qs_nquads.specs.Unread.{GoesOn}
 use Rattle.qs_nquads.specs.declared.fault.NqFaultKind.{NqFaultKind}
 use Rattle.qs_nquads.specs.declared.fault.NqFaultKind.TheVariants.{Memory}
 use Rattle.qs_nquads.specs.declared.node.Node.{Node}
 use Rattle.qs_nquads.specs.declared.part.Part.{Part}
 use Rattle.qs_nquads.specs.declared.part.Part.TheVariants as part
-use Rattle.qs_nquads.specs.declared.place.Place.{Place}
+use Rattle.qs_nquads.specs.declared.statement_state.StatementState.{StatementState}
 
--- a part that goes on behind an object
+-- a part that goes on after an object
 abbrev pub IsBehind : Part → Type 0
 IsBehind t = ((i : List ℕ) × (t ≡ part.Iri i)) ⊎ (((n : ℕ) × (t ≡ part.Blank n)) ⊎ (t ≡ part.Dot))
 
@@ -33,7 +33,7 @@ module _ (s : Node) (p form : List ℕ) where
   as_object t (inr (inl (n, e))) = subst (λ x. at_object s p (term.Literal (typed form xsd_string)) x ≡ at_form s p form x) (sym e) refl
   as_object t (inr (inr e)) = subst (λ x. at_object s p (term.Literal (typed form xsd_string)) x ≡ at_form s p form x) (sym e) refl
 
-  pub goes_on_as_object : (t : Part) (l : Literal) → IsBehind t → made (typed form xsd_string) ≡ made l → (r : Result (Option Statement) NqFaultKind) (new : Place)
+  pub goes_on_as_object : (t : Part) (l : Literal) → IsBehind t → made (typed form xsd_string) ≡ made l → (r : Result (Option Statement) NqFaultKind) (new : StatementState)
       → MatchResult r (λ next. GoesOn (at_object s p (term.Literal l) t) next new) (λ fault. at_object s p (term.Literal l) t ≡ Err fault)
       → MatchResult r (λ next. GoesOn (at_form s p form t) next new) (λ fault. fault ≢ Memory → at_form s p form t ≡ Err fault)
   goes_on_as_object t l b e (Ok next) new h = subst (λ o. GoesOn o next new) (ap (λ x. at_object s p (term.Literal x) t) (sym (same_literal _ _ e)) ∙ as_object t b) h

@@ -1,19 +1,19 @@
 -- One front more.
 use Rattle.std.proofs.Common.{◌≡◌, List, ℕ, Result, Ok, Err, sym, ap, ◌∙◌, subst}
 use Rattle.qs_terms.specs.Statement.{Statement}
-use Rattle.qs_terms.specs.OrWantOf.{BecomesOrWantOf}
+use Rattle.qs_terms.specs.OrOutOf.{BecomesOrOutOfMemory}
 use Rattle.qs_nquads.specs.Labels.{Numbering}
 use Rattle.qs_nquads.specs.Part.{part_of}
-use Rattle.qs_nquads.specs.Place.{after}
+use Rattle.qs_nquads.specs.StatementState.{after}
 use Rattle.qs_nquads.specs.Reading.{Reading, placed, taken, read}
 use Rattle.qs_nquads.specs.declared.class.Class.{Class}
 use Rattle.qs_nquads.specs.declared.fault.NqFaultKind.{NqFaultKind}
 use Rattle.qs_nquads.specs.declared.fault.NqFaultKind.TheVariants.{Memory}
 use Rattle.qs_nquads.specs.declared.part.Part.{Part}
-use Rattle.qs_nquads.specs.declared.place.Place.{Place}
+use Rattle.qs_nquads.specs.declared.statement_state.StatementState.{StatementState}
 use Rattle.qs_nquads.specs.Next.{Next}
 
-module _ (p old : Place) (before labels : Numbering) (quads : List Statement) (k : Class) (t : List ℕ) (part : Part)
+module _ (p old : StatementState) (before labels : Numbering) (quads : List Statement) (k : Class) (t : List ℕ) (part : Part)
     (h : part_of p before k t ≡ Ok (part, labels)) (e : old ≡ p) where
   abbrev reading : Reading
   reading = record { place = p; labels = before; quads = quads }
@@ -21,8 +21,8 @@ module _ (p old : Place) (before labels : Numbering) (quads : List Statement) (k
   with_part : read reading k t ≡ placed quads labels (after old part)
   with_part = ap (λ z. taken p quads z) h ∙ ap (λ z. placed quads labels (after z part)) (sym e)
 
-  pub reads : (next : Next) (result : Result (Unit {0}) NqFaultKind) (new : Reading) → after old part ≡ Ok next → BecomesOrWantOf Memory (placed quads labels (Ok next)) result new → BecomesOrWantOf Memory (read reading k t) result new
-  reads next result new a b = subst (λ z. BecomesOrWantOf Memory z result new) (sym (with_part ∙ ap (λ z. placed quads labels z) a)) b
+  pub reads : (next : Next) (result : Result (Unit {0}) NqFaultKind) (new : Reading) → after old part ≡ Ok next → BecomesOrOutOfMemory Memory (placed quads labels (Ok next)) result new → BecomesOrOutOfMemory Memory (read reading k t) result new
+  reads next result new a b = subst (λ z. BecomesOrOutOfMemory Memory z result new) (sym (with_part ∙ ap (λ z. placed quads labels z) a)) b
 
   pub misplaced : (f : NqFaultKind) → after old part ≡ Err f → read reading k t ≡ Err f
   misplaced f a = with_part ∙ ap (λ z. placed quads labels z) a

@@ -2,14 +2,14 @@
 use Rattle.std.proofs.Common.{◌≡◌, ◌≤◌, ℕ, Bool, true, false, List, [], ◌∷◌, Option, Some, None, Result, Ok, Err, IfOk, take, drop, refl, subst, arith, le_refl, lt-ltb, chars}
 use Rattle.std.specs.Prelude.{⊤}
 use Rattle.std.proofs.lemmas.Bool.{cond_both}
-use Rattle.qs_regular.specs.Longest.{best}
+use Rattle.qs_lex_regular.specs.Longest.{best}
 use Rattle.qs_terms.specs.Dataset.{is_above_blanks}
 use Rattle.qs_terms.specs.Statement.{Statement}
 use Rattle.qs_terms.specs.declared.fault.TermFault.{TermFault}
 use Rattle.qs_nquads.specs.Gap.{behind_gap}
 use Rattle.qs_nquads.specs.Labels.{Numbering, number}
 use Rattle.qs_nquads.specs.Part.{part_of, iri_part, blank_part, label_part, takes_label, behind}
-use Rattle.qs_nquads.specs.Place.{after, may_end}
+use Rattle.qs_nquads.specs.StatementState.{after, may_end}
 use Rattle.qs_nquads.specs.Reading.{Reading, State, Step, at_first, start, goes, ends, stops, step_from, step_over, stepped, read, taken, placed, Comes, here, on}
 use Rattle.qs_nquads.specs.Nquads.{IsNquads}
 use Rattle.qs_nquads.specs.Table.{table}
@@ -19,7 +19,7 @@ use Rattle.qs_nquads.specs.declared.fault.NqFaultKind.{NqFaultKind}
 use Rattle.qs_nquads.specs.declared.fault.NqFaultKind.TheVariants as fault
 use Rattle.qs_nquads.specs.declared.part.Part.{Part}
 use Rattle.qs_nquads.specs.declared.part.Part.TheVariants as part
-use Rattle.qs_nquads.specs.declared.place.Place.{Place}
+use Rattle.qs_nquads.specs.declared.statement_state.StatementState.{StatementState}
 use Rattle.qs_nquads.specs.Next.{Next}
 use Rattle.qs_nquads.specs.Next as next
 use Rattle.qs_nquads.proofs.Larger.{larger_than_quads, above_one_more}
@@ -28,7 +28,7 @@ use Rattle.qs_nquads.proofs.PlacesBelow.{is_place_below, is_part_below, is_outco
 
 -- ---- one part
 
--- a part was made, and the numbering behind it
+-- a part was made, and the numbering after it
 record Makes (n : Numbering) (made : Part × Numbering) : Type 0 where
   grows : n.next ≤ made.1.next
   unused : IsUnused made.1
@@ -50,7 +50,7 @@ makes_label : (n : Numbering) (b : Bool) (label : List ℕ) → IsUnused n → I
 makes_label n true label h = makes_blank n (number n label) (numbers n label h)
 makes_label n false label h = tt
 
-makes_part : (p : Place) (n : Numbering) (k : Class) (token : List ℕ) → IsUnused n → IfOk (part_of p n k token) (Makes n)
+makes_part : (p : StatementState) (n : Numbering) (k : Class) (token : List ℕ) → IsUnused n → IfOk (part_of p n k token) (Makes n)
 makes_part p n class.Iri token h = makes_iri n _ h
 makes_part p n class.String token h = without_number n _ h refl
 makes_part p n class.Tag token h = without_number n _ h refl
@@ -72,7 +72,7 @@ pub record IsBelow (first : ℕ) (r : Reading) : Type 0 where
 
 below_placed : (first : ℕ) (quads : List Statement) (n : Numbering) (r : Result Next NqFaultKind) → first ≤ n.next → IsUnused n → is_above_blanks n.next quads ≡ true → is_outcome_below n.next r ≡ true
     → IfOk (placed quads n r) (IsBelow first)
-below_placed first quads n (Ok (next.Place p)) l h a b = record { at_least = l; unused = h; place = b; quads = a }
+below_placed first quads n (Ok (next.StatementState p)) l h a b = record { at_least = l; unused = h; place = b; quads = a }
 below_placed first quads n (Ok (next.Quad q)) l h a b = record { at_least = l; unused = h; place = refl; quads = above_one_more n.next quads q a b }
 below_placed first quads n (Err f) l h a b = tt
 

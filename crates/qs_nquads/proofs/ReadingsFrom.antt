@@ -7,7 +7,7 @@ use Rattle.std.specs.Str.{bytes_eq}
 use Rattle.std.proofs.lemmas.Bool.{cond_both}
 use Rattle.std.proofs.lemmas.List.Elements.{All-nil, All-cons, All-append}
 use Rattle.std.proofs.lemmas.Map.Views.{IfSome-lookup_from_All}
-use Rattle.qs_regular.specs.Longest.{best}
+use Rattle.qs_lex_regular.specs.Longest.{best}
 use Rattle.qs_terms.specs.Literal.{Literal, checked_typed, checked_tagged}
 use Rattle.qs_terms.specs.Statement.{Statement}
 use Rattle.qs_terms.specs.declared.fault.TermFault.{TermFault}
@@ -16,7 +16,7 @@ use Rattle.qs_terms.specs.declared.term.Term.TheVariants as term
 use Rattle.qs_nquads.specs.Gap.{behind_gap}
 use Rattle.qs_nquads.specs.Labels.{Numbering, with_label, add, known_or_new, number}
 use Rattle.qs_nquads.specs.Part.{part_of, iri_part, blank_part, label_part, takes_label, behind}
-use Rattle.qs_nquads.specs.Place.{term_of, with_literal, at_start, at_subject, at_predicate, at_object, at_form, at_typed, at_label, at_done, after, may_end}
+use Rattle.qs_nquads.specs.StatementState.{term_of, with_literal, at_start, at_subject, at_predicate, at_object, at_form, at_typed, at_label, at_done, after, may_end}
 use Rattle.qs_nquads.specs.Reading.{Reading, State, Step, at_first, start, goes, ends, stops, step_from, step_over, stepped, read, taken, placed, Comes, here, on}
 use Rattle.qs_nquads.specs.Nquads.{IsNquads}
 use Rattle.qs_nquads.specs.Renumbered.{blanks_in, blanks_in_name, blanks_of}
@@ -30,8 +30,8 @@ use Rattle.qs_nquads.specs.declared.node.Node.{Node}
 use Rattle.qs_nquads.specs.declared.node.Node.TheVariants as node
 use Rattle.qs_nquads.specs.declared.part.Part.{Part}
 use Rattle.qs_nquads.specs.declared.part.Part.TheVariants as part
-use Rattle.qs_nquads.specs.declared.place.Place.{Place}
-use Rattle.qs_nquads.specs.declared.place.Place.TheVariants as place
+use Rattle.qs_nquads.specs.declared.statement_state.StatementState.{StatementState}
+use Rattle.qs_nquads.specs.declared.statement_state.StatementState.TheVariants as place
 use Rattle.qs_nquads.specs.Next.{Next}
 use Rattle.qs_nquads.specs.Next as next
 
@@ -60,7 +60,7 @@ module _ (first : ℕ) where
   OfQuads [] = ⊤
   OfQuads (q ∷ qs) = OfQuad q × OfQuads qs
 
-  abbrev OfPlace : Place → Type 0
+  abbrev OfPlace : StatementState → Type 0
   OfPlace place.Start = ⊤
   OfPlace (place.Subject s) = OfNode s
   OfPlace (place.Predicate s p) = OfNode s
@@ -80,7 +80,7 @@ module _ (first : ℕ) where
   OfPart part.LineEnd = ⊤
 
   abbrev OfNext : Next → Type 0
-  OfNext (next.Place p) = OfPlace p
+  OfNext (next.StatementState p) = OfPlace p
   OfNext (next.Quad q) = OfQuad q
 
   record OfNumbers (n : Numbering) : Type 0 where
@@ -126,7 +126,7 @@ module _ (first : ℕ) where
   makes_label n true label h = makes_blank (number n label) (numbered n label h)
   makes_label n false label h = tt
 
-  makes_part : (p : Place) (n : Numbering) (k : Class) (token : List ℕ) → OfNumbers n → IfOk (part_of p n k token) Makes
+  makes_part : (p : StatementState) (n : Numbering) (k : Class) (token : List ℕ) → OfNumbers n → IfOk (part_of p n k token) Makes
   makes_part p n class.Iri token h = makes_iri n _ h
   makes_part p n class.String token h = (tt, h)
   makes_part p n class.Tag token h = (tt, h)
@@ -187,7 +187,7 @@ module _ (first : ℕ) where
   of_done part.LineEnd = tt
   of_done t = tt
 
-  of_after : (p : Place) (t : Part) → OfPlace p → OfPart t → IfOk (after p t) OfNext
+  of_after : (p : StatementState) (t : Part) → OfPlace p → OfPart t → IfOk (after p t) OfNext
   of_after place.Start t h b = of_start t b
   of_after (place.Subject s) t h b = of_subject s t h
   of_after (place.Predicate s p) t h b = of_predicate s p t h b
@@ -209,7 +209,7 @@ module _ (first : ℕ) where
   one_more (r ∷ qs) q h k = (h.0, one_more qs q h.1 k)
 
   of_placed : (quads : List Statement) (n : Numbering) (r : Result Next NqFaultKind) → OfQuads quads → OfNumbers n → IfOk r OfNext → IfOk (placed quads n r) OfReading
-  of_placed quads n (Ok (next.Place p)) h k b = record { place = b; labels = k; quads = h }
+  of_placed quads n (Ok (next.StatementState p)) h k b = record { place = b; labels = k; quads = h }
   of_placed quads n (Ok (next.Quad q)) h k b = record { place = tt; labels = k; quads = one_more quads q h b }
   of_placed quads n (Err f) h k b = tt
 

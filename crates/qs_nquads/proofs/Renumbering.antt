@@ -37,7 +37,7 @@ bool_same false false P Q d e f g = refl
 label_test : (m n : ℕ) → m < 2 ^ 64 → n < 2 ^ 64 → bytes_eq (label m) (label n) ≡ same m n
 label_test m n hm hn = bool_same (bytes_eq (label m) (label n)) (same m n) (label m ≡ label n) (m ≡ n) (bytes_eq-Decides (label m) (label n)) (exact m n) (label_value m n hm hn) (ap label)
 
--- ---- what is found behind a new key that is put last
+-- ---- what is found after a new key that is put last
 
 bytes_refl : (k : List ℕ) → bytes_eq k k ≡ true
 bytes_refl k = (bytes_eq-Decides k k).1 refl

@@ -7,10 +7,10 @@ use Rattle.std.proofs.lemmas.Option.{same_Some, none-some}
 use Rattle.std.proofs.lemmas.Bool.{ltb-false}
 use Rattle.std.specs.Char.{len_utf8}
 use Rattle.std.specs.List.{position_or_len, position}
-use Rattle.qs_regular.specs.Character.{is_iri_char}
-use Rattle.qs_regular.specs.Longest.{advance, here, longer, best}
-use Rattle.qs_regular.specs.inner.Scan.{hold, later}
-use Rattle.qs_regular.proofs.Scan.{at_step}
+use Rattle.qs_lex_regular.specs.Character.{is_iri_char}
+use Rattle.qs_lex_regular.specs.Longest.{advance, here, longer, best}
+use Rattle.qs_lex_regular.specs.inner.Scan.{hold, later}
+use Rattle.qs_lex_regular.proofs.Scan.{at_step}
 use Rattle.qs_nquads.specs.Table.{Left, is_string_char}
 use Rattle.qs_nquads.specs.inner.State.{left}
 use Rattle.qs_nquads.proofs.Apart.{iri_backslash, iri_greater, string_backslash, string_quote}
@@ -118,7 +118,7 @@ string_unended bs u e = unended state.String ends_in_string refl plain_in_string
 pub no_run : (s : State) (bs : List ℕ) → IsUtf8 bs → HasRun s bs 0
 no_run s bs u = record { boundary = IsCharBoundary-from_drop bs 0 (omega arith) u; best = λ len found. rw (add-zero len) refl }
 
--- ---- what stands behind a run
+-- ---- what stands after a run
 
 module _ (s : State) (shown mid behind rest : List ℕ) (n : ℕ) (run : HasRun s shown n) (is : shown ≡ mid) (cut : behind ≡ drop n shown) (same : rest ≡ behind) where
   left_over : rest ≡ drop n mid

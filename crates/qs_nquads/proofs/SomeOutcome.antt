@@ -1,15 +1,15 @@
--- Bytes come to something.
+-- Bytes result in something.
 use Rattle.std.proofs.Common.{◌≡◌, ◌≢◌, ◌⊎◌, inl, inr, ℕ, zero, suc, ◌+◌, ◌-◌, ◌<◌, ◌≤◌, Bool, true, false, cond, ◌==◌, List, [], ◌∷◌, ◌++◌, length, take, drop, Option, Some, None, Result, Ok, Err, refl, sym, ap, ◌∙◌, subst, arith, true≢false, length-append, length-drop, take_all, IsUtf8, chars, encode_utf8_all}
 use Rattle.std.proofs.lemmas.Bool.{cases_Bool, cases_lt, cond-true, cond-false}
 use Rattle.std.proofs.lemmas.Str.{IsUtf8-from_is_utf8, is_utf8-from_IsUtf8, encodes-append, encodes-chars, scalars-chars}
 use Rattle.std.specs.Prelude.{if◌then◌else◌}
 use Rattle.std.specs.Str.{IsValidUpTo, is_utf8, all_scalars}
 use Rattle.std.specs.Str.Lossy.{valid_len_up_to}
-use Rattle.qs_regular.specs.Longest.{best}
+use Rattle.qs_lex_regular.specs.Longest.{best}
 use Rattle.qs_terms.specs.Statement.{Statement}
 use Rattle.qs_nquads.specs.Gap.{behind_gap, skip, is_blank, is_line_end}
 use Rattle.qs_nquads.specs.Nquads.{Ends, StopsAt, IsNquads, IsFault, line_at}
-use Rattle.qs_nquads.specs.Place.{may_end}
+use Rattle.qs_nquads.specs.StatementState.{may_end}
 use Rattle.qs_nquads.specs.Reading.{Reading, State, Step, goes, ends, stops, step, step_from, step_over, stepped, read, start, Comes, here, on}
 use Rattle.qs_nquads.specs.Table.{table}
 use Rattle.qs_nquads.specs.declared.class.Class.{Class}

@@ -1,11 +1,11 @@
--- What comes behind a state.
+-- What comes after a state.
 use Rattle.std.proofs.Common.{◌≡◌, ◌<◌, ℕ, zero, suc, true, false, ◌==◌, List, [], ◌∷◌, Some, None, Ok, Err, length, take, drop, refl, sym, ap, ◌∙◌, arith, chars, true≢false}
 use Rattle.std.proofs.lemmas.List.{nil_from_length}
 use Rattle.std.specs.Prelude.{if◌then◌else◌}
-use Rattle.qs_regular.specs.Longest.{best}
+use Rattle.qs_lex_regular.specs.Longest.{best}
 use Rattle.qs_nquads.specs.Table.{table}
 use Rattle.qs_nquads.specs.Gap.{behind_gap}
-use Rattle.qs_nquads.specs.Place.{may_end}
+use Rattle.qs_nquads.specs.StatementState.{may_end}
 use Rattle.qs_nquads.specs.Reading.{Reading, State, goes, ends, stops, stepped, step_over, step_from, step, read}
 use Rattle.qs_nquads.specs.declared.class.Class.{Class}
 use Rattle.qs_nquads.specs.declared.fault.NqFaultKind.{NqFaultKind}

@@ -7,7 +7,7 @@ use Rattle.qs_terms.specs.declared.fault.TermFault.{TermFault}
 use Rattle.qs_nquads.specs.Gap.{behind_gap}
 use Rattle.qs_nquads.specs.Labels.{Numbering, with_label, known_or_new, number}
 use Rattle.qs_nquads.specs.Part.{part_of, iri_part, blank_part, label_part, takes_label, behind}
-use Rattle.qs_nquads.specs.Place.{after, with_literal, may_end}
+use Rattle.qs_nquads.specs.StatementState.{after, with_literal, may_end}
 use Rattle.qs_nquads.specs.Reading.{Reading, State, Step, goes, ends, stops, step, step_from, step_over, stepped, read, taken, placed}
 use Rattle.qs_nquads.specs.Nquads.{IsStop, StopsAt, ComesTo}
 use Rattle.qs_nquads.specs.declared.class.Class.{Class}
@@ -17,11 +17,11 @@ use Rattle.qs_nquads.specs.declared.fault.NqFaultKind.TheVariants as fault
 use Rattle.qs_nquads.specs.declared.node.Node.{Node}
 use Rattle.qs_nquads.specs.declared.part.Part.{Part}
 use Rattle.qs_nquads.specs.declared.part.Part.TheVariants as part
-use Rattle.qs_nquads.specs.declared.place.Place.{Place}
-use Rattle.qs_nquads.specs.declared.place.Place.TheVariants as place
+use Rattle.qs_nquads.specs.declared.statement_state.StatementState.{StatementState}
+use Rattle.qs_nquads.specs.declared.statement_state.StatementState.TheVariants as place
 use Rattle.qs_nquads.specs.Next.{Next}
 use Rattle.qs_nquads.specs.Next as next
-use Rattle.qs_regular.specs.Longest.{best}
+use Rattle.qs_lex_regular.specs.Longest.{best}
 use Rattle.qs_nquads.specs.Table.{table}
 use Rattle.std.specs.Str.{chars}
 
@@ -66,7 +66,7 @@ unfolding is_err is_never
 iri_never n (Ok i) = refl
 iri_never n (Err f) = refl
 
-part_never : (p : Place) (n : Numbering) (k : Class) (t : List ℕ) → is_err (part_of p n k t) ≡ false
+part_never : (p : StatementState) (n : Numbering) (k : Class) (t : List ℕ) → is_err (part_of p n k t) ≡ false
 unfolding is_err is_never
 part_never p n class.Iri t = iri_never n _
 part_never p n class.Label t = label_never n (takes_label p) (behind t 2)
@@ -77,7 +77,7 @@ unfolding is_err is_never
 literal_never s p (Ok l) = refl
 literal_never s p (Err f) = refl
 
-after_never : (p : Place) (t : Part) → is_err (after p t) ≡ false
+after_never : (p : StatementState) (t : Part) → is_err (after p t) ≡ false
 unfolding is_err is_never
 after_never (place.Form s p form) (part.Tag t) = literal_never s p _
 after_never (place.Typed s p form) (part.Iri i) = literal_never s p _
@@ -138,11 +138,11 @@ after_never place.Done part.LineEnd = refl
 
 placed_never : (quads : List Statement) (labels : Numbering) (r : Result Next NqFaultKind) → is_err r ≡ false → is_err (placed quads labels r) ≡ false
 unfolding is_err
-placed_never quads labels (Ok (next.Place p)) e = refl
+placed_never quads labels (Ok (next.StatementState p)) e = refl
 placed_never quads labels (Ok (next.Quad q)) e = refl
 placed_never quads labels (Err f) e = e
 
-taken_never : (p : Place) (quads : List Statement) (r : Result (Part × Numbering) NqFaultKind) → is_err r ≡ false → is_err (taken p quads r) ≡ false
+taken_never : (p : StatementState) (quads : List Statement) (r : Result (Part × Numbering) NqFaultKind) → is_err r ≡ false → is_err (taken p quads r) ≡ false
 unfolding is_err
 taken_never p quads (Ok t) e = placed_never quads t.1 (after p t.0) (after_never p t.0)
 taken_never p quads (Err f) e = e
@@ -185,7 +185,7 @@ memory_stops rest = refl
 never_memory : (s : State) (rest : List ℕ) → step s ≡ stops fault.Memory rest → ⊥
 never_memory s rest e = true≢false (sym (memory_stops rest) ∙ (ap is_stop (sym e) ∙ from_never s.reading (behind_gap s.rest)))
 
--- where reading stops, a fault other than want of memory is due
+-- where reading stops, a fault other than running out of memory is due
 pub due_at_stop : (from : State) (kind : NqFaultKind) (left : ℕ) → StopsAt from kind left → (kind ≢ fault.Memory) × IsStop from kind left
 due_at_stop from fault.Memory left s = absurd (never_memory s.0 s.1 s.3)
 due_at_stop from fault.Utf8 left s = absurd (never_utf8 s.0 s.1 s.3)
@@ -198,7 +198,7 @@ due_at_stop from fault.Full left s = (λ e. cc, s)
 
 -- ---- the fault that is due
 
--- a fault other than want of memory is due; that may come at any token
+-- a fault other than running out of memory is due; that may come at any token
 pub stop_of : (from : State) (kind : NqFaultKind) (left : ℕ) → (kind ≢ fault.Memory → StopsAt from kind left) → ComesTo from left → IsStop from kind left
 stop_of from fault.Memory left s m = m
 stop_of from fault.Utf8 left s m = let t : StopsAt from fault.Utf8 left = s (λ e. cc) in never_utf8 t.0 t.1 t.3

@@ -4,14 +4,14 @@ use Rattle.std.specs.Str.{chars}
 use Rattle.std.proofs.lemmas.Bool.{and_parts}
 use Rattle.std.proofs.lemmas.Str.{scalars-chars}
 use lib.Utf8.{scalar, scalars, encodes}
-use Rattle.qs_regular.specs.Character.{is_scalar}
-use Rattle.qs_regular.specs.Form as form
-use Rattle.qs_regular.specs.Form.{Form, Spells, one, char, ◌⨾◌, ◌∣◌}
-use Rattle.qs_regular.specs.Longest.{LongestFront}
-use Rattle.qs_escapes.specs.Escape.{uchar, string_escape}
-use Rattle.qs_escapes.specs.declared.escape.Escape.{Escape}
-use Rattle.qs_forms.specs.Backslashes.{escapes_begin}
-use Rattle.qs_forms.proofs.Escapes.{Stands, any, all_any, pieces_stand, string_character, string_codepoint, echar_stands, iri_stands, escapes_stand}
+use Rattle.qs_lex_regular.specs.Character.{is_scalar}
+use Rattle.qs_lex_regular.specs.Form as form
+use Rattle.qs_lex_regular.specs.Form.{Form, Spells, one, char, ◌⨾◌, ◌∣◌}
+use Rattle.qs_lex_regular.specs.Longest.{LongestFront}
+use Rattle.qs_lex_escapes.specs.Escape.{uchar, string_escape}
+use Rattle.qs_lex_escapes.specs.declared.escape.Escape.{Escape}
+use Rattle.qs_lex_forms.specs.Backslashes.{escapes_begin}
+use Rattle.qs_lex_forms.proofs.Escapes.{Stands, any, all_any, pieces_stand, string_character, string_codepoint, echar_stands, iri_stands, escapes_stand}
 use Rattle.qs_nquads.specs.Part.{inside}
 use Rattle.qs_nquads.specs.Table.{table, iri_body, string_body, is_string_char}
 use Rattle.qs_nquads.specs.declared.class.Class.{Class}

@@ -1,13 +1,13 @@
--- A language tag and the label of a blank node that were taken, behind their marks.
+-- A language tag and the label of a blank node that were taken, after their marks.
 use Rattle.std.proofs.Common.{◌≡◌, ℕ, true, List, ◌∷◌, ◌++◌, take, refl, sym, ap, ap₂, ◌∙◌, subst, arith, IsUtf8}
 use Rattle.std.specs.Str.{chars}
 use Rattle.std.proofs.lemmas.Bool.{and_parts}
 use Rattle.std.proofs.lemmas.Str.{encode_ascii, scalars-chars}
 use lib.Utf8.{scalar, scalars, encodes}
-use Rattle.qs_regular.specs.Form.{Spells, one, many, maybe, char, ◌⨾◌}
-use Rattle.qs_regular.specs.Longest.{LongestFront}
+use Rattle.qs_lex_regular.specs.Form.{Spells, one, many, maybe, char, ◌⨾◌}
+use Rattle.qs_lex_regular.specs.Longest.{LongestFront}
 use Rattle.qs_terms.specs.Tag.{is_tag}
-use Rattle.qs_forms.proofs.Tags.{tag_form, lawful_tag}
+use Rattle.qs_lex_forms.proofs.Tags.{tag_form, lawful_tag}
 use Rattle.qs_nquads.specs.Part.{behind}
 use Rattle.qs_nquads.specs.Table.{table, is_label_start, is_label_inner, is_label_char}
 use Rattle.qs_nquads.specs.declared.class.Class.{Class}

@@ -5,9 +5,9 @@ use Rattle.std.proofs.lemmas.List.{take-append-le, take_all}
 use Rattle.std.proofs.lemmas.Str.{encodes-append, encodes-chars}
 use lib.Utf8.{encodes}
 use Rattle.std.specs.Prelude.{⊤}
-use Rattle.qs_regular.specs.Character.{is_letter, is_letter_or_digit, is_one_of}
-use Rattle.qs_regular.specs.Form.{Form, Spells, one, many, plus, maybe, char, ◌⨾◌, ◌∣◌}
-use Rattle.qs_regular.specs.Longest.{LongestFront, IsFirst, Table}
+use Rattle.qs_lex_regular.specs.Character.{is_letter, is_letter_or_digit, is_one_of}
+use Rattle.qs_lex_regular.specs.Form.{Form, Spells, one, many, plus, maybe, char, ◌⨾◌, ◌∣◌}
+use Rattle.qs_lex_regular.specs.Longest.{LongestFront, IsFirst, Table}
 use Rattle.qs_nquads.specs.Table.{table, iri_body, open_iri, string_body, open_string, is_label_start, is_label_inner, is_label_char}
 use Rattle.qs_nquads.specs.declared.class.Class.{Class}
 use Rattle.qs_nquads.specs.declared.class.Class.TheVariants as class

@@ -1,4 +1,4 @@
--- Reading comes to one end at most.
+-- Reading results in one end at most.
 use Rattle.std.proofs.Common.{◌≡◌, ◌≢◌, ◌⊎◌, inl, inr, ℕ, ◌-◌, List, length, refl, sym, ap, ◌∙◌, subst}
 use Rattle.std.specs.Str.{IsValidUpTo}
 use Rattle.std.proofs.lemmas.Str.{utf8_valid_len-IsValidUpTo}

@@ -11,7 +11,7 @@ use Rattle.qs_terms.specs.Statement.{Statement}
 use Rattle.qs_nquads.specs.Labels.{Numbering, from}
 use Rattle.qs_nquads.specs.Reading.{Reading, step, ends, Comes, here}
 use Rattle.qs_nquads.specs.Nquads.{IsNquads}
-use Rattle.qs_nquads.specs.declared.place.Place.TheVariants as place
+use Rattle.qs_nquads.specs.declared.statement_state.StatementState.TheVariants as place
 use Rattle.qs_nquads.specs.Written.{line, put_in, ordered, nquads_of}
 use Rattle.qs_nquads.specs.Renumbered.{blanks_of, first_blanks, before, renumbered, IsQuad, AreQuads, number_from, ReadsBack}
 use Rattle.qs_nquads.proofs.Renumbering.{same, Agrees, none_yet}

@@ -7,8 +7,8 @@ use Rattle.std.proofs.lemmas.Bool.{and_parts, cases_eq}
 use Rattle.std.proofs.lemmas.Str.{length-encode}
 use Rattle.std.proofs.lemmas.Fmt.{decimal_by_steps}
 use lib.Utf8.{encode, encodes}
-use Rattle.qs_regular.specs.Character.{is_iri_char, is_escaped, is_letter, is_letter_or_digit, is_digit, is_chars, is_u, is_base, is_mark_in_name}
-use Rattle.qs_regular.specs.Longest.{best, longer, here, advance}
+use Rattle.qs_lex_regular.specs.Character.{is_iri_char, is_escaped, is_letter, is_letter_or_digit, is_digit, is_pn_chars, is_pn_chars_u, is_base, is_mark_in_name}
+use Rattle.qs_lex_regular.specs.Longest.{best, longer, here, advance}
 use Rattle.qs_terms.specs.Tag.{is_tag, is_tag_rest, is_subtag_char}
 use Rattle.qs_nquads.specs.Table.{Left, table, is_string_char, is_label_start, is_label_char}
 use Rattle.qs_nquads.specs.inner.State.{left}
@@ -125,14 +125,14 @@ label_stays : (c : ℕ) → is_label_char c ≡ true → advance (left state.Lab
 label_stays c h = rw h refl
 
 space_no_label : is_label_char 32 ≡ false
-unfolding is_label_char is_chars is_u is_base is_digit is_mark_in_name
+unfolding is_label_char is_pn_chars is_pn_chars_u is_base is_digit is_mark_in_name
 space_no_label = refl
 
 label_ends : advance (left state.Label) 32 ≡ []
 label_ends = rw space_no_label refl
 
 b_begins : is_label_start 98 ≡ true
-unfolding is_label_start is_u is_base
+unfolding is_label_start is_pn_chars_u is_base
 b_begins = refl
 
 label_begins : advance (left state.UnderscoreColon) 98 ≡ left state.Label
@@ -154,7 +154,7 @@ below p (suc n) e x h =
     elim (cases_eq x n) [ inl same ↦ ap p same ∙ q.0 | inr other ↦ below p n q.1 x (omega arith) ]
 
 digits_all : all_below (λ d. is_label_char (48 + d)) 10 ≡ true
-unfolding is_label_char is_chars is_u is_base is_digit is_mark_in_name
+unfolding is_label_char is_pn_chars is_pn_chars_u is_base is_digit is_mark_in_name
 digits_all = refl
 
 digit_in_label : (d : ℕ) → d < 10 → is_label_char (48 + d) ≡ true

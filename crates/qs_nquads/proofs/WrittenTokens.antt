@@ -10,11 +10,11 @@ use Rattle.std.proofs.lemmas.List.{take-append-le, take_all}
 use Rattle.std.proofs.lemmas.Str.{IsUtf8-append, chars-append, chars-encodes, encodes-chars, encodes-append, encode_ascii, IsUtf8-nil}
 use Rattle.std.proofs.lemmas.Fmt.{decimal_by_steps}
 use lib.Utf8.{scalar, scalars, encode, encodes, low_scalar}
-use Rattle.qs_regular.specs.Character.{is_iri_char}
-use Rattle.qs_regular.specs.Longest.{best}
-use Rattle.qs_escapes.specs.Escape.{uchar, string_escape}
-use Rattle.qs_escapes.specs.Decoded.{decoded, decoded_behind}
-use Rattle.qs_escapes.proofs.Pieces as pieces
+use Rattle.qs_lex_regular.specs.Character.{is_iri_char}
+use Rattle.qs_lex_regular.specs.Longest.{best}
+use Rattle.qs_lex_escapes.specs.Escape.{uchar, string_escape}
+use Rattle.qs_lex_escapes.specs.Decoded.{decoded, decoded_behind}
+use Rattle.qs_lex_escapes.proofs.Pieces as pieces
 use Rattle.qs_terms.specs.Iri.{is_excluded, is_iri_text, has_scheme, checked_iri}
 use Rattle.qs_terms.specs.Tag.{is_tag, is_tag_rest, is_subtag_char}
 use Rattle.qs_nquads.specs.Gap.{behind_gap, skip, is_blank}
@@ -25,7 +25,7 @@ use Rattle.qs_nquads.specs.declared.class.Class.{Class}
 use Rattle.qs_nquads.specs.declared.class.Class.TheVariants as class
 use Rattle.qs_nquads.specs.declared.part.Part.{Part}
 use Rattle.qs_nquads.specs.declared.part.Part.TheVariants as part
-use Rattle.qs_nquads.specs.declared.place.Place.{Place}
+use Rattle.qs_nquads.specs.declared.statement_state.StatementState.{StatementState}
 use Rattle.qs_nquads.specs.Written.{escaped, label, iri_text, quoted}
 use Rattle.qs_nquads.proofs.Escaped.{decodes, escaped_chars, scalars-append}
 use Rattle.qs_nquads.proofs.WrittenFronts.{Takes, iri_front, string_front, carets_front, dot_front, end_front, label_front, tag_front, all_below, below, all-append}
@@ -104,7 +104,7 @@ behind_two a b x ha hb u =
 -- ---- what tokens say
 
 -- the token says this part at a place
-pub record Says (p : Place) (n : Numbering) (token rest : List ℕ) (t : Part) (m : Numbering) : Type 0 where
+pub record Says (p : StatementState) (n : Numbering) (token rest : List ℕ) (t : Part) (m : Numbering) : Type 0 where
   pub kind : Class
   pub front : IsToken token rest kind
   pub said : part_of p n kind token ≡ Ok (t, m)
@@ -179,7 +179,7 @@ two a b cs x ha hb s e =
       ap₂ (λ (u v : List ℕ). u ++ v) (encode_ascii a ha) (encodes-append cs (b ∷ []) ∙ ap₂ (λ (u v : List ℕ). u ++ v) e bytes),
     )
 
-pub iri_says : (p : Place) (n : Numbering) (i rest : List ℕ) → IsUtf8 i → is_iri_text i ≡ true → Says p n (iri_text i) rest (part.Iri i) n
+pub iri_says : (p : StatementState) (n : Numbering) (i rest : List ℕ) → IsUtf8 i → is_iri_text i ≡ true → Says p n (iri_text i) rest (part.Iri i) n
 unfolding is_blank
 iri_says p n i rest u h =
     let q = lawful_parts i h in
@@ -196,7 +196,7 @@ iri_says p n i rest u h =
 
 -- strings
 
-pub string_says : (p : Place) (n : Numbering) (form rest : List ℕ) → IsUtf8 form → Says p n (quoted form) rest (part.Form form) n
+pub string_says : (p : StatementState) (n : Numbering) (form rest : List ℕ) → IsUtf8 form → Says p n (quoted form) rest (part.Form form) n
 unfolding is_blank
 string_says p n form rest u =
     let cs : List ℕ = u.0 in
@@ -212,7 +212,7 @@ string_says p n form rest u =
 
 -- `^^`, `.` and LF
 
-pub carets_say : (p : Place) (n : Numbering) (rest : List ℕ) → Says p n (94 ∷ 94 ∷ []) rest part.Carets n
+pub carets_say : (p : StatementState) (n : Numbering) (rest : List ℕ) → Says p n (94 ∷ 94 ∷ []) rest part.Carets n
 unfolding is_blank encode
 carets_say p n rest = record {
   kind = class.Carets;
@@ -220,7 +220,7 @@ carets_say p n rest = record {
   said = refl;
 }
 
-pub dot_says : (p : Place) (n : Numbering) (rest : List ℕ) → Says p n (46 ∷ []) rest part.Dot n
+pub dot_says : (p : StatementState) (n : Numbering) (rest : List ℕ) → Says p n (46 ∷ []) rest part.Dot n
 unfolding is_blank encode
 dot_says p n rest = record {
   kind = class.Dot;
@@ -228,7 +228,7 @@ dot_says p n rest = record {
   said = refl;
 }
 
-pub end_says : (p : Place) (n : Numbering) (rest : List ℕ) → Says p n (10 ∷ []) rest part.LineEnd n
+pub end_says : (p : StatementState) (n : Numbering) (rest : List ℕ) → Says p n (10 ∷ []) rest part.LineEnd n
 unfolding is_blank encode
 end_says p n rest = record {
   kind = class.LineEnd;
@@ -257,7 +257,7 @@ tag_chars (c ∷ t) first empty h = by (c == 45) refl h (tag_chars t) where
       let q : (is_subtag_char first c ≡ true) × (is_tag_rest first false t ≡ true) = and_parts _ _ k in
       let one : is_tag_char c ≡ true = letter_number first c q.0 in rw one (next first false q.1)
 
-pub tag_says : (p : Place) (n : Numbering) (t rest : List ℕ) → is_tag t ≡ true → Says p n (64 ∷ t) (32 ∷ rest) (part.Tag t) n
+pub tag_says : (p : StatementState) (n : Numbering) (t rest : List ℕ) → is_tag t ≡ true → Says p n (64 ∷ t) (32 ∷ rest) (part.Tag t) n
 unfolding is_blank
 tag_says p n t rest h =
     let a : (scalars t ≡ true) × (encodes t ≡ t) = all_ascii is_tag_char tag_small t (tag_chars t true true h) in
@@ -285,7 +285,7 @@ label_ascii = decimal_by_steps (λ n ds. list_all (λ c. nat_lt c 128) ds ≡ tr
     (λ n h. let a = low_digits n h in rw a refl)
     (λ n ds h p. let a = low_digits (n % 10) (omega arith) in all-append (λ c. nat_lt c 128) ds ((48 + n % 10) ∷ []) p (rw a refl))
 
-pub label_says : (p : Place) (n m : Numbering) (b number_of : ℕ) (rest : List ℕ) → b < 2 ^ 64 → takes_label p ≡ true → number n (label b) ≡ Ok (number_of, m)
+pub label_says : (p : StatementState) (n m : Numbering) (b number_of : ℕ) (rest : List ℕ) → b < 2 ^ 64 → takes_label p ≡ true → number n (label b) ≡ Ok (number_of, m)
     → Says p n (95 ∷ 58 ∷ label b) (32 ∷ rest) (part.Blank number_of) m
 unfolding is_blank
 label_says p n m b number_of rest h l e =

@@ -16,6 +16,6 @@ skip in_comment [] = []
 skip true (c ∷ cs) = cond (is_line_end c) (c ∷ cs) (skip true cs)
 skip false (c ∷ cs) = cond (is_blank c) (skip false cs) (cond (c == 35) (skip true cs) (c ∷ cs))
 
--- the bytes of what is left behind the gap at the front of a text
+-- the bytes of what is left after the gap at the front of a text
 abbrev pub behind_gap : List ℕ → List ℕ
 behind_gap text = encode_utf8_all (skip false (chars text))

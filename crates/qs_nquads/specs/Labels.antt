@@ -15,11 +15,11 @@ pub record Numbering : Type 0 where
 abbrev pub from : ℕ → Numbering
 from first = record { numbers = []; next = first }
 
--- the same behind a new label, which comes last and has the next number
+-- the same after a new label, which comes last and has the next number
 abbrev pub with_label : Numbering → List ℕ → Numbering
 with_label n label = record { numbers = n.numbers ++ (label, n.next) ∷ []; next = n.next + 1 }
 
--- a new label gets the next number, unless no number would be left behind it
+-- a new label gets the next number, unless no number would be left after it
 abbrev pub add : Numbering → List ℕ → Result (ℕ × Numbering) NqFaultKind
 add n label =
     if nat_lt (n.next + 1) (2 ^ 64)
@@ -30,6 +30,6 @@ abbrev pub known_or_new : Numbering → List ℕ → Option ℕ → Result (ℕ 
 known_or_new n label (Some number) = Ok (number, n)
 known_or_new n label None = add n label
 
--- the number of the label, and the numbering behind it
+-- the number of the label, and the numbering after it
 abbrev pub number : Numbering → List ℕ → Result (ℕ × Numbering) NqFaultKind
 number n label = known_or_new n label (lookup (bytes_eq label) n.numbers)

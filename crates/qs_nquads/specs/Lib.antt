@@ -2,7 +2,7 @@ pub mod Table
 pub mod Gap
 pub mod Labels
 pub mod Part
-pub mod Place
+pub mod StatementState
 pub mod Reading
 pub mod Next
 pub mod Nquads

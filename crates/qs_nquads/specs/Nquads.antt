@@ -7,7 +7,7 @@ use Rattle.qs_nquads.specs.Reading.{Reading, State, start, step, ends, stops, Co
 use Rattle.qs_nquads.specs.declared.fault.NqFaultKind.{NqFaultKind}
 use Rattle.qs_nquads.specs.declared.fault.NqFaultKind.TheVariants as fault
 
--- reading comes to the lawful end of the text, and this was read
+-- reading results in the lawful end of the text, and this was read
 abbrev pub Ends : State → Reading → Type 0
 Ends from r = (rest : List ℕ) × Comes from (record { reading = r; rest = rest }) × (step (record { reading = r; rest = rest }) ≡ ends)
 
@@ -15,11 +15,11 @@ Ends from r = (rest : List ℕ) × Comes from (record { reading = r; rest = rest
 abbrev pub StopsAt : State → NqFaultKind → ℕ → Type 0
 StopsAt from kind left = (s : State) × (rest : List ℕ) × Comes from s × (step s ≡ stops kind rest) × (left ≡ length rest)
 
--- reading comes to a token where so many bytes are left
+-- reading results in a token where so many bytes are left
 abbrev pub ComesTo : State → ℕ → Type 0
 ComesTo from left = (s : State) × Comes from s × (left ≡ length (behind_gap s.rest))
 
--- the fault is due where so many bytes are left; memory may be wanting at any token, and what is read is UTF-8
+-- the fault is due where so many bytes are left; memory may run out at any token, and what is read is UTF-8
 abbrev pub IsStop : State → NqFaultKind → ℕ → Type 0
 IsStop from fault.Memory left = ComesTo from left
 IsStop from fault.Utf8 left = ⊥

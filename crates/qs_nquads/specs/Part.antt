@@ -1,8 +1,8 @@
 -- What a token says in a statement.
 use Rattle.std.specs.Prelude.{ℕ, Bool, true, false, ◌-◌, List, length, Result, Ok, Err}
-use Rattle.qs_escapes.specs.Decoded.{decoded}
-use Rattle.qs_escapes.specs.Escape.{uchar, string_escape}
-use Rattle.qs_escapes.specs.Piece.{piece}
+use Rattle.qs_lex_escapes.specs.Decoded.{decoded}
+use Rattle.qs_lex_escapes.specs.Escape.{uchar, string_escape}
+use Rattle.qs_lex_escapes.specs.Piece.{piece}
 use Rattle.qs_terms.specs.Iri.{checked_iri}
 use Rattle.qs_terms.specs.declared.fault.TermFault.{TermFault}
 use Rattle.qs_nquads.specs.Labels.{Numbering, number}
@@ -12,8 +12,8 @@ use Rattle.qs_nquads.specs.declared.fault.NqFaultKind.{NqFaultKind}
 use Rattle.qs_nquads.specs.declared.fault.NqFaultKind.TheVariants as fault
 use Rattle.qs_nquads.specs.declared.part.Part.{Part}
 use Rattle.qs_nquads.specs.declared.part.Part.TheVariants as part
-use Rattle.qs_nquads.specs.declared.place.Place.{Place}
-use Rattle.qs_nquads.specs.declared.place.Place.TheVariants as place
+use Rattle.qs_nquads.specs.declared.statement_state.StatementState.{StatementState}
+use Rattle.qs_nquads.specs.declared.statement_state.StatementState.TheVariants as place
 
 -- the token without its first bytes, and without as many at its end
 abbrev pub behind : List ℕ → ℕ → List ℕ
@@ -23,7 +23,7 @@ abbrev pub inside : List ℕ → List ℕ
 inside token = piece token 1 (length token - 1)
 
 -- a statement takes a blank node here: as subject, object or name of a graph ([3], [5], [6])
-abbrev pub takes_label : Place → Bool
+abbrev pub takes_label : StatementState → Bool
 takes_label place.Start = true
 takes_label (place.Subject s) = false
 takes_label (place.Predicate s p) = true
@@ -48,7 +48,7 @@ label_part n true label = blank_part (number n label)
 label_part n false label = Err fault.Shape
 
 -- what the front of a class, of these bytes, says at a place of a statement; a front that is no token is a fault
-abbrev pub part_of : Place → Numbering → Class → List ℕ → Result (Part × Numbering) NqFaultKind
+abbrev pub part_of : StatementState → Numbering → Class → List ℕ → Result (Part × Numbering) NqFaultKind
 part_of p n class.Iri token = iri_part n (checked_iri (decoded uchar (inside token)))
 part_of p n class.String token = Ok (part.Form (decoded string_escape (inside token)), n)
 part_of p n class.Tag token = Ok (part.Tag (behind token 1), n)

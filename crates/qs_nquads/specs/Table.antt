@@ -1,8 +1,8 @@
 -- The token table: each class of fronts of a text as a form over characters (RDF 1.1 N-Quads, 4).
 use Rattle.std.specs.Prelude.{ℕ, Bool, not, ◌||◌, ◌==◌, [], ◌∷◌}
-use Rattle.qs_regular.specs.Character.{is_one_of, is_digit, is_letter, is_letter_or_digit, is_u, is_chars, is_iri_char, is_scalar}
-use Rattle.qs_regular.specs.Form.{Form, one, many, ◌⨾◌, ◌∣◌, maybe, plus, char, echar, uchar}
-use Rattle.qs_regular.specs.Longest.{Table}
+use Rattle.qs_lex_regular.specs.Character.{is_one_of, is_digit, is_letter, is_letter_or_digit, is_pn_chars_u, is_pn_chars, is_iri_char, is_scalar}
+use Rattle.qs_lex_regular.specs.Form.{Form, one, many, ◌⨾◌, ◌∣◌, maybe, plus, char, echar, uchar}
+use Rattle.qs_lex_regular.specs.Longest.{Table}
 use Rattle.qs_nquads.specs.declared.class.Class.{Class}
 use Rattle.qs_nquads.specs.declared.class.Class.TheVariants as class
 
@@ -14,11 +14,11 @@ is_string_char c = not (is_one_of (34 ∷ 92 ∷ 10 ∷ 13 ∷ []) c)
 
 -- what a label begins with ([6]): PN_CHARS_U, in which N-Quads has `:` ([158s]), or a digit
 unfoldable pub is_label_start : ℕ → Bool
-is_label_start c = is_u c || c == 58 || is_digit c
+is_label_start c = is_pn_chars_u c || c == 58 || is_digit c
 
 -- what a label holds, and ends with: PN_CHARS ([160s])
 unfoldable pub is_label_char : ℕ → Bool
-is_label_char c = is_chars c || c == 58
+is_label_char c = is_pn_chars c || c == 58
 
 -- the same, or a dot
 abbrev pub is_label_inner : ℕ → Bool
@@ -64,6 +64,6 @@ table =
     ∷ (class.Broken, open_iri ⨾ char 92 ∣ open_string ⨾ char 92)
     ∷ []
 
--- what is left of the table behind some characters
+-- what is left of the table after some characters
 abbrev pub Left : Type 0
 Left = Table Class

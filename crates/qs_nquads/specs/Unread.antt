@@ -7,20 +7,20 @@ use Rattle.qs_nquads.specs.Next.{Next}
 use Rattle.qs_nquads.specs.Reading.{Reading, State, start, Comes, placed}
 use Rattle.qs_nquads.specs.Nquads.{Ends, IsNquads}
 use Rattle.qs_nquads.specs.declared.fault.NqFaultKind.{NqFaultKind}
-use Rattle.qs_nquads.specs.declared.place.Place.{Place}
+use Rattle.qs_nquads.specs.declared.statement_state.StatementState.{StatementState}
 
 -- the whole text, where reading has come to in a statement, the labels so far, and the bytes that are left
 pub record Unread : Type 0 where
   pub bytes : List ℕ
-  pub place : Place
+  pub place : StatementState
   pub labels : Numbering
   pub rest : List ℕ
 
 -- with these statements before it
-abbrev pub reading : Place → Numbering → List Statement → Reading
+abbrev pub reading : StatementState → Numbering → List Statement → Reading
 reading p labels quads = record { place = p; labels = labels; quads = quads }
 
-abbrev pub state : Place → Numbering → List ℕ → List Statement → State
+abbrev pub state : StatementState → Numbering → List ℕ → List Statement → State
 state p labels rest quads = record { reading = reading p labels quads; rest = rest }
 
 -- one statement more, or none
@@ -29,10 +29,10 @@ with_next quads None = quads
 with_next quads (Some q) = quads ++ q ∷ []
 
 -- reading goes on at this place, with the statement that is whole, if one is
-abbrev pub GoesOn : Result Next NqFaultKind → Option Statement → Place → Type 0
+abbrev pub GoesOn : Result Next NqFaultKind → Option Statement → StatementState → Type 0
 GoesOn outcome next p = (quads : List Statement) (labels : Numbering) → placed quads labels outcome ≡ Ok (reading p labels (with_next quads next))
 
--- a reader whose labels are numbered from `first` has handed out these statements of its text, and has come behind the last of them
+-- a reader whose labels are numbered from `first` has handed out these statements of its text, and has come after the last of them
 abbrev pub HasRead : ℕ → List Statement → Unread → Type 0
 HasRead first quads u = IsUtf8 u.bytes × Comes (start first u.bytes) (state u.place u.labels u.rest quads)
 
@@ -42,6 +42,6 @@ HasComeTo first quads (Some q) u = HasRead first (quads ++ q ∷ []) u
 HasComeTo first quads None u = HasRead first quads u × IsNquads u.bytes first quads u.labels.next
 
 -- the same by steps, from a state
-abbrev pub IsNextOf : State → List Statement → Option Statement → Place → Numbering → List ℕ → Type 0
+abbrev pub IsNextOf : State → List Statement → Option Statement → StatementState → Numbering → List ℕ → Type 0
 IsNextOf from quads (Some q) p labels rest = Comes from (state p labels rest (quads ++ q ∷ []))
 IsNextOf from quads None p labels rest = Comes from (state p labels rest quads) × Ends from (reading p labels quads)

@@ -9,7 +9,7 @@ use Rattle.qs_terms.specs.declared.term.Term.{Term}
 use Rattle.qs_terms.specs.declared.term.Term.TheVariants as term
 use Rattle.qs_terms.specs.Literal.{xsd_string}
 
--- `"`, `\`, LF and CR behind a backslash; every other byte is itself
+-- `"`, `\`, LF and CR after a backslash; every other byte is itself
 abbrev pub escaped_byte : ℕ → List ℕ
 escaped_byte c =
     if c == 34 then (92 ∷ 34 ∷ []) else (if c == 92 then (92 ∷ 92 ∷ []) else (if c == 10 then (92 ∷ 110 ∷ []) else (if c == 13 then (92 ∷ 114 ∷ []) else (c ∷ []))))

@@ -23,7 +23,7 @@ pub enum NqFaultKind {
     Escape,
     /// A literal has the datatype rdf:langString and no tag.
     Literal,
-    /// Want of memory.
+    /// Running out of memory.
     Memory,
     /// No number is left for a blank node.
     Full,

@@ -18,7 +18,7 @@ fn is_line_end(c: char) -> bool
     c == '\n' || c == '\r'
 }
 
-// Whether a comment goes on behind a character, or `None` where the gap ends before it.
+// Whether a comment goes on after a character, or `None` where the gap ends before it.
 fn within_gap(in_comment: bool, c: char) -> Option<bool>
     ensures { MatchOption result ((cs : List ℕ) → skip in_comment (c ∷ cs) ≡ c ∷ cs) (λ next. (cs : List ℕ) → skip in_comment (c ∷ cs) ≡ skip next cs) }
 {

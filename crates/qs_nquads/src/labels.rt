@@ -3,7 +3,7 @@
 ghost use Rattle.std.specs.Prelude.{◌≡◌, ◌∷◌, ◌++◌, ℕ, [], Ok, None, Some, OnOk, OnErr, string_bytes};
 ghost use Rattle.std.specs.Map.{lookup};
 ghost use Rattle.std.specs.Str.{bytes_eq};
-ghost use Rattle.qs_terms.specs.OrWantOf.{WithOrWantOf};
+ghost use Rattle.qs_terms.specs.OrOutOf.{WithOrOutOfMemory};
 ghost use Rattle.qs_nquads.specs.declared.fault.NqFaultKind.TheVariants.{Memory};
 ghost use Rattle.qs_nquads.specs.Labels.{from, number};
 
@@ -68,9 +68,9 @@ impl Labels {
     /// leaves the labels as they were.
     ///
     /// # Errors
-    /// `NqFaultKind::Full` where it is new and no number would be left behind it, and `NqFaultKind::Memory`.
+    /// `NqFaultKind::Full` where it is new and no number would be left after it, and `NqFaultKind::Memory`.
     pub fn number(&mut self, alloc: Global, label: &str) -> Result<u64, NqFaultKind>
-        ensures number { WithOrWantOf Memory (number self.old label.now) result self.new }
+        ensures number { WithOrOutOfMemory Memory (number self.old label.now) result self.new }
         ensures known { (k : ℕ) → lookup (bytes_eq label.now) self.old.numbers ≡ Some k → result ≡ Ok k }
         ensures refused { OnErr result (self.new ≡ self.old) }
     {

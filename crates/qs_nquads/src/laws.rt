@@ -1,4 +1,4 @@
-//! The laws of N-Quads: bytes come to one thing, but for want of memory, and the next blank node's number is fresh; tokens are what
+//! The laws of N-Quads: bytes result in one thing, but where memory runs out, and the next blank node's number is fresh; tokens are what
 //! statements take for granted; quads that are written are read back, each once.
 
 ghost use Rattle.std.specs.Prelude.{◌≡◌, ◌≢◌, ◌≤◌, ◌↔◌, ◌⊎◌, ◌++◌, ℕ, List, [], ◌∷◌, IsTrue, Some, map, take};
@@ -7,12 +7,12 @@ ghost use Rattle.std.specs.List.{All, Contains, flat_map};
 ghost use Rattle.std.specs.List.Sorted.{IsStrictlySortedBy};
 ghost use Rattle.std.specs.Ordering.{nat_cmp};
 ghost use Rattle.std.specs.Str.{IsUtf8, chars};
-ghost use Rattle.qs_regular.specs.Longest.{best};
+ghost use Rattle.qs_lex_regular.specs.Longest.{best};
 ghost use Rattle.qs_terms.specs.Dataset.{is_above_blanks};
 ghost use Rattle.qs_terms.specs.Statement.{Statement};
 ghost use Rattle.qs_terms.specs.Tag.{is_tag};
-ghost use Rattle.qs_escapes.specs.Escape.{uchar, string_escape};
-ghost use Rattle.qs_forms.specs.Backslashes.{escapes_begin};
+ghost use Rattle.qs_lex_escapes.specs.Escape.{uchar, string_escape};
+ghost use Rattle.qs_lex_forms.specs.Backslashes.{escapes_begin};
 ghost use Rattle.qs_nquads.specs.Nquads.{IsNquads, IsFault};
 ghost use Rattle.qs_nquads.specs.Part.{behind, inside};
 ghost use Rattle.qs_nquads.specs.Renumbered.{blanks_of, IsQuad, AreQuads, ReadsBack};
@@ -23,9 +23,9 @@ ghost use Rattle.qs_nquads.specs.declared.fault.NqFaultKind.{NqFaultKind};
 ghost use Rattle.qs_nquads.specs.declared.fault.NqFaultKind.TheVariants.{Memory};
 
 use crate::class::Class;
-use qs_regular::laws::best_is_longest;
+use qs_lex_regular::laws::best_is_longest;
 
-/// Bytes are N-Quads of one list of statements at most, with one next number; then no fault is due but want of memory; and one
+/// Bytes are N-Quads of one list of statements at most, with one next number; then no fault is due but running out of memory; and one
 /// other fault at most is due, at one line.
 pub fn one_outcome()
     ensures quads { (bytes : List ℕ) (first : ℕ) (q r : List Statement) (m n : ℕ) → IsNquads bytes first q m → IsNquads bytes first r n → (q ≡ r) × (m ≡ n) }
@@ -33,7 +33,7 @@ pub fn one_outcome()
     ensures fault { (bytes : List ℕ) (first : ℕ) (kind other : NqFaultKind) (line place : ℕ) → kind ≢ Memory → other ≢ Memory → IsFault bytes first kind line → IsFault bytes first other place → (kind ≡ other) × (line ≡ place) }
 {}
 
-/// Bytes are N-Quads of some list of statements, or a fault other than want of memory is due.
+/// Bytes are N-Quads of some list of statements, or a fault other than running out of memory is due.
 pub fn some_outcome()
     ensures { (bytes : List ℕ) (first : ℕ) → ((quads : List Statement) × (next : ℕ) × IsNquads bytes first quads next) ⊎ ((kind : NqFaultKind) × (line : ℕ) × (kind ≢ Memory) × IsFault bytes first kind line) }
 {}

@@ -1,7 +1,7 @@
 //! N-Quads: the quads that bytes say, or the first fault with its line; and quads as bytes (RDF 1.1 N-Quads, 3 and 4).
 //!
-//! The definitions stand in `specs/`. Of reading: the tokens in `Table.antt`, what each says in `Part.antt`, statements in `Place.antt`,
-//! the numbers of labels in `Labels.antt`, what a whole text comes to in `Reading.antt` and `Nquads.antt`, and a text that is read a
+//! The definitions stand in `specs/`. Of reading: the tokens in `Table.antt`, what each says in `Part.antt`, statements in `StatementState.antt`,
+//! the numbers of labels in `Labels.antt`, what a whole text results in in `Reading.antt` and `Nquads.antt`, and a text that is read a
 //! statement at a time in `Unread.antt`. Of writing: the text in `Written.antt`, and what reading it gives in `Renumbered.antt`.
 #![tactic(auto)]
 
@@ -17,7 +17,7 @@ mod node;
 mod nquads;
 mod output;
 mod part;
-mod place;
+mod statement_state;
 mod reader;
 mod run;
 mod state;

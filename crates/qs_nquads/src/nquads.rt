@@ -17,7 +17,7 @@ fn push<T: Drop>(items: &mut Vec<T>, item: T) -> Result<(), AllocError>
     Ok(())
 }
 
-// Puts the statements that are left behind the quads, and tells the number that the next new label would get.
+// Puts the statements that are left after the quads, and tells the number that the next new label would get.
 fn read_into(reader: &mut Reader<'_>, quads: &mut Vec<Quad>) -> Result<u64, NqFault>
     ensures { (first : ℕ) → HasRead first quads.old.items reader.old → MatchResult result (λ next. IsNquads reader.old.bytes first quads.new.items next) (λ fault. IsFault reader.old.bytes first fault.kind fault.line) }
 {
@@ -25,7 +25,7 @@ fn read_into(reader: &mut Reader<'_>, quads: &mut Vec<Quad>) -> Result<u64, NqFa
         match reader.next() {
             Ok(Some(quad)) => {
                 if push(quads, quad).is_err() {
-                    return Err(reader.want_of_memory());
+                    return Err(reader.out_of_memory());
                 }
             }
             Ok(None) => return Ok(reader.next_blank()),

@@ -17,7 +17,7 @@ use thiserror::Error;
 /// Why not all was written.
 #[derive(Clone, Copy, Debug, PartialEq, Eq, Error)]
 pub enum WriteFault {
-    /// The device failed behind the first `written` bytes of the text.
+    /// The device failed after the first `written` bytes of the text.
     #[error("the device failed behind {written} bytes")]
     Io { written: u128 },
     /// Memory ran out before a byte went out.

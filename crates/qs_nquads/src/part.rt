@@ -1,10 +1,10 @@
 //! What tokens say in a statement.
 
 ghost use Rattle.std.specs.Prelude.{◌≡◌, ◌-◌, length};
-ghost use Rattle.qs_terms.specs.OrWantOf.{OrWantOf, WithOrWantOf};
+ghost use Rattle.qs_terms.specs.OrOutOf.{OrOutOf, WithOrOutOfMemory};
 ghost use Rattle.qs_nquads.specs.declared.fault.NqFaultKind.TheVariants.{Memory};
-ghost use Rattle.qs_escapes.specs.Decoded.{decoded as decoded_text};
-ghost use Rattle.qs_escapes.specs.Escape.{uchar};
+ghost use Rattle.qs_lex_escapes.specs.Decoded.{decoded as decoded_text};
+ghost use Rattle.qs_lex_escapes.specs.Escape.{uchar};
 ghost use Rattle.qs_nquads.specs.Part.{takes_label, label_part, iri_part, part_of};
 ghost use Rattle.qs_nquads.specs.Labels.{Numbering};
 ghost use Rattle.qs_terms.specs.Iri.{checked_iri};
@@ -12,11 +12,11 @@ ghost use Rattle.qs_terms.specs.Iri.{checked_iri};
 use crate::class::Class;
 use crate::fault::NqFaultKind;
 use crate::labels::Labels;
-use crate::place::Place;
-use qs_escapes::Escapes;
-use qs_escapes::decoded::decoded;
-use qs_escapes::piece::piece;
-use qs_terms::{Iri, Recent, TermFault, Text};
+use crate::statement_state::StatementState;
+use qs_lex_escapes::Escapes;
+use qs_lex_escapes::decoded::decoded;
+use qs_lex_escapes::piece::piece;
+use qs_terms::{Iri, IriCache, TermFault, Text};
 use std::alloc::Global;
 
 /// A part of a statement.
@@ -50,28 +50,28 @@ fn behind(token: &str, front: usize) -> &str
     piece(token, front, token.len())
 }
 
-fn takes_label(place: &Place) -> bool
+fn takes_label(place: &StatementState) -> bool
     ensures { result ≡ takes_label place.now }
 {
     match place {
-        Place::Start => true,
-        Place::Subject(_) => false,
-        Place::Predicate(_, _) => true,
-        Place::Form(_, _, _) => true,
-        Place::Typed(_, _, _) => false,
-        Place::Object(_, _, _) => true,
-        Place::Label(_, _, _, _) => false,
-        Place::Done => false,
+        StatementState::Start => true,
+        StatementState::Subject(_) => false,
+        StatementState::Predicate(_, _) => true,
+        StatementState::Form(_, _, _) => true,
+        StatementState::Typed(_, _, _) => false,
+        StatementState::Object(_, _, _) => true,
+        StatementState::Label(_, _, _, _) => false,
+        StatementState::Done => false,
     }
 }
 
 fn blank(
     alloc: Global,
-    place: &Place,
+    place: &StatementState,
     labels: &mut Labels,
     label: &str,
 ) -> Result<Part, NqFaultKind>
-    ensures { WithOrWantOf Memory (label_part labels.old (takes_label place.now) label.now) result labels.new }
+    ensures { WithOrOutOfMemory Memory (label_part labels.old (takes_label place.now) label.now) result labels.new }
 {
     if !takes_label(place) {
         return Err(NqFaultKind::Shape);
@@ -81,8 +81,8 @@ fn blank(
 }
 
 // The IRI of a text that wasn't read not long ago, which is noted.
-fn new_iri(alloc: Global, recent: &mut Recent, text: &str) -> Result<Part, NqFaultKind>
-    ensures { (n : Numbering) → WithOrWantOf Memory (iri_part n (checked_iri (decoded_text uchar text.now))) result n }
+fn new_iri(alloc: Global, recent: &mut IriCache, text: &str) -> Result<Part, NqFaultKind>
+    ensures { (n : Numbering) → WithOrOutOfMemory Memory (iri_part n (checked_iri (decoded_text uchar text.now))) result n }
 {
     let text = decoded(alloc, text, Escapes::Codepoints)?;
     match Iri::new(alloc, text) {
@@ -97,8 +97,8 @@ fn new_iri(alloc: Global, recent: &mut Recent, text: &str) -> Result<Part, NqFau
 
 // The IRI of a text, which is neither checked nor copied where it was read not long ago.
 #[tactic(auto, using(crate::proofs::WrittenTokens::iri_again))]
-fn iri(alloc: Global, recent: &mut Recent, text: &str) -> Result<Part, NqFaultKind>
-    ensures { (n : Numbering) → WithOrWantOf Memory (iri_part n (checked_iri (decoded_text uchar text.now))) result n }
+fn iri(alloc: Global, recent: &mut IriCache, text: &str) -> Result<Part, NqFaultKind>
+    ensures { (n : Numbering) → WithOrOutOfMemory Memory (iri_part n (checked_iri (decoded_text uchar text.now))) result n }
 {
     match recent.iri("", text)? {
         Some(known) => Ok(Part::Iri(known)),
@@ -109,16 +109,16 @@ fn iri(alloc: Global, recent: &mut Recent, text: &str) -> Result<Part, NqFaultKi
 /// What the front of a class, of these bytes, says at a place of a statement.
 ///
 /// # Errors
-/// The fault of a front that is no token, of a relative IRI, or of a label that has no place or no number; and want of memory.
+/// The fault of a front that is no token, of a relative IRI, or of a label that has no place or no number; and running out of memory.
 pub fn part_of(
     alloc: Global,
-    place: &Place,
+    place: &StatementState,
     labels: &mut Labels,
-    recent: &mut Recent,
+    recent: &mut IriCache,
     class: Class,
     token: &str,
 ) -> Result<Part, NqFaultKind>
-    ensures { WithOrWantOf Memory (part_of place.now labels.old class token.now) result labels.new }
+    ensures { WithOrOutOfMemory Memory (part_of place.now labels.old class token.now) result labels.new }
 {
     match class {
         Class::Iri => iri(alloc, recent, inside(token)),

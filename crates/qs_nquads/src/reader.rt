@@ -13,8 +13,8 @@ use crate::gap::behind_gap;
 use crate::labels::Labels;
 use crate::longest::longest;
 use crate::part::part_of;
-use crate::place::{Place, after};
-use qs_terms::{Quad, Recent};
+use crate::statement_state::{StatementState, after};
+use qs_terms::{Quad, IriCache};
 use std::alloc::Global;
 use std::hash::RandomState;
 use std::marker::Model;
@@ -32,9 +32,9 @@ pub struct Reader<'a> {
     alloc: Global,
     text: &'a str,
     rest: &'a str,
-    place: Place,
+    place: StatementState,
     labels: Labels,
-    recent: Recent,
+    recent: IriCache,
 }
 
 impl<'a> Model for Reader<'a> {
@@ -55,9 +55,9 @@ fn line_at(bytes: &[u8], place: usize) -> usize
 // Reads one front more, and hands out the statement that is whole then, if one is.
 fn read_front(
     alloc: Global,
-    place: &mut Place,
+    place: &mut StatementState,
     labels: &mut Labels,
-    recent: &mut Recent,
+    recent: &mut IriCache,
     class: Class,
     token: &str,
 ) -> Result<Option<Quad>, NqFaultKind>
@@ -68,12 +68,12 @@ fn read_front(
     after(alloc, place, part)
 }
 
-// Reads to the end of the next statement, or of the text, and hands out what is left behind it.
+// Reads to the end of the next statement, or of the text, and hands out what is left after it.
 fn read_statement<'a>(
     alloc: Global,
-    place: &mut Place,
+    place: &mut StatementState,
     labels: &mut Labels,
-    recent: &mut Recent,
+    recent: &mut IriCache,
     text: &'a str,
 ) -> Result<(Option<Quad>, &'a str), Stop>
     ensures shorter { IfOk result (λ r. OnSome r.0 (length r.1.now < length text.now)) }
@@ -131,9 +131,9 @@ impl<'a> Reader<'a> {
                 alloc,
                 text,
                 rest: text,
-                place: Place::Start,
+                place: StatementState::Start,
                 labels: Labels::new(alloc, hasher, first_blank),
-                recent: Recent::new(alloc),
+                recent: IriCache::new(alloc),
             }),
             Err(error) => Err(NqFault {
                 line: line_at(bytes, error.valid_up_to()),
@@ -150,7 +150,7 @@ impl<'a> Reader<'a> {
         line_at(bytes, bytes.len().saturating_sub(left))
     }
 
-    /// The quad of the next statement, or `None` behind the last one (RDF 1.1 N-Quads, 3 and 4). Behind a fault the reader is of no use.
+    /// The quad of the next statement, or `None` after the last one (RDF 1.1 N-Quads, 3 and 4). After a fault the reader is of no use.
     ///
     /// # Errors
     /// The first fault from left to right, with its line. `NqFaultKind::Memory` may come at any token, with the line of that token.
@@ -178,8 +178,8 @@ impl<'a> Reader<'a> {
         }
     }
 
-    /// Want of memory, with the line of the next token: for a caller that finds no room for what was read.
-    pub fn want_of_memory(&self) -> NqFault
+    /// Running out of memory, with the line of the next token: for a caller that finds no room for what was read.
+    pub fn out_of_memory(&self) -> NqFault
         ensures kind { result.kind ≡ Memory }
         ensures fault { (first : ℕ) (quads : List Statement) → HasRead first quads self.now → IsFault self.now.bytes first result.kind result.line }
     {

@@ -6,7 +6,7 @@ ghost use Rattle.qs_nquads.specs.declared.state.State.TheVariants as state;
 ghost use Rattle.qs_nquads.specs.inner.Run.{ends_in_iri, ends_in_string, HasRun};
 
 use crate::state::{State, is_string_char};
-use qs_regular::character::is_iri_char;
+use qs_lex_regular::character::is_iri_char;
 
 #[tactic(auto, unfolding(crate::specs::inner::Run::ends_in_iri))]
 fn ends_in_iri(b: u8) -> bool
@@ -65,7 +65,7 @@ fn run(state: State, text: &str) -> usize
     }
 }
 
-/// The length of a run of plain characters at the front of a text that leaves the state as it is, and what stands behind it.
+/// The length of a run of plain characters at the front of a text that leaves the state as it is, and what stands after it.
 pub(crate) fn behind_run(state: State, text: &str) -> (usize, &str)
     ensures run { HasRun state text.now result.0 }
     ensures rest { result.1.now ≡ drop result.0 text.now }

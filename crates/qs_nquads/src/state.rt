@@ -1,17 +1,17 @@
 //! Fronts of a text, a character at a time.
 
 ghost use Rattle.std.specs.Prelude.{◌≡◌, MatchOption, []};
-ghost use Rattle.qs_regular.specs.Longest.{advance, here};
+ghost use Rattle.qs_lex_regular.specs.Longest.{advance, here};
 ghost use Rattle.qs_nquads.specs.Table.{is_string_char, is_label_start, is_label_char};
 ghost use Rattle.qs_nquads.specs.inner.State.{begun, left};
 ghost use Rattle.qs_nquads.specs.declared.state.State.TheVariants as state;
 
 use crate::class::Class;
-use qs_regular::character::{
-    is_chars, is_digit, is_escaped, is_iri_char, is_letter, is_letter_or_digit, is_scalar, is_u,
+use qs_lex_regular::character::{
+    is_pn_chars, is_digit, is_escaped, is_iri_char, is_letter, is_letter_or_digit, is_scalar, is_pn_chars_u,
 };
-use qs_regular::hex_digits::HexDigits;
-use qs_regular::push::{Pushed, push};
+use qs_lex_regular::hex_digits::HexDigits;
+use qs_lex_regular::push::{Pushed, push};
 
 /// What has been read of a front.
 #[derive(Clone, Copy)]
@@ -38,7 +38,7 @@ pub enum State {
     Tag,
     /// a language tag and `-`
     TagDash,
-    /// letters and digits behind a `-`
+    /// letters and digits after a `-`
     TagPart,
     /// `_`
     Underscore,
@@ -69,14 +69,14 @@ pub(crate) fn is_string_char(c: char) -> bool
 fn is_label_start(c: char) -> bool
     ensures { result ≡ is_label_start c }
 {
-    is_u(c) || c == ':' || is_digit(c)
+    is_pn_chars_u(c) || c == ':' || is_digit(c)
 }
 
 #[tactic(auto, unfolding(crate::specs::Table::is_label_char))]
 fn is_label_char(c: char) -> bool
     ensures { result ≡ is_label_char c }
 {
-    is_chars(c) || c == ':'
+    is_pn_chars(c) || c == ':'
 }
 
 #[tactic(auto, using(crate::proofs::Apart::iri_backslash, crate::proofs::Apart::iri_greater, crate::proofs::Apart::greater_iri, crate::proofs::Apart::backslash_iri))]

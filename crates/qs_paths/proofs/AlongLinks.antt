@@ -14,9 +14,9 @@ use Rattle.qs_terms.specs.Bag.{SameBag, with_new}
 use Rattle.qs_terms.specs.Term.{same_term}
 use Rattle.qs_terms.specs.Dataset.{nodes_of}
 use Rattle.qs_terms.proofs.SameTerm.{same_term-Decides}
-use Rattle.qs_tree.specs.declared.path.Repetition.{Repetition}
-use Rattle.qs_tree.specs.declared.path.Repetition.TheVariants.{ZeroOrOne, OneOrMore}
-use Rattle.qs_ast.specs.declared.path.Path.{Path}
+use Rattle.qs_syntax_tree.specs.declared.path.Repetition.{Repetition}
+use Rattle.qs_syntax_tree.specs.declared.path.Repetition.TheVariants.{ZeroOrOne, OneOrMore}
+use Rattle.qs_syntax_ast.specs.declared.path.Path.{Path}
 use Rattle.qs_paths.specs.Pair.{Pair, pair, same_pair}
 use Rattle.qs_paths.specs.Steps.{Graph, agrees}
 use Rattle.qs_paths.specs.Closure.{candidates, closure, ends, from_start}

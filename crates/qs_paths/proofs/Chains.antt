@@ -1,4 +1,4 @@
--- Paths one behind another: followed from the left or from the right, with what stands between given where it is a node.
+-- Paths one after another: followed from the left or from the right, with what stands between given where it is a node.
 use Rattle.std.proofs.Common.{◌≡◌, ◌≢◌, ℕ, zero, suc, ◌+◌, ◌<◌, Bool, true, false, cond, if◌then◌else◌, ◌==◌, List, [], ◌∷◌, ◌++◌, length, take, get_or, map, Option, Some, None, refl, sym, ◌∙◌, ap, subst, arith}
 use Rattle.std.specs.List.{filter, flat_map, list_any}
 use Rattle.std.proofs.lemmas.Bool.{eqb-true, eqb-false}
@@ -12,7 +12,7 @@ use Rattle.qs_terms.specs.Dataset.{nodes_of}
 use Rattle.qs_terms.proofs.Counts.{total, times-flat_map, total-ap, same_from_times}
 use Rattle.qs_terms.proofs.FirstOnes.{filter-append}
 use Rattle.qs_terms.proofs.SameTerm.{same_term-Decides}
-use Rattle.qs_ast.specs.declared.path.Path.{Path}
+use Rattle.qs_syntax_ast.specs.declared.path.Path.{Path}
 use Rattle.qs_paths.specs.Pair.{Pair, pair, same_pair}
 use Rattle.qs_paths.specs.Steps.{Graph, composed, from_pair}
 use Rattle.qs_paths.specs.inner.Found.{node_or_open, into_pair, right_at}

@@ -59,7 +59,7 @@ module _ {Z : Type 0} where
   more_at true o w q h = h refl
   more_at false o w q h = sym (append-nil (triples_at o))
 
-  -- the quad goes behind those that are there
+  -- the quad goes after those that are there
   pub put_there : (k : Term) (q : Bor Statement) (es es' : List (Term × Vec (Bor Statement) Z)) (v w : Vec (Bor Statement) Z) → lookup (is_at (order_at k)) es ≡ Some v → w.items ≡ v.items ++ q ∷ [] → es' ≡ set_value (is_at (order_at k)) es w
       → (x : Term) → at_node es' x ≡ at_node es x ++ (if same_term x k then triple_of q.now ∷ [] else [])
   put_there k q es es' v w h i e x =

@@ -6,11 +6,11 @@ use Rattle.qs_terms.specs.declared.term.Term.TheVariants as term
 use Rattle.qs_terms.specs.Term.{same_term}
 use Rattle.qs_terms.specs.Dataset.{Triple, nodes_of, ends_of}
 use Rattle.qs_terms.proofs.SameTerm.{same_term-Decides}
-use Rattle.qs_tree.specs.declared.path.Repetition.{Repetition}
-use Rattle.qs_tree.specs.declared.path.Repetition.TheVariants.{ZeroOrOne, ZeroOrMore, OneOrMore}
-use Rattle.qs_ast.specs.declared.path.NegatedIri.{NegatedIri}
-use Rattle.qs_ast.specs.declared.path.Path.{Path, Path-F, map-Path, roll-Path, ind-Path}
-use Rattle.qs_ast.specs.declared.path.Path.TheVariants.{rolls-Iri, rolls-NegatedSet, rolls-Alternative, rolls-Sequence, rolls-Inverse, rolls-Repeated}
+use Rattle.qs_syntax_tree.specs.declared.path.Repetition.{Repetition}
+use Rattle.qs_syntax_tree.specs.declared.path.Repetition.TheVariants.{ZeroOrOne, ZeroOrMore, OneOrMore}
+use Rattle.qs_syntax_ast.specs.declared.path.NegatedIri.{NegatedIri}
+use Rattle.qs_syntax_ast.specs.declared.path.Path.{Path, Path-F, map-Path, roll-Path, ind-Path}
+use Rattle.qs_syntax_ast.specs.declared.path.Path.TheVariants.{rolls-Iri, rolls-NegatedSet, rolls-Alternative, rolls-Sequence, rolls-Inverse, rolls-Repeated}
 use Rattle.qs_paths.specs.Pair.{Pair, pair, swapped}
 use Rattle.qs_paths.specs.Steps.{Graph, agrees, is_between, pair_of, along, against, negated, is_of, is_none, is_outside, composed, from_pair}
 use Rattle.qs_paths.specs.Closure.{candidates, leads, repeats, ends, starts, from_start, closure}

@@ -8,8 +8,8 @@ use Rattle.qs_terms.specs.Bag.{SameBag, Distinct, with_new}
 use Rattle.qs_terms.specs.Term.{same_term}
 use Rattle.qs_terms.specs.Dataset.{nodes_of, ends_of}
 use Rattle.qs_terms.proofs.SameTerm.{same_term-Decides}
-use Rattle.qs_tree.specs.declared.path.Repetition.{Repetition}
-use Rattle.qs_tree.specs.declared.path.Repetition.TheVariants.{ZeroOrOne, ZeroOrMore, OneOrMore}
+use Rattle.qs_syntax_tree.specs.declared.path.Repetition.{Repetition}
+use Rattle.qs_syntax_tree.specs.declared.path.Repetition.TheVariants.{ZeroOrOne, ZeroOrMore, OneOrMore}
 use Rattle.qs_paths.specs.Pair.{Pair}
 use Rattle.qs_paths.specs.Steps.{Graph}
 use Rattle.qs_paths.specs.Closure.{candidates, leads, repeats, ends, starts}

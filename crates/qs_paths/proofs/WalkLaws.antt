@@ -3,8 +3,8 @@ use Rattle.std.proofs.Common.{◌≡◌, ◌≤◌, Bool, true, false, ◌&&◌,
 use Rattle.qs_terms.specs.declared.term.Term.{Term}
 use Rattle.qs_terms.specs.Term.{same_term}
 use Rattle.qs_terms.proofs.SameTerm.{same_term-Decides}
-use Rattle.qs_tree.specs.declared.path.Repetition.{Repetition}
-use Rattle.qs_tree.specs.declared.path.Repetition.TheVariants.{ZeroOrOne, ZeroOrMore, OneOrMore}
+use Rattle.qs_syntax_tree.specs.declared.path.Repetition.{Repetition}
+use Rattle.qs_syntax_tree.specs.declared.path.Repetition.TheVariants.{ZeroOrOne, ZeroOrMore, OneOrMore}
 use Rattle.qs_paths.specs.Closure.{leads, repeats}
 use Rattle.qs_paths.specs.Walk.{IsWalk, IsCount, Leads}
 use Rattle.qs_paths.proofs.Members.{Mem, or_cases, or_left, or_right}

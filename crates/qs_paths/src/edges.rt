@@ -53,7 +53,7 @@ fn in_graph<'a>(
     Ok(all)
 }
 
-/// Puts the quad behind those at the node.
+/// Puts the quad after those at the node.
 fn put<'a>(
     alloc: Global,
     map: &mut BTreeMap<Term, Vec<&'a Quad>>,

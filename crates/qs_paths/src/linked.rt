@@ -11,7 +11,7 @@ ghost use Rattle.qs_paths.specs.Edges.{lent};
 ghost use Rattle.qs_paths.specs.inner.Found.{Holds, begins};
 ghost use Rattle.qs_paths.specs.inner.Links.{AreStarts, HasSteps, IsAt, IsMarked, IsWeb, named, rows_of};
 ghost use Rattle.qs_paths.specs.Pairs.{is_step, pairs};
-ghost use Rattle.qs_tree.specs.declared.path.Repetition.TheVariants.{ZeroOrOne};
+ghost use Rattle.qs_syntax_tree.specs.declared.path.Repetition.TheVariants.{ZeroOrOne};
 
 use crate::found::{Found, left_ends, nodes};
 use crate::links::{Links, Numbered, links_of};
@@ -19,9 +19,9 @@ use crate::pair::Pair;
 use crate::reached::{Reached, put_reached};
 use crate::source::Source;
 use crate::sweep::put_in_order;
-use qs_ast::path::Path;
+use qs_syntax_ast::path::Path;
 use qs_terms::Term;
-use qs_tree::path::Repetition;
+use qs_syntax_tree::path::Repetition;
 use std::alloc::{AllocError, Global};
 
 /// Nodes from which all pairs of the closure lead. For `+` these are the left ends of the path's pairs: from another node no walk takes

@@ -13,7 +13,7 @@ ghost use Rattle.qs_paths.specs.inner.Found.{into_pair, kept};
 
 use crate::pair::Pair;
 use crate::source::{Edge, Source};
-use qs_ast::path::NegatedIri;
+use qs_syntax_ast::path::NegatedIri;
 use qs_terms::{Iri, Term};
 use std::alloc::{AllocError, Global};
 

@@ -1,11 +1,11 @@
 -- What the text of a query over a dataset is answered with: one of the answers that the algebra gives, or the one fault that is due.
 use Rattle.std.specs.Prelude.{◌≡◌, ℕ, List, None, Ok, Err}
 use Rattle.qs_terms.specs.Dataset.{Dataset, Triple, graph_of}
-use Rattle.qs_answer.specs.declared.answer.Answer.{Answer}
-use Rattle.qs_ast.specs.declared.query.Query.{Query}
+use Rattle.qs_query_answer.specs.declared.answer.Answer.{Answer}
+use Rattle.qs_syntax_ast.specs.declared.query.Query.{Query}
 use Rattle.qs_terms.specs.Outcome.{Outcome}
 use Rattle.qs_syntax.specs.Outcome.{IsQueryOutcome}
-use Rattle.qs_select.specs.Outcome.{IsOutcomeOfQuery}
+use Rattle.qs_query_forms.specs.Outcome.{IsOutcomeOfQuery}
 
 -- a text without fault is answered as its query is
 abbrev pub IsOutcomeOfParsed : Outcome Query → Dataset → List Triple → ℕ → Outcome Answer → Type 0

@@ -10,7 +10,7 @@ use Rattle.std.proofs.lemmas.Option.{none-some}
 use Rattle.std.proofs.lemmas.Cmp.{nat_list_cmp_total}
 use Rattle.serde_json.specs.Data.{Data, Members, no_members, member, put}
 use Rattle.qs_terms.specs.declared.term.Term.{Term}
-use Rattle.qs_solutions.specs.Solution.{Solution, term_at}
+use Rattle.qs_algebra_solutions.specs.Solution.{Solution, term_at}
 use Rattle.qs_results.specs.Json.{term_data, with_binding, with_bindings}
 use Rattle.qs_results.specs.inner.Columns.{with_front, members_of}
 
@@ -20,12 +20,12 @@ Columns = List (List ℕ × ℕ)
 abbrev by_bytes : List ℕ → List ℕ → Ordering
 by_bytes = slice_cmp nat_cmp
 
--- all names of the columns are behind the name
+-- all names of the columns are after the name
 abbrev pub Above : List ℕ → Columns → Type 0
 Above n [] = ⊤
 Above n (c ∷ cs) = (by_bytes n c.0 ≡ Less) × Above n cs
 
--- each name is before those behind it
+-- each name is before those after it
 abbrev pub Ascend : Columns → Type 0
 Ascend [] = ⊤
 Ascend (c ∷ cs) = Above c.0 cs × Ascend cs

@@ -1,4 +1,4 @@
--- What the tokens of a row come to.
+-- What the tokens of a row result in.
 use Rattle.std.proofs.Common.{◌≡◌, ◌≤◌, ℕ, zero, suc, List, [], ◌∷◌, ◌++◌, length, drop, refl, sym, ◌∙◌, ap, arith, append_assoc}
 use Rattle.json.specs.Token.{Token}
 use Rattle.json.specs.Tree.{members_tokens}
@@ -6,7 +6,7 @@ use Rattle.json.specs.Print.{print}
 use Rattle.serde_json.specs.Data.{object}
 use Rattle.serde_json.specs.Written.{compact_text, members_outline}
 use Rattle.serde_json.proofs.Texts.{print-outline}
-use Rattle.qs_solutions.specs.Solution.{Solution}
+use Rattle.qs_algebra_solutions.specs.Solution.{Solution}
 use Rattle.qs_results.specs.inner.Columns.{members_of}
 
 none_left : (cs : List (List ℕ × ℕ)) (i : ℕ) → length cs ≤ i → drop i cs ≡ []
@@ -26,6 +26,6 @@ module _ (cs : List (List ℕ × ℕ)) (row : Solution) where
       let whole : now ≡ Token.begin_object ∷ members_tokens (members_outline (members_of cs row)) = n ∙ (ap (λ z. old ++ z) (sym last) ∙ e) in
       rw (o, b) (ap (λ z. before ++ z) (ap print whole ∙ print-outline (object (members_of cs row))))
 
--- four pieces, one behind the other
+-- four pieces, one after the other
 pub behind : (a b c d e more last : List Token) (x w : Token) → b ≡ a ++ x ∷ [] → c ≡ b ++ more → d ≡ c ++ last → e ≡ d ++ w ∷ [] → e ≡ a ++ (x ∷ (more ++ (last ++ (w ∷ []))))
 behind a b c d e more last x w e1 e2 e3 e4 = rw (e4, e3, e2, e1) (simp append_assoc)

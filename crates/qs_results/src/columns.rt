@@ -9,7 +9,7 @@ ghost use Rattle.serde_json.specs.Data.{no_members};
 ghost use Rattle.qs_results.specs.inner.Columns.{members_of, AreColumns};
 ghost use Rattle.qs_results.specs.Json.{with_bindings};
 
-use qs_solutions::Row;
+use qs_algebra_solutions::Row;
 use qs_terms::Text;
 use std::alloc::{AllocError, Global};
 use std::collections::BTreeMap;

@@ -1,7 +1,7 @@
 //! Written forms: answers as JSON (SPARQL 1.1 Query Results JSON Format), graphs as N-Triples, faults as lines.
 //!
 //! What is written is defined in `specs/`: the JSON value of an answer in `Json.antt`, the lines of faults in `Lines.antt`; the text of
-//! a graph is that of `qs_nquads`. Want of memory is the only error of these calls.
+//! a graph is that of `qs_nquads`. Running out of memory is the only error of these calls.
 #![tactic(auto)]
 
 mod answer;

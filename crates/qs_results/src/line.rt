@@ -46,7 +46,7 @@ pub fn fault_status(fault: &QFault) -> u16
     }
 }
 
-/// The line of want of memory with its LF. It takes no memory.
+/// The line of running out of memory with its LF. It takes no memory.
 pub fn out_of_memory_line() -> &'static str
     ensures { result.now ≡ spec.fault_line Memory ++ 10 ∷ [] }
 {

@@ -12,7 +12,7 @@ ghost use Rattle.qs_results.specs.Json.{names_data, binding_data};
 use crate::columns::{bound_columns, columns_of};
 use crate::term::put_cell;
 use json::Writer;
-use qs_solutions::Row;
+use qs_algebra_solutions::Row;
 use qs_terms::Text;
 use serde_json::Value;
 use std::alloc::{AllocError, Global};
@@ -38,7 +38,7 @@ pub(crate) fn names_text(alloc: Global, vars: &[Text]) -> Result<String, AllocEr
     names.to_string(alloc)
 }
 
-/// The row's text behind what was written before.
+/// The row's text after what was written before.
 fn with_row(
     alloc: Global,
     columns: &[(Text, usize)],
@@ -101,7 +101,7 @@ fn with_each(
     Ok(out)
 }
 
-/// The rows' texts behind what was written before, with commas between them and a closing bracket behind them.
+/// The rows' texts after what was written before, with commas between them and a closing bracket after them.
 pub(crate) fn with_rows(
     alloc: Global,
     vars: &[Text],

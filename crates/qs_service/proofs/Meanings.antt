@@ -1,13 +1,13 @@
 -- From the clauses of queries and updates to what requests mean.
 use Rattle.std.proofs.Common.{◌≡◌, ◌≢◌, ◌∙◌, ap, ℕ, List, Result, Ok, Err, OnOk, OnErr, IfOk, IfErr}
-use Rattle.qs_terms.specs.Outcome.{Outcome, OneOrWantOfMemory}
+use Rattle.qs_terms.specs.Outcome.{Outcome, OneOrOutOfMemory}
 use Rattle.qs_terms.specs.Statement.{Statement}
 use Rattle.qs_terms.specs.declared.fault.QFault.TheVariants.{Memory}
-use Rattle.qs_answer.specs.declared.answer.Answer.{Answer}
+use Rattle.qs_query_answer.specs.declared.answer.Answer.{Answer}
 use Rattle.qs_nquads.specs.Written.{nquads_of}
-use Rattle.qs_plan.specs.Seen.{seen}
+use Rattle.old_plan.specs.Seen.{seen}
 use Rattle.qs_query.specs.Outcome as query
-use Rattle.qs_select.specs.Sequence.{dataset_of}
+use Rattle.qs_query_forms.specs.Sequence.{dataset_of}
 use Rattle.qs_store.specs.Content.{Content, Held}
 use Rattle.qs_store.specs.Same.{SameSet}
 use Rattle.qs_update.specs.Outcome as update
@@ -17,7 +17,7 @@ use Rattle.qs_service.specs.Meaning.{sparql}
 
 -- what a text is answered with over the quads of a store is an answer over what is stored
 pub answered : (held : Held) (text : List ℕ) (rows : ℕ) (r : Outcome Answer) → SameSet held.base.quads held.base.quads
-    → OneOrWantOfMemory (query.IsOutcomeOfText text (dataset_of (seen held.default_graph held.base.quads) held.base.next) rows) r → OneOrWantOfMemory (sparql.answers text (bounds_of rows held) held.base) r
+    → OneOrOutOfMemory (query.IsOutcomeOfText text (dataset_of (seen held.default_graph held.base.quads) held.base.next) rows) r → OneOrOutOfMemory (sparql.answers text (bounds_of rows held) held.base) r
 unfolding sparql
 answered held text rows (Ok answer) same due = (held.base.quads, same, due)
 answered held text rows (Err f) same due = λ other. (held.base.quads, same, due other)

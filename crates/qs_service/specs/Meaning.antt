@@ -2,11 +2,11 @@
 use Rattle.std.specs.Prelude.{◌≡◌, ℕ, List}
 use Rattle.qs_terms.specs.Outcome.{Outcome}
 use Rattle.qs_terms.specs.Statement.{Statement}
-use Rattle.qs_answer.specs.declared.answer.Answer.{Answer}
+use Rattle.qs_query_answer.specs.declared.answer.Answer.{Answer}
 use Rattle.qs_nquads.specs.Written.{nquads_of}
-use Rattle.qs_plan.specs.Seen.{seen}
+use Rattle.old_plan.specs.Seen.{seen}
 use Rattle.qs_query.specs.Outcome as query
-use Rattle.qs_select.specs.Sequence.{dataset_of}
+use Rattle.qs_query_forms.specs.Sequence.{dataset_of}
 use Rattle.qs_store.specs.Content.{Content}
 use Rattle.qs_store.specs.Same.{SameSet}
 use Rattle.qs_update.specs.Outcome as update

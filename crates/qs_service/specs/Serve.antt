@@ -15,7 +15,7 @@ use Rattle.qs_service.specs.declared.served.Served.TheVariants as served
 use Rattle.qs_service.specs.declared.served.ServeFault.{ServeFault}
 use Rattle.qs_service.specs.declared.served.ServeFault.TheVariants as fault
 
--- the bytes read came to this request or refusal, or memory was wanting: its step was made, and this is its reply
+-- the bytes read resulted in this request or refusal, or memory ran out: its step was made, and this is its reply
 abbrev pub IsAnsweredWith : Meaning → Bounds → Content → List ℕ → Content → Message → Type 0
 IsAnsweredWith m bounds old read new reply = Hears m bounds old (Reading []) read new (Answered reply 0)
 
@@ -30,7 +30,7 @@ ComesOf m bounds old read (Err fault.Read) new left before after = (new ≡ old)
 ComesOf m bounds old read (Err (fault.Write written)) new left before after =
     (reply : Message) × IsAnsweredWith m bounds old read new reply × (written < length (bytes_of reply)) × Appends before after (take written (bytes_of reply))
 
--- some bytes are read from the front of those that the stream gives, and come to this
+-- some bytes are read from the front of those that the stream gives, and result in this
 abbrev pub Serves : Meaning → Bounds → Content → Option (List ℕ) → Option (List ℕ) → Result Served ServeFault → Content → Option (List ℕ) → Type 0
 Serves m bounds old given before r new after =
     (read : List ℕ) × (left : Option (List ℕ)) × Consumes given left read × ComesOf m bounds old read r new left before after
@@ -40,7 +40,7 @@ abbrev pub CountsFault : {A : Type 0} → ℕ → ℕ → Result A ServeFault �
 CountsFault old new (Ok a) = new ≡ old
 CountsFault old new (Err e) = new ≡ one_more old
 
--- ---- what the reading alone came to
+-- ---- what the reading alone resulted in
 -- (It serves proofs: no promise of the product is read by it.)
 
 abbrev pub ListensTo : Meaning → Bounds → Content → List ℕ → Result (Option Message) ServeFault → Content → Option (List ℕ) → Type 0

@@ -24,7 +24,7 @@ abbrev pub exchange_of : ℕ → List Joined → Option Exchange
 exchange_of id [] = None
 exchange_of id (c ∷ joined) = if c.id == id then Some c.exchange else exchange_of id joined
 
--- that in place of what stood for that id
+-- that in place of what denoted that id
 abbrev pub put_exchange : ℕ → Exchange → List Joined → List Joined
 put_exchange id exchange [] = []
 put_exchange id exchange (c ∷ joined) = if c.id == id then record c { exchange = exchange } ∷ joined else c ∷ put_exchange id exchange joined

@@ -23,13 +23,13 @@ pub data Event : Type 0 where
 abbrev pub IsReply : Message → Exchange → Type 0
 IsReply reply exchange = exchange ≡ Answered reply 0
 
--- what a connection's bytes come to at this step: a request alone touches what is stored
+-- what a connection's bytes result in at this step: a request alone touches what is stored
 abbrev pub ComesTo : Meaning → Bounds → Content → List ℕ → Outcome → Content → Exchange → Type 0
 ComesTo m bounds old bytes More new exchange = (new ≡ old) × (exchange ≡ Reading bytes)
 ComesTo m bounds old bytes (Refused fixed) new exchange = (new ≡ old) × IsReply (fixed_message fixed) exchange
 ComesTo m bounds old bytes (Ready request) new exchange = (reply : Message) × Carries m bounds old request new reply × IsReply reply exchange
 
--- a connection and what is stored, before and after a piece: what its joined bytes come to, or memory was wanting and what is stored stays
+-- a connection and what is stored, before and after a piece: what its joined bytes result in, or memory ran out and what is stored stays
 abbrev pub Hears : Meaning → Bounds → Content → Exchange → List ℕ → Content → Exchange → Type 0
 Hears m bounds old (Answered reply taken) piece new exchange = (new ≡ old) × (exchange ≡ Answered reply taken)
 Hears m bounds old (Reading bytes) piece new exchange =

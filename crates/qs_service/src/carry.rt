@@ -16,7 +16,7 @@ ghost use Rattle.qs_update.specs.Request.{Bounds, bounds_of};
 use crate::meaning::{answer_over, dump, update_over};
 use crate::reply::Reply;
 use http::StatusCode;
-use qs_answer::Answer;
+use qs_query_answer::Answer;
 use qs_http::{Fixed, Media, Request, front};
 use qs_results::{fault_line, fault_status, json, ntriples};
 use qs_store::Store;
@@ -94,7 +94,7 @@ fn dumped(alloc: Global, store: &Store) -> Result<Reply, AllocError>
     made(alloc, 200, Media::NQuads, body)
 }
 
-/// The reply, or that of want of memory, which takes none.
+/// The reply, or that of running out of memory, which takes none.
 fn or_memory(made: Result<Reply, AllocError>) -> Reply
     ensures { MadeOf made result }
 {
@@ -104,7 +104,7 @@ fn or_memory(made: Result<Reply, AllocError>) -> Reply
     }
 }
 
-/// An update's reply. An accepted one has a fixed reply, so that want of memory never follows a change.
+/// An update's reply. An accepted one has a fixed reply, so that running out of memory never follows a change.
 fn changed(alloc: Global, text: &str, store: &mut Store, max_rows: u64) -> Reply
     ensures carried { CarriesOrMemory sparql (bounds_of max_rows store.old) store.old.base (Update text.now) store.new.base result }
     ensures limit { store.new.limit ≡ store.old.limit }
@@ -117,7 +117,7 @@ fn changed(alloc: Global, text: &str, store: &mut Store, max_rows: u64) -> Reply
     }
 }
 
-/// The request is carried out, and its reply is made. Where memory is wanting, what is stored stays.
+/// The request is carried out, and its reply is made. Where memory runs out, what is stored stays.
 pub fn carry_out(alloc: Global, request: &Request, store: &mut Store, max_rows: u64) -> Reply
     ensures carried { CarriesOrMemory sparql (bounds_of max_rows store.old) store.old.base request.now store.new.base result }
     ensures limit { store.new.limit ≡ store.old.limit }

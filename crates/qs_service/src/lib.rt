@@ -3,7 +3,7 @@
 //!
 //! `service` has the joined connections: a `connection` is what was read of its request, or its `reply`, and `table` says where it stands.
 //! `carry` makes the reply of a request, by what its `meaning` is over the store. `serve_one` serves one connection over a stream, and
-//! `sockets` one after another that come to a listener.
+//! `sockets` one after another that arrive at a listener.
 //!
 //! The definitions stand in `specs/`: what requests mean in `Meaning.antt`, the reply of one that is carried out in `Carried.antt`, the
 //! state of a service in `State.antt`, its steps and runs in `Step.antt`, and a connection over a stream in `Serve.antt`.

@@ -4,10 +4,10 @@ ghost use Rattle.std.specs.Prelude.{◌≡◌, IfOk, string_bytes};
 ghost use Rattle.qs_service.specs.inner.Changes.{Changes};
 ghost use Rattle.qs_service.specs.Meaning.{sparql};
 ghost use Rattle.qs_store.specs.Same.{SameSet};
-ghost use Rattle.qs_terms.specs.Outcome.{OneOrWantOfMemory};
+ghost use Rattle.qs_terms.specs.Outcome.{OneOrOutOfMemory};
 ghost use Rattle.qs_update.specs.Request.{bounds_of};
 
-use qs_answer::Answer;
+use qs_query_answer::Answer;
 use qs_nquads::text;
 use qs_query::answer;
 use qs_store::{Store, same_set_is_an_equivalence};
@@ -25,7 +25,7 @@ pub fn answer_over(
     store: &Store,
     max_rows: u64,
 ) -> Result<Answer, QFault>
-    ensures { OneOrWantOfMemory (sparql.answers text.now (bounds_of max_rows store.now) store.now.base) result }
+    ensures { OneOrOutOfMemory (sparql.answers text.now (bounds_of max_rows store.now) store.now.base) result }
 {
     same_set_is_an_equivalence();
     answer(alloc, text, store, max_rows)
@@ -59,7 +59,7 @@ fn quads_of(store: &Store) -> Result<Vec<Quad>, AllocError>
     }
 }
 
-/// The stored quads as N-Quads. The one error is want of memory.
+/// The stored quads as N-Quads. The one error is running out of memory.
 pub fn dump(alloc: Global, store: &Store) -> Result<String, AllocError>
     ensures { IfOk result (λ dump. sparql.writes store.now.base (string_bytes dump)) }
 {

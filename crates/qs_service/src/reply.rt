@@ -5,7 +5,7 @@ ghost use Rattle.std.specs.Prelude.{◌≡◌, string_bytes};
 use qs_http::{Fixed, fixed};
 use std::marker::Model;
 
-/// The bytes of a reply: those of a fixed one take no memory, and a body isn't copied behind what stands in front of it.
+/// The bytes of a reply: those of a fixed one take no memory, and a body isn't copied after what stands in front of it.
 #[derive(Drop)]
 pub enum Bytes {
     Made {
@@ -66,7 +66,7 @@ impl Reply {
         }
     }
 
-    /// The bytes in front of the body: the first line and the fields, and the empty line behind them. Those of a fixed reply are all of it.
+    /// The bytes in front of the body: the first line and the fields, and the empty line after them. Those of a fixed reply are all of it.
     pub fn front(&self) -> &[u8]
         ensures { result.now ≡ self.now.front }
     {

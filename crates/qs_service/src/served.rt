@@ -14,6 +14,6 @@ pub enum Served {
 pub enum ServeFault {
     /// A read failed, and nothing was carried out.
     Read,
-    /// A write failed behind that many bytes of the reply.
+    /// A write failed after that many bytes of the reply.
     Write { written: usize },
 }

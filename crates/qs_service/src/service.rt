@@ -60,8 +60,8 @@ impl Service {
     ghost use Rattle.qs_service.specs.contracts.service.Service.{the_row};
     ghost use Rattle.qs_update.specs.Request.{bounds_of};
 
-    /// A service over the store, with no connection. Queries, behind OFFSET and LIMIT, and the WHERE of an update may have `max_rows`
-    /// solutions. Want of memory for the table of connections hands the store back.
+    /// A service over the store, with no connection. Queries, after OFFSET and LIMIT, and the WHERE of an update may have `max_rows`
+    /// solutions. Running out of memory for the table of connections hands the store back.
     pub fn new(alloc: Global, store: Store, max_rows: u64) -> Result<Service, Store>
         ensures { MatchResult result (λ s. s ≡ record { stored = store.base; bounds = bounds_of max_rows store; joined = [] }) (λ back. back ≡ store) }
     {
@@ -85,7 +85,7 @@ impl Service {
     }
 
     /// Serves one connection apart from the joined ones. Pieces of at most 4,096 bytes are read until a reply stands, which is then
-    /// written; want of memory has its own reply.
+    /// written; running out of memory has its own reply.
     ///
     /// # Errors
     /// `ServeFault::Read` where a read failed: nothing was carried out. `ServeFault::Write` where a write did: the request was carried
@@ -117,7 +117,7 @@ impl Service {
     }
 
     /// A piece of bytes comes. Where it brings the last byte of a request, the request is carried out and its reply stands; want of
-    /// memory makes the reply that of want of memory. On a connection with a reply it changes nothing, and takes no memory.
+    /// memory makes the reply that of running out of memory. On a connection with a reply it changes nothing, and takes no memory.
     ///
     /// # Errors
     /// `UnknownId` where the id isn't joined.

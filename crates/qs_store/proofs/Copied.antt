@@ -80,7 +80,7 @@ pub found_so : {X E : Type 0} (P Q : X → Type 0) (result : Result X E) → ((x
 found_so P Q (Ok x) f h = f x h
 found_so P Q (Err e) f h = tt
 
--- a loop that came to its end has taken all
+-- a loop that resulted in its end has taken all
 pub all_taken : {X : Type 0} (i : ℕ) (xs : List X) → i ≤ length xs → length xs ≤ i → take i xs ≡ xs
 all_taken i xs l n = let e : i ≡ length xs = omega arith in ap (λ k. take k xs) e ∙ take-length xs
 

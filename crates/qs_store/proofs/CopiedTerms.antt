@@ -100,7 +100,7 @@ some_copied known name (r ∷ rs) q c h = name_alone known name r rs h
 knows_triples : (known : List Term) (quads : List Statement) (from : Option Term) → ((q : Statement) → Contains quads q → HasKnownTerms known q) → KnowsTriples known (in_graph from quads)
 knows_triples known quads from h r c = let f = member_of_filter (is_in from) r quads c in let k = h r f.0 in (k.subject, k.predicate, k.object)
 
--- the known terms behind a copy: with the name of the graph that the quads are put into, where there are any
+-- the known terms after a copy: with the name of the graph that the quads are put into, where there are any
 pub terms_copied : (terms : List Term) (entries : Entries) (from to : Option Term) (q : Statement) → AreEntries terms entries → Contains (in_graph from (said terms entries)) q → with_terms terms (cons_option to []) ≡ with_terms_of terms (copies from to (said terms entries))
 terms_copied terms entries from to q all c =
     sym (some_copied terms to (in_graph from (said terms entries)) q c (knows_triples terms (said terms entries) from (draft_known terms entries 0 all)))

@@ -24,7 +24,7 @@ use Rattle.qs_store.proofs.Stored.{base_said, store_changed, store_settled}
 
 -- ---- a quad is numbered
 
--- the store and its draft stay as they were, with more terms behind
+-- the store and its draft stay as they were, with more terms after
 pub store_more : (terms more : List Term) (base draft : Entries) (known next n : ℕ) → IsStore terms base draft known next n → IsFront terms more → Distinct same_term more → IsStore more base draft known next n
 store_more terms more base draft known next n s f u = record {
   distinct = u;
@@ -38,7 +38,7 @@ store_more terms more base draft known next n s f u = record {
 pub draft_said : (terms more : List Term) (draft : Entries) → IsFront terms more → AreEntries terms draft → said more draft ≡ said terms draft
 draft_said terms more draft f h = still_said terms more draft (front_length terms more f) (front_keeps terms more f) h
 
--- the quad's entry behind others
+-- the quad's entry after others
 pub said_behind : (terms more : List Term) (entries : Entries) (q : Statement) (e : List ℕ) → IsFront terms more → Distinct same_term more → IsTrue (fits_places q.graph q.subject q.predicate) → entry_of more q ≡ Some e → AreEntries terms entries → IsSaidBehind terms entries q more e
 said_behind terms more entries q e f u fits found h =
     let before : AreEntries more entries = still_entries terms more entries (front_length terms more f) (front_keeps terms more f) h in

@@ -211,7 +211,7 @@ unrepeated_only last (y ∷ ys) z c =
     at_test false i j m =
         ⊎_elim (λ e. subst (Contains (y ∷ ys)) e (here y ys)) (λ t. there y z ys (j t)) (head_or_tail y (unrepeated (Some y) ys) z m)
 
--- what comes behind the last that was handed out stands behind it
+-- what comes after the last that was handed out stands after it
 past_last : (key : Key) (x : List ℕ) (ys : Entries) → ((y : List ℕ) → Contains ys y → (is_before (key x) (key y) ≡ true) ⊎ (x ≡ y)) → IsRising key ys → (z : List ℕ) → Contains (unrepeated (Some x) ys) z → is_before (key x) (key z) ≡ true
 past_last key x [] h u z c = absurd (nothing z c)
 past_last key x (y ∷ ys) h u z c = at_test (bytes_eq x y) refl (λ m. past_last key x ys (λ w n. h w (there y w ys n)) u.1 z m) c
@@ -253,7 +253,7 @@ unrepeated_has last (y ∷ ys) z c n =
     at_test false e i j =
         ⊎_elim (λ s. subst (Contains (y ∷ unrepeated (Some y) ys)) s (here y (unrepeated (Some y) ys))) (λ m. differs (bytes_eq y z) refl j m) (head_or_tail y ys z c)
 
--- three numbers before three others, with one more behind each
+-- three numbers before three others, with one more after each
 before_longer : (a b c d e f g h : ℕ) → is_before (a ∷ b ∷ c ∷ g ∷ []) (d ∷ e ∷ f ∷ h ∷ []) ≡ true → (is_before (a ∷ b ∷ c ∷ []) (d ∷ e ∷ f ∷ []) ≡ true) ⊎ (a ∷ b ∷ c ∷ [] ≡ d ∷ e ∷ f ∷ [])
 before_longer a b c d e f g h k = at_test (is_before (a ∷ b ∷ c ∷ []) (d ∷ e ∷ f ∷ [])) refl
   where

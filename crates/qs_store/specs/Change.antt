@@ -16,7 +16,7 @@ IsChanged {X} old removed added new = (x : X) → Contains new x ↔ ((Contains 
 abbrev pub terms_of : Statement → List Term
 terms_of q = cons_option q.graph (q.subject ∷ q.predicate ∷ q.object ∷ [])
 
--- the terms with these behind them, each once
+-- the terms with these after them, each once
 abbrev pub with_terms : List Term → List Term → List Term
 with_terms known [] = known
 with_terms known (term ∷ terms) = with_terms (with_new same_term known term) terms

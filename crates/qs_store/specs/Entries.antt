@@ -55,7 +55,7 @@ said terms entries = map (statement_of terms) entries
 abbrev pub AreEntries : List Term → List (List ℕ) → Type 0
 AreEntries terms entries = (x : List ℕ) → Contains entries x → IsEntryOf terms x
 
--- with an entry behind them, entries over more terms say what they said, with its quad behind it
+-- with an entry after them, entries over more terms say what they said, with its quad after it
 pub record IsSaidBehind (terms : List Term) (entries : List (List ℕ)) (q : Statement) (more : List Term) (entry : List ℕ) : Type 0 where
   pub entries_are : AreEntries more (entries ++ entry ∷ [])
   pub says : said more (entries ++ entry ∷ []) ≡ said terms entries ++ q ∷ []

@@ -63,7 +63,7 @@ impl<'a> Draft<'a> {
         store.scan_draft(active, subject, predicate, object)
     }
 
-    /// The quads of the draft, each once, in the order of quads (`Quad::order`), as copies. Its one refusal is want of memory.
+    /// The quads of the draft, each once, in the order of quads (`Quad::order`), as copies. Its one refusal is running out of memory.
     pub fn quads(&self) -> Result<Vec<Quad>, StoreFault>
         ensures same { IfOk result (λ quads. SameBag self.now.store.now.draft.quads quads.items) }
         ensures ascending { IfOk result (λ quads. IsSorted ⟦<Quad as Ord>⟧.cmp quads.items) }
@@ -73,7 +73,7 @@ impl<'a> Draft<'a> {
         store.draft_quads()
     }
 
-    /// The numbers of the names of the graphs that have quads in the draft, ascending. Its one refusal is want of memory.
+    /// The numbers of the names of the graphs that have quads in the draft, ascending. Its one refusal is running out of memory.
     pub fn graphs(&self) -> Result<Vec<u32>, StoreFault>
         ensures graphs { IfOk result (λ graphs. AreGraphs self.now.store.now.draft graphs.items) }
         ensures memory { IfErr result (λ fault. fault ≡ Memory) }
@@ -171,7 +171,7 @@ impl<'a> Draft<'a> {
     }
 
     /// Removes the quads in the graph of this name, or in the default graph, in a time that goes by these (SPARQL 1.1 Update, 3.1.5). The
-    /// known terms stay, and the next number does; each growth that a commit will need is made. Its one refusal is want of memory, which
+    /// known terms stay, and the next number does; each growth that a commit will need is made. Its one refusal is running out of memory, which
     /// leaves the draft as it was.
     pub fn clear_graph(&mut self, name: Option<&Term>) -> Result<(), StoreFault>
         ensures same_reference { self.new.store.ghost_name ≡ self.old.store.ghost_name }
@@ -255,7 +255,7 @@ impl<'a> Draft<'a> {
         ensures quads { self.new.store.now.draft.quads ≡ self.old.store.now.draft.quads }
         ensures next { self.new.store.now.draft.next ≡ self.old.store.now.draft.next }
 
-        // Entries over the terms that were known, with this one behind them, say what they said, with the quad behind it.
+        // Entries over the terms that were known, with this one after them, say what they said, with the quad after it.
         ensures said { IfOk result (λ entry. (entries : List (List ℕ)) → AreEntries self.old.store.now.draft.known entries → IsSaidBehind self.old.store.now.draft.known entries quad.now self.new.store.now.draft.known entry) }
         ensures known { OnOk result ((first : List Term) (quads : List Statement) → self.old.store.now.draft.known ≡ with_terms_of first quads → self.new.store.now.draft.known ≡ with_terms_of first (quads ++ quad.now ∷ [])) }
         ensures full { IfErr result (λ fault. (first : List Term) (quads more : List Statement) → self.old.store.now.draft.known ≡ with_terms_of first quads → IsFullAt fault self.old.store.now.limit (length (with_terms_of first (quads ++ quad.now ∷ more)))) }
@@ -268,7 +268,7 @@ impl<'a> Draft<'a> {
 
     /// Makes the draft's quads and those of the entries those of the store, and its known terms those of the store; `next` becomes the
     /// next blank node's number. The entries are left in some order. It puts them in without a draft of them, which makes this the fast
-    /// way to load many quads. Its one refusal is want of memory, which leaves the store as it was, its known terms included.
+    /// way to load many quads. Its one refusal is running out of memory, which leaves the store as it was, its known terms included.
     pub fn commit_with(self, entries: &mut [[u32; 4]], next: u64) -> Result<(), StoreFault>
         requires entries { AreEntries self.store.now.draft.known entries.old }
         requires next { self.store.now.draft.next ≤ next }

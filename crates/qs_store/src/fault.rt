@@ -14,7 +14,7 @@ pub enum StoreFault {
     /// The known terms and the new ones are more than the limit.
     #[error("the store is full")]
     Full,
-    /// Want of memory.
+    /// Running out of memory.
     #[error("out of memory")]
     Memory,
 }

@@ -120,7 +120,7 @@ fn put_together(
     Ok(())
 }
 
-/// Puts a value in the place of another, which is let go by one call.
+/// Puts a value in the place of another, which is dropped by one call.
 fn set<T: Drop>(slot: &mut T, value: T)
     ensures { slot.new ≡ value }
 {
@@ -166,7 +166,7 @@ fn kept(alloc: Global, index: &Index, removed: &Index) -> Result<Vec<[u32; 4]>, 
     Ok(kept)
 }
 
-/// Puts the entries of the index behind the list.
+/// Puts the entries of the index after the list.
 fn put_behind(list: &mut Vec<[u32; 4]>, index: &Index) -> Result<(), AllocError>
     ensures { OnOk result (list.new.items ≡ list.old.items ++ index.now.entries) }
 {

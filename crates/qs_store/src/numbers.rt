@@ -48,7 +48,7 @@ pub fn entries_of(alloc: Global, dict: &Dict, quads: &[Quad]) -> Result<Vec<[u32
         .collect(alloc)
 }
 
-/// The number of the term, which is put behind the others where it is new.
+/// The number of the term, which is put after the others where it is new.
 fn put(dict: &mut Dict, term: &Term) -> Result<u32, StoreFault>
     ensures number { IfOk result (λ n. number_of dict.new.terms term.now ≡ Some n) }
     ensures terms { OnOk result (dict.new.terms ≡ with_new same_term dict.old.terms term.now) }
@@ -77,7 +77,7 @@ pub fn put_graph(dict: &mut Dict, graph: Option<&Term>) -> Result<u32, StoreFaul
     }
 }
 
-/// The entry of the quad, whose new terms are put behind the others in the dictionary.
+/// The entry of the quad, whose new terms are put after the others in the dictionary.
 pub fn numbered(dict: &mut Dict, quad: &Quad) -> Result<[u32; 4], StoreFault>
     ensures entry { IfOk result (λ entry. entry_of dict.new.terms quad.now ≡ Some entry) }
     ensures terms { OnOk result (dict.new.terms ≡ with_terms dict.old.terms (terms_of quad.now)) }
@@ -94,7 +94,7 @@ pub fn numbered(dict: &mut Dict, quad: &Quad) -> Result<[u32; 4], StoreFault>
     Ok([g, s, p, o])
 }
 
-/// The entries of the quads, whose new terms are put behind the others in the dictionary.
+/// The entries of the quads, whose new terms are put after the others in the dictionary.
 pub fn numbered_all(
     alloc: Global,
     dict: &mut Dict,

@@ -21,7 +21,7 @@ pub fn same_sets_change_alike()
     ensures { (old removed added new old2 removed2 added2 new2 : List Statement) → SameSet old old2 → SameSet removed removed2 → SameSet added added2 → IsChanged old removed added new → IsChanged old2 removed2 added2 new2 → SameSet new new2 }
 {}
 
-/// A law: the known terms with those of quads behind them are what a change that adds the quads makes known.
+/// A law: the known terms with those of quads after them are what a change that adds the quads makes known.
 pub fn quads_make_their_terms_known()
     ensures { (known : List Term) (quads : List Statement) → KnowsTermsOf known quads (with_terms_of known quads) }
 {}

@@ -37,7 +37,7 @@ use std::hash::RandomState;
 use std::marker::Model;
 
 /// A set of quads, a next blank node's number and a list of known terms (RDF 1.1 Concepts, 4: a dataset without empty named graphs).
-/// While a draft is open its terms stand behind those that the store knows, and its entries apart from those of the store.
+/// While a draft is open its terms stand after those that the store knows, and its entries apart from those of the store.
 #[derive(Drop)]
 pub struct Store {
     alloc: Global,
@@ -67,7 +67,7 @@ impl Model for Store {
 }
 
 /// Makes a change of quads in a dictionary and in the entries of a draft. Where it is refused the draft's entries stay, and the
-/// dictionary may have terms behind those that it had.
+/// dictionary may have terms after those that it had.
 fn change(
     alloc: Global,
     dict: &mut Dict,
@@ -270,7 +270,7 @@ impl Store {
         self.layers.scan_draft(graphs, subject, predicate, object)
     }
 
-    /// The numbers of the names of the graphs that have quads, ascending. Its one refusal is want of memory.
+    /// The numbers of the names of the graphs that have quads, ascending. Its one refusal is running out of memory.
     pub fn graphs(&self) -> Result<Vec<u32>, StoreFault>
         ensures graphs { IfOk result (λ graphs. AreGraphs self.now.base graphs.items) }
         ensures memory { IfErr result (λ fault. fault ≡ Memory) }
@@ -298,7 +298,7 @@ impl Store {
         }
     }
 
-    /// The quads, each once, in the order of quads (`Quad::order`), as copies. Its one refusal is want of memory.
+    /// The quads, each once, in the order of quads (`Quad::order`), as copies. Its one refusal is running out of memory.
     pub fn quads(&self) -> Result<Vec<Quad>, StoreFault>
         ensures same { IfOk result (λ quads. SameBag self.now.base.quads quads.items) }
         ensures ascending { IfOk result (λ quads. IsSorted ⟦<Quad as Ord>⟧.cmp quads.items) }

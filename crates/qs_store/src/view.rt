@@ -69,12 +69,12 @@ pub trait View {
     ) -> Triples<'_>
         ensures { AreTriples (content self.now) (default_seen self.now) active subject predicate object result };
 
-    /// The numbers of the names of the graphs that have quads, ascending. Its one refusal is want of memory.
+    /// The numbers of the names of the graphs that have quads, ascending. Its one refusal is running out of memory.
     fn graphs(&self) -> Result<Vec<u32>, StoreFault>
         ensures graphs { IfOk result (λ graphs. AreGraphs (content self.now) graphs.items) }
         ensures memory { IfErr result (λ fault. fault ≡ Memory) };
 
-    /// The quads, each once, in the order of quads (`Quad::order`), as copies. Its one refusal is want of memory.
+    /// The quads, each once, in the order of quads (`Quad::order`), as copies. Its one refusal is running out of memory.
     fn quads(&self) -> Result<Vec<Quad>, StoreFault>
         ensures same { IfOk result (λ quads. SameBag (content self.now).quads quads.items) }
         ensures ascending { IfOk result (λ quads. IsSorted ⟦<Quad as Ord>⟧.cmp quads.items) }

@@ -87,7 +87,7 @@ fn entries_removed(
     }
 }
 
-/// The entries of the quads in a graph, put into another one. The name of that one is put behind the other terms in the dictionary where
+/// The entries of the quads in a graph, put into another one. The name of that one is put after the other terms in the dictionary where
 /// there are such quads and it is new.
 fn entries_copied(
     alloc: Global,
@@ -113,7 +113,7 @@ fn entries_copied(
 }
 
 /// Puts the quads of a graph into another one, where those of `removal` are removed before. Where it is refused the draft's entries stay,
-/// and the dictionary may have a term behind those that it had.
+/// and the dictionary may have a term after those that it had.
 pub fn transfer(
     alloc: Global,
     dict: &mut Dict,

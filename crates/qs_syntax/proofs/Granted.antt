@@ -4,25 +4,25 @@ use Rattle.std.specs.Prelude.{nat_eq, codes, if◌then◌else◌}
 use Rattle.std.specs.Str.{bytes_eq, str_eq_ignore_ascii_case}
 use Rattle.std.specs.List.{AllByRecursion, list_all, list_any, position_or_len, before_first, after_first}
 use Rattle.std.proofs.lemmas.Bool.{and_parts, or_parts, not-true, eqb-false}
-use Rattle.qs_escapes.specs.Decoded.{decoded, unescaped}
-use Rattle.qs_escapes.specs.Escape.{uchar, string_escape}
-use Rattle.qs_escapes.specs.Piece.{piece}
-use Rattle.qs_forms.specs.Backslashes.{escapes_begin}
-use Rattle.qs_forms.proofs.Pieces.{piece_between}
+use Rattle.qs_lex_escapes.specs.Decoded.{decoded, unescaped}
+use Rattle.qs_lex_escapes.specs.Escape.{uchar, string_escape}
+use Rattle.qs_lex_escapes.specs.Piece.{piece}
+use Rattle.qs_lex_forms.specs.Backslashes.{escapes_begin}
+use Rattle.qs_lex_forms.proofs.Pieces.{piece_between}
 use Rattle.qs_lex.specs.Lexes.{Lexeme, Lexes}
 use Rattle.qs_lex.specs.Parts as parts
 use Rattle.qs_lex.specs.Parts.{StandsIn, IsSound, IsMadeOf, begins_with}
 use Rattle.qs_lex.specs.declared.token.Class.{Class}
 use Rattle.qs_lex.specs.declared.token.Class.TheVariants as class
-use Rattle.qs_resolve.specs.Names.{is_colon, marks}
+use Rattle.qs_syntax_resolve.specs.Names.{is_colon, marks}
 use Rattle.qs_terms.specs.Iri.{is_excluded}
 use Rattle.qs_terms.specs.Tag.{is_tag}
-use Rattle.qs_tree.specs.Words.{word_kind, mark_kind, find_kind, keywords}
-use Rattle.qs_tree.specs.Words as words
-use Rattle.qs_tree.specs.declared.kind.Kind.{Kind}
-use Rattle.qs_tree.specs.declared.kind.Kind.TheVariants as k
-use Rattle.qs_tree.specs.declared.token.Span.{Span}
-use Rattle.qs_tree.specs.declared.token.Token.{Token}
+use Rattle.qs_syntax_tree.specs.Words.{word_kind, mark_kind, find_kind, keywords}
+use Rattle.qs_syntax_tree.specs.Words as words
+use Rattle.qs_syntax_tree.specs.declared.kind.Kind.{Kind}
+use Rattle.qs_syntax_tree.specs.declared.kind.Kind.TheVariants as k
+use Rattle.qs_syntax_tree.specs.declared.token.Span.{Span}
+use Rattle.qs_syntax_tree.specs.declared.token.Token.{Token}
 use Rattle.qs_syntax.specs.Granted.{IsIri, IsName, IsPrefix, IsVariable, IsLabel, IsLangTag, IsString, IsGranted, IsGrantedToken, ends}
 use Rattle.qs_syntax.specs.Kinds.{kind_of, token_of}
 use Rattle.qs_syntax.specs.Text.{AreTokensOf}

@@ -1,19 +1,19 @@
 -- A text without tokens is no query, and its end is to blame; as an update it has no operation.
 use Rattle.std.proofs.Common.{◌≡◌, inl, inr, sym, ℕ, List, [], length, Ok, Err, refl, subst, arith}
 use Rattle.std.proofs.lemmas.List.{nil_from_length}
-use Rattle.qs_grammar.specs.Grammar.{Spells, read, whole}
-use Rattle.qs_grammar.specs.declared.fault.Fault.TheVariants as reading
-use Rattle.qs_grammar.proofs.Whole.{found_spelt, is_due, none_spelt}
+use Rattle.qs_syntax_grammar.specs.Grammar.{Spells, read, whole}
+use Rattle.qs_syntax_grammar.specs.declared.fault.Fault.TheVariants as reading
+use Rattle.qs_syntax_grammar.proofs.Whole.{found_spelt, is_due, none_spelt}
 use Rattle.std.proofs.lemmas.Str.{chars-nil}
 use Rattle.qs_syntax.specs.Outcome.{screened, update_outcome, no_operation, IsQueryOutcome, IsUpdateOutcome}
-use Rattle.qs_ast.specs.declared.update.Update.{Update}
+use Rattle.qs_syntax_ast.specs.declared.update.Update.{Update}
 use Rattle.qs_terms.specs.declared.fault.QFault.TheVariants as fault
-use Rattle.qs_tree.specs.declared.token.Token.{Token}
-use Rattle.qs_tree.specs.Rules.{prologue, query_form, select, construct, ask, select_clause, prefix_declaration, query, values}
-use Rattle.qs_tree.specs.Rules as rules
-use Rattle.qs_tree.specs.Sparql.{sparql}
-use Rattle.qs_tree.specs.Table.{grammar}
-use Rattle.qs_tree.proofs.Sure.{lawful, passes_each, examples, query_starts, update_starts}
+use Rattle.qs_syntax_tree.specs.declared.token.Token.{Token}
+use Rattle.qs_syntax_tree.specs.Rules.{prologue, query_form, select, construct, ask, select_clause, prefix_declaration, query, values}
+use Rattle.qs_syntax_tree.specs.Rules as rules
+use Rattle.qs_syntax_tree.specs.Sparql.{sparql}
+use Rattle.qs_syntax_tree.specs.Table.{grammar}
+use Rattle.qs_syntax_tree.proofs.Sure.{lawful, passes_each, examples, query_starts, update_starts}
 use Rattle.qs_syntax.specs.Text.{AreTokensOf, IsBlamed}
 
 nothing_read : whole (read grammar 0 query []) ≡ Err (reading.Syntax 0)

@@ -1,11 +1,11 @@
--- No token comes to an update without operations.
+-- No token results in an update without operations.
 use Rattle.std.proofs.Common.{◌≡◌, ℕ, List, [], Ok, refl}
 use Rattle.qs_syntax.specs.Outcome.{update_outcome, no_operation}
-use Rattle.qs_limits.specs.Large as large
-use Rattle.qs_resolve.specs.Resolved.{resolved_update}
-use Rattle.qs_resolve.specs.Update.{update, step}
-use Rattle.qs_scope.specs.KeepsScope.{update_keeps_scope}
-use Rattle.qs_scope.specs.VariablesIn.{update_variables}
+use Rattle.qs_syntax_limits.specs.Large as large
+use Rattle.qs_syntax_resolve.specs.Resolved.{resolved_update}
+use Rattle.qs_syntax_resolve.specs.Update.{update, step}
+use Rattle.qs_syntax_scope.specs.KeepsScope.{update_keeps_scope}
+use Rattle.qs_syntax_scope.specs.VariablesIn.{update_variables}
 
 pub nothing : (text : List ℕ) → update_outcome text [] no_operation ≡ Ok (record { operations = []; variables = [] })
 unfolding update_outcome resolved_update update step update_keeps_scope update_variables large.update

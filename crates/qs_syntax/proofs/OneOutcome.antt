@@ -1,13 +1,13 @@
--- A text comes to one thing at most.
+-- A text results in one thing at most.
 use Rattle.std.proofs.Common.{◌≡◌, ◌≤◌, ◌<◌, ◌+◌, ℕ, List, ◌++◌, length, take, drop, map, Ok, Err, sym, ◌∙◌, ap, subst, ⊎_elim, inl, inr, arith, append_assoc}
 use Rattle.std.proofs.lemmas.Bool.{cases_lt}
 use Rattle.std.proofs.lemmas.List.{take-take, take-append-drop}
-use Rattle.qs_grammar.specs.Grammar.{Spells, IsDue, IsViable}
+use Rattle.qs_syntax_grammar.specs.Grammar.{Spells, IsDue, IsViable}
 use Rattle.qs_lex.specs.Lexes.{Lexeme, Lexes, StopsAt}
 use Rattle.qs_terms.specs.declared.fault.QFault.TheVariants as fault
-use Rattle.qs_tree.specs.declared.token.Token.{Token}
-use Rattle.qs_tree.specs.Sparql.{Rule}
-use Rattle.qs_tree.specs.Table.{grammar, IsUnambiguous}
+use Rattle.qs_syntax_tree.specs.declared.token.Token.{Token}
+use Rattle.qs_syntax_tree.specs.Sparql.{Rule}
+use Rattle.qs_syntax_tree.specs.Table.{grammar, IsUnambiguous}
 use Rattle.qs_terms.specs.Outcome.{Outcome}
 use Rattle.qs_syntax.specs.Outcome.{screened, AfterScreen, IsParsed}
 use Rattle.qs_syntax.specs.Kinds.{token_of}

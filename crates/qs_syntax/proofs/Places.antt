@@ -1,11 +1,11 @@
--- Want of memory stays what it is beside a place.
+-- Running out of memory stays what it is beside a place.
 use Rattle.std.proofs.Common.{ℕ, Option, Some, None, Ok, Err, ap, refl}
-use Rattle.qs_terms.specs.Outcome.{Outcome, OrWantOfMemory}
+use Rattle.qs_terms.specs.Outcome.{Outcome, OrOutOfMemory}
 use Rattle.qs_terms.specs.declared.fault.QFault.TheVariants as fault
 use Rattle.qs_syntax.specs.Outcome.{by_place}
 
 -- what is due of a resolved tree is due beside its place
-pub placed : {A : Type 0} (due r : Outcome (Option A)) (large : Option ℕ) → OrWantOfMemory due r → OrWantOfMemory (by_place due large) (by_place r large)
+pub placed : {A : Type 0} (due r : Outcome (Option A)) (large : Option ℕ) → OrOutOfMemory due r → OrOutOfMemory (by_place due large) (by_place r large)
 placed due (Ok None) None g = λ n. ap (λ o. by_place o None) g
 placed due (Ok (Some a)) None g = ap (λ o. by_place o None) g
 placed due (Ok found) (Some p) g = λ n. ap (λ o. by_place o (Some p)) g

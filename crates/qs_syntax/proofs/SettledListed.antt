@@ -1,22 +1,22 @@
 -- What is settled lists its variables.
 use Rattle.std.proofs.Common.{◌≡◌, ℕ, ◌||◌, List, Ok, Err, subst, ◌∙◌}
 use Rattle.std.proofs.lemmas.Bool.{or_right}
-use Rattle.qs_ast.specs.declared.query.Query.{Query}
-use Rattle.qs_ast.specs.declared.update.Update.{Update}
-use Rattle.qs_limits.specs.Large as large
-use Rattle.qs_resolve.specs.Resolved.{resolved_query, resolved_update}
-use Rattle.qs_scope.specs.Firsts.{names_of}
-use Rattle.qs_scope.specs.KeepsScope.{query_keeps_scope, update_keeps_scope}
-use Rattle.qs_scope.specs.Laws.{AreListed}
-use Rattle.qs_scope.specs.Names.{Name, contains}
-use Rattle.qs_scope.specs.VariablesIn.{in_query, in_update, query_variables, update_variables}
+use Rattle.qs_syntax_ast.specs.declared.query.Query.{Query}
+use Rattle.qs_syntax_ast.specs.declared.update.Update.{Update}
+use Rattle.qs_syntax_limits.specs.Large as large
+use Rattle.qs_syntax_resolve.specs.Resolved.{resolved_query, resolved_update}
+use Rattle.qs_syntax_scope.specs.Firsts.{names_of}
+use Rattle.qs_syntax_scope.specs.KeepsScope.{query_keeps_scope, update_keeps_scope}
+use Rattle.qs_syntax_scope.specs.Laws.{AreListed}
+use Rattle.qs_syntax_scope.specs.Names.{Name, contains}
+use Rattle.qs_syntax_scope.specs.VariablesIn.{in_query, in_update, query_variables, update_variables}
 use Rattle.qs_syntax.specs.Outcome.{by_place, in_scope, variables_of, listed_query, listed_update, query_outcome, update_outcome}
 use Rattle.qs_terms.specs.Outcome.{Outcome, and_then}
-use Rattle.qs_tree.specs.declared.query.Query.{Query as WrittenQuery}
-use Rattle.qs_tree.specs.declared.token.Token.{Token}
-use Rattle.qs_tree.specs.declared.update.Update.{Update as WrittenUpdate}
+use Rattle.qs_syntax_tree.specs.declared.query.Query.{Query as WrittenQuery}
+use Rattle.qs_syntax_tree.specs.declared.token.Token.{Token}
+use Rattle.qs_syntax_tree.specs.declared.update.Update.{Update as WrittenUpdate}
 
--- a value behind an outcome is made of the outcome's
+-- a value after an outcome is made of the outcome's
 made : {A B : Type 0} (o : Outcome A) (f : A → B) (b : B) → and_then o (λ a. Ok (f a)) ≡ Ok b → (a : A) × (f a ≡ b)
 made (Ok a) f b e = (a, cc)
 made (Err fault) f b e = absurd cc

@@ -1,16 +1,16 @@
--- A text comes to something.
+-- A text results in something.
 use Rattle.std.proofs.Common.{◌≡◌, ◌⊎◌, inl, inr, ◌-◌, ℕ, true, List, length, map, Result, Ok, Err, refl, arith, IsUtf8}
-use Rattle.qs_grammar.specs.Grammar.{Spells, is_start, read, whole}
-use Rattle.qs_grammar.specs.declared.fault.Fault.{Fault}
-use Rattle.qs_grammar.specs.declared.fault.Fault.TheVariants as reading
-use Rattle.qs_grammar.proofs.Whole.{found_spelt, not_deep, is_due, none_spelt}
+use Rattle.qs_syntax_grammar.specs.Grammar.{Spells, is_start, read, whole}
+use Rattle.qs_syntax_grammar.specs.declared.fault.Fault.{Fault}
+use Rattle.qs_syntax_grammar.specs.declared.fault.Fault.TheVariants as reading
+use Rattle.qs_syntax_grammar.proofs.Whole.{found_spelt, not_deep, is_due, none_spelt}
 use Rattle.qs_lex.specs.Lexes.{Lexeme, Lexes, StopsAt}
 use Rattle.qs_terms.specs.Outcome.{Outcome}
 use Rattle.qs_terms.specs.declared.fault.QFault.TheVariants as fault
-use Rattle.qs_tree.specs.declared.token.Token.{Token}
-use Rattle.qs_tree.specs.Sparql.{Rule, sparql}
-use Rattle.qs_tree.specs.Table.{grammar}
-use Rattle.qs_tree.proofs.Sure.{lawful, passes_each, examples}
+use Rattle.qs_syntax_tree.specs.declared.token.Token.{Token}
+use Rattle.qs_syntax_tree.specs.Sparql.{Rule, sparql}
+use Rattle.qs_syntax_tree.specs.Table.{grammar}
+use Rattle.qs_syntax_tree.proofs.Sure.{lawful, passes_each, examples}
 use Rattle.qs_syntax.specs.Outcome.{screened, AfterScreen, IsParsed}
 use Rattle.qs_syntax.specs.Kinds.{token_of}
 use Rattle.qs_syntax.specs.Text.{IsBlamed, place_of_number}

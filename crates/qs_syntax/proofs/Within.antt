@@ -1,18 +1,18 @@
 -- Where a limit is passed the variables that a tree is given don't matter.
 use Rattle.std.proofs.Common.{◌≡◌, ℕ, List, [], Option, None, Some, Ok, Err, ap, subst, refl}
-use Rattle.qs_ast.specs.declared.query.Query.{Query}
-use Rattle.qs_ast.specs.declared.term.Variable.{Variable}
-use Rattle.qs_ast.specs.declared.update.Update.{Update}
-use Rattle.qs_resolve.specs.Names.{nothing_declared}
-use Rattle.qs_resolve.specs.Query.{query, prologue, form_of, trailing}
-use Rattle.qs_resolve.specs.Resolved.{resolved_query, resolved_update, start}
-use Rattle.qs_resolve.specs.Update.{update, steps}
-use Rattle.qs_resolve.specs.declared.resolver.Resolver.{Resolver}
+use Rattle.qs_syntax_ast.specs.declared.query.Query.{Query}
+use Rattle.qs_syntax_ast.specs.declared.term.Variable.{Variable}
+use Rattle.qs_syntax_ast.specs.declared.update.Update.{Update}
+use Rattle.qs_syntax_resolve.specs.Names.{nothing_declared}
+use Rattle.qs_syntax_resolve.specs.Query.{query, prologue, form_of, trailing}
+use Rattle.qs_syntax_resolve.specs.Resolved.{resolved_query, resolved_update, start}
+use Rattle.qs_syntax_resolve.specs.Update.{update, steps}
+use Rattle.qs_syntax_resolve.specs.declared.resolver.Resolver.{Resolver}
 use Rattle.qs_syntax.specs.Outcome.{by_place, earlier}
 use Rattle.qs_syntax.proofs.Places.{placed}
-use Rattle.qs_terms.specs.Outcome.{Outcome, OrWantOfMemory, and_then}
-use Rattle.qs_tree.specs.declared.query.Query.{Query as WrittenQuery}
-use Rattle.qs_tree.specs.declared.update.Update.{Update as WrittenUpdate}
+use Rattle.qs_terms.specs.Outcome.{Outcome, OrOutOfMemory, and_then}
+use Rattle.qs_syntax_tree.specs.declared.query.Query.{Query as WrittenQuery}
+use Rattle.qs_syntax_tree.specs.declared.update.Update.{Update as WrittenUpdate}
 
 -- both are values, or the same fault
 abbrev AreAlike : {A B : Type 0} → Outcome A → Outcome B → Type 0
@@ -31,7 +31,7 @@ then_value (Ok a) (Err e) f g h = h
 then_value (Err e) (Ok b) f g h = h
 then_value (Err e) (Err e') f g h = h
 
--- beside a place that is passed they come to the same
+-- beside a place that is passed they result in the same
 same_place : {A : Type 0} (o o' : Outcome (Option A)) (place : ℕ) → AreAlike o o' → by_place o (Some place) ≡ by_place o' (Some place)
 same_place (Ok a) (Ok b) place h = refl
 same_place (Ok a) (Err e) place h = absurd h
@@ -56,13 +56,13 @@ module _ {A : Type 0} (due : List Variable → Outcome (Option A)) (alike : (v w
   within v w None h = ap (λ z. by_place (due z) None) (h refl)
   within v w (Some place) h = same_place (due v) (due w) place (alike v w)
 
-  placed_within : (v w : List Variable) (r : Outcome (Option A)) (large : Option ℕ) → (large ≡ None → v ≡ w) → OrWantOfMemory (due v) r → OrWantOfMemory (by_place (due w) large) (by_place r large)
-  placed_within v w r large h g = subst (λ o. OrWantOfMemory o (by_place r large)) (within v w large h) (placed (due v) r large g)
+  placed_within : (v w : List Variable) (r : Outcome (Option A)) (large : Option ℕ) → (large ≡ None → v ≡ w) → OrOutOfMemory (due v) r → OrOutOfMemory (by_place (due w) large) (by_place r large)
+  placed_within v w r large h g = subst (λ o. OrOutOfMemory o (by_place r large)) (within v w large h) (placed (due v) r large g)
 
 pub placed_query : (text : List ℕ) (q : WrittenQuery) (v w : List Variable) (r : Outcome (Option Query)) (large : Option ℕ) → (large ≡ None → v ≡ w)
-    → OrWantOfMemory (resolved_query text v q) r → OrWantOfMemory (by_place (resolved_query text w q) large) (by_place r large)
+    → OrOutOfMemory (resolved_query text v q) r → OrOutOfMemory (by_place (resolved_query text w q) large) (by_place r large)
 placed_query text q v w r large h g = placed_within (λ z. resolved_query text z q) (λ x y. queries text x y q) v w r large h g
 
 pub placed_update : (text : List ℕ) (u : WrittenUpdate) (v w : List Variable) (r : Outcome (Option Update)) (large : Option ℕ) → (large ≡ None → v ≡ w)
-    → OrWantOfMemory (resolved_update text v u) r → OrWantOfMemory (by_place (resolved_update text w u) large) (by_place r large)
+    → OrOutOfMemory (resolved_update text v u) r → OrOutOfMemory (by_place (resolved_update text w u) large) (by_place r large)
 placed_update text u v w r large h g = placed_within (λ z. resolved_update text z u) (λ x y. updates text x y u) v w r large h g

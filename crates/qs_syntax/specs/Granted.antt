@@ -2,17 +2,17 @@
 -- is lawful (SPARQL 1.1 Query, 19.8).
 use Rattle.std.specs.Prelude.{◌≡◌, ℕ, ◌+◌, ◌-◌, false, List, [], ◌∷◌, ◌++◌, IsTrue}
 use Rattle.std.specs.List.{list_any, before_first, after_first}
-use Rattle.qs_escapes.specs.Decoded.{decoded, unescaped}
-use Rattle.qs_escapes.specs.Escape.{uchar, string_escape}
-use Rattle.qs_escapes.specs.Piece.{piece}
-use Rattle.qs_forms.specs.Backslashes.{escapes_begin}
-use Rattle.qs_resolve.specs.Names.{is_colon, marks}
+use Rattle.qs_lex_escapes.specs.Decoded.{decoded, unescaped}
+use Rattle.qs_lex_escapes.specs.Escape.{uchar, string_escape}
+use Rattle.qs_lex_escapes.specs.Piece.{piece}
+use Rattle.qs_lex_forms.specs.Backslashes.{escapes_begin}
+use Rattle.qs_syntax_resolve.specs.Names.{is_colon, marks}
 use Rattle.qs_terms.specs.Iri.{is_excluded}
 use Rattle.qs_terms.specs.Tag.{is_tag}
-use Rattle.qs_tree.specs.declared.kind.Kind.{Kind}
-use Rattle.qs_tree.specs.declared.kind.Kind.TheVariants as k
-use Rattle.qs_tree.specs.declared.token.Span.{Span}
-use Rattle.qs_tree.specs.declared.token.Token.{Token}
+use Rattle.qs_syntax_tree.specs.declared.kind.Kind.{Kind}
+use Rattle.qs_syntax_tree.specs.declared.kind.Kind.TheVariants as k
+use Rattle.qs_syntax_tree.specs.declared.token.Span.{Span}
+use Rattle.qs_syntax_tree.specs.declared.token.Token.{Token}
 
 -- between `<` and `>`: an escape begins at each backslash, and nothing decoded is a character that IRIs exclude
 pub record IsIri (text : List ℕ) (s : Span) : Type 0 where

@@ -3,10 +3,10 @@ use Rattle.std.specs.Prelude.{ℕ, ◌+◌, List, length}
 use Rattle.qs_lex.specs.declared.token.Class.{Class}
 use Rattle.qs_lex.specs.declared.token.Class.TheVariants as class
 use Rattle.qs_lex.specs.Lexes.{Lexeme}
-use Rattle.qs_tree.specs.declared.kind.Kind.{Kind}
-use Rattle.qs_tree.specs.declared.kind.Kind.TheVariants as k
-use Rattle.qs_tree.specs.declared.token.Token.{Token}
-use Rattle.qs_tree.specs.Words.{word_kind, mark_kind}
+use Rattle.qs_syntax_tree.specs.declared.kind.Kind.{Kind}
+use Rattle.qs_syntax_tree.specs.declared.kind.Kind.TheVariants as k
+use Rattle.qs_syntax_tree.specs.declared.token.Token.{Token}
+use Rattle.qs_syntax_tree.specs.Words.{word_kind, mark_kind}
 
 -- a class of tokens is a kind; words and marks are told apart
 abbrev pub kind_of : Class → List ℕ → Kind

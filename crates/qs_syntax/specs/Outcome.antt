@@ -1,4 +1,4 @@
--- What a text comes to: its query or its update, or the one fault that is due. From top to bottom stand the faults in the order in which
+-- What a text results in: its query or its update, or the one fault that is due. From top to bottom stand the faults in the order in which
 -- they are due, each where none above it is:
 --   1. no token begins at a place of the text: Syntax there
 --   2. a token is left out, then a bracket is too much: LeftOut with the first such token, TooLarge at the first such bracket
@@ -7,29 +7,29 @@
 --   5. a literal isn't lawful, then a rule of scope is broken: Scope
 use Rattle.std.specs.Prelude.{◌≡◌, ◌⊎◌, ℕ, Bool, true, false, nat_lt, List, [], ◌∷◌, ◌++◌, length, Option, Some, None, Ok, Err, if◌then◌else◌}
 use Rattle.std.specs.List.{fold}
-use Rattle.qs_grammar.specs.Grammar.{Spells}
+use Rattle.qs_syntax_grammar.specs.Grammar.{Spells}
 use Rattle.qs_lex.specs.Lexes.{StopsAt}
 use Rattle.qs_terms.specs.Outcome.{Outcome, and_then}
 use Rattle.qs_terms.specs.declared.fault.QFault.{QFault}
 use Rattle.qs_terms.specs.declared.fault.QFault.TheVariants as fault
-use Rattle.qs_tree.specs.declared.kind.Kind.{Kind}
-use Rattle.qs_tree.specs.declared.kind.Kind.TheVariants as kind
-use Rattle.qs_tree.specs.declared.query.Query.{Query as WrittenQuery}
-use Rattle.qs_tree.specs.declared.token.Token.{Token}
-use Rattle.qs_tree.specs.declared.update.Update.{Update as WrittenUpdate}
-use Rattle.qs_tree.specs.Rules as rules
-use Rattle.qs_tree.specs.Sparql.{Rule}
-use Rattle.qs_tree.specs.Table.{grammar}
-use Rattle.qs_ast.specs.declared.query.Query.{Query}
-use Rattle.qs_ast.specs.declared.term.Variable.{Variable}
-use Rattle.qs_ast.specs.declared.update.Update.{Update}
-use Rattle.qs_limits.specs.Brackets.{brackets}
-use Rattle.qs_limits.specs.Large as large
-use Rattle.qs_limits.specs.LeftOut.{left_out}
-use Rattle.qs_resolve.specs.Names.{Names, variable, nothing_declared}
-use Rattle.qs_resolve.specs.Resolved.{resolved_query, resolved_update}
-use Rattle.qs_scope.specs.KeepsScope.{query_keeps_scope, update_keeps_scope}
-use Rattle.qs_scope.specs.VariablesIn.{query_variables, update_variables}
+use Rattle.qs_syntax_tree.specs.declared.kind.Kind.{Kind}
+use Rattle.qs_syntax_tree.specs.declared.kind.Kind.TheVariants as kind
+use Rattle.qs_syntax_tree.specs.declared.query.Query.{Query as WrittenQuery}
+use Rattle.qs_syntax_tree.specs.declared.token.Token.{Token}
+use Rattle.qs_syntax_tree.specs.declared.update.Update.{Update as WrittenUpdate}
+use Rattle.qs_syntax_tree.specs.Rules as rules
+use Rattle.qs_syntax_tree.specs.Sparql.{Rule}
+use Rattle.qs_syntax_tree.specs.Table.{grammar}
+use Rattle.qs_syntax_ast.specs.declared.query.Query.{Query}
+use Rattle.qs_syntax_ast.specs.declared.term.Variable.{Variable}
+use Rattle.qs_syntax_ast.specs.declared.update.Update.{Update}
+use Rattle.qs_syntax_limits.specs.Brackets.{brackets}
+use Rattle.qs_syntax_limits.specs.Large as large
+use Rattle.qs_syntax_limits.specs.LeftOut.{left_out}
+use Rattle.qs_syntax_resolve.specs.Names.{Names, variable, nothing_declared}
+use Rattle.qs_syntax_resolve.specs.Resolved.{resolved_query, resolved_update}
+use Rattle.qs_syntax_scope.specs.KeepsScope.{query_keeps_scope, update_keeps_scope}
+use Rattle.qs_syntax_scope.specs.VariablesIn.{query_variables, update_variables}
 use Rattle.qs_syntax.specs.Text.{AreTokensOf, IsBlamed}
 
 -- ---- 1. no token begins at a place of the text; or its tokens decide
@@ -104,7 +104,7 @@ named names tokens = fold (with_variable names) [] tokens
 abbrev pub variables_of : List ℕ → List Token → List Variable
 variables_of text tokens = named (nothing_declared text) tokens
 
--- ---- 4 and 5 of a tree: those variables, and behind them those of the tree, are listed at last, each once
+-- ---- 4 and 5 of a tree: those variables, and after them those of the tree, are listed at last, each once
 
 abbrev pub listed_query : Query → Query
 listed_query query = record query { variables = query_variables query }

@@ -1,12 +1,12 @@
 -- The tokens of a text, and the places of their faults (SPARQL 1.1 Query, 19.8).
 use Rattle.std.specs.Prelude.{◌≡◌, ℕ, List, map, Option, Some, None, slice_get}
-use Rattle.qs_grammar.specs.Grammar.{Spells, IsDue}
+use Rattle.qs_syntax_grammar.specs.Grammar.{Spells, IsDue}
 use Rattle.qs_lex.specs.Lexes.{Lexeme, Lexes}
 use Rattle.qs_terms.specs.declared.fault.QFault.{QFault}
 use Rattle.qs_terms.specs.declared.fault.QFault.TheVariants.{Syntax, Memory}
-use Rattle.qs_tree.specs.declared.token.Token.{Token}
-use Rattle.qs_tree.specs.Sparql.{Rule}
-use Rattle.qs_tree.specs.Table.{grammar}
+use Rattle.qs_syntax_tree.specs.declared.token.Token.{Token}
+use Rattle.qs_syntax_tree.specs.Sparql.{Rule}
+use Rattle.qs_syntax_tree.specs.Table.{grammar}
 use Rattle.qs_syntax.specs.Kinds.{token_of}
 
 -- the tokens are those of the text

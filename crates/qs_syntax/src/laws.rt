@@ -3,21 +3,21 @@
 ghost use Rattle.std.specs.Prelude.{◌≡◌, List, ℕ, [], Some, Ok, Err};
 ghost use Rattle.std.specs.List.{AllByRecursion};
 ghost use Rattle.std.specs.Str.{IsUtf8};
-ghost use Rattle.qs_ast.specs.declared.query.Query.{Query};
-ghost use Rattle.qs_ast.specs.declared.update.Update.{Update};
-ghost use Rattle.qs_scope.specs.Laws.{AreListed};
-ghost use Rattle.qs_scope.specs.VariablesIn.{in_query, in_update};
-ghost use Rattle.qs_escapes.specs.Piece.{piece};
-ghost use Rattle.qs_limits.specs.Large as large;
-ghost use Rattle.qs_resolve.specs.Resolved.{resolved_query, resolved_update};
+ghost use Rattle.qs_syntax_ast.specs.declared.query.Query.{Query};
+ghost use Rattle.qs_syntax_ast.specs.declared.update.Update.{Update};
+ghost use Rattle.qs_syntax_scope.specs.Laws.{AreListed};
+ghost use Rattle.qs_syntax_scope.specs.VariablesIn.{in_query, in_update};
+ghost use Rattle.qs_lex_escapes.specs.Piece.{piece};
+ghost use Rattle.qs_syntax_limits.specs.Large as large;
+ghost use Rattle.qs_syntax_resolve.specs.Resolved.{resolved_query, resolved_update};
 ghost use Rattle.qs_lex.specs.Fault.{HasToken};
 ghost use Rattle.qs_lex.specs.Lexes.{Lexeme, Lexes};
 ghost use Rattle.qs_terms.specs.Outcome.{Outcome};
 ghost use Rattle.qs_terms.specs.declared.fault.QFault.{QFault};
 ghost use Rattle.qs_terms.specs.declared.fault.QFault.TheVariants.{Syntax};
-ghost use Rattle.qs_tree.specs.declared.query.Query.{Query as WrittenQuery};
-ghost use Rattle.qs_tree.specs.declared.update.Update.{Update as WrittenUpdate};
-ghost use Rattle.qs_tree.specs.declared.token.Token.{Token};
+ghost use Rattle.qs_syntax_tree.specs.declared.query.Query.{Query as WrittenQuery};
+ghost use Rattle.qs_syntax_tree.specs.declared.update.Update.{Update as WrittenUpdate};
+ghost use Rattle.qs_syntax_tree.specs.declared.token.Token.{Token};
 ghost use Rattle.qs_syntax.specs.FirstPlace.{IsOfName, IsFirst};
 ghost use Rattle.qs_syntax.specs.Granted.{IsGrantedToken};
 ghost use Rattle.qs_syntax.specs.Kinds.{token_of};
@@ -25,10 +25,10 @@ ghost use Rattle.qs_syntax.specs.Outcome.{variables_of, query_outcome, update_ou
 ghost use Rattle.qs_syntax.specs.Text.{AreTokensOf};
 
 use qs_lex::laws::{one_token_list, some_token_list, tokens_are_sound};
-use qs_scope::laws::all_variables_are_listed;
-use qs_tree::laws::one_tree;
+use qs_syntax_scope::laws::all_variables_are_listed;
+use qs_syntax_tree::laws::one_tree;
 
-/// A text comes to one thing at most: one query, or one fault; and so does it as an update.
+/// A text results in one thing at most: one query, or one fault; and so does it as an update.
 pub fn one_outcome()
     ensures of_query { (text : List ℕ) (one other : Outcome Query) → IsQueryOutcome text one → IsQueryOutcome text other → one ≡ other }
     ensures of_update { (text : List ℕ) (one other : Outcome Update) → IsUpdateOutcome text one → IsUpdateOutcome text other → one ≡ other }
@@ -37,7 +37,7 @@ pub fn one_outcome()
     one_tree();
 }
 
-/// A text comes to something: to a query, or to a fault that is due; and so does it as an update.
+/// A text results in something: to a query, or to a fault that is due; and so does it as an update.
 pub fn some_outcome()
     ensures of_query { (text : List ℕ) → IsUtf8 text → (outcome : Outcome Query) × IsQueryOutcome text outcome }
     ensures of_update { (text : List ℕ) → IsUtf8 text → (outcome : Outcome Update) × IsUpdateOutcome text outcome }
@@ -56,7 +56,7 @@ pub fn tokens_are_granted()
     tokens_are_sound();
 }
 
-/// The empty text comes to a fault of syntax at 0, and has no token: so `parse_query` answers that fault, and no want of memory.
+/// The empty text results in a fault of syntax at 0, and has no token: so `parse_query` answers that fault, and no running out of memory.
 pub fn empty_text_is_no_query()
     ensures fault { IsQueryOutcome [] (Err (Syntax 0)) }
     ensures no_token { HasToken [] → ⊥ }

@@ -1,12 +1,12 @@
 //! From a text to its query or its update, with the names resolved, or to the one fault that is due. `specs/Outcome.antt` says what a
-//! text comes to, fault by fault from top to bottom in their order. What is settled lists all of its variables. Below that stand the
+//! text results in, fault by fault from top to bottom in their order. What is settled lists all of its variables. Below that stand the
 //! tokens of a text by kind (`specs/Kinds.antt`) and the place of their fault where they spell no tree (`specs/Text.antt`).
 #![tactic(auto)]
 
 pub mod laws;
 pub mod parse;
-mod screening;
-mod settle;
+mod token_check;
+mod resolve_and_check;
 pub mod token;
 mod tree;
 

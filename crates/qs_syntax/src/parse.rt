@@ -1,38 +1,38 @@
 //! Queries and updates of texts.
 
 ghost use Rattle.std.specs.Prelude.{◌≡◌, IfOk, IfErr, length};
-ghost use Rattle.qs_grammar.specs.Grammar.{Spells};
+ghost use Rattle.qs_syntax_grammar.specs.Grammar.{Spells};
 ghost use Rattle.qs_lex.specs.Fault.{HasToken};
-ghost use Rattle.qs_tree.specs.Rules as rules;
-ghost use Rattle.qs_tree.specs.Table.{grammar};
-ghost use Rattle.qs_terms.specs.Outcome.{OneOrWantOfMemory};
+ghost use Rattle.qs_syntax_tree.specs.Rules as rules;
+ghost use Rattle.qs_syntax_tree.specs.Table.{grammar};
+ghost use Rattle.qs_terms.specs.Outcome.{OneOrOutOfMemory};
 ghost use Rattle.qs_terms.specs.declared.fault.QFault.TheVariants.{Memory};
 ghost use Rattle.qs_syntax.specs.Outcome.{query_outcome, update_outcome, IsOutcomeOfTokens, IsQueryOutcome, IsUpdateOutcome};
 
-use crate::screening::screen;
-use crate::settle::{settle_nothing, settle_query, settle_update};
+use crate::token_check::check_tokens;
+use crate::resolve_and_check::{settle_nothing, resolve_and_check_query, resolve_and_check_update};
 use crate::token::tokens;
 use crate::tree::{query_of_tokens, update_of_tokens};
-use qs_ast::query::Query;
-use qs_ast::update::Update;
+use qs_syntax_ast::query::Query;
+use qs_syntax_ast::update::Update;
 use qs_terms::QFault;
-use qs_tree::token::Token;
+use qs_syntax_tree::token::Token;
 use std::alloc::Global;
 
 fn query_of(alloc: Global, text: &str, tokens: &[Token]) -> Result<Query, QFault>
-    ensures { OneOrWantOfMemory (IsOutcomeOfTokens rules.query (query_outcome text.now tokens.now) text.now tokens.now) result }
+    ensures { OneOrOutOfMemory (IsOutcomeOfTokens rules.query (query_outcome text.now tokens.now) text.now tokens.now) result }
 {
-    screen(alloc, text, tokens)?;
+    check_tokens(alloc, text, tokens)?;
     let tree = query_of_tokens(alloc, text.len(), tokens)?;
-    settle_query(alloc, text, tokens, &tree)
+    resolve_and_check_query(alloc, text, tokens, &tree)
 }
 
 fn update_of(alloc: Global, text: &str, tokens: &[Token]) -> Result<Update, QFault>
-    ensures { OneOrWantOfMemory (IsOutcomeOfTokens rules.update (update_outcome text.now tokens.now) text.now tokens.now) result }
+    ensures { OneOrOutOfMemory (IsOutcomeOfTokens rules.update (update_outcome text.now tokens.now) text.now tokens.now) result }
 {
-    screen(alloc, text, tokens)?;
+    check_tokens(alloc, text, tokens)?;
     let tree = update_of_tokens(alloc, text.len(), tokens)?;
-    settle_update(alloc, text, tokens, &tree)
+    resolve_and_check_update(alloc, text, tokens, &tree)
 }
 
 /// The query of a text, with its names resolved (SPARQL 1.1 Query, 19.8, [1]).
@@ -43,10 +43,10 @@ fn update_of(alloc: Global, text: &str, tokens: &[Token]) -> Result<Update, QFau
 /// at the first token such that no tokens that spell a query begin with the tokens up to it and with it, or at the text's end.
 /// Whichever has the first place of `QFault::Prefix` at a name whose prefix isn't declared, `QFault::RelativeIri` at an IRI without a
 /// scheme, and `QFault::TooLarge` at the 257th element of a group or operand of a chain; at one place in this order.
-/// `QFault::Scope` where a rule of scope is broken (SPARQL 1.1 Query, the notes in 19.8). `QFault::Memory` for want of memory, at
+/// `QFault::Scope` where a rule of scope is broken (SPARQL 1.1 Query, the notes in 19.8). `QFault::Memory` where memory runs out, at
 /// any time once there is a token.
 pub fn parse_query(alloc: Global, text: &str) -> Result<Query, QFault>
-    ensures outcome { OneOrWantOfMemory (IsQueryOutcome text.now) result }
+    ensures outcome { OneOrOutOfMemory (IsQueryOutcome text.now) result }
     ensures kept { IfErr result (λ fault. fault ≡ Memory → HasToken text.now) }
 {
     let tokens = tokens(alloc, text)?;
@@ -61,7 +61,7 @@ pub fn parse_query(alloc: Global, text: &str) -> Result<Query, QFault>
 /// # Errors
 /// As of `parse_query`. A text without tokens is an update without operations.
 pub fn parse_update(alloc: Global, text: &str) -> Result<Update, QFault>
-    ensures outcome { OneOrWantOfMemory (IsUpdateOutcome text.now) result }
+    ensures outcome { OneOrOutOfMemory (IsUpdateOutcome text.now) result }
     ensures kept { IfErr result (λ fault. fault ≡ Memory → HasToken text.now) }
 {
     let tokens = tokens(alloc, text)?;

@@ -8,9 +8,9 @@ ghost use Rattle.qs_syntax.specs.Text.{AreTokensOf};
 
 use qs_lex::{Class, Lexer};
 use qs_terms::QFault;
-use qs_tree::kind::Kind;
-use qs_tree::token::{Span, Token};
-use qs_tree::words::{mark_kind, word_kind};
+use qs_syntax_tree::kind::Kind;
+use qs_syntax_tree::token::{Span, Token};
+use qs_syntax_tree::words::{mark_kind, word_kind};
 use std::alloc::Global;
 
 fn kind_of(class: Class, text: &str) -> Kind
@@ -50,8 +50,8 @@ fn token_of(text: &str, t: &qs_lex::Token<'_>) -> Token
 /// The tokens of a text by kind, each with the bytes of the text where it stands.
 ///
 /// # Errors
-/// `QFault::Syntax` with the first byte place, behind white space and comments, at which no token begins. `QFault::Memory` for
-/// want of memory, which comes only where the text begins with a token.
+/// `QFault::Syntax` with the first byte place, after white space and comments, at which no token begins. `QFault::Memory` for
+/// running out of memory, which comes only where the text begins with a token.
 pub fn tokens(alloc: Global, text: &str) -> Result<Vec<Token>, QFault>
     ensures { MatchResult result (λ v. AreTokensOf text.now v.items) (λ fault. IsFaultOf text.now fault) }
 {

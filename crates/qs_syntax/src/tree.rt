@@ -1,16 +1,16 @@
 //! The trees that tokens spell, or the fault of tokens that spell none.
 
 ghost use Rattle.std.specs.Prelude.{◌≡◌, IfOk, IfErr};
-ghost use Rattle.qs_grammar.specs.Grammar.{Spells};
+ghost use Rattle.qs_syntax_grammar.specs.Grammar.{Spells};
 ghost use Rattle.qs_syntax.specs.Text.{IsTreeFault, place_of_number};
-ghost use Rattle.qs_tree.specs.Rules as rules;
-ghost use Rattle.qs_tree.specs.Table.{grammar};
+ghost use Rattle.qs_syntax_tree.specs.Rules as rules;
+ghost use Rattle.qs_syntax_tree.specs.Table.{grammar};
 
-use qs_grammar::fault::ParseFault;
+use qs_syntax_grammar::fault::ParseFault;
 use qs_terms::QFault;
-use qs_tree::query::Query;
-use qs_tree::token::Token;
-use qs_tree::update::Update;
+use qs_syntax_tree::query::Query;
+use qs_syntax_tree::token::Token;
+use qs_syntax_tree::update::Update;
 use std::alloc::Global;
 
 // the place of the token of that number, or the text's end
@@ -29,7 +29,7 @@ pub(crate) fn query_of_tokens(alloc: Global, end: usize, tokens: &[Token]) -> Re
     ensures found { IfOk result (λ tree. Spells grammar rules.query tokens.now tree) }
     ensures fault { IfErr result (λ e. IsTreeFault rules.query end tokens.now e) }
 {
-    match qs_parser::query(alloc, tokens) {
+    match qs_syntax_parser::query(alloc, tokens) {
         Ok(tree) => Ok(tree),
         Err(ParseFault::Memory) => Err(QFault::Memory),
         Err(ParseFault::Syntax(number)) => Err(QFault::Syntax {
@@ -48,7 +48,7 @@ pub(crate) fn update_of_tokens(
     ensures found { IfOk result (λ tree. Spells grammar rules.update tokens.now tree) }
     ensures fault { IfErr result (λ e. IsTreeFault rules.update end tokens.now e) }
 {
-    match qs_parser::update(alloc, tokens) {
+    match qs_syntax_parser::update(alloc, tokens) {
         Ok(tree) => Ok(tree),
         Err(ParseFault::Memory) => Err(QFault::Memory),
         Err(ParseFault::Syntax(number)) => Err(QFault::Syntax {

@@ -1,4 +1,4 @@
--- A text that begins with a lawful IRI is one just where no excluded character stands behind.
+-- A text that begins with a lawful IRI is one just where no excluded character stands after.
 use Rattle.std.proofs.Common.{rules, ◌≡◌, ◌++◌, ◌∙◌, ℕ, List, [], ◌∷◌, Bool, true, false, refl, sym, ap, take, drop, length, take-append-drop, subst}
 use Rattle.std.specs.Prelude.{◌&&◌, ◌||◌, ◌==◌, not, if◌then◌else◌, nat_eq, Result, Ok, Err}
 use Rattle.std.specs.Cmp.Lexicographic.{pointwise}
@@ -46,6 +46,6 @@ behind_scheme front text h same = subst (λ t. has_scheme t ≡ true) (sym (whol
 pub behind_excluded : (front text : List ℕ) → is_iri_text front ≡ true → pointwise nat_eq (take (length front) text) front ≡ true → list_any is_excluded text ≡ list_any is_excluded (drop (length front) text)
 behind_excluded front text h same = ap (list_any is_excluded) (whole front text same) ∙ (list_any-append is_excluded front (drop (length front) text) ∙ seen-of (has_scheme front) (list_any is_excluded front) (list_any is_excluded (drop (length front) text)) h)
 
--- a text is two pieces where it begins with the one and the other stands behind
+-- a text is two pieces where it begins with the one and the other stands after
 pub joined : (front rest text : List ℕ) → pointwise nat_eq (take (length front) text) front ≡ true → pointwise nat_eq (drop (length front) text) rest ≡ true → text ≡ front ++ rest
 joined front rest text same there = whole front text same ∙ ap (λ t. front ++ t) ((bytes_eq-Decides (drop (length front) text) rest).0 there)

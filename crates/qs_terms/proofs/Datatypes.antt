@@ -8,7 +8,7 @@ use Rattle.qs_terms.specs.Iri.{checked_iri, has_scheme, is_excluded}
 use Rattle.std.specs.List.{list_any}
 use Rattle.qs_terms.specs.Literal.{rdf_lang_string, xsd_string, xsd_integer, xsd_boolean, fits_tag}
 use Rattle.qs_terms.specs.inner.Datatype.{iri_of, known_of, untagged, checked_untagged}
-use Rattle.qs_terms.specs.OrWantOf.{ValueOrWantOf}
+use Rattle.qs_terms.specs.OrOutOf.{ValueOrOutOfMemory}
 use Rattle.qs_terms.specs.declared.fault.TermFault.{TermFault}
 use Rattle.qs_terms.specs.declared.fault.TermFault.TheVariants.{Memory, NotAbsolute, BadChar}
 use Rattle.qs_terms.specs.declared.datatype.Known.{Known}
@@ -78,28 +78,28 @@ module _ (t : List ℕ) where
   abbrev checked : Bool → Bool → Result (List ℕ) TermFault
   checked scheme excluded = if scheme then (if excluded then Err BadChar else Ok t) else Err NotAbsolute
 
-  untagged-at : (scheme excluded : Bool) (r : Result (List ℕ) TermFault) → bytes_eq t rdf_lang_string ≡ false → ValueOrWantOf Memory (checked scheme excluded) r → ValueOrWantOf Memory (checked_untagged (checked scheme excluded)) r
+  untagged-at : (scheme excluded : Bool) (r : Result (List ℕ) TermFault) → bytes_eq t rdf_lang_string ≡ false → ValueOrOutOfMemory Memory (checked scheme excluded) r → ValueOrOutOfMemory Memory (checked_untagged (checked scheme excluded)) r
   untagged-at true true r n h = h
   untagged-at true false r n h = rw n h
   untagged-at false excluded r n h = h
 
-  fits-at : (scheme excluded : Bool) (d : List ℕ) → bytes_eq t rdf_lang_string ≡ false → ValueOrWantOf Memory (checked scheme excluded) (Ok d) → (d ≡ t) × ((scheme && not excluded) ≡ true)
+  fits-at : (scheme excluded : Bool) (d : List ℕ) → bytes_eq t rdf_lang_string ≡ false → ValueOrOutOfMemory Memory (checked scheme excluded) (Ok d) → (d ≡ t) × ((scheme && not excluded) ≡ true)
   fits-at true true d n h = cc
   fits-at true false d n h = (h, refl)
   fits-at false excluded d n h = cc
 
-  pub unnamed : (r : Result (List ℕ) TermFault) → is_none (known_of t) ≡ true → ValueOrWantOf Memory (checked_iri t) r → ValueOrWantOf Memory (checked_untagged (checked_iri t)) r
+  pub unnamed : (r : Result (List ℕ) TermFault) → is_none (known_of t) ≡ true → ValueOrOutOfMemory Memory (checked_iri t) r → ValueOrOutOfMemory Memory (checked_untagged (checked_iri t)) r
   unnamed r n h = untagged-at (has_scheme t) (list_any is_excluded t) r (unknown_iri t LangString n) h
 
-  pub unnamed_fits : (d : List ℕ) → is_none (known_of t) ≡ true → ValueOrWantOf Memory (checked_iri t) (Ok d) → fits_tag d None ≡ true
+  pub unnamed_fits : (d : List ℕ) → is_none (known_of t) ≡ true → ValueOrOutOfMemory Memory (checked_iri t) (Ok d) → fits_tag d None ≡ true
   unnamed_fits d n h =
       let p = fits-at (has_scheme t) (list_any is_excluded t) d (unknown_iri t LangString n) h in
       rw (p.0, p.1, unknown_iri t LangString n) refl
 
 -- an IRI that is found needs no test
-pub named : (t : List ℕ) (k : Known) → known_of t ≡ Some k → ValueOrWantOf Memory (checked_untagged (checked_iri t)) (untagged (iri_of k))
+pub named : (t : List ℕ) (k : Known) → known_of t ≡ Some k → ValueOrOutOfMemory Memory (checked_untagged (checked_iri t)) (untagged (iri_of k))
 named t k h = rw (known_iri t k h, checked_iri-iri_of k) (same (untagged (iri_of k)))
   where
-    same : (r : Result (List ℕ) TermFault) → ValueOrWantOf Memory r r
+    same : (r : Result (List ℕ) TermFault) → ValueOrOutOfMemory Memory r r
     same (Ok x) = refl
     same (Err e) = refl

@@ -10,7 +10,7 @@ ghost use Rattle.std.specs.Str.{bytes_eq};
 ghost use Rattle.qs_terms.specs.inner.Datatype.{iri_of, known_of, untagged, checked_untagged, code_of, hash_of};
 ghost use Rattle.qs_terms.specs.Iri.{checked_iri};
 ghost use Rattle.qs_terms.specs.Literal.{rdf_lang_string, xsd_string, xsd_integer, xsd_boolean, fits_tag};
-ghost use Rattle.qs_terms.specs.OrWantOf.{ValueOrWantOf};
+ghost use Rattle.qs_terms.specs.OrOutOf.{ValueOrOutOfMemory};
 ghost use Rattle.qs_terms.specs.declared.fault.TermFault.TheVariants.{Memory};
 
 use crate::fault::TermFault;
@@ -152,7 +152,7 @@ impl Datatype {
         }
     }
 
-    /// The datatype of a literal without a tag, which is not rdf:langString. The IRI is let go where the rules name the datatype.
+    /// The datatype of a literal without a tag, which is not rdf:langString. The IRI is dropped where the rules name the datatype.
     pub(crate) fn of_iri(iri: Iri) -> Result<Datatype, TermFault>
         ensures answer { result ≡ untagged iri }
         ensures lawful { IfOk result (λ d. IsTrue (fits_tag d None)) }
@@ -167,7 +167,7 @@ impl Datatype {
 
     /// The datatype of a literal without a tag, of its IRI's text. A refusal of the text takes no memory.
     pub(crate) fn parse(alloc: Global, text: &str) -> Result<Datatype, TermFault>
-        ensures answer { ValueOrWantOf Memory (checked_untagged (checked_iri text.now)) result }
+        ensures answer { ValueOrOutOfMemory Memory (checked_untagged (checked_iri text.now)) result }
         ensures lawful { IfOk result (λ d. IsTrue (fits_tag d None)) }
     {
         match Known::of(text) {

@@ -23,7 +23,7 @@ pub enum TermFault {
     /// The datatype rdf:langString of a literal without a tag (RDF 1.1 Concepts, 3.3).
     #[error("a literal without a language tag can't be an rdf:langString")]
     BadDatatype,
-    /// Want of memory.
+    /// Running out of memory.
     #[error("out of memory")]
     Memory,
 }
@@ -74,7 +74,7 @@ pub enum QFault {
     /// More solutions than the caller allows.
     #[error("F8 too many rows")]
     TooManyRows,
-    /// Want of memory.
+    /// Running out of memory.
     #[error("F9 out of memory")]
     Memory,
     /// A limit on terms or blank node numbers would be passed.

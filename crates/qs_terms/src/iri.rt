@@ -2,7 +2,7 @@
 
 ghost use Rattle.std.specs.Prelude.{◌≡◌, ◌↔◌, IfOk, OnOk, MatchResult, IsTrue};
 ghost use Rattle.std.specs.List.{list_any};
-ghost use Rattle.qs_terms.specs.OrWantOf.{ValueOrWantOf};
+ghost use Rattle.qs_terms.specs.OrOutOf.{ValueOrOutOfMemory};
 ghost use Rattle.qs_terms.specs.declared.fault.TermFault.TheVariants.{Memory};
 ghost use Rattle.qs_terms.specs.Iri.{is_scheme_char, reaches_colon, has_scheme, is_excluded, is_iri_text, checked_iri};
 
@@ -96,7 +96,7 @@ fn check(bytes: &[u8]) -> Result<(), TermFault>
     Ok(())
 }
 
-// As `check`, where the bytes may begin with an IRI: then only what stands behind it is looked through.
+// As `check`, where the bytes may begin with an IRI: then only what stands after it is looked through.
 #[tactic(auto, using(crate::proofs::Behind::behind_scheme, crate::proofs::Behind::behind_excluded))]
 fn check_behind(front: &Iri, bytes: &[u8]) -> Result<(), TermFault>
     ensures answer { MatchResult result (λ _. checked_iri bytes.now ≡ Ok bytes.now) (λ f. checked_iri bytes.now ≡ Err f) }
@@ -114,7 +114,7 @@ fn check_behind(front: &Iri, bytes: &[u8]) -> Result<(), TermFault>
 impl Iri {
     /// The IRI of a text. A missing scheme is told before an excluded character; neither takes memory.
     pub fn new(alloc: Global, text: Text) -> Result<Iri, TermFault>
-        ensures { ValueOrWantOf Memory (checked_iri text) result }
+        ensures { ValueOrOutOfMemory Memory (checked_iri text) result }
     {
         check(text.as_str().as_bytes())?;
         let text = Shared::new(alloc, text)?;
@@ -122,9 +122,9 @@ impl Iri {
     }
 
     /// The IRI of a text, as by `new`. Where the text begins with the given IRI, as that of a prefixed name does, only what stands
-    /// behind is looked through.
+    /// after is looked through.
     pub fn behind(alloc: Global, front: &Iri, text: Text) -> Result<Iri, TermFault>
-        ensures { ValueOrWantOf Memory (checked_iri text) result }
+        ensures { ValueOrOutOfMemory Memory (checked_iri text) result }
     {
         check_behind(front, text.as_str().as_bytes())?;
         let text = Shared::new(alloc, text)?;
@@ -133,7 +133,7 @@ impl Iri {
 
     /// The IRI of a copy of the text. A refusal of the text takes no memory.
     pub fn parse(alloc: Global, text: &str) -> Result<Iri, TermFault>
-        ensures { ValueOrWantOf Memory (checked_iri text.now) result }
+        ensures { ValueOrOutOfMemory Memory (checked_iri text.now) result }
     {
         check(text.as_bytes())?;
         let text = Text::new(alloc, text)?;

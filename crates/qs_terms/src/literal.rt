@@ -6,7 +6,7 @@ ghost use Rattle.std.specs.Str.{bytes_eq};
 ghost use Rattle.qs_terms.specs.inner.Datatype.{iri_of};
 ghost use Rattle.qs_terms.specs.Literal.{xsd_string, xsd_integer, xsd_boolean, typed, checked_typed, checked_parts, checked_tagged, is_literal, fits_tag};
 ghost use Rattle.qs_terms.specs.Iri.{checked_iri};
-ghost use Rattle.qs_terms.specs.OrWantOf.{ValueOrWantOf};
+ghost use Rattle.qs_terms.specs.OrOutOf.{ValueOrOutOfMemory};
 ghost use Rattle.qs_terms.specs.declared.fault.TermFault.TheVariants.{Memory};
 
 use crate::datatype::{Datatype, Known};
@@ -40,7 +40,7 @@ impl Model for Parts {
 }
 
 /// A literal: its lexical form, its datatype and, if it is a language-tagged string, its tag in lower case
-/// (RDF 1.1 Concepts, 3.3). Its datatype is rdf:langString exactly where it has a tag. The parts stand behind a pointer, so
+/// (RDF 1.1 Concepts, 3.3). Its datatype is rdf:langString exactly where it has a tag. The parts stand after a pointer, so
 /// that a term of any kind is small, and a copy has them in common with the literal.
 #[derive(Debug, Drop, PartialEq, Eq, PartialOrd, Ord, Hash)]
 pub struct Lit {
@@ -113,7 +113,7 @@ impl Lit {
 
     /// The literal of a form and a datatype other than rdf:langString. A refusal takes no memory.
     pub fn typed(alloc: Global, form: Text, datatype: Iri) -> Result<Lit, TermFault>
-        ensures { ValueOrWantOf Memory (checked_typed form datatype) result }
+        ensures { ValueOrOutOfMemory Memory (checked_typed form datatype) result }
     {
         let datatype = Datatype::of_iri(datatype)?;
         Ok(Lit::of_parts(alloc, form, datatype, None)?)
@@ -121,7 +121,7 @@ impl Lit {
 
     /// The language-tagged string of a form and a tag, which is put into lower case.
     pub fn tagged(alloc: Global, form: Text, tag: Text) -> Result<Lit, TermFault>
-        ensures { ValueOrWantOf Memory (checked_tagged form tag) result }
+        ensures { ValueOrOutOfMemory Memory (checked_tagged form tag) result }
     {
         if !is_tag(tag.as_str().as_bytes()) {
             return Err(TermFault::BadTag);
@@ -134,7 +134,7 @@ impl Lit {
 
     /// The literal of copies of a form and of a datatype's IRI. A refusal of the texts takes no memory.
     pub fn parse(alloc: Global, form: &str, datatype: &str) -> Result<Lit, TermFault>
-        ensures { ValueOrWantOf Memory (checked_parts form.now (checked_iri datatype.now)) result }
+        ensures { ValueOrOutOfMemory Memory (checked_parts form.now (checked_iri datatype.now)) result }
     {
         let datatype = Datatype::parse(alloc, datatype)?;
         let form = Text::new(alloc, form)?;
@@ -143,7 +143,7 @@ impl Lit {
 
     /// The language-tagged string of copies of a form and a tag. A refusal of the tag takes no memory.
     pub fn parse_tagged(alloc: Global, form: &str, tag: &str) -> Result<Lit, TermFault>
-        ensures { ValueOrWantOf Memory (checked_tagged form.now tag.now) result }
+        ensures { ValueOrOutOfMemory Memory (checked_tagged form.now tag.now) result }
     {
         if !is_tag(tag.as_bytes()) {
             return Err(TermFault::BadTag);

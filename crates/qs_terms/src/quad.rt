@@ -58,7 +58,7 @@ impl Quad {
         lawful_graph && is_node(subject) && lawful_predicate
     }
 
-    /// The quad of terms that fit, without taking memory. No graph stands for the default graph.
+    /// The quad of terms that fit, without taking memory. No graph denotes the default graph.
     pub fn new(graph: Option<Term>, subject: Term, predicate: Term, object: Term) -> Quad
         requires { IsTrue (fits_places graph subject predicate) }
         ensures graph { result.graph ≡ graph }

@@ -4,7 +4,7 @@ ghost use Rattle.std.specs.Prelude.{◌≡◌, ◌↔◌, IsTrue, IfOk};
 ghost use Rattle.std.specs.declared.cmp.Ordering.TheVariants.{Equal};
 ghost use Rattle.qs_terms.specs.Iri.{checked_iri};
 ghost use Rattle.qs_terms.specs.Literal.{checked_parts, checked_tagged};
-ghost use Rattle.qs_terms.specs.OrWantOf.{ValueOrWantOf};
+ghost use Rattle.qs_terms.specs.OrOutOf.{ValueOrOutOfMemory};
 ghost use Rattle.qs_terms.specs.declared.fault.TermFault.TheVariants.{Memory};
 ghost use Rattle.qs_terms.specs.Term.{same_term, iri_of, literal_of};
 
@@ -27,7 +27,7 @@ pub enum Term {
 impl Term {
     /// The IRI of a text. A missing scheme is told before an excluded character; neither takes memory.
     pub fn iri(alloc: Global, text: &str) -> Result<Term, TermFault>
-        ensures { ValueOrWantOf Memory (iri_of (checked_iri text.now)) result }
+        ensures { ValueOrOutOfMemory Memory (iri_of (checked_iri text.now)) result }
     {
         let iri = Iri::parse(alloc, text)?;
         Ok(Term::Iri(iri))
@@ -35,7 +35,7 @@ impl Term {
 
     /// The literal of a form and a datatype's IRI, which is lawful and not rdf:langString.
     pub fn literal(alloc: Global, form: &str, datatype: &str) -> Result<Term, TermFault>
-        ensures { ValueOrWantOf Memory (literal_of (checked_parts form.now (checked_iri datatype.now))) result }
+        ensures { ValueOrOutOfMemory Memory (literal_of (checked_parts form.now (checked_iri datatype.now))) result }
     {
         let lit = Lit::parse(alloc, form, datatype)?;
         Ok(Term::Literal(lit))
@@ -43,7 +43,7 @@ impl Term {
 
     /// The language-tagged string of a form and a tag without its `@`, which is put into lower case.
     pub fn tagged(alloc: Global, form: &str, tag: &str) -> Result<Term, TermFault>
-        ensures { ValueOrWantOf Memory (literal_of (checked_tagged form.now tag.now)) result }
+        ensures { ValueOrOutOfMemory Memory (literal_of (checked_tagged form.now tag.now)) result }
     {
         let lit = Lit::parse_tagged(alloc, form, tag)?;
         Ok(Term::Literal(lit))

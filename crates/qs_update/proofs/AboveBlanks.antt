@@ -5,35 +5,35 @@ use Rattle.std.proofs.lemmas.List.Elements.{All-from_recursion}
 use Rattle.std.proofs.lemmas.List.Sorted.{All-permutation, IsPermutation-sym}
 use Rattle.qs_terms.specs.Bag.{once}
 use Rattle.qs_terms.specs.Dataset.{is_term_below, is_graph_below, is_statement_below, is_above_blanks, graph_of}
-use Rattle.qs_terms.specs.Outcome.{Outcome, and_then, OrWantOfMemory}
+use Rattle.qs_terms.specs.Outcome.{Outcome, and_then, OrOutOfMemory}
 use Rattle.qs_terms.specs.Statement.{Statement, same_graph, same_statement, is_iri}
 use Rattle.qs_terms.specs.declared.fault.QFault.{QFault}
 use Rattle.qs_terms.specs.declared.fault.QFault.TheVariants as fault
 use Rattle.qs_terms.specs.declared.term.Term.{Term}
 use Rattle.qs_terms.specs.declared.term.Term.TheVariants as value
-use Rattle.qs_tree.specs.declared.update.OnMissing.{OnMissing}
-use Rattle.qs_tree.specs.declared.update.OnMissing.TheVariants as on_missing
-use Rattle.qs_ast.specs.declared.pattern.Group.{Group}
-use Rattle.qs_ast.specs.declared.term.Variable.{Variable}
-use Rattle.qs_ast.specs.declared.update.GraphOrDefault.{GraphOrDefault}
-use Rattle.qs_ast.specs.declared.update.GraphOrDefault.TheVariants as graph
-use Rattle.qs_ast.specs.declared.update.Operation.{Operation}
-use Rattle.qs_ast.specs.declared.update.Operation.TheVariants as operation
-use Rattle.qs_ast.specs.declared.update.QuadBlock.{QuadBlock}
-use Rattle.qs_ast.specs.declared.update.Transfer.{Transfer}
-use Rattle.qs_scope.specs.Firsts.{names_of}
-use Rattle.qs_scope.specs.Names.{Name}
-use Rattle.qs_solutions.specs.Solution.{Solution, unbound}
-use Rattle.qs_patterns.specs.Eval.{eval}
-use Rattle.qs_patterns.specs.declared.pattern.Pattern.{Pattern}
-use Rattle.qs_template.specs.Instances.{instances, next_after}
-use Rattle.qs_template.specs.Template.{template_of_blocks, template_in}
-use Rattle.qs_template.specs.declared.template.Template.{Template}
+use Rattle.qs_syntax_tree.specs.declared.update.OnMissing.{OnMissing}
+use Rattle.qs_syntax_tree.specs.declared.update.OnMissing.TheVariants as on_missing
+use Rattle.qs_syntax_ast.specs.declared.pattern.Group.{Group}
+use Rattle.qs_syntax_ast.specs.declared.term.Variable.{Variable}
+use Rattle.qs_syntax_ast.specs.declared.update.GraphOrDefault.{GraphOrDefault}
+use Rattle.qs_syntax_ast.specs.declared.update.GraphOrDefault.TheVariants as graph
+use Rattle.qs_syntax_ast.specs.declared.update.Operation.{Operation}
+use Rattle.qs_syntax_ast.specs.declared.update.Operation.TheVariants as operation
+use Rattle.qs_syntax_ast.specs.declared.update.QuadBlock.{QuadBlock}
+use Rattle.qs_syntax_ast.specs.declared.update.Transfer.{Transfer}
+use Rattle.qs_syntax_scope.specs.Firsts.{names_of}
+use Rattle.qs_syntax_scope.specs.Names.{Name}
+use Rattle.qs_algebra_solutions.specs.Solution.{Solution, unbound}
+use Rattle.qs_algebra_patterns.specs.Eval.{eval}
+use Rattle.qs_algebra_patterns.specs.declared.pattern.Pattern.{Pattern}
+use Rattle.qs_query_template.specs.Instances.{instances, next_after}
+use Rattle.qs_query_template.specs.Template.{template_of_blocks, template_in}
+use Rattle.qs_query_template.specs.declared.template.Template.{Template}
 use Rattle.qs_algebra.specs.Translation.{translated_where, translated_blocks}
 use Rattle.qs_algebra.specs.declared.named.NamedPattern.{NamedPattern}
-use Rattle.qs_blanks.specs.Below.{is_solution_below, have_iri_predicates}
-use Rattle.qs_blanks.specs.NoBlank.{has_no_blank}
-use Rattle.qs_blanks.specs.Written.{values_have_no_blank, operation_values_have_no_blank}
+use Rattle.qs_update_laws.specs.Below.{is_solution_below, have_iri_predicates}
+use Rattle.qs_update_laws.specs.NoBlank.{has_no_blank}
+use Rattle.qs_update_laws.specs.Written.{values_have_no_blank, operation_values_have_no_blank}
 use Rattle.qs_store.specs.declared.default_graph.DefaultGraph.{DefaultGraph}
 use Rattle.qs_store.specs.declared.default_graph.DefaultGraph.TheVariants.{Stored, Union}
 use Rattle.qs_update.specs.Effect.{nothing, deletion, modified, of_data, solutions, IsModified, cleared, fault_or_nothing, created, put_over, removed_by, transferred, IsEffect}
@@ -203,6 +203,6 @@ module _ (bound : Bound) (made : Made) (wheres : Wheres) (blocks : Blocks) (max_
 
 -- ---- answers
 
-pub due_lawful : (o : Outcome Effect) (next : ℕ) (result : Outcome Effect) → IfOk o (IsLawful next) → OrWantOfMemory o result → IfOk result (IsLawful next)
+pub due_lawful : (o : Outcome Effect) (next : ℕ) (result : Outcome Effect) → IfOk o (IsLawful next) → OrOutOfMemory o result → IfOk result (IsLawful next)
 due_lawful o next (Ok e) h k = due next (Ok e) o (sym k) h
 due_lawful o next (Err f) h k = tt

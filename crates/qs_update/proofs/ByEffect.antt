@@ -1,12 +1,12 @@
 -- Operations over a draft, by what they do.
 use Rattle.std.proofs.Common.{◌≡◌, ℕ, true, false, List, Option, Ok, Err, refl, sym, subst}
-use Rattle.qs_terms.specs.Outcome.{Outcome, OneOrWantOfMemory}
+use Rattle.qs_terms.specs.Outcome.{Outcome, OneOrOutOfMemory}
 use Rattle.qs_terms.specs.Statement.{Statement, same_graph}
 use Rattle.qs_terms.specs.declared.fault.QFault.{QFault}
 use Rattle.qs_terms.specs.declared.term.Term.{Term}
-use Rattle.qs_ast.specs.declared.term.Variable.{Variable}
-use Rattle.qs_ast.specs.declared.update.Operation.{Operation}
-use Rattle.qs_ast.specs.declared.update.Transfer.{Transfer}
+use Rattle.qs_syntax_ast.specs.declared.term.Variable.{Variable}
+use Rattle.qs_syntax_ast.specs.declared.update.Operation.{Operation}
+use Rattle.qs_syntax_ast.specs.declared.update.Transfer.{Transfer}
 use Rattle.qs_store.specs.Content.{Content, Held}
 use Rattle.qs_store.specs.Same.{SameSet}
 use Rattle.qs_store.specs.declared.removal.Removal.{Removal}
@@ -43,7 +43,7 @@ module _ (max_rows : ℕ) (variables : List Variable) (held : Held) where
   done o effect (Err f) new e k = λ n. (held.draft.quads, same, (effect, e, k n))
 
   -- or the fault that is due is told
-  pub refused : (o : Operation) (f : QFault) (new : Content) → OneOrWantOfMemory (Does o) (Err f) → Becomes o (Err f) new
+  pub refused : (o : Operation) (f : QFault) (new : Content) → OneOrOutOfMemory (Does o) (Err f) → Becomes o (Err f) new
   refused o f new e = λ n. (held.draft.quads, same, (Err f, e n, refl))
 
   -- the same operation does the same

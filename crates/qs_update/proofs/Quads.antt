@@ -4,9 +4,9 @@ use Rattle.std.specs.List.{filter, Contains}
 use Rattle.qs_terms.specs.Statement.{Statement, is_graph, is_node, is_iri}
 use Rattle.qs_terms.specs.declared.term.Term.{Term}
 use Rattle.qs_terms.specs.declared.term.Term.TheVariants as value
-use Rattle.qs_ast.specs.declared.update.GraphTarget.{GraphTarget}
-use Rattle.qs_ast.specs.declared.update.GraphTarget.TheVariants.{All, Default, Graph, Named}
-use Rattle.qs_blanks.specs.Below.{have_iri_predicates}
+use Rattle.qs_syntax_ast.specs.declared.update.GraphTarget.{GraphTarget}
+use Rattle.qs_syntax_ast.specs.declared.update.GraphTarget.TheVariants.{All, Default, Graph, Named}
+use Rattle.qs_update_laws.specs.Below.{have_iri_predicates}
 use Rattle.qs_store.specs.Content.{AreLawful}
 use Rattle.qs_update.specs.Graphs.{in_graph, is_named, is_target}
 

@@ -4,8 +4,8 @@ use Rattle.std.proofs.lemmas.List.{take_more, take-append-drop}
 use Rattle.qs_terms.specs.Outcome.{Outcome}
 use Rattle.qs_terms.specs.Statement.{Statement}
 use Rattle.qs_terms.specs.declared.fault.QFault.{QFault}
-use Rattle.qs_ast.specs.declared.term.Variable.{Variable}
-use Rattle.qs_ast.specs.declared.update.Operation.{Operation}
+use Rattle.qs_syntax_ast.specs.declared.term.Variable.{Variable}
+use Rattle.qs_syntax_ast.specs.declared.update.Operation.{Operation}
 use Rattle.qs_store.specs.Change.{IsChanged, KnowsTermsOf, with_terms_of}
 use Rattle.qs_store.specs.Content.{Content, Held}
 use Rattle.qs_store.specs.Same.{SameSet}
@@ -42,7 +42,7 @@ module _ (bounds : Bounds) (variables : List Variable) where
   behind_first operations o c outcome (Ok d) others h = others d h
   behind_first operations o c outcome (Err f) others h = absurd (let e : Ok c ≡ Err f = h in cc)
 
-  -- one more operation behind others that succeed
+  -- one more operation after others that succeed
   behind : (operations : List Operation) (o : Operation) (c : Content) (outcome : Outcome Content) → IsOperation bounds variables o c outcome → (old : Content) → Are operations old (Ok c) → Are (operations ++ o ∷ []) old outcome
   behind [] o c outcome k old h = (outcome, subst (λ (x : Content). IsOperation bounds variables o x outcome) (let e : Ok c ≡ Ok old = h in cc) k, ended outcome)
   behind (p ∷ operations) o c outcome k old h = (h.0, h.1, behind_first operations o c outcome h.0 (λ d l. behind operations o c outcome k d l) h.2)
@@ -52,7 +52,7 @@ module _ (bounds : Bounds) (variables : List Variable) where
   before_first operations more f (Ok d) others h = others d h
   before_first operations more f (Err g) others h = h
 
-  -- a fault is that of whichever operations come behind
+  -- a fault is that of whichever operations come after
   before : (operations more : List Operation) (f : QFault) (old : Content) → Are operations old (Err f) → Are (operations ++ more) old (Err f)
   before [] more f old h = absurd (let e : Err f ≡ Ok old = h in cc)
   before (p ∷ operations) more f old h = (h.0, h.1, before_first operations more f h.0 (λ d l. before operations more f d l) h.2)

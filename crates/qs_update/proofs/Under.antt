@@ -1,13 +1,13 @@
 -- What templates do under all solutions of a WHERE.
 use Rattle.std.proofs.Common.{◌≡◌, ℕ, List, Option, Ok, Err, sym, ap, subst, inl, inr}
 use Rattle.qs_terms.specs.Bag.{SameBag}
-use Rattle.qs_terms.specs.Outcome.{Outcome, OrWantOfMemory, OneOrWantOfMemory}
+use Rattle.qs_terms.specs.Outcome.{Outcome, OrOutOfMemory, OneOrOutOfMemory}
 use Rattle.qs_terms.specs.Statement.{Statement}
 use Rattle.qs_terms.specs.declared.fault.QFault.{QFault}
 use Rattle.qs_terms.specs.declared.fault.QFault.TheVariants.{TooManyRows}
 use Rattle.qs_terms.specs.declared.term.Term.{Term}
-use Rattle.qs_solutions.specs.Solution.{Solution}
-use Rattle.qs_template.specs.declared.template.Template.{Template}
+use Rattle.qs_algebra_solutions.specs.Solution.{Solution}
+use Rattle.qs_query_template.specs.declared.template.Template.{Template}
 use Rattle.qs_algebra.specs.declared.named.NamedPattern.{NamedPattern}
 use Rattle.qs_store.specs.declared.default_graph.DefaultGraph.{DefaultGraph}
 use Rattle.qs_update.specs.Effect.{solutions, modified, IsModified}
@@ -22,7 +22,7 @@ module _ (max_rows : ℕ) (delete insert : Template) (next : ℕ) (all : List So
       let r : x.1 ≡ rows = cc in
       inr (x.0, rows, subst (λ (l : List Solution). SameBag l all) r x.2, sym e)
 
-  pub under : (rows : List Solution) (result : Outcome Effect) → OneOrWantOfMemory (AreAllRows max_rows all) (Ok rows) → OrWantOfMemory (modified delete insert next rows) result → OneOrWantOfMemory (IsModified max_rows delete insert next all) result
+  pub under : (rows : List Solution) (result : Outcome Effect) → OneOrOutOfMemory (AreAllRows max_rows all) (Ok rows) → OrOutOfMemory (modified delete insert next rows) result → OneOrOutOfMemory (IsModified max_rows delete insert next all) result
   under rows (Ok e) h due = from_rows rows (Ok e) h due
   under rows (Err f) h due = λ n. from_rows rows (Err f) h (due n)
 
@@ -30,16 +30,16 @@ module _ (max_rows : ℕ) (delete insert : Template) (next : ℕ) (all : List So
   by_fault f (inl x) = inl (x.0, let e : f ≡ TooManyRows = (let k : Err f ≡ Err TooManyRows = x.1 in cc) in ap Err e)
   by_fault f (inr x) = absurd (let k : Err f ≡ Ok x.1 = x.3 in cc)
 
-  pub not_under : (f : QFault) → OneOrWantOfMemory (AreAllRows max_rows all) (Err f) → OneOrWantOfMemory (IsModified max_rows delete insert next all) (Err f)
+  pub not_under : (f : QFault) → OneOrOutOfMemory (AreAllRows max_rows all) (Err f) → OneOrOutOfMemory (IsModified max_rows delete insert next all) (Err f)
   not_under f h = λ n. by_fault f (h n)
 
 -- what the same templates do under the same solutions
-pub same_effect : (a b c d : Template) (next : ℕ) (r s : List Solution) (result : Outcome Effect) → a ≡ b → c ≡ d → r ≡ s → OrWantOfMemory (modified a c next r) result → OrWantOfMemory (modified b d next s) result
+pub same_effect : (a b c d : Template) (next : ℕ) (r s : List Solution) (result : Outcome Effect) → a ≡ b → c ≡ d → r ≡ s → OrOutOfMemory (modified a c next r) result → OrOutOfMemory (modified b d next s) result
 same_effect a b c d next r s result e f g h =
-    subst (λ (z : List Solution). OrWantOfMemory (modified b d next z) result) g
-    (subst (λ (y : Template). OrWantOfMemory (modified b y next r) result) f (subst (λ (x : Template). OrWantOfMemory (modified x c next r) result) e h))
+    subst (λ (z : List Solution). OrOutOfMemory (modified b d next z) result) g
+    (subst (λ (y : Template). OrOutOfMemory (modified b y next r) result) f (subst (λ (x : Template). OrOutOfMemory (modified x c next r) result) e h))
 
 -- the solutions of the same pattern
 pub same_rows : (max_rows : ℕ) (p q : NamedPattern) (default : DefaultGraph) (name : Option Term) (quads : List Statement) (result : Outcome (List Solution)) → p ≡ q
-    → OneOrWantOfMemory (AreAllRows max_rows (solutions p default name quads)) result → OneOrWantOfMemory (AreAllRows max_rows (solutions q default name quads)) result
-same_rows max_rows p q default name quads result e h = subst (λ (x : NamedPattern). OneOrWantOfMemory (AreAllRows max_rows (solutions x default name quads)) result) e h
+    → OneOrOutOfMemory (AreAllRows max_rows (solutions p default name quads)) result → OneOrOutOfMemory (AreAllRows max_rows (solutions q default name quads)) result
+same_rows max_rows p q default name quads result e h = subst (λ (x : NamedPattern). OneOrOutOfMemory (AreAllRows max_rows (solutions x default name quads)) result) e h

@@ -10,23 +10,23 @@ use Rattle.qs_terms.specs.declared.fault.QFault.{QFault}
 use Rattle.qs_terms.specs.declared.fault.QFault.TheVariants as fault
 use Rattle.qs_terms.specs.declared.term.Term.{Term}
 use Rattle.qs_terms.specs.declared.term.Term.TheVariants as value
-use Rattle.qs_tree.specs.declared.update.OnMissing.{OnMissing}
-use Rattle.qs_tree.specs.declared.update.OnMissing.TheVariants as on_missing
-use Rattle.qs_ast.specs.declared.term.Variable.{Variable}
-use Rattle.qs_ast.specs.declared.update.GraphTarget.{GraphTarget}
-use Rattle.qs_ast.specs.declared.update.Modify.{Modify}
-use Rattle.qs_ast.specs.declared.update.Operation.{Operation}
-use Rattle.qs_ast.specs.declared.update.Operation.TheVariants as operation
-use Rattle.qs_ast.specs.declared.update.QuadBlock.{QuadBlock}
-use Rattle.qs_ast.specs.declared.update.Transfer.{Transfer}
-use Rattle.qs_scope.specs.Firsts.{names_of}
-use Rattle.qs_solutions.specs.Solution.{Solution, unbound}
-use Rattle.qs_template.specs.Instances.{instances, made, next_after}
-use Rattle.qs_template.specs.Template.{template_of_blocks, template_in}
-use Rattle.qs_template.specs.declared.template.Template.{Template}
+use Rattle.qs_syntax_tree.specs.declared.update.OnMissing.{OnMissing}
+use Rattle.qs_syntax_tree.specs.declared.update.OnMissing.TheVariants as on_missing
+use Rattle.qs_syntax_ast.specs.declared.term.Variable.{Variable}
+use Rattle.qs_syntax_ast.specs.declared.update.GraphTarget.{GraphTarget}
+use Rattle.qs_syntax_ast.specs.declared.update.Modify.{Modify}
+use Rattle.qs_syntax_ast.specs.declared.update.Operation.{Operation}
+use Rattle.qs_syntax_ast.specs.declared.update.Operation.TheVariants as operation
+use Rattle.qs_syntax_ast.specs.declared.update.QuadBlock.{QuadBlock}
+use Rattle.qs_syntax_ast.specs.declared.update.Transfer.{Transfer}
+use Rattle.qs_syntax_scope.specs.Firsts.{names_of}
+use Rattle.qs_algebra_solutions.specs.Solution.{Solution, unbound}
+use Rattle.qs_query_template.specs.Instances.{instances, made, next_after}
+use Rattle.qs_query_template.specs.Template.{template_of_blocks, template_in}
+use Rattle.qs_query_template.specs.declared.template.Template.{Template}
 use Rattle.qs_algebra.specs.Translation.{translated_where, translated_blocks}
 use Rattle.qs_algebra.specs.declared.named.NamedPattern.{NamedPattern}
-use Rattle.qs_select.specs.Sequence.{whole}
+use Rattle.qs_query_forms.specs.Sequence.{whole}
 pub use Rattle.qs_store.specs.WholeGraphs.{removed_by}
 use Rattle.qs_store.specs.declared.default_graph.DefaultGraph.{DefaultGraph}
 use Rattle.qs_store.specs.declared.removal.Removal.{Removal}

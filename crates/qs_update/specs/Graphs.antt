@@ -3,12 +3,12 @@ use Rattle.std.specs.Prelude.{Bool, true, Option, Some, None}
 use Rattle.qs_terms.specs.Statement.{Statement}
 use Rattle.qs_terms.specs.declared.term.Term.{Term}
 use Rattle.qs_terms.specs.declared.term.Term.TheVariants as value
-use Rattle.qs_ast.specs.declared.update.GraphOrDefault.{GraphOrDefault}
-use Rattle.qs_ast.specs.declared.update.GraphOrDefault.TheVariants as graph
-use Rattle.qs_ast.specs.declared.update.GraphTarget.{GraphTarget}
-use Rattle.qs_ast.specs.declared.update.GraphTarget.TheVariants as target
+use Rattle.qs_syntax_ast.specs.declared.update.GraphOrDefault.{GraphOrDefault}
+use Rattle.qs_syntax_ast.specs.declared.update.GraphOrDefault.TheVariants as graph
+use Rattle.qs_syntax_ast.specs.declared.update.GraphTarget.{GraphTarget}
+use Rattle.qs_syntax_ast.specs.declared.update.GraphTarget.TheVariants as target
 pub use Rattle.qs_store.specs.WholeGraphs.{is_in, is_named, in_graph, exists, put_into, copies}
-pub use Rattle.qs_plan.specs.Seen.{seen}
+pub use Rattle.old_plan.specs.Seen.{seen}
 
 abbrev pub graph_name : GraphOrDefault → Option Term
 graph_name graph.Default = None

@@ -1,7 +1,7 @@
 -- What the text of an update makes of what a store holds: the fault that is due, or what its operations make of it.
 use Rattle.std.specs.Prelude.{◌≡◌, ℕ, List, Ok, Err}
 use Rattle.qs_terms.specs.Outcome.{Outcome}
-use Rattle.qs_ast.specs.declared.update.Update.{Update}
+use Rattle.qs_syntax_ast.specs.declared.update.Update.{Update}
 use Rattle.qs_store.specs.Content.{Content}
 use Rattle.qs_store.specs.Same.{SameSet}
 use Rattle.qs_syntax.specs.Outcome.{IsUpdateOutcome}

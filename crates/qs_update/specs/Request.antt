@@ -3,8 +3,8 @@ use Rattle.std.specs.Prelude.{◌≡◌, ◌<◌, ◌≤◌, ℕ, List, [], ◌�
 use Rattle.qs_terms.specs.Outcome.{Outcome}
 use Rattle.qs_terms.specs.Statement.{Statement}
 use Rattle.qs_terms.specs.declared.fault.QFault.TheVariants.{Full}
-use Rattle.qs_ast.specs.declared.term.Variable.{Variable}
-use Rattle.qs_ast.specs.declared.update.Operation.{Operation}
+use Rattle.qs_syntax_ast.specs.declared.term.Variable.{Variable}
+use Rattle.qs_syntax_ast.specs.declared.update.Operation.{Operation}
 use Rattle.qs_store.specs.Change.{IsChanged, KnowsTermsOf, with_terms_of}
 use Rattle.qs_store.specs.Content.{Content, Held}
 use Rattle.qs_store.specs.Same.{SameSet}
@@ -22,7 +22,7 @@ pub record Bounds : Type 0 where
 abbrev pub bounds_of : ℕ → Held → Bounds
 bounds_of max_rows held = record { terms = held.limit; rows = max_rows; default_graph = held.default_graph }
 
--- the content behind an effect: the old quads that aren't removed together with those that are added, the next blank node's number, and
+-- the content after an effect: the old quads that aren't removed together with those that are added, the next blank node's number, and
 -- the known terms with those of the added quads, which are no more than the limit
 pub record IsApplied (limit : ℕ) (old : Content) (e : Effect) (new : Content) : Type 0 where
   pub room : length (with_terms_of old.known e.added) ≤ limit
@@ -30,7 +30,7 @@ pub record IsApplied (limit : ℕ) (old : Content) (e : Effect) (new : Content) 
   pub next : new.next ≡ e.next
   pub known : KnowsTermsOf old.known e.added new.known
 
--- a fault, or the content behind the effect, or the fault that there would be more known terms than the limit
+-- a fault, or the content after the effect, or the fault that there would be more known terms than the limit
 abbrev pub IsCarriedOut : ℕ → Content → Outcome Effect → Outcome Content → Type 0
 IsCarriedOut limit old (Ok e) (Ok new) = IsApplied limit old e new
 IsCarriedOut limit old (Ok e) (Err f) = (limit < length (with_terms_of old.known e.added)) × (f ≡ Full)

@@ -21,7 +21,7 @@ pub fn fault_of(fault: StoreFault) -> QFault
 }
 
 /// Makes the change that the effect is.
-pub fn carry_out(draft: &mut Draft<'_>, effect: &Effect) -> Result<(), QFault>
+pub fn apply_operation(draft: &mut Draft<'_>, effect: &Effect) -> Result<(), QFault>
     requires { IsLawful draft.old.store.now.draft.next effect.now }
     ensures same_reference { draft.new.store.ghost_name ≡ draft.old.store.ghost_name }
     ensures base { draft.new.store.now.base ≡ draft.old.store.now.base }

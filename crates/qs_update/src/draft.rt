@@ -2,20 +2,20 @@
 
 ghost use Rattle.std.specs.Prelude.{◌≡◌, IsTrue};
 ghost use Rattle.qs_terms.specs.Dataset.{is_above_blanks};
-ghost use Rattle.qs_ast.specs.declared.update.Operation.TheVariants as operation;
-ghost use Rattle.qs_blanks.specs.Below.{have_iri_predicates};
-ghost use Rattle.qs_blanks.specs.Written.{operation_values_have_no_blank, update_values_have_no_blank, values_have_no_blank};
+ghost use Rattle.qs_syntax_ast.specs.declared.update.Operation.TheVariants as operation;
+ghost use Rattle.qs_update_laws.specs.Below.{have_iri_predicates};
+ghost use Rattle.qs_update_laws.specs.Written.{operation_values_have_no_blank, update_values_have_no_blank, values_have_no_blank};
 ghost use Rattle.qs_update.specs.inner.Carried.{BecomesOne};
 ghost use Rattle.qs_update.specs.Effect.{of_data};
 ghost use Rattle.qs_update.specs.Request.{bounds_of, IsCarriedOut, IsOperation, AreOperations};
 
-use crate::carried::carry_out;
+use crate::carried::apply_operation;
 use crate::lawful::effects_are_lawful;
 use crate::modified::{data, deleted_where, modified_where};
 use crate::whole_graphs::{clear, create, transfer};
-use qs_ast::term::Variable;
-use qs_ast::update::{Modify, Operation, QuadBlock, Update};
-use qs_blanks::laws::quads_are_told_one_by_one;
+use qs_syntax_ast::term::Variable;
+use qs_syntax_ast::update::{Modify, Operation, QuadBlock, Update};
+use qs_update_laws::laws::quads_are_told_one_by_one;
 use qs_store::{Draft, Removal};
 use qs_terms::QFault;
 use std::alloc::Global;
@@ -35,7 +35,7 @@ fn change_data(
 {
     let next = draft.next_blank();
     let effect = data(alloc, delete, insert, next)?;
-    carry_out(draft, &effect)
+    apply_operation(draft, &effect)
 }
 
 // The next blank node's number of the draft. The predicates of its quads are IRIs.
@@ -66,7 +66,7 @@ fn delete_where(
     effects_are_lawful();
     next_blank(draft);
     let effect = deleted_where(alloc, variables, blocks, draft, max_rows)?;
-    carry_out(draft, &effect)
+    apply_operation(draft, &effect)
 }
 
 // DELETE and INSERT with a WHERE.
@@ -87,7 +87,7 @@ fn modify_where(
     effects_are_lawful();
     next_blank(draft);
     let effect = modified_where(alloc, variables, modify, draft, max_rows)?;
-    carry_out(draft, &effect)
+    apply_operation(draft, &effect)
 }
 
 fn operate(

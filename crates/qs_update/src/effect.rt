@@ -4,11 +4,11 @@ ghost use Rattle.std.specs.Prelude.{◌≡◌};
 ghost use Rattle.qs_update.specs.Effect as spec;
 
 use qs_terms::{QFault, Quad};
-use qs_tree::update::OnMissing;
+use qs_syntax_tree::update::OnMissing;
 use sqlite_items::Items;
 use std::alloc::Global;
 
-/// What an operation does: it removes these quads and then adds those, and this is the next blank node's number behind it.
+/// What an operation does: it removes these quads and then adds those, and this is the next blank node's number after it.
 #[derive(Drop)]
 pub struct Effect {
     pub removed: Items<Quad>,

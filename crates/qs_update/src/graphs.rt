@@ -6,7 +6,7 @@ ghost use Rattle.qs_terms.specs.Statement.{is_graph, same_graph};
 ghost use Rattle.qs_terms.specs.declared.term.Term.TheVariants as value;
 ghost use Rattle.qs_update.specs.Graphs as spec;
 
-use qs_ast::update::GraphOrDefault;
+use qs_syntax_ast::update::GraphOrDefault;
 use qs_terms::{Iri, Term};
 use std::alloc::{AllocError, Global};
 

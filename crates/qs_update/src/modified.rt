@@ -2,11 +2,11 @@
 
 ghost use Rattle.std.specs.Prelude.{◌≡◌, None, IfOk};
 ghost use Rattle.std.specs.Option.{option_copied, option_map};
-ghost use Rattle.qs_terms.specs.Outcome.{OrWantOfMemory, OneOrWantOfMemory};
+ghost use Rattle.qs_terms.specs.Outcome.{OrOutOfMemory, OneOrOutOfMemory};
 ghost use Rattle.qs_terms.specs.declared.term.Term.TheVariants as value;
-ghost use Rattle.qs_scope.specs.Firsts.{names_of};
-ghost use Rattle.qs_template.specs.inner.Lent.{lent};
-ghost use Rattle.qs_template.specs.Template as made;
+ghost use Rattle.qs_syntax_scope.specs.Firsts.{names_of};
+ghost use Rattle.qs_query_template.specs.inner.Lent.{lent};
+ghost use Rattle.qs_query_template.specs.Template as made;
 ghost use Rattle.qs_algebra.specs.Translation.{translated_where, translated_blocks};
 ghost use Rattle.qs_update.specs.Effect as spec;
 ghost use Rattle.qs_update.specs.inner.Lawful.{IsLawful};
@@ -17,14 +17,14 @@ use crate::graphs::iri_term;
 use crate::lawful::effects_are_lawful;
 use crate::templates::{deletion, template_with};
 use qs_algebra::{NamedPattern, translate_blocks, translate_where};
-use qs_answer::Answer;
-use qs_ast::term::Variable;
-use qs_ast::update::{Modify, QuadBlock};
-use qs_scope::numbered;
-use qs_select::solutions_of;
-use qs_solutions::Row;
+use qs_query_answer::Answer;
+use qs_syntax_ast::term::Variable;
+use qs_syntax_ast::update::{Modify, QuadBlock};
+use qs_syntax_scope::numbered;
+use qs_query_forms::solutions_of;
+use qs_algebra_solutions::Row;
 use qs_store::Draft;
-use qs_template::{Template, instances, next_after};
+use qs_query_template::{Template, instances, next_after};
 use qs_terms::{Iri, QFault, Term};
 use sqlite_items::Items;
 use std::alloc::{AllocError, Global};
@@ -36,7 +36,7 @@ fn modified(
     next: u64,
     rows: &[&Row],
 ) -> Result<Effect, QFault>
-    ensures { OrWantOfMemory (spec.modified delete insert.now next (lent rows.now)) result }
+    ensures { OrOutOfMemory (spec.modified delete insert.now next (lent rows.now)) result }
 {
     let delete = deletion(delete);
     let after = next_after(insert, next, rows.len())?;
@@ -59,7 +59,7 @@ fn modified_by(
     next: u64,
     rows: &[&Row],
 ) -> Result<Effect, QFault>
-    ensures { OrWantOfMemory (spec.modified (made.template_in with.now (made.template_of_blocks (names_of variables.now) delete.now)) (made.template_in with.now (made.template_of_blocks (names_of variables.now) insert.now)) next (lent rows.now)) result }
+    ensures { OrOutOfMemory (spec.modified (made.template_in with.now (made.template_of_blocks (names_of variables.now) delete.now)) (made.template_in with.now (made.template_of_blocks (names_of variables.now) insert.now)) next (lent rows.now)) result }
 {
     let names = numbered(alloc, variables)?;
     let delete = template_with(alloc, &names, with, delete)?;
@@ -74,13 +74,13 @@ fn changed_by_data(
     insert: &[QuadBlock],
     next: u64,
 ) -> Result<Effect, QFault>
-    ensures { OrWantOfMemory (spec.of_data delete.now insert.now next) result }
+    ensures { OrOutOfMemory (spec.of_data delete.now insert.now next) result }
 {
     let row = Row::unbound(alloc, 0)?;
     modified_by(alloc, &[], &None, delete, insert, next, &[&row])
 }
 
-/// What INSERT DATA and DELETE DATA do. They read no quads, so the number behind is above the blank nodes of the added ones, whichever it
+/// What INSERT DATA and DELETE DATA do. They read no quads, so the number after is above the blank nodes of the added ones, whichever it
 /// was before.
 pub fn data(
     alloc: Global,
@@ -88,7 +88,7 @@ pub fn data(
     insert: &[QuadBlock],
     next: u64,
 ) -> Result<Effect, QFault>
-    ensures effect { OrWantOfMemory (spec.of_data delete.now insert.now next) result }
+    ensures effect { OrOutOfMemory (spec.of_data delete.now insert.now next) result }
     ensures lawful { IfOk result (IsLawful next) }
 {
     effects_are_lawful();
@@ -113,7 +113,7 @@ fn solutions(
     draft: &Draft<'_>,
     max_rows: u64,
 ) -> Result<Items<Row>, QFault>
-    ensures { OneOrWantOfMemory (AreAllRows max_rows (spec.solutions pattern.now draft.now.store.now.default_graph (option_copied with.entry) draft.now.store.now.draft.quads)) result }
+    ensures { OneOrOutOfMemory (AreAllRows max_rows (spec.solutions pattern.now draft.now.store.now.default_graph (option_copied with.entry) draft.now.store.now.draft.quads)) result }
 {
     let answer = solutions_of(alloc, pattern, draft, with, max_rows)?;
     match answer {
@@ -131,7 +131,7 @@ fn deleted_rows(
     draft: &Draft<'_>,
     max_rows: u64,
 ) -> Result<Items<Row>, QFault>
-    ensures { OneOrWantOfMemory (AreAllRows max_rows (spec.solutions (translated_blocks variables.now blocks.now) draft.now.store.now.default_graph None draft.now.store.now.draft.quads)) result }
+    ensures { OneOrOutOfMemory (AreAllRows max_rows (spec.solutions (translated_blocks variables.now blocks.now) draft.now.store.now.default_graph None draft.now.store.now.draft.quads)) result }
 {
     let pattern = translate_blocks(alloc, variables, blocks)?;
     solutions(alloc, &pattern, None, draft, max_rows)
@@ -146,7 +146,7 @@ pub fn deleted_where(
     draft: &Draft<'_>,
     max_rows: u64,
 ) -> Result<Effect, QFault>
-    ensures { OneOrWantOfMemory (spec.IsDeletedWhere max_rows variables.now draft.now.store.now.default_graph blocks.now draft.now.store.now.draft.quads draft.now.store.now.draft.next) result }
+    ensures { OneOrOutOfMemory (spec.IsDeletedWhere max_rows variables.now draft.now.store.now.default_graph blocks.now draft.now.store.now.draft.quads draft.now.store.now.draft.next) result }
 {
     let next = draft.next_blank();
     let rows = deleted_rows(alloc, variables, blocks, draft, max_rows)?;
@@ -170,7 +170,7 @@ fn rows_with(
     draft: &Draft<'_>,
     max_rows: u64,
 ) -> Result<Items<Row>, QFault>
-    ensures { OneOrWantOfMemory (AreAllRows max_rows (spec.solutions pattern.now draft.now.store.now.default_graph (option_map value.Iri with.now) draft.now.store.now.draft.quads)) result }
+    ensures { OneOrOutOfMemory (AreAllRows max_rows (spec.solutions pattern.now draft.now.store.now.default_graph (option_map value.Iri with.now) draft.now.store.now.draft.quads)) result }
 {
     let with = with_term(with)?;
     solutions(alloc, pattern, with.as_ref(), draft, max_rows)
@@ -184,7 +184,7 @@ fn where_rows(
     draft: &Draft<'_>,
     max_rows: u64,
 ) -> Result<Items<Row>, QFault>
-    ensures { OneOrWantOfMemory (AreAllRows max_rows (spec.solutions (translated_where variables.now modify.now.pattern) draft.now.store.now.default_graph (option_map value.Iri modify.now.with) draft.now.store.now.draft.quads)) result }
+    ensures { OneOrOutOfMemory (AreAllRows max_rows (spec.solutions (translated_where variables.now modify.now.pattern) draft.now.store.now.default_graph (option_map value.Iri modify.now.with) draft.now.store.now.draft.quads)) result }
 {
     let pattern = translate_where(alloc, variables, &modify.pattern)?;
     rows_with(alloc, &pattern, &modify.with, draft, max_rows)
@@ -199,7 +199,7 @@ pub fn modified_where(
     draft: &Draft<'_>,
     max_rows: u64,
 ) -> Result<Effect, QFault>
-    ensures { OneOrWantOfMemory (spec.IsModifiedWhere max_rows variables.now draft.now.store.now.default_graph modify.now draft.now.store.now.draft.quads draft.now.store.now.draft.next) result }
+    ensures { OneOrOutOfMemory (spec.IsModifiedWhere max_rows variables.now draft.now.store.now.default_graph modify.now draft.now.store.now.draft.quads draft.now.store.now.draft.next) result }
 {
     let next = draft.next_blank();
     let rows = where_rows(alloc, variables, modify, draft, max_rows)?;

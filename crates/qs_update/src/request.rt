@@ -2,14 +2,14 @@
 
 ghost use Rattle.std.specs.Prelude.{◌≡◌, ◌≢◌, IsTrue, Err, IfErr, OnOk, OnErr};
 ghost use Rattle.qs_terms.specs.declared.fault.QFault.TheVariants.{Memory};
-ghost use Rattle.qs_blanks.specs.Written.{update_values_have_no_blank};
+ghost use Rattle.qs_update_laws.specs.Written.{update_values_have_no_blank};
 ghost use Rattle.qs_update.specs.inner.Carried.{AreTaken};
 ghost use Rattle.qs_update.specs.Outcome.{IsAccepted, IsOutcomeOfText};
 ghost use Rattle.qs_update.specs.Request.{bounds_of, AreOperations};
 
 use crate::draft::operate_all;
-use qs_ast::update::Update;
-use qs_blanks::laws::updates_write_no_blank_rows;
+use qs_syntax_ast::update::Update;
+use qs_update_laws::laws::updates_write_no_blank_rows;
 use qs_store::Store;
 use qs_syntax::parse_update;
 use qs_terms::QFault;
@@ -46,7 +46,7 @@ fn taken(alloc: Global, update: &Update, store: &mut Store, max_rows: u64) -> Re
 /// where ADD, COPY or MOVE name a graph without quads and `QFault::GraphExists` where CREATE names one with quads, both without SILENT
 /// (SPARQL 1.1 Update, 3.2); `QFault::TooManyRows` where a WHERE has more solutions; `QFault::Full` where the numbers of blank nodes
 /// don't suffice, or where the known terms and those of the quads inserted so far in the request are more than the store's limit.
-/// `QFault::Memory` for want of memory, at any time.
+/// `QFault::Memory` where memory runs out, at any time.
 pub fn update(alloc: Global, text: &str, store: &mut Store, max_rows: u64) -> Result<(), QFault>
     ensures accepted { OnOk result (IsAccepted (bounds_of max_rows store.old) text.now store.old.base store.new.base) }
     ensures refused { OnErr result (store.new.base ≡ store.old.base) }

@@ -1,12 +1,12 @@
 //! The templates of an update (SPARQL 1.1 Update, 3.1.3).
 
 ghost use Rattle.std.specs.Prelude.{◌≡◌, IfOk};
-ghost use Rattle.qs_template.specs.Template as made;
+ghost use Rattle.qs_query_template.specs.Template as made;
 ghost use Rattle.qs_update.specs.Effect as spec;
 
-use qs_ast::update::QuadBlock;
-use qs_scope::Seen;
-use qs_template::{Template, template_in, template_of_blocks};
+use qs_syntax_ast::update::QuadBlock;
+use qs_syntax_scope::Seen;
+use qs_query_template::{Template, template_in, template_of_blocks};
 use qs_terms::Iri;
 use std::alloc::{AllocError, Global};
 

@@ -4,7 +4,7 @@ ghost use Rattle.std.specs.Prelude.{◌≡◌, ◌≤◌, [], false, length, Ok,
 ghost use Rattle.std.specs.List.{filter};
 ghost use Rattle.std.specs.Option.{option_copied};
 ghost use Rattle.qs_terms.specs.Dataset.{is_graph_below};
-ghost use Rattle.qs_terms.specs.Outcome.{OrWantOfMemory};
+ghost use Rattle.qs_terms.specs.Outcome.{OrOutOfMemory};
 ghost use Rattle.qs_terms.specs.Statement.{is_graph, same_graph};
 ghost use Rattle.qs_store.specs.Change.{IsChanged};
 ghost use Rattle.qs_store.specs.declared.fault.StoreFault.TheVariants.{Memory};
@@ -14,13 +14,13 @@ ghost use Rattle.qs_update.specs.Graphs as spec;
 ghost use Rattle.qs_update.specs.inner.Lawful.{IsLawful};
 ghost use Rattle.qs_update.specs.Request.{IsCarriedOut};
 
-use crate::carried::{carry_out, fault_of};
+use crate::carried::{apply_operation, fault_of};
 use crate::effect::{Effect, fault_or_nothing, nothing};
 use crate::graphs::{graph_name, iri_term, is_same};
-use qs_ast::update::{GraphTarget, Transfer};
+use qs_syntax_ast::update::{GraphTarget, Transfer};
 use qs_store::{Draft, Removal, StoreFault};
 use qs_terms::{Iri, QFault, Term};
-use qs_tree::update::OnMissing;
+use qs_syntax_tree::update::OnMissing;
 use std::alloc::Global;
 
 fn empty(target: &GraphTarget, draft: &mut Draft<'_>) -> Result<(), StoreFault>
@@ -65,7 +65,7 @@ fn created(
     name: &Iri,
     draft: &Draft<'_>,
 ) -> Result<Effect, QFault>
-    ensures effect { OrWantOfMemory (effect.created on_exists name.now draft.now.store.now.draft.quads draft.now.store.now.draft.next) result }
+    ensures effect { OrOutOfMemory (effect.created on_exists name.now draft.now.store.now.draft.quads draft.now.store.now.draft.next) result }
     ensures lawful { IfOk result (IsLawful draft.now.store.now.draft.next) }
 {
     let next = draft.next_blank();
@@ -90,7 +90,7 @@ pub fn create(
     ensures outcome { BecomesOne (IsCarriedOut draft.old.store.now.limit draft.old.store.now.draft (effect.created on_exists name.now draft.old.store.now.draft.quads draft.old.store.now.draft.next)) result draft.new.store.now.draft }
 {
     let effect = created(alloc, on_exists, name, draft)?;
-    carry_out(draft, &effect)
+    apply_operation(draft, &effect)
 }
 
 fn exists(draft: &Draft<'_>, name: Option<&Term>) -> bool
@@ -140,7 +140,7 @@ fn put_over_other(
 {
     if is_same(from, to) {
         let effect = nothing(alloc, draft.next_blank());
-        return carry_out(draft, &effect);
+        return apply_operation(draft, &effect);
     }
     put_over(removal, from, to, draft)
 }
@@ -165,5 +165,5 @@ pub fn transfer(
     }
     let next = draft.next_blank();
     let effect = fault_or_nothing(alloc, transfer.on_missing, QFault::NoGraph, next)?;
-    carry_out(draft, &effect)
+    apply_operation(draft, &effect)
 }

@@ -1,12 +1,12 @@
 -- Data that are put into a new store.
 use Rattle.std.proofs.Common.{◌≡◌, ◌∙◌, ℕ, List, Ok, Err, ap, refl, subst}
-use Rattle.qs_terms.specs.Outcome.{Outcome, OneOrWantOfMemory}
+use Rattle.qs_terms.specs.Outcome.{Outcome, OneOrOutOfMemory}
 use Rattle.qs_terms.specs.declared.term.Term.{Term}
 use Rattle.qs_terms.specs.Statement.{Statement}
-use Rattle.qs_load.specs.Load as load
-use Rattle.qs_load.specs.Load.{IsLoadFault}
-use Rattle.qs_load.specs.declared.fault.LoadFault.{LoadFault}
-use Rattle.qs_load.specs.declared.fault.LoadFault.TheVariants.{Text, Store}
+use Rattle.qs_store_load.specs.Load as load
+use Rattle.qs_store_load.specs.Load.{IsLoadFault}
+use Rattle.qs_store_load.specs.declared.fault.LoadFault.{LoadFault}
+use Rattle.qs_store_load.specs.declared.fault.LoadFault.TheVariants.{Text, Store}
 use Rattle.qs_store.specs.declared.fault.StoreFault.TheVariants as store_fault
 use Rattle.qs_store.specs.Content.{Content}
 use Rattle.quads.specs.Due.{empty, max_terms, IsLoaded, IsOverData}
@@ -36,10 +36,10 @@ module _ (limit : ℕ) (file : List ℕ) (old : Content) (is_limit : limit ≡ m
       at_new f (subst (λ (n : ℕ). IsLoadFault n file empty.next empty.known f) is_limit (subst (λ (o : Content). IsLoadFault limit file o.next o.known f) is_new h))
 
 module _ {A : Type 0} (Due : Content → Outcome A → Type 0) (file : List ℕ) (c : Content) (is : IsLoaded file (Ok c)) where
-  over : (r : Outcome A) → OneOrWantOfMemory (Due c) r → OneOrWantOfMemory (IsOverData Due file) r
+  over : (r : Outcome A) → OneOrOutOfMemory (Due c) r → OneOrOutOfMemory (IsOverData Due file) r
   over (Ok a) due = (Ok c, is, due)
   over (Err f) due = λ other. (Ok c, is, due other)
 
   -- what is due over a store of the data is due over the data
-  pub over_data : (r s : Outcome A) → r ≡ s → OneOrWantOfMemory (Due c) r → OneOrWantOfMemory (IsOverData Due file) s
-  over_data r s same due = over s (subst (λ (o : Outcome A). OneOrWantOfMemory (Due c) o) same due)
+  pub over_data : (r s : Outcome A) → r ≡ s → OneOrOutOfMemory (Due c) r → OneOrOutOfMemory (IsOverData Due file) s
+  over_data r s same due = over s (subst (λ (o : Outcome A). OneOrOutOfMemory (Due c) o) same due)

@@ -12,10 +12,10 @@ use Rattle.qs_store.specs.declared.default_graph.DefaultGraph.{DefaultGraph}
 use Rattle.qs_service.specs.Meaning.{sparql}
 use Rattle.qs_service.specs.State.{State}
 use Rattle.qs_service.specs.Step.{Event}
-use Rattle.qs_replay.specs.Replayed.{StopsAt, IsReplayed}
-use Rattle.qs_replay.specs.Script.{IsScript, IsOtherLine}
-use Rattle.qs_replay.specs.declared.run.ReplayEnd.{ReplayEnd}
-use Rattle.qs_replay.specs.declared.run.ReplayEnd.TheVariants.{SinkFailed, OutOfMemory}
+use Rattle.qs_service_replay.specs.Replayed.{StopsAt, IsReplayed}
+use Rattle.qs_service_replay.specs.Script.{IsScript, IsOtherLine}
+use Rattle.qs_service_replay.specs.declared.run.ReplayEnd.{ReplayEnd}
+use Rattle.qs_service_replay.specs.declared.run.ReplayEnd.TheVariants.{SinkFailed, OutOfMemory}
 use Rattle.quads.specs.Due.{line, script_line, service_over, IsLoaded, IsDueOfEvents, IsDueOfScript}
 use Rattle.quads.specs.inner.Refusal.{refusal_text}
 use Rattle.quads.specs.inner.Replayed.{IsBegunOfEvents, IsScriptDue, IsScriptBegun, IsReplayDue, IsReplayBegun}
@@ -25,7 +25,7 @@ use Rattle.quads.specs.declared.job.Ran.{Ran}
 use Rattle.quads.specs.declared.refusal.Refusal.{Refusal}
 use Rattle.quads.specs.declared.refusal.Refusal.TheVariants.{Data, Script, Fault}
 
--- the line of want of memory
+-- the line of running out of memory
 abbrev pub wanting : List ℕ
 wanting = line (fault_line fault.Memory)
 
@@ -38,7 +38,7 @@ module _ (Due : List ℕ → ℕ → Type 0) (Begun : List ℕ → Type 0) (take
       at (inl w) = inl (bytes, subst (λ (n : ℕ). Due bytes n) (sym w.1) due, w.0, subst (λ (l : List ℕ). Appends taken taken2 l) (take_all r.written bytes (omega (arith, w.0))) p.1, w.2)
       at (inr w) = inr (bytes, begun, w.0, p.1, w.1, w.2)
 
-  -- a refusal is put, or want of memory in its place
+  -- a refusal is put, or running out of memory in its place
   pub refused : (text : List ℕ) → Due text 1 → Due wanting 1 → ((bytes : List ℕ) (s : ℕ) → Due bytes s → Begun bytes)
       → (Prints text 1 taken taken2 faults faults2 r) ⊎ (Prints wanting 1 taken taken2 faults faults2 r) → Runs Due Begun taken taken2 faults faults2 r
   refused text due memory begun (inl p) = runs_of text 1 due (begun text 1 due) p
@@ -91,7 +91,7 @@ module _ (old : State) (events : List Event) where
               w.2 ∙ ap one_more h.5,
             )
 
-    -- memory was wanting, and its line is put behind
+    -- memory ran out, and its line is put after
     pub ran_wanting : (end : ReplayEnd) (r : Ran) (bytes : List ℕ) → end ≡ OutOfMemory → bytes ≡ wanting → IsReplayed sparql old events taken taken1 faults faults1 new end written → Prints bytes 1 taken1 taken2 faults1 faults2 r
         → Runs (IsDueOfEvents old events) (IsBegunOfEvents old events) taken taken2 faults faults2 (record { status = 1; written = written + r.written })
     ran_wanting end r bytes is put ended prints =

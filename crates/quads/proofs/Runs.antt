@@ -56,7 +56,7 @@ module _ (job : Job) (taken taken2 : Option (List ℕ)) (faults faults2 : ℕ) (
       at (inl w) = inl (bytes, subst (λ (n : ℕ). IsDue job bytes n) (sym w.1) due, w.0, subst (λ (l : List ℕ). Appends taken taken2 l) (whole r.written bytes w.0) p.1, w.2)
       at (inr w) = inr (bytes, begun job bytes s due, w.0, p.1, w.1, w.2)
 
-  -- the job's end that is printed, or want of memory in its place
+  -- the job's end that is printed, or running out of memory in its place
   pub ran : (end : Ended) → IsEnd job end → (Prints (printed end) (status end) taken taken2 faults faults2 r) ⊎ (Prints (line (fault_line fault.Memory)) 1 taken taken2 faults faults2 r) → IsRun job taken taken2 faults faults2 r
   ran end is (inl p) = ran_of (printed end) (status end) (due_of job end is) p
   ran end is (inr p) = ran_of (line (fault_line fault.Memory)) 1 (memory job) p

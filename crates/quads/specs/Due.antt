@@ -1,11 +1,11 @@
 -- What is due of a job: the bytes that are printed, and the exit status. The data of a check are printed again as N-Quads, or refused. Those
--- of the other jobs are put into a new store before, with the default graph that the job chooses: a query over it is answered, of an update the dataset behind it is printed as N-Quads,
+-- of the other jobs are put into a new store before, with the default graph that the job chooses: a query over it is answered, of an update the dataset after it is printed as N-Quads,
 -- and of a replay the lines of a run of its events; or the first fault is told, of the data before that of the text or the script.
 use Rattle.std.specs.Prelude.{◌≡◌, ◌⊎◌, ◌∷◌, ◌++◌, [], ℕ, List, Ok, Err, codes, decimal}
 use Rattle.std.specs.Str.{IsUtf8, IsValidUpTo}
 use Rattle.serde_json.specs.Written.{compact_text}
 use Rattle.qs_terms.specs.Dataset.{IsDataset}
-use Rattle.qs_terms.specs.Outcome.{Outcome, OneOrWantOfMemory}
+use Rattle.qs_terms.specs.Outcome.{Outcome, OneOrOutOfMemory}
 use Rattle.qs_terms.specs.Statement.{Statement}
 use Rattle.qs_terms.specs.declared.fault.QFault.TheVariants as fault
 use Rattle.qs_nquads.specs.Nquads.{IsNquads, IsFault}
@@ -13,10 +13,10 @@ use Rattle.qs_nquads.specs.declared.fault.NqFault.{NqFault}
 use Rattle.qs_store.specs.Content.{Content}
 use Rattle.qs_store.specs.Same.{SameSet}
 use Rattle.qs_store.specs.declared.default_graph.DefaultGraph.{DefaultGraph}
-use Rattle.qs_answer.specs.declared.answer.Answer.{Answer}
-use Rattle.qs_answer.specs.declared.answer.Answer.TheVariants.{Solutions, Truth, Graph}
+use Rattle.qs_query_answer.specs.declared.answer.Answer.{Answer}
+use Rattle.qs_query_answer.specs.declared.answer.Answer.TheVariants.{Solutions, Truth, Graph}
 use Rattle.qs_nquads.specs.Written.{nquads_of}
-use Rattle.qs_select.specs.Sequence.{dataset_of}
+use Rattle.qs_query_forms.specs.Sequence.{dataset_of}
 use Rattle.qs_update.specs.Request.{Bounds, IsCarriedOut}
 use Rattle.qs_update.specs.declared.effect.Effect.{Effect}
 use Rattle.qs_results.specs.Json.{json_of}
@@ -25,19 +25,19 @@ use Rattle.qs_results.specs.Triples.{ntriples_of}
 use Rattle.qs_service.specs.Meaning.{sparql}
 use Rattle.qs_service.specs.State.{State}
 use Rattle.qs_service.specs.Step.{Event}
-use Rattle.qs_replay.specs.Replay.{Replays}
-use Rattle.qs_replay.specs.Replayed.{StopsAt}
-use Rattle.qs_replay.specs.Script.{IsScript, IsOtherLine}
+use Rattle.qs_service_replay.specs.Replay.{Replays}
+use Rattle.qs_service_replay.specs.Replayed.{StopsAt}
+use Rattle.qs_service_replay.specs.Script.{IsScript, IsOtherLine}
 use Rattle.quads.specs.declared.job.Job.{Job}
 use Rattle.quads.specs.declared.job.Job.TheVariants.{Check, Query, Update, Replay}
 
--- ---- what the data come to in a store
+-- ---- what the data result in in a store
 
 -- the most terms that the store knows: as many as there are numbers for them
 abbrev pub max_terms : ℕ
 max_terms = 4294967295
 
--- the most solutions of a query, behind OFFSET and LIMIT, and of a WHERE of an update
+-- the most solutions of a query, after OFFSET and LIMIT, and of a WHERE of an update
 abbrev pub max_rows : ℕ
 max_rows = 1000000
 
@@ -72,13 +72,13 @@ abbrev pub IsTextOf : List ℕ → Outcome (List ℕ) → Type 0
 IsTextOf bytes (Ok text) = IsUtf8 bytes × (text ≡ bytes)
 IsTextOf bytes (Err f) = (¬ (IsUtf8 bytes)) × ((place : ℕ) × IsValidUpTo bytes place × (f ≡ fault.Syntax place))
 
--- ---- what a query comes to
+-- ---- what a query results in
 
 abbrev pub IsQueryOfRead : DefaultGraph → Outcome (List ℕ) → Content → Outcome Answer → Type 0
 IsQueryOfRead choice (Ok text) c outcome = sparql.answers text (bounds choice) c outcome
 IsQueryOfRead choice (Err f) c outcome = outcome ≡ Err f
 
--- what the bytes of a query's file come to over what a store with this default graph holds
+-- what the bytes of a query's file result in over what a store with this default graph holds
 abbrev pub IsQueryOutcome : DefaultGraph → List ℕ → Content → Outcome Answer → Type 0
 IsQueryOutcome choice bytes c outcome = (text : Outcome (List ℕ)) × IsTextOf bytes text × IsQueryOfRead choice text c outcome
 
@@ -86,13 +86,13 @@ IsQueryOutcome choice bytes c outcome = (text : Outcome (List ℕ)) × IsTextOf 
 abbrev pub IsQueryOfData : DefaultGraph → List ℕ → List ℕ → Outcome Answer → Type 0
 IsQueryOfData choice file text outcome = IsOverData (IsQueryOutcome choice text) file outcome
 
--- ---- what an update comes to
+-- ---- what an update results in
 
 abbrev pub IsUpdateOfRead : DefaultGraph → Outcome (List ℕ) → Content → Outcome Content → Type 0
 IsUpdateOfRead choice (Ok text) old outcome = sparql.changes text (bounds choice) old outcome
 IsUpdateOfRead choice (Err f) old outcome = outcome ≡ Err f
 
--- what the bytes of an update's file come to over what a store with this default graph holds
+-- what the bytes of an update's file result in over what a store with this default graph holds
 abbrev pub IsUpdateOutcome : DefaultGraph → List ℕ → Content → Outcome Content → Type 0
 IsUpdateOutcome choice bytes old outcome = (text : Outcome (List ℕ)) × IsTextOf bytes text × IsUpdateOfRead choice text old outcome
 
@@ -130,15 +130,15 @@ abbrev pub content_status : Outcome Content → ℕ
 content_status (Ok c) = 0
 content_status (Err f) = 1
 
--- the data are quads, and this is printed of what the query comes to over them, or of want of memory
+-- the data are quads, and this is printed of what the query results in over them, or of running out of memory
 abbrev pub IsDueOfQuery : DefaultGraph → List ℕ → List ℕ → List ℕ → ℕ → Type 0
 IsDueOfQuery choice file text bytes status =
-    (outcome : Outcome Answer) × OneOrWantOfMemory (IsQueryOfData choice file text) outcome × (bytes ≡ outcome_line outcome) × (status ≡ outcome_status outcome)
+    (outcome : Outcome Answer) × OneOrOutOfMemory (IsQueryOfData choice file text) outcome × (bytes ≡ outcome_line outcome) × (status ≡ outcome_status outcome)
 
--- the data are quads, and this is printed of what the update makes of them, or of want of memory
+-- the data are quads, and this is printed of what the update makes of them, or of running out of memory
 abbrev pub IsDueOfUpdate : DefaultGraph → List ℕ → List ℕ → List ℕ → ℕ → Type 0
 IsDueOfUpdate choice file text bytes status =
-    (outcome : Outcome Content) × OneOrWantOfMemory (IsUpdateOfData choice file text) outcome × IsContentText outcome bytes × (status ≡ content_status outcome)
+    (outcome : Outcome Content) × OneOrOutOfMemory (IsUpdateOfData choice file text) outcome × IsContentText outcome bytes × (status ≡ content_status outcome)
 
 -- the data are none, and this is the line of their fault
 abbrev pub IsDueOfData : List ℕ → List ℕ → ℕ → Type 0
@@ -149,11 +149,11 @@ abbrev pub IsDueOfDataset : List ℕ → List ℕ → ℕ → Type 0
 IsDueOfDataset file bytes status =
     (quads : List Statement) × (next : ℕ) × IsNquads file 0 quads next × IsDataset (dataset_of quads next) × (bytes ≡ nquads_of quads) × (status ≡ 0)
 
--- memory was wanting, and this is the line of that fault
+-- memory ran out, and this is the line of that fault
 abbrev pub IsDueOfMemory : List ℕ → ℕ → Type 0
 IsDueOfMemory bytes status = (bytes ≡ line (fault_line fault.Memory)) × (status ≡ 1)
 
--- ---- what a replay comes to
+-- ---- what a replay results in
 
 -- a service over what a store with this default graph holds, with no connection
 abbrev pub service_over : DefaultGraph → Content → State
@@ -164,7 +164,7 @@ abbrev pub script_line : ℕ → List ℕ
 script_line n = codes "script line " ++ decimal n
 
 -- what is printed of events that are carried out: all that a run of them writes; or what those before some event write, and the line of
--- want of memory, which was wanting for what that one writes
+-- running out of memory, which was wanting for what that one writes
 abbrev pub IsDueOfEvents : State → List Event → List ℕ → ℕ → Type 0
 IsDueOfEvents old events bytes status =
     ((new : State) × Replays sparql old 1 events new bytes × (status ≡ 0))

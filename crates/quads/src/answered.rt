@@ -1,12 +1,12 @@
 //! What a query over the data of a file is answered with.
 
-ghost use Rattle.qs_terms.specs.Outcome.{OneOrWantOfMemory};
+ghost use Rattle.qs_terms.specs.Outcome.{OneOrOutOfMemory};
 ghost use Rattle.quads.specs.Due.{IsQueryOutcome};
 ghost use Rattle.quads.specs.inner.Ended.{IsQueryEnd};
 
 use crate::ended::{Ended, MAX_ROWS, text_of, unstored};
-use crate::stored::{let_go, stored};
-use qs_answer::Answer;
+use crate::stored::{drop_value, stored};
+use qs_query_answer::Answer;
 use qs_query::answer;
 use qs_store::{DefaultGraph, Store, same_set_is_an_equivalence};
 use qs_terms::QFault;
@@ -14,7 +14,7 @@ use std::alloc::Global;
 use std::hash::RandomState;
 
 fn text_answer(alloc: Global, text: &[u8], store: &Store) -> Result<Answer, QFault>
-    ensures { OneOrWantOfMemory (IsQueryOutcome store.now.default_graph text.now store.now.base) result }
+    ensures { OneOrOutOfMemory (IsQueryOutcome store.now.default_graph text.now store.now.base) result }
 {
     same_set_is_an_equivalence();
     match text_of(text) {
@@ -36,7 +36,7 @@ pub fn query_ended(
     match stored(alloc, hasher, default_graph, file) {
         Ok(store) => {
             let outcome = text_answer(alloc, text, &store);
-            let_go(store);
+            drop_value(store);
             match outcome {
                 Ok(answer) => Ended::Answered(answer),
                 Err(fault) => Ended::Refused(fault),

@@ -6,19 +6,19 @@ ghost use Rattle.quads.specs.inner.Ended as spec;
 ghost use Rattle.quads.specs.inner.Ended.{IsCheckEnd};
 
 use crate::refusal::fault_of;
-use qs_answer::Answer;
-use qs_load::LoadFault;
+use qs_query_answer::Answer;
+use qs_store_load::LoadFault;
 use qs_nquads::laws::next_number_is_fresh;
 use qs_nquads::{NqFault, read};
-use qs_select::laws::quads_are_a_dataset;
+use qs_query_forms::laws::quads_are_a_dataset;
 use qs_terms::{QFault, Quad};
 use std::alloc::Global;
 use std::hash::RandomState;
 
-/// The most solutions that a query may have, behind OFFSET and LIMIT, and a WHERE of an update.
+/// The most solutions that a query may have, after OFFSET and LIMIT, and a WHERE of an update.
 pub const MAX_ROWS: u64 = 1_000_000;
 
-/// What a job comes to.
+/// What a job results in.
 #[derive(Drop)]
 pub enum Ended {
     /// The query has this answer.
@@ -27,7 +27,7 @@ pub enum Ended {
     Quads(Vec<Quad>),
     /// The data are no N-Quads.
     DataRefused(NqFault),
-    /// The text is refused, or memory is wanting.
+    /// The text is refused, or memory runs out.
     Refused(QFault),
 }
 

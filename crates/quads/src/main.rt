@@ -1,7 +1,7 @@
 //! The program: checks the quads of a file, answers the query of a file over the quads of another, carries the update of a file out over
 //! them, or the connection events of a script, and serves them to clients.
 //!
-//! What a job's bytes come to is proved of `run`. Here the words of the command line are taken, the files read, and the port is bound.
+//! What a job's bytes result in is proved of `run`. Here the words of the command line are taken, the files read, and the port is bound.
 #![tactic(auto)]
 
 mod answered;
@@ -20,7 +20,7 @@ use crate::command::{UNION_DEFAULT, command};
 use crate::job::Job;
 use crate::refusal::put_refusal;
 use crate::run::run;
-use crate::stored::{let_go, service_of};
+use crate::stored::{drop_value, service_of};
 use clap::ArgMatches;
 use clap::error::ErrorKind;
 use qs_results::out_of_memory_line;
@@ -38,13 +38,13 @@ fn matches_of<'a>(alloc: Global, words: &'a [String]) -> Result<ArgMatches<'a>, 
     command(alloc)?.try_get_matches_from(words)
 }
 
-/// Prints that memory is wanting; the status is 1.
+/// Prints that memory runs out; the status is 1.
 fn refuse_for_memory<S: Sink>(out: &mut S) -> u8 {
     put_all(out, out_of_memory_line().as_bytes());
     1
 }
 
-/// Prints that a file can't be read, or that memory is wanting; the status is 1.
+/// Prints that a file can't be read, or that memory runs out; the status is 1.
 fn refuse_file<S: Sink>(out: &mut S, name: &str, error: &io::Error) -> u8 {
     if error.kind() == io::ErrorKind::OutOfMemory {
         return refuse_for_memory(out);
@@ -162,7 +162,7 @@ fn service<S: Sink>(
     }
 }
 
-/// Prints a line of that text and the port, or that memory is wanting: whether it went out.
+/// Prints a line of that text and the port, or that memory runs out: whether it went out.
 fn said<S: Sink>(alloc: Global, out: &mut S, text: &str, port: u16) -> bool {
     match format!(in alloc; "{text}{port}\n") {
         Ok(line) => put_all(out, line.as_bytes()) == line.len(),
@@ -201,7 +201,7 @@ fn serve_data<S: Sink>(rt: &HostRuntime, out: &mut S, matches: &ArgMatches<'_>) 
     let requests = matches.get_one::<u32>("N").unwrap_or(0);
     let mut service = service(rt, out, matches)?;
     let status = serve_on(rt, out, port, requests, &mut service);
-    let_go(service);
+    drop_value(service);
     Ok(status)
 }
 

@@ -10,7 +10,7 @@ ghost use Rattle.quads.specs.Run.{Prints};
 use crate::job::Ran;
 use crate::printed::{data_fault_text, fault_text};
 use crate::put::put;
-use qs_load::LoadFault;
+use qs_store_load::LoadFault;
 use qs_nquads::NqFault;
 use qs_results::out_of_memory_line;
 use qs_store::StoreFault;
@@ -24,7 +24,7 @@ pub enum Refusal {
     Data(NqFault),
     /// The script's line of this number, from 1, is the first that tells no event.
     Script(usize),
-    /// The terms of the data find no room, or memory is wanting.
+    /// The terms of the data find no room, or memory runs out.
     Fault(QFault),
 }
 
@@ -64,7 +64,7 @@ fn refusal_text(alloc: Global, refusal: &Refusal) -> Result<String, AllocError>
     }
 }
 
-/// Puts the line of the refusal, or that of want of memory where it can't be made.
+/// Puts the line of the refusal, or that of running out of memory where it can't be made.
 pub fn put_refusal<S: Sink>(alloc: Global, refusal: &Refusal, out: &mut S) -> Ran
     ensures { Prints (spec.refusal_text refusal.now) 1 (S.taken out.old) (S.taken out.new) (S.faults out.old) (S.faults out.new) result
         ⊎ Prints (line (fault_line Memory)) 1 (S.taken out.old) (S.taken out.new) (S.faults out.old) (S.faults out.new) result }

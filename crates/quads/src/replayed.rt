@@ -1,7 +1,7 @@
 //! The run of a script over the data of a file.
 
 ghost use Rattle.std.specs.Prelude.{map};
-ghost use Rattle.qs_replay.specs.Happenings.{event_of};
+ghost use Rattle.qs_service_replay.specs.ScriptEvents.{event_of};
 ghost use Rattle.quads.specs.Due.{IsDueOfEvents};
 ghost use Rattle.quads.specs.inner.Replayed.{IsBegunOfEvents, IsScriptDue, IsScriptBegun, IsReplayDue, IsReplayBegun};
 ghost use Rattle.quads.specs.Run.{Runs};
@@ -9,8 +9,8 @@ ghost use Rattle.quads.specs.Run.{Runs};
 use crate::job::Ran;
 use crate::put::put;
 use crate::refusal::{Refusal, put_refusal};
-use crate::stored::{let_go, service_of};
-use qs_replay::{Happening, ReplayEnd, ScriptFault, read_script, replay};
+use crate::stored::{drop_value, service_of};
+use qs_service_replay::{ScriptEvent, ReplayEnd, ScriptFault, read_script, replay};
 use qs_results::out_of_memory_line;
 use qs_service::Service;
 use qs_store::DefaultGraph;
@@ -18,11 +18,11 @@ use qs_terms::{QFault, Sink};
 use std::alloc::Global;
 use std::hash::RandomState;
 
-// Carries the events out, and puts what they write; where memory is wanting for that, its line comes behind what was put.
+// Carries the events out, and puts what they write; where memory runs out for that, its line comes after what was put.
 fn events_ran<S: Sink>(
     alloc: Global,
     service: &mut Service,
-    events: &[Happening],
+    events: &[ScriptEvent],
     out: &mut S,
 ) -> Ran
     ensures { Runs (IsDueOfEvents service.old (map event_of events.now)) (IsBegunOfEvents service.old (map event_of events.now)) (S.taken out.old) (S.taken out.new) (S.faults out.old) (S.faults out.new) result }
@@ -67,7 +67,7 @@ pub fn script_ran<S: Sink>(
     match service_of(alloc, hasher, default_graph, file) {
         Ok(mut service) => {
             let ran = script_over(alloc, &mut service, script, out);
-            let_go(service);
+            drop_value(service);
             ran
         }
         Err(refusal) => put_refusal(alloc, &refusal, out),

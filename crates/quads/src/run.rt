@@ -19,7 +19,7 @@ use qs_terms::Sink;
 use std::alloc::Global;
 use std::hash::RandomState;
 
-// Puts what is printed of a job's end, or the line of want of memory where it can't be made.
+// Puts what is printed of a job's end, or the line of running out of memory where it can't be made.
 fn put_end<S: Sink>(alloc: Global, end: Ended, out: &mut S) -> Ran
     ensures { Prints (ended.printed end) (ended.status end) (S.taken out.old) (S.taken out.new) (S.faults out.old) (S.faults out.new) result
         ⊎ Prints (line (fault_line Memory)) 1 (S.taken out.old) (S.taken out.new) (S.faults out.old) (S.faults out.new) result }
@@ -30,10 +30,10 @@ fn put_end<S: Sink>(alloc: Global, end: Ended, out: &mut S) -> Ran
     }
 }
 
-/// Does the job and prints what it comes to: the data as N-Quads, the answer as a line of JSON, a graph as N-Triples, what an update makes
+/// Does the job and prints what it results in: the data as N-Quads, the answer as a line of JSON, a graph as N-Triples, what an update makes
 /// of the data as N-Quads, a line for each reply and each refused event of a script, or the line of the fault that is due. The bytes of the
-/// data are let go once they are read, and the labels of the data and the terms of a store are hashed by `hasher`. The status is 0 where
-/// the job is done, and 1 where it is refused, where memory is wanting, or where the sink fails; nothing is put behind a failure.
+/// data are dropped once they are read, and the labels of the data and the terms of a store are hashed by `hasher`. The status is 0 where
+/// the job is done, and 1 where it is refused, where memory runs out, or where the sink fails; nothing is put after a failure.
 pub fn run<S: Sink>(alloc: Global, hasher: RandomState, job: Job, out: &mut S) -> Ran
     ensures { IsRun job (S.taken out.old) (S.taken out.new) (S.faults out.old) (S.faults out.new) result }
 {

@@ -9,7 +9,7 @@ ghost use Rattle.quads.specs.inner.Stored.{BecomesStored, BecomesService};
 
 use crate::ended::MAX_ROWS;
 use crate::refusal::{Refusal, refusal_of};
-use qs_load::{LoadFault, load};
+use qs_store_load::{LoadFault, load};
 use qs_service::Service;
 use qs_store::{DefaultGraph, Store};
 use qs_terms::QFault;
@@ -19,12 +19,12 @@ use std::hash::RandomState;
 /// The most terms that the store knows: as many as there are numbers for them.
 const MAX_TERMS: u32 = 4_294_967_295;
 
-/// Lets a value go, by one call: a store or a service is taken apart in the proof wherever it is let go in place.
-pub fn let_go<T: Drop>(value: T) {
+/// Lets a value go, by one call: a store or a service is taken apart in the proof wherever it is dropped in place.
+pub fn drop_value<T: Drop>(value: T) {
     drop(value);
 }
 
-/// A store of the quads of the file, whose bytes are let go, with this default graph.
+/// A store of the quads of the file, whose bytes are dropped, with this default graph.
 pub fn stored(
     alloc: Global,
     hasher: RandomState,
@@ -39,7 +39,7 @@ pub fn stored(
     match outcome {
         Ok(()) => Ok(store),
         Err(fault) => {
-            let_go(store);
+            drop_value(store);
             Err(fault)
         }
     }
@@ -53,7 +53,7 @@ fn service_over(alloc: Global, store: Store) -> Result<Service, Refusal>
     match Service::new(alloc, store, MAX_ROWS) {
         Ok(service) => Ok(service),
         Err(store) => {
-            let_go(store);
+            drop_value(store);
             Err(Refusal::Fault(QFault::Memory))
         }
     }

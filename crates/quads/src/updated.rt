@@ -8,7 +8,7 @@ ghost use Rattle.quads.specs.inner.Ended.{IsUpdateEnd};
 ghost use Rattle.quads.specs.inner.Updated.{BecomesUpdated, AreQuadsBehind};
 
 use crate::ended::{Ended, MAX_ROWS, text_of, unstored};
-use crate::stored::{let_go, stored};
+use crate::stored::{drop_value, stored};
 use qs_store::{DefaultGraph, Store, same_set_is_an_equivalence};
 use qs_terms::{QFault, Quad};
 use qs_update::update;
@@ -37,7 +37,7 @@ fn held(store: &Store) -> Result<Vec<Quad>, QFault>
     }
 }
 
-// The quads that the store holds behind the update.
+// The quads that the store holds after the update.
 fn behind(alloc: Global, store: &mut Store, text: &[u8]) -> Result<Vec<Quad>, QFault>
     requires limit { store.old.limit ≡ max_terms }
     ensures done { IfOk result (λ all. AreQuadsBehind store.old.default_graph text.now store.old.base all.items) }
@@ -63,7 +63,7 @@ pub fn update_ended(
     match stored(alloc, hasher, default_graph, file) {
         Ok(mut store) => {
             let outcome = behind(alloc, &mut store, text);
-            let_go(store);
+            drop_value(store);
             match outcome {
                 Ok(quads) => Ended::Quads(quads),
                 Err(fault) => Ended::Refused(fault),

@@ -12,7 +12,7 @@ const FORM: &[u8] =
 
 const GET: &[u8] = b"GET /query?query=ASK%7B%3Fs+%3Fp+%3Fo%7D HTTP/1.1\r\nHost: e\r\n\r\n";
 
-/// Whether the bytes come to this in pieces of 50; where memory is wanting, this stays, whatever more is fed.
+/// Whether the bytes result in this in pieces of 50; where memory runs out, this stays, whatever more is fed.
 fn outcome_of(alloc: Global, bytes: &[u8], end: End) -> Outcome {
     let mut session = Session::new(alloc);
     let progress = feed(&mut session, bytes, 50);

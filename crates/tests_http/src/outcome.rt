@@ -1,10 +1,10 @@
-//! What a piece of work comes to where an allocation may be refused.
+//! What a piece of work results in where an allocation may be refused.
 
 #[derive(Clone, Copy, PartialEq, Eq)]
 pub enum Outcome {
     /// All is as it ought to be.
     Whole,
-    /// Memory was wanting.
+    /// Memory ran out.
     Refused,
     Wrong,
 }

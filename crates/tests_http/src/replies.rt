@@ -5,7 +5,7 @@ use http::StatusCode;
 use qs_http::{Fixed, Media, fixed, front, reply};
 use std::alloc::{AllocError, Global};
 
-/// Fixed replies, with the status and the line of it, and what stands behind `Connection: close`.
+/// Fixed replies, with the status and the line of it, and what stands after `Connection: close`.
 const FIXED: &[(Fixed, u16, &str)] = &[
     (
         Fixed::NoContent,

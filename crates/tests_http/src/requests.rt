@@ -1,9 +1,9 @@
-//! What the bytes of a connection come to (SPARQL 1.1 Protocol, 2), in whichever pieces they come.
+//! What the bytes of a connection result in (SPARQL 1.1 Protocol, 2), in whichever pieces they come.
 
 use qs_http::{Fixed, Progress, Request, Session};
 use std::alloc::{AllocError, Global};
 
-/// What bytes come to.
+/// What bytes result in.
 #[derive(Clone, Copy)]
 pub enum End {
     More,
@@ -35,7 +35,7 @@ pub fn feed(session: &mut Session, bytes: &[u8], size: usize) -> Progress {
     progress
 }
 
-/// Whether the bytes come to this in pieces of that size, and stay so where another request stands behind them.
+/// Whether the bytes result in this in pieces of that size, and stay so where another request stands after them.
 fn comes_to(alloc: Global, bytes: &[u8], size: usize, end: End) -> bool {
     let mut session = Session::new(alloc);
     let progress = feed(&mut session, bytes, size);
@@ -46,7 +46,7 @@ fn comes_to(alloc: Global, bytes: &[u8], size: usize, end: End) -> bool {
     is_at_end && stays
 }
 
-/// Bytes, and what they come to.
+/// Bytes, and what they result in.
 const ENDS: &[(&[u8], End)] = &[
     // the head's grammar and its Host
     (
@@ -271,7 +271,7 @@ fn reads_every_cut(rt: HostRuntime) {
     }
 }
 
-/// A front, a line, how many of them, an end, and what they come to: a head has 16,384 bytes and 64 fields at most, a body 4,194,304 bytes.
+/// A front, a line, how many of them, an end, and what they result in: a head has 16,384 bytes and 64 fields at most, a body 4,194,304 bytes.
 const LIMITS: &[(&[u8], &[u8], u32, &[u8], End)] = &[
     (b"", b"\n", 16383, b"", End::More),
     (b"", b"\n", 16384, b"", End::Refused(Fixed::HeadTooLarge)),

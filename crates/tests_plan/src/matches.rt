@@ -1,8 +1,8 @@
 //! Matches of triple patterns, one by one.
 
 use crate::patterns::basic;
-use qs_ops::{Matches, solution, term};
-use qs_patterns::TriplePattern;
+use old_ops::{Matches, solution, term};
+use qs_algebra_patterns::TriplePattern;
 use qs_store::{Active, Store};
 use qs_terms::{Term, TermFault};
 use std::alloc::{AllocError, Global};

@@ -2,10 +2,10 @@
 
 use crate::matches::is_iri;
 use qs_expr::Expr;
-use qs_patterns::{BasicPattern, Pattern, Slot, Step, TriplePattern};
-use qs_plan::solutions;
+use qs_algebra_patterns::{BasicPattern, Pattern, Slot, Step, TriplePattern};
+use old_plan::solutions;
 use qs_shared::Shared;
-use qs_solutions::Row;
+use qs_algebra_solutions::Row;
 use qs_store::{Active, Store};
 use qs_terms::{Term, TermFault};
 use sqlite_items::{Boxed, Items};

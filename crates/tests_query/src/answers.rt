@@ -139,7 +139,7 @@ fn answered_outcome(alloc: Global, store: &Store) -> Outcome {
     }
 }
 
-/// Adds the quads, behind which this is the next blank node's number.
+/// Adds the quads, after which this is the next blank node's number.
 fn put(store: &mut Store, quads: &[Quad], next: u64) -> Outcome {
     if store.next_blank() > next || !is_above_blanks(next, quads) {
         return Outcome::Wrong;
@@ -163,7 +163,7 @@ fn put_data(alloc: Global, hasher: RandomState, store: &mut Store) -> Outcome {
     }
 }
 
-/// Each of three solutions takes a number, and there is no next number behind the third.
+/// Each of three solutions takes a number, and there is no next number after the third.
 fn full_outcome(alloc: Global, store: &mut Store) -> Outcome {
     match put(store, &[], u64::MAX - 2) {
         Outcome::Whole => {

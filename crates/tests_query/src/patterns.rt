@@ -2,16 +2,16 @@
 
 use crate::outcome::Outcome;
 use qs_algebra::{NamedPattern, translate, translate_where};
-use qs_ast::query::{Query, QueryForm};
-use qs_bindings::{certain, possible};
-use qs_patterns::Pattern;
+use qs_syntax_ast::query::{Query, QueryForm};
+use qs_algebra_variables::{certain, possible};
+use qs_algebra_patterns::Pattern;
 use qs_syntax::parse_query;
 use qs_terms::QFault;
 use std::alloc::{AllocError, Global};
 
 /// Queries, and which of their variables, in the order of the text, each solution of the pattern binds, and which some solution may bind.
 const FLAGS: &[(&str, &[bool], &[bool])] = &[
-    // what triples mention; the blank node has the number behind the last
+    // what triples mention; the blank node has the number after the last
     (
         "SELECT ?z { ?a <u:p> _:b . _:b ?d ?a }",
         &[false, true, true],

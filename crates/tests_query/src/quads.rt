@@ -9,7 +9,7 @@ use std::hash::RandomState;
 
 const DATA: &[u8] = b"_:a <u:p> \"o\"@en <u:g> .\n_:b <u:p> \"o\"@en .\n_:c <u:p> \"o\"@en <u:g> .";
 
-/// Numbers for the first label, and the next one behind the last label, or the fault: three numbers are wanted.
+/// Numbers for the first label, and the next one after the last label, or the fault: three numbers are wanted.
 const NUMBERED: &[(u64, Result<u64, NqFault>)] = &[
     (18446744073709551612, Ok(18446744073709551615)),
     (
@@ -28,14 +28,14 @@ const NUMBERED: &[(u64, Result<u64, NqFault>)] = &[
     ),
 ];
 
-/// The number behind the last label.
+/// The number after the last label.
 fn next_of(alloc: Global, hasher: RandomState, first: u64) -> Result<u64, NqFault> {
     let (quads, next) = read(alloc, hasher, DATA, first)?;
     drop(quads);
     Ok(next)
 }
 
-/// Whether the number behind the last label, or the fault, is the one that is wanted.
+/// Whether the number after the last label, or the fault, is the one that is wanted.
 fn are_numbered(
     alloc: Global,
     hasher: Option<RandomState>,

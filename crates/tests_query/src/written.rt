@@ -50,7 +50,7 @@ impl Sink for Device {
     }
 }
 
-/// Whether the whole text went out where there were calls enough, or else the count that is told, by one fault; or memory was wanting
+/// Whether the whole text went out where there were calls enough, or else the count that is told, by one fault; or memory ran out
 /// before anything went out.
 fn outcome_of(alloc: Global, quads: &[Quad], calls: u64) -> Outcome {
     let mut device = Device {
@@ -74,7 +74,7 @@ fn outcome_of(alloc: Global, quads: &[Quad], calls: u64) -> Outcome {
     }
 }
 
-/// The same; where memory was wanting, the whole text goes out once more.
+/// The same; where memory ran out, the whole text goes out once more.
 fn goes_out(alloc: Global, quads: &[Quad], calls: u64) -> Outcome {
     let outcome = outcome_of(alloc, quads, calls);
     if outcome == Outcome::Refused && outcome_of(alloc, quads, CALLS) != Outcome::Whole {

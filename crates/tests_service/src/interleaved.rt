@@ -52,7 +52,7 @@ fn is_wanting(service: &Service, id: u64) -> bool {
     is_reply(service, id, fixed(Fixed::Memory))
 }
 
-/// Whether the events are taken: a query whose last bytes come behind an update of another connection, and then a dump.
+/// Whether the events are taken: a query whose last bytes come after an update of another connection, and then a dump.
 fn is_told(service: &mut Service) -> bool {
     service.join_conn(1).is_ok()
         && service.join_conn(2).is_ok()
@@ -70,7 +70,7 @@ pub fn is_kept(service: &Service, is_stored: bool) -> bool {
     store.count() == quads && store.terms() == terms && store.next_blank() == 0
 }
 
-/// Whether a request that was refused, sent again by another connection, has its reply, behind which the quad of the update is stored.
+/// Whether a request that was refused, sent again by another connection, has its reply, after which the quad of the update is stored.
 fn is_answered_again(service: &mut Service, request: &[u8], due: &[u8]) -> bool {
     service.join_conn(4).is_ok()
         && service.piece(4, request).is_ok()
@@ -99,7 +99,7 @@ fn replies(service: &mut Service) -> Outcome {
     }
 }
 
-/// What the replies and the store come to.
+/// What the replies and the store result in.
 pub fn interleaved(alloc: Global, hasher: Option<RandomState>) -> Outcome {
     match service(alloc, hasher) {
         Some(mut service) => {

@@ -18,4 +18,4 @@ mod sockets;
 #[cfg(test)]
 mod streams;
 #[cfg(test)]
-mod taken;
+mod take;

@@ -9,7 +9,7 @@ use std::io;
 /// How many bytes a call moves at most.
 pub const STEP: usize = 20;
 
-/// Gives the input and takes bytes, at most 20 a call, for so many calls. The calls behind these fail.
+/// Gives the input and takes bytes, at most 20 a call, for so many calls. The calls after these fail.
 #[derive(Drop)]
 pub struct Memory<'a> {
     input: &'a [u8],

@@ -1,4 +1,4 @@
-//! Connections that come to a listener.
+//! Connections that arrive at a listener.
 
 use crate::interleaved::service;
 use crate::streams::NOT_THERE;

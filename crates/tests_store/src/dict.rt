@@ -72,7 +72,7 @@ fn has(dict: &Dict, number: u32, term: &Term) -> bool {
     number > 0 && number <= dict.len() && dict.term(number).is_same(term)
 }
 
-/// Whether the term gets the number that it has or else the next one, or is refused for want of memory, which leaves all as it was.
+/// Whether the term gets the number that it has or else the next one, or is refused where memory runs out, which leaves all as it was.
 fn is_numbered(dict: &mut Dict, term: &Term) -> bool {
     let len = dict.len();
     let found = dict.find(term);

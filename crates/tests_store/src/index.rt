@@ -148,7 +148,7 @@ fn is_whole(index: &mut Index) -> bool {
         && hands_out(index.scan_named(None, None, None), &[B])
 }
 
-/// Whether the index is filled; where memory is wanting it has no entry of graph 1.
+/// Whether the index is filled; where memory runs out it has no entry of graph 1.
 pub fn outcome(alloc: Global) -> Outcome {
     let mut index = Index::with_named(alloc);
     let outcome = if fill(&mut index).is_err() {

@@ -6,7 +6,7 @@ use qs_update::update;
 use std::alloc::Global;
 use std::hash::RandomState;
 
-/// What a request comes to.
+/// What a request results in.
 #[derive(Clone, Copy, PartialEq, Eq)]
 enum End {
     Accepted,
@@ -15,7 +15,7 @@ enum End {
     Other,
 }
 
-/// A request with at most so many solutions, what it comes to, and how many quads and terms the store has then, with its next number.
+/// A request with at most so many solutions, what it results in, and how many quads and terms the store has then, with its next number.
 struct Row {
     text: &'static str,
     most: u64,
@@ -61,7 +61,7 @@ const SOLUTIONS: &[Row] = &[
     },
 ];
 
-/// From the next number 2^64 - 2 one number is left that has one behind it: two solutions would take two.
+/// From the next number 2^64 - 2 one number is left that has one after it: two solutions would take two.
 const NUMBERS: &[Row] = &[
     Row {
         text: "INSERT { ?s <e:q> _:n } WHERE { ?s <e:p> ?o }",
@@ -126,7 +126,7 @@ fn end_of(outcome: Result<(), QFault>) -> End {
     }
 }
 
-/// Whether each request comes to what it must, and leaves what it must.
+/// Whether each request results in what it must, and leaves what it must.
 fn come_to(alloc: Global, store: &mut Store, rows: &[Row]) -> bool {
     for row in rows {
         let end = end_of(update(alloc, row.text, store, row.most));

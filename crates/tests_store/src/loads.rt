@@ -1,13 +1,13 @@
 //! Bytes of N-Quads that are put into a store of at most ten terms.
 
 use crate::outcome::Outcome;
-use qs_load::{LoadFault, load};
+use qs_store_load::{LoadFault, load};
 use qs_nquads::{NqFault, NqFaultKind};
 use qs_store::{Store, StoreFault};
 use std::alloc::Global;
 use std::hash::RandomState;
 
-/// A text, what its load comes to, and how many quads and terms the store has then, with its next number.
+/// A text, what its load results in, and how many quads and terms the store has then, with its next number.
 struct Row {
     text: &'static str,
     want: Result<(), LoadFault>,
@@ -70,7 +70,7 @@ const ROWS: &[Row] = &[
     },
 ];
 
-pub fn is_want_of_memory(loaded: &Result<(), LoadFault>) -> bool {
+pub fn is_out_of_memory(loaded: &Result<(), LoadFault>) -> bool {
     match loaded {
         Err(LoadFault::Text(fault)) => fault.kind == NqFaultKind::Memory,
         Err(LoadFault::Store(fault)) => *fault == StoreFault::Memory,
@@ -84,7 +84,7 @@ fn holds(store: &Store, row: &Row) -> bool {
 
 fn step(alloc: Global, hasher: RandomState, store: &mut Store, before: &Row, row: &Row) -> Outcome {
     let loaded = load(alloc, hasher, store, row.text.as_bytes());
-    if is_want_of_memory(&loaded) {
+    if is_out_of_memory(&loaded) {
         Outcome::Refused.or_wrong(holds(store, before))
     } else {
         Outcome::Whole.or_wrong(loaded == row.want && holds(store, row))
@@ -103,7 +103,7 @@ fn steps(alloc: Global, hasher: RandomState, store: &mut Store) -> Outcome {
     Outcome::Whole
 }
 
-/// Whether all those texts come to what they ought to.
+/// Whether all those texts result in what they ought to.
 pub fn outcome(alloc: Global, hasher: Option<RandomState>) -> Outcome {
     let Some(hasher) = hasher else {
         return Outcome::Refused;

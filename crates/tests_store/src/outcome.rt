@@ -1,4 +1,4 @@
-//! What a piece of work comes to where an allocation may be refused.
+//! What a piece of work results in where an allocation may be refused.
 
 use qs_terms::TermFault;
 
@@ -6,7 +6,7 @@ use qs_terms::TermFault;
 pub enum Outcome {
     /// All is as it ought to be.
     Whole,
-    /// Memory was wanting, and everything is as it was.
+    /// Memory ran out, and everything is as it was.
     Refused,
     Wrong,
 }

@@ -10,7 +10,7 @@ use qs_update::update;
 use std::alloc::Global;
 use std::hash::RandomState;
 
-/// Changes the four first quads to the first and the three behind the third: takes out what it puts in, copies a graph that isn't there,
+/// Changes the four first quads to the first and the three after the third: takes out what it puts in, copies a graph that isn't there,
 /// empties a graph, and puts the same triple into two others.
 const TEXT: &str = "DELETE { ?s ?p ?o } INSERT { ?s ?p ?o } WHERE { ?s ?p ?o }
 ; COPY SILENT <e:none> TO DEFAULT
@@ -83,7 +83,7 @@ pub fn requests(alloc: Global, hasher: Option<RandomState>) -> Outcome {
     }
 }
 
-/// Needs four terms, of which the third is in no quad behind it.
+/// Needs four terms, of which the third is in no quad after it.
 const FOUR: &str = "INSERT DATA { <e:a> <e:p> <e:b> } ; DELETE DATA { <e:a> <e:p> <e:b> }
 ; INSERT DATA { <e:a> <e:p> <e:c> }";
 
@@ -109,7 +109,7 @@ fn takes_four(alloc: Global, store: &mut Store, quads: &[Quad]) -> bool {
     update(alloc, FOUR, store, 1).is_ok() && is_seen(&*store, quads, &ONE_OF_FOUR)
 }
 
-/// Refused as full, with nothing known behind it.
+/// Refused as full, with nothing known after it.
 fn refuses_four(alloc: Global, store: &mut Store, quads: &[Quad]) -> bool {
     matches!(update(alloc, FOUR, store, 1), Err(QFault::Full)) && is_seen(&*store, quads, &NOTHING)
 }

@@ -1,9 +1,9 @@
-//! Loads and requests over small stores, worked out by hand: where memory is wanting all is as before, and the same once more comes to what
+//! Loads and requests over small stores, worked out by hand: where memory runs out all is as before, and the same once more results in what
 //! it ought to.
 
-use crate::loads::is_want_of_memory;
+use crate::loads::is_out_of_memory;
 use crate::outcome::Outcome;
-use qs_load::{LoadFault, load};
+use qs_store_load::{LoadFault, load};
 use qs_nquads::text;
 use qs_store::{Store, StoreFault};
 use qs_terms::QFault;
@@ -96,7 +96,7 @@ const MARKED: Held = Held {
     next: 3,
 };
 
-/// The graph that is copied isn't there, and its name isn't known behind it.
+/// The graph that is copied isn't there, and its name isn't known after it.
 const TO_ONE: Step = Step::Update(
     "INSERT DATA { <u:a> <u:p> <u:b> } ; COPY SILENT <u:none> TO DEFAULT",
 );
@@ -107,7 +107,7 @@ const ONE: Held = Held {
     next: 0,
 };
 
-/// Needs four terms, of which the third is in no quad behind it.
+/// Needs four terms, of which the third is in no quad after it.
 const TO_OTHER: Step = Step::Update(
     "INSERT DATA { <u:a> <u:p> <u:b> } ; DELETE DATA { <u:a> <u:p> <u:b> } ; INSERT DATA { <u:a> <u:p> <u:c> }",
 );
@@ -118,7 +118,7 @@ const OTHER: Held = Held {
     next: 0,
 };
 
-/// What is done to an empty store one after another, with what it holds behind each; it knows no more terms than it must.
+/// What is done to an empty store one after another, with what it holds after each; it knows no more terms than it must.
 struct Row {
     limit: u32,
     steps: &'static [(Step, Held)],
@@ -182,7 +182,7 @@ fn holds(alloc: Global, store: &Store, held: &Held) -> Outcome {
 }
 
 fn of_load(loaded: Result<(), LoadFault>) -> Outcome {
-    if is_want_of_memory(&loaded) {
+    if is_out_of_memory(&loaded) {
         Outcome::Refused
     } else {
         Outcome::Whole.or_wrong(loaded.is_ok())
@@ -204,7 +204,7 @@ fn taken(alloc: Global, hasher: RandomState, store: &mut Store, step: Step) -> O
     }
 }
 
-/// Whether a step that was refused has changed nothing, and once more comes to what it ought to.
+/// Whether a step that was refused has changed nothing, and once more results in what it ought to.
 fn succeeds_again(
     alloc: Global,
     hasher: RandomState,
@@ -260,7 +260,7 @@ fn row_outcome(alloc: Global, hasher: RandomState, row: &Row) -> Outcome {
     outcome
 }
 
-/// Whether each row comes to what it ought to.
+/// Whether each row results in what it ought to.
 pub fn outcome(alloc: Global, hasher: Option<RandomState>) -> Outcome {
     let Some(hasher) = hasher else {
         return Outcome::Refused;

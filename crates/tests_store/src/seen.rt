@@ -210,7 +210,7 @@ pub fn reads_back<V: View>(view: &V, quads: &[Quad], seen: &Seen) -> Outcome {
     }
 }
 
-/// What comes of a change, which turns one thing to be seen into another, or is refused for want of memory.
+/// What comes of a change, which turns one thing to be seen into another, or is refused where memory runs out.
 pub fn changed<V: View>(
     view: &V,
     quads: &[Quad],

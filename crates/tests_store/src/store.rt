@@ -173,7 +173,7 @@ fn draft_once(store: &mut Store, quads: &[Quad], is_kept: bool) -> Outcome {
     }
 }
 
-/// The same; where memory was wanting, another draft is whole.
+/// The same; where memory ran out, another draft is whole.
 fn draft_again(store: &mut Store, quads: &[Quad], is_kept: bool) -> Outcome {
     match draft_once(store, quads, is_kept) {
         Outcome::Refused => {
@@ -197,7 +197,7 @@ fn draft_twice(store: &mut Store, quads: &[Quad]) -> Outcome {
     draft_again(store, quads, true)
 }
 
-/// What comes of changes of a store, each of which is refused for want of memory or else done.
+/// What comes of changes of a store, each of which is refused where memory runs out or else done.
 pub fn changes(alloc: Global, hasher: Option<RandomState>) -> Outcome {
     match (quads(alloc), hasher) {
         (Ok(quads), Some(hasher)) => {

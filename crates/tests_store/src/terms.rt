@@ -1,4 +1,4 @@
-//! Terms: which texts make one (RDF 1.1 Concepts, 3; SPARQL 1.1 Query, 19.8), their order, and what they may stand for in a quad.
+//! Terms: which texts make one (RDF 1.1 Concepts, 3; SPARQL 1.1 Query, 19.8), their order, and what they may denote in a quad.
 
 use crate::outcome::Outcome;
 use qs_terms::{Quad, Term, TermFault};

@@ -63,7 +63,7 @@ const EMPTY: Seen = Seen {
     next: 8,
 };
 
-/// Steps, each with what is to be seen before it and behind it: the default graph is copied over another one, the third is moved over the
+/// Steps, each with what is to be seen before it and after it: the default graph is copied over another one, the third is moved over the
 /// default graph, the second is added to the third; then one graph, the named ones and all are cleared.
 const STEPS: &[(Step, Seen, Seen)] = &[
     (Step::Transfer(Removal::Target, 0, 1), BEFORE, COPIED),

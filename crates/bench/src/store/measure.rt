@@ -2,7 +2,7 @@
 
 use super::quads::{Part, quads};
 use super::work::{
-    add_parts, change, change_draft_each, contained, entries, graphs, let_go, triples,
+    add_parts, change, change_draft_each, contained, entries, graphs, drop_value, triples,
 };
 use crate::line::line;
 use crate::timing::{RUNS, micros};
@@ -31,7 +31,7 @@ fn time_of_change(rt: &HostRuntime, store: &mut Store, remove: &[Quad], add: &[Q
 fn load(rt: &HostRuntime, state: RandomState, there: &[Quad]) -> u64 {
     let mut store = Store::new(rt.alloc(), u32::MAX, state);
     let time = time_of_change(rt, &mut store, &[], there);
-    let_go(store);
+    drop_value(store);
     time
 }
 
@@ -182,14 +182,14 @@ fn show_scattered(
 fn with_new(rt: &HostRuntime, store: &mut Store, scattered: &[Quad], size: u32) -> io::Result<()> {
     let new = quads(rt.alloc(), Part::New, size)?;
     let outcome = show_scattered(rt, store, scattered, &new);
-    let_go(new);
+    drop_value(new);
     outcome
 }
 
 fn with_scattered(rt: &HostRuntime, store: &mut Store, size: u32) -> io::Result<()> {
     let scattered = quads(rt.alloc(), Part::Scattered, size)?;
     let outcome = with_new(rt, store, &scattered, size);
-    let_go(scattered);
+    drop_value(scattered);
     outcome
 }
 
@@ -212,7 +212,7 @@ fn with_ascending(
 ) -> io::Result<()> {
     let there = quads(rt.alloc(), Part::Ascending, size)?;
     let outcome = show_ascending(rt, state, store, &there);
-    let_go(there);
+    drop_value(there);
     outcome
 }
 
@@ -230,6 +230,6 @@ fn show_store(
 pub fn times(rt: &HostRuntime, state: RandomState, size: u32) -> io::Result<()> {
     let mut store = Store::new(rt.alloc(), u32::MAX, state);
     let outcome = show_store(rt, state, &mut store, size);
-    let_go(store);
+    drop_value(store);
     outcome
 }

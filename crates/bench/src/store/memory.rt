@@ -1,7 +1,7 @@
 //! The memory of stores, as the system counts it.
 
 use super::quads::{Part, quads};
-use super::work::{add_parts, count, let_go};
+use super::work::{add_parts, count, drop_value};
 use crate::line::line;
 use crate::resident::resident;
 use qs_dict::Dict;
@@ -38,7 +38,7 @@ fn show_terms(rt: &HostRuntime, state: RandomState, quads: &[Quad]) -> io::Resul
     let mut dict = Dict::new(rt.alloc(), u32::MAX, state);
     let grown = terms(rt, &mut dict, quads);
     let count = u64::from(dict.len());
-    let_go(dict);
+    drop_value(dict);
     line(rt, &[("terms", count), ("kilobytes", grown)])
 }
 
@@ -54,7 +54,7 @@ fn show_store(rt: &HostRuntime, state: RandomState, quads: &[Quad], most: usize)
     let mut store = Store::new(rt.alloc(), u32::MAX, state);
     let grown = stored(rt, &mut store, quads, most);
     let count = count(&store);
-    let_go(store);
+    drop_value(store);
     line(rt, &[("quads", count), ("kilobytes", grown)])
 }
 
@@ -65,6 +65,6 @@ pub fn show(rt: &HostRuntime, state: RandomState, size: u32, changes: u32) -> io
         None => show_terms(rt, state, &quads),
         Some(most) => show_store(rt, state, &quads, most),
     };
-    let_go(quads);
+    drop_value(quads);
     outcome
 }

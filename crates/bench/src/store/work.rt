@@ -11,7 +11,7 @@ use std::hash::RandomState;
 use std::io;
 
 /// Lets a store, or a list of quads, go in one place.
-pub fn let_go<T: Drop>(value: T) {
+pub fn drop_value<T: Drop>(value: T) {
     drop(value);
 }
 
@@ -185,14 +185,14 @@ fn show_small(rt: &HostRuntime, store: &mut Store, there: &[Quad], new: &[Quad])
 fn worked(rt: &HostRuntime, state: RandomState, there: &[Quad], new: &[Quad]) -> io::Result<()> {
     let mut store = Store::new(rt.alloc(), u32::MAX, state);
     let outcome = show_small(rt, &mut store, there, new);
-    let_go(store);
+    drop_value(store);
     outcome
 }
 
 fn with_new(rt: &HostRuntime, state: RandomState, there: &[Quad]) -> io::Result<()> {
     let new = quads(rt.alloc(), Part::New, 1000)?;
     let outcome = worked(rt, state, there, &new);
-    let_go(new);
+    drop_value(new);
     outcome
 }
 
@@ -200,6 +200,6 @@ fn with_new(rt: &HostRuntime, state: RandomState, there: &[Quad]) -> io::Result<
 pub fn small(rt: &HostRuntime, state: RandomState) -> io::Result<()> {
     let there = quads(rt.alloc(), Part::Ascending, 1000)?;
     let outcome = with_new(rt, state, &there);
-    let_go(there);
+    drop_value(there);
     outcome
 }

@@ -1,4 +1,4 @@
--- What is left of CONCAT behind its first strings.
+-- What is left of CONCAT after its first strings.
 use Rattle.std.specs.Prelude.{◌≡◌, ℕ, true, List, [], ◌∷◌, ◌++◌, Option, Some, None, Result, MatchResult, if◌then◌else◌}
 use Rattle.std.specs.Borrow.{Bor}
 use Rattle.std.specs.Option.{option_copied, option_map, option_and_then, unwrap_or}
@@ -6,7 +6,7 @@ use Rattle.qs_terms.specs.Literal.{Literal}
 use Rattle.qs_terms.specs.Term.{same_tag}
 use Rattle.qs_terms.specs.declared.term.Term.{Term}
 use Rattle.qs_terms.specs.declared.term.Term.TheVariants as term
-use Rattle.qs_values.specs.Values.{strung}
+use Rattle.qs_expr_values.specs.Values.{strung}
 use Rattle.qs_expr.specs.Calls.{Value, Parts, string_parts}
 use Rattle.qs_expr.specs.Comes.{Errs}
 use Rattle.qs_expr.specs.declared.fault.ExprFault.{ExprFault}

@@ -1,7 +1,7 @@
--- What is left of a chain behind its first operands.
+-- What is left of a chain after its first operands.
 use Rattle.std.specs.Prelude.{ℕ, Bool, List, map, drop, Option, Some, None, ℤ, if◌then◌else◌}
 use Rattle.std.specs.List.{fold}
-use Rattle.qs_solutions.specs.Solution.{Solution}
+use Rattle.qs_algebra_solutions.specs.Solution.{Solution}
 use Rattle.qs_expr.specs.Truth.{any, every}
 use Rattle.qs_expr.specs.Calls.{Value}
 use Rattle.qs_expr.specs.Meaning.{truth, meaning, addend_meaning, among, added, multiplied, first_value}

@@ -1,7 +1,7 @@
 -- What is left of the table in each state of the scanner within IRIs.
 use Rattle.std.specs.Prelude.{suc, [], ◌∷◌}
-use Rattle.qs_regular.specs.Form.{Form, nothing, one, hexes, many, ◌⨾◌, ◌∣◌, char}
-use Rattle.qs_regular.specs.Character.{is_iri_char, is_iri_scalar}
+use Rattle.qs_lex_regular.specs.Form.{Form, nothing, one, hexes, many, ◌⨾◌, ◌∣◌, char}
+use Rattle.qs_lex_regular.specs.Character.{is_iri_char, is_iri_scalar}
 use Rattle.qs_lex.specs.Table.{Left}
 use Rattle.qs_lex.specs.declared.token.Class.TheVariants as class
 use Rattle.qs_lex.specs.declared.iri_state.IriState.{IriState}

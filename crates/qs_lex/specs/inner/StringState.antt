@@ -1,7 +1,7 @@
 -- What is left of the table in each state of the scanner within strings.
 use Rattle.std.specs.Prelude.{ℕ, suc, not, [], ◌∷◌}
-use Rattle.qs_regular.specs.Form.{Form, nothing, one, hexes, many, ◌⨾◌, ◌∣◌, maybe, char, echar, uchar}
-use Rattle.qs_regular.specs.Character.{is_scalar, is_escaped, is_one_of}
+use Rattle.qs_lex_regular.specs.Form.{Form, nothing, one, hexes, many, ◌⨾◌, ◌∣◌, maybe, char, echar, uchar}
+use Rattle.qs_lex_regular.specs.Character.{is_scalar, is_escaped, is_one_of}
 use Rattle.qs_lex.specs.Table.{Left}
 use Rattle.qs_lex.specs.declared.token.Class.TheVariants as class
 use Rattle.qs_lex.specs.declared.string_state.StringState.{StringState}

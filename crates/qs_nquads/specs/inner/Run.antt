@@ -1,9 +1,9 @@
 -- Runs of plain characters at the front of a text, a byte at a time.
 use Rattle.std.specs.Prelude.{◌≡◌, ℕ, ◌+◌, Bool, not, ◌&&◌, nat_lt, List, drop, Option}
 use Rattle.std.specs.Str.{chars, IsCharBoundary}
-use Rattle.qs_regular.specs.Character.{is_iri_char}
-use Rattle.qs_regular.specs.Longest.{best}
-use Rattle.qs_regular.specs.inner.Scan.{later}
+use Rattle.qs_lex_regular.specs.Character.{is_iri_char}
+use Rattle.qs_lex_regular.specs.Longest.{best}
+use Rattle.qs_lex_regular.specs.inner.Scan.{later}
 use Rattle.qs_nquads.specs.Table.{is_string_char}
 use Rattle.qs_nquads.specs.inner.State.{left}
 use Rattle.qs_nquads.specs.declared.class.Class.{Class}

@@ -1,8 +1,8 @@
 -- What is left of the table in each state of the scanner.
 use Rattle.std.specs.Prelude.{ℕ, suc, [], ◌∷◌}
-use Rattle.qs_regular.specs.Form.{Form, nothing, one, hexes, many, ◌⨾◌, ◌∣◌, maybe, plus, char}
-use Rattle.qs_regular.specs.Character.{is_escaped, is_letter, is_letter_or_digit, is_scalar}
-use Rattle.qs_regular.specs.Longest.{advance}
+use Rattle.qs_lex_regular.specs.Form.{Form, nothing, one, hexes, many, ◌⨾◌, ◌∣◌, maybe, plus, char}
+use Rattle.qs_lex_regular.specs.Character.{is_escaped, is_letter, is_letter_or_digit, is_scalar}
+use Rattle.qs_lex_regular.specs.Longest.{advance}
 use Rattle.qs_nquads.specs.Table.{Left, table, iri_body, string_body, is_label_start, is_label_char, is_label_inner}
 use Rattle.qs_nquads.specs.declared.class.Class.TheVariants as class
 use Rattle.qs_nquads.specs.declared.state.State.{State}
@@ -12,15 +12,15 @@ use Rattle.qs_nquads.specs.declared.state.State.TheVariants as state
 unfoldable pub begun : ℕ → Left
 begun c = advance table c
 
--- behind the backslash of a UCHAR
+-- after the backslash of a UCHAR
 abbrev pub codepoint : Form
 codepoint = char 117 ⨾ hexes 4 0 is_scalar ∣ char 85 ⨾ hexes 8 0 is_scalar
 
--- behind the backslash of an ECHAR or a UCHAR
+-- after the backslash of an ECHAR or a UCHAR
 abbrev pub escape : Form
 escape = one is_escaped ∣ codepoint
 
--- within an IRI, behind a part of an escape of which this is left
+-- within an IRI, after a part of an escape of which this is left
 abbrev pub in_iri : Form → Left
 in_iri part = (class.Iri, (part ⨾ iri_body) ⨾ char 62) ∷ (class.Open, part ⨾ iri_body) ∷ (class.Broken, (part ⨾ iri_body) ⨾ char 92) ∷ []
 

@@ -7,7 +7,7 @@ use Rattle.qs_terms.specs.declared.term.Term.{Term}
 use Rattle.qs_terms.specs.Bag.{Distinct, SameBag, with_new}
 use Rattle.qs_terms.specs.Dataset.{nodes_of}
 use Rattle.qs_terms.specs.Term.{same_term}
-use Rattle.qs_tree.specs.declared.path.Repetition.{Repetition}
+use Rattle.qs_syntax_tree.specs.declared.path.Repetition.{Repetition}
 use Rattle.qs_paths.specs.Closure.{from_start, closure}
 use Rattle.qs_paths.specs.Pair.{Pair}
 use Rattle.qs_paths.specs.Pairs.{AtEnds, is_step}
@@ -20,7 +20,7 @@ use Rattle.qs_paths.specs.inner.Found.{rights}
 abbrev pub IsAt : List Term → ℕ → Term → Type 0
 IsAt terms n x = (n < length terms) × (slice_index_or terms n x ≡ x)
 
--- the terms of the numbers; the first stands for one that has none
+-- the terms of the numbers; the first denotes one that has none
 abbrev pub named : Term → List Term → List ℕ → List Term
 named d terms ns = map (λ n. slice_index_or terms n d) ns
 

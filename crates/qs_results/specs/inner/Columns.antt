@@ -5,7 +5,7 @@ use Rattle.json.specs.Tree.{json_tokens}
 use Rattle.serde_json.specs.Data.{Data, Members, no_members, member}
 use Rattle.serde_json.specs.Written.{outline}
 use Rattle.qs_terms.specs.declared.term.Term.{Term}
-use Rattle.qs_solutions.specs.Solution.{Solution, term_at}
+use Rattle.qs_algebra_solutions.specs.Solution.{Solution, term_at}
 use Rattle.qs_results.specs.Json.{term_data, with_bindings}
 
 -- what a variable is bound to, if it is bound, in front of the members

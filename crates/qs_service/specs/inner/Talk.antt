@@ -1,4 +1,4 @@
--- What a connection stands for.
+-- What a connection denotes.
 use Rattle.std.specs.Prelude.{◌≡◌, ◌≤◌, ◌⊎◌, ◌-◌, ℕ, List, [], ◌++◌, length, take, drop, Option, None, Some, Result, Ok, Err}
 use Rattle.qs_http.specs.Feeding.{Seen, Reading, Done}
 use Rattle.qs_http.specs.Outcome.{More}
@@ -26,7 +26,7 @@ abbrev pub exchange_in : Talk → Exchange
 exchange_in (talk.Reading session) = exchange_seen session
 exchange_in (talk.Answered reply taken) = state.Answered reply taken
 
--- a session that came to something is kept no longer; no more is taken than there is
+-- a session that resulted in something is kept no longer; no more is taken than there is
 abbrev pub IsReading : Seen → Type 0
 IsReading (Reading bytes) = Unit {0}
 IsReading (Done outcome) = ⊥
@@ -35,11 +35,11 @@ abbrev pub IsTalk : Talk → Type 0
 IsTalk (talk.Reading session) = IsReading session
 IsTalk (talk.Answered reply taken) = taken ≤ length (bytes_of reply)
 
--- carried out with that reply, or memory was wanting and what is stored stays
+-- carried out with that reply, or memory ran out and what is stored stays
 abbrev pub CarriesOrMemory : Meaning → Bounds → Content → Request → Content → Message → Type 0
 CarriesOrMemory m bounds old request new reply = Carries m bounds old request new reply ⊎ ((new ≡ old) × (reply ≡ fixed_message Memory))
 
--- a reply that was made, or that of want of memory
+-- a reply that was made, or that of running out of memory
 abbrev pub MadeOf : {E : Type 0} → Result Message E → Message → Type 0
 MadeOf (Ok reply) made = made ≡ reply
 MadeOf (Err e) made = made ≡ fixed_message Memory

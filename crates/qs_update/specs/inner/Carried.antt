@@ -3,8 +3,8 @@ use Rattle.std.specs.Prelude.{◌≡◌, ◌≢◌, ℕ, List, Ok, Err}
 use Rattle.qs_terms.specs.Outcome.{Outcome}
 use Rattle.qs_terms.specs.declared.fault.QFault.{QFault}
 use Rattle.qs_terms.specs.declared.fault.QFault.TheVariants as fault
-use Rattle.qs_ast.specs.declared.term.Variable.{Variable}
-use Rattle.qs_ast.specs.declared.update.Operation.{Operation}
+use Rattle.qs_syntax_ast.specs.declared.term.Variable.{Variable}
+use Rattle.qs_syntax_ast.specs.declared.update.Operation.{Operation}
 use Rattle.qs_store.specs.Content.{Content, Held}
 use Rattle.qs_store.specs.declared.fault.StoreFault.{StoreFault}
 use Rattle.qs_store.specs.declared.fault.StoreFault.TheVariants as store_fault
@@ -16,7 +16,7 @@ abbrev pub fault_of : StoreFault → QFault
 fault_of store_fault.Full = fault.Full
 fault_of store_fault.Memory = fault.Memory
 
--- the content that stands behind a call is one of those that are due, or a fault is, or memory was wanting
+-- the content that stands after a call is one of those that are due, or a fault is, or memory ran out
 abbrev pub BecomesOne : (Outcome Content → Type 0) → Outcome (Unit {0}) → Content → Type 0
 BecomesOne Due (Ok done) new = Due (Ok new)
 BecomesOne Due (Err f) new = f ≢ fault.Memory → Due (Err f)

@@ -3,7 +3,7 @@ use Rattle.std.specs.Prelude.{◌≡◌, ◌⊎◌, ◌<◌, ◌≤◌, ℕ, Lis
 use Rattle.qs_terms.specs.Bag.{SameBag}
 use Rattle.qs_terms.specs.Outcome.{Outcome}
 use Rattle.qs_terms.specs.declared.fault.QFault.TheVariants.{TooManyRows}
-use Rattle.qs_solutions.specs.Solution.{Solution}
+use Rattle.qs_algebra_solutions.specs.Solution.{Solution}
 
 -- all solutions in some order, or the fault that there are more than max_rows
 abbrev pub AreAllRows : ℕ → List Solution → Outcome (List Solution) → Type 0

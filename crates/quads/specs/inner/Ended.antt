@@ -4,11 +4,11 @@ use Rattle.std.specs.Prelude.{ℕ, List, Ok, Err}
 use Rattle.qs_store.specs.Content.{Content}
 use Rattle.qs_store.specs.Same.{SameSet}
 use Rattle.qs_store.specs.declared.default_graph.DefaultGraph.{DefaultGraph}
-use Rattle.qs_select.specs.Sequence.{dataset_of}
+use Rattle.qs_query_forms.specs.Sequence.{dataset_of}
 use Rattle.qs_terms.specs.Dataset.{IsDataset}
-use Rattle.qs_terms.specs.Outcome.{OneOrWantOfMemory}
-use Rattle.qs_load.specs.declared.fault.LoadFault.{LoadFault}
-use Rattle.qs_load.specs.declared.fault.LoadFault.TheVariants.{Text, Store}
+use Rattle.qs_terms.specs.Outcome.{OneOrOutOfMemory}
+use Rattle.qs_store_load.specs.declared.fault.LoadFault.{LoadFault}
+use Rattle.qs_store_load.specs.declared.fault.LoadFault.TheVariants.{Text, Store}
 use Rattle.qs_nquads.specs.Nquads.{IsNquads, IsFault}
 use Rattle.qs_nquads.specs.Written.{nquads_of}
 use Rattle.qs_results.specs.Lines.{data_fault_line}
@@ -23,7 +23,7 @@ abbrev pub IsQueryEnd : DefaultGraph → List ℕ → List ℕ → Ended → Typ
 IsQueryEnd choice file text (Answered answer) = IsQueryOfData choice file text (Ok answer)
 IsQueryEnd choice file text (Quads quads) = ⊥
 IsQueryEnd choice file text (DataRefused f) = IsFault file 0 f.kind f.line
-IsQueryEnd choice file text (Refused f) = OneOrWantOfMemory (IsQueryOfData choice file text) (Err f)
+IsQueryEnd choice file text (Refused f) = OneOrOutOfMemory (IsQueryOfData choice file text) (Err f)
 
 abbrev pub IsCheckEnd : List ℕ → Ended → Type 0
 IsCheckEnd file (Answered answer) = ⊥
@@ -35,7 +35,7 @@ abbrev pub IsUpdateEnd : DefaultGraph → List ℕ → List ℕ → Ended → Ty
 IsUpdateEnd choice file text (Answered answer) = ⊥
 IsUpdateEnd choice file text (Quads quads) = (c : Content) × IsUpdateOfData choice file text (Ok c) × SameSet quads.items c.quads
 IsUpdateEnd choice file text (DataRefused f) = IsFault file 0 f.kind f.line
-IsUpdateEnd choice file text (Refused f) = OneOrWantOfMemory (IsUpdateOfData choice file text) (Err f)
+IsUpdateEnd choice file text (Refused f) = OneOrOutOfMemory (IsUpdateOfData choice file text) (Err f)
 
 abbrev pub IsEnd : Job → Ended → Type 0
 IsEnd (Check file) end = IsCheckEnd file.items end

@@ -4,8 +4,8 @@ use Rattle.qs_terms.specs.declared.fault.QFault.{QFault}
 use Rattle.qs_terms.specs.declared.fault.QFault.TheVariants as fault
 use Rattle.qs_store.specs.declared.fault.StoreFault.{StoreFault}
 use Rattle.qs_store.specs.declared.fault.StoreFault.TheVariants.{Full, Memory}
-use Rattle.qs_load.specs.declared.fault.LoadFault.{LoadFault}
-use Rattle.qs_load.specs.declared.fault.LoadFault.TheVariants as load
+use Rattle.qs_store_load.specs.declared.fault.LoadFault.{LoadFault}
+use Rattle.qs_store_load.specs.declared.fault.LoadFault.TheVariants as load
 use Rattle.qs_results.specs.Lines.{fault_line, data_fault_line}
 use Rattle.quads.specs.Due.{line, script_line}
 use Rattle.quads.specs.declared.refusal.Refusal.{Refusal}

@@ -3,8 +3,8 @@ use Rattle.std.specs.Prelude.{◌≡◌, ◌⊎◌, ◌++◌, ℕ, List}
 use Rattle.qs_service.specs.Meaning.{sparql}
 use Rattle.qs_service.specs.State.{State}
 use Rattle.qs_service.specs.Step.{Event}
-use Rattle.qs_replay.specs.Replayed.{StopsAt}
-use Rattle.qs_replay.specs.Script.{IsScript}
+use Rattle.qs_service_replay.specs.Replayed.{StopsAt}
+use Rattle.qs_service_replay.specs.Script.{IsScript}
 use Rattle.qs_store.specs.declared.default_graph.DefaultGraph.{DefaultGraph}
 use Rattle.quads.specs.Due.{IsDueOfEvents, IsDueOfScript, IsDueOfMemory, IsDueOfData, IsDueOfReplay, IsBegunOfReplay}
 

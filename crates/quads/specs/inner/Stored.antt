@@ -1,7 +1,7 @@
 -- The steps to a service over the data of a file.
 use Rattle.std.specs.Prelude.{◌≡◌, ◌≢◌, ℕ, List, Result, Ok, Err}
 use Rattle.qs_terms.specs.declared.fault.QFault.TheVariants.{Memory}
-use Rattle.qs_load.specs.declared.fault.LoadFault.{LoadFault}
+use Rattle.qs_store_load.specs.declared.fault.LoadFault.{LoadFault}
 use Rattle.qs_nquads.specs.Nquads.{IsFault}
 use Rattle.qs_store.specs.Content.{Content, Held}
 use Rattle.qs_store.specs.declared.default_graph.DefaultGraph.{DefaultGraph}

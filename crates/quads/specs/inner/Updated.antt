@@ -14,6 +14,6 @@ abbrev pub BecomesUpdated : DefaultGraph → List ℕ → Content → Outcome (U
 BecomesUpdated choice text old (Ok done) new = (c : Content) × IsUpdateOutcome choice text old (Ok c) × IsSameContent new c
 BecomesUpdated choice text old (Err f) new = f ≢ Memory → IsUpdateOutcome choice text old (Err f)
 
--- the quads that stand behind the update of the bytes
+-- the quads that stand after the update of the bytes
 abbrev pub AreQuadsBehind : DefaultGraph → List ℕ → Content → List Statement → Type 0
 AreQuadsBehind choice text old all = (c : Content) × IsUpdateOutcome choice text old (Ok c) × SameSet all c.quads

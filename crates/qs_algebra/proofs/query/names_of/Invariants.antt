@@ -1,5 +1,5 @@
 use Rattle.std.proofs.Common.{◌≡◌, take}
-use Rattle.qs_scope.specs.Firsts.{names_of}
+use Rattle.qs_syntax_scope.specs.Firsts.{names_of}
 use Rattle.qs_algebra.proofs.query.names_of.Given as goal
 
 abbrev pub invariant-loop-variable : goal.invariant-loop-variable

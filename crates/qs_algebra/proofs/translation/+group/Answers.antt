@@ -1,5 +1,5 @@
 use Rattle.std.proofs.Common.{◌∙◌, ap}
-use Rattle.qs_patterns.specs.declared.pattern.Step.TheVariants.{Join}
+use Rattle.qs_algebra_patterns.specs.declared.pattern.Step.TheVariants.{Join}
 use Rattle.qs_algebra.proofs.Steps.{union_found}
 use Rattle.qs_algebra.proofs.translation.+group.Goals as goal
 

@@ -6,8 +6,8 @@ use Rattle.qs_expr.specs.Makes.{makes, addend_makes, some}
 use Rattle.qs_expr.specs.inner.SoFar.{sum_from, product_from}
 use Rattle.qs_expr.proofs.Steps.{sum_more, sum_error, product_more, product_error}
 use Rattle.std.specs.Prelude.{string_bytes}
-use Rattle.qs_values.specs.Value.{term_of}
-use Rattle.qs_values.specs.Values.{equal}
+use Rattle.qs_expr_values.specs.Value.{term_of}
+use Rattle.qs_expr_values.specs.Values.{equal}
 use Rattle.qs_expr.specs.inner.Joined.{tag_seen}
 use Rattle.qs_expr.specs.Truth.{any, every}
 use Rattle.qs_expr.specs.Meaning.{meaning, number, truth, among, of_both}

@@ -1,7 +1,7 @@
 -- What is due is what was met and what is left.
 use Rattle.std.proofs.Common.{◌≡◌, true, false, Some, map, drop}
 use Rattle.std.specs.Prelude.{string_bytes}
-use Rattle.qs_values.specs.Value.{term_of}
+use Rattle.qs_expr_values.specs.Value.{term_of}
 use Rattle.qs_expr.specs.Truth.{either, both}
 use Rattle.qs_expr.specs.inner.SoFar.{so_far, any_from, every_from, among_from, sum_from, product_from, first_from}
 use Rattle.qs_expr.specs.inner.Joined as joining

@@ -1,7 +1,7 @@
 use Rattle.std.proofs.Common.{ap, sym, ◌∙◌, Some, neg_ℤ}
 use Rattle.std.specs.Int.{w128}
 use Rattle.std.proofs.lemmas.Int.{to_z-of_z}
-use Rattle.qs_values.specs.Number.{in_range}
+use Rattle.qs_expr_values.specs.Number.{in_range}
 use Rattle.qs_expr.specs.Meaning.{with_sign}
 use Rattle.qs_expr.proofs.Steps.{stays_in_range}
 use Rattle.qs_expr.proofs.relation.with_sign.Goals as goal

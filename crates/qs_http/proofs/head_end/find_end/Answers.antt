@@ -1,8 +1,8 @@
 use Rattle.std.proofs.Common.{◌∙◌, sym, ap, ℕ, ◌+◌, drop, arith, List}
 use Rattle.std.proofs.lemmas.List.{drop_all}
-use Rattle.qs_http.specs.declared.head_end.Place.{Place}
+use Rattle.qs_http.specs.declared.head_end.HeadState.{HeadState}
 use Rattle.qs_http.specs.HeadEnd.{later}
-use Rattle.qs_http.specs.Place.{end_from, place_from}
+use Rattle.qs_http.specs.HeadState.{end_from, place_from}
 use Rattle.qs_http.proofs.Ends.{end_found_at, end_on_at, place_on_at, end_from-nil, place_from-nil}
 use Rattle.qs_http.proofs.head_end.find_end.Goals as goal
 
@@ -15,9 +15,9 @@ pub loop-i-preserved : goal.loop-i-preserved
 loop-i-preserved c =
     let rest : List ℕ = drop (c.loop-i.i + 1) c.args.piece.now in (
       c.loop-i.invariant.0 ∙ end_on_at c.loop-i.place c.args.piece.now c.loop-i.i (omega arith) (sym c.ends_head.ensures ∙ c.if-ends_head.false)
-          ∙ ap (λ (p : Place). later (c.loop-i.i + 1) (end_from p rest)) (sym c.after.ensures),
+          ∙ ap (λ (p : HeadState). later (c.loop-i.i + 1) (end_from p rest)) (sym c.after.ensures),
       c.loop-i.invariant.1 ∙ place_on_at c.loop-i.place c.args.piece.now c.loop-i.i (omega arith)
-          ∙ ap (λ (p : Place). place_from p rest) (sym c.after.ensures),
+          ∙ ap (λ (p : HeadState). place_from p rest) (sym c.after.ensures),
     )
 
 pub returns-clause-end : goal.returns-clause-end

@@ -2,7 +2,7 @@ use Rattle.std.proofs.Common.{◌≡◌, ◌+◌, ◌-◌, ◌<◌, ◌≤◌, l
 use Rattle.qs_index.specs.Digits.{digits}
 use Rattle.qs_index.specs.Layout.{joined, page_at}
 use Rattle.qs_index.specs.Entry.{skip_before}
-use Rattle.qs_index.specs.inner.Place.{IsReached}
+use Rattle.qs_index.specs.inner.PagePosition.{IsReached}
 use Rattle.qs_index.proofs.search.first_page.Given as goal
 
 abbrev pub decreases-loop-low : goal.decreases-loop-low

@@ -1,6 +1,6 @@
 use Rattle.std.proofs.Common.{◌≡◌, ◌+◌, ◌-◌, ◌++◌, [], length, sym, ◌∙◌, ap, arith, None, List, ℕ, encode_utf8}
 use Rattle.std.specs.Char.{len_utf8}
-use Rattle.qs_regular.proofs.Scan.{sizes_first, sizes_step, scan_dead, scan_step, scan_end}
+use Rattle.qs_lex_regular.proofs.Scan.{sizes_first, sizes_step, scan_dead, scan_step, scan_end}
 use Rattle.qs_lex.specs.inner.State.{left}
 use Rattle.qs_lex.proofs.Begin.{scan_empty, scan_nowhere}
 use Rattle.qs_lex.proofs.Passing.{goes_on, one_less}

@@ -1,8 +1,8 @@
 use Rattle.std.proofs.Common.{◌≡◌, ◌≤◌, ◌-◌, length, IsUtf8, chars}
 use denote.Text.{Utf8}
 use denote.Shadow.{shadow}
-use Rattle.qs_regular.specs.Longest.{best}
-use Rattle.qs_regular.specs.inner.Scan.{later}
+use Rattle.qs_lex_regular.specs.Longest.{best}
+use Rattle.qs_lex_regular.specs.inner.Scan.{later}
 use Rattle.qs_lex.specs.Table.{table}
 use Rattle.qs_lex.specs.inner.State.{left}
 use Rattle.qs_lex.proofs.longest.longest.Given as goal

@@ -3,7 +3,7 @@ use Rattle.std.proofs.lemmas.Str.{IsUtf8-past_char}
 use Rattle.qs_nquads.specs.inner.State.{left}
 use Rattle.qs_nquads.proofs.Begin.{scan_empty, scan_nowhere, scan_first}
 use Rattle.qs_nquads.proofs.Runs.{behind_utf8, behind_size, behind_best}
-use Rattle.qs_regular.proofs.Scan.{sizes_first, sizes_step, scan_dead, scan_step, scan_end}
+use Rattle.qs_lex_regular.proofs.Scan.{sizes_first, sizes_step, scan_dead, scan_step, scan_end}
 use Rattle.qs_nquads.proofs.longest.longest.Goals as goal
 
 pub returns-in_default : goal.returns-in_default

@@ -4,7 +4,7 @@ use Rattle.std.specs.Option.{option_copied}
 use Rattle.std.proofs.lemmas.List.{take_all}
 use Rattle.std.proofs.lemmas.List.Sorted.{IsPermutation-trans}
 use Rattle.qs_terms.specs.Bag.{SameBag}
-use Rattle.qs_ast.specs.declared.path.Path.{the_lemmas}
+use Rattle.qs_syntax_ast.specs.declared.path.Path.{the_lemmas}
 use Rattle.qs_paths.specs.Edges.{lent}
 use Rattle.qs_paths.specs.inner.Found.{with_all, rights, turned, node_or_open, into_pair}
 use Rattle.qs_paths.specs.Pair.{swapped}

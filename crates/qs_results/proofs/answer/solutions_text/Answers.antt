@@ -2,15 +2,15 @@ use Rattle.std.proofs.Common.{◌≡◌, ℕ, List, ◌++◌, codes, false, map,
 use Rattle.serde_json.specs.View.{items_of}
 use Rattle.serde_json.specs.Written.{compact_text, items_text}
 use Rattle.serde_json.proofs.OnLiterals.{serde_json_on_literals}
-use Rattle.qs_solutions.specs.Solution.{Solution}
-use Rattle.qs_answer.specs.declared.answer.Answer.TheVariants.{Solutions}
+use Rattle.qs_algebra_solutions.specs.Solution.{Solution}
+use Rattle.qs_query_answer.specs.declared.answer.Answer.TheVariants.{Solutions}
 use Rattle.qs_results.specs.Json.{names_data, binding_data, json_of}
 use Rattle.qs_results.proofs.answer.solutions_text.Goals as goal
 
 regroup : (a n b r e : List ℕ) → (((a ++ n) ++ (e ++ b)) ++ r) ++ (e ++ e) ≡ a ++ ((n ++ e) ++ (b ++ ((r ++ e) ++ e)))
 regroup a n b r e = simp append_assoc
 
--- the parts of the text, one behind the other
+-- the parts of the text, one after the other
 whole : (names : List (List ℕ)) (rows : List Solution) → (((codes "{\"head\":{\"vars\":" ++ compact_text (names_data names)) ++ codes "},\"results\":{\"bindings\":[")
     ++ items_text false (items_of (map (binding_data names) rows))) ++ codes "}}" ≡ compact_text (json_of (Solutions names rows))
 unfolding serde_json_on_literals
@@ -18,7 +18,7 @@ whole names rows =
     regroup (codes "{\"head\":{\"vars\":") (compact_text (names_data names)) (codes ",\"results\":{\"bindings\":[") (items_text false (items_of (map (binding_data names) rows)))
     (codes "}")
 
--- each part behind those before it; the vectors are the strings' own
+-- each part after those before it; the vectors are the strings' own
 joined : (names : List (List ℕ)) (rows : List Solution) (head vars end text : List ℕ) (bindings own bytes more : Vec ℕ Global) → head ≡ codes "{\"head\":{\"vars\":" → text ≡ compact_text (names_data names)
     → vars ≡ head ++ text → bindings.items ≡ vars ++ codes "},\"results\":{\"bindings\":[" → own ≡ bindings → bytes.items ≡ own.items ++ items_text false (items_of (map (binding_data names) rows))
     → more ≡ bytes → end ≡ more.items ++ codes "}}" → end ≡ compact_text (json_of (Solutions names rows))

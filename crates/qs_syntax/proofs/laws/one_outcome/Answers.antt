@@ -1,5 +1,5 @@
 use Rattle.qs_syntax.specs.Outcome.{query_outcome, update_outcome}
-use Rattle.qs_tree.specs.Rules as rules
+use Rattle.qs_syntax_tree.specs.Rules as rules
 use Rattle.qs_syntax.proofs.OneOutcome as law
 use Rattle.qs_syntax.proofs.laws.one_outcome.Goals as goal
 

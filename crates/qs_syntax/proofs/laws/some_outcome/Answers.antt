@@ -1,6 +1,6 @@
 use Rattle.qs_syntax.specs.Outcome.{query_outcome, update_outcome}
-use Rattle.qs_tree.proofs.Sure.{query_starts, update_starts}
-use Rattle.qs_tree.specs.Rules as rules
+use Rattle.qs_syntax_tree.proofs.Sure.{query_starts, update_starts}
+use Rattle.qs_syntax_tree.specs.Rules as rules
 use Rattle.qs_syntax.proofs.SomeOutcome as law
 use Rattle.qs_syntax.proofs.laws.some_outcome.Goals as goal
 

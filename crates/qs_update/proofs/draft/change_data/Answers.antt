@@ -7,5 +7,5 @@ use Rattle.qs_update.proofs.draft.change_data.Goals as goal
 pub returns-clause-outcome : goal.returns-clause-outcome
 returns-clause-outcome c =
     let held = c.args.draft.now.store.now in
-    subst (λ o. BecomesOne (IsCarriedOut held.limit held.draft o) c.carry_out.result c.carry_out.new.draft.store.now.draft)
-    (sym c.in_ok-effect.ensures.effect ∙ ap (of_data c.args.delete.now c.args.insert.now) c.next_blank-next.ensures.next) c.carry_out.ensures.outcome
+    subst (λ o. BecomesOne (IsCarriedOut held.limit held.draft o) c.apply_operation.result c.apply_operation.new.draft.store.now.draft)
+    (sym c.in_ok-effect.ensures.effect ∙ ap (of_data c.args.delete.now c.args.insert.now) c.next_blank-next.ensures.next) c.apply_operation.ensures.outcome

@@ -1,20 +1,20 @@
 use Rattle.std.proofs.Common.{Ok, subst, IsTrue, refl}
 use Rattle.std.proofs.lemmas.Result.{err_from_is_err_and}
-use Rattle.qs_ast.specs.declared.update.Operation.TheVariants as operation
+use Rattle.qs_syntax_ast.specs.declared.update.Operation.TheVariants as operation
 use Rattle.qs_terms.specs.Dataset.{is_above_blanks}
 use Rattle.qs_update.proofs.ByEffect.{done, refused}
 use Rattle.qs_update.proofs.draft.delete_where.Goals as goal
 
-pub carry_out-requires : goal.carry_out-requires
-carry_out-requires c =
+pub apply_operation-requires : goal.apply_operation-requires
+apply_operation-requires c =
     let held = c.args.draft.now.store.now in
     c.effects_are_lawful.ensures.of_operation c.args.max_rows c.args.variables.now held.default_graph (operation.DeleteWhere c.args.blocks.now) held.draft.quads held.draft.next (Ok c.in_ok-effect.effect)
     (subst (λ n. IsTrue (is_above_blanks n held.draft.quads)) c.next_blank.ensures.next c.next_blank.ensures.above) c.next_blank.ensures.predicates refl c.in_ok-effect.ensures
 
 pub returns-clause-outcome : goal.returns-clause-outcome
 returns-clause-outcome c =
-    done c.args.max_rows c.args.variables.now c.args.draft.now.store.now (operation.DeleteWhere c.args.blocks.now) (Ok c.in_ok-effect.effect) c.carry_out.result c.carry_out.new.draft.store.now.draft
-    c.in_ok-effect.ensures c.carry_out.ensures.outcome
+    done c.args.max_rows c.args.variables.now c.args.draft.now.store.now (operation.DeleteWhere c.args.blocks.now) (Ok c.in_ok-effect.effect) c.apply_operation.result c.apply_operation.new.draft.store.now.draft
+    c.in_ok-effect.ensures c.apply_operation.ensures.outcome
 
 pub returns-in_err-effect-clause-outcome : goal.returns-in_err-effect-clause-outcome
 returns-in_err-effect-clause-outcome c =

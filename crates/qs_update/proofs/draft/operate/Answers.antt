@@ -1,5 +1,5 @@
 use Rattle.std.proofs.Common.{◌∙◌, [], Ok, refl, sym, ap}
-use Rattle.qs_ast.specs.declared.update.Operation.TheVariants as operation
+use Rattle.qs_syntax_ast.specs.declared.update.Operation.TheVariants as operation
 use Rattle.qs_store.specs.declared.removal.Removal.TheVariants as removal
 use Rattle.qs_update.specs.Effect.{of_data, cleared, created, transferred}
 use Rattle.qs_update.proofs.ByEffect.{operated, operated_by}

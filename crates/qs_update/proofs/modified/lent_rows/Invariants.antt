@@ -1,5 +1,5 @@
 use Rattle.std.proofs.Common.{◌≡◌, take}
-use Rattle.qs_template.specs.inner.Lent.{lent}
+use Rattle.qs_query_template.specs.inner.Lent.{lent}
 use Rattle.qs_update.proofs.modified.lent_rows.Given as goal
 
 abbrev pub invariant-loop-row : goal.invariant-loop-row

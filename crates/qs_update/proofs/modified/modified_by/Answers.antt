@@ -1,5 +1,5 @@
 use Rattle.std.proofs.Common.{◌∙◌, ap, refl}
-use Rattle.qs_template.specs.Template.{template_in, template_of_blocks}
+use Rattle.qs_query_template.specs.Template.{template_in, template_of_blocks}
 use Rattle.qs_update.proofs.Under.{same_effect}
 use Rattle.qs_update.proofs.modified.modified_by.Goals as goal
 

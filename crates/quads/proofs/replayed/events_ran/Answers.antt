@@ -1,5 +1,5 @@
 use Rattle.std.proofs.Common.{map, ◌∙◌}
-use Rattle.qs_replay.specs.Happenings.{event_of}
+use Rattle.qs_service_replay.specs.ScriptEvents.{event_of}
 use Rattle.quads.proofs.Replays.{ran_short, ran_wanting}
 use Rattle.quads.proofs.replayed.events_ran.Goals as goal
 

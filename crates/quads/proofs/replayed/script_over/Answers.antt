@@ -1,8 +1,8 @@
 use Rattle.std.proofs.Common.{List, map, subst, sym}
-use Rattle.qs_replay.specs.Happenings.{event_of}
-use Rattle.qs_replay.specs.Script.{IsScript, IsScriptFault}
-use Rattle.qs_replay.specs.declared.script.ScriptFault.{ScriptFault}
-use Rattle.qs_replay.specs.declared.happening.Happening.{Happening}
+use Rattle.qs_service_replay.specs.ScriptEvents.{event_of}
+use Rattle.qs_service_replay.specs.Script.{IsScript, IsScriptFault}
+use Rattle.qs_service_replay.specs.declared.script.ScriptFault.{ScriptFault}
+use Rattle.qs_service_replay.specs.declared.script_event.ScriptEvent.{ScriptEvent}
 use Rattle.quads.specs.Due.{line, script_line, IsDueOfEvents}
 use Rattle.quads.specs.inner.Replayed.{IsBegunOfEvents, IsScriptDue, IsScriptBegun}
 use Rattle.quads.proofs.Replays.{refused, runs_on, script_due, script_begun, no_script, no_memory, begun_of_due, wanting}
@@ -13,7 +13,7 @@ returns-in-Ok g c =
     let old = c.args.service.now in
     let script = c.args.script.now in
     let events = map event_of c.as_slice.result.now in
-    let is : IsScript script events = subst (λ (l : List Happening). IsScript script (map event_of l)) (sym c.as_slice.ensures.value) c.in-Ok.ensures in
+    let is : IsScript script events = subst (λ (l : List ScriptEvent). IsScript script (map event_of l)) (sym c.as_slice.ensures.value) c.in-Ok.ensures in
     runs_on (IsDueOfEvents old events) (IsBegunOfEvents old events) _ _ _ _ c.events_ran.result (IsScriptDue old script) (IsScriptBegun old script) (script_due old script events is) (script_begun old script events is) c.events_ran.ensures
 
 pub returns-in-Err-Line : goal.returns-in-Err-Line

@@ -1,5 +1,5 @@
 use Rattle.std.proofs.Common.{◌∙◌, List, ℕ, subst}
-use Rattle.qs_load.specs.Load.{IsLoaded, IsLoadFault}
+use Rattle.qs_store_load.specs.Load.{IsLoaded, IsLoadFault}
 use Rattle.quads.proofs.Loads.{is_empty, loaded, not_loaded}
 use Rattle.quads.proofs.stored.stored.Goals as goal
 

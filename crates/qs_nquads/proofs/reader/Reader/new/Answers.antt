@@ -1,7 +1,7 @@
 use Rattle.std.proofs.Common.{[], subst, sym, rules, IsUtf8}
 use Rattle.qs_nquads.specs.Reading.{start, Comes, here}
 use Rattle.qs_nquads.specs.Unread.{state}
-use Rattle.qs_nquads.specs.declared.place.Place.TheVariants as place
+use Rattle.qs_nquads.specs.declared.statement_state.StatementState.TheVariants as place
 use Rattle.qs_nquads.proofs.reader.Reader.new.Goals as goal
 
 pub returns-in-Ok-clause-read : goal.returns-in-Ok-clause-read

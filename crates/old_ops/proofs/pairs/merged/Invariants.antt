@@ -1,0 +1,10 @@
+use Rattle.std.proofs.Common.{◌≡◌, ◌++◌, drop}
+use Rattle.qs_algebra_solutions.specs.Solution.{merge}
+use Rattle.old_ops.specs.Row.{front_solution, row_solution}
+use Rattle.old_ops.proofs.pairs.merged.Given as goal
+
+abbrev pub invariant-loop-variable : goal.invariant-loop-variable
+invariant-loop-variable g l =
+    row_solution (g.V.View.content l.view).known l.cells.items
+    ++ merge (drop l.variable (front_solution (g.V.View.content l.view).known l.width l.a)) (drop l.variable (front_solution (g.V.View.content l.view).known l.width l.b))
+    ≡ merge (front_solution (g.V.View.content l.view).known l.width l.a) (front_solution (g.V.View.content l.view).known l.width l.b)

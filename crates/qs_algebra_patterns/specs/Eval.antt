@@ -1,0 +1,81 @@
+-- What a pattern means (SPARQL 1.1 Query, 18.5 and 18.6): its solutions over a dataset, where a graph is active. By recursion on the
+-- pattern; each list is a bag.
+use Rattle.std.specs.Prelude.{ℕ, Bool, List, [], ◌∷◌, map, Option, Some, None, slice_set, if◌then◌else◌}
+use Rattle.std.specs.List.{filter, flat_map, fold, list_any, list_all}
+use Rattle.qs_terms.specs.Dataset.{graph_of, names_of}
+use Rattle.qs_terms.specs.Statement.{Statement}
+use Rattle.qs_terms.specs.Term.{same_term}
+use Rattle.qs_terms.specs.declared.term.Term.{Term}
+use Rattle.qs_algebra_solutions.specs.Solution.{Solution, unbound, binding}
+use Rattle.qs_algebra_solutions.specs.Operators as of
+use Rattle.qs_expr.specs.Meaning.{meaning, holds}
+use Rattle.qs_expr.specs.declared.expr.Expr.{Expr}
+use Rattle.qs_algebra_patterns.specs.Basic.{Graph as Triples, basic}
+use Rattle.qs_algebra_patterns.specs.declared.pattern.Table.{Table}
+use Rattle.qs_algebra_patterns.specs.declared.pattern.Pattern.{Pattern, fold-Pattern}
+use Rattle.qs_algebra_patterns.specs.declared.pattern.Step.{Step, fold-Step}
+use Rattle.qs_algebra_patterns.specs.declared.pattern.Pattern.TheOpen.{Pattern-F, Step-F, Basic, Group, Union, Graph, EachGraph, Values, Join, LeftJoin, Minus, Extend}
+
+-- the solutions of a pattern, by the active graph
+abbrev pub Found : Type 0
+Found = Triples → List Solution
+
+-- what a step makes of the solutions before it
+abbrev pub Stepped : Type 0
+Stepped = Triples → List Solution → List Solution
+
+-- all conditions are true in the solution; an error isn't true
+abbrev pub all_hold : List Expr → Solution → Bool
+all_hold conditions m = list_all (holds m) conditions
+
+-- the solutions in which all conditions hold (Filter)
+abbrev pub kept : List Expr → List Solution → List Solution
+kept conditions = filter (all_hold conditions)
+
+-- the solution with the variable bound to the value, or as it is where there is an error
+abbrev pub bound_to : Solution → ℕ → Option Term → Solution
+bound_to m v None = m
+bound_to m v (Some t) = slice_set m v (Some t)
+
+-- Extend
+abbrev pub extended : ℕ → Expr → Solution → Solution
+extended v e m = bound_to m v (meaning m e)
+
+-- the steps from left to right, from the one solution of `width` variables that binds none
+abbrev pub all_steps : ℕ → Triples → List Stepped → List Solution
+all_steps width graph steps = fold (λ left one. one graph left) (unbound width ∷ []) steps
+
+-- the solutions in the graph of this name, if there is one
+abbrev pub in_named : List Statement → Term → Found → List Solution
+in_named quads name part = if list_any (same_term name) (names_of quads) then part (graph_of quads (Some name)) else []
+
+-- the solutions in each of these graphs, joined with the one that binds the variable to the graph's name
+abbrev pub in_each : ℕ → List Statement → ℕ → Found → List Term → List Solution
+in_each width quads v part names =
+    flat_map (λ name. of.join (part (graph_of quads (Some name))) (binding width (v ∷ []) (Some name ∷ []) ∷ [])) names
+
+-- a solution for each row
+abbrev pub rows_of : ℕ → Table → List Solution
+rows_of width table = map (binding width table.variables) table.rows
+
+abbrev pub eval_level : ℕ → List Statement → Pattern-F Found Stepped → Found
+eval_level width quads (Basic pattern) graph = basic width pattern graph
+eval_level width quads (Group steps conditions) graph = kept conditions (all_steps width graph steps)
+eval_level width quads (Union parts) graph = flat_map (λ part. part graph) parts
+eval_level width quads (Graph name part) graph = in_named quads name part
+eval_level width quads (EachGraph v part) graph = in_each width quads v part (names_of quads)
+eval_level width quads (Values table) graph = rows_of width table
+
+abbrev pub step_level : Step-F Found Stepped → Stepped
+step_level (Join part) graph left = of.join left (part graph)
+step_level (LeftJoin part conditions) graph left = of.left_join (all_hold conditions) left (part graph)
+step_level (Minus part) graph left = of.minus left (part graph)
+step_level (Extend v e) graph left = map (extended v e) left
+
+-- the solutions of a pattern, of `width` named variables
+abbrev pub eval : ℕ → List Statement → Pattern → Found
+eval width quads = fold-Pattern Found Stepped (eval_level width quads) step_level
+
+-- what a step makes of the solutions before it
+abbrev pub step : ℕ → List Statement → Step → Stepped
+step width quads = fold-Step Found Stepped (eval_level width quads) step_level

@@ -1,0 +1,99 @@
+//! The variables that some solution of a pattern may bind.
+
+ghost use Rattle.std.specs.Prelude.{◌≡◌, IfOk};
+ghost use Rattle.std.specs.List.{list_any};
+ghost use Rattle.qs_algebra_variables.specs.inner.Flags.{flags_from};
+ghost use Rattle.qs_algebra_variables.specs.Possible.{is_possible, is_possible_step};
+
+use crate::flags::{alike, either, flag};
+use crate::mentioned::mentioned;
+use crate::table::columns;
+use qs_algebra_patterns::{Pattern, Step};
+use std::alloc::{AllocError, Global};
+
+/// At the number of each of the `width` named variables whether a solution of the pattern may bind it: whether it is in scope of the
+/// pattern (SPARQL 1.1 Query, 18.2.1).
+#[cycle(possible)]
+pub fn possible(alloc: Global, width: usize, pattern: &Pattern) -> Result<Vec<bool>, AllocError>
+    ensures { IfOk result (λ flags. flags.items ≡ flags_from (is_possible width pattern.now) 0 width) }
+{
+    match pattern {
+        Pattern::Basic(basic) => {
+            let flags = mentioned(alloc, width, basic)?;
+            Ok(flags)
+        }
+        Pattern::Group(steps, _) => {
+            let flags = possible_in_steps(alloc, width, steps.as_slice())?;
+            Ok(flags)
+        }
+        Pattern::Union(parts) => {
+            let flags = possible_in_some(alloc, width, parts.as_slice())?;
+            Ok(flags)
+        }
+        Pattern::Graph(_, part) => {
+            let flags = possible(alloc, width, part.get())?;
+            Ok(flags)
+        }
+        Pattern::EachGraph(variable, part) => {
+            let mut flags = possible(alloc, width, part.get())?;
+            flag(&mut flags, *variable);
+            Ok(flags)
+        }
+        Pattern::Values(table) => {
+            let flags = columns(alloc, width, table.variables.as_slice())?;
+            Ok(flags)
+        }
+    }
+}
+
+/// The variables that are possible in one of the steps.
+#[cycle(possible)]
+fn possible_in_steps(alloc: Global, width: usize, steps: &[Step]) -> Result<Vec<bool>, AllocError>
+    ensures { IfOk result (λ flags. flags.items ≡ flags_from (λ v. list_any (λ s. is_possible_step width s v) steps.now) 0 width) }
+{
+    let mut flags = alike(alloc, width, false)?;
+    for one in steps {
+        let more = possible_of_step(alloc, width, one)?;
+        flags = either(alloc, width, flags.as_slice(), more.as_slice())?;
+    }
+    Ok(flags)
+}
+
+/// The variables that the step may bind.
+#[cycle(possible)]
+fn possible_of_step(alloc: Global, width: usize, one: &Step) -> Result<Vec<bool>, AllocError>
+    ensures { IfOk result (λ flags. flags.items ≡ flags_from (is_possible_step width one.now) 0 width) }
+{
+    match one {
+        Step::Join(part) => {
+            let flags = possible(alloc, width, part)?;
+            Ok(flags)
+        }
+        Step::LeftJoin(part, _) => {
+            let flags = possible(alloc, width, part)?;
+            Ok(flags)
+        }
+        Step::Minus(_) => {
+            let flags = alike(alloc, width, false)?;
+            Ok(flags)
+        }
+        Step::Extend(variable, _) => {
+            let mut flags = alike(alloc, width, false)?;
+            flag(&mut flags, *variable);
+            Ok(flags)
+        }
+    }
+}
+
+/// The variables that are possible in one of the patterns.
+#[cycle(possible)]
+fn possible_in_some(alloc: Global, width: usize, parts: &[Pattern]) -> Result<Vec<bool>, AllocError>
+    ensures { IfOk result (λ flags. flags.items ≡ flags_from (λ v. list_any (λ part. is_possible width part v) parts.now) 0 width) }
+{
+    let mut flags = alike(alloc, width, false)?;
+    for part in parts {
+        let more = possible(alloc, width, part)?;
+        flags = either(alloc, width, flags.as_slice(), more.as_slice())?;
+    }
+    Ok(flags)
+}

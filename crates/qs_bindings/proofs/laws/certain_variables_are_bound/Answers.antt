@@ -1,5 +1,0 @@
-use Rattle.qs_bindings.proofs.BoundLaws.{certain_bound}
-use Rattle.qs_bindings.proofs.laws.certain_variables_are_bound.Goals as goal
-
-pub returns : goal.returns
-returns c = certain_bound

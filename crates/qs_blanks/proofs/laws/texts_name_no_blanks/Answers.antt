@@ -1,5 +1,0 @@
-use Rattle.qs_blanks.proofs.Translated.{where_free}
-use Rattle.qs_blanks.proofs.laws.texts_name_no_blanks.Goals as goal
-
-pub returns : goal.returns
-returns c = where_free

@@ -1,5 +1,0 @@
-use Rattle.qs_blanks.proofs.ResolvedUpdates.{of_text}
-use Rattle.qs_blanks.proofs.laws.updates_write_no_blank_rows.Goals as goal
-
-pub returns : goal.returns
-returns c = of_text

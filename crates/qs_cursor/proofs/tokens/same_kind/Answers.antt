@@ -1,7 +1,0 @@
-use Rattle.std.proofs.Common.{rules}
-use Rattle.qs_tree.specs.Sparql.{same_kind}
-use Rattle.qs_cursor.proofs.tokens.same_kind.Goals as goal
-
-pub returns : goal.returns
-unfolding same_kind
-returns c = search rules

@@ -1,0 +1,120 @@
+-- The values of terms (SPARQL 1.1 Query, 17.1 to 17.4): booleans, integers and strings; what is true of a term, and how terms compare.
+use Rattle.std.specs.Prelude.{ℕ, Bool, true, false, ◌&&◌, ◌||◌, ◌==◌, not, List, [], ◌∷◌, codes, Option, Some, None, if◌then◌else◌, ℤ, pos, negsuc}
+use Rattle.std.specs.Option.{is_some}
+use Rattle.std.specs.Str.{bytes_eq}
+use Rattle.std.specs.declared.cmp.Ordering.{Ordering}
+use Rattle.std.specs.Ordering.{is_eq, nat_cmp, bool_cmp, int_cmp}
+use Rattle.std.specs.Cmp.Lexicographic.{slice_cmp}
+use Rattle.qs_terms.specs.Literal as lit
+use Rattle.qs_terms.specs.Literal.{xsd_string, xsd_integer, xsd_boolean}
+use Rattle.qs_terms.specs.Term.{same_term}
+use Rattle.qs_terms.specs.declared.term.Term.{Term}
+use Rattle.qs_terms.specs.declared.term.Term.TheVariants.{Iri, Blank, Literal}
+use Rattle.qs_expr_values.specs.Number.{whole_number, integer_of, canonical}
+
+-- ---- forms and values
+
+-- `true` and `1`, `false` and `0` (XML Schema 1.1 part 2, 3.3.2)
+abbrev pub boolean_of : List ℕ → Option Bool
+boolean_of form =
+    if bytes_eq form (codes "true") || bytes_eq form (codes "1") then Some true
+    else (if bytes_eq form (codes "false") || bytes_eq form (codes "0") then Some false else None)
+
+-- what a literal is worth: an integer of the range, a boolean, a string without a tag, or nothing of these
+pub data Worth : Type 0 where
+  integer : ℤ → Worth
+  boolean : Bool → Worth
+  text : List ℕ → Worth
+  other : Worth
+
+abbrev pub integer_or_other : Option ℤ → Worth
+integer_or_other (Some z) = integer z
+integer_or_other None = other
+
+abbrev pub boolean_or_other : Option Bool → Worth
+boolean_or_other (Some b) = boolean b
+boolean_or_other None = other
+
+abbrev pub worth_of_literal : List ℕ → List ℕ → Worth
+worth_of_literal form datatype =
+    if bytes_eq datatype xsd_integer then integer_or_other (integer_of form)
+    else (if bytes_eq datatype xsd_boolean then boolean_or_other (boolean_of form)
+    else (if bytes_eq datatype xsd_string then text form else other))
+
+abbrev pub worth : Term → Worth
+worth (Iri i) = other
+worth (Blank n) = other
+worth (Literal l) = worth_of_literal l.form l.datatype
+
+-- ---- terms that are computed
+
+abbrev pub boolean_form : Bool → List ℕ
+boolean_form true = codes "true"
+boolean_form false = codes "false"
+
+abbrev pub boolean_term : Bool → Term
+boolean_term b = Literal (lit.typed (boolean_form b) xsd_boolean)
+
+abbrev pub integer_term : ℤ → Term
+integer_term z = Literal (lit.typed (canonical z) xsd_integer)
+
+abbrev pub text_term : List ℕ → Term
+text_term form = Literal (lit.typed form xsd_string)
+
+-- a string of this form, with this tag if there is one
+abbrev pub strung : Option (List ℕ) → List ℕ → Term
+strung None form = text_term form
+strung (Some tag) form = Literal (record { form = form; datatype = lit.rdf_lang_string; tag = Some tag })
+
+-- ---- what is true (17.2.2)
+
+abbrev pub is_true : Option Bool → Bool
+is_true None = false
+is_true (Some b) = b
+
+-- a number that is not 0, of any size; what is no number is false
+abbrev pub is_not_zero : Option ℤ → Bool
+is_not_zero None = false
+is_not_zero (Some (pos n)) = not (n == 0)
+is_not_zero (Some (negsuc n)) = true
+
+abbrev pub is_not_empty : List ℕ → Bool
+is_not_empty [] = false
+is_not_empty (c ∷ cs) = true
+
+abbrev pub ebv_of_literal : List ℕ → List ℕ → Option (List ℕ) → Option Bool
+ebv_of_literal form datatype tag =
+    if bytes_eq datatype xsd_boolean then Some (is_true (boolean_of form))
+    else (if bytes_eq datatype xsd_integer then Some (is_not_zero (whole_number form))
+    else (if bytes_eq datatype xsd_string || is_some tag then Some (is_not_empty form) else None))
+
+abbrev pub ebv : Term → Option Bool
+ebv (Iri i) = None
+ebv (Blank n) = None
+ebv (Literal l) = ebv_of_literal l.form l.datatype l.tag
+
+-- ---- comparisons (17.3 and 17.4.1.7)
+
+-- how two values of one kind stand to each other; false before true, texts by code points
+abbrev pub compare : Worth → Worth → Option Ordering
+compare (integer a) (integer b) = Some (int_cmp a b)
+compare (boolean a) (boolean b) = Some (bool_cmp a b)
+compare (text a) (text b) = Some (slice_cmp nat_cmp a b)
+compare _ _ = None
+
+abbrev pub is_literal : Term → Bool
+is_literal (Iri i) = false
+is_literal (Blank n) = false
+is_literal (Literal l) = true
+
+-- terms without values of one kind are equal where they are the same; two other literals are neither equal nor unequal
+abbrev pub equal_terms : Term → Term → Option Bool
+equal_terms a b = if same_term a b then Some true else (if is_literal a && is_literal b then None else Some false)
+
+abbrev pub by_order : Option Ordering → Option Bool → Option Bool
+by_order (Some o) x = Some (is_eq o)
+by_order None x = x
+
+-- `=`
+abbrev pub equal : Term → Term → Option Bool
+equal a b = by_order (compare (worth a) (worth b)) (equal_terms a b)

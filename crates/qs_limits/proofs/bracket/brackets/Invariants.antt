@@ -1,9 +1,0 @@
-use Rattle.std.proofs.Common.{◌≡◌, ◌≤◌, length}
-use Rattle.qs_limits.specs.Brackets as spec
-use Rattle.qs_limits.proofs.bracket.brackets.Given as goal
-
-abbrev pub invariant-loop-left : goal.invariant-loop-left
-invariant-loop-left l = (l.count ≤ spec.limit) × (spec.brackets_behind l.count l.left ≡ spec.brackets l.fn.tokens)
-
-abbrev pub decreases-loop-left : goal.decreases-loop-left
-decreases-loop-left l = length l.left

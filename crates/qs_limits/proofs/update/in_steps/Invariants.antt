@@ -1,6 +1,0 @@
-use Rattle.std.proofs.Common.{◌≡◌, map, take}
-use Rattle.qs_limits.specs.Large as spec
-use Rattle.qs_limits.proofs.update.in_steps.Given as goal
-
-abbrev pub invariant-loop-step : goal.invariant-loop-step
-invariant-loop-step l = l.found ≡ spec.least (map spec.step (take l.step-index l.all))

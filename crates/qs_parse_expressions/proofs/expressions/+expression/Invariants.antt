@@ -1,4 +1,0 @@
-use Rattle.qs_parse_expressions.proofs.expressions.+expression.Given as goal
-
-abbrev pub decreases-expression : goal.decreases-expression
-decreases-expression l = l.parser.depth

@@ -1,0 +1,6 @@
+use Rattle.std.proofs.Common.{◌≡◌, ◌++◌, take}
+use Rattle.qs_syntax_scope.specs.Firsts.{names_of}
+use Rattle.qs_query_forms.proofs.selection.put_names.Given as goal
+
+abbrev pub invariant-loop-variable : goal.invariant-loop-variable
+invariant-loop-variable l = l.names ≡ l.fn.names ++ names_of (take l.variable-index l.variables)

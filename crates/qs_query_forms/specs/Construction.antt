@@ -1,0 +1,19 @@
+-- What a CONSTRUCT asks for (SPARQL 1.1 Query, 16.2).
+use Rattle.qs_syntax_ast.specs.declared.query.Construct.{Construct}
+use Rattle.qs_syntax_ast.specs.declared.query.Query.{Query}
+use Rattle.qs_syntax_scope.specs.Firsts.{names_of}
+use Rattle.qs_algebra.specs.Translation.{translated}
+use Rattle.qs_query_template.specs.Template.{template_of}
+use Rattle.qs_query_forms.specs.Modifiers.{slice_of, order_of}
+use Rattle.qs_query_forms.specs.declared.construction.Construction.{Construction}
+
+-- what the CONSTRUCT asks for
+abbrev pub construction : Query → Construct → Construction
+construction query construct =
+    let names = names_of query.variables in
+    record {
+      template = template_of names construct.template;
+      pattern = translated query;
+      order = order_of names construct.modifiers;
+      slice = slice_of construct.modifiers;
+    }

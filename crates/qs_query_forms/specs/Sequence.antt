@@ -1,0 +1,61 @@
+-- The sequence of a query's solutions (SPARQL 1.1 Query, 15, 18.2.4 and 18.2.5): its pattern's solutions in an order that the
+-- conditions of ORDER BY allow, and what the other modifiers make of them, one after another: projection, DISTINCT or REDUCED, OFFSET
+-- and LIMIT.
+use Rattle.std.specs.Prelude.{◌≡◌, ℕ, Bool, true, false, List, [], ◌∷◌, map, take, drop, length, Option, Some, None}
+use Rattle.qs_terms.specs.Bag.{SameBag, once}
+use Rattle.qs_terms.specs.Dataset.{Dataset, Triple}
+use Rattle.qs_terms.specs.Statement.{Statement, same_statement}
+use Rattle.qs_algebra_solutions.specs.Solution.{Solution, projected, same_solution}
+use Rattle.qs_algebra_patterns.specs.Eval.{eval}
+use Rattle.qs_query_order.specs.Order.{IsOrdered}
+use Rattle.qs_query_order.specs.declared.condition.OrderCondition.{OrderCondition}
+use Rattle.qs_algebra.specs.declared.named.NamedPattern.{NamedPattern}
+use Rattle.qs_query_forms.specs.declared.selection.Selection.{Selection}
+use Rattle.qs_query_forms.specs.declared.modifiers.Slice.{Slice}
+
+-- the dataset of some quads, of which each counts once, with the next blank node's number
+abbrev pub dataset_of : List Statement → ℕ → Dataset
+dataset_of quads next = record { quads = once same_statement quads; next = next }
+
+-- all solutions of a pattern over the quads of a dataset, where these triples are the active graph
+abbrev pub whole : NamedPattern → List Statement → List Triple → List Solution
+whole named quads graph = eval (length named.names) quads named.pattern graph
+
+abbrev pub limited : {X : Type 0} → Option ℕ → List X → List X
+limited None xs = xs
+limited (Some n) xs = take n xs
+
+-- OFFSET, and then LIMIT (Slice)
+abbrev pub sliced : {X : Type 0} → Slice → List X → List X
+sliced slice xs = limited slice.limit (drop slice.offset xs)
+
+-- where duplicates are eliminated, the first occurrences (Distinct); else all (Reduced may leave all, and does)
+abbrev pub once_where : Bool → List Solution → List Solution
+once_where true rows = once same_solution rows
+once_where false rows = rows
+
+-- the solutions in this order, projected (Project), and without duplicates where that is asked for
+abbrev pub listed_rows : Selection → List Solution → List Solution
+listed_rows selection solutions = once_where selection.is_distinct (map (projected selection.columns) solutions)
+
+-- the same solutions, none before one that the conditions put lower (ToList and OrderBy)
+abbrev pub IsInOrder : List OrderCondition → List Solution → List Solution → Type 0
+IsInOrder conditions solutions all = SameBag all solutions × IsOrdered conditions all
+
+-- the rows are a sequence of the solutions
+abbrev pub IsSequence : Selection → List Solution → List Solution → Type 0
+IsSequence selection solutions rows =
+    (all : List Solution) × IsInOrder selection.order solutions all × (rows ≡ sliced selection.slice (listed_rows selection all))
+
+-- the same where nothing is projected, as for a CONSTRUCT (16.2)
+abbrev pub IsPart : List OrderCondition → Slice → List Solution → List Solution → Type 0
+IsPart conditions slice solutions part = (all : List Solution) × IsInOrder conditions solutions all × (part ≡ sliced slice all)
+
+-- the length that all sequences of the solutions have
+abbrev pub count : Selection → List Solution → ℕ
+count selection solutions = length (sliced selection.slice (listed_rows selection solutions))
+
+-- whether there is one
+abbrev pub has_solution : List Solution → Bool
+has_solution [] = false
+has_solution (m ∷ ms) = true

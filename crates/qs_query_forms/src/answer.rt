@@ -1,0 +1,309 @@
+//! Queries over a view of the store.
+
+ghost use Rattle.std.specs.Prelude.{◌≡◌, [], IfOk, Ok};
+ghost use Rattle.std.specs.Option.{option_copied};
+ghost use Rattle.old_eval.specs.inner.Lent.{lent};
+ghost use Rattle.qs_terms.specs.Bag.{SameBag, once};
+ghost use Rattle.qs_terms.specs.Dataset.{graph_of};
+ghost use Rattle.qs_terms.specs.Outcome.{OneOrOutOfMemory};
+ghost use Rattle.qs_terms.specs.Statement.{same_statement};
+ghost use Rattle.old_plan.specs.Seen.{seen, seen_of};
+ghost use Rattle.old_plan.specs.Some.{AreSome, AreSomeDistinct};
+ghost use Rattle.qs_query_forms.specs.inner.InOrder as in_order;
+ghost use Rattle.qs_query_forms.specs.Outcome.{IsSelected, IsBuilt, IsConstructed, IsAsked, IsAllSolutions, IsOutcomeOfQuery};
+ghost use Rattle.qs_query_forms.specs.Sequence.{dataset_of, whole};
+
+use crate::construction::Construction;
+use crate::request::{Request, request_of};
+use crate::selection::Selection;
+use crate::sequence::{
+    enough, enough_for_slice, listed_rows, needed, needed_to_select, projected, put_in_order,
+    sliced,
+};
+use crate::unordered::part_of;
+use qs_algebra::NamedPattern;
+use qs_query_answer::Answer;
+use qs_syntax_ast::query::Query;
+use old_plan::{distinct_solutions_seen, some_solutions_seen};
+use qs_algebra_solutions::Row;
+use qs_store::View;
+use qs_query_template::{each_once, instances};
+use qs_terms::{QFault, Quad, Term, Text};
+use sqlite_items::Items;
+use std::alloc::{AllocError, Global};
+
+fn some_solutions<V: View>(
+    alloc: Global,
+    pattern: &NamedPattern,
+    view: &V,
+    active: Option<&Term>,
+    most: Option<u64>,
+) -> Result<Vec<Row>, AllocError>
+    ensures { IfOk result (λ rows. let set = seen_of (V.content view.now) (V.default_seen view.now) in AreSome most rows.items (whole pattern.now set (graph_of set (option_copied active.entry)))) }
+{
+    some_solutions_seen(
+        alloc,
+        pattern.names.len(),
+        &pattern.pattern,
+        view,
+        active,
+        most,
+    )
+}
+
+// the terms of these variables in some of the solutions, each once
+fn some_distinct<V: View>(
+    alloc: Global,
+    pattern: &NamedPattern,
+    view: &V,
+    active: Option<&Term>,
+    columns: &[usize],
+    most: Option<u64>,
+) -> Result<Vec<Row>, AllocError>
+    ensures { IfOk result (λ rows. let set = seen_of (V.content view.now) (V.default_seen view.now) in AreSomeDistinct columns.now most rows.items (whole pattern.now set (graph_of set (option_copied active.entry)))) }
+{
+    distinct_solutions_seen(
+        alloc,
+        pattern.names.len(),
+        &pattern.pattern,
+        view,
+        active,
+        columns,
+        most,
+    )
+}
+
+// the sequence of the solutions in this order
+fn rows_of(
+    alloc: Global,
+    asked: &Selection,
+    all: Vec<&Row>,
+    max_rows: u64,
+) -> Result<Items<Row>, QFault>
+    ensures { OneOrOutOfMemory (in_order.IsRowsOf asked.now max_rows (lent all.entry.items)) result }
+{
+    let listed = listed_rows(alloc, asked, all)?;
+    let part = sliced(listed.as_slice(), asked.slice);
+    if part.len() as u64 > max_rows {
+        return Err(QFault::TooManyRows);
+    }
+    let rows = projected(alloc, part, asked.columns.as_slice())?;
+    Ok(Items::from_vec(rows))
+}
+
+// the solutions in an order of the conditions
+fn ordered<V: View>(
+    alloc: Global,
+    asked: &Selection,
+    view: &V,
+    active: Option<&Term>,
+    max_rows: u64,
+) -> Result<Items<Row>, QFault>
+    ensures { let set = seen_of (V.content view.now) (V.default_seen view.now) in OneOrOutOfMemory (in_order.IsRows asked.now (whole asked.now.pattern set (graph_of set (option_copied active.entry))) max_rows) result }
+{
+    let most = enough(asked, max_rows);
+    let all = some_solutions(alloc, &asked.pattern, view, active, most)?;
+    let count = needed_to_select(asked);
+    let front = put_in_order(alloc, asked.order.as_slice(), all.as_slice(), count)?;
+    rows_of(alloc, asked, front, max_rows)
+}
+
+// some of the solutions, projected and without duplicates where these are eliminated: all, or as many rows as suffice
+fn listed<V: View>(
+    alloc: Global,
+    asked: &Selection,
+    view: &V,
+    active: Option<&Term>,
+    most: Option<u64>,
+) -> Result<Vec<Row>, AllocError>
+    ensures { IfOk result (λ rows. let set = seen_of (V.content view.now) (V.default_seen view.now) in in_order.AreListed asked.now most rows.items (whole asked.now.pattern set (graph_of set (option_copied active.entry)))) }
+{
+    if asked.is_distinct {
+        let columns = asked.columns.as_slice();
+        let rows = some_distinct(alloc, &asked.pattern, view, active, columns, most)?;
+        return Ok(rows);
+    }
+    let rows = some_solutions(alloc, &asked.pattern, view, active, most)?;
+    Ok(rows)
+}
+
+// the solutions in any order
+fn unordered<V: View>(
+    alloc: Global,
+    asked: &Selection,
+    view: &V,
+    active: Option<&Term>,
+    max_rows: u64,
+) -> Result<Items<Row>, QFault>
+    requires { asked.now.order ≡ [] }
+    ensures { let set = seen_of (V.content view.now) (V.default_seen view.now) in OneOrOutOfMemory (in_order.IsRows asked.now (whole asked.now.pattern set (graph_of set (option_copied active.entry))) max_rows) result }
+{
+    let most = enough_for_slice(asked.slice, asked.order.as_slice(), max_rows);
+    let rows = listed(alloc, asked, view, active, most)?;
+    part_of(alloc, asked, rows, max_rows)
+}
+
+fn sequence<V: View>(
+    alloc: Global,
+    asked: &Selection,
+    view: &V,
+    active: Option<&Term>,
+    max_rows: u64,
+) -> Result<Items<Row>, QFault>
+    ensures { let set = seen_of (V.content view.now) (V.default_seen view.now) in OneOrOutOfMemory (in_order.IsRows asked.now (whole asked.now.pattern set (graph_of set (option_copied active.entry))) max_rows) result }
+{
+    if asked.order.is_empty() {
+        return unordered(alloc, asked, view, active, max_rows);
+    }
+    ordered(alloc, asked, view, active, max_rows)
+}
+
+// the rows with the names of the variables
+fn with_vars(vars: Items<Text>, rows: Result<Items<Row>, QFault>) -> Result<Answer, QFault>
+    ensures { result ≡ in_order.with_vars vars rows }
+{
+    match rows {
+        Ok(rows) => Ok(Answer::Solutions { vars, rows }),
+        Err(fault) => Err(fault),
+    }
+}
+
+fn selected<V: View>(
+    alloc: Global,
+    asked: Selection,
+    view: &V,
+    active: Option<&Term>,
+    max_rows: u64,
+) -> Result<Answer, QFault>
+    ensures { let set = seen_of (V.content view.now) (V.default_seen view.now) in OneOrOutOfMemory (IsSelected asked (whole asked.pattern set (graph_of set (option_copied active.entry))) max_rows) result }
+{
+    let rows = sequence(alloc, &asked, view, active, max_rows);
+    with_vars(asked.vars, rows)
+}
+
+fn graph(quads: Vec<Quad>) -> Answer
+    ensures { IsBuilt (Ok quads.items) (Ok result) }
+{
+    Answer::Graph(Items::from_vec(each_once(quads)))
+}
+
+// the graph that the template makes of the solutions in this order
+fn graph_of_rows(
+    alloc: Global,
+    asked: &Construction,
+    next_blank: u64,
+    all: &[&Row],
+    max_rows: u64,
+) -> Result<Answer, QFault>
+    ensures { OneOrOutOfMemory (in_order.IsGraphOf asked.now next_blank max_rows (lent all.now)) result }
+{
+    let part = sliced(all, asked.slice);
+    if part.len() as u64 > max_rows {
+        return Err(QFault::TooManyRows);
+    }
+    let quads = instances(alloc, &asked.template, part, next_blank)?;
+    Ok(graph(quads))
+}
+
+fn constructed<V: View>(
+    alloc: Global,
+    asked: &Construction,
+    view: &V,
+    active: Option<&Term>,
+    max_rows: u64,
+) -> Result<Answer, QFault>
+    ensures { let set = seen_of (V.content view.now) (V.default_seen view.now) in OneOrOutOfMemory (IsConstructed asked.now (V.content view.now).next (whole asked.now.pattern set (graph_of set (option_copied active.entry))) max_rows) result }
+{
+    let most = enough_for_slice(asked.slice, asked.order.as_slice(), max_rows);
+    let all = some_solutions(alloc, &asked.pattern, view, active, most)?;
+    let count = needed(asked.slice);
+    let front = put_in_order(alloc, asked.order.as_slice(), all.as_slice(), count)?;
+    graph_of_rows(alloc, asked, view.next_blank(), front.as_slice(), max_rows)
+}
+
+fn truth<V: View>(
+    alloc: Global,
+    pattern: &NamedPattern,
+    view: &V,
+    active: Option<&Term>,
+) -> Result<Answer, QFault>
+    ensures { let set = seen_of (V.content view.now) (V.default_seen view.now) in OneOrOutOfMemory (IsAsked (whole pattern.now set (graph_of set (option_copied active.entry)))) result }
+{
+    let all = some_solutions(alloc, pattern, view, active, Some(1))?;
+    Ok(Answer::Truth(!all.is_empty()))
+}
+
+/// An answer of the query over the dataset that queries see of the view, with its next blank node's number. The graph
+/// of the name is active, or the default graph where none is given (SPARQL 1.1 Query, 16).
+///
+/// # Errors
+/// `QFault::TooManyRows` where the sequence of a SELECT or a CONSTRUCT has more than `max_rows` solutions, after OFFSET and LIMIT;
+/// `QFault::Full` where there are no numbers for the fresh blank nodes of a CONSTRUCT; `QFault::Memory` where memory runs out.
+pub fn answer_query<V: View>(
+    alloc: Global,
+    query: &Query,
+    view: &V,
+    active: Option<&Term>,
+    max_rows: u64,
+) -> Result<Answer, QFault>
+    ensures { let d = dataset_of (seen (V.default_seen view.now) (V.content view.now).quads) (V.content view.now).next in OneOrOutOfMemory (IsOutcomeOfQuery query.now d (graph_of d.quads (option_copied active.entry)) max_rows) result }
+{
+    match request_of(alloc, query)? {
+        Request::Select(asked) => selected(alloc, asked, view, active, max_rows),
+        Request::Construct(asked) => constructed(alloc, &asked, view, active, max_rows),
+        Request::Ask(pattern) => truth(alloc, &pattern, view, active),
+    }
+}
+
+fn copied(alloc: Global, names: &[Text]) -> Result<Items<Text>, AllocError>
+    ensures { IfOk result (λ copies. copies ≡ names.now) }
+{
+    let mut copies = Items::new(alloc);
+    for name in names {
+        let name = name.try_clone(alloc)?;
+        copies.push(name)?;
+    }
+    Ok(copies)
+}
+
+fn bounded(all: Vec<Row>, max_rows: u64) -> Result<Items<Row>, QFault>
+    ensures { result ≡ in_order.bounded max_rows all.items }
+{
+    if all.len() as u64 > max_rows {
+        return Err(QFault::TooManyRows);
+    }
+    Ok(Items::from_vec(all))
+}
+
+fn few_solutions<V: View>(
+    alloc: Global,
+    pattern: &NamedPattern,
+    view: &V,
+    active: Option<&Term>,
+    max_rows: u64,
+) -> Result<Items<Row>, QFault>
+    ensures { let set = seen_of (V.content view.now) (V.default_seen view.now) in OneOrOutOfMemory (in_order.AreFew (whole pattern.now set (graph_of set (option_copied active.entry))) max_rows) result }
+{
+    let most = max_rows.checked_add(1);
+    let all = some_solutions(alloc, pattern, view, active, most)?;
+    bounded(all, max_rows)
+}
+
+/// All solutions of the pattern over the dataset that queries see of the view, with the pattern's variables; in any
+/// order. The graph of the name is active, or the default graph where none is given (SPARQL 1.1 Update, 3.1.3: WITH).
+///
+/// # Errors
+/// `QFault::TooManyRows` where there are more than `max_rows`; `QFault::Memory` where memory runs out.
+pub fn solutions_of<V: View>(
+    alloc: Global,
+    pattern: &NamedPattern,
+    view: &V,
+    active: Option<&Term>,
+    max_rows: u64,
+) -> Result<Answer, QFault>
+    ensures { let set = once same_statement (seen (V.default_seen view.now) (V.content view.now).quads) in OneOrOutOfMemory (IsAllSolutions pattern.now (whole pattern.now set (graph_of set (option_copied active.entry))) max_rows) result }
+{
+    let vars = copied(alloc, pattern.names.as_slice())?;
+    let rows = few_solutions(alloc, pattern, view, active, max_rows);
+    with_vars(vars, rows)
+}

@@ -1,0 +1,52 @@
+-- The blank nodes of a template, with a label or without one (SPARQL 1.1 Query, 4.1.4), numbered from 0 by first appearance in the
+-- text. A triple to `[ .. ]` stands in the list before the triples inside it, so that the order of the text is that of the triples, the
+-- subject of each before its object. In quads with graphs it is that of the blocks.
+use Rattle.std.specs.Prelude.{ℕ, zero, suc, Bool, false, nat_eq, List, [], ◌∷◌, ◌++◌, Option, Some, None, if◌then◌else◌}
+use Rattle.std.specs.Cmp.Lexicographic.{pointwise}
+use Rattle.std.specs.List.{fold, flat_map}
+use Rattle.std.specs.Option.{option_map}
+use Rattle.qs_syntax_ast.specs.declared.pattern.Triple.{Triple}
+use Rattle.qs_syntax_ast.specs.declared.term.BlankNode.{BlankNode}
+use Rattle.qs_syntax_ast.specs.declared.term.BlankNode.TheVariants as blank
+use Rattle.qs_syntax_ast.specs.declared.term.TermPattern.{TermPattern}
+use Rattle.qs_syntax_ast.specs.declared.term.TermPattern.TheVariants as term
+use Rattle.qs_syntax_ast.specs.declared.update.QuadBlock.{QuadBlock}
+
+-- two labels are the same where their texts are, and two without one where they stand at one place
+abbrev pub same_blank : BlankNode → BlankNode → Bool
+same_blank (blank.Label a) (blank.Label b) = pointwise nat_eq a b
+same_blank (blank.Label a) (blank.Anonymous n) = false
+same_blank (blank.Anonymous m) (blank.Label b) = false
+same_blank (blank.Anonymous m) (blank.Anonymous n) = nat_eq m n
+
+abbrev pub term_blanks : TermPattern → List BlankNode
+term_blanks (term.Variable v) = []
+term_blanks (term.Iri i) = []
+term_blanks (term.Literal l) = []
+term_blanks (term.Blank b) = b ∷ []
+
+abbrev pub triple_blanks : Triple → List BlankNode
+triple_blanks t = term_blanks t.subject ++ term_blanks t.object
+
+abbrev pub triples_blanks : List Triple → List BlankNode
+triples_blanks triples = flat_map triple_blanks triples
+
+abbrev pub blocks_blanks : List QuadBlock → List BlankNode
+blocks_blanks blocks = flat_map (λ (b : QuadBlock). triples_blanks b.triples) blocks
+
+-- how many stand before the first that is the same; none where no one is
+abbrev pub number_in : List BlankNode → BlankNode → Option ℕ
+number_in [] b = None
+number_in (x ∷ xs) b = if same_blank x b then Some zero else option_map suc (number_in xs b)
+
+-- one more, unless it is among them
+abbrev pub add_new : List BlankNode → BlankNode → Option ℕ → List BlankNode
+add_new found b None = found ++ b ∷ []
+add_new found b (Some n) = found
+
+unfoldable pub add_blank : List BlankNode → BlankNode → List BlankNode
+add_blank found b = add_new found b (number_in found b)
+
+-- each once, in the order in which they first appear
+abbrev pub firsts : List BlankNode → List BlankNode
+firsts blanks = fold add_blank [] blanks

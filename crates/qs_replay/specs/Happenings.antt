@@ -1,9 +1,0 @@
--- The events that happenings are.
-use Rattle.qs_service.specs.Step.{Event, Join, Piece, End}
-use Rattle.qs_replay.specs.declared.happening.Happening.{Happening}
-use Rattle.qs_replay.specs.declared.happening.Happening.TheVariants as happening
-
-abbrev pub event_of : Happening → Event
-event_of (happening.Join id) = Join id
-event_of (happening.Piece id bytes) = Piece id bytes.items
-event_of (happening.End id) = End id

@@ -1,9 +1,0 @@
-use Rattle.std.proofs.Common.{◌≡◌, map, drop}
-use Rattle.qs_resolve.specs.Triples.{each_object, each_property, object_of, property_of, objects, properties}
-use Rattle.qs_resolve.proofs.resolver.Resolver.+triples.Given as goal
-
-abbrev pub invariant-objects-loop-node : goal.invariant-objects-loop-node
-invariant-objects-loop-node l = each_object l.subject l.verb l.found (map object_of (drop l.node-index l.all)) l.self ≡ objects l.subject l.verb l.fn.found l.all l.fn.self
-
-abbrev pub invariant-properties-loop-property : goal.invariant-properties-loop-property
-invariant-properties-loop-property l = each_property l.subject l.found (map property_of (drop l.property-index l.all)) l.self ≡ properties l.subject l.fn.found l.all l.fn.self

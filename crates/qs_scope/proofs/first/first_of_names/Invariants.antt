@@ -1,6 +1,0 @@
-use Rattle.std.proofs.Common.{◌≡◌, take}
-use Rattle.qs_scope.specs.Firsts.{firsts, with_names}
-use Rattle.qs_scope.proofs.first.first_of_names.Given as goal
-
-abbrev pub invariant-loop-place : goal.invariant-loop-place
-invariant-loop-place l = l.found ≡ firsts (with_names (take l.place l.names))

@@ -1,6 +1,0 @@
-use Rattle.std.proofs.Common.{◌≡◌, take}
-use Rattle.qs_scope.specs.Firsts.{names_of}
-use Rattle.qs_scope.proofs.first.numbered.Given as goal
-
-abbrev pub invariant-loop-variable : goal.invariant-loop-variable
-invariant-loop-variable l = l.names ≡ names_of (take l.variable-index l.variables)

@@ -1,5 +1,0 @@
-use Rattle.qs_scope.proofs.Reading.{apart}
-use Rattle.qs_scope.proofs.laws.labels_of_runs_apart_stand_in_one.Goals as goal
-
-pub returns : goal.returns
-returns c = apart

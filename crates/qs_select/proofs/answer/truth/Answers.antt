@@ -1,7 +1,0 @@
-use Rattle.std.proofs.Common.{ap, sym, Ok}
-use Rattle.qs_answer.specs.declared.answer.Answer.TheVariants.{Truth}
-use Rattle.qs_select.proofs.Enough.{has_some}
-use Rattle.qs_select.proofs.answer.truth.Goals as goal
-
-pub returns : goal.returns
-returns g c = ap (λ b. Ok (Truth b)) (has_some c.in_ok-all.all.items _ c.in_ok-all.all.len c.is_empty.result c.in_ok-all.ensures (sym c.in_ok-all.all.ok.0) c.is_empty.ensures)

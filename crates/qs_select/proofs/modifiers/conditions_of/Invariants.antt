@@ -1,6 +1,0 @@
-use Rattle.std.proofs.Common.{◌≡◌, map, take}
-use Rattle.qs_select.specs.Modifiers.{condition_of}
-use Rattle.qs_select.proofs.modifiers.conditions_of.Given as goal
-
-abbrev pub invariant-loop-condition : goal.invariant-loop-condition
-invariant-loop-condition l = l.all ≡ map (condition_of l.names) (take l.condition-index l.conditions)

@@ -1,5 +1,0 @@
-use Rattle.qs_select.proofs.Fronts.{enough_or_all}
-use Rattle.qs_select.proofs.sequence.needed.Goals as goal
-
-pub returns-in-Some : goal.returns-in-Some
-returns-in-Some c = enough_or_all c.args.slice c.in-Some.limit _ c.checked_add.result c.in-Some.is c.checked_add.ensures

@@ -1,7 +1,0 @@
-use Rattle.std.proofs.Common.{◌≡◌, map, take}
-use Rattle.qs_solutions.specs.Solution.{projected}
-use Rattle.qs_eval.specs.inner.Lent.{lent}
-use Rattle.qs_select.proofs.sequence.projected.Given as goal
-
-abbrev pub invariant-loop-row : goal.invariant-loop-row
-invariant-loop-row l = l.all.items ≡ map (projected l.columns) (lent (take l.row-index l.rows))

@@ -1,0 +1,5 @@
+pub mod Script
+pub mod ScriptEvents
+pub mod Replay
+pub mod Replayed
+pub mod inner

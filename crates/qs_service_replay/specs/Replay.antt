@@ -1,0 +1,45 @@
+-- What a run of connection events writes: a line for each reply, when it is made, and one for each event that is refused.
+use Rattle.std.specs.Prelude.{◌≡◌, ◌+◌, ℕ, List, [], ◌∷◌, ◌++◌, codes, decimal, Option, None, Some}
+use Rattle.hex.specs.Hex.{encode_lower}
+use Rattle.qs_service.specs.Meaning.{Meaning}
+use Rattle.qs_service.specs.Message.{Message, bytes_of}
+use Rattle.qs_service.specs.State.{State, reply_at}
+use Rattle.qs_service.specs.Step.{Event, Join, Piece, End, Step}
+use Rattle.qs_service.specs.declared.service.ServiceFault.{ServiceFault}
+use Rattle.qs_service.specs.declared.service.ServiceFault.TheVariants.{Busy, KnownId, UnknownId}
+
+abbrev pub number_of : ServiceFault → ℕ
+number_of Busy = 1
+number_of KnownId = 2
+number_of UnknownId = 3
+
+-- the line of a reply: its bytes in hex, in lower case
+abbrev pub reply_line : ℕ → Message → List ℕ
+reply_line id reply = codes "reply " ++ (decimal id ++ (codes " " ++ (encode_lower (bytes_of reply) ++ 10 ∷ [])))
+
+-- the line of the event on line n of a script, refused
+abbrev pub refused_line : ℕ → ServiceFault → List ℕ
+refused_line n fault = codes "event " ++ (decimal n ++ (codes " refused " ++ (decimal (number_of fault) ++ 10 ∷ [])))
+
+-- the line of a reply that stands now and stood not before
+abbrev pub made_line : ℕ → Option Message → Option Message → List ℕ
+made_line id None None = []
+made_line id None (Some reply) = reply_line id reply
+made_line id (Some before) now = []
+
+-- what is written of the event on line n, by the states before and after it
+abbrev pub told : ℕ → State → Event → Option ServiceFault → State → List ℕ
+told n old event (Some fault) new = refused_line n fault
+told n old (Join id) None new = []
+told n old (Piece id piece) None new = made_line id (reply_at id old.joined) (reply_at id new.joined)
+told n old (End id) None new = []
+
+-- one step, and what is written of it
+abbrev pub Tells : Meaning → State → ℕ → Event → State → List ℕ → Type 0
+Tells m old n event new text = (outcome : Option ServiceFault) × Step m old event outcome new × (text ≡ told n old event outcome new)
+
+-- one step after another, and what is written of them, the first event on line n
+abbrev pub Replays : Meaning → State → ℕ → List Event → State → List ℕ → Type 0
+Replays m old n [] new text = (new ≡ old) × (text ≡ [])
+Replays m old n (event ∷ events) new text =
+    (mid : State) × (first rest : List ℕ) × Tells m old n event mid first × Replays m mid (n + 1) events new rest × (text ≡ first ++ rest)

@@ -1,0 +1,66 @@
+//! The run of a script's events.
+
+ghost use Rattle.std.specs.Prelude.{◌^◌, ◌<◌, map};
+ghost use Rattle.qs_service.specs.Meaning.{sparql};
+ghost use Rattle.qs_service_replay.specs.ScriptEvents.{event_of};
+ghost use Rattle.qs_service_replay.specs.Replayed.{IsReplayed};
+
+use crate::script_event::ScriptEvent;
+use crate::told::told;
+use qs_service::Service;
+use qs_terms::{Sink, put_all};
+use std::alloc::Global;
+
+/// How a run of events ended.
+#[derive(Clone, Copy, Debug, PartialEq, Eq)]
+pub enum ReplayEnd {
+    /// All events were carried out, and the sink took all that they write.
+    All,
+    /// The sink failed in the line of the last event that was carried out.
+    SinkFailed,
+    /// Memory ran out for the line of the last event that was carried out.
+    OutOfMemory,
+}
+
+/// How a run of events ended, and how many bytes the sink took.
+#[derive(Clone, Copy)]
+pub struct Replayed {
+    pub end: ReplayEnd,
+    pub written: u128,
+}
+
+/// Carries the events out, and puts a line for each reply, when it is made, and for each event that is refused. It stops where the
+/// sink fails, and where memory runs out for a line.
+pub fn replay<S: Sink>(
+    alloc: Global,
+    service: &mut Service,
+    events: &[ScriptEvent],
+    out: &mut S,
+) -> Replayed
+    ensures replayed { IsReplayed sparql service.old (map event_of events.now) (S.taken out.old) (S.taken out.new) (S.faults out.old) (S.faults out.new) service.new result.end result.written }
+    ensures fits { result.written < 2 ^ 127 }
+{
+    let mut written: u128 = 0;
+    for (i, event) in events.iter().enumerate() {
+        let line = match told(alloc, service, i + 1, event) {
+            Ok(line) => line,
+            Err(_) => return Replayed {
+                end: ReplayEnd::OutOfMemory,
+                written,
+            },
+        };
+        let bytes = line.as_bytes();
+        let taken = put_all(out, bytes);
+        written += taken as u128;
+        if taken < bytes.len() {
+            return Replayed {
+                end: ReplayEnd::SinkFailed,
+                written,
+            };
+        }
+    }
+    Replayed {
+        end: ReplayEnd::All,
+        written,
+    }
+}

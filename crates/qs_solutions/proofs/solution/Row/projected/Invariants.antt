@@ -1,6 +1,0 @@
-use Rattle.std.proofs.Common.{◌≡◌, take}
-use Rattle.qs_solutions.specs.Solution.{projected}
-use Rattle.qs_solutions.proofs.solution.Row.projected.Given as goal
-
-abbrev pub invariant-loop-column : goal.invariant-loop-column
-invariant-loop-column l = l.cells.items ≡ projected (take l.column-index l.columns) l.self

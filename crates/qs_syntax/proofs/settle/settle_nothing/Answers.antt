@@ -1,5 +1,0 @@
-use Rattle.qs_syntax.proofs.Nothing.{nothing}
-use Rattle.qs_syntax.proofs.settle.settle_nothing.Goals as goal
-
-pub returns : goal.returns
-returns c = λ text. rw (c.new.ensures, c.new-2.ensures) (nothing text)

@@ -1,0 +1,43 @@
+//! Expressions (SPARQL 1.1 Query, 19.8, [110]).
+
+ghost use Rattle.qs_syntax_grammar.specs.Grammar.{read};
+ghost use Rattle.qs_syntax_grammar.specs.Reading.{Reads};
+ghost use Rattle.qs_syntax_grammar.specs.Rule.{ref};
+ghost use Rattle.qs_syntax_tree.specs.Rules as rules;
+ghost use Rattle.qs_syntax_tree.specs.Sparql as name;
+ghost use Rattle.qs_syntax_tree.specs.Table.{grammar};
+
+use crate::operators::Operators;
+use qs_syntax_tokens::parser::Parser;
+use qs_syntax_tokens::tokens::Tokens;
+use qs_syntax_grammar::fault::Fault;
+use qs_syntax_tree::expression::{Call, Expression};
+
+/// An expression ([110]).
+pub fn expression(parser: Parser, tokens: &mut Tokens<'_>) -> Result<Expression, Fault>
+    ensures { Reads (read grammar parser.depth (ref name.expression) tokens.old) result tokens.new }
+{
+    if parser.depth == 0 {
+        return Err(Fault::Deep);
+    }
+    let inner = parser.deeper();
+    Operators {
+        parser: inner,
+        expression,
+    }
+    .disjunction(tokens)
+}
+
+/// An expression in parentheses ([120]).
+pub fn parenthesized(parser: Parser, tokens: &mut Tokens<'_>) -> Result<Expression, Fault>
+    ensures { Reads (read grammar parser.depth rules.parenthesized tokens.old) result tokens.new }
+{
+    Operators { parser, expression }.parenthesized(tokens)
+}
+
+/// A call of a function ([121]).
+pub fn call(parser: Parser, tokens: &mut Tokens<'_>) -> Result<Call, Fault>
+    ensures { Reads (read grammar parser.depth rules.call tokens.old) result tokens.new }
+{
+    Operators { parser, expression }.call(tokens)
+}

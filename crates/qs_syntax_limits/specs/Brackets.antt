@@ -1,0 +1,29 @@
+-- The place at which too many brackets are open (profile: at most 64 at once).
+use Rattle.std.specs.Prelude.{ℕ, ◌+◌, ◌-◌, List, [], ◌∷◌, Option, Some, None, nat_lt, if◌then◌else◌}
+use Rattle.qs_syntax_tree.specs.declared.kind.Kind.{Kind}
+use Rattle.qs_syntax_tree.specs.declared.kind.Kind.TheVariants.{LeftBrace, RightBrace, LeftParen, RightParen, LeftBracket, RightBracket}
+use Rattle.qs_syntax_tree.specs.declared.token.Token.{Token}
+
+-- the most brackets that may be open
+abbrev pub limit : ℕ
+limit = 64
+
+-- how many are open after a token, by how many were before it: one that closes where none is open closes none
+abbrev pub open_behind : Kind → ℕ → ℕ
+open_behind LeftBrace count = count + 1
+open_behind LeftParen count = count + 1
+open_behind LeftBracket count = count + 1
+open_behind RightBrace count = count - 1
+open_behind RightParen count = count - 1
+open_behind RightBracket count = count - 1
+open_behind other count = count
+
+-- of the tokens after some with which so many are open, the first with which there are too many
+abbrev pub brackets_behind : ℕ → List Token → Option ℕ
+brackets_behind count [] = None
+brackets_behind count (t ∷ ts) =
+    if nat_lt limit (open_behind t.kind count) then Some t.span.start else brackets_behind (open_behind t.kind count) ts
+
+-- the place of the first token with which more brackets are open than may be
+abbrev pub brackets : List Token → Option ℕ
+brackets tokens = brackets_behind 0 tokens

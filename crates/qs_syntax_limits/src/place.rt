@@ -1,0 +1,121 @@
+//! Places, and parts that stand side by side.
+
+ghost use Rattle.std.specs.Prelude.{◌≡◌, ◌∷◌, map, slice_get};
+ghost use Rattle.qs_syntax_limits.specs.declared.place.Part.{Part};
+ghost use Rattle.qs_syntax_limits.specs.Large as spec;
+
+use qs_syntax_tree::expression::{Addend, Operand};
+use qs_syntax_tree::path::{NegatedPredicate, PathOperand};
+use qs_syntax_tree::pattern::{Element, Group};
+use qs_syntax_tree::update::QuadElement;
+
+/// The most elements of a group, and the most operands of a chain.
+pub const LIMIT: usize = 256;
+
+/// An element of a group or an operand of a chain.
+#[derive(Clone, Copy)]
+pub struct Part {
+    /// Where it begins.
+    pub place: usize,
+    /// The first place within it at which there is too much.
+    pub within: Option<usize>,
+}
+
+/// What begins at a place.
+pub trait Placed {
+    ghost part: { Self → Part };
+
+    fn place(&self) -> usize
+        ensures { result ≡ (part self.now).place };
+}
+
+impl Placed for NegatedPredicate {
+    ghost part = { spec.negated };
+
+    fn place(&self) -> usize {
+        self.place
+    }
+}
+
+impl Placed for PathOperand {
+    ghost part = { spec.path_operand };
+
+    fn place(&self) -> usize {
+        self.place
+    }
+}
+
+impl Placed for Operand {
+    ghost part = { spec.operand };
+
+    fn place(&self) -> usize {
+        self.place
+    }
+}
+
+impl Placed for Addend {
+    ghost part = { spec.addend };
+
+    fn place(&self) -> usize {
+        self.operand.place
+    }
+}
+
+impl Placed for Element {
+    ghost part = { spec.element };
+
+    fn place(&self) -> usize {
+        self.place
+    }
+}
+
+impl Placed for Group {
+    ghost part = { spec.group };
+
+    fn place(&self) -> usize {
+        self.place
+    }
+}
+
+impl Placed for QuadElement {
+    ghost part = { spec.quad_element };
+
+    fn place(&self) -> usize {
+        self.place
+    }
+}
+
+/// The lesser of two places, where None is no place.
+pub fn first(a: Option<usize>, b: Option<usize>) -> Option<usize>
+    ensures { result ≡ spec.first a b }
+{
+    match (a, b) {
+        (None, b) => b,
+        (Some(a), None) => Some(a),
+        (Some(a), Some(b)) => Some(a.min(b)),
+    }
+}
+
+/// Where the part of that number begins.
+fn place_at<T: Placed>(parts: &[T], number: usize) -> Option<usize>
+    ensures { result ≡ spec.beginning (slice_get (map T.part parts.now) number) }
+{
+    match parts.get(number) {
+        Some(part) => Some(part.place()),
+        None => None,
+    }
+}
+
+/// Where the part begins with which there are too many.
+pub fn excess<T: Placed>(parts: &[T]) -> Option<usize>
+    ensures { result ≡ spec.excess (map T.part parts.now) }
+{
+    place_at(parts, LIMIT)
+}
+
+/// The same where one part stands before these.
+pub fn excess_behind<T: Placed>(parts: &[T]) -> Option<usize>
+    ensures { (p : Part) → result ≡ spec.excess (p ∷ map T.part parts.now) }
+{
+    place_at(parts, LIMIT - 1)
+}

@@ -1,0 +1,7 @@
+use Rattle.std.proofs.Common.{◌≡◌, map, drop}
+use Rattle.qs_syntax_resolve.specs.Path.{path_of, operands}
+use Rattle.qs_syntax_resolve.specs.Resolving.{all_behind}
+use Rattle.qs_syntax_resolve.proofs.resolver.Resolver.+path.Given as goal
+
+abbrev pub invariant-operands-loop-operand : goal.invariant-operands-loop-operand
+invariant-operands-loop-operand l = all_behind l.found (map (λ o. path_of o.path) (drop l.operand-index l.all)) l.self ≡ operands l.all l.fn.self

@@ -1,0 +1,56 @@
+-- Terms with their names resolved.
+use Rattle.std.specs.Prelude.{ℕ, ◌+◌, false, List, [], Option, Some, None, codes, Ok}
+use Rattle.qs_syntax_tree.specs.declared.token.Span.{Span}
+use Rattle.qs_syntax_tree.specs.declared.term.Iri.{Iri}
+use Rattle.qs_syntax_tree.specs.declared.term.Literal.{Literal as WrittenLiteral}
+use Rattle.qs_syntax_tree.specs.declared.term.Term.{Term}
+use Rattle.qs_syntax_tree.specs.declared.term.Term.TheVariants as written
+use Rattle.qs_syntax_tree.specs.declared.term.VarOrIri.{VarOrIri as WrittenVarOrIri}
+use Rattle.qs_syntax_tree.specs.declared.term.VarOrIri.TheVariants as written_name
+use Rattle.qs_syntax_ast.specs.declared.term.Variable.{Variable}
+use Rattle.qs_syntax_ast.specs.declared.term.BlankNode.{BlankNode}
+use Rattle.qs_syntax_ast.specs.declared.term.BlankNode.TheVariants.{Label, Anonymous}
+use Rattle.qs_syntax_ast.specs.declared.term.TermPattern.{TermPattern}
+use Rattle.qs_syntax_ast.specs.declared.term.TermPattern.TheVariants as term
+use Rattle.qs_syntax_ast.specs.declared.term.VarOrIri.{VarOrIri}
+use Rattle.qs_syntax_ast.specs.declared.term.VarOrIri.TheVariants as name
+use Rattle.qs_terms.specs.Literal.{Literal, typed, xsd_string}
+use Rattle.qs_syntax_resolve.specs.Names as of
+use Rattle.qs_syntax_resolve.specs.declared.resolver.Resolver.{Resolver}
+use Rattle.qs_terms.specs.Outcome.{Outcome, and_then}
+use Rattle.qs_syntax_resolve.specs.Resolving.{Resolving, ◌<$>◌}
+
+abbrev pub variable : Span → Resolving Variable
+variable span = λ s. Ok (record { name = of.variable s.names span }, s)
+
+abbrev pub iri : Iri → Resolving (List ℕ)
+iri i = λ s. and_then (of.iri s.names i) (λ text. Ok (text, s))
+
+abbrev pub var_or_iri : WrittenVarOrIri → Resolving VarOrIri
+var_or_iri (written_name.Var v) = name.Variable <$> variable v
+var_or_iri (written_name.Iri i) = name.Iri <$> iri i
+
+-- what stands where a literal isn't lawful: the request is refused then
+abbrev pub empty_string : Literal
+empty_string = typed [] xsd_string
+
+abbrev pub settled : Option Literal → Resolver → Outcome (Literal × Resolver)
+settled (Some l) s = Ok (l, s)
+settled None s = Ok (empty_string, record s { lawful = false })
+
+unfoldable pub literal : WrittenLiteral → Resolving Literal
+literal l = λ s. and_then (of.literal s.names l) (λ found. settled found s)
+
+-- a fresh blank node
+unfoldable pub anonymous : Resolving BlankNode
+anonymous = λ s. Ok (Anonymous s.anonymous, record s { anonymous = s.anonymous + 1 })
+
+abbrev pub label : Span → Resolving BlankNode
+label span = λ s. Ok (Label (of.label s.names span), s)
+
+unfoldable pub term_of : Term → Resolving TermPattern
+term_of (written.Var v) = term.Variable <$> variable v
+term_of (written.Iri i) = term.Iri <$> iri i
+term_of (written.Literal l) = term.Literal <$> literal l
+term_of (written.Blank span) = term.Blank <$> label span
+term_of written.Anonymous = term.Blank <$> anonymous

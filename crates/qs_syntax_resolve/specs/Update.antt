@@ -1,0 +1,104 @@
+-- Updates with their names resolved (SPARQL 1.1 Update, 3).
+use Rattle.std.specs.Prelude.{ℕ, List, [], ◌∷◌, ◌++◌, Option, Some, None, map}
+use Rattle.qs_syntax_tree.specs.declared.term.Iri.{Iri}
+use Rattle.qs_syntax_tree.specs.declared.update.GraphOrDefault.{GraphOrDefault as WrittenEnd}
+use Rattle.qs_syntax_tree.specs.declared.update.GraphOrDefault.TheVariants as written_end
+use Rattle.qs_syntax_tree.specs.declared.update.GraphTarget.{GraphTarget as WrittenTarget}
+use Rattle.qs_syntax_tree.specs.declared.update.GraphTarget.TheVariants as written_target
+use Rattle.qs_syntax_tree.specs.declared.update.Modify.{Modify as WrittenModify}
+use Rattle.qs_syntax_tree.specs.declared.update.Operation.{Operation as WrittenOperation}
+use Rattle.qs_syntax_tree.specs.declared.update.Operation.TheVariants as written
+use Rattle.qs_syntax_tree.specs.declared.update.QuadElement.{QuadElement}
+use Rattle.qs_syntax_tree.specs.declared.update.QuadPattern.{QuadPattern}
+use Rattle.qs_syntax_tree.specs.declared.update.Quads.{Quads}
+use Rattle.qs_syntax_tree.specs.declared.update.Quads.TheVariants as written_quads
+use Rattle.qs_syntax_tree.specs.declared.update.Transfer.{Transfer as WrittenTransfer}
+use Rattle.qs_syntax_tree.specs.declared.update.Update.{Update as WrittenUpdate}
+use Rattle.qs_syntax_tree.specs.declared.update.UpdateStep.{UpdateStep}
+use Rattle.qs_syntax_ast.specs.declared.term.Variable.{Variable}
+use Rattle.qs_syntax_ast.specs.declared.update.GraphOrDefault.{GraphOrDefault}
+use Rattle.qs_syntax_ast.specs.declared.update.GraphOrDefault.TheVariants as end
+use Rattle.qs_syntax_ast.specs.declared.update.GraphTarget.{GraphTarget}
+use Rattle.qs_syntax_ast.specs.declared.update.GraphTarget.TheVariants as target
+use Rattle.qs_syntax_ast.specs.declared.update.Modify.{Modify}
+use Rattle.qs_syntax_ast.specs.declared.update.Operation.{Operation}
+use Rattle.qs_syntax_ast.specs.declared.update.Operation.TheVariants as operation
+use Rattle.qs_syntax_ast.specs.declared.update.QuadBlock.{QuadBlock}
+use Rattle.qs_syntax_ast.specs.declared.update.Transfer.{Transfer}
+use Rattle.qs_syntax_ast.specs.declared.update.Update.{Update}
+use Rattle.qs_syntax_resolve.specs.Leaves.{iri, var_or_iri}
+use Rattle.qs_syntax_resolve.specs.Pattern.{group_of}
+use Rattle.qs_syntax_resolve.specs.Query.{prologue}
+use Rattle.qs_syntax_resolve.specs.Resolving.{Resolving, ◌>>=◌, ◌>>◌, ◌<$>◌, pure, all}
+use Rattle.qs_syntax_resolve.specs.Triples.{triples_behind}
+
+-- ---- quads
+
+abbrev pub block : Quads → Resolving QuadBlock
+block (written_quads.Triples ts) = triples_behind [] ts >>= (λ triples. pure (record { graph = None; triples = triples }))
+block (written_quads.Graph n ts) = var_or_iri n >>= (λ x. triples_behind [] ts >>= (λ triples. pure (record { graph = Some x; triples = triples })))
+
+abbrev pub block_of : QuadElement → Resolving QuadBlock
+block_of e = block e.quads
+
+abbrev pub quads : List QuadElement → Resolving (List QuadBlock)
+quads es = all (map block_of es)
+
+-- a template that isn't there has no quads
+abbrev pub template : Option QuadPattern → Resolving (List QuadBlock)
+template None = pure []
+template (Some q) = quads q.elements
+
+-- ---- graphs
+
+abbrev pub target_of : WrittenTarget → Resolving GraphTarget
+target_of (written_target.Graph i) = target.Graph <$> iri i
+target_of written_target.Default = pure target.Default
+target_of written_target.Named = pure target.Named
+target_of written_target.All = pure target.All
+
+abbrev pub end_of : WrittenEnd → Resolving GraphOrDefault
+end_of written_end.Default = pure end.Default
+end_of (written_end.Graph i) = end.Graph <$> iri i
+
+unfoldable pub transfer : WrittenTransfer → Resolving Transfer
+transfer t = end_of t.from >>= (λ x. end_of t.to >>= (λ y. pure (record { on_missing = t.on_missing; from = x; to = y })))
+
+-- ---- operations
+
+abbrev pub with_graph : Option Iri → Resolving (Option (List ℕ))
+with_graph None = pure None
+with_graph (Some i) = Some <$> iri i
+
+unfoldable pub modify : WrittenModify → Resolving Modify
+modify m = with_graph m.with >>= (λ w. template m.delete >>= (λ d. template m.insert >>= (λ i. group_of m.pattern >>= (λ g.
+    pure (record { with = w; delete = d; insert = i; pattern = g })))))
+
+unfoldable pub operation_of : WrittenOperation → Resolving Operation
+operation_of (written.InsertData q) = operation.InsertData <$> quads q.elements
+operation_of (written.DeleteData q) = operation.DeleteData <$> quads q.elements
+operation_of (written.DeleteWhere q) = operation.DeleteWhere <$> quads q.elements
+operation_of (written.Modify m) = operation.Modify <$> modify m
+operation_of (written.Clear silent t) = target_of t >>= (λ x. pure (operation.Clear silent x))
+operation_of (written.Drop silent t) = target_of t >>= (λ x. pure (operation.Drop silent x))
+operation_of (written.Create silent i) = iri i >>= (λ x. pure (operation.Create silent x))
+operation_of (written.Add t) = operation.Add <$> transfer t
+operation_of (written.Move t) = operation.Move <$> transfer t
+operation_of (written.Copy t) = operation.Copy <$> transfer t
+
+-- an operation, after those that are found already
+abbrev pub operation_behind : List Operation → Option WrittenOperation → Resolving (List Operation)
+operation_behind found None = pure found
+operation_behind found (Some o) = operation_of o >>= (λ x. pure (found ++ x ∷ []))
+
+unfoldable pub step : List Operation → UpdateStep → Resolving (List Operation)
+step found u = prologue u.prologue >> operation_behind found u.operation
+
+-- prefixes of a later prologue are added to the earlier ones
+abbrev pub steps : List Operation → List UpdateStep → Resolving (List Operation)
+steps found [] = pure found
+steps found (u ∷ us) = step found u >>= (λ more. steps more us)
+
+-- the update, with the variables of its text
+unfoldable pub update : List Variable → WrittenUpdate → Resolving Update
+update variables u = steps [] u.steps >>= (λ found. pure (record { operations = found; variables = variables }))

@@ -1,0 +1,97 @@
+//! Terms.
+
+ghost use Rattle.std.specs.Prelude.{Ok};
+ghost use Rattle.qs_terms.specs.Outcome.{OrOutOfMemory};
+ghost use Rattle.qs_syntax_resolve.specs.Leaves as spec;
+ghost use Rattle.qs_syntax_resolve.specs.Resolving.{Resolves};
+
+use crate::resolver::Resolver;
+use qs_syntax_ast::term::{BlankNode, TermPattern, VarOrIri, Variable};
+use qs_terms::{Iri, Lit, QFault, Text};
+use qs_syntax_tree::term::{
+    Iri as WrittenIri, Literal as WrittenLiteral, Term as WrittenTerm, VarOrIri as WrittenVarOrIri,
+};
+use qs_syntax_tree::token::Span;
+use std::alloc::Global;
+
+fn empty_string(alloc: Global) -> Result<Lit, QFault>
+    ensures { OrOutOfMemory (Ok spec.empty_string) result }
+{
+    Ok(Lit::string(alloc, Text::new(alloc, "")?)?)
+}
+
+impl<'a> Resolver<'a> {
+    pub fn variable(&mut self, span: Span) -> Result<Variable, QFault>
+        ensures { Resolves (spec.variable span self.old) result self.new }
+    {
+        Ok(self.names.variable(span)?)
+    }
+
+    pub fn iri(&mut self, iri: WrittenIri) -> Result<Iri, QFault>
+        ensures { Resolves (spec.iri iri self.old) result self.new }
+    {
+        self.names.iri(iri)
+    }
+
+    pub fn var_or_iri(&mut self, name: WrittenVarOrIri) -> Result<VarOrIri, QFault>
+        ensures { Resolves (spec.var_or_iri name self.old) result self.new }
+    {
+        match name {
+            WrittenVarOrIri::Var(span) => Ok(VarOrIri::Variable(self.variable(span)?)),
+            WrittenVarOrIri::Iri(iri) => Ok(VarOrIri::Iri(self.iri(iri)?)),
+        }
+    }
+
+    fn settle(&mut self, alloc: Global, found: Option<Lit>) -> Result<Lit, QFault>
+        ensures { Resolves (spec.settled found self.old) result self.new }
+    {
+        match found {
+            Some(lit) => Ok(lit),
+            None => {
+                self.lawful = false;
+                empty_string(alloc)
+            }
+        }
+    }
+
+    #[tactic(auto, unfolding(crate::specs::Leaves::literal))]
+    pub fn literal(&mut self, alloc: Global, literal: WrittenLiteral) -> Result<Lit, QFault>
+        ensures { Resolves (spec.literal literal self.old) result self.new }
+    {
+        let found = self.names.literal(literal)?;
+        self.settle(alloc, found)
+    }
+
+    #[tactic(auto, unfolding(crate::specs::Leaves::anonymous))]
+    pub fn anonymous(&mut self) -> Result<BlankNode, QFault>
+        ensures { Resolves (spec.anonymous self.old) result self.new }
+    {
+        let number = self.anonymous;
+        let Some(next) = number.checked_add(1) else {
+            return Err(QFault::Memory);
+        };
+        self.anonymous = next;
+        Ok(BlankNode::Anonymous(number))
+    }
+
+    pub fn label(&mut self, span: Span) -> Result<BlankNode, QFault>
+        ensures { Resolves (spec.label span self.old) result self.new }
+    {
+        Ok(BlankNode::Label(self.names.label(span)?))
+    }
+
+    #[tactic(auto, unfolding(crate::specs::Leaves::term_of))]
+    pub fn term(&mut self, alloc: Global, term: WrittenTerm) -> Result<TermPattern, QFault>
+        ensures { Resolves (spec.term_of term self.old) result self.new }
+    {
+        match term {
+            WrittenTerm::Var(span) => Ok(TermPattern::Variable(self.variable(span)?)),
+            WrittenTerm::Iri(iri) => Ok(TermPattern::Iri(self.iri(iri)?)),
+            WrittenTerm::Literal(literal) => Ok(TermPattern::Literal(self.literal(
+                alloc, literal,
+            )?)),
+            WrittenTerm::Blank(span) => Ok(TermPattern::Blank(self.label(span)?)),
+            WrittenTerm::Anonymous => Ok(TermPattern::Blank(self.anonymous()?)),
+        }
+    }
+}

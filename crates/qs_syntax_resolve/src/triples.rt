@@ -1,0 +1,229 @@
+//! Triples.
+
+ghost use Rattle.std.specs.Prelude.{◌≡◌};
+ghost use Rattle.qs_syntax_resolve.specs.Leaves.{term_of};
+ghost use Rattle.qs_syntax_resolve.specs.Triples as spec;
+ghost use Rattle.qs_syntax_resolve.specs.Resolving.{Resolves, Collects, Opens};
+
+use crate::resolver::Resolver;
+use qs_syntax_ast::path::Path;
+use qs_syntax_ast::pattern::{Triple, Verb};
+use qs_syntax_ast::shared::Shared;
+use qs_syntax_ast::term::TermPattern;
+use qs_terms::QFault;
+use qs_syntax_tree::path::Verb as WrittenVerb;
+use qs_syntax_tree::term::Term as WrittenTerm;
+use qs_syntax_tree::triples::{GraphNode, Property, TriplesSameSubject};
+use sqlite_items::Items;
+use std::alloc::Global;
+
+fn simplified(path: Path) -> Verb
+    ensures { result ≡ spec.simplified path }
+{
+    match path {
+        Path::Iri(iri) => Verb::Iri(iri),
+        other => Verb::Path(other),
+    }
+}
+
+impl<'a> Resolver<'a> {
+    fn verb(&mut self, alloc: Global, verb: &WrittenVerb) -> Result<Verb, QFault>
+        ensures { Resolves (spec.verb_of verb.now self.old) result self.new }
+    {
+        match verb {
+            WrittenVerb::Var(span) => Ok(Verb::Variable(self.variable(*span)?)),
+            WrittenVerb::Path(path) => {
+                let path = self.path(alloc, path)?;
+                Ok(simplified(path))
+            }
+        }
+    }
+
+    fn shared_verb(&mut self, alloc: Global, verb: &WrittenVerb) -> Result<Shared<Verb>, QFault>
+        ensures { Resolves (spec.verb_of verb.now self.old) result self.new }
+    {
+        let verb = self.verb(alloc, verb)?;
+        Ok(Shared::new(alloc, verb)?)
+    }
+
+    fn shared_term(
+        &mut self,
+        alloc: Global,
+        term: WrittenTerm,
+    ) -> Result<Shared<TermPattern>, QFault>
+        ensures { Resolves (term_of term self.old) result self.new }
+    {
+        let term = self.term(alloc, term)?;
+        Ok(Shared::new(alloc, term)?)
+    }
+
+    fn shared_blank(&mut self, alloc: Global) -> Result<Shared<TermPattern>, QFault>
+        ensures { Resolves (spec.blank self.old) result self.new }
+    {
+        let blank = TermPattern::Blank(self.anonymous()?);
+        Ok(Shared::new(alloc, blank)?)
+    }
+
+    fn simple_object(
+        &mut self,
+        alloc: Global,
+        subject: &Shared<TermPattern>,
+        verb: &Shared<Verb>,
+        found: &mut Items<Triple>,
+        object: WrittenTerm,
+    ) -> Result<(), QFault>
+        ensures { Collects (spec.simple_object subject.now verb.now found.old object self.old) result found.new self.new }
+    {
+        let subject = subject.share()?;
+        let verb = verb.share()?;
+        let object = self.term(alloc, object)?;
+        found.push(Triple {
+            subject,
+            verb,
+            object,
+        })?;
+        Ok(())
+    }
+
+    fn blank_object(
+        &mut self,
+        alloc: Global,
+        subject: &Shared<TermPattern>,
+        verb: &Shared<Verb>,
+        found: &mut Items<Triple>,
+    ) -> Result<Shared<TermPattern>, QFault>
+        ensures { Opens (spec.blank_object subject.now verb.now found.old self.old) result found.new self.new }
+    {
+        let inner = self.shared_blank(alloc)?;
+        let subject = subject.share()?;
+        let verb = verb.share()?;
+        let object = inner.get().share()?;
+        found.push(Triple {
+            subject,
+            verb,
+            object,
+        })?;
+        Ok(inner)
+    }
+
+    #[cycle(triples)]
+    #[tactic(auto, using(crate::proofs::TripleEquations::simple_object_is, crate::proofs::TripleEquations::bracketed_object_is))]
+    fn object(
+        &mut self,
+        alloc: Global,
+        subject: &Shared<TermPattern>,
+        verb: &Shared<Verb>,
+        found: &mut Items<Triple>,
+        node: &GraphNode,
+    ) -> Result<(), QFault>
+        ensures { Collects (spec.object_of node.now subject.now verb.now found.old self.old) result found.new self.new }
+    {
+        match node {
+            GraphNode::Term(term) => self.simple_object(alloc, subject, verb, found, *term),
+            GraphNode::BlankNodePropertyList(own) => {
+                let inner = self.blank_object(alloc, subject, verb, found)?;
+                self.properties(alloc, &inner, found, own.as_slice())
+            }
+        }
+    }
+
+    #[cycle(triples)]
+    fn objects(
+        &mut self,
+        alloc: Global,
+        subject: &Shared<TermPattern>,
+        verb: &Shared<Verb>,
+        found: &mut Items<Triple>,
+        all: &[GraphNode],
+    ) -> Result<(), QFault>
+        ensures { Collects (spec.objects subject.now verb.now found.old all.now self.old) result found.new self.new }
+    {
+        for node in all {
+            self.object(alloc, subject, verb, found, node)?;
+        }
+        Ok(())
+    }
+
+    #[cycle(triples)]
+    #[tactic(auto, using(crate::proofs::TripleEquations::property_is))]
+    fn property(
+        &mut self,
+        alloc: Global,
+        subject: &Shared<TermPattern>,
+        found: &mut Items<Triple>,
+        property: &Property,
+    ) -> Result<(), QFault>
+        ensures { Collects (spec.property_of property.now subject.now found.old self.old) result found.new self.new }
+    {
+        let verb = self.shared_verb(alloc, &property.verb)?;
+        self.objects(alloc, subject, &verb, found, property.objects.as_slice())
+    }
+
+    #[cycle(triples)]
+    fn properties(
+        &mut self,
+        alloc: Global,
+        subject: &Shared<TermPattern>,
+        found: &mut Items<Triple>,
+        all: &[Property],
+    ) -> Result<(), QFault>
+        ensures { Collects (spec.properties subject.now found.old all.now self.old) result found.new self.new }
+    {
+        for property in all {
+            self.property(alloc, subject, found, property)?;
+        }
+        Ok(())
+    }
+
+    fn bracketed_subject(
+        &mut self,
+        alloc: Global,
+        found: &mut Items<Triple>,
+        own: &[Property],
+        others: &[Property],
+    ) -> Result<(), QFault>
+        ensures { Collects (spec.bracketed_subject found.old own.now others.now self.old) result found.new self.new }
+    {
+        let subject = self.shared_blank(alloc)?;
+        self.properties(alloc, &subject, found, own)?;
+        self.properties(alloc, &subject, found, others)
+    }
+
+    #[tactic(auto, unfolding(crate::specs::Triples::same_subject))]
+    fn same_subject(
+        &mut self,
+        alloc: Global,
+        found: &mut Items<Triple>,
+        triples: &TriplesSameSubject,
+    ) -> Result<(), QFault>
+        ensures { Collects (spec.same_subject found.old triples.now self.old) result found.new self.new }
+    {
+        match &triples.subject {
+            GraphNode::Term(term) => {
+                let subject = self.shared_term(alloc, *term)?;
+                self.properties(alloc, &subject, found, triples.properties.as_slice())
+            }
+            GraphNode::BlankNodePropertyList(own) => self.bracketed_subject(
+                alloc,
+                found,
+                own.as_slice(),
+                triples.properties.as_slice(),
+            ),
+        }
+    }
+
+    /// Puts the triples of a block after those that are found already.
+    pub fn triples(
+        &mut self,
+        alloc: Global,
+        found: &mut Items<Triple>,
+        all: &[TriplesSameSubject],
+    ) -> Result<(), QFault>
+        ensures { Collects (spec.triples_behind found.old all.now self.old) result found.new self.new }
+    {
+        for triples in all {
+            self.same_subject(alloc, found, triples)?;
+        }
+        Ok(())
+    }
+}

@@ -1,0 +1,63 @@
+-- What the list of all variables has.
+use Rattle.std.proofs.Common.{◌≡◌, Bool, true, false, ◌||◌, not, if◌then◌else◌, nat_eq, List, [], ◌∷◌, ◌++◌, sym, ap, ◌∙◌, refl, append_assoc}
+use Rattle.std.proofs.lemmas.Bool.{and_from, not_from_false}
+use Rattle.std.proofs.lemmas.List.{map-append, append-nil}
+use Rattle.std.proofs.lemmas.List.Folds.{list_any-append}
+use Rattle.std.proofs.lemmas.List.Sums.{fold-append}
+use Rattle.std.specs.Bool.{IsTrue}
+use Rattle.std.specs.Cmp.Lexicographic.{pointwise}
+use Rattle.std.specs.List.{fold}
+use Rattle.qs_syntax_ast.specs.declared.query.Query.{Query}
+use Rattle.qs_syntax_ast.specs.declared.term.Variable.{Variable}
+use Rattle.qs_syntax_ast.specs.declared.update.Update.{Update}
+use Rattle.qs_syntax_scope.proofs.FirstsKept.{contains_firsts, names_of_with, names_with}
+use Rattle.qs_syntax_scope.proofs.Reading.{distinct}
+use Rattle.qs_syntax_scope.specs.declared.met.Met.{Met}
+use Rattle.qs_syntax_scope.specs.Firsts.{names_of, with_names, add_first, firsts}
+use Rattle.qs_syntax_scope.specs.Laws.{EachStandsOnce}
+use Rattle.qs_syntax_scope.specs.Met.{after, add_new, are_distinct}
+use Rattle.qs_syntax_scope.specs.Names.{Name, contains}
+use Rattle.qs_syntax_scope.specs.VariablesIn.{in_query, in_update, query_variables, update_variables}
+
+-- ---- variables, and names after them
+
+both : (variables : List Variable) (names : List Name) (name : Name) → contains (names_of (firsts (variables ++ with_names names))) name ≡ (contains (names_of variables) name || contains names name)
+both variables names name =
+    contains_firsts (variables ++ with_names names) name
+    ∙ ap (λ all. contains all name) (map-append (λ (v : Variable). v.name) variables (with_names names) ∙ ap (λ more. names_of variables ++ more) (names_of_with names))
+    ∙ list_any-append (λ one. pointwise nat_eq one name) (names_of variables) names
+
+pub of_query : (query : Query) (name : Name) → contains (names_of (query_variables query)) name ≡ (contains (names_of query.variables) name || contains (in_query query) name)
+unfolding query_variables
+of_query query name = both query.variables (in_query query) name
+
+pub of_update : (update : Update) (name : Name) → contains (names_of (update_variables update)) name ≡ (contains (names_of update.variables) name || contains (in_update update) name)
+unfolding update_variables
+of_update update name = both update.variables (in_update update) name
+
+-- ---- each once
+
+met_names : (m : Met) (names : List Name) → (fold add_new m names).names ≡ m.names ++ names
+met_names m [] = sym (append-nil m.names)
+met_names m (x ∷ xs) = met_names (add_new m x) xs ∙ append_assoc m.names (x ∷ []) xs
+
+distinct_with : (names : List Name) (name : Name) → IsTrue (are_distinct names) → contains names name ≡ false → IsTrue (are_distinct (names ++ name ∷ []))
+distinct_with names name once new =
+    ap (λ (m : Met). m.keeps) (fold-append add_new (after []) names (name ∷ []))
+    ∙ and_from (are_distinct names) (not (contains (fold add_new (after []) names).names name)) once
+    (not_from_false (contains (fold add_new (after []) names).names name) (ap (λ all. contains all name) (met_names (after []) names) ∙ new))
+
+add_once : (found : List Variable) (v : Variable) → IsTrue (are_distinct (names_of found)) → IsTrue (are_distinct (names_of (add_first found v)))
+unfolding add_first
+add_once found v once = by (contains (names_of found) v.name) refl
+  where
+    by : (b : Bool) → contains (names_of found) v.name ≡ b → IsTrue (are_distinct (names_of (if b then found else found ++ v ∷ [])))
+    by true e = once
+    by false e = ap are_distinct (names_with found v) ∙ distinct_with (names_of found) v.name once e
+
+all_once : (found variables : List Variable) → IsTrue (are_distinct (names_of found)) → IsTrue (are_distinct (names_of (fold add_first found variables)))
+all_once found [] once = once
+all_once found (v ∷ vs) once = all_once (add_first found v) vs (add_once found v once)
+
+pub stand_once : (variables : List Variable) → EachStandsOnce (names_of (firsts variables))
+stand_once variables = (distinct (names_of (firsts variables))).0 (all_once [] variables refl)

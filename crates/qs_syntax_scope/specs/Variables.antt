@@ -1,0 +1,62 @@
+-- The variables of triple patterns (SPARQL 1.1 Query, 4.2 and 9). A path has none, and a blank node is none.
+use Rattle.std.specs.Prelude.{Bool, true, false, ◌||◌, List, [], ◌∷◌, ◌++◌, map, Option, Some, None}
+use Rattle.std.specs.List.{list_any}
+use Rattle.qs_syntax_scope.specs.Names.{Name}
+use Rattle.qs_syntax_ast.specs.declared.term.Variable.{Variable}
+use Rattle.qs_syntax_ast.specs.declared.term.TermPattern.{TermPattern}
+use Rattle.qs_syntax_ast.specs.declared.term.TermPattern.TheVariants as term
+use Rattle.qs_syntax_ast.specs.declared.term.VarOrIri.{VarOrIri}
+use Rattle.qs_syntax_ast.specs.declared.term.VarOrIri.TheVariants as graph
+use Rattle.qs_syntax_ast.specs.declared.pattern.Verb.{Verb}
+use Rattle.qs_syntax_ast.specs.declared.pattern.Verb.TheVariants as verb
+use Rattle.qs_syntax_ast.specs.declared.pattern.Triple.{Triple}
+use Rattle.qs_syntax_ast.specs.declared.pattern.InlineData.{InlineData}
+use Rattle.qs_syntax_ast.specs.declared.update.QuadBlock.{QuadBlock}
+
+abbrev pub term_variables : TermPattern → List Name
+term_variables (term.Variable v) = v.name ∷ []
+term_variables (term.Iri i) = []
+term_variables (term.Literal l) = []
+term_variables (term.Blank b) = []
+
+abbrev pub verb_variables : Verb → List Name
+verb_variables (verb.Variable v) = v.name ∷ []
+verb_variables (verb.Iri i) = []
+verb_variables (verb.Path p) = []
+
+abbrev pub graph_variables : VarOrIri → List Name
+graph_variables (graph.Variable v) = v.name ∷ []
+graph_variables (graph.Iri i) = []
+
+-- of its subject, its verb and its object; of a path, of its two ends
+abbrev pub triple_variables : Triple → List Name
+triple_variables t = term_variables t.subject ++ verb_variables t.verb ++ term_variables t.object
+
+-- of a VALUES
+abbrev pub column_names : InlineData → List Name
+column_names table = map (λ (v : Variable). v.name) table.variables
+
+-- ---- where no variable may stand
+
+abbrev pub term_is_variable : TermPattern → Bool
+term_is_variable (term.Variable v) = true
+term_is_variable (term.Iri i) = false
+term_is_variable (term.Literal l) = false
+term_is_variable (term.Blank b) = false
+
+abbrev pub verb_is_variable : Verb → Bool
+verb_is_variable (verb.Variable v) = true
+verb_is_variable (verb.Iri i) = false
+verb_is_variable (verb.Path p) = false
+
+abbrev pub graph_is_variable : Option VarOrIri → Bool
+graph_is_variable None = false
+graph_is_variable (Some (graph.Variable v)) = true
+graph_is_variable (Some (graph.Iri i)) = false
+
+abbrev pub triple_has_variable : Triple → Bool
+triple_has_variable t = term_is_variable t.subject || verb_is_variable t.verb || term_is_variable t.object
+
+-- the name of the graph included
+abbrev pub block_has_variable : QuadBlock → Bool
+block_has_variable b = graph_is_variable b.graph || list_any triple_has_variable b.triples

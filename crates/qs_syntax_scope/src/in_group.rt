@@ -1,0 +1,59 @@
+//! The variables that stand anywhere in a group.
+
+ghost use Rattle.std.specs.Prelude.{◌≡◌, ◌++◌, OnOk};
+ghost use Rattle.qs_syntax_scope.specs.VariablesIn as spec;
+
+use crate::in_expression::{push_expression, push_expressions};
+use crate::scope::{push_columns, push_graph, push_triples, push_variable};
+use crate::seen::Seen;
+use qs_syntax_ast::pattern::{GraphPattern, Group};
+use std::alloc::AllocError;
+
+/// Adds the variables that stand in the group, in its filters and after MINUS too.
+#[cycle(group)]
+pub fn push_group<'a>(names: &mut Seen<'a>, group: &'a Group) -> Result<(), AllocError>
+    ensures { OnOk result (names.new ≡ names.old ++ spec.in_group group.now) }
+{
+    push_patterns(names, group.patterns.as_slice())?;
+    push_expressions(names, group.filters.as_slice())
+}
+
+#[cycle(group)]
+fn push_patterns<'a>(names: &mut Seen<'a>, all: &'a [GraphPattern]) -> Result<(), AllocError>
+    ensures { OnOk result (names.new ≡ names.old ++ spec.in_patterns all.now) }
+{
+    for one in all {
+        push_pattern(names, one)?;
+    }
+    Ok(())
+}
+
+#[cycle(group)]
+fn push_pattern<'a>(names: &mut Seen<'a>, pattern: &'a GraphPattern) -> Result<(), AllocError>
+    ensures { OnOk result (names.new ≡ names.old ++ spec.in_pattern pattern.now) }
+{
+    match pattern {
+        GraphPattern::Triples(triples) => push_triples(names, triples.as_slice()),
+        GraphPattern::Union(groups) => push_groups(names, groups.as_slice()),
+        GraphPattern::Optional(inner) | GraphPattern::Minus(inner) => push_group(names, inner),
+        GraphPattern::Graph(graph, inner) => {
+            push_graph(names, graph)?;
+            push_group(names, inner)
+        }
+        GraphPattern::Bind(value, variable) => {
+            push_expression(names, value)?;
+            push_variable(names, variable)
+        }
+        GraphPattern::Values(table) => push_columns(names, table),
+    }
+}
+
+#[cycle(group)]
+fn push_groups<'a>(names: &mut Seen<'a>, all: &'a [Group]) -> Result<(), AllocError>
+    ensures { OnOk result (names.new ≡ names.old ++ spec.in_groups all.now) }
+{
+    for one in all {
+        push_group(names, one)?;
+    }
+    Ok(())
+}

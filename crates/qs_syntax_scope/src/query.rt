@@ -1,0 +1,133 @@
+//! The rules of queries.
+
+ghost use Rattle.std.specs.Prelude.{◌≡◌, ◌++◌, ◌&&◌, IfOk, OnOk};
+ghost use Rattle.qs_syntax_scope.specs.Met.{are_apart};
+ghost use Rattle.qs_syntax_scope.specs.Runs.{runs as runs_of};
+ghost use Rattle.qs_syntax_scope.specs.Scope.{binds_are_new, in_scope};
+ghost use Rattle.qs_syntax_scope.specs.Tables.{values_are_tables};
+ghost use Rattle.qs_syntax_scope.specs.Selected.{selected_are_new as are_new};
+ghost use Rattle.qs_syntax_scope.specs.KeepsScope as spec;
+
+use crate::met::Met;
+use crate::seen::Seen;
+use crate::selected::selected_are_new;
+use crate::{runs, scope, tables};
+use qs_syntax_ast::pattern::{Group, InlineData};
+use qs_syntax_ast::query::{Query, QueryForm, Select};
+use std::alloc::{AllocError, Global};
+
+fn labels_are_apart(alloc: Global, group: &Group) -> Result<bool, AllocError>
+    ensures { IfOk result (λ b. b ≡ are_apart (runs_of group.now)) }
+{
+    let mut met = Met::new(alloc);
+    runs::group(&mut met, group)?;
+    Ok(met.keeps)
+}
+
+// The tables and the labels of a WHERE.
+fn rest_keeps(alloc: Global, group: &Group) -> Result<bool, AllocError>
+    ensures { IfOk result (λ b. b ≡ (values_are_tables group.now && are_apart (runs_of group.now))) }
+{
+    let tables = tables::group(alloc, group)?;
+    let labels = labels_are_apart(alloc, group)?;
+    Ok(tables && labels)
+}
+
+fn pattern_keeps(alloc: Global, group: &Group) -> Result<bool, AllocError>
+    ensures { IfOk result (λ b. b ≡ spec.pattern_keeps group.now) }
+{
+    let binds = binds_are_new(alloc, group)?;
+    let rest = rest_keeps(alloc, group)?;
+    Ok(binds && rest)
+}
+
+/// Whether every BIND in the group keeps the rule.
+pub fn binds_are_new(alloc: Global, group: &Group) -> Result<bool, AllocError>
+    ensures { IfOk result (λ b. b ≡ binds_are_new group.now) }
+{
+    let mut names = Seen::new(alloc);
+    scope::group(alloc, &mut names, group)
+}
+
+/// The variables of the trailing VALUES, if there is one.
+pub fn push_trailing<'a>(
+    names: &mut Seen<'a>,
+    values: &'a Option<InlineData>,
+) -> Result<(), AllocError>
+    ensures { OnOk result (names.new ≡ names.old ++ spec.trailing_names values.now) }
+{
+    match values {
+        Some(table) => scope::push_columns(names, table),
+        None => Ok(()),
+    }
+}
+
+fn trailing_is_table(alloc: Global, values: &Option<InlineData>) -> Result<bool, AllocError>
+    ensures { IfOk result (λ b. b ≡ spec.trailing_is_table values.now) }
+{
+    match values {
+        Some(table) => tables::is_table(alloc, table),
+        None => Ok(true),
+    }
+}
+
+// BIND and the items of a SELECT.
+fn names_keep(
+    alloc: Global,
+    select: &Select,
+    values: &Option<InlineData>,
+) -> Result<bool, AllocError>
+    ensures { IfOk result (λ b. b ≡ (binds_are_new select.now.pattern && are_new (in_scope select.now.pattern ++ spec.trailing_names values.now) select.now.projection)) }
+{
+    let mut names = Seen::new(alloc);
+    let binds = scope::group(alloc, &mut names, &select.pattern)?;
+    push_trailing(&mut names, values)?;
+    let items = selected_are_new(names, &select.projection)?;
+    Ok(binds && items)
+}
+
+fn select_keeps(
+    alloc: Global,
+    select: &Select,
+    values: &Option<InlineData>,
+) -> Result<bool, AllocError>
+    ensures { IfOk result (λ b. b ≡ (spec.pattern_keeps select.now.pattern && are_new (in_scope select.now.pattern ++ spec.trailing_names values.now) select.now.projection)) }
+{
+    let names = names_keep(alloc, select, values)?;
+    let rest = rest_keeps(alloc, &select.pattern)?;
+    Ok(names && rest)
+}
+
+fn construct_keeps(alloc: Global, pattern: &Option<Group>) -> Result<bool, AllocError>
+    ensures { IfOk result (λ b. b ≡ spec.construct_keeps pattern.now) }
+{
+    match pattern {
+        Some(group) => pattern_keeps(alloc, group),
+        None => Ok(true),
+    }
+}
+
+fn form_keeps(
+    alloc: Global,
+    form: &QueryForm,
+    values: &Option<InlineData>,
+) -> Result<bool, AllocError>
+    ensures { IfOk result (λ b. b ≡ spec.form_keeps (spec.trailing_names values.now) form.now) }
+{
+    match form {
+        QueryForm::Select(select) => select_keeps(alloc, select, values),
+        QueryForm::Construct(construct) => construct_keeps(alloc, &construct.pattern),
+        QueryForm::Ask(ask) => pattern_keeps(alloc, &ask.pattern),
+    }
+}
+
+/// Whether the query keeps the rules of scope beyond the grammar (SPARQL 1.1 Query, the notes on the grammar in 19.8): of BIND, of
+/// AS in SELECT, of the labels of blank nodes, and of VALUES. The only error is running out of memory.
+#[tactic(auto, unfolding(crate::specs::KeepsScope::query_keeps_scope))]
+pub fn query_keeps_scope(alloc: Global, query: &Query) -> Result<bool, AllocError>
+    ensures { IfOk result (λ b. b ≡ spec.query_keeps_scope query.now) }
+{
+    let trailing = trailing_is_table(alloc, &query.values)?;
+    let form = form_keeps(alloc, &query.form, &query.values)?;
+    Ok(trailing && form)
+}

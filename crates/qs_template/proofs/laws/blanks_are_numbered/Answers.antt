@@ -1,8 +1,0 @@
-use Rattle.qs_template.proofs.Counted.{triples_numbered, blocks_numbered}
-use Rattle.qs_template.proofs.laws.blanks_are_numbered.Goals as goal
-
-pub returns : goal.returns
-returns c = record {
-  triples = triples_numbered;
-  blocks = blocks_numbered;
-}

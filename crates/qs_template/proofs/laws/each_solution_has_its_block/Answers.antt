@@ -1,5 +1,0 @@
-use Rattle.qs_template.proofs.Fresh.{split}
-use Rattle.qs_template.proofs.laws.each_solution_has_its_block.Goals as goal
-
-pub returns : goal.returns
-returns c = split

@@ -1,8 +1,0 @@
-use Rattle.qs_template.proofs.Named.{no_triples, no_blocks}
-use Rattle.qs_template.proofs.laws.templates_name_no_blanks.Goals as goal
-
-pub returns : goal.returns
-returns c = record {
-  triples = no_triples;
-  blocks = no_blocks;
-}
