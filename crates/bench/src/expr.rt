@@ -3,9 +3,9 @@
 use crate::line::line;
 use crate::terms::lawful;
 use crate::timing::{Work, show};
-use qs_beside::{keep_beside, box_pair};
-use qs_expr::{BinaryFunction, Comparison, Expr, holds};
 use qs_algebra_solutions::Row;
+use qs_base::{box_pair, keep_beside};
+use qs_expr::{BinaryFunction, Comparison, Expr, holds};
 use qs_terms::{Term, datatype};
 use sqlite_items::{Boxed, Items};
 use std::alloc::{AllocError, Global};

@@ -3,15 +3,15 @@
 use crate::line::line;
 use crate::texts::Reading;
 use crate::timing::{RUNS, micros};
+use qs_syntax::{parse_query, parse_update, tokens};
 use qs_syntax_ast::query::Query;
 use qs_syntax_ast::update::Update;
 use qs_syntax_resolve::{resolve_query, resolve_update};
 use qs_syntax_scope::{query_keeps_scope, query_variables, update_keeps_scope, update_variables};
-use qs_syntax::{parse_query, parse_update, tokens};
-use qs_terms::QFault;
 use qs_syntax_tree::query::Query as QueryTree;
 use qs_syntax_tree::token::Token;
 use qs_syntax_tree::update::Update as UpdateTree;
+use qs_terms::QFault;
 use sqlite_items::Items;
 use std::alloc::Global;
 use std::io;

@@ -2,9 +2,9 @@
 
 use crate::line::line;
 use crate::timing::{RUNS, micros};
-use qs_store_load::load;
 use qs_query::{Answer, answer};
 use qs_store::Store;
+use qs_store_load::load;
 use qs_terms::QFault;
 use qs_update::update;
 use std::hash::RandomState;

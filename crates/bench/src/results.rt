@@ -2,9 +2,8 @@
 
 use crate::terms::{lawful, text};
 use crate::timing::{Work, show};
-use qs_query_answer::Answer;
+use qs_algebra_solutions::{Answer, Row};
 use qs_results::{json, ntriples};
-use qs_algebra_solutions::Row;
 use qs_terms::{Term, Text};
 use sqlite_items::Items;
 use std::alloc::{AllocError, Global};

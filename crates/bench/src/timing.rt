@@ -3,11 +3,10 @@
 use crate::line::line;
 use crate::texts::Reading;
 use crate::{dict, endpoint, expr, index, nquads, results, texts};
-use qs_query_answer::Answer;
+use qs_algebra_solutions::{Answer, Row};
 use qs_dict::Dict;
 use qs_expr::Expr;
 use qs_index::Index;
-use qs_algebra_solutions::Row;
 use qs_terms::{Quad, Term};
 use std::alloc::Global;
 use std::hash::RandomState;

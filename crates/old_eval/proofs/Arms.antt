@@ -14,8 +14,8 @@ use Rattle.qs_algebra_solutions.specs.Operators as of
 use Rattle.qs_expr.specs.declared.expr.Expr.{Expr}
 use Rattle.qs_algebra_patterns.specs.declared.pattern.BasicPattern.{BasicPattern}
 use Rattle.qs_algebra_patterns.specs.declared.pattern.Table.{Table}
-use Rattle.qs_algebra_patterns.specs.declared.pattern.Pattern.{Pattern}
-use Rattle.qs_algebra_patterns.specs.declared.pattern.Pattern.TheVariants.{Basic, Group, Union, Graph, EachGraph, Values}
+use Rattle.qs_algebra_patterns.specs.declared.pattern.PatternNode.{PatternNode}
+use Rattle.qs_algebra_patterns.specs.declared.pattern.PatternNode.TheVariants.{Basic, Group, Union, Graph, EachGraph, Values}
 use Rattle.qs_algebra_patterns.specs.declared.pattern.Step.{Step}
 use Rattle.qs_algebra_patterns.specs.declared.pattern.Step.TheVariants.{Join, LeftJoin, Minus, Extend}
 use Rattle.qs_algebra_patterns.specs.Basic.{Graph as Triples, basic}
@@ -27,7 +27,7 @@ same_at : (rows xs ys zs : List Solution) → rows ≡ xs → SameBag xs ys → 
 same_at rows xs ys zs e h f =
     subst (λ (l : List Solution). SameBag l zs) (sym e) (subst (λ (l : List Solution). SameBag xs l) (sym f) h)
 
-module _ (width : ℕ) (quads : List Statement) (graph : Triples) (p : Pattern) where
+module _ (width : ℕ) (quads : List Statement) (graph : Triples) (p : PatternNode) where
   pub basic_arm : (b : BasicPattern) (rows : List Solution) → p ≡ Basic b → SameBag rows (basic width b graph) → SameBag rows (eval width quads p graph)
   basic_arm b rows is h = same_at _ _ _ _ refl h (ap (λ q. eval width quads q graph) is ∙ eval_basic width quads graph b)
 
@@ -40,15 +40,15 @@ module _ (width : ℕ) (quads : List Statement) (graph : Triples) (p : Pattern) 
       ∙ (ap (λ l. kept conditions (fold (λ left s. step width quads s graph left) (unbound width ∷ []) l)) (sym e)
       ∙ ap (λ l. kept l (fold (λ left s. step width quads s graph left) (unbound width ∷ []) ss)) (sym f))))
 
-  pub union_arm : (parts ps : List Pattern) (rows : List Solution) → p ≡ Union parts → ps ≡ parts → SameBag rows (flat_map (λ part. eval width quads part graph) ps) → SameBag rows (eval width quads p graph)
+  pub union_arm : (parts ps : List PatternNode) (rows : List Solution) → p ≡ Union parts → ps ≡ parts → SameBag rows (flat_map (λ part. eval width quads part graph) ps) → SameBag rows (eval width quads p graph)
   union_arm parts ps rows is e h =
       same_at _ _ _ _ refl h (ap (λ q. eval width quads q graph) is ∙ (eval_union width quads graph parts ∙ ap (flat_map (λ part. eval width quads part graph)) (sym e)))
 
-  pub graph_arm : (name : Term) (a part : Pattern) (rows : List Solution) → p ≡ Graph name a → part ≡ a → SameBag rows (in_named quads name (eval width quads part)) → SameBag rows (eval width quads p graph)
+  pub graph_arm : (name : Term) (a part : PatternNode) (rows : List Solution) → p ≡ Graph name a → part ≡ a → SameBag rows (in_named quads name (eval width quads part)) → SameBag rows (eval width quads p graph)
   graph_arm name a part rows is e h =
       same_at _ _ _ _ refl h (ap (λ q. eval width quads q graph) is ∙ (eval_graph width quads graph name a ∙ ap (λ q. in_named quads name (eval width quads q)) (sym e)))
 
-  pub each_arm : (v : ℕ) (a part : Pattern) (names : List Term) (rows : List Solution) → p ≡ EachGraph v a → part ≡ a → names ≡ names_of quads → SameBag rows (in_each width quads v (eval width quads part) names) → SameBag rows (eval width quads p graph)
+  pub each_arm : (v : ℕ) (a part : PatternNode) (names : List Term) (rows : List Solution) → p ≡ EachGraph v a → part ≡ a → names ≡ names_of quads → SameBag rows (in_each width quads v (eval width quads part) names) → SameBag rows (eval width quads p graph)
   each_arm v a part names rows is e n h =
       same_at _ _ _ _ refl h
       (ap (λ q. eval width quads q graph) is ∙ (eval_each_graph width quads graph v a
@@ -58,7 +58,7 @@ module _ (width : ℕ) (quads : List Statement) (graph : Triples) (p : Pattern) 
   values_arm table rows is e = same_at _ _ _ _ e (IsPermutation-refl (rows_of width table)) (ap (λ q. eval width quads q graph) is ∙ eval_values width quads graph table)
 
 -- a step over any list that is the same bag as the one that it was made over
-module _ (width : ℕ) (quads : List Statement) (graph : Triples) (s : Step) (part : Pattern) (left right rows xs : List Solution) where
+module _ (width : ℕ) (quads : List Statement) (graph : Triples) (s : Step) (part : PatternNode) (left right rows xs : List Solution) where
   pub join_arm : s ≡ Join part → SameBag right (eval width quads part graph) → rows ≡ of.join left right → SameBag left xs → SameBag rows (step width quads s graph xs)
   join_arm i r e l = same_at _ _ _ _ e (join_same _ _ _ _ l r) (ap (λ q. step width quads q graph xs) i ∙ step_join width quads graph part xs)
 
@@ -88,13 +88,13 @@ step_more f first ss i s rows rows' lt is h more =
     (ap (fold f first) (take_more ss i s lt) ∙ (fold_last f first (take i ss) (get_or ss i s) ∙ ap (f (fold f first (take i ss))) (sym is)))
 
 -- one part more
-pub union_more : (f : Pattern → List Solution) (ps : List Pattern) (i : ℕ) (p : Pattern) (rows more rows' : List Solution) → i < length ps → p ≡ get_or ps i p → SameBag rows (flat_map f (take i ps)) → SameBag more (f p) → rows' ≡ rows ++ more → SameBag rows' (flat_map f (take (i + 1) ps))
+pub union_more : (f : PatternNode → List Solution) (ps : List PatternNode) (i : ℕ) (p : PatternNode) (rows more rows' : List Solution) → i < length ps → p ≡ get_or ps i p → SameBag rows (flat_map f (take i ps)) → SameBag more (f p) → rows' ≡ rows ++ more → SameBag rows' (flat_map f (take (i + 1) ps))
 union_more f ps i p rows more rows' lt is h m e =
     same_at _ _ _ _ e (IsPermutation-append _ _ _ _ h m)
     (ap (flat_map f) (take_more ps i p lt) ∙ (flat_map-append f (take i ps) (get_or ps i p ∷ []) ∙ ap (λ xs. flat_map f (take i ps) ++ xs) (append-nil (f (get_or ps i p)) ∙ ap f (sym is))))
 
 -- one name more
-pub each_more : (width : ℕ) (quads : List Statement) (v : ℕ) (part : Pattern) (ns : List Term) (i : ℕ) (n : Term) (rows inner more rows' : List Solution) → i < length ns → n ≡ get_or ns i n
+pub each_more : (width : ℕ) (quads : List Statement) (v : ℕ) (part : PatternNode) (ns : List Term) (i : ℕ) (n : Term) (rows inner more rows' : List Solution) → i < length ns → n ≡ get_or ns i n
     → SameBag rows (in_each width quads v (eval width quads part) (take i ns)) → SameBag inner (eval width quads part (graph_of quads (Some n))) → more ≡ of.join inner (binding width (v ∷ []) (Some n ∷ []) ∷ []) → rows' ≡ rows ++ more
     → SameBag rows' (in_each width quads v (eval width quads part) (take (i + 1) ns))
 each_more width quads v part ns i n rows inner more rows' lt is h m j e =

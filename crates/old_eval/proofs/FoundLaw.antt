@@ -18,7 +18,7 @@ use Rattle.old_eval.specs.inner.Found.{found}
 use Rattle.old_eval.proofs.Below.{AllBelow}
 use Rattle.old_eval.proofs.AndOr.{and_left, and_right, or_cases, or_first, or_second}
 use Rattle.qs_terms.proofs.Counts.{AnyOf, same_from_once, once-filter}
-use Rattle.old_eval.proofs.Same.{same_solution-Decides, same_triple-Decides}
+use Rattle.qs_algebra_solutions.proofs.Same.{same_solution-Decides, same_triple-Decides}
 use Rattle.old_eval.proofs.Slots.{ReachAt}
 use Rattle.old_eval.proofs.Match.{Good, Values, values_of, in_graph, found_once}
 use Rattle.old_eval.proofs.Maps.{Fits, FitsCell, maps_once}

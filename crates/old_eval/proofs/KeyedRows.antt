@@ -16,7 +16,7 @@ use Rattle.qs_terms.specs.declared.term.Term.{Term}
 use Rattle.qs_terms.specs.Term.{same_term}
 use Rattle.qs_terms.proofs.FirstOnes.{filter-append}
 use Rattle.qs_terms.proofs.SameTerm.{same_term-Decides, eq_is}
-use Rattle.qs_hashed.proofs.Tests.{tells}
+use Rattle.qs_base.proofs.HashTests.{tells}
 use Rattle.qs_terms.specs.contracts.term.TermOrd.TheImpl as ord
 use Rattle.qs_terms.specs.contracts.term.TermOrd.TheImpl.Laws as law
 use Rattle.qs_algebra_solutions.specs.Solution.{Solution, term_at, same_cell, compatible_terms, compatible}

@@ -1,7 +1,6 @@
 pub mod AndOr
 pub mod May
 pub mod Below
-pub mod Same
 pub mod Slots
 pub mod Match
 pub mod Maps
@@ -13,11 +12,8 @@ pub mod Mapped
 pub mod Operators
 pub mod Along
 pub mod Optional
-pub mod Written
 pub mod Arms
-pub mod Known
 pub mod KnownQuads
-pub mod KnownTerms
 pub mod Named
 pub mod LentLaws
 pub mod KeyedRows

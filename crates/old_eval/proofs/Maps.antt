@@ -9,7 +9,7 @@ use Rattle.qs_terms.specs.Bag.{times, Distinct}
 use Rattle.qs_algebra_solutions.specs.Solution.{Solution, same_cell, same_solution}
 use Rattle.qs_algebra_patterns.specs.Basic.{all_maps}
 use Rattle.qs_terms.proofs.Counts.{total, Once, once_like, once_at, once_total, AnyOf, times-flat_map, cond_zero}
-use Rattle.old_eval.proofs.Same.{same_cell-Decides}
+use Rattle.qs_algebra_solutions.proofs.Same.{same_cell-Decides}
 
 -- the variable is one of those that are bound, and then to one of the terms, or it is not bound
 abbrev pub FitsCell : List Term → Bool → Option Term → Type 0

@@ -12,7 +12,7 @@ use Rattle.old_eval.specs.inner.Found.{bound_slot, then_bound, bound_triple, ext
 use Rattle.old_eval.proofs.Below.{SlotBelow, TripleBelow, AllBelow}
 use Rattle.old_eval.proofs.AndOr.{and_left, and_right, and_of, or_cases, or_first, or_second}
 use Rattle.qs_terms.proofs.Counts.{Once, once_like, once_at, once_total, AnyOf, times-flat_map}
-use Rattle.old_eval.proofs.Same.{same_solution-Decides, same_triple-Decides, same_everywhere}
+use Rattle.qs_algebra_solutions.proofs.Same.{same_solution-Decides, same_triple-Decides, same_everywhere}
 use Rattle.old_eval.proofs.Slots.{Reach, ReachAt, Stepped, slot_stepped, slot_stopped}
 
 abbrev Through : Option Solution → (Solution → Option Solution) → Solution → Type 0

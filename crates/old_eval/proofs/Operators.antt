@@ -6,7 +6,7 @@ use Rattle.qs_terms.specs.Bag.{times, SameBag}
 use Rattle.qs_algebra_solutions.specs.Solution.{Solution, same_solution, compatible, merge}
 use Rattle.qs_algebra_solutions.specs.Operators.{merges, join, or_alone, left_join, excludes, minus}
 use Rattle.qs_terms.proofs.Counts.{times-flat_map, times-filter, times-same, total-same, total-ap, same_from_times}
-use Rattle.old_eval.proofs.Same.{same_solution-Decides}
+use Rattle.qs_algebra_solutions.proofs.Same.{same_solution-Decides}
 
 by_times : (xs ys : List Solution) → ((a : Solution) → times same_solution a xs ≡ times same_solution a ys) → SameBag xs ys
 by_times = same_from_times same_solution same_solution-Decides

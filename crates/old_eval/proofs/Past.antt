@@ -15,7 +15,7 @@ use Rattle.qs_algebra_patterns.specs.declared.pattern.Slot.TheVariants as slot
 use Rattle.qs_algebra_patterns.specs.declared.pattern.TriplePattern.{TriplePattern}
 use Rattle.qs_algebra_patterns.specs.Basic.{Graph, value, triple_from, instance, is_in, puts_into, mentions, terms_of, terms_of_triple, all_maps, matches}
 use Rattle.old_eval.specs.inner.Below.{slot_below, triple_below, all_below}
-use Rattle.old_eval.proofs.Same.{same_solution-Decides}
+use Rattle.qs_algebra_solutions.proofs.Same.{same_solution-Decides}
 use Rattle.old_eval.proofs.Maps.{Fits, maps_once}
 use Rattle.old_eval.proofs.FoundLaw.{past_end, fits_wide}
 

@@ -8,8 +8,8 @@ ghost use Rattle.old_eval.specs.inner.Lent.{lent};
 ghost use Rattle.qs_algebra_patterns.specs.Eval as spec;
 
 use crate::keyed::Keyed;
-use qs_expr::{Expr, ExprFault, eval, holds};
 use qs_algebra_solutions::Row;
+use qs_expr::{Expr, ExprFault, eval_terms, holds};
 use std::alloc::{AllocError, Global};
 
 /// Whether all conditions are true in the solution; an error isn't true.
@@ -227,7 +227,7 @@ pub fn bind_value(
 ) -> Result<(), AllocError>
     ensures { OnOk result (row.new ≡ spec.extended variable expr.now row.old) }
 {
-    match eval(alloc, expr, &*row) {
+    match eval_terms(alloc, expr, &*row) {
         Ok(term) => {
             row.bind(variable, term);
             Ok(())

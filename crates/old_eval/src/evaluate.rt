@@ -14,7 +14,7 @@ use crate::basic::solutions_of_basic;
 use crate::conditions::{extended, joined, joined_rows, kept, left_joined, without};
 use crate::names::{is_name, names};
 use crate::quads::Quads;
-use qs_algebra_patterns::{Pattern, Step, Table};
+use qs_algebra_patterns::{PatternNode, Step, Table};
 use qs_algebra_solutions::Row;
 use qs_terms::Term;
 use std::alloc::{AllocError, Global};
@@ -67,32 +67,32 @@ pub fn with_name(
 pub fn solutions(
     alloc: Global,
     width: usize,
-    pattern: &Pattern,
+    pattern: &PatternNode,
     quads: &Quads<'_>,
     graph: Option<&Term>,
 ) -> Result<Vec<Row>, AllocError>
     ensures { IfOk result (λ rows. SameBag rows.items (eval width quads.now pattern.now (graph_of quads.now (option_copied graph.entry)))) }
 {
     match pattern {
-        Pattern::Basic(basic) => {
+        PatternNode::Basic(basic) => {
             // (the quads are lent for as long as the pattern is: its terms may be ends of paths)
             let rows = solutions_of_basic(alloc, width, basic, &*quads, graph)?;
             Ok(rows)
         }
-        Pattern::Group(steps, conditions) => {
+        PatternNode::Group(steps, conditions) => {
             let rows = solutions_of_group(alloc, width, steps.as_slice(), quads, graph)?;
             let rows = kept(alloc, conditions.as_slice(), rows)?;
             Ok(rows)
         }
-        Pattern::Union(parts) => {
+        PatternNode::Union(parts) => {
             let rows = solutions_of_all(alloc, width, parts.as_slice(), quads, graph)?;
             Ok(rows)
         }
-        Pattern::Graph(name, part) => {
+        PatternNode::Graph(name, part) => {
             let rows = solutions_in(alloc, width, name, part.get(), quads)?;
             Ok(rows)
         }
-        Pattern::EachGraph(variable, part) => {
+        PatternNode::EachGraph(variable, part) => {
             let names = names(alloc, quads)?;
             let rows = solutions_in_each(
                 alloc,
@@ -104,7 +104,7 @@ pub fn solutions(
             )?;
             Ok(rows)
         }
-        Pattern::Values(table) => {
+        PatternNode::Values(table) => {
             let rows = solutions_of_table(alloc, width, table)?;
             Ok(rows)
         }
@@ -176,7 +176,7 @@ fn stepped(
 fn solutions_of_all(
     alloc: Global,
     width: usize,
-    parts: &[Pattern],
+    parts: &[PatternNode],
     quads: &Quads<'_>,
     graph: Option<&Term>,
 ) -> Result<Vec<Row>, AllocError>
@@ -196,7 +196,7 @@ fn solutions_in(
     alloc: Global,
     width: usize,
     name: &Term,
-    part: &Pattern,
+    part: &PatternNode,
     quads: &Quads<'_>,
 ) -> Result<Vec<Row>, AllocError>
     ensures { IfOk result (λ rows. SameBag rows.items (in_named quads.now name.now (eval width quads.now part.now))) }
@@ -214,7 +214,7 @@ fn solutions_in_each(
     alloc: Global,
     width: usize,
     variable: usize,
-    part: &Pattern,
+    part: &PatternNode,
     quads: &Quads<'_>,
     names: &[&Term],
 ) -> Result<Vec<Row>, AllocError>

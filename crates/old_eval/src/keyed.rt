@@ -8,8 +8,8 @@ ghost use Rattle.old_eval.specs.inner.Keyed.{is_bound, is_before, is_lower, row_
 ghost use Rattle.old_eval.specs.inner.Keyed.{AreKeyed, BindAlike, IsBoundIn, IsOther, IsPartAt, IsPlaced};
 ghost use Rattle.old_eval.specs.inner.Lent.{lent};
 
-use qs_hashed::Hashed;
 use qs_algebra_solutions::Row;
+use qs_base::Hashed;
 use qs_terms::Term;
 use std::alloc::{AllocError, Global};
 use std::marker::Model;

@@ -9,9 +9,9 @@ ghost use Rattle.qs_algebra_patterns.specs.Basic as spec;
 
 use crate::conditions::joined_rows;
 use crate::quads::Quads;
-use qs_paths::{Edges, Pair, Source, pairs};
 use qs_algebra_patterns::{PathPattern, Slot};
 use qs_algebra_solutions::Row;
+use qs_paths::{Edges, Pair, Source, pairs_of_terms};
 use qs_terms::Term;
 use std::alloc::{AllocError, Global};
 
@@ -97,7 +97,7 @@ fn path_solutions<'a, E: Source>(
 {
     let left = end_of(&pattern.subject);
     let right = end_of(&pattern.object);
-    let pairs = pairs(alloc, edges, pattern.path.get(), left, right)?;
+    let pairs = pairs_of_terms(alloc, edges, pattern.path.get(), left, right)?;
     let rows = rows_of(alloc, width, pattern, pairs.as_slice())?;
     Ok(rows)
 }

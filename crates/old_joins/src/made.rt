@@ -10,9 +10,9 @@ ghost use Rattle.old_joins.specs.Joined.{kept_of, waits};
 
 use crate::stage::Stage;
 use crate::waiting::Waiting;
-use qs_expr::{Expr, holds};
 use old_ops::{Front, Row, are_compatible, merged, share};
 use old_sides::Side;
+use qs_expr::{Expr, holds};
 use qs_store::View;
 use std::alloc::{AllocError, Global};
 

@@ -16,7 +16,7 @@ use Rattle.qs_store.specs.declared.default_graph.DefaultGraph.{DefaultGraph}
 use Rattle.qs_store.specs.declared.default_graph.DefaultGraph.TheVariants.{Stored, Union}
 use Rattle.qs_store.proofs.Members.{nothing, member_of_filter, filter_has}
 use Rattle.old_eval.proofs.GraphLaws.{graph_distinct}
-use Rattle.old_eval.proofs.Same.{same_triple-Decides}
+use Rattle.qs_algebra_solutions.proofs.Same.{same_triple-Decides}
 use Rattle.old_ops.specs.Graph.{is_named, named_graph, active_graph}
 use Rattle.old_ops.proofs.Lists.{map_has, member_of_map, once_has, once_only}
 

@@ -33,7 +33,7 @@ use Rattle.old_eval.specs.inner.Found.{agrees, may_match, bound_slot, then_bound
 use Rattle.old_eval.proofs.AndOr.{and_left, and_right}
 use Rattle.old_eval.proofs.May.{cannot_match}
 use Rattle.old_eval.proofs.Operators.{flat_map_same}
-use Rattle.old_eval.proofs.Same.{same_triple-Decides}
+use Rattle.qs_algebra_solutions.proofs.Same.{same_triple-Decides}
 use Rattle.old_ops.specs.Graph.{IsSeen, active_graph}
 use Rattle.old_ops.specs.Row.{Cells, cell_at, cell_term, row_solution}
 use Rattle.old_ops.specs.Place.{term_slot, slot_of, three, pattern_of}

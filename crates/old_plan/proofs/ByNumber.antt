@@ -11,8 +11,8 @@ use Rattle.qs_algebra_patterns.specs.Basic.{Graph, basic, matches}
 use Rattle.qs_algebra_patterns.specs.Eval.{eval, kept}
 use Rattle.qs_algebra_patterns.specs.declared.pattern.BasicPattern.{BasicPattern}
 use Rattle.qs_algebra_patterns.specs.declared.pattern.TriplePattern.{TriplePattern}
-use Rattle.qs_algebra_patterns.specs.declared.pattern.Pattern.{Pattern}
-use Rattle.qs_algebra_patterns.specs.declared.pattern.Pattern.TheVariants.{Basic, Group}
+use Rattle.qs_algebra_patterns.specs.declared.pattern.PatternNode.{PatternNode}
+use Rattle.qs_algebra_patterns.specs.declared.pattern.PatternNode.TheVariants.{Basic, Group}
 use Rattle.qs_algebra_patterns.specs.declared.pattern.Step.{Step}
 use Rattle.qs_algebra_patterns.specs.declared.pattern.Step.TheVariants.{Join}
 use Rattle.qs_algebra_patterns.proofs.Meaning.{eval_basic}
@@ -33,14 +33,14 @@ none_asked : (xs : List Solution) → kept [] xs ≡ xs
 none_asked [] = refl
 none_asked (x ∷ xs) = ap (λ l. x ∷ l) (none_asked xs)
 
-pub basic_alone : (part : Pattern) (b : BasicPattern) (cs : List Expr) → part ≡ Basic b → b.paths ≡ [] → cs ≡ [] → IsTriplesOf part b cs
+pub basic_alone : (part : PatternNode) (b : BasicPattern) (cs : List Expr) → part ≡ Basic b → b.paths ≡ [] → cs ≡ [] → IsTriplesOf part b cs
 basic_alone part b cs is none e = record {
   paths = none;
   means = λ width quads graph rows h.
       subst (SameBag rows) (ap (λ l. kept l (basic width b graph)) e ∙ (none_asked (basic width b graph) ∙ sym (ap (λ q. eval width quads q graph) is ∙ eval_basic width quads graph b))) h;
 }
 
-pub triples_alone : (part : Pattern) (steps ss : List Step) (conditions cs : List Expr) (b : BasicPattern) → part ≡ Group steps conditions → ss ≡ steps → cs ≡ conditions → ss ≡ Join (Basic b) ∷ [] → b.paths ≡ [] → IsTriplesOf part b cs
+pub triples_alone : (part : PatternNode) (steps ss : List Step) (conditions cs : List Expr) (b : BasicPattern) → part ≡ Group steps conditions → ss ≡ steps → cs ≡ conditions → ss ≡ Join (Basic b) ∷ [] → b.paths ≡ [] → IsTriplesOf part b cs
 triples_alone part steps ss conditions cs b is e f j none = record {
   paths = none;
   means = λ width quads graph rows h. group_alone width quads graph part steps ss conditions cs b rows is e f j none h;

@@ -12,18 +12,18 @@ use Rattle.std.specs.declared.cmp.Ordering.TheVariants.{Less, Equal, Greater}
 use Rattle.std.proofs.lemmas.List.Sorted.{IsPermutation-refl, IsPermutation-sym, IsPermutation-trans, IsPermutation-append_right}
 use Rattle.std.proofs.lemmas.List.{map-append}
 use Rattle.std.specs.Hash as fed
-use Rattle.qs_hashed.specs.Hashed.{hash_of}
-use Rattle.qs_hashed.proofs.Tests as hashed
+use Rattle.qs_base.specs.Hashed.{hash_of}
+use Rattle.qs_base.proofs.HashTests as hashed
 use Rattle.qs_terms.specs.Bag.{SameBag, once, with_new}
 use Rattle.qs_terms.specs.contracts.term.TermHash.TheImpl as hashing
 use Rattle.qs_terms.specs.declared.term.Term.{Term}
 use Rattle.qs_terms.proofs.FirstOnes.{once_with}
 use Rattle.qs_algebra_solutions.specs.Solution.{Solution, projected, same_cell, same_solution}
-use Rattle.old_eval.proofs.KnownTerms.{cmp, tells}
-use Rattle.old_eval.proofs.Same.{same_solution-Decides}
-use Rattle.old_plan.specs.Some.{AreSome, AreSomeDistinct, is_enough}
+use Rattle.qs_algebra_solutions.proofs.TermOrder.{cmp, tells}
+use Rattle.qs_algebra_solutions.proofs.Same.{same_solution-Decides}
+use Rattle.qs_algebra_solutions.specs.Some.{AreSome, AreSomeDistinct, is_enough}
 use Rattle.old_plan.specs.inner.Collected.{Collection, Collects, IsPart, KnowsAll, nothing, with_row, with_rows}
-use Rattle.old_plan.proofs.Known.{knows_more, has_test, new_at}
+use Rattle.qs_algebra_solutions.proofs.KnownKeys.{knows_more, has_test, new_at}
 
 -- ---- the set of the rows
 

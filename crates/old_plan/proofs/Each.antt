@@ -23,7 +23,7 @@ use Rattle.qs_store.proofs.TriplesSaid.{same_number}
 use Rattle.qs_algebra_solutions.specs.Solution.{Solution, binding}
 use Rattle.qs_algebra_solutions.specs.Operators as of
 use Rattle.qs_algebra_patterns.specs.Eval.{Found, eval, in_each}
-use Rattle.qs_algebra_patterns.specs.declared.pattern.Pattern.{Pattern}
+use Rattle.qs_algebra_patterns.specs.declared.pattern.PatternNode.{PatternNode}
 use Rattle.old_eval.proofs.Arms.{each_more}
 use Rattle.old_eval.proofs.Operators.{flat_map_same}
 use Rattle.old_ops.specs.Graph.{active_graph, named_graph}
@@ -139,7 +139,7 @@ map_length : {X Y : Type 0} (f : X → Y) (xs : List X) → length (map f xs) �
 map_length f [] = refl
 map_length f (x ∷ xs) = ap suc (map_length f xs)
 
-pub graph_more : (c : Content) (d : DefaultGraph) (width v : ℕ) (part : Pattern) (ns : List ℕ) (i : ℕ) (name : Term) (rows inner more rows' : List Solution) → i < length ns → term_at c.known (get_or ns i 0) ≡ Some name
+pub graph_more : (c : Content) (d : DefaultGraph) (width v : ℕ) (part : PatternNode) (ns : List ℕ) (i : ℕ) (name : Term) (rows inner more rows' : List Solution) → i < length ns → term_at c.known (get_or ns i 0) ≡ Some name
     → SameBag rows (in_each width c.quads v (eval width c.quads part) (take i (map (term_or c.known) ns))) → SameBag inner (eval width c.quads part (active_graph c d (Graph (get_or ns i 0)))) → more ≡ of.join inner (binding width (v ∷ []) (Some name ∷ []) ∷ []) → rows' ≡ rows ++ more
     → SameBag rows' (in_each width c.quads v (eval width c.quads part) (take (i + 1) (map (term_or c.known) ns)))
 graph_more c d width v part ns i name rows inner more rows' l e h k j m =

@@ -14,8 +14,8 @@ use Rattle.qs_expr.specs.declared.expr.Expr.{Expr}
 use Rattle.qs_algebra_patterns.specs.Basic.{Graph, basic, matches}
 use Rattle.qs_algebra_patterns.specs.Eval.{all_hold, eval, kept, step}
 use Rattle.qs_algebra_patterns.specs.declared.pattern.BasicPattern.{BasicPattern}
-use Rattle.qs_algebra_patterns.specs.declared.pattern.Pattern.{Pattern}
-use Rattle.qs_algebra_patterns.specs.declared.pattern.Pattern.TheVariants.{Basic, Group}
+use Rattle.qs_algebra_patterns.specs.declared.pattern.PatternNode.{PatternNode}
+use Rattle.qs_algebra_patterns.specs.declared.pattern.PatternNode.TheVariants.{Basic, Group}
 use Rattle.qs_algebra_patterns.specs.declared.pattern.TriplePattern.{TriplePattern}
 use Rattle.qs_algebra_patterns.specs.declared.pattern.Step.{Step}
 use Rattle.qs_algebra_patterns.specs.declared.pattern.Step.TheVariants.{Join, LeftJoin, Minus}
@@ -94,14 +94,14 @@ module _ (conditions : List Expr) where
   all_fronts w (x ∷ xs) h = (h.0, all_fronts w xs h.1)
 
 -- the steps that bind no variable anew
-pub join_keeps : (s : Step) (part : Pattern) → s ≡ Join part → KeepsDropped s
+pub join_keeps : (s : Step) (part : PatternNode) → s ≡ Join part → KeepsDropped s
 join_keeps s part is = record {
   keeps = λ width quads graph conditions xs h.
       subst (AllByRecursion (IsDropped conditions)) (sym (ap (λ q. step width quads q graph xs) is ∙ step_join width quads graph part xs))
       (all_flat conditions (of.merges (eval width quads part graph)) (λ a d. all_merged conditions a d (filter (compatible a) (eval width quads part graph))) xs h);
 }
 
-pub left_join_keeps : (s : Step) (part : Pattern) (cs : List Expr) → s ≡ LeftJoin part cs → KeepsDropped s
+pub left_join_keeps : (s : Step) (part : PatternNode) (cs : List Expr) → s ≡ LeftJoin part cs → KeepsDropped s
 left_join_keeps s part cs is = record {
   keeps = λ width quads graph conditions xs h.
       subst (AllByRecursion (IsDropped conditions)) (sym (ap (λ q. step width quads q graph xs) is ∙ step_left_join width quads graph part cs xs))
@@ -109,7 +109,7 @@ left_join_keeps s part cs is = record {
       (λ a d. all_alone conditions a d (filter (all_hold cs) (of.merges (eval width quads part graph) a)) (all_filtered conditions (all_hold cs) (of.merges (eval width quads part graph) a) (all_merged conditions a d (filter (compatible a) (eval width quads part graph))))) xs h);
 }
 
-pub minus_keeps : (s : Step) (part : Pattern) → s ≡ Minus part → KeepsDropped s
+pub minus_keeps : (s : Step) (part : PatternNode) → s ≡ Minus part → KeepsDropped s
 minus_keeps s part is = record {
   keeps = λ width quads graph conditions xs h.
       subst (AllByRecursion (IsDropped conditions)) (sym (ap (λ q. step width quads q graph xs) is ∙ step_minus width quads graph part xs))
@@ -161,7 +161,7 @@ kept_wanted width whole graph conditions b triples found rows all e none t w s k
     (subst (λ xs. SameBag (kept conditions rows) (kept conditions xs)) last (IsPermutation-trans _ _ _ first then))
 
 -- a group that is one basic graph pattern without paths
-pub group_alone : (width : ℕ) (quads : List Statement) (graph : Graph) (p : Pattern) (steps ss : List Step) (conditions cs : List Expr) (b : BasicPattern) (rows : List Solution) → p ≡ Group steps conditions → ss ≡ steps → cs ≡ conditions → ss ≡ Join (Basic b) ∷ [] → b.paths ≡ []
+pub group_alone : (width : ℕ) (quads : List Statement) (graph : Graph) (p : PatternNode) (steps ss : List Step) (conditions cs : List Expr) (b : BasicPattern) (rows : List Solution) → p ≡ Group steps conditions → ss ≡ steps → cs ≡ conditions → ss ≡ Join (Basic b) ∷ [] → b.paths ≡ []
     → SameBag rows (kept cs (basic width b graph)) → SameBag rows (eval width quads p graph)
 group_alone width quads graph p steps ss conditions cs b rows is e f j none h =
     let F : List Solution → Step → List Solution = λ left s. step width quads s graph left in

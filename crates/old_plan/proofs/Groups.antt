@@ -18,9 +18,9 @@ use Rattle.qs_algebra_patterns.specs.Basic.{Graph, basic, matches}
 use Rattle.qs_algebra_patterns.specs.Eval.{all_hold, eval, extended, in_named, in_each, kept as all_kept, step}
 use Rattle.qs_algebra_patterns.specs.declared.pattern.BasicPattern.{BasicPattern}
 use Rattle.qs_algebra_patterns.specs.declared.pattern.TriplePattern.{TriplePattern}
-use Rattle.qs_algebra_patterns.specs.declared.pattern.Pattern.{Pattern}
-use Rattle.qs_algebra_patterns.specs.declared.pattern.Pattern.TheVariants as named
-use Rattle.qs_algebra_patterns.specs.declared.pattern.Pattern.TheVariants.{Basic, Group, Union}
+use Rattle.qs_algebra_patterns.specs.declared.pattern.PatternNode.{PatternNode}
+use Rattle.qs_algebra_patterns.specs.declared.pattern.PatternNode.TheVariants as named
+use Rattle.qs_algebra_patterns.specs.declared.pattern.PatternNode.TheVariants.{Basic, Group, Union}
 use Rattle.qs_algebra_patterns.proofs.Meaning.{eval_basic, step_join}
 use Rattle.qs_algebra_patterns.specs.declared.pattern.Step.{Step}
 use Rattle.qs_algebra_patterns.specs.declared.pattern.Step.TheVariants.{Join, LeftJoin, Minus, Extend}
@@ -35,7 +35,7 @@ use Rattle.old_groups.specs.declared.kept.Kept.TheVariants as kept
 use Rattle.old_groups.specs.declared.stages.Waiting.{Waiting}
 use Rattle.old_groups.proofs.Moves.{coming_before, coming_same}
 use Rattle.old_plan.specs.inner.Groups.{AreKept, IsKept, Took}
-use Rattle.old_plan.specs.Some.{is_enough}
+use Rattle.qs_algebra_solutions.specs.Some.{is_enough}
 use Rattle.old_plan.specs.inner.Collected.{Collection, Collects, IsPart, with_rows}
 use Rattle.old_plan.proofs.Fitted.{basic_is, unit_matches}
 use Rattle.old_plan.proofs.Collecting.{collects_same, left_alike, nothing_left, none_put, one_came, with_rows_more}
@@ -54,14 +54,14 @@ filter_one p (x ∷ xs) = at (p x) (filter_one p xs)
     at false h = h
 
 module _ (width : ℕ) (quads : List Statement) (graph : Graph) (s : Step) where
-  pub join_kept : (part : Pattern) (right : List Solution) → s ≡ Join part → SameBag right (eval width quads part graph) → IsKept (kept.Join right) (step width quads s graph)
+  pub join_kept : (part : PatternNode) (right : List Solution) → s ≡ Join part → SameBag right (eval width quads part graph) → IsKept (kept.Join right) (step width quads s graph)
   join_kept part right is r xs ys h = join_arm width quads graph s part xs right (flat_map (made (kept.Join right)) xs) ys is r refl h
 
-  pub minus_kept : (part : Pattern) (right : List Solution) → s ≡ Minus part → SameBag right (eval width quads part graph) → IsKept (kept.Minus right) (step width quads s graph)
+  pub minus_kept : (part : PatternNode) (right : List Solution) → s ≡ Minus part → SameBag right (eval width quads part graph) → IsKept (kept.Minus right) (step width quads s graph)
   minus_kept part right is r xs ys h =
       minus_arm width quads graph s part xs right (flat_map (made (kept.Minus right)) xs) ys is r (filter_one (λ a. not (list_any (of.excludes a) right)) xs) h
 
-  pub left_join_kept : (part : Pattern) (right : List Solution) (conditions : List Expr) (cs : Bor (List Expr)) → s ≡ LeftJoin part conditions → cs.now ≡ conditions → SameBag right (eval width quads part graph) → IsKept (kept.LeftJoin right cs) (step width quads s graph)
+  pub left_join_kept : (part : PatternNode) (right : List Solution) (conditions : List Expr) (cs : Bor (List Expr)) → s ≡ LeftJoin part conditions → cs.now ≡ conditions → SameBag right (eval width quads part graph) → IsKept (kept.LeftJoin right cs) (step width quads s graph)
   left_join_kept part right conditions cs is f r xs ys h = left_join_arm width quads graph s part xs right (flat_map (made (kept.LeftJoin right cs)) xs) ys conditions cs.now is f r refl h
 
   pub extend_kept : (v : ℕ) (e : Expr) → s ≡ Extend v e → (xs ys : List Solution) → SameBag xs ys → SameBag (flat_map (λ m. extended v e m ∷ []) xs) (step width quads s graph ys)
@@ -294,7 +294,7 @@ module _ (width whole : ℕ) (quads : List Statement) (graph : Graph) (ss rest :
 
 -- ---- patterns of each kind
 
-module _ (width : ℕ) (quads : List Statement) (graph : Graph) (p : Pattern) (old new : Collection) where
+module _ (width : ℕ) (quads : List Statement) (graph : Graph) (p : PatternNode) (old new : Collection) where
   pub some_basic : (b : BasicPattern) → p ≡ Basic b → Collects old new (basic width b graph) → Collects old new (eval width quads p graph)
   some_basic b is h = subst (Collects old new) (sym (ap (λ q. eval width quads q graph) is ∙ eval_basic width quads graph b)) h
 
@@ -303,17 +303,17 @@ module _ (width : ℕ) (quads : List Statement) (graph : Graph) (p : Pattern) (o
       let found : List Solution = fold (λ left s. step width quads s graph left) (unbound width ∷ []) ss in
       collects_same old new (all_kept cs found) (eval width quads p graph) (IsPermutation-sym _ _ (group_arm width quads graph p steps ss conditions cs found (all_kept cs found) is e f (IsPermutation-refl found) refl)) h
 
-  pub some_union : (parts ps : List Pattern) → p ≡ Union parts → ps ≡ parts → Collects old new (flat_map (λ part. eval width quads part graph) ps) → Collects old new (eval width quads p graph)
+  pub some_union : (parts ps : List PatternNode) → p ≡ Union parts → ps ≡ parts → Collects old new (flat_map (λ part. eval width quads part graph) ps) → Collects old new (eval width quads p graph)
   some_union parts ps is e h =
       let found : List Solution = flat_map (λ part. eval width quads part graph) ps in
       collects_same old new found (eval width quads p graph) (IsPermutation-sym _ _ (union_arm width quads graph p parts ps found is e (IsPermutation-refl found))) h
 
-  pub some_graph : (name : Term) (a part : Pattern) → p ≡ named.Graph name a → part ≡ a → Collects old new (in_named quads name (eval width quads part)) → Collects old new (eval width quads p graph)
+  pub some_graph : (name : Term) (a part : PatternNode) → p ≡ named.Graph name a → part ≡ a → Collects old new (in_named quads name (eval width quads part)) → Collects old new (eval width quads p graph)
   some_graph name a part is e h =
       let found : List Solution = in_named quads name (eval width quads part) in
       collects_same old new found (eval width quads p graph) (IsPermutation-sym _ _ (graph_arm width quads graph p name a part found is e (IsPermutation-refl found))) h
 
-  pub some_each : (v : ℕ) (a part : Pattern) → p ≡ named.EachGraph v a → part ≡ a → Collects old new (in_each width quads v (eval width quads part) (names_of quads)) → Collects old new (eval width quads p graph)
+  pub some_each : (v : ℕ) (a part : PatternNode) → p ≡ named.EachGraph v a → part ≡ a → Collects old new (in_each width quads v (eval width quads part) (names_of quads)) → Collects old new (eval width quads p graph)
   some_each v a part is e h =
       let found : List Solution = in_each width quads v (eval width quads part) (names_of quads) in
       collects_same old new found (eval width quads p graph) (IsPermutation-sym _ _ (each_arm width quads graph p v a part (names_of quads) found is e refl (IsPermutation-refl found))) h

@@ -1,4 +1,3 @@
-pub mod Known
 pub mod Collecting
 pub mod Each
 pub mod Fitted

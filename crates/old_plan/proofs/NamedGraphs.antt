@@ -18,10 +18,10 @@ use Rattle.qs_algebra_solutions.specs.Operators.{merges}
 use Rattle.qs_algebra_solutions.specs.Solution.{Solution, binding}
 use Rattle.qs_algebra_solutions.specs.Operators as of
 use Rattle.qs_algebra_patterns.specs.Eval.{Found, eval, in_each}
-use Rattle.qs_algebra_patterns.specs.declared.pattern.Pattern.{Pattern}
+use Rattle.qs_algebra_patterns.specs.declared.pattern.PatternNode.{PatternNode}
 use Rattle.old_eval.proofs.Operators.{flat_map_same}
 use Rattle.old_ops.specs.Graph.{active_graph}
-use Rattle.old_plan.specs.Some.{is_enough, AreSome}
+use Rattle.qs_algebra_solutions.specs.Some.{is_enough, AreSome}
 use Rattle.old_plan.specs.inner.Collected.{Collection, Collects, with_row, with_rows}
 use Rattle.old_plan.specs.inner.EachGraph.{named, in_one}
 use Rattle.old_plan.proofs.Collecting.{collects_same, plain}
@@ -55,7 +55,7 @@ enough_behind : (m : ℕ) (xs ys : List Solution) → nat_le m (length ys) ≡ t
 enough_behind m xs ys h = grind (arith, length-append)
 
 -- solutions in a graph, joined with the one that binds the variable to its name
-module _ (c : Content) (d : DefaultGraph) (width v n : ℕ) (part : Pattern) (name : Term) (is : term_at c.known n ≡ Some name) where
+module _ (c : Content) (d : DefaultGraph) (width v n : ℕ) (part : PatternNode) (name : Term) (is : term_at c.known n ≡ Some name) where
   abbrev name_all : List Solution → List Solution
   name_all l = of.join l (binding width (v ∷ []) (Some name ∷ []) ∷ [])
 

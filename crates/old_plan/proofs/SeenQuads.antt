@@ -21,13 +21,13 @@ use Rattle.qs_algebra_solutions.specs.Solution.{Solution, binding}
 use Rattle.qs_algebra_solutions.specs.Operators as of
 use Rattle.qs_algebra_patterns.specs.Basic.{Graph as Triples}
 use Rattle.qs_algebra_patterns.specs.Eval.{Found, Stepped, eval, eval_level, step_level, in_each}
-use Rattle.qs_algebra_patterns.specs.declared.pattern.Pattern.{Pattern, fold-Pattern}
-use Rattle.qs_algebra_patterns.specs.declared.pattern.Pattern.TheOpen.{Pattern-F, Basic, Group, Union as Unite, Graph, EachGraph, Values}
+use Rattle.qs_algebra_patterns.specs.declared.pattern.PatternNode.{PatternNode, fold-PatternNode}
+use Rattle.qs_algebra_patterns.specs.declared.pattern.PatternNode.TheOpen.{PatternNode-F, Basic, Group, Union as Unite, Graph, EachGraph, Values}
 use Rattle.old_eval.proofs.Named.{is_named as is_named_by}
 use Rattle.old_ops.specs.Graph.{active_graph, is_named as has_name}
 use Rattle.old_plan.specs.inner.Graphs.{IsGraphNamed}
 use Rattle.old_plan.specs.inner.Collected.{Collection, Collects}
-use Rattle.old_plan.specs.Seen.{seen, seen_of}
+use Rattle.qs_store.specs.Visible.{visible, visible_quads}
 
 -- ---- the elements of a list, each once
 
@@ -99,7 +99,7 @@ all_apart (q ∷ quads) rest = at (is_named q) refl (all_apart quads rest)
     at true e k = (has_no_name q rest e, k)
     at false e k = k
 
-union_is : (quads : List Statement) → Distinct same_statement quads → once same_statement (seen Union quads) ≡ named quads ++ once same_statement (merged quads)
+union_is : (quads : List Statement) → Distinct same_statement quads → once same_statement (visible Union quads) ≡ named quads ++ once same_statement (merged quads)
 union_is quads d = once_append same_statement (named quads) (merged quads) (distinct_of_kept same_statement is_named quads d) (all_apart quads (named quads))
 
 -- ---- graphs of what is seen
@@ -220,17 +220,17 @@ named_same (q ∷ quads) = rw (names_agree q.graph) (by (has_name q.graph) (name
 -- ---- what is seen
 
 module _ (c : Content) (lawful : IsContent c) where
-  stored_is : seen_of c Stored ≡ c.quads
+  stored_is : visible_quads c Stored ≡ c.quads
   stored_is = once_all same_statement c.quads lawful.quads_once
 
-  union_seen : seen_of c Union ≡ named c.quads ++ once same_statement (merged c.quads)
+  union_seen : visible_quads c Union ≡ named c.quads ++ once same_statement (merged c.quads)
   union_seen = union_is c.quads lawful.quads_once
 
   rest_default : AllDefault (once same_statement (merged c.quads))
   rest_default = default_once (merged c.quads) (default_merged (named c.quads))
 
   -- the named graphs are the same
-  pub graph_seen : (d : DefaultGraph) (n : Term) → graph_of (seen_of c d) (Some n) ≡ graph_of c.quads (Some n)
+  pub graph_seen : (d : DefaultGraph) (n : Term) → graph_of (visible_quads c d) (Some n) ≡ graph_of c.quads (Some n)
   graph_seen Stored n = ap (λ (l : List Statement). graph_of l (Some n)) stored_is
   graph_seen Union n =
       ap (λ (l : List Statement). graph_of l (Some n)) union_seen
@@ -239,7 +239,7 @@ module _ (c : Content) (lawful : IsContent c) where
       ∙ (ap (λ l. filter (λ (q : Statement). same_graph q.graph (Some n)) (named c.quads) ++ l) (none_has_name n (once same_statement (merged c.quads)) rest_default)
       ∙ (append-nil (filter (λ (q : Statement). same_graph q.graph (Some n)) (named c.quads)) ∙ named_kept n c.quads)))
 
-  pub names_seen : (d : DefaultGraph) → names_of (seen_of c d) ≡ names_of c.quads
+  pub names_seen : (d : DefaultGraph) → names_of (visible_quads c d) ≡ names_of c.quads
   names_seen Stored = ap names_of stored_is
   names_seen Union =
       ap names_of union_seen
@@ -249,7 +249,7 @@ module _ (c : Content) (lawful : IsContent c) where
       ∙ (append-nil (filter_map (λ (q : Statement). q.graph) (named c.quads)) ∙ names_kept c.quads)))
 
   -- and the default graph is the one that is read
-  pub default_seen : (d : DefaultGraph) → graph_of (seen_of c d) None ≡ active_graph c d Default
+  pub default_seen : (d : DefaultGraph) → graph_of (visible_quads c d) None ≡ active_graph c d Default
   default_seen Stored = ap (λ (l : List Statement). graph_of l None) stored_is
   default_seen Union =
       ap (λ (l : List Statement). graph_of l None) union_seen
@@ -262,26 +262,26 @@ module _ (c : Content) (lawful : IsContent c) where
   if_same : {X : Type 0} (a b : Bool) (x y z : X) → a ≡ b → x ≡ y → (if a then x else z) ≡ (if b then y else z)
   if_same a b x y z e f = rw (e, f) refl
 
-  each_seen : (width : ℕ) (d : DefaultGraph) (v : ℕ) (part : Found) (names : List Term) → in_each width (seen_of c d) v part names ≡ in_each width c.quads v part names
+  each_seen : (width : ℕ) (d : DefaultGraph) (v : ℕ) (part : Found) (names : List Term) → in_each width (visible_quads c d) v part names ≡ in_each width c.quads v part names
   each_seen width d v part [] = refl
   each_seen width d v part (n ∷ names) =
-      ap (λ l. l ++ in_each width (seen_of c d) v part names) (ap (λ g. of.join (part g) (binding width (v ∷ []) (Some n ∷ []) ∷ [])) (graph_seen d n))
+      ap (λ l. l ++ in_each width (visible_quads c d) v part names) (ap (λ g. of.join (part g) (binding width (v ∷ []) (Some n ∷ []) ∷ [])) (graph_seen d n))
       ∙ ap (λ l. of.join (part (graph_of c.quads (Some n))) (binding width (v ∷ []) (Some n ∷ []) ∷ []) ++ l) (each_seen width d v part names)
 
-  level_seen : (width : ℕ) (d : DefaultGraph) (p : Pattern-F Found Stepped) (graph : Triples) → eval_level width (seen_of c d) p graph ≡ eval_level width c.quads p graph
+  level_seen : (width : ℕ) (d : DefaultGraph) (p : PatternNode-F Found Stepped) (graph : Triples) → eval_level width (visible_quads c d) p graph ≡ eval_level width c.quads p graph
   level_seen width d (Basic pattern) graph = refl
   level_seen width d (Group steps conditions) graph = refl
   level_seen width d (Unite parts) graph = refl
   level_seen width d (Graph name part) graph =
-      if_same (list_any (same_term name) (names_of (seen_of c d))) (list_any (same_term name) (names_of c.quads)) (part (graph_of (seen_of c d) (Some name))) (part (graph_of c.quads (Some name))) []
+      if_same (list_any (same_term name) (names_of (visible_quads c d))) (list_any (same_term name) (names_of c.quads)) (part (graph_of (visible_quads c d) (Some name))) (part (graph_of c.quads (Some name))) []
       (ap (list_any (same_term name)) (names_seen d)) (ap part (graph_seen d name))
-  level_seen width d (EachGraph v part) graph = each_seen width d v part (names_of (seen_of c d)) ∙ ap (in_each width c.quads v part) (names_seen d)
+  level_seen width d (EachGraph v part) graph = each_seen width d v part (names_of (visible_quads c d)) ∙ ap (in_each width c.quads v part) (names_seen d)
   level_seen width d (Values table) graph = refl
 
   -- so a pattern means the same
-  pub eval_seen : (width : ℕ) (d : DefaultGraph) (p : Pattern) (graph : Triples) → eval width (seen_of c d) p graph ≡ eval width c.quads p graph
+  pub eval_seen : (width : ℕ) (d : DefaultGraph) (p : PatternNode) (graph : Triples) → eval width (visible_quads c d) p graph ≡ eval width c.quads p graph
   eval_seen width d p graph =
-      ap (λ (level : Pattern-F Found Stepped → Found). fold-Pattern Found Stepped level step_level p graph) (fun_ext (λ q. fun_ext (λ g. level_seen width d q g)))
+      ap (λ (level : PatternNode-F Found Stepped → Found). fold-PatternNode Found Stepped level step_level p graph) (fun_ext (λ q. fun_ext (λ g. level_seen width d q g)))
 
 -- ---- the graph of a name
 
@@ -293,7 +293,7 @@ none_kept_in n (q ∷ quads) h =
 
 -- the graph that is active is that of the name, or the default graph
 abbrev pub IsActiveFor : Content → DefaultGraph → Option Term → Active → Type 0
-IsActiveFor c d name active = active_graph c d active ≡ graph_of (seen_of c d) name
+IsActiveFor c d name active = active_graph c d active ≡ graph_of (visible_quads c d) name
 
 pub active_default : (c : Content) → IsContent c → (d : DefaultGraph) → IsActiveFor c d None Default
 active_default c lawful d = sym (default_seen c lawful d)
@@ -310,11 +310,11 @@ active_none c lawful d name o h e =
 
 -- ---- solutions
 
-pub solutions_are_seen : (c : Content) → IsContent c → (d : DefaultGraph) (width : ℕ) (p : Pattern) (name : Option Term) (active : Active) (rows : List Solution) → IsActiveFor c d name active → SameBag rows (eval width c.quads p (active_graph c d active)) → SameBag rows (eval width (seen_of c d) p (graph_of (seen_of c d) name))
+pub solutions_are_seen : (c : Content) → IsContent c → (d : DefaultGraph) (width : ℕ) (p : PatternNode) (name : Option Term) (active : Active) (rows : List Solution) → IsActiveFor c d name active → SameBag rows (eval width c.quads p (active_graph c d active)) → SameBag rows (eval width (visible_quads c d) p (graph_of (visible_quads c d) name))
 solutions_are_seen c lawful d width p name active rows h k =
-    subst (SameBag rows) (ap (eval width c.quads p) h ∙ sym (eval_seen c lawful width d p (graph_of (seen_of c d) name))) k
+    subst (SameBag rows) (ap (eval width c.quads p) h ∙ sym (eval_seen c lawful width d p (graph_of (visible_quads c d) name))) k
 
 -- and those that are collected
-pub collected_are_seen : (c : Content) → IsContent c → (d : DefaultGraph) (width : ℕ) (p : Pattern) (name : Option Term) (active : Active) (old new : Collection) → IsActiveFor c d name active → Collects old new (eval width c.quads p (active_graph c d active)) → Collects old new (eval width (seen_of c d) p (graph_of (seen_of c d) name))
+pub collected_are_seen : (c : Content) → IsContent c → (d : DefaultGraph) (width : ℕ) (p : PatternNode) (name : Option Term) (active : Active) (old new : Collection) → IsActiveFor c d name active → Collects old new (eval width c.quads p (active_graph c d active)) → Collects old new (eval width (visible_quads c d) p (graph_of (visible_quads c d) name))
 collected_are_seen c lawful d width p name active old new h k =
-    subst (Collects old new) (ap (eval width c.quads p) h ∙ sym (eval_seen c lawful width d p (graph_of (seen_of c d) name))) k
+    subst (Collects old new) (ap (eval width c.quads p) h ∙ sym (eval_seen c lawful width d p (graph_of (visible_quads c d) name))) k

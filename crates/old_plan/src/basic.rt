@@ -10,12 +10,12 @@ ghost use Rattle.old_plan.specs.inner.Collected.{Collects};
 
 use crate::collected::{Collected, put_all};
 use old_eval::kept;
-use qs_expr::Expr;
 use old_ops::{Matches, solution};
+use old_view_paths::with_paths;
 use qs_algebra_patterns::{BasicPattern, TriplePattern};
 use qs_algebra_solutions::Row;
+use qs_expr::Expr;
 use qs_store::{Active, View};
-use old_view_paths::with_paths;
 use std::alloc::{AllocError, Global};
 
 /// Collects the solutions of the matches that are left, with the first variables alone: all, or as many as suffice.

@@ -4,11 +4,11 @@ ghost use Rattle.std.specs.Prelude.{◌≡◌, [], ◌∷◌, ◌++◌, length, 
 ghost use Rattle.std.specs.Option.{option_copied};
 ghost use Rattle.qs_terms.specs.Bag.{with_new};
 ghost use Rattle.qs_algebra_solutions.specs.Solution.{projected, same_solution};
-ghost use Rattle.old_plan.specs.Some.{is_enough};
+ghost use Rattle.qs_algebra_solutions.specs.Some.{is_enough};
 ghost use Rattle.old_plan.specs.inner.Collected.{Collects, KnowsAll, nothing, with_rows};
 
-use qs_hashed::Hashed;
 use qs_algebra_solutions::Row;
+use qs_base::Hashed;
 use qs_terms::Term;
 use std::alloc::{AllocError, Global};
 use std::collections::BTreeSet;

@@ -13,7 +13,7 @@ use crate::basic::{solutions_of_basic, solutions_under};
 use crate::graphs::{graph_named, graphs, name_of};
 use crate::group::triples_only;
 use old_eval::{extended, joined_rows, kept, left_joined, solutions_of_table, with_name, without};
-use qs_algebra_patterns::{Pattern, Step};
+use qs_algebra_patterns::{PatternNode, Step};
 use qs_algebra_solutions::Row;
 use qs_store::{Active, View};
 use qs_terms::Term;
@@ -25,18 +25,18 @@ use std::alloc::{AllocError, Global};
 pub fn solutions<V: View>(
     alloc: Global,
     width: usize,
-    pattern: &Pattern,
+    pattern: &PatternNode,
     view: &V,
     active: Active,
 ) -> Result<Vec<Row>, AllocError>
     ensures { IfOk result (λ rows. SameBag rows.items (eval width (V.content view.now).quads pattern.now (active_graph (V.content view.now) (V.default_seen view.now) active))) }
 {
     match pattern {
-        Pattern::Basic(basic) => {
+        PatternNode::Basic(basic) => {
             let rows = solutions_of_basic(alloc, width, basic, view, active)?;
             Ok(rows)
         }
-        Pattern::Group(steps, conditions) => {
+        PatternNode::Group(steps, conditions) => {
             if let Some(basic) = triples_only(steps.as_slice()) {
                 let conditions = conditions.as_slice();
                 let rows = solutions_under(alloc, width, basic, conditions, view, active)?;
@@ -46,19 +46,19 @@ pub fn solutions<V: View>(
             let rows = kept(alloc, conditions.as_slice(), rows)?;
             Ok(rows)
         }
-        Pattern::Union(parts) => {
+        PatternNode::Union(parts) => {
             let rows = solutions_of_all(alloc, width, parts.as_slice(), view, active)?;
             Ok(rows)
         }
-        Pattern::Values(table) => {
+        PatternNode::Values(table) => {
             let rows = solutions_of_table(alloc, width, table)?;
             Ok(rows)
         }
-        Pattern::Graph(name, part) => {
+        PatternNode::Graph(name, part) => {
             let rows = solutions_in(alloc, width, name, part.get(), view)?;
             Ok(rows)
         }
-        Pattern::EachGraph(variable, part) => {
+        PatternNode::EachGraph(variable, part) => {
             let graphs = graphs(view)?;
             let rows = solutions_in_each(
                 alloc,
@@ -138,7 +138,7 @@ pub(crate) fn stepped<V: View>(
 fn solutions_of_all<V: View>(
     alloc: Global,
     width: usize,
-    parts: &[Pattern],
+    parts: &[PatternNode],
     view: &V,
     active: Active,
 ) -> Result<Vec<Row>, AllocError>
@@ -158,7 +158,7 @@ fn solutions_in<V: View>(
     alloc: Global,
     width: usize,
     name: &Term,
-    part: &Pattern,
+    part: &PatternNode,
     view: &V,
 ) -> Result<Vec<Row>, AllocError>
     ensures { IfOk result (λ rows. SameBag rows.items (in_named (V.content view.now).quads name.now (eval width (V.content view.now).quads part.now))) }
@@ -178,7 +178,7 @@ fn solutions_in_each<V: View>(
     alloc: Global,
     width: usize,
     variable: usize,
-    part: &Pattern,
+    part: &PatternNode,
     view: &V,
     graphs: &[u32],
 ) -> Result<Vec<Row>, AllocError>

@@ -6,7 +6,7 @@ ghost use Rattle.qs_terms.specs.Bag.{SameBag};
 ghost use Rattle.qs_algebra_solutions.specs.Solution.{Solution, unbound};
 ghost use Rattle.qs_algebra_patterns.specs.Basic.{matches};
 ghost use Rattle.qs_algebra_patterns.specs.Eval.{step, kept};
-ghost use Rattle.qs_algebra_patterns.specs.declared.pattern.Pattern.TheVariants.{Basic};
+ghost use Rattle.qs_algebra_patterns.specs.declared.pattern.PatternNode.TheVariants.{Basic};
 ghost use Rattle.qs_algebra_patterns.specs.declared.pattern.Step.TheVariants.{Join};
 ghost use Rattle.old_groups.specs.Stages.{ahead, before, coming, kept_of, through};
 ghost use Rattle.old_joins.specs.Joined.{kept_of as number_step};
@@ -18,12 +18,12 @@ ghost use Rattle.old_plan.specs.inner.Groups.{AreKept, IsKept, IsOver, KeepsDrop
 use crate::collected::Collected;
 use crate::evaluate::{solutions, stepped};
 use crate::numbers::{put_filter, put_variables, stages_of};
-use qs_expr::Expr;
 use old_groups::{Kept, Stage, Waiting, next_of, put_all, staged};
 use old_joins::Joined;
 use old_ops::{Matches, solution};
-use qs_algebra_patterns::{BasicPattern, Pattern, Step, TriplePattern};
+use qs_algebra_patterns::{BasicPattern, PatternNode, Step, TriplePattern};
 use qs_algebra_solutions::Row;
+use qs_expr::Expr;
 use qs_store::{Active, View};
 use sqlite_items::Items;
 use std::alloc::{AllocError, Global};
@@ -343,7 +343,7 @@ fn triples_alone(one: &Step) -> Option<&BasicPattern>
     let Step::Join(part) = one else {
         return None;
     };
-    let Pattern::Basic(basic) = part else {
+    let PatternNode::Basic(basic) = part else {
         return None;
     };
     if !basic.paths.is_empty() {

@@ -14,11 +14,11 @@ ghost use Rattle.old_ops.specs.Row.{front, front_solution};
 ghost use Rattle.old_plan.specs.inner.Groups.{AreKept, IsKept, IsTriplesOf};
 
 use crate::group::triples_only;
-use qs_expr::Expr;
 use old_joins::{Joined, Stage};
 use old_ops::{Matches, Row};
-use qs_algebra_patterns::{BasicPattern, Pattern, Slot, Step, TriplePattern};
 use old_sides::Side;
+use qs_algebra_patterns::{BasicPattern, PatternNode, Slot, Step, TriplePattern};
+use qs_expr::Expr;
 use qs_store::{Active, View};
 use std::alloc::{AllocError, Global};
 
@@ -30,11 +30,11 @@ struct Triples<'p> {
 }
 
 /// The triple patterns and conditions that the pattern is, if it is nothing else.
-fn triples_of(part: &Pattern) -> Option<Triples<'_>>
+fn triples_of(part: &PatternNode) -> Option<Triples<'_>>
     ensures { IfSome result (λ t. IsTriplesOf part.now t.basic.now t.conditions.now) }
 {
     match part {
-        Pattern::Basic(basic) => {
+        PatternNode::Basic(basic) => {
             if !basic.paths.is_empty() {
                 return None;
             }
@@ -43,7 +43,7 @@ fn triples_of(part: &Pattern) -> Option<Triples<'_>>
                 conditions: &[],
             })
         }
-        Pattern::Group(steps, conditions) => {
+        PatternNode::Group(steps, conditions) => {
             let basic = triples_only(steps.as_slice())?;
             Some(Triples {
                 basic,
@@ -134,7 +134,7 @@ fn side<V: View>(
 fn side_of<V: View>(
     alloc: Global,
     width: usize,
-    part: &Pattern,
+    part: &PatternNode,
     likely: &mut Vec<usize>,
     view: &V,
     active: Active,

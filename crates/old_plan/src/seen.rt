@@ -6,14 +6,14 @@ ghost use Rattle.qs_terms.specs.Bag.{SameBag};
 ghost use Rattle.qs_terms.specs.Dataset.{graph_of};
 ghost use Rattle.qs_algebra_patterns.specs.Eval.{eval};
 ghost use Rattle.old_ops.specs.Graph.{active_graph};
-ghost use Rattle.old_plan.specs.Seen.{seen_of};
-ghost use Rattle.old_plan.specs.Some.{AreSome, AreSomeDistinct};
+ghost use Rattle.qs_store.specs.Visible.{visible_quads};
+ghost use Rattle.qs_algebra_solutions.specs.Some.{AreSome, AreSomeDistinct};
 
 use crate::collected::Collected;
 use crate::evaluate::solutions;
 use crate::graphs::graph_named;
 use crate::some::collect;
-use qs_algebra_patterns::Pattern;
+use qs_algebra_patterns::PatternNode;
 use qs_algebra_solutions::Row;
 use qs_store::{Active, View};
 use qs_terms::Term;
@@ -21,7 +21,7 @@ use std::alloc::{AllocError, Global};
 
 /// Which graph is active: the one of this name, or the default graph where none is given.
 fn active_of<V: View>(view: &V, name: Option<&Term>) -> Active
-    ensures { active_graph (V.content view.now) (V.default_seen view.now) result ≡ graph_of (seen_of (V.content view.now) (V.default_seen view.now)) (option_copied name.entry) }
+    ensures { active_graph (V.content view.now) (V.default_seen view.now) result ≡ graph_of (visible_quads (V.content view.now) (V.default_seen view.now)) (option_copied name.entry) }
 {
     let _count = view.count();
     let Some(name) = name else {
@@ -38,11 +38,11 @@ fn active_of<V: View>(view: &V, name: Option<&Term>) -> Active
 pub fn solutions_seen<V: View>(
     alloc: Global,
     width: usize,
-    pattern: &Pattern,
+    pattern: &PatternNode,
     view: &V,
     name: Option<&Term>,
 ) -> Result<Vec<Row>, AllocError>
-    ensures { IfOk result (λ rows. SameBag rows.items (eval width (seen_of (V.content view.now) (V.default_seen view.now)) pattern.now (graph_of (seen_of (V.content view.now) (V.default_seen view.now)) (option_copied name.entry)))) }
+    ensures { IfOk result (λ rows. SameBag rows.items (eval width (visible_quads (V.content view.now) (V.default_seen view.now)) pattern.now (graph_of (visible_quads (V.content view.now) (V.default_seen view.now)) (option_copied name.entry)))) }
 {
     let _count = view.count();
     let active = active_of(view, name);
@@ -54,12 +54,12 @@ pub fn solutions_seen<V: View>(
 pub fn some_solutions_seen<V: View>(
     alloc: Global,
     width: usize,
-    pattern: &Pattern,
+    pattern: &PatternNode,
     view: &V,
     name: Option<&Term>,
     most: Option<u64>,
 ) -> Result<Vec<Row>, AllocError>
-    ensures { IfOk result (λ rows. AreSome most rows.items (eval width (seen_of (V.content view.now) (V.default_seen view.now)) pattern.now (graph_of (seen_of (V.content view.now) (V.default_seen view.now)) (option_copied name.entry)))) }
+    ensures { IfOk result (λ rows. AreSome most rows.items (eval width (visible_quads (V.content view.now) (V.default_seen view.now)) pattern.now (graph_of (visible_quads (V.content view.now) (V.default_seen view.now)) (option_copied name.entry)))) }
 {
     let _count = view.count();
     let active = active_of(view, name);
@@ -73,13 +73,13 @@ pub fn some_solutions_seen<V: View>(
 pub fn distinct_solutions_seen<V: View>(
     alloc: Global,
     width: usize,
-    pattern: &Pattern,
+    pattern: &PatternNode,
     view: &V,
     name: Option<&Term>,
     columns: &[usize],
     most: Option<u64>,
 ) -> Result<Vec<Row>, AllocError>
-    ensures { IfOk result (λ rows. AreSomeDistinct columns.now most rows.items (eval width (seen_of (V.content view.now) (V.default_seen view.now)) pattern.now (graph_of (seen_of (V.content view.now) (V.default_seen view.now)) (option_copied name.entry)))) }
+    ensures { IfOk result (λ rows. AreSomeDistinct columns.now most rows.items (eval width (visible_quads (V.content view.now) (V.default_seen view.now)) pattern.now (graph_of (visible_quads (V.content view.now) (V.default_seen view.now)) (option_copied name.entry)))) }
 {
     let _count = view.count();
     let active = active_of(view, name);

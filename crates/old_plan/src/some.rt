@@ -7,7 +7,7 @@ ghost use Rattle.qs_terms.specs.Dataset.{names_of};
 ghost use Rattle.qs_algebra_patterns.specs.Eval.{eval, in_named, in_each};
 ghost use Rattle.qs_store.specs.Graphs.{AreGraphs, IsGraph};
 ghost use Rattle.old_ops.specs.Graph.{active_graph};
-ghost use Rattle.old_plan.specs.Some.{is_enough, AreSome};
+ghost use Rattle.qs_algebra_solutions.specs.Some.{is_enough, AreSome};
 ghost use Rattle.old_plan.specs.inner.EachGraph.{in_one};
 ghost use Rattle.old_plan.specs.inner.Collected.{Collects};
 
@@ -17,7 +17,7 @@ use crate::evaluate::solutions;
 use crate::graphs::{graph_named, graphs, name_of};
 use crate::group::collect_group;
 use old_eval::with_name;
-use qs_algebra_patterns::Pattern;
+use qs_algebra_patterns::PatternNode;
 use qs_algebra_solutions::Row;
 use qs_store::{Active, View};
 use qs_terms::Term;
@@ -27,7 +27,7 @@ use std::alloc::{AllocError, Global};
 fn collect_one<V: View>(
     alloc: Global,
     width: usize,
-    pattern: &Pattern,
+    pattern: &PatternNode,
     view: &V,
     active: Active,
     found: &mut Collected<'_>,
@@ -35,8 +35,8 @@ fn collect_one<V: View>(
     ensures { OnOk result (Collects found.old found.new (eval width (V.content view.now).quads pattern.now (active_graph (V.content view.now) (V.default_seen view.now) active))) }
 {
     match pattern {
-        Pattern::Basic(basic) => collect_basic(alloc, width, basic, view, active, found),
-        Pattern::Group(steps, conditions) => {
+        PatternNode::Basic(basic) => collect_basic(alloc, width, basic, view, active, found),
+        PatternNode::Group(steps, conditions) => {
             let steps = steps.as_slice();
             let conditions = conditions.as_slice();
             collect_group(alloc, width, steps, conditions, view, active, found)
@@ -52,7 +52,7 @@ fn collect_one<V: View>(
 fn collect_all<V: View>(
     alloc: Global,
     width: usize,
-    parts: &[Pattern],
+    parts: &[PatternNode],
     view: &V,
     active: Active,
     found: &mut Collected<'_>,
@@ -73,7 +73,7 @@ fn collect_in_graph<V: View>(
     alloc: Global,
     width: usize,
     name: &Term,
-    part: &Pattern,
+    part: &PatternNode,
     view: &V,
     found: &mut Collected<'_>,
 ) -> Result<(), AllocError>
@@ -89,7 +89,7 @@ fn collect_in_graph<V: View>(
 fn some_of<V: View>(
     alloc: Global,
     width: usize,
-    pattern: &Pattern,
+    pattern: &PatternNode,
     view: &V,
     active: Active,
     most: Option<u64>,
@@ -106,7 +106,7 @@ fn all_named<V: View>(
     alloc: Global,
     width: usize,
     variable: usize,
-    part: &Pattern,
+    part: &PatternNode,
     view: &V,
     number: u32,
 ) -> Result<Vec<Row>, AllocError>
@@ -134,7 +134,7 @@ fn some_named<V: View>(
     alloc: Global,
     width: usize,
     variable: usize,
-    part: &Pattern,
+    part: &PatternNode,
     view: &V,
     number: u32,
     most: Option<u64>,
@@ -157,7 +157,7 @@ fn collect_in_one<V: View>(
     alloc: Global,
     width: usize,
     variable: usize,
-    part: &Pattern,
+    part: &PatternNode,
     view: &V,
     number: u32,
     found: &mut Collected<'_>,
@@ -175,7 +175,7 @@ fn collect_in_each<V: View>(
     alloc: Global,
     width: usize,
     variable: usize,
-    part: &Pattern,
+    part: &PatternNode,
     view: &V,
     graphs: &[u32],
     found: &mut Collected<'_>,
@@ -199,7 +199,7 @@ fn collect_named<V: View>(
     alloc: Global,
     width: usize,
     variable: usize,
-    part: &Pattern,
+    part: &PatternNode,
     view: &V,
     found: &mut Collected<'_>,
 ) -> Result<(), AllocError>
@@ -213,7 +213,7 @@ fn collect_named<V: View>(
 pub(crate) fn collect<V: View>(
     alloc: Global,
     width: usize,
-    pattern: &Pattern,
+    pattern: &PatternNode,
     view: &V,
     active: Active,
     found: &mut Collected<'_>,
@@ -221,9 +221,23 @@ pub(crate) fn collect<V: View>(
     ensures { OnOk result (Collects found.old found.new (eval width (V.content view.now).quads pattern.now (active_graph (V.content view.now) (V.default_seen view.now) active))) }
 {
     match pattern {
-        Pattern::Union(parts) => collect_all(alloc, width, parts.as_slice(), view, active, found),
-        Pattern::Graph(name, part) => collect_in_graph(alloc, width, name, part.get(), view, found),
-        Pattern::EachGraph(variable, part) => collect_named(
+        PatternNode::Union(parts) => collect_all(
+            alloc,
+            width,
+            parts.as_slice(),
+            view,
+            active,
+            found,
+        ),
+        PatternNode::Graph(name, part) => collect_in_graph(
+            alloc,
+            width,
+            name,
+            part.get(),
+            view,
+            found,
+        ),
+        PatternNode::EachGraph(variable, part) => collect_named(
             alloc,
             width,
             *variable,

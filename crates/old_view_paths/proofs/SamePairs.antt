@@ -19,7 +19,7 @@ use Rattle.qs_paths.proofs.Arms.{same_pair-Decides, filter_same_by, composed_sam
 use Rattle.qs_paths.proofs.Finds.{same_nodes}
 use Rattle.qs_paths.proofs.Meaning.{pairs_iri, pairs_negated, pairs_alternative, pairs_sequence, pairs_inverse}
 use Rattle.qs_paths.proofs.Members.{Mem, in_mem, mem_in, same_bag}
-use Rattle.old_eval.proofs.Same.{same_triple-Decides}
+use Rattle.qs_algebra_solutions.proofs.Same.{same_triple-Decides}
 
 abbrev Same : AtEnds → AtEnds → Type 0
 Same e f = (left right : Option Term) → SameBag (e left right) (f left right)

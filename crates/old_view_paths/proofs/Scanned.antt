@@ -25,7 +25,7 @@ use Rattle.qs_store.specs.declared.active.Active.{Active}
 use Rattle.qs_store.specs.declared.default_graph.DefaultGraph.{DefaultGraph}
 use Rattle.qs_store.proofs.Members.{here, there, member_of_filter, filter_has, before_member, not_before_itself}
 use Rattle.qs_store.proofs.TriplesSaid.{same_number}
-use Rattle.old_eval.proofs.Same.{same_triple-Decides}
+use Rattle.qs_algebra_solutions.proofs.Same.{same_triple-Decides}
 use Rattle.old_ops.specs.Graph.{active_graph}
 use Rattle.old_ops.proofs.Active.{active_has, active_only, active_once}
 use Rattle.old_ops.proofs.Lists.{map_has, member_of_map, of_any, same_members}

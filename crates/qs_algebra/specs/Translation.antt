@@ -22,26 +22,26 @@ use Rattle.qs_syntax_ast.specs.declared.update.QuadBlock.{QuadBlock}
 use Rattle.qs_syntax_scope.specs.Firsts.{names_of}
 use Rattle.qs_syntax_scope.specs.Names.{Name}
 use Rattle.qs_syntax_scope.specs.Places.{place_of}
-use Rattle.qs_algebra_patterns.specs.declared.pattern.Pattern.{Pattern}
-use Rattle.qs_algebra_patterns.specs.declared.pattern.Pattern.TheVariants as pattern
-use Rattle.qs_algebra_patterns.specs.declared.pattern.Pattern.TheOpen as level
+use Rattle.qs_algebra_patterns.specs.declared.pattern.PatternNode.{PatternNode}
+use Rattle.qs_algebra_patterns.specs.declared.pattern.PatternNode.TheVariants as pattern
+use Rattle.qs_algebra_patterns.specs.declared.pattern.PatternNode.TheOpen as level
 use Rattle.qs_algebra_patterns.specs.declared.pattern.Step.{Step, out-Step}
 use Rattle.qs_algebra_patterns.specs.declared.pattern.Step.TheVariants as step
 use Rattle.qs_algebra_patterns.specs.declared.pattern.Table.{Table}
 use Rattle.qs_expr.specs.declared.expr.Expr.{Expr}
 use Rattle.qs_algebra.specs.Basic.{basic_pattern}
 use Rattle.qs_algebra.specs.Expressions.{expr_of}
-use Rattle.qs_algebra.specs.declared.named.NamedPattern.{NamedPattern}
+use Rattle.qs_algebra.specs.declared.pattern.Pattern.{Pattern}
 use Rattle.qs_algebra.specs.declared.parts.GroupParts.{GroupParts}
 
 -- one group, or a union of groups
-abbrev pub one_or_union : List Pattern → Pattern
+abbrev pub one_or_union : List PatternNode → PatternNode
 one_or_union [] = pattern.Union []
 one_or_union (part ∷ []) = part
 one_or_union (part ∷ second ∷ parts) = pattern.Union (part ∷ second ∷ parts)
 
 -- the graph of a name, or each graph
-abbrev pub in_graph : List Name → VarOrIri → Pattern → Pattern
+abbrev pub in_graph : List Name → VarOrIri → PatternNode → PatternNode
 in_graph names (name.Variable v) part = pattern.EachGraph (place_of names v.name) part
 in_graph names (name.Iri i) part = pattern.Graph (value.Iri i) part
 
@@ -56,24 +56,24 @@ table_of names table = record { variables = map (number_of names) table.variable
 -- ---- the steps and the filters of a group, and the group that is closed after them
 
 -- the only step of a group: a pattern that is joined to the empty solution alone is that pattern
-abbrev pub alone : Step → level.Step-F Pattern Step → Pattern
+abbrev pub alone : Step → level.Step-F PatternNode Step → PatternNode
 alone s (level.Join part) = part
 alone s (level.LeftJoin part conditions) = pattern.Group (s ∷ []) []
 alone s (level.Minus part) = pattern.Group (s ∷ []) []
 alone s (level.Extend v e) = pattern.Group (s ∷ []) []
 
 -- the steps without filters
-abbrev pub unfiltered : List Step → Pattern
+abbrev pub unfiltered : List Step → PatternNode
 unfiltered [] = pattern.Group [] []
 unfiltered (s ∷ []) = alone s (out-Step s)
 unfiltered (s ∷ t ∷ more) = pattern.Group (s ∷ t ∷ more) []
 
 -- the steps, with the filters, which apply to the whole group (5.2.2)
-abbrev pub filtered : List Step → List Expr → Pattern
+abbrev pub filtered : List Step → List Expr → PatternNode
 filtered steps [] = unfiltered steps
 filtered steps (f ∷ fs) = pattern.Group steps (f ∷ fs)
 
-abbrev pub closed : GroupParts → Pattern
+abbrev pub closed : GroupParts → PatternNode
 closed group = filtered group.steps group.conditions
 
 -- an optional group: its own filters are the condition (18.2.2.6)
@@ -101,15 +101,15 @@ abbrev pub step_of : List Name → GraphPattern → Step
 step_of names = fold-GraphPattern Step GroupParts (step_level names) (group_level names)
 
 -- the pattern of a group
-abbrev pub group_pattern : List Name → Group → Pattern
+abbrev pub group_pattern : List Name → Group → PatternNode
 group_pattern names group = closed (group_parts names group)
 
 -- the pattern of a query: that of its WHERE, which in a short CONSTRUCT is its template (16.2.4)
-abbrev pub template_or_group : List Name → List Triple → Option Group → Pattern
+abbrev pub template_or_group : List Name → List Triple → Option Group → PatternNode
 template_or_group names template None = pattern.Basic (basic_pattern names template)
 template_or_group names template (Some group) = group_pattern names group
 
-abbrev pub form_pattern : List Name → QueryForm → Pattern
+abbrev pub form_pattern : List Name → QueryForm → PatternNode
 form_pattern names (form.Select select) = group_pattern names select.pattern
 form_pattern names (form.Construct construct) = template_or_group names construct.template construct.pattern
 form_pattern names (form.Ask ask) = group_pattern names ask.pattern
@@ -138,28 +138,28 @@ selected_steps names (form.Ask ask) = []
 abbrev pub behind : List Name → Query → List Step
 behind names query = trailing_steps names query.values ++ selected_steps names query.form
 
-abbrev pub with_steps : List Step → Pattern → Pattern
+abbrev pub with_steps : List Step → PatternNode → PatternNode
 with_steps steps part = unfiltered (step.Join part ∷ steps)
 
 -- the pattern of a query, whose variables have the numbers of their places in its list
-abbrev pub query_pattern : Query → Pattern
+abbrev pub query_pattern : Query → PatternNode
 query_pattern query = with_steps (behind (names_of query.variables) query) (form_pattern (names_of query.variables) query.form)
 
 -- a pattern with the names of its variables
-abbrev pub named : List Variable → Pattern → NamedPattern
-named variables pattern = record { names = names_of variables; pattern = pattern }
+abbrev pub named : List Variable → PatternNode → Pattern
+named variables pattern = record { names = names_of variables; root = pattern }
 
 -- the pattern of a query, with its variables
-abbrev pub translated : Query → NamedPattern
+abbrev pub translated : Query → Pattern
 translated query = named query.variables (query_pattern query)
 
 -- the pattern of a WHERE by itself, with the variables of its text
-abbrev pub translated_where : List Variable → Group → NamedPattern
+abbrev pub translated_where : List Variable → Group → Pattern
 translated_where variables group = named variables (group_pattern (names_of variables) group)
 
 -- ---- the pattern of DELETE WHERE: the quads of its template (SPARQL 1.1 Update, 3.1.3.3)
 
-abbrev pub in_block : List Name → Option VarOrIri → Pattern → Pattern
+abbrev pub in_block : List Name → Option VarOrIri → PatternNode → PatternNode
 in_block names None part = part
 in_block names (Some graph) part = in_graph names graph part
 
@@ -167,5 +167,5 @@ abbrev pub block_step : List Name → QuadBlock → Step
 block_step names b = step.Join (in_block names b.graph (pattern.Basic (basic_pattern names b.triples)))
 
 -- the pattern of blocks of triples, each of the default graph or of the graph that it names, with the variables of its text
-abbrev pub translated_blocks : List Variable → List QuadBlock → NamedPattern
+abbrev pub translated_blocks : List Variable → List QuadBlock → Pattern
 translated_blocks variables blocks = named variables (unfiltered (map (block_step (names_of variables)) blocks))

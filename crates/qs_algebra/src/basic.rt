@@ -8,13 +8,12 @@ ghost use Rattle.qs_terms.specs.declared.term.Term.TheVariants as value;
 
 use crate::hidden::{Hidden, hidden_of};
 use crate::path::shared;
+use qs_algebra_patterns::{BasicPattern, PathPattern, Slot, TriplePattern};
+use qs_base::{Shared, keep_beside};
 use qs_syntax_ast::path::Path;
 use qs_syntax_ast::pattern::{Triple, Verb};
 use qs_syntax_ast::term::TermPattern;
-use qs_beside::keep_beside;
-use qs_algebra_patterns::{BasicPattern, PathPattern, Slot, TriplePattern};
-use qs_syntax_scope::Seen;
-use qs_shared::Shared;
+use qs_syntax_scope::NameList;
 use qs_terms::{Iri, Lit, Term};
 use sqlite_items::Items;
 use std::alloc::{AllocError, Global};
@@ -65,7 +64,7 @@ fn literal_slot(alloc: Global, before: Option<&Slot>, literal: &Lit) -> Result<S
 
 fn term_slot<'a>(
     alloc: Global,
-    names: &Seen<'a>,
+    names: &NameList<'a>,
     hidden: &Hidden<'a>,
     before: Option<&Slot>,
     term: &'a TermPattern,
@@ -83,7 +82,7 @@ fn term_slot<'a>(
 /// The slot of a verb that is no path.
 fn verb_slot<'a>(
     alloc: Global,
-    names: &Seen<'a>,
+    names: &NameList<'a>,
     before: Option<&Slot>,
     verb: &'a Verb,
 ) -> Result<Option<Slot>, AllocError>
@@ -99,7 +98,7 @@ fn verb_slot<'a>(
 /// The triple pattern of a triple whose verb is no path. It shares the terms that the one before it has in the same places.
 fn triple_pattern<'a>(
     alloc: Global,
-    names: &Seen<'a>,
+    names: &NameList<'a>,
     hidden: &Hidden<'a>,
     before: Option<&TriplePattern>,
     triple: &'a Triple,
@@ -124,7 +123,7 @@ fn triple_pattern<'a>(
 #[tactic(auto, using(crate::proofs::Kept::kept_more, crate::proofs::Kept::kept_less))]
 fn triple_patterns<'a>(
     alloc: Global,
-    names: &Seen<'a>,
+    names: &NameList<'a>,
     hidden: &Hidden<'a>,
     triples: &'a [Triple],
 ) -> Result<Items<TriplePattern>, AllocError>
@@ -158,7 +157,7 @@ fn path_of(
 /// that has the same.
 fn path_pattern<'a>(
     alloc: Global,
-    names: &Seen<'a>,
+    names: &NameList<'a>,
     hidden: &Hidden<'a>,
     before: Option<&PathPattern>,
     triple: &'a Triple,
@@ -183,7 +182,7 @@ fn path_pattern<'a>(
 #[tactic(auto, using(crate::proofs::Kept::kept_more, crate::proofs::Kept::kept_less))]
 fn path_patterns<'a>(
     alloc: Global,
-    names: &Seen<'a>,
+    names: &NameList<'a>,
     hidden: &Hidden<'a>,
     triples: &'a [Triple],
 ) -> Result<Items<PathPattern>, AllocError>
@@ -202,7 +201,7 @@ fn path_patterns<'a>(
 /// The basic graph pattern of these triples.
 pub fn basic_pattern<'a>(
     alloc: Global,
-    names: &Seen<'a>,
+    names: &NameList<'a>,
     triples: &'a [Triple],
 ) -> Result<BasicPattern, AllocError>
     ensures { IfOk result (λ p. p ≡ spec.basic_pattern names.now triples.now) }

@@ -5,22 +5,22 @@ ghost use Rattle.qs_syntax_scope.specs.Firsts as first;
 ghost use Rattle.qs_algebra.specs.Translation as spec;
 
 use crate::basic::basic_pattern;
-use crate::named::NamedPattern;
+use crate::pattern::Pattern;
 use crate::query::named;
 use crate::translation::{in_graph, unfiltered};
+use qs_algebra_patterns::{PatternNode, Step};
 use qs_syntax_ast::term::{VarOrIri, Variable};
 use qs_syntax_ast::update::QuadBlock;
-use qs_algebra_patterns::{Pattern, Step};
-use qs_syntax_scope::{Seen, numbered};
+use qs_syntax_scope::{NameList, numbered};
 use sqlite_items::Items;
 use std::alloc::{AllocError, Global};
 
 fn in_block<'a>(
     alloc: Global,
-    names: &Seen<'a>,
+    names: &NameList<'a>,
     graph: &'a Option<VarOrIri>,
-    part: Pattern,
-) -> Result<Pattern, AllocError>
+    part: PatternNode,
+) -> Result<PatternNode, AllocError>
     ensures { IfOk result (λ p. p ≡ spec.in_block names.now graph.now part) }
 {
     match graph {
@@ -29,17 +29,21 @@ fn in_block<'a>(
     }
 }
 
-fn block_step<'a>(alloc: Global, names: &Seen<'a>, block: &'a QuadBlock) -> Result<Step, AllocError>
+fn block_step<'a>(
+    alloc: Global,
+    names: &NameList<'a>,
+    block: &'a QuadBlock,
+) -> Result<Step, AllocError>
     ensures { IfOk result (λ s. s ≡ spec.block_step names.now block.now) }
 {
     let basic = basic_pattern(alloc, names, block.triples.as_slice())?;
-    let part = in_block(alloc, names, &block.graph, Pattern::Basic(basic))?;
+    let part = in_block(alloc, names, &block.graph, PatternNode::Basic(basic))?;
     Ok(Step::Join(part))
 }
 
 fn block_steps<'a>(
     alloc: Global,
-    names: &Seen<'a>,
+    names: &NameList<'a>,
     blocks: &'a [QuadBlock],
 ) -> Result<Items<Step>, AllocError>
     ensures { IfOk result (λ steps. steps ≡ map (spec.block_step names.now) blocks.now) }
@@ -56,7 +60,7 @@ fn blocks_pattern(
     alloc: Global,
     variables: &[Variable],
     blocks: &[QuadBlock],
-) -> Result<Pattern, AllocError>
+) -> Result<PatternNode, AllocError>
     ensures { IfOk result (λ p. p ≡ spec.unfiltered (map (spec.block_step (first.names_of variables.now)) blocks.now)) }
 {
     let names = numbered(alloc, variables)?;
@@ -69,7 +73,7 @@ pub fn translate_blocks(
     alloc: Global,
     variables: &[Variable],
     blocks: &[QuadBlock],
-) -> Result<NamedPattern, AllocError>
+) -> Result<Pattern, AllocError>
     ensures { IfOk result (λ p. p ≡ spec.translated_blocks variables.now blocks.now) }
 {
     let pattern = blocks_pattern(alloc, variables, blocks)?;

@@ -4,10 +4,10 @@ ghost use Rattle.std.specs.Prelude.{◌≡◌, map, IfOk};
 ghost use Rattle.qs_algebra.specs.Expressions as spec;
 
 use crate::operator::{binary_function, comparison, sign, unary_function};
-use qs_syntax_ast::expression::{Addend as WrittenAddend, Expression};
-use qs_beside::keep_beside;
+use qs_base::keep_beside;
 use qs_expr::{Addend, Expr};
-use qs_syntax_scope::Seen;
+use qs_syntax_ast::expression::{Addend as WrittenAddend, Expression};
+use qs_syntax_scope::NameList;
 use qs_terms::Term;
 use sqlite_items::{Boxed, Items};
 use std::alloc::{AllocError, Global};
@@ -16,7 +16,7 @@ use std::alloc::{AllocError, Global};
 #[cycle(expression)]
 pub fn expr_of<'a>(
     alloc: Global,
-    names: &Seen<'a>,
+    names: &NameList<'a>,
     expression: &'a Expression,
 ) -> Result<Expr, AllocError>
     ensures { IfOk result (λ e. e ≡ spec.expr_of names.now expression.now) }
@@ -80,7 +80,7 @@ pub fn expr_of<'a>(
 #[cycle(expression)]
 fn boxed<'a>(
     alloc: Global,
-    names: &Seen<'a>,
+    names: &NameList<'a>,
     expression: &'a Expression,
 ) -> Result<Boxed<Expr>, AllocError>
     ensures { IfOk result (λ e. e ≡ spec.expr_of names.now expression.now) }
@@ -92,7 +92,7 @@ fn boxed<'a>(
 #[cycle(expression)]
 fn product_of<'a>(
     alloc: Global,
-    names: &Seen<'a>,
+    names: &NameList<'a>,
     parts: &'a [Expression],
 ) -> Result<Expr, AllocError>
     ensures { IfOk result (λ e. e ≡ spec.product (map (spec.expr_of names.now) parts.now)) }
@@ -111,7 +111,7 @@ fn product_of<'a>(
 #[cycle(expression)]
 pub fn exprs_of<'a>(
     alloc: Global,
-    names: &Seen<'a>,
+    names: &NameList<'a>,
     expressions: &'a [Expression],
 ) -> Result<Items<Expr>, AllocError>
     ensures { IfOk result (λ exprs. exprs ≡ map (spec.expr_of names.now) expressions.now) }
@@ -127,7 +127,7 @@ pub fn exprs_of<'a>(
 #[cycle(expression)]
 fn addends_of<'a>(
     alloc: Global,
-    names: &Seen<'a>,
+    names: &NameList<'a>,
     written: &'a [WrittenAddend],
 ) -> Result<Items<Addend>, AllocError>
     ensures { IfOk result (λ addends. addends ≡ map (spec.addend_of names.now) written.now) }

@@ -6,10 +6,10 @@ ghost use Rattle.std.specs.Option.{IfSome};
 ghost use Rattle.qs_syntax_scope.specs.Names.{contains};
 ghost use Rattle.qs_algebra.specs.Numbers as spec;
 
+use qs_base::Shared;
 use qs_syntax_ast::pattern::Triple;
 use qs_syntax_ast::term::{BlankNode, TermPattern};
-use qs_syntax_scope::Seen;
-use qs_shared::Shared;
+use qs_syntax_scope::NameList;
 use qs_terms::Text;
 use std::alloc::{AllocError, Global};
 
@@ -23,7 +23,7 @@ pub struct Span {
 /// The labels of the blank nodes, each once, and the numbers of those without one.
 #[derive(Drop)]
 pub struct Hidden<'a> {
-    pub labels: Seen<'a>,
+    pub labels: NameList<'a>,
     pub span: Option<Span>,
 }
 
@@ -72,7 +72,7 @@ impl<'a> Hidden<'a> {
         ensures { result ≡ spec.none_hidden }
     {
         Hidden {
-            labels: Seen::new(alloc),
+            labels: NameList::new(alloc),
             span: None,
         }
     }
@@ -127,7 +127,11 @@ impl<'a> Hidden<'a> {
     }
 
     /// The number of a blank node's variable, after those of the named ones.
-    pub fn number<'b>(&self, names: &Seen<'b>, blank: &'a BlankNode) -> Result<usize, AllocError>
+    pub fn number<'b>(
+        &self,
+        names: &NameList<'b>,
+        blank: &'a BlankNode,
+    ) -> Result<usize, AllocError>
         ensures { IfOk result (λ n. n ≡ spec.hidden_number names.now self.now blank.now) }
     {
         match blank {

@@ -5,16 +5,16 @@ mod basic;
 mod blocks;
 mod expression;
 mod hidden;
-mod named;
 mod operator;
 mod parts;
 mod path;
+mod pattern;
 mod query;
 mod table;
 mod translation;
 
 pub use blocks::translate_blocks;
 pub use expression::expr_of;
-pub use named::NamedPattern;
+pub use pattern::Pattern;
 pub use query::{translate, translate_where};
 pub use translation::group_pattern;

@@ -2,8 +2,8 @@
 
 ghost use Rattle.std.specs.Prelude.{◌≡◌, ◌↔◌, IfOk, IsTrue};
 
+use qs_base::Shared;
 use qs_syntax_ast::path::{NegatedIri, Path};
-use qs_shared::Shared;
 use qs_syntax_tree::path::Repetition;
 use sqlite_items::{Boxed, Items};
 use std::alloc::{AllocError, Global};

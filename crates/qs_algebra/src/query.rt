@@ -7,30 +7,30 @@ ghost use Rattle.qs_algebra.specs.Translation as spec;
 
 use crate::basic::basic_pattern;
 use crate::expression::expr_of;
-use crate::named::NamedPattern;
+use crate::pattern::Pattern;
 use crate::table::table_of;
 use crate::translation::{group_pattern, unfiltered};
+use qs_algebra_patterns::{PatternNode, Step};
+use qs_base::keep_beside;
 use qs_syntax_ast::pattern::{Group, InlineData};
 use qs_syntax_ast::query::{Construct, Projection, Query, QueryForm, SelectItem};
 use qs_syntax_ast::term::Variable;
-use qs_beside::keep_beside;
-use qs_algebra_patterns::{Pattern, Step};
-use qs_syntax_scope::{Seen, numbered};
+use qs_syntax_scope::{NameList, numbered};
 use qs_terms::Text;
 use sqlite_items::Items;
 use std::alloc::{AllocError, Global};
 
 fn construct_pattern<'a>(
     alloc: Global,
-    names: &Seen<'a>,
+    names: &NameList<'a>,
     construct: &'a Construct,
-) -> Result<Pattern, AllocError>
+) -> Result<PatternNode, AllocError>
     ensures { IfOk result (λ p. p ≡ spec.template_or_group names.now construct.now.template construct.now.pattern) }
 {
     match &construct.pattern {
         None => {
             let basic = basic_pattern(alloc, names, construct.template.as_slice())?;
-            Ok(Pattern::Basic(basic))
+            Ok(PatternNode::Basic(basic))
         }
         Some(group) => group_pattern(alloc, names, group),
     }
@@ -38,9 +38,9 @@ fn construct_pattern<'a>(
 
 fn form_pattern<'a>(
     alloc: Global,
-    names: &Seen<'a>,
+    names: &NameList<'a>,
     form: &'a QueryForm,
-) -> Result<Pattern, AllocError>
+) -> Result<PatternNode, AllocError>
     ensures { IfOk result (λ p. p ≡ spec.form_pattern names.now form.now) }
 {
     match form {
@@ -53,7 +53,7 @@ fn form_pattern<'a>(
 /// The trailing VALUES, if there is one, after the steps.
 fn put_trailing<'a>(
     alloc: Global,
-    names: &Seen<'a>,
+    names: &NameList<'a>,
     values: &'a Option<InlineData>,
     steps: &mut Items<Step>,
 ) -> Result<(), AllocError>
@@ -63,7 +63,7 @@ fn put_trailing<'a>(
         None => Ok(()),
         Some(table) => {
             let table = table_of(alloc, names, table)?;
-            steps.push(Step::Join(Pattern::Values(table)))
+            steps.push(Step::Join(PatternNode::Values(table)))
         }
     }
 }
@@ -71,7 +71,7 @@ fn put_trailing<'a>(
 /// The expression of an item of SELECT, if it is one, after the steps.
 fn put_item<'a>(
     alloc: Global,
-    names: &Seen<'a>,
+    names: &NameList<'a>,
     item: &'a SelectItem,
     steps: &mut Items<Step>,
 ) -> Result<(), AllocError>
@@ -88,7 +88,7 @@ fn put_item<'a>(
 
 fn put_items<'a>(
     alloc: Global,
-    names: &Seen<'a>,
+    names: &NameList<'a>,
     items: &'a [SelectItem],
     steps: &mut Items<Step>,
 ) -> Result<(), AllocError>
@@ -103,7 +103,7 @@ fn put_items<'a>(
 /// The select expressions of the form, from left to right, after the steps.
 fn put_selected<'a>(
     alloc: Global,
-    names: &Seen<'a>,
+    names: &NameList<'a>,
     form: &'a QueryForm,
     steps: &mut Items<Step>,
 ) -> Result<(), AllocError>
@@ -122,10 +122,10 @@ fn put_selected<'a>(
 /// The pattern of the form with what stands after it.
 fn with_steps<'a>(
     alloc: Global,
-    names: &Seen<'a>,
+    names: &NameList<'a>,
     query: &'a Query,
-    pattern: Pattern,
-) -> Result<Pattern, AllocError>
+    pattern: PatternNode,
+) -> Result<PatternNode, AllocError>
     ensures { IfOk result (λ p. p ≡ spec.with_steps (spec.behind names.now query.now) pattern) }
 {
     let mut steps = Items::new(alloc);
@@ -151,15 +151,18 @@ fn names_of(alloc: Global, variables: &[Variable]) -> Result<Items<Text>, AllocE
 pub fn named(
     alloc: Global,
     variables: &[Variable],
-    pattern: Pattern,
-) -> Result<NamedPattern, AllocError>
+    pattern: PatternNode,
+) -> Result<Pattern, AllocError>
     ensures { IfOk result (λ p. p ≡ spec.named variables.now pattern) }
 {
     let (pattern, names) = keep_beside(pattern, names_of(alloc, variables))?;
-    Ok(NamedPattern { names, pattern })
+    Ok(Pattern {
+        names,
+        root: pattern,
+    })
 }
 
-fn query_pattern(alloc: Global, query: &Query) -> Result<Pattern, AllocError>
+fn query_pattern(alloc: Global, query: &Query) -> Result<PatternNode, AllocError>
     ensures { IfOk result (λ p. p ≡ spec.query_pattern query.now) }
 {
     let names = numbered(alloc, query.variables.as_slice())?;
@@ -170,7 +173,7 @@ fn query_pattern(alloc: Global, query: &Query) -> Result<Pattern, AllocError>
 
 /// The pattern of a query with the variables of its text: the pattern of its WHERE, which in a short CONSTRUCT is its template, joined
 /// with the trailing VALUES and extended by the select expressions.
-pub fn translate(alloc: Global, query: &Query) -> Result<NamedPattern, AllocError>
+pub fn translate(alloc: Global, query: &Query) -> Result<Pattern, AllocError>
     ensures { IfOk result (λ p. p ≡ spec.translated query.now) }
 {
     let pattern = query_pattern(alloc, query)?;
@@ -182,7 +185,7 @@ fn where_pattern(
     alloc: Global,
     variables: &[Variable],
     group: &Group,
-) -> Result<Pattern, AllocError>
+) -> Result<PatternNode, AllocError>
     ensures { IfOk result (λ p. p ≡ spec.group_pattern (first.names_of variables.now) group.now) }
 {
     let names = numbered(alloc, variables)?;
@@ -195,7 +198,7 @@ pub fn translate_where(
     alloc: Global,
     variables: &[Variable],
     group: &Group,
-) -> Result<NamedPattern, AllocError>
+) -> Result<Pattern, AllocError>
     ensures { IfOk result (λ p. p ≡ spec.translated_where variables.now group.now) }
 {
     let pattern = where_pattern(alloc, variables, group)?;

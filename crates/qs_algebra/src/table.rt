@@ -3,10 +3,10 @@
 ghost use Rattle.std.specs.Prelude.{◌≡◌, map, IfOk};
 ghost use Rattle.qs_algebra.specs.Translation as spec;
 
+use qs_algebra_patterns::Table;
 use qs_syntax_ast::pattern::InlineData;
 use qs_syntax_ast::term::Variable;
-use qs_algebra_patterns::Table;
-use qs_syntax_scope::Seen;
+use qs_syntax_scope::NameList;
 use qs_terms::Term;
 use sqlite_items::Items;
 use std::alloc::{AllocError, Global};
@@ -14,7 +14,7 @@ use std::alloc::{AllocError, Global};
 // the numbers of the variables
 fn numbers<'a>(
     alloc: Global,
-    names: &Seen<'a>,
+    names: &NameList<'a>,
     variables: &'a [Variable],
 ) -> Result<Items<usize>, AllocError>
     ensures { IfOk result (λ numbers. numbers ≡ map (spec.number_of names.now) variables.now) }
@@ -63,7 +63,7 @@ fn copied_rows(
 /// The table, its variables by their numbers.
 pub fn table_of<'a>(
     alloc: Global,
-    names: &Seen<'a>,
+    names: &NameList<'a>,
     table: &'a InlineData,
 ) -> Result<Table, AllocError>
     ensures { IfOk result (λ t. t ≡ spec.table_of names.now table.now) }

@@ -7,50 +7,50 @@ use crate::basic::basic_pattern;
 use crate::expression::{expr_of, exprs_of};
 use crate::parts::GroupParts;
 use crate::table::table_of;
+use qs_algebra_patterns::{PatternNode, Step};
+use qs_base::keep_beside;
 use qs_syntax_ast::pattern::{GraphPattern, Group};
 use qs_syntax_ast::term::VarOrIri;
-use qs_beside::keep_beside;
-use qs_algebra_patterns::{Pattern, Step};
-use qs_syntax_scope::Seen;
+use qs_syntax_scope::NameList;
 use qs_terms::Term;
 use sqlite_items::{Boxed, Items};
 use std::alloc::{AllocError, Global};
 
 /// The steps of a group without filters. One pattern that is joined to the empty solution alone is that pattern.
 #[tactic(auto, using(crate::proofs::Alone::join, crate::proofs::Alone::left_join, crate::proofs::Alone::minus, crate::proofs::Alone::extend))]
-pub fn unfiltered(alloc: Global, mut steps: Items<Step>) -> Result<Pattern, AllocError>
+pub fn unfiltered(alloc: Global, mut steps: Items<Step>) -> Result<PatternNode, AllocError>
     ensures { IfOk result (λ p. p ≡ spec.unfiltered steps) }
 {
     let none = Items::new(alloc);
     if steps.len() != 1 {
-        return Ok(Pattern::Group(steps, none));
+        return Ok(PatternNode::Group(steps, none));
     }
     match steps.pop() {
         Some(Step::Join(part)) => Ok(part),
         Some(Step::LeftJoin(part, conditions)) => {
             steps.push(Step::LeftJoin(part, conditions))?;
-            Ok(Pattern::Group(steps, none))
+            Ok(PatternNode::Group(steps, none))
         }
         Some(Step::Minus(part)) => {
             steps.push(Step::Minus(part))?;
-            Ok(Pattern::Group(steps, none))
+            Ok(PatternNode::Group(steps, none))
         }
         Some(Step::Extend(variable, expr)) => {
             steps.push(Step::Extend(variable, expr))?;
-            Ok(Pattern::Group(steps, none))
+            Ok(PatternNode::Group(steps, none))
         }
-        None => Ok(Pattern::Group(steps, none)),
+        None => Ok(PatternNode::Group(steps, none)),
     }
 }
 
 /// A group that is closed after its last step, with its filters.
-fn closed(alloc: Global, group: GroupParts) -> Result<Pattern, AllocError>
+fn closed(alloc: Global, group: GroupParts) -> Result<PatternNode, AllocError>
     ensures { IfOk result (λ p. p ≡ spec.closed group) }
 {
     if group.conditions.is_empty() {
         unfiltered(alloc, group.steps)
     } else {
-        Ok(Pattern::Group(group.steps, group.conditions))
+        Ok(PatternNode::Group(group.steps, group.conditions))
     }
 }
 
@@ -62,7 +62,7 @@ fn optional(alloc: Global, group: GroupParts) -> Result<Step, AllocError>
     Ok(Step::LeftJoin(part, conditions))
 }
 
-fn one_or_union(mut parts: Items<Pattern>) -> Pattern
+fn one_or_union(mut parts: Items<PatternNode>) -> PatternNode
     ensures { result ≡ spec.one_or_union parts }
 {
     if parts.len() == 1 {
@@ -70,26 +70,26 @@ fn one_or_union(mut parts: Items<Pattern>) -> Pattern
             return part;
         }
     }
-    Pattern::Union(parts)
+    PatternNode::Union(parts)
 }
 
 /// The pattern in the graph of the name, or in each graph.
 pub fn in_graph<'a>(
     alloc: Global,
-    names: &Seen<'a>,
+    names: &NameList<'a>,
     name: &'a VarOrIri,
-    part: Pattern,
-) -> Result<Pattern, AllocError>
+    part: PatternNode,
+) -> Result<PatternNode, AllocError>
     ensures { IfOk result (λ p. p ≡ spec.in_graph names.now name.now part) }
 {
     let part = Boxed::new(alloc, part)?;
     match name {
         VarOrIri::Variable(variable) => {
-            Ok(Pattern::EachGraph(names.place(variable.text()), part))
+            Ok(PatternNode::EachGraph(names.place(variable.text()), part))
         }
         VarOrIri::Iri(iri) => {
             let name = iri.try_clone()?;
-            Ok(Pattern::Graph(Term::Iri(name), part))
+            Ok(PatternNode::Graph(Term::Iri(name), part))
         }
     }
 }
@@ -98,9 +98,9 @@ pub fn in_graph<'a>(
 #[cycle(group)]
 pub fn group_pattern<'a>(
     alloc: Global,
-    names: &Seen<'a>,
+    names: &NameList<'a>,
     group: &'a Group,
-) -> Result<Pattern, AllocError>
+) -> Result<PatternNode, AllocError>
     ensures { IfOk result (λ p. p ≡ spec.group_pattern names.now group.now) }
 {
     let parts = group_parts(alloc, names, group)?;
@@ -111,7 +111,7 @@ pub fn group_pattern<'a>(
 #[cycle(group)]
 fn group_parts<'a>(
     alloc: Global,
-    names: &Seen<'a>,
+    names: &NameList<'a>,
     group: &'a Group,
 ) -> Result<GroupParts, AllocError>
     ensures { IfOk result (λ parts. parts ≡ spec.group_parts names.now group.now) }
@@ -124,7 +124,7 @@ fn group_parts<'a>(
 #[cycle(group)]
 fn steps<'a>(
     alloc: Global,
-    names: &Seen<'a>,
+    names: &NameList<'a>,
     patterns: &'a [GraphPattern],
 ) -> Result<Items<Step>, AllocError>
     ensures { IfOk result (λ steps. steps ≡ map (spec.step_of names.now) patterns.now) }
@@ -138,13 +138,17 @@ fn steps<'a>(
 }
 
 #[cycle(group)]
-fn step<'a>(alloc: Global, names: &Seen<'a>, pattern: &'a GraphPattern) -> Result<Step, AllocError>
+fn step<'a>(
+    alloc: Global,
+    names: &NameList<'a>,
+    pattern: &'a GraphPattern,
+) -> Result<Step, AllocError>
     ensures { IfOk result (λ step. step ≡ spec.step_of names.now pattern.now) }
 {
     match pattern {
         GraphPattern::Triples(triples) => {
             let basic = basic_pattern(alloc, names, triples.as_slice())?;
-            Ok(Step::Join(Pattern::Basic(basic)))
+            Ok(Step::Join(PatternNode::Basic(basic)))
         }
         GraphPattern::Union(groups) => {
             let parts = operands(alloc, names, groups.as_slice())?;
@@ -166,7 +170,7 @@ fn step<'a>(alloc: Global, names: &Seen<'a>, pattern: &'a GraphPattern) -> Resul
         }
         GraphPattern::Values(table) => {
             let table = table_of(alloc, names, table)?;
-            Ok(Step::Join(Pattern::Values(table)))
+            Ok(Step::Join(PatternNode::Values(table)))
         }
         GraphPattern::Bind(value, variable) => {
             let expr = expr_of(alloc, names, value)?;
@@ -178,9 +182,9 @@ fn step<'a>(alloc: Global, names: &Seen<'a>, pattern: &'a GraphPattern) -> Resul
 #[cycle(group)]
 fn operands<'a>(
     alloc: Global,
-    names: &Seen<'a>,
+    names: &NameList<'a>,
     groups: &'a [Group],
-) -> Result<Items<Pattern>, AllocError>
+) -> Result<Items<PatternNode>, AllocError>
     ensures { IfOk result (λ parts. parts ≡ map (spec.group_pattern names.now) groups.now) }
 {
     let mut parts = Items::new(alloc);

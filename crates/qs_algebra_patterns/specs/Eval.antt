@@ -12,9 +12,9 @@ use Rattle.qs_expr.specs.Meaning.{meaning, holds}
 use Rattle.qs_expr.specs.declared.expr.Expr.{Expr}
 use Rattle.qs_algebra_patterns.specs.Basic.{Graph as Triples, basic}
 use Rattle.qs_algebra_patterns.specs.declared.pattern.Table.{Table}
-use Rattle.qs_algebra_patterns.specs.declared.pattern.Pattern.{Pattern, fold-Pattern}
+use Rattle.qs_algebra_patterns.specs.declared.pattern.PatternNode.{PatternNode, fold-PatternNode}
 use Rattle.qs_algebra_patterns.specs.declared.pattern.Step.{Step, fold-Step}
-use Rattle.qs_algebra_patterns.specs.declared.pattern.Pattern.TheOpen.{Pattern-F, Step-F, Basic, Group, Union, Graph, EachGraph, Values, Join, LeftJoin, Minus, Extend}
+use Rattle.qs_algebra_patterns.specs.declared.pattern.PatternNode.TheOpen.{PatternNode-F, Step-F, Basic, Group, Union, Graph, EachGraph, Values, Join, LeftJoin, Minus, Extend}
 
 -- the solutions of a pattern, by the active graph
 abbrev pub Found : Type 0
@@ -58,7 +58,7 @@ in_each width quads v part names =
 abbrev pub rows_of : ℕ → Table → List Solution
 rows_of width table = map (binding width table.variables) table.rows
 
-abbrev pub eval_level : ℕ → List Statement → Pattern-F Found Stepped → Found
+abbrev pub eval_level : ℕ → List Statement → PatternNode-F Found Stepped → Found
 eval_level width quads (Basic pattern) graph = basic width pattern graph
 eval_level width quads (Group steps conditions) graph = kept conditions (all_steps width graph steps)
 eval_level width quads (Union parts) graph = flat_map (λ part. part graph) parts
@@ -73,8 +73,8 @@ step_level (Minus part) graph left = of.minus left (part graph)
 step_level (Extend v e) graph left = map (extended v e) left
 
 -- the solutions of a pattern, of `width` named variables
-abbrev pub eval : ℕ → List Statement → Pattern → Found
-eval width quads = fold-Pattern Found Stepped (eval_level width quads) step_level
+abbrev pub eval : ℕ → List Statement → PatternNode → Found
+eval width quads = fold-PatternNode Found Stepped (eval_level width quads) step_level
 
 -- what a step makes of the solutions before it
 abbrev pub step : ℕ → List Statement → Step → Stepped

@@ -3,4 +3,4 @@
 
 mod pattern;
 
-pub use pattern::{BasicPattern, PathPattern, Pattern, Slot, Step, Table, TriplePattern};
+pub use pattern::{BasicPattern, PathPattern, PatternNode, Slot, Step, Table, TriplePattern};

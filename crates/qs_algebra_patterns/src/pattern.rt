@@ -1,9 +1,9 @@
 //! Patterns of the algebra (SPARQL 1.1 Query, 18.2). Variables have numbers: those with a name come first, and after them the
 //! hidden ones of each basic graph pattern, which its blank nodes are.
 
-use qs_syntax_ast::path::Path;
+use qs_base::Shared;
 use qs_expr::Expr;
-use qs_shared::Shared;
+use qs_syntax_ast::path::Path;
 use qs_terms::Term;
 use sqlite_items::{Boxed, Items};
 
@@ -51,17 +51,17 @@ pub struct Table {
 /// A pattern (SPARQL 1.1 Query, 18.2).
 #[cycle(pattern)]
 #[derive(Drop)]
-pub enum Pattern {
+pub enum PatternNode {
     Basic(BasicPattern),
     /// A group: what its steps make of the one solution that binds nothing, in the order of the text, as far as all conditions hold. The
     /// steps are a list and no tree of pairs, so that a pattern is no deeper than the groups of its text are nested.
     Group(Items<Step>, Items<Expr>),
     /// Of any number.
-    Union(Items<Pattern>),
+    Union(Items<PatternNode>),
     /// In the graph of this name.
-    Graph(Term, Boxed<Pattern>),
+    Graph(Term, Boxed<PatternNode>),
     /// In each named graph, with the variable bound to its name.
-    EachGraph(usize, Boxed<Pattern>),
+    EachGraph(usize, Boxed<PatternNode>),
     Values(Table),
 }
 
@@ -69,10 +69,10 @@ pub enum Pattern {
 #[cycle(pattern)]
 #[derive(Drop)]
 pub enum Step {
-    Join(Pattern),
+    Join(PatternNode),
     /// With the conditions that a merged solution must meet.
-    LeftJoin(Pattern, Items<Expr>),
-    Minus(Pattern),
+    LeftJoin(PatternNode, Items<Expr>),
+    Minus(PatternNode),
     /// The variable is bound to the value of the expression, where it has one.
     Extend(usize, Expr),
 }

@@ -17,9 +17,9 @@ use Rattle.qs_syntax_scope.specs.Places.{place_of}
 use Rattle.qs_syntax_scope.specs.Scope.{Part, add_part, add_operand, pattern_part, group_parts as scope_parts, scope, part, in_scope}
 use Rattle.qs_syntax_scope.specs.Variables.{graph_variables}
 use Rattle.qs_syntax_scope.specs.declared.met.Met.{Met}
-use Rattle.qs_algebra_patterns.specs.declared.pattern.Pattern.{Pattern}
-use Rattle.qs_algebra_patterns.specs.declared.pattern.Pattern.TheOpen.{Step-F, Join, LeftJoin, Minus, Extend}
-use Rattle.qs_algebra_patterns.specs.declared.pattern.Pattern.TheVariants as pattern
+use Rattle.qs_algebra_patterns.specs.declared.pattern.PatternNode.{PatternNode}
+use Rattle.qs_algebra_patterns.specs.declared.pattern.PatternNode.TheOpen.{Step-F, Join, LeftJoin, Minus, Extend}
+use Rattle.qs_algebra_patterns.specs.declared.pattern.PatternNode.TheVariants as pattern
 use Rattle.qs_algebra_patterns.specs.declared.pattern.Step.{Step, map-Step, out-Step, fold_out-Step}
 use Rattle.qs_algebra.specs.Basic.{basic_pattern}
 use Rattle.qs_algebra.specs.Expressions.{expr_of}
@@ -39,7 +39,7 @@ module _ (width v : ℕ) where
   one_step : (s : Step) (b : Bool) → is_possible_step width s v ≡ b → b ≡ steps_bind (s ∷ [])
   one_step s b e = sym e ∙ sym (or_false (is_possible_step width s v))
 
-  alone_is : (s : Step) (z : Step-F Pattern Step) → is_possible_step width s v ≡ is_possible_step_level (map-Step Pattern Step (ℕ → Bool) (ℕ → Bool) (is_possible width) (is_possible_step width) z) v
+  alone_is : (s : Step) (z : Step-F PatternNode Step) → is_possible_step width s v ≡ is_possible_step_level (map-Step PatternNode Step (ℕ → Bool) (ℕ → Bool) (is_possible width) (is_possible_step width) z) v
       → is_possible width (alone s z) v ≡ steps_bind (s ∷ [])
   alone_is s (Join p) h = one_step s (is_possible width p v) h
   alone_is s (LeftJoin p conditions) h = possible_group width v (s ∷ []) []
@@ -58,7 +58,7 @@ module _ (width v : ℕ) where
       by steps [] = unfiltered_is steps
       by steps (f ∷ fs) = possible_group width v steps (f ∷ fs)
 
-  union_is : (parts : List Pattern) → is_possible width (one_or_union parts) v ≡ list_any (λ p. is_possible width p v) parts
+  union_is : (parts : List PatternNode) → is_possible width (one_or_union parts) v ≡ list_any (λ p. is_possible width p v) parts
   union_is [] = possible_union width v []
   union_is (p ∷ []) = sym (or_false (is_possible width p v))
   union_is (p ∷ q ∷ parts) = possible_union width v (p ∷ q ∷ parts)
@@ -122,7 +122,7 @@ module _ (names : List Name) (name : Name) (within : place_of names name < lengt
   groups_are [] = refl
   groups_are (e ∷ es) = rw (group_is e, groups_are es) refl
 
-  graph_is : (n : VarOrIri) (p : Pattern) → is_possible width (in_graph names n p) v ≡ (contains (graph_variables n) name || is_possible width p v)
+  graph_is : (n : VarOrIri) (p : PatternNode) → is_possible width (in_graph names n p) v ≡ (contains (graph_variables n) name || is_possible width p v)
   graph_is (name_of.Variable w) p =
       possible_each_graph width v (place_of names w.name) p
       ∙ ap (λ b. b || is_possible width p v) (ap (λ b. b && (place_of names w.name == v)) (lt-ltb v width within) ∙ number_is names name within at w)

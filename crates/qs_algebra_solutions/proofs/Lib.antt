@@ -1,3 +1,7 @@
 pub mod Unbound
 pub mod Cells
 pub mod Bindings
+pub mod Same
+pub mod TermOrder
+pub mod KnownValues
+pub mod KnownKeys

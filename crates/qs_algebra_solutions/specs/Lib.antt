@@ -1,2 +1,3 @@
 pub mod Solution
 pub mod Operators
+pub mod Some

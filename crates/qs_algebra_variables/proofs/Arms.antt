@@ -9,8 +9,8 @@ use Rattle.std.proofs.lemmas.List.{take_more}
 use Rattle.std.proofs.lemmas.List.Folds.{list_any_more, list_all-append}
 use Rattle.qs_expr.specs.declared.expr.Expr.{Expr}
 use Rattle.qs_algebra_patterns.specs.declared.pattern.BasicPattern.{BasicPattern}
-use Rattle.qs_algebra_patterns.specs.declared.pattern.Pattern.{Pattern}
-use Rattle.qs_algebra_patterns.specs.declared.pattern.Pattern.TheVariants.{Basic, Group, Union, Graph, EachGraph, Values}
+use Rattle.qs_algebra_patterns.specs.declared.pattern.PatternNode.{PatternNode}
+use Rattle.qs_algebra_patterns.specs.declared.pattern.PatternNode.TheVariants.{Basic, Group, Union, Graph, EachGraph, Values}
 use Rattle.qs_algebra_patterns.specs.declared.pattern.Step.{Step}
 use Rattle.qs_algebra_patterns.specs.declared.pattern.Step.TheVariants.{Join, LeftJoin, Minus, Extend}
 use Rattle.qs_algebra_patterns.specs.declared.pattern.Table.{Table}
@@ -39,7 +39,7 @@ all_rows : (width v : ℕ) (vs : List ℕ) (rows : List (List (Option Term))) �
 all_rows width v vs [] = refl
 all_rows width v vs (row ∷ rows) = ap (λ b. is_some (term_at (binding width vs row) v) && b) (all_rows width v vs rows)
 
-module _ (width : ℕ) (p : Pattern) (flags : List Bool) where
+module _ (width : ℕ) (p : PatternNode) (flags : List Bool) where
   -- a pattern of one variant, by the answer at each number
   arm : (f g : ℕ → Bool) → ((v : ℕ) → v < width → f v ≡ g v) → flags ≡ flags_from f 0 width → flags ≡ flags_from g 0 width
   arm f g same h = h ∙ same_flags f g 0 width (λ v low high. same v (omega (arith, high)))
@@ -52,15 +52,15 @@ module _ (width : ℕ) (p : Pattern) (flags : List Bool) where
   certain_group_arm steps ss conditions is e h =
       arm _ (is_certain width p) (λ v lt. ap (list_any (λ s. is_certain_step width s v)) e ∙ sym (ap (λ q. is_certain width q v) is ∙ certain_group width v steps conditions)) h
 
-  pub certain_union_arm : (parts ps : List Pattern) → p ≡ Union parts → ps ≡ parts → flags ≡ flags_from (λ v. list_all (λ part. is_certain width part v) ps) 0 width → flags ≡ flags_from (is_certain width p) 0 width
+  pub certain_union_arm : (parts ps : List PatternNode) → p ≡ Union parts → ps ≡ parts → flags ≡ flags_from (λ v. list_all (λ part. is_certain width part v) ps) 0 width → flags ≡ flags_from (is_certain width p) 0 width
   certain_union_arm parts ps is e h =
       arm _ (is_certain width p) (λ v lt. ap (list_all (λ part. is_certain width part v)) e ∙ sym (ap (λ q. is_certain width q v) is ∙ certain_union width v parts)) h
 
-  pub certain_graph_arm : (name : Term) (a part : Pattern) → p ≡ Graph name a → part ≡ a → flags ≡ flags_from (is_certain width part) 0 width → flags ≡ flags_from (is_certain width p) 0 width
+  pub certain_graph_arm : (name : Term) (a part : PatternNode) → p ≡ Graph name a → part ≡ a → flags ≡ flags_from (is_certain width part) 0 width → flags ≡ flags_from (is_certain width p) 0 width
   certain_graph_arm name a part is e h =
       arm _ (is_certain width p) (λ v lt. ap (λ q. is_certain width q v) e ∙ sym (ap (λ q. is_certain width q v) is ∙ certain_graph width v name a)) h
 
-  pub certain_each_arm : (w : ℕ) (a part : Pattern) (before : List Bool) → p ≡ EachGraph w a → part ≡ a → before ≡ flags_from (is_certain width part) 0 width → flags ≡ slice_set before w true → flags ≡ flags_from (is_certain width p) 0 width
+  pub certain_each_arm : (w : ℕ) (a part : PatternNode) (before : List Bool) → p ≡ EachGraph w a → part ≡ a → before ≡ flags_from (is_certain width part) 0 width → flags ≡ slice_set before w true → flags ≡ flags_from (is_certain width p) 0 width
   certain_each_arm w a part before is e h f =
       arm _ (is_certain width p) (λ v lt. or_turned (is_certain width part v) (w == v) ∙ ap (λ b. b || is_certain width part v) (within v width (w == v) lt) ∙ ap (λ q. nat_lt v width && w == v || is_certain width q v) e ∙ sym (ap (λ q. is_certain width q v) is ∙ certain_each_graph width v w a))
       (f ∙ ap (λ l. slice_set l w true) h ∙ set_here (is_certain width part) width w)
@@ -73,15 +73,15 @@ module _ (width : ℕ) (p : Pattern) (flags : List Bool) where
   possible_group_arm steps ss conditions is e h =
       arm _ (is_possible width p) (λ v lt. ap (list_any (λ s. is_possible_step width s v)) e ∙ sym (ap (λ q. is_possible width q v) is ∙ possible_group width v steps conditions)) h
 
-  pub possible_union_arm : (parts ps : List Pattern) → p ≡ Union parts → ps ≡ parts → flags ≡ flags_from (λ v. list_any (λ part. is_possible width part v) ps) 0 width → flags ≡ flags_from (is_possible width p) 0 width
+  pub possible_union_arm : (parts ps : List PatternNode) → p ≡ Union parts → ps ≡ parts → flags ≡ flags_from (λ v. list_any (λ part. is_possible width part v) ps) 0 width → flags ≡ flags_from (is_possible width p) 0 width
   possible_union_arm parts ps is e h =
       arm _ (is_possible width p) (λ v lt. ap (list_any (λ part. is_possible width part v)) e ∙ sym (ap (λ q. is_possible width q v) is ∙ possible_union width v parts)) h
 
-  pub possible_graph_arm : (name : Term) (a part : Pattern) → p ≡ Graph name a → part ≡ a → flags ≡ flags_from (is_possible width part) 0 width → flags ≡ flags_from (is_possible width p) 0 width
+  pub possible_graph_arm : (name : Term) (a part : PatternNode) → p ≡ Graph name a → part ≡ a → flags ≡ flags_from (is_possible width part) 0 width → flags ≡ flags_from (is_possible width p) 0 width
   possible_graph_arm name a part is e h =
       arm _ (is_possible width p) (λ v lt. ap (λ q. is_possible width q v) e ∙ sym (ap (λ q. is_possible width q v) is ∙ possible_graph width v name a)) h
 
-  pub possible_each_arm : (w : ℕ) (a part : Pattern) (before : List Bool) → p ≡ EachGraph w a → part ≡ a → before ≡ flags_from (is_possible width part) 0 width → flags ≡ slice_set before w true → flags ≡ flags_from (is_possible width p) 0 width
+  pub possible_each_arm : (w : ℕ) (a part : PatternNode) (before : List Bool) → p ≡ EachGraph w a → part ≡ a → before ≡ flags_from (is_possible width part) 0 width → flags ≡ slice_set before w true → flags ≡ flags_from (is_possible width p) 0 width
   possible_each_arm w a part before is e h f =
       arm _ (is_possible width p) (λ v lt. or_turned (is_possible width part v) (w == v) ∙ ap (λ b. b || is_possible width part v) (within v width (w == v) lt) ∙ ap (λ q. nat_lt v width && w == v || is_possible width q v) e ∙ sym (ap (λ q. is_possible width q v) is ∙ possible_each_graph width v w a))
       (f ∙ ap (λ l. slice_set l w true) h ∙ set_here (is_possible width part) width w)
@@ -94,7 +94,7 @@ module _ (width : ℕ) (p : Pattern) (flags : List Bool) where
   possible_values_arm table is h =
       arm _ (is_possible width p) (λ v lt. within v width (is_column table v) lt ∙ sym (ap (λ q. is_possible width q v) is ∙ possible_values width v table)) h
 
-module _ (width : ℕ) (s : Step) (part : Pattern) (flags : List Bool) where
+module _ (width : ℕ) (s : Step) (part : PatternNode) (flags : List Bool) where
   step_arm : (f g : ℕ → Bool) → ((v : ℕ) → f v ≡ g v) → flags ≡ flags_from f 0 width → flags ≡ flags_from g 0 width
   step_arm f g same h = h ∙ same_flags f g 0 width (λ v low high. same v)
 

@@ -15,9 +15,9 @@ use Rattle.qs_algebra_patterns.specs.declared.pattern.BasicPattern.{BasicPattern
 use Rattle.qs_algebra_patterns.specs.declared.pattern.Table.{Table}
 use Rattle.qs_algebra_patterns.specs.declared.pattern.Step.{Step, map-Step, roll-Step}
 use Rattle.qs_algebra_patterns.specs.declared.pattern.Step.TheVariants.{Join, LeftJoin, Minus, Extend, rolls-Join, rolls-LeftJoin, rolls-Minus, rolls-Extend}
-use Rattle.qs_algebra_patterns.specs.declared.pattern.Pattern.{Pattern, map-Pattern, roll-Pattern, ind-Pattern}
-use Rattle.qs_algebra_patterns.specs.declared.pattern.Pattern.TheOpen as level
-use Rattle.qs_algebra_patterns.specs.declared.pattern.Pattern.TheVariants.{Basic, Values, rolls-Basic, rolls-Group, rolls-Union, rolls-Graph, rolls-EachGraph, rolls-Values}
+use Rattle.qs_algebra_patterns.specs.declared.pattern.PatternNode.{PatternNode, map-PatternNode, roll-PatternNode, ind-PatternNode}
+use Rattle.qs_algebra_patterns.specs.declared.pattern.PatternNode.TheOpen as level
+use Rattle.qs_algebra_patterns.specs.declared.pattern.PatternNode.TheVariants.{Basic, Values, rolls-Basic, rolls-Group, rolls-Union, rolls-Graph, rolls-EachGraph, rolls-Values}
 use Rattle.qs_algebra_patterns.specs.Basic.{Graph as Triples, mentions, puts_into, terms_of, all_maps, matches, is_end, occurs, with_paths}
 use Rattle.qs_algebra_patterns.specs.Eval.{eval, step, all_hold, extended, in_each, rows_of}
 use Rattle.qs_algebra_patterns.proofs.Meaning.{eval_basic, eval_group, eval_union, eval_graph, eval_each_graph, eval_values, step_join, step_left_join, step_minus, step_extend}
@@ -40,7 +40,7 @@ neither false b h = (refl, h)
 module _ (width : ℕ) (quads : List Statement) (v : ℕ) where
   -- ---- what is certain
 
-  abbrev Binds : Pattern → Type 0
+  abbrev Binds : PatternNode → Type 0
   Binds p = is_certain width p v ≡ true → (graph : Triples) → AllByRecursion (Bound v) (eval width quads p graph)
 
   -- a step keeps what is bound, and one that is certain binds it
@@ -63,19 +63,19 @@ module _ (width : ℕ) (quads : List Statement) (v : ℕ) where
           (maps_bind (mentions b.triples) (terms_of graph) v 0 (width + b.hidden) (omega (arith, lt)) (ap (mentions b.triples) (omega arith) ∙ is)))
       by lt false is k = paths_bind v (width + b.hidden) graph b.paths (matches (width + b.hidden) b.triples graph) (omega (arith, lt)) k
 
-  join_binds : (part : Pattern) → Binds part → BindsOn (Join part)
+  join_binds : (part : PatternNode) → Binds part → BindsOn (Join part)
   join_binds part ih graph left = (
     λ h. subst (AllByRecursion (Bound v)) (sym (step_join width quads graph part left)) (join_left v left (eval width quads part graph) h),
     λ h. subst (AllByRecursion (Bound v)) (sym (step_join width quads graph part left)) (join_right v left (eval width quads part graph) (ih (sym (certain_join width v part) ∙ h) graph)),
   )
 
-  left_join_binds : (part : Pattern) (conditions : List Expr) → BindsOn (LeftJoin part conditions)
+  left_join_binds : (part : PatternNode) (conditions : List Expr) → BindsOn (LeftJoin part conditions)
   left_join_binds part conditions graph left = (
     λ h. subst (AllByRecursion (Bound v)) (sym (step_left_join width quads graph part conditions left)) (left_join_left v left (eval width quads part graph) (all_hold conditions) h),
     λ h. let f : false ≡ true = sym (certain_left_join width v part conditions) ∙ h in cc,
   )
 
-  minus_binds : (part : Pattern) → BindsOn (Minus part)
+  minus_binds : (part : PatternNode) → BindsOn (Minus part)
   minus_binds part graph left = (
     λ h. subst (AllByRecursion (Bound v)) (sym (step_minus width quads graph part left)) (minus_each v left (eval width quads part graph) (Bound v) h),
     λ h. let f : false ≡ true = sym (certain_minus width v part) ∙ h in cc,
@@ -101,7 +101,7 @@ module _ (width : ℕ) (quads : List Statement) (v : ℕ) where
       by rest true is k = still_bound es graph (step width quads e.0 graph first) ((e.1 graph first).1 is)
       by rest false is k = rest k
 
-  union_binds : (es : List ((p : Pattern) × Binds p)) (graph : Triples) → list_all (λ p. is_certain width p v) (map (λ e. e.0) es) ≡ true → AllByRecursion (Bound v) (flat_map (λ p. eval width quads p graph) (map (λ e. e.0) es))
+  union_binds : (es : List ((p : PatternNode) × Binds p)) (graph : Triples) → list_all (λ p. is_certain width p v) (map (λ e. e.0) es) ≡ true → AllByRecursion (Bound v) (flat_map (λ p. eval width quads p graph) (map (λ e. e.0) es))
   union_binds [] graph h = tt
   union_binds (e ∷ es) graph h =
       let k = both_hold (is_certain width e.0 v) (list_all (λ p. is_certain width p v) (map (λ e. e.0) es)) h in
@@ -111,7 +111,7 @@ module _ (width : ℕ) (quads : List Statement) (v : ℕ) where
   in_one P true xs h = h
   in_one P false xs h = tt
 
-  named_binds : (w : ℕ) (part : Pattern) (name : Term) → Binds part → (nat_lt v width && w == v || is_certain width part v) ≡ true
+  named_binds : (w : ℕ) (part : PatternNode) (name : Term) → Binds part → (nat_lt v width && w == v || is_certain width part v) ≡ true
       → AllByRecursion (Bound v) (join (eval width quads part (graph_of quads (Some name))) (binding width (w ∷ []) (Some name ∷ []) ∷ []))
   named_binds w part name ih h = by (nat_lt v width && w == v) refl h
     where
@@ -122,7 +122,7 @@ module _ (width : ℕ) (quads : List Statement) (v : ℕ) where
           join_right v (eval width quads part (graph_of quads (Some name))) (binding width (w ∷ []) (Some name ∷ []) ∷ []) own
       by false is k = join_left v (eval width quads part (graph_of quads (Some name))) (binding width (w ∷ []) (Some name ∷ []) ∷ []) (ih k (graph_of quads (Some name)))
 
-  each_binds_in : (w : ℕ) (part : Pattern) (names : List Term) → Binds part → (nat_lt v width && w == v || is_certain width part v) ≡ true → AllByRecursion (Bound v) (in_each width quads w (eval width quads part) names)
+  each_binds_in : (w : ℕ) (part : PatternNode) (names : List Term) → Binds part → (nat_lt v width && w == v || is_certain width part v) ≡ true → AllByRecursion (Bound v) (in_each width quads w (eval width quads part) names)
   each_binds_in w part [] ih h = tt
   each_binds_in w part (name ∷ names) ih h = each_append (Bound v) (join (eval width quads part (graph_of quads (Some name))) (binding width (w ∷ []) (Some name ∷ []) ∷ [])) _ (named_binds w part name ih h) (each_binds_in w part names ih h)
 
@@ -135,7 +135,7 @@ module _ (width : ℕ) (quads : List Statement) (v : ℕ) where
       subst (AllByRecursion (Bound v)) (sym (eval_values width quads graph table))
       (set_binds (rows_of width table) (both_hold (is_column table v) (is_set width table v) (both_hold (nat_lt v width) (is_column table v && is_set width table v) (sym (certain_values width v table) ∙ h)).1).1)
 
-  binds_level : (y : level.Pattern-F ((p : Pattern) × Binds p) ((s : Step) × BindsOn s)) → Binds (roll-Pattern (map-Pattern ((p : Pattern) × Binds p) ((s : Step) × BindsOn s) Pattern Step (λ e. e.0) (λ e. e.0) y))
+  binds_level : (y : level.PatternNode-F ((p : PatternNode) × Binds p) ((s : Step) × BindsOn s)) → Binds (roll-PatternNode (map-PatternNode ((p : PatternNode) × Binds p) ((s : Step) × BindsOn s) PatternNode Step (λ e. e.0) (λ e. e.0) y))
   binds_level (level.Basic b) = subst Binds (sym (rolls-Basic b)) (basic_binds b)
   binds_level (level.Group es conditions) = subst Binds (sym (rolls-Group (map (λ e. e.0) es) conditions)) (λ h graph.
       subst (AllByRecursion (Bound v)) (sym (eval_group width quads graph (map (λ e. e.0) es) conditions))
@@ -151,18 +151,18 @@ module _ (width : ℕ) (quads : List Statement) (v : ℕ) where
       (each_binds_in w e.0 (names_of quads) e.1 (sym (certain_each_graph width v w e.0) ∙ h)))
   binds_level (level.Values table) = subst Binds (sym (rolls-Values table)) (values_bind table)
 
-  binds_on_level : (y : level.Step-F ((p : Pattern) × Binds p) ((s : Step) × BindsOn s)) → BindsOn (roll-Step (map-Step ((p : Pattern) × Binds p) ((s : Step) × BindsOn s) Pattern Step (λ e. e.0) (λ e. e.0) y))
+  binds_on_level : (y : level.Step-F ((p : PatternNode) × Binds p) ((s : Step) × BindsOn s)) → BindsOn (roll-Step (map-Step ((p : PatternNode) × Binds p) ((s : Step) × BindsOn s) PatternNode Step (λ e. e.0) (λ e. e.0) y))
   binds_on_level (level.Join e) = subst BindsOn (sym (rolls-Join e.0)) (join_binds e.0 e.1)
   binds_on_level (level.LeftJoin e conditions) = subst BindsOn (sym (rolls-LeftJoin e.0 conditions)) (left_join_binds e.0 conditions)
   binds_on_level (level.Minus e) = subst BindsOn (sym (rolls-Minus e.0)) (minus_binds e.0)
   binds_on_level (level.Extend w e) = subst BindsOn (sym (rolls-Extend w e)) (extend_binds w e)
 
-  each_binds : (p : Pattern) → Binds p
-  each_binds = ind-Pattern Binds BindsOn (λ x y is. subst (λ z. Binds (roll-Pattern z)) is (binds_level y)) (λ x y is. subst (λ z. BindsOn (roll-Step z)) is (binds_on_level y))
+  each_binds : (p : PatternNode) → Binds p
+  each_binds = ind-PatternNode Binds BindsOn (λ x y is. subst (λ z. Binds (roll-PatternNode z)) is (binds_level y)) (λ x y is. subst (λ z. BindsOn (roll-Step z)) is (binds_on_level y))
 
   -- ---- what isn't possible
 
-  abbrev Leaves : Pattern → Type 0
+  abbrev Leaves : PatternNode → Type 0
   Leaves p = is_possible width p v ≡ false → (graph : Triples) → AllByRecursion (Unbound v) (eval width quads p graph)
 
   abbrev LeavesOn : Step → Type 0
@@ -182,15 +182,15 @@ module _ (width : ℕ) (quads : List Statement) (v : ℕ) where
       by false is k =
           each_map (λ (m : Solution). m ≡ m) (Unbound v) (take width) (λ m e. take_past width v m (ltb-false v width is)) _ (each_of (λ (m : Solution). m ≡ m) (λ m. refl) _)
 
-  join_leaves : (part : Pattern) → Leaves part → LeavesOn (Join part)
+  join_leaves : (part : PatternNode) → Leaves part → LeavesOn (Join part)
   join_leaves part ih h graph left n =
       subst (AllByRecursion (Unbound v)) (sym (step_join width quads graph part left)) (join_neither v left (eval width quads part graph) n (ih (sym (possible_join width v part) ∙ h) graph))
 
-  left_join_leaves : (part : Pattern) (conditions : List Expr) → Leaves part → LeavesOn (LeftJoin part conditions)
+  left_join_leaves : (part : PatternNode) (conditions : List Expr) → Leaves part → LeavesOn (LeftJoin part conditions)
   left_join_leaves part conditions ih h graph left n =
       subst (AllByRecursion (Unbound v)) (sym (step_left_join width quads graph part conditions left)) (left_join_neither v left (eval width quads part graph) (all_hold conditions) n (ih (sym (possible_left_join width v part conditions) ∙ h) graph))
 
-  minus_leaves : (part : Pattern) → LeavesOn (Minus part)
+  minus_leaves : (part : PatternNode) → LeavesOn (Minus part)
   minus_leaves part h graph left n =
       subst (AllByRecursion (Unbound v)) (sym (step_minus width quads graph part left)) (minus_each v left (eval width quads part graph) (Unbound v) n)
 
@@ -206,7 +206,7 @@ module _ (width : ℕ) (quads : List Statement) (v : ℕ) where
       let k = neither (is_possible_step width e.0 v) (list_any (λ s. is_possible_step width s v) (map (λ e. e.0) es)) h in
       steps_leave es graph (step width quads e.0 graph first) (e.1 k.0 graph first n) k.1
 
-  union_leaves : (es : List ((p : Pattern) × Leaves p)) (graph : Triples) → list_any (λ p. is_possible width p v) (map (λ e. e.0) es) ≡ false → AllByRecursion (Unbound v) (flat_map (λ p. eval width quads p graph) (map (λ e. e.0) es))
+  union_leaves : (es : List ((p : PatternNode) × Leaves p)) (graph : Triples) → list_any (λ p. is_possible width p v) (map (λ e. e.0) es) ≡ false → AllByRecursion (Unbound v) (flat_map (λ p. eval width quads p graph) (map (λ e. e.0) es))
   union_leaves [] graph h = tt
   union_leaves (e ∷ es) graph h =
       let k = neither (is_possible width e.0 v) (list_any (λ p. is_possible width p v) (map (λ e. e.0) es)) h in
@@ -219,7 +219,7 @@ module _ (width : ℕ) (quads : List Statement) (v : ℕ) where
       by true is k = named_other width w v name k
       by false is k = named_past width w v name (ltb-false v width is)
 
-  each_leaves_in : (w : ℕ) (part : Pattern) (names : List Term) → ((graph : Triples) → AllByRecursion (Unbound v) (eval width quads part graph)) → (nat_lt v width && w == v) ≡ false → AllByRecursion (Unbound v) (in_each width quads w (eval width quads part) names)
+  each_leaves_in : (w : ℕ) (part : PatternNode) (names : List Term) → ((graph : Triples) → AllByRecursion (Unbound v) (eval width quads part graph)) → (nat_lt v width && w == v) ≡ false → AllByRecursion (Unbound v) (in_each width quads w (eval width quads part) names)
   each_leaves_in w part [] ih h = tt
   each_leaves_in w part (name ∷ names) ih h =
       let own : AllByRecursion (Unbound v) (binding width (w ∷ []) (Some name ∷ []) ∷ []) = (named_leaves w name h, tt) in
@@ -237,7 +237,7 @@ module _ (width : ℕ) (quads : List Statement) (v : ℕ) where
       subst (AllByRecursion (Unbound v)) (sym (eval_values width quads graph table))
       (each_map (λ (row : List (Option Term)). row ≡ row) (Unbound v) (binding width table.variables) (λ row e. row_leaves table.variables row (sym (possible_values width v table) ∙ h)) table.rows (each_of (λ (row : List (Option Term)). row ≡ row) (λ row. refl) table.rows))
 
-  leaves_level : (y : level.Pattern-F ((p : Pattern) × Leaves p) ((s : Step) × LeavesOn s)) → Leaves (roll-Pattern (map-Pattern ((p : Pattern) × Leaves p) ((s : Step) × LeavesOn s) Pattern Step (λ e. e.0) (λ e. e.0) y))
+  leaves_level : (y : level.PatternNode-F ((p : PatternNode) × Leaves p) ((s : Step) × LeavesOn s)) → Leaves (roll-PatternNode (map-PatternNode ((p : PatternNode) × Leaves p) ((s : Step) × LeavesOn s) PatternNode Step (λ e. e.0) (λ e. e.0) y))
   leaves_level (level.Basic b) = subst Leaves (sym (rolls-Basic b)) (basic_leaves b)
   leaves_level (level.Group es conditions) = subst Leaves (sym (rolls-Group (map (λ e. e.0) es) conditions)) (λ h graph.
       subst (AllByRecursion (Unbound v)) (sym (eval_group width quads graph (map (λ e. e.0) es) conditions))
@@ -253,19 +253,19 @@ module _ (width : ℕ) (quads : List Statement) (v : ℕ) where
       subst (AllByRecursion (Unbound v)) (sym (eval_each_graph width quads graph w e.0)) (each_leaves_in w e.0 (names_of quads) (e.1 k.1) k.0))
   leaves_level (level.Values table) = subst Leaves (sym (rolls-Values table)) (values_leave table)
 
-  leaves_on_level : (y : level.Step-F ((p : Pattern) × Leaves p) ((s : Step) × LeavesOn s)) → LeavesOn (roll-Step (map-Step ((p : Pattern) × Leaves p) ((s : Step) × LeavesOn s) Pattern Step (λ e. e.0) (λ e. e.0) y))
+  leaves_on_level : (y : level.Step-F ((p : PatternNode) × Leaves p) ((s : Step) × LeavesOn s)) → LeavesOn (roll-Step (map-Step ((p : PatternNode) × Leaves p) ((s : Step) × LeavesOn s) PatternNode Step (λ e. e.0) (λ e. e.0) y))
   leaves_on_level (level.Join e) = subst LeavesOn (sym (rolls-Join e.0)) (join_leaves e.0 e.1)
   leaves_on_level (level.LeftJoin e conditions) = subst LeavesOn (sym (rolls-LeftJoin e.0 conditions)) (left_join_leaves e.0 conditions e.1)
   leaves_on_level (level.Minus e) = subst LeavesOn (sym (rolls-Minus e.0)) (minus_leaves e.0)
   leaves_on_level (level.Extend w e) = subst LeavesOn (sym (rolls-Extend w e)) (extend_leaves w e)
 
-  each_leaves : (p : Pattern) → Leaves p
-  each_leaves = ind-Pattern Leaves LeavesOn (λ x y is. subst (λ z. Leaves (roll-Pattern z)) is (leaves_level y)) (λ x y is. subst (λ z. LeavesOn (roll-Step z)) is (leaves_on_level y))
+  each_leaves : (p : PatternNode) → Leaves p
+  each_leaves = ind-PatternNode Leaves LeavesOn (λ x y is. subst (λ z. Leaves (roll-PatternNode z)) is (leaves_level y)) (λ x y is. subst (λ z. LeavesOn (roll-Step z)) is (leaves_on_level y))
 
 -- a certain variable is bound in each solution
-pub certain_bound : (width : ℕ) (quads : List Statement) (pattern : Pattern) (graph : Triples) (v : ℕ) → is_certain width pattern v ≡ true → All (Bound v) (eval width quads pattern graph)
+pub certain_bound : (width : ℕ) (quads : List Statement) (pattern : PatternNode) (graph : Triples) (v : ℕ) → is_certain width pattern v ≡ true → All (Bound v) (eval width quads pattern graph)
 certain_bound width quads pattern graph v h = All-from_recursion (Bound v) (eval width quads pattern graph) (each_binds width quads v pattern h graph)
 
 -- a variable that isn't possible is bound in none
-pub others_unbound : (width : ℕ) (quads : List Statement) (pattern : Pattern) (graph : Triples) (v : ℕ) → is_possible width pattern v ≡ false → All (Unbound v) (eval width quads pattern graph)
+pub others_unbound : (width : ℕ) (quads : List Statement) (pattern : PatternNode) (graph : Triples) (v : ℕ) → is_possible width pattern v ≡ false → All (Unbound v) (eval width quads pattern graph)
 others_unbound width quads pattern graph v h = All-from_recursion (Unbound v) (eval width quads pattern graph) (each_leaves width quads v pattern h graph)

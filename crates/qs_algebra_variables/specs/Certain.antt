@@ -7,8 +7,8 @@ use Rattle.qs_algebra_patterns.specs.Basic.{occurs}
 use Rattle.qs_algebra_patterns.specs.Eval.{rows_of}
 use Rattle.qs_algebra_patterns.specs.declared.pattern.Table.{Table}
 use Rattle.qs_algebra_patterns.specs.declared.pattern.Step.{Step, fold-Step}
-use Rattle.qs_algebra_patterns.specs.declared.pattern.Pattern.{Pattern, fold-Pattern}
-use Rattle.qs_algebra_patterns.specs.declared.pattern.Pattern.TheOpen.{Pattern-F, Step-F, Basic, Group, Union, Graph, EachGraph, Values, Join, LeftJoin, Minus, Extend}
+use Rattle.qs_algebra_patterns.specs.declared.pattern.PatternNode.{PatternNode, fold-PatternNode}
+use Rattle.qs_algebra_patterns.specs.declared.pattern.PatternNode.TheOpen.{PatternNode-F, Step-F, Basic, Group, Union, Graph, EachGraph, Values, Join, LeftJoin, Minus, Extend}
 
 -- one of the table's variables
 abbrev pub is_column : Table → ℕ → Bool
@@ -20,7 +20,7 @@ is_set width table v = list_all (λ m. is_some (term_at m v)) (rows_of width tab
 
 -- A step that is joined binds it, or each part of a union, or GRAPH its variable, or a table that has no UNDEF for it. What is optional,
 -- and what is taken away, binds none, nor does BIND, whose expression may err. Hidden variables are taken away from solutions.
-abbrev pub is_certain_level : ℕ → Pattern-F (ℕ → Bool) (ℕ → Bool) → ℕ → Bool
+abbrev pub is_certain_level : ℕ → PatternNode-F (ℕ → Bool) (ℕ → Bool) → ℕ → Bool
 is_certain_level width (Basic pattern) v = nat_lt v width && occurs pattern v
 is_certain_level width (Group steps conditions) v = list_any (λ one. one v) steps
 is_certain_level width (Union parts) v = list_all (λ part. part v) parts
@@ -35,8 +35,8 @@ is_certain_step_level (Minus part) v = false
 is_certain_step_level (Extend w e) v = false
 
 -- whether the variable is bound in each solution of the pattern, of `width` named variables
-abbrev pub is_certain : ℕ → Pattern → ℕ → Bool
-is_certain width = fold-Pattern (ℕ → Bool) (ℕ → Bool) (is_certain_level width) is_certain_step_level
+abbrev pub is_certain : ℕ → PatternNode → ℕ → Bool
+is_certain width = fold-PatternNode (ℕ → Bool) (ℕ → Bool) (is_certain_level width) is_certain_step_level
 
 -- whether the step binds it by itself
 abbrev pub is_certain_step : ℕ → Step → ℕ → Bool

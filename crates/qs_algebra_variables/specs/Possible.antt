@@ -3,12 +3,12 @@ use Rattle.std.specs.Prelude.{ℕ, Bool, false, ◌&&◌, ◌||◌, ◌==◌, na
 use Rattle.std.specs.List.{list_any}
 use Rattle.qs_algebra_patterns.specs.Basic.{occurs}
 use Rattle.qs_algebra_patterns.specs.declared.pattern.Step.{Step, fold-Step}
-use Rattle.qs_algebra_patterns.specs.declared.pattern.Pattern.{Pattern, fold-Pattern}
-use Rattle.qs_algebra_patterns.specs.declared.pattern.Pattern.TheOpen.{Pattern-F, Step-F, Basic, Group, Union, Graph, EachGraph, Values, Join, LeftJoin, Minus, Extend}
+use Rattle.qs_algebra_patterns.specs.declared.pattern.PatternNode.{PatternNode, fold-PatternNode}
+use Rattle.qs_algebra_patterns.specs.declared.pattern.PatternNode.TheOpen.{PatternNode-F, Step-F, Basic, Group, Union, Graph, EachGraph, Values, Join, LeftJoin, Minus, Extend}
 use Rattle.qs_algebra_variables.specs.Certain.{is_column}
 
 -- a step of a group, or a part of a union, may bind it, or GRAPH or BIND its variable, or a table; what is taken away binds none
-abbrev pub is_possible_level : ℕ → Pattern-F (ℕ → Bool) (ℕ → Bool) → ℕ → Bool
+abbrev pub is_possible_level : ℕ → PatternNode-F (ℕ → Bool) (ℕ → Bool) → ℕ → Bool
 is_possible_level width (Basic pattern) v = nat_lt v width && occurs pattern v
 is_possible_level width (Group steps conditions) v = list_any (λ one. one v) steps
 is_possible_level width (Union parts) v = list_any (λ part. part v) parts
@@ -23,8 +23,8 @@ is_possible_step_level (Minus part) v = false
 is_possible_step_level (Extend w e) v = w == v
 
 -- whether the variable may be bound in a solution of the pattern, of `width` named variables
-abbrev pub is_possible : ℕ → Pattern → ℕ → Bool
-is_possible width = fold-Pattern (ℕ → Bool) (ℕ → Bool) (is_possible_level width) is_possible_step_level
+abbrev pub is_possible : ℕ → PatternNode → ℕ → Bool
+is_possible width = fold-PatternNode (ℕ → Bool) (ℕ → Bool) (is_possible_level width) is_possible_step_level
 
 -- whether the step may bind it
 abbrev pub is_possible_step : ℕ → Step → ℕ → Bool

@@ -8,39 +8,39 @@ ghost use Rattle.qs_algebra_variables.specs.Certain.{is_certain, is_certain_step
 use crate::flags::{alike, both, either, flag};
 use crate::mentioned::mentioned;
 use crate::table::certain_of_table;
-use qs_algebra_patterns::{Pattern, Step};
+use qs_algebra_patterns::{PatternNode, Step};
 use std::alloc::{AllocError, Global};
 
 /// At the number of each of the `width` named variables whether it is bound in each solution of the pattern, as far as the pattern
 /// alone tells it (SPARQL 1.1 Query, 18.5): its triples mention it or it stands at an end of a path, or a step of a group that is joined binds it, or each part of a
 /// union, or it is the variable of GRAPH, or a table sets it in each row.
 #[cycle(certain)]
-pub fn certain(alloc: Global, width: usize, pattern: &Pattern) -> Result<Vec<bool>, AllocError>
+pub fn certain(alloc: Global, width: usize, pattern: &PatternNode) -> Result<Vec<bool>, AllocError>
     ensures { IfOk result (λ flags. flags.items ≡ flags_from (is_certain width pattern.now) 0 width) }
 {
     match pattern {
-        Pattern::Basic(basic) => {
+        PatternNode::Basic(basic) => {
             let flags = mentioned(alloc, width, basic)?;
             Ok(flags)
         }
-        Pattern::Group(steps, _) => {
+        PatternNode::Group(steps, _) => {
             let flags = certain_in_steps(alloc, width, steps.as_slice())?;
             Ok(flags)
         }
-        Pattern::Union(parts) => {
+        PatternNode::Union(parts) => {
             let flags = certain_in_every(alloc, width, parts.as_slice())?;
             Ok(flags)
         }
-        Pattern::Graph(_, part) => {
+        PatternNode::Graph(_, part) => {
             let flags = certain(alloc, width, part.get())?;
             Ok(flags)
         }
-        Pattern::EachGraph(variable, part) => {
+        PatternNode::EachGraph(variable, part) => {
             let mut flags = certain(alloc, width, part.get())?;
             flag(&mut flags, *variable);
             Ok(flags)
         }
-        Pattern::Values(table) => {
+        PatternNode::Values(table) => {
             let flags = certain_of_table(alloc, width, table)?;
             Ok(flags)
         }
@@ -87,7 +87,11 @@ fn certain_of_step(alloc: Global, width: usize, one: &Step) -> Result<Vec<bool>,
 
 /// The variables that are certain in each of the patterns.
 #[cycle(certain)]
-fn certain_in_every(alloc: Global, width: usize, parts: &[Pattern]) -> Result<Vec<bool>, AllocError>
+fn certain_in_every(
+    alloc: Global,
+    width: usize,
+    parts: &[PatternNode],
+) -> Result<Vec<bool>, AllocError>
     ensures { IfOk result (λ flags. flags.items ≡ flags_from (λ v. list_all (λ part. is_certain width part v) parts.now) 0 width) }
 {
     let mut flags = alike(alloc, width, true)?;

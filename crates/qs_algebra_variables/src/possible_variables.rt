@@ -8,38 +8,38 @@ ghost use Rattle.qs_algebra_variables.specs.Possible.{is_possible, is_possible_s
 use crate::flags::{alike, either, flag};
 use crate::mentioned::mentioned;
 use crate::table::columns;
-use qs_algebra_patterns::{Pattern, Step};
+use qs_algebra_patterns::{PatternNode, Step};
 use std::alloc::{AllocError, Global};
 
 /// At the number of each of the `width` named variables whether a solution of the pattern may bind it: whether it is in scope of the
 /// pattern (SPARQL 1.1 Query, 18.2.1).
 #[cycle(possible)]
-pub fn possible(alloc: Global, width: usize, pattern: &Pattern) -> Result<Vec<bool>, AllocError>
+pub fn possible(alloc: Global, width: usize, pattern: &PatternNode) -> Result<Vec<bool>, AllocError>
     ensures { IfOk result (λ flags. flags.items ≡ flags_from (is_possible width pattern.now) 0 width) }
 {
     match pattern {
-        Pattern::Basic(basic) => {
+        PatternNode::Basic(basic) => {
             let flags = mentioned(alloc, width, basic)?;
             Ok(flags)
         }
-        Pattern::Group(steps, _) => {
+        PatternNode::Group(steps, _) => {
             let flags = possible_in_steps(alloc, width, steps.as_slice())?;
             Ok(flags)
         }
-        Pattern::Union(parts) => {
+        PatternNode::Union(parts) => {
             let flags = possible_in_some(alloc, width, parts.as_slice())?;
             Ok(flags)
         }
-        Pattern::Graph(_, part) => {
+        PatternNode::Graph(_, part) => {
             let flags = possible(alloc, width, part.get())?;
             Ok(flags)
         }
-        Pattern::EachGraph(variable, part) => {
+        PatternNode::EachGraph(variable, part) => {
             let mut flags = possible(alloc, width, part.get())?;
             flag(&mut flags, *variable);
             Ok(flags)
         }
-        Pattern::Values(table) => {
+        PatternNode::Values(table) => {
             let flags = columns(alloc, width, table.variables.as_slice())?;
             Ok(flags)
         }
@@ -87,7 +87,11 @@ fn possible_of_step(alloc: Global, width: usize, one: &Step) -> Result<Vec<bool>
 
 /// The variables that are possible in one of the patterns.
 #[cycle(possible)]
-fn possible_in_some(alloc: Global, width: usize, parts: &[Pattern]) -> Result<Vec<bool>, AllocError>
+fn possible_in_some(
+    alloc: Global,
+    width: usize,
+    parts: &[PatternNode],
+) -> Result<Vec<bool>, AllocError>
     ensures { IfOk result (λ flags. flags.items ≡ flags_from (λ v. list_any (λ part. is_possible width part v) parts.now) 0 width) }
 {
     let mut flags = alike(alloc, width, false)?;

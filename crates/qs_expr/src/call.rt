@@ -12,11 +12,11 @@ ghost use Rattle.qs_expr.specs.declared.operator.BinaryFunction.TheVariants as b
 
 use crate::operator::{BinaryFunction, UnaryFunction};
 use crate::relation::number;
-use qs_terms::{Lit, Term};
 use qs_expr_values::{
     Datatype, Value, Worth, boolean_form, contains, count, digits, ends, is_literal, is_same,
     matches_range, starts, worth_of,
 };
+use qs_terms::{Lit, Term};
 
 fn is_iri(value: &Value<'_>) -> bool
     ensures { result ≡ spec.is_iri (term_of value.entry.now) }

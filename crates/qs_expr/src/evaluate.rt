@@ -22,8 +22,8 @@ use crate::fault::ExprFault;
 use crate::joined::{add, finish};
 use crate::operator::{BinaryFunction, Comparison, Sign, UnaryFunction};
 use crate::relation::{compared, number, with_factor, with_part, with_sign};
-use qs_terms::Lit;
 use qs_expr_values::{Value, ebv, equal};
+use qs_terms::Lit;
 use std::alloc::Global;
 
 fn of_option(truth: Option<bool>) -> Result<bool, ExprFault>

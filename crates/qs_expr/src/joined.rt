@@ -8,8 +8,8 @@ ghost use Rattle.qs_expr.specs.inner.Joined as spec;
 
 use crate::call::string_of;
 use crate::fault::ExprFault;
-use qs_terms::{Lit, Term, Text};
 use qs_expr_values::Value;
+use qs_terms::{Lit, Term, Text};
 
 fn literal_of(term: &Term) -> Option<&Lit>
     ensures { spec.tag_in (option_copied result) ≡ spec.tag_of_term term.now }

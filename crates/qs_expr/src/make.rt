@@ -13,12 +13,12 @@ use crate::bindings::Bindings;
 use crate::evaluate::{truth, value};
 use crate::expr::Expr;
 use crate::fault::ExprFault;
-use qs_terms::Term;
 use qs_expr_values::{Key, Value, made};
+use qs_terms::Term;
 use std::alloc::{AllocError, Global};
 
 /// The term that the expression means. Memory is taken for the term, and by CONCAT.
-pub fn eval<B: Bindings>(alloc: Global, expr: &Expr, bindings: &B) -> Result<Term, ExprFault>
+pub fn eval_terms<B: Bindings>(alloc: Global, expr: &Expr, bindings: &B) -> Result<Term, ExprFault>
     ensures { Comes (makes expr.now || is_some (meaning (B.solution bindings.now) expr.now)) (meaning (B.solution bindings.now) expr.now) result }
 {
     let value = value(alloc, expr, bindings)?;
@@ -29,7 +29,7 @@ pub fn eval<B: Bindings>(alloc: Global, expr: &Expr, bindings: &B) -> Result<Ter
 }
 
 /// The effective boolean value of a term, without taking memory (SPARQL 1.1 Query, 17.2.2).
-pub fn ebv(term: &Term) -> Result<bool, ExprFault>
+pub fn ebv_terms(term: &Term) -> Result<bool, ExprFault>
     ensures { Comes false (of_terms.ebv term.now) result }
 {
     match qs_expr_values::ebv(&Value::Term(term)) {
@@ -51,7 +51,11 @@ pub fn holds<B: Bindings>(alloc: Global, expr: &Expr, bindings: &B) -> Result<bo
 }
 
 /// What ORDER BY sorts the solution by (SPARQL 1.1 Query, 15.1). Memory is taken for the texts of keys, and by CONCAT.
-pub fn order_key<B: Bindings>(alloc: Global, expr: &Expr, bindings: &B) -> Result<Key, AllocError>
+pub fn order_key_terms<B: Bindings>(
+    alloc: Global,
+    expr: &Expr,
+    bindings: &B,
+) -> Result<Key, AllocError>
     ensures key { IfOk result (λ k. k ≡ key_of (meaning (B.solution bindings.now) expr.now)) }
     ensures memory { OnErr result ((makes expr.now || has_text (key_of (meaning (B.solution bindings.now) expr.now))) ≡ true) }
 {

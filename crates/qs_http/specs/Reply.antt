@@ -39,12 +39,12 @@ abbrev pub with_body : Media → List ℕ → List ℕ
 with_body media body = body_fields media (length body) ++ body
 
 -- all that stands before the body in a reply with that status and type, and a body of so many bytes
-unfoldable pub front_of : ℕ → Media → ℕ → List ℕ
-front_of status media size = status_line status (phrase_of status) ++ closing ++ body_fields media size
+unfoldable pub head_of : ℕ → Media → ℕ → List ℕ
+head_of status media size = status_line status (phrase_of status) ++ closing ++ body_fields media size
 
 -- a reply with that status, type and body
 unfoldable pub reply_of : ℕ → Media → List ℕ → List ℕ
-reply_of status media body = front_of status media (length body) ++ body
+reply_of status media body = head_of status media (length body) ++ body
 
 -- the statuses of such a reply
 abbrev pub IsReplyStatus : ℕ → Type 0

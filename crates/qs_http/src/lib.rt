@@ -25,6 +25,6 @@ pub use laws::{
     cuts_do_not_matter, requests_are_kept, requests_are_unique, unfinished_requests_are_short,
 };
 pub use media::Media;
-pub use replies::{fixed, front, reply};
+pub use replies::{fixed, reply, reply_head};
 pub use request::Request;
 pub use session::{Progress, Session};

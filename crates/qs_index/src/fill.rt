@@ -5,7 +5,7 @@ ghost use Rattle.qs_index.specs.Entry.{skip_before, with_entry};
 ghost use Rattle.qs_index.specs.Layout.{joined, page_at, room_of, used_of};
 
 use crate::entry::is_less;
-use crate::pages::{PAGE, Pages, PagePosition};
+use crate::pages::{PAGE, PagePosition, Pages};
 
 // Puts an entry after all others: into the last page, or into a new one where that is full.
 fn append(pages: &mut Pages, entry: [u32; 4])

@@ -11,12 +11,12 @@ mod named;
 pub mod order;
 pub mod order_scan;
 mod page;
+mod page_blocks;
 pub mod pages;
 pub mod permutation;
 pub mod prefix;
 mod scan;
 mod search;
-mod page_blocks;
 
 pub use index::Index;
 pub use pages::PagePosition;

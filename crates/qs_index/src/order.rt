@@ -9,7 +9,7 @@ ghost use Rattle.qs_index.specs.Entry.{IsAscending, skip_before, with_entry, wit
 
 use crate::fill::fill;
 use crate::order_scan::OrderScan;
-use crate::pages::{HALF, PAGE, Pages, PagePosition, Reader};
+use crate::pages::{HALF, PAGE, PagePosition, Pages, Reader};
 use crate::prefix::Prefix;
 use crate::search::{Found, NOWHERE, find, locate, locate_from};
 use std::alloc::{AllocError, Global};

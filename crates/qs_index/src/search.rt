@@ -5,7 +5,7 @@ ghost use Rattle.qs_index.specs.Layout.{Layout, Reading, joined, page_at, rest_a
 ghost use Rattle.qs_index.specs.Entry.{is_before, IsAscending, skip_before};
 ghost use Rattle.qs_index.specs.inner.PagePosition.{IsPlaceFor, IsPlaceOf, IsFound, IsReached};
 
-use crate::pages::{Pages, PagePosition, Reader};
+use crate::pages::{PagePosition, Pages, Reader};
 use crate::prefix::Prefix;
 
 // An entry that was compared, and the number of the page that it ends, or of its place in its page.
@@ -260,7 +260,11 @@ pub fn find_from(reader: &mut Reader<'_>, from: PagePosition, prefix: &Prefix) -
 
 // Where an entry stands, or where it has to be put.
 #[inline(always)]
-fn locate_in(reader: Reader<'_>, from: PagePosition, entry: &[u32; 4]) -> Result<PagePosition, PagePosition>
+fn locate_in(
+    reader: Reader<'_>,
+    from: PagePosition,
+    entry: &[u32; 4],
+) -> Result<PagePosition, PagePosition>
     requires ascending { IsAscending (joined reader.pages) }
     requires some { 0 < length reader.pages }
     requires unread { reader.looked ≡ 0 }
@@ -283,7 +287,11 @@ fn locate_in(reader: Reader<'_>, from: PagePosition, entry: &[u32; 4]) -> Result
 
 /// Where an entry stands, or where it has to be put, looked for from an earlier place on where it stands after that.
 #[inline(always)]
-pub fn locate_from(pages: &Pages, from: PagePosition, entry: &[u32; 4]) -> Result<PagePosition, PagePosition>
+pub fn locate_from(
+    pages: &Pages,
+    from: PagePosition,
+    entry: &[u32; 4],
+) -> Result<PagePosition, PagePosition>
     requires ascending { IsAscending (joined pages.now.pages) }
     requires some { 0 < length pages.now.pages }
     ensures found { IfOk result (λ place. IsPlaceOf entry.now pages.now.pages place.page place.at) }

@@ -13,10 +13,10 @@ use Rattle.qs_lex_regular.specs.Form as form
 use Rattle.qs_lex_regular.specs.Form.{Form, Spells, Pieces, none, more, one, many, nothing, maybe, plus, char, literal, ◌⨾◌, ◌∣◌}
 use Rattle.qs_lex_regular.specs.Longest.{Table, IsFirst}
 use Rattle.qs_terms.specs.Iri.{is_excluded}
-use Rattle.qs_lex_forms.proofs.Bytes.{within, other_than, bytes_pass, first_byte, none_any}
-use Rattle.qs_lex_forms.proofs.Escapes.{Stands, any, pieces_stand, string_character, string_codepoint, echar_stands, escapes_stand, lawful_iri, this_char}
-use Rattle.qs_lex_forms.proofs.Spelled.{Within, spelled_pass}
-use Rattle.qs_lex_forms.proofs.Tags.{tag_form, lawful_tag}
+use Rattle.qs_lex_escapes.proofs.Bytes.{within, other_than, bytes_pass, first_byte, none_any}
+use Rattle.qs_lex_escapes.proofs.SpelledEscapes.{Stands, any, pieces_stand, string_character, string_codepoint, echar_stands, escapes_stand, lawful_iri, this_char}
+use Rattle.qs_lex_escapes.proofs.Spelled.{Within, spelled_pass}
+use Rattle.qs_lex_escapes.proofs.Tags.{tag_form, lawful_tag}
 use Rattle.qs_lex.specs.Parts.{IsIri, IsName, IsPrefix, IsBehind, IsVariable, IsLangTag, IsString, IsMadeOf, begins_with}
 use Rattle.qs_lex.specs.Table.{table, IsToken, is_escapable, name_escape, prefix, pname_ns, local_first, local_middle, local_last, short_string, long_string}
 use Rattle.qs_lex.specs.declared.token.Class.{Class}

@@ -4,7 +4,7 @@ use Rattle.std.specs.List.{list_any}
 use Rattle.std.specs.Str.{IsUtf8}
 use Rattle.qs_lex_escapes.specs.Decoded.{decoded, unescaped}
 use Rattle.qs_lex_escapes.specs.Escape.{uchar, string_escape}
-use Rattle.qs_lex_forms.specs.Backslashes.{escapes_begin}
+use Rattle.qs_lex_escapes.specs.Backslashes.{escapes_begin}
 use Rattle.qs_terms.specs.Iri.{is_excluded}
 use Rattle.qs_terms.specs.Tag.{is_tag}
 use Rattle.qs_lex.specs.Lexes.{Lexeme}

@@ -4,7 +4,7 @@ ghost use Rattle.std.specs.Prelude.{◌≡◌, MatchOption, []};
 ghost use Rattle.qs_lex_regular.specs.Longest.{advance, here};
 ghost use Rattle.qs_lex.specs.inner.NameState.{left_of_name};
 
-use crate::letter::{is_pn_chars, is_escapable, is_pn_chars_u, is_word_char};
+use crate::letter::{is_escapable, is_pn_chars, is_pn_chars_u, is_word_char};
 use crate::token::Class;
 use qs_lex_regular::character::{is_digit, is_hex, is_letter, is_letter_or_digit, is_mark_in_name};
 

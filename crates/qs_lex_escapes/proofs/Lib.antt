@@ -3,3 +3,8 @@ pub mod Characters
 pub mod HexNumbers
 pub mod Backslashes
 pub mod EscapeEnds
+pub mod Bytes
+pub mod Spelled
+pub mod SpelledEscapes
+pub mod Tags
+pub mod PiecesBetween

@@ -1,3 +1,5 @@
 pub mod Escape
 pub mod Decoded
 pub mod Piece
+pub mod Backslashes
+pub mod StandsFor

@@ -7,7 +7,7 @@ use lib.Utf8.{scalar, scalars, encodes}
 use Rattle.qs_lex_regular.specs.Form.{Spells, one, many, maybe, char, ◌⨾◌}
 use Rattle.qs_lex_regular.specs.Longest.{LongestFront}
 use Rattle.qs_terms.specs.Tag.{is_tag}
-use Rattle.qs_lex_forms.proofs.Tags.{tag_form, lawful_tag}
+use Rattle.qs_lex_escapes.proofs.Tags.{tag_form, lawful_tag}
 use Rattle.qs_nquads.specs.Part.{behind}
 use Rattle.qs_nquads.specs.Table.{table, is_label_start, is_label_inner, is_label_char}
 use Rattle.qs_nquads.specs.declared.class.Class.{Class}

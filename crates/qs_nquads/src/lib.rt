@@ -17,10 +17,10 @@ mod node;
 mod nquads;
 mod output;
 mod part;
-mod statement_state;
 mod reader;
 mod run;
 mod state;
+mod statement_state;
 mod written;
 
 pub use crate::fault::{NqFault, NqFaultKind};

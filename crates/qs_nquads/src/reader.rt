@@ -14,7 +14,7 @@ use crate::labels::Labels;
 use crate::longest::longest;
 use crate::part::part_of;
 use crate::statement_state::{StatementState, after};
-use qs_terms::{Quad, IriCache};
+use qs_terms::{IriCache, Quad};
 use std::alloc::Global;
 use std::hash::RandomState;
 use std::marker::Model;

@@ -8,7 +8,8 @@ ghost use Rattle.qs_nquads.specs.declared.state.State.TheVariants as state;
 
 use crate::class::Class;
 use qs_lex_regular::character::{
-    is_pn_chars, is_digit, is_escaped, is_iri_char, is_letter, is_letter_or_digit, is_scalar, is_pn_chars_u,
+    is_digit, is_escaped, is_iri_char, is_letter, is_letter_or_digit, is_pn_chars, is_pn_chars_u,
+    is_scalar,
 };
 use qs_lex_regular::hex_digits::HexDigits;
 use qs_lex_regular::push::{Pushed, push};

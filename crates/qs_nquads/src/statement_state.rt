@@ -91,7 +91,11 @@ fn at_start(place: &mut StatementState, part: Part) -> Result<Option<Quad>, NqFa
     }
 }
 
-fn at_subject(place: &mut StatementState, subject: Node, part: Part) -> Result<Option<Quad>, NqFaultKind>
+fn at_subject(
+    place: &mut StatementState,
+    subject: Node,
+    part: Part,
+) -> Result<Option<Quad>, NqFaultKind>
     ensures { MatchResult result (λ next. GoesOn (Rattle.qs_nquads.specs.StatementState.at_subject subject part) next place.new) (λ fault. Rattle.qs_nquads.specs.StatementState.at_subject subject part ≡ Err fault) }
 {
     match part {
@@ -113,7 +117,10 @@ fn at_predicate(
 {
     match part {
         Part::Iri(iri) => {
-            set(place, StatementState::Object(subject, predicate, Term::Iri(iri)));
+            set(
+                place,
+                StatementState::Object(subject, predicate, Term::Iri(iri)),
+            );
             Ok(None)
         }
         Part::Blank(number) => {
@@ -260,13 +267,19 @@ fn at_done(place: &mut StatementState, part: Part) -> Result<Option<Quad>, NqFau
 /// # Errors
 /// `NqFaultKind::Shape` where the part has no place here, `NqFaultKind::Literal` for rdf:langString after `^^`, and
 /// `NqFaultKind::Memory`.
-pub fn after(alloc: Global, place: &mut StatementState, part: Part) -> Result<Option<Quad>, NqFaultKind>
+pub fn after(
+    alloc: Global,
+    place: &mut StatementState,
+    part: Part,
+) -> Result<Option<Quad>, NqFaultKind>
     ensures { MatchResult result (λ next. GoesOn (Rattle.qs_nquads.specs.StatementState.after place.old part) next place.new) (λ fault. fault ≢ Memory → Rattle.qs_nquads.specs.StatementState.after place.old part ≡ Err fault) }
 {
     match mem::replace(place, StatementState::Start) {
         StatementState::Start => at_start(place, part),
         StatementState::Subject(subject) => at_subject(place, subject, part),
-        StatementState::Predicate(subject, predicate) => at_predicate(place, subject, predicate, part),
+        StatementState::Predicate(subject, predicate) => at_predicate(
+            place, subject, predicate, part,
+        ),
         StatementState::Form(subject, predicate, form) => at_form(
             alloc, place, subject, predicate, form, part,
         ),

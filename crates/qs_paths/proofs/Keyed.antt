@@ -16,7 +16,7 @@ use Rattle.qs_terms.proofs.FirstOnes.{filter-append}
 use Rattle.qs_terms.proofs.SameTerm.{same_term-Decides, eq_is}
 use Rattle.qs_terms.specs.contracts.term.TermOrd.TheImpl as ord
 use Rattle.qs_terms.specs.contracts.term.TermOrd.TheImpl.Laws as law
-use Rattle.qs_hashed.proofs.Entries as entries
+use Rattle.qs_base.proofs.Entries as entries
 use Rattle.qs_paths.specs.Edges.{lent, triples, triples_at, at_node, IsKeyed}
 use Rattle.qs_paths.specs.Steps.{Graph}
 use Rattle.qs_paths.proofs.Members.{Mem, mem_at, mem_once, mem_of_once, mem_flat, mem_of_flat, mem_filter, mem_of_filter, mem_in, not_in}

@@ -16,9 +16,9 @@ use Rattle.qs_terms.specs.declared.term.Term.{Term}
 use Rattle.qs_terms.specs.Bag.{Distinct}
 use Rattle.qs_terms.specs.Term.{same_term}
 use Rattle.qs_terms.proofs.SameTerm.{same_term-Decides, eq_is}
-use Rattle.qs_hashed.specs.Hashed.{hash_of}
-use Rattle.qs_hashed.proofs.Entries as entries
-use Rattle.qs_hashed.proofs.Tests.{tells}
+use Rattle.qs_base.specs.Hashed.{hash_of}
+use Rattle.qs_base.proofs.Entries as entries
+use Rattle.qs_base.proofs.HashTests.{tells}
 use Rattle.qs_terms.specs.contracts.term.TermHash.TheImpl as hashing
 use Rattle.qs_terms.specs.contracts.term.TermOrd.TheImpl as ord
 use Rattle.qs_terms.specs.contracts.term.TermOrd.TheImpl.Laws as law

@@ -8,10 +8,7 @@ use Rattle.qs_terms.specs.Dataset.{Triple, triple_of}
 use Rattle.qs_terms.specs.Statement.{Statement}
 use Rattle.qs_terms.specs.Term.{same_term}
 use Rattle.qs_paths.specs.Steps.{Graph, agrees}
-
--- the values that are lent
-abbrev pub lent : {X : Type 0} → List (Bor X) → List X
-lent xs = map (λ x. x.now) xs
+pub use Rattle.qs_base.specs.Lent.{lent}
 
 abbrev pub triple : Term → Term → Term → Triple
 triple s p o = record { subject = s; predicate = p; object = o }

@@ -20,8 +20,8 @@ use crate::reached::{Reached, put_reached};
 use crate::source::Source;
 use crate::sweep::put_in_order;
 use qs_syntax_ast::path::Path;
-use qs_terms::Term;
 use qs_syntax_tree::path::Repetition;
+use qs_terms::Term;
 use std::alloc::{AllocError, Global};
 
 /// Nodes from which all pairs of the closure lead. For `+` these are the left ends of the path's pairs: from another node no walk takes

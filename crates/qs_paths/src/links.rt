@@ -9,7 +9,7 @@ ghost use Rattle.qs_paths.specs.inner.Links.{AreBelow, AreLinks, IsAt, IsMarked,
 
 use crate::pair::Pair;
 use crate::reached::Reached;
-use qs_hashed::Hashed;
+use qs_base::Hashed;
 use qs_terms::Term;
 use std::alloc::{AllocError, Global};
 use std::collections::BTreeMap;

@@ -1,7 +1,7 @@
 -- What the text of a query over a dataset is answered with: one of the answers that the algebra gives, or the one fault that is due.
 use Rattle.std.specs.Prelude.{◌≡◌, ℕ, List, None, Ok, Err}
 use Rattle.qs_terms.specs.Dataset.{Dataset, Triple, graph_of}
-use Rattle.qs_query_answer.specs.declared.answer.Answer.{Answer}
+use Rattle.qs_algebra_solutions.specs.declared.answer.Answer.{Answer}
 use Rattle.qs_syntax_ast.specs.declared.query.Query.{Query}
 use Rattle.qs_terms.specs.Outcome.{Outcome}
 use Rattle.qs_syntax.specs.Outcome.{IsQueryOutcome}

@@ -3,7 +3,6 @@
 
 mod query;
 
-pub use qs_query_answer::Answer;
+pub use qs_algebra_solutions::{Answer, Row};
 pub use qs_query_forms::solutions_of;
-pub use qs_algebra_solutions::Row;
 pub use query::answer;

@@ -1,11 +1,11 @@
 //! Answers of texts.
 
 ghost use Rattle.qs_terms.specs.Outcome.{OneOrOutOfMemory};
-ghost use Rattle.old_plan.specs.Seen.{seen};
+ghost use Rattle.qs_store.specs.Visible.{visible};
 ghost use Rattle.qs_query_forms.specs.Sequence.{dataset_of};
 ghost use Rattle.qs_query.specs.Outcome.{IsOutcomeOfText};
 
-use qs_query_answer::Answer;
+use qs_algebra_solutions::Answer;
 use qs_query_forms::answer_query;
 use qs_store::View;
 use qs_syntax::parse_query;
@@ -18,7 +18,7 @@ use std::alloc::Global;
 /// The fault of the text, as of `parse_query`. Of a text without fault: `QFault::TooManyRows` where the solutions of a SELECT or a CONSTRUCT, after OFFSET and LIMIT, are more than `max_rows`;
 /// `QFault::Full` where there are no numbers for the fresh blank nodes of a CONSTRUCT. `QFault::Memory` where memory runs out, at any time.
 pub fn answer<V: View>(alloc: Global, text: &str, view: &V, max_rows: u64) -> Result<Answer, QFault>
-    ensures { OneOrOutOfMemory (IsOutcomeOfText text.now (dataset_of (seen (V.default_seen view.now) (V.content view.now).quads) (V.content view.now).next) max_rows) result }
+    ensures { OneOrOutOfMemory (IsOutcomeOfText text.now (dataset_of (visible (V.default_seen view.now) (V.content view.now).quads) (V.content view.now).next) max_rows) result }
 {
     let query = parse_query(alloc, text)?;
     answer_query(alloc, &query, view, None, max_rows)

@@ -11,7 +11,7 @@ use Rattle.qs_terms.specs.Outcome.{Outcome, OneOrOutOfMemory}
 use Rattle.qs_terms.specs.declared.fault.QFault.TheVariants.{TooManyRows}
 use Rattle.qs_terms.proofs.FirstOnes.{filter-append}
 use Rattle.qs_algebra_solutions.specs.Solution.{Solution, projected, same_solution}
-use Rattle.old_plan.specs.Some.{AreSome, AreSomeDistinct, is_enough}
+use Rattle.qs_algebra_solutions.specs.Some.{AreSome, AreSomeDistinct, is_enough}
 use Rattle.qs_query_forms.specs.inner.InOrder.{AreListed, ByLimit, IsRows, IsRowsOf, bounded, projected_where}
 use Rattle.qs_query_forms.specs.Sequence.{sliced, once_where, listed_rows, count}
 use Rattle.qs_query_forms.specs.declared.modifiers.Slice.{Slice}

@@ -9,7 +9,7 @@ use Rattle.std.specs.declared.cmp.Ordering.{Ordering}
 use Rattle.std.specs.declared.cmp.Ordering.TheVariants.{Less, Equal, Greater}
 use Rattle.qs_terms.specs.declared.term.Term.{Term}
 use Rattle.qs_algebra_solutions.specs.Solution.{Solution, same_cell, same_solution}
-use Rattle.old_eval.proofs.KnownTerms.{cmp, tells}
+use Rattle.qs_algebra_solutions.proofs.TermOrder.{cmp, tells}
 
 -- the order of lent terms
 abbrev pub order_of_terms : Bor Term → Bor Term → Ordering

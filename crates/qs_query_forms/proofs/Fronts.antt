@@ -6,7 +6,7 @@ use Rattle.qs_terms.specs.Bag.{SameBag}
 use Rattle.qs_terms.specs.Outcome.{Outcome, OneOrOutOfMemory}
 use Rattle.qs_terms.specs.declared.fault.QFault.TheVariants.{TooManyRows}
 use Rattle.qs_algebra_solutions.specs.Solution.{Solution, projected}
-use Rattle.qs_query_answer.specs.declared.answer.Answer.{Answer}
+use Rattle.qs_algebra_solutions.specs.declared.answer.Answer.{Answer}
 use Rattle.qs_query_order.specs.Order.{IsOrdered, AreFirst}
 use Rattle.qs_query_order.specs.declared.condition.OrderCondition.{OrderCondition}
 use Rattle.qs_query_template.specs.Instances.{made}

@@ -11,12 +11,12 @@ use Rattle.qs_terms.specs.Statement.{Statement}
 use Rattle.qs_terms.specs.declared.fault.QFault.{QFault}
 use Rattle.qs_terms.specs.declared.fault.QFault.TheVariants.{TooManyRows}
 use Rattle.qs_algebra_solutions.specs.Solution.{Solution, projected}
-use Rattle.qs_query_answer.specs.declared.answer.Answer.{Answer}
-use Rattle.qs_query_answer.specs.declared.answer.Answer.TheVariants.{Solutions}
+use Rattle.qs_algebra_solutions.specs.declared.answer.Answer.{Answer}
+use Rattle.qs_algebra_solutions.specs.declared.answer.Answer.TheVariants.{Solutions}
 use Rattle.qs_syntax_ast.specs.declared.query.Query.{Query}
 use Rattle.qs_syntax_scope.specs.Names.{Name}
-use Rattle.qs_algebra.specs.declared.named.NamedPattern.{NamedPattern}
-use Rattle.old_eval.specs.inner.Lent.{lent}
+use Rattle.qs_algebra.specs.declared.pattern.Pattern.{Pattern}
+use Rattle.qs_base.specs.Lent.{lent}
 use Rattle.qs_query_order.specs.Order.{IsOrdered}
 use Rattle.qs_query_order.specs.declared.condition.OrderCondition.{OrderCondition}
 use Rattle.qs_query_template.specs.Instances.{made}
@@ -131,7 +131,7 @@ has_any xs solutions n b h e is = counted xs n b e (sym is) ∙ has_at xs soluti
 
 -- ---- all solutions
 
-module _ (pattern : NamedPattern) (solutions : List Solution) (max_rows : ℕ) where
+module _ (pattern : Pattern) (solutions : List Solution) (max_rows : ℕ) where
   all_at : (rows all : List Solution) → SameBag all solutions → Ok rows ≡ bounded max_rows all → IsAllSolutions pattern solutions max_rows (Ok (Solutions pattern.names rows))
   all_at rows all h e = by (nat_lt max_rows (length all)) refl e
     where

@@ -7,10 +7,10 @@ use Rattle.qs_terms.specs.Dataset.{Dataset, Triple}
 use Rattle.qs_terms.specs.Outcome.{Outcome}
 use Rattle.qs_terms.specs.Statement.{Statement, same_statement}
 use Rattle.qs_algebra_solutions.specs.Solution.{Solution}
-use Rattle.qs_query_answer.specs.declared.answer.Answer.{Answer}
-use Rattle.qs_query_answer.specs.declared.answer.Answer.TheVariants.{Solutions, Truth, Graph}
+use Rattle.qs_algebra_solutions.specs.declared.answer.Answer.{Answer}
+use Rattle.qs_algebra_solutions.specs.declared.answer.Answer.TheVariants.{Solutions, Truth, Graph}
 use Rattle.qs_syntax_ast.specs.declared.query.Query.{Query}
-use Rattle.qs_algebra.specs.declared.named.NamedPattern.{NamedPattern}
+use Rattle.qs_algebra.specs.declared.pattern.Pattern.{Pattern}
 use Rattle.qs_query_forms.specs.Request.{request}
 use Rattle.qs_query_forms.specs.Sequence.{whole, sliced, IsSequence, IsPart, count, has_solution}
 use Rattle.qs_query_template.specs.Instances.{made}
@@ -53,7 +53,7 @@ abbrev pub IsOutcomeOfQuery : Query → Dataset → List Triple → ℕ → Outc
 IsOutcomeOfQuery query d graph max_rows outcome = IsAnswered (request query) d graph max_rows outcome
 
 -- all solutions of a pattern with its variables, as an update's WHERE has them, or the fault that there are more than max_rows
-abbrev pub IsAllSolutions : NamedPattern → List Solution → ℕ → Outcome Answer → Type 0
+abbrev pub IsAllSolutions : Pattern → List Solution → ℕ → Outcome Answer → Type 0
 IsAllSolutions pattern solutions max_rows outcome =
     ((max_rows < length solutions) × (outcome ≡ Err TooManyRows))
     ⊎ ((length solutions ≤ max_rows) × (rows : List Solution) × SameBag rows solutions × (outcome ≡ Ok (Solutions pattern.names rows)))

@@ -9,7 +9,7 @@ use Rattle.qs_algebra_solutions.specs.Solution.{Solution, projected, same_soluti
 use Rattle.qs_algebra_patterns.specs.Eval.{eval}
 use Rattle.qs_query_order.specs.Order.{IsOrdered}
 use Rattle.qs_query_order.specs.declared.condition.OrderCondition.{OrderCondition}
-use Rattle.qs_algebra.specs.declared.named.NamedPattern.{NamedPattern}
+use Rattle.qs_algebra.specs.declared.pattern.Pattern.{Pattern}
 use Rattle.qs_query_forms.specs.declared.selection.Selection.{Selection}
 use Rattle.qs_query_forms.specs.declared.modifiers.Slice.{Slice}
 
@@ -18,8 +18,8 @@ abbrev pub dataset_of : List Statement → ℕ → Dataset
 dataset_of quads next = record { quads = once same_statement quads; next = next }
 
 -- all solutions of a pattern over the quads of a dataset, where these triples are the active graph
-abbrev pub whole : NamedPattern → List Statement → List Triple → List Solution
-whole named quads graph = eval (length named.names) quads named.pattern graph
+abbrev pub whole : Pattern → List Statement → List Triple → List Solution
+whole named quads graph = eval (length named.names) quads named.root graph
 
 abbrev pub limited : {X : Type 0} → Option ℕ → List X → List X
 limited None xs = xs

@@ -2,13 +2,13 @@
 
 ghost use Rattle.std.specs.Prelude.{◌≡◌, [], IfOk, Ok};
 ghost use Rattle.std.specs.Option.{option_copied};
-ghost use Rattle.old_eval.specs.inner.Lent.{lent};
+ghost use Rattle.qs_base.specs.Lent.{lent};
 ghost use Rattle.qs_terms.specs.Bag.{SameBag, once};
 ghost use Rattle.qs_terms.specs.Dataset.{graph_of};
 ghost use Rattle.qs_terms.specs.Outcome.{OneOrOutOfMemory};
 ghost use Rattle.qs_terms.specs.Statement.{same_statement};
-ghost use Rattle.old_plan.specs.Seen.{seen, seen_of};
-ghost use Rattle.old_plan.specs.Some.{AreSome, AreSomeDistinct};
+ghost use Rattle.qs_store.specs.Visible.{visible, visible_quads};
+ghost use Rattle.qs_algebra_solutions.specs.Some.{AreSome, AreSomeDistinct};
 ghost use Rattle.qs_query_forms.specs.inner.InOrder as in_order;
 ghost use Rattle.qs_query_forms.specs.Outcome.{IsSelected, IsBuilt, IsConstructed, IsAsked, IsAllSolutions, IsOutcomeOfQuery};
 ghost use Rattle.qs_query_forms.specs.Sequence.{dataset_of, whole};
@@ -21,30 +21,29 @@ use crate::sequence::{
     sliced,
 };
 use crate::unordered::part_of;
-use qs_algebra::NamedPattern;
-use qs_query_answer::Answer;
-use qs_syntax_ast::query::Query;
 use old_plan::{distinct_solutions_seen, some_solutions_seen};
-use qs_algebra_solutions::Row;
-use qs_store::View;
+use qs_algebra::Pattern;
+use qs_algebra_solutions::{Answer, Row};
 use qs_query_template::{each_once, instances};
+use qs_store::View;
+use qs_syntax_ast::query::Query;
 use qs_terms::{QFault, Quad, Term, Text};
 use sqlite_items::Items;
 use std::alloc::{AllocError, Global};
 
 fn some_solutions<V: View>(
     alloc: Global,
-    pattern: &NamedPattern,
+    pattern: &Pattern,
     view: &V,
     active: Option<&Term>,
     most: Option<u64>,
 ) -> Result<Vec<Row>, AllocError>
-    ensures { IfOk result (λ rows. let set = seen_of (V.content view.now) (V.default_seen view.now) in AreSome most rows.items (whole pattern.now set (graph_of set (option_copied active.entry)))) }
+    ensures { IfOk result (λ rows. let set = visible_quads (V.content view.now) (V.default_seen view.now) in AreSome most rows.items (whole pattern.now set (graph_of set (option_copied active.entry)))) }
 {
     some_solutions_seen(
         alloc,
         pattern.names.len(),
-        &pattern.pattern,
+        &pattern.root,
         view,
         active,
         most,
@@ -54,18 +53,18 @@ fn some_solutions<V: View>(
 // the terms of these variables in some of the solutions, each once
 fn some_distinct<V: View>(
     alloc: Global,
-    pattern: &NamedPattern,
+    pattern: &Pattern,
     view: &V,
     active: Option<&Term>,
     columns: &[usize],
     most: Option<u64>,
 ) -> Result<Vec<Row>, AllocError>
-    ensures { IfOk result (λ rows. let set = seen_of (V.content view.now) (V.default_seen view.now) in AreSomeDistinct columns.now most rows.items (whole pattern.now set (graph_of set (option_copied active.entry)))) }
+    ensures { IfOk result (λ rows. let set = visible_quads (V.content view.now) (V.default_seen view.now) in AreSomeDistinct columns.now most rows.items (whole pattern.now set (graph_of set (option_copied active.entry)))) }
 {
     distinct_solutions_seen(
         alloc,
         pattern.names.len(),
-        &pattern.pattern,
+        &pattern.root,
         view,
         active,
         columns,
@@ -99,7 +98,7 @@ fn ordered<V: View>(
     active: Option<&Term>,
     max_rows: u64,
 ) -> Result<Items<Row>, QFault>
-    ensures { let set = seen_of (V.content view.now) (V.default_seen view.now) in OneOrOutOfMemory (in_order.IsRows asked.now (whole asked.now.pattern set (graph_of set (option_copied active.entry))) max_rows) result }
+    ensures { let set = visible_quads (V.content view.now) (V.default_seen view.now) in OneOrOutOfMemory (in_order.IsRows asked.now (whole asked.now.pattern set (graph_of set (option_copied active.entry))) max_rows) result }
 {
     let most = enough(asked, max_rows);
     let all = some_solutions(alloc, &asked.pattern, view, active, most)?;
@@ -116,7 +115,7 @@ fn listed<V: View>(
     active: Option<&Term>,
     most: Option<u64>,
 ) -> Result<Vec<Row>, AllocError>
-    ensures { IfOk result (λ rows. let set = seen_of (V.content view.now) (V.default_seen view.now) in in_order.AreListed asked.now most rows.items (whole asked.now.pattern set (graph_of set (option_copied active.entry)))) }
+    ensures { IfOk result (λ rows. let set = visible_quads (V.content view.now) (V.default_seen view.now) in in_order.AreListed asked.now most rows.items (whole asked.now.pattern set (graph_of set (option_copied active.entry)))) }
 {
     if asked.is_distinct {
         let columns = asked.columns.as_slice();
@@ -136,7 +135,7 @@ fn unordered<V: View>(
     max_rows: u64,
 ) -> Result<Items<Row>, QFault>
     requires { asked.now.order ≡ [] }
-    ensures { let set = seen_of (V.content view.now) (V.default_seen view.now) in OneOrOutOfMemory (in_order.IsRows asked.now (whole asked.now.pattern set (graph_of set (option_copied active.entry))) max_rows) result }
+    ensures { let set = visible_quads (V.content view.now) (V.default_seen view.now) in OneOrOutOfMemory (in_order.IsRows asked.now (whole asked.now.pattern set (graph_of set (option_copied active.entry))) max_rows) result }
 {
     let most = enough_for_slice(asked.slice, asked.order.as_slice(), max_rows);
     let rows = listed(alloc, asked, view, active, most)?;
@@ -150,7 +149,7 @@ fn sequence<V: View>(
     active: Option<&Term>,
     max_rows: u64,
 ) -> Result<Items<Row>, QFault>
-    ensures { let set = seen_of (V.content view.now) (V.default_seen view.now) in OneOrOutOfMemory (in_order.IsRows asked.now (whole asked.now.pattern set (graph_of set (option_copied active.entry))) max_rows) result }
+    ensures { let set = visible_quads (V.content view.now) (V.default_seen view.now) in OneOrOutOfMemory (in_order.IsRows asked.now (whole asked.now.pattern set (graph_of set (option_copied active.entry))) max_rows) result }
 {
     if asked.order.is_empty() {
         return unordered(alloc, asked, view, active, max_rows);
@@ -175,7 +174,7 @@ fn selected<V: View>(
     active: Option<&Term>,
     max_rows: u64,
 ) -> Result<Answer, QFault>
-    ensures { let set = seen_of (V.content view.now) (V.default_seen view.now) in OneOrOutOfMemory (IsSelected asked (whole asked.pattern set (graph_of set (option_copied active.entry))) max_rows) result }
+    ensures { let set = visible_quads (V.content view.now) (V.default_seen view.now) in OneOrOutOfMemory (IsSelected asked (whole asked.pattern set (graph_of set (option_copied active.entry))) max_rows) result }
 {
     let rows = sequence(alloc, &asked, view, active, max_rows);
     with_vars(asked.vars, rows)
@@ -212,7 +211,7 @@ fn constructed<V: View>(
     active: Option<&Term>,
     max_rows: u64,
 ) -> Result<Answer, QFault>
-    ensures { let set = seen_of (V.content view.now) (V.default_seen view.now) in OneOrOutOfMemory (IsConstructed asked.now (V.content view.now).next (whole asked.now.pattern set (graph_of set (option_copied active.entry))) max_rows) result }
+    ensures { let set = visible_quads (V.content view.now) (V.default_seen view.now) in OneOrOutOfMemory (IsConstructed asked.now (V.content view.now).next (whole asked.now.pattern set (graph_of set (option_copied active.entry))) max_rows) result }
 {
     let most = enough_for_slice(asked.slice, asked.order.as_slice(), max_rows);
     let all = some_solutions(alloc, &asked.pattern, view, active, most)?;
@@ -223,11 +222,11 @@ fn constructed<V: View>(
 
 fn truth<V: View>(
     alloc: Global,
-    pattern: &NamedPattern,
+    pattern: &Pattern,
     view: &V,
     active: Option<&Term>,
 ) -> Result<Answer, QFault>
-    ensures { let set = seen_of (V.content view.now) (V.default_seen view.now) in OneOrOutOfMemory (IsAsked (whole pattern.now set (graph_of set (option_copied active.entry)))) result }
+    ensures { let set = visible_quads (V.content view.now) (V.default_seen view.now) in OneOrOutOfMemory (IsAsked (whole pattern.now set (graph_of set (option_copied active.entry)))) result }
 {
     let all = some_solutions(alloc, pattern, view, active, Some(1))?;
     Ok(Answer::Truth(!all.is_empty()))
@@ -246,7 +245,7 @@ pub fn answer_query<V: View>(
     active: Option<&Term>,
     max_rows: u64,
 ) -> Result<Answer, QFault>
-    ensures { let d = dataset_of (seen (V.default_seen view.now) (V.content view.now).quads) (V.content view.now).next in OneOrOutOfMemory (IsOutcomeOfQuery query.now d (graph_of d.quads (option_copied active.entry)) max_rows) result }
+    ensures { let d = dataset_of (visible (V.default_seen view.now) (V.content view.now).quads) (V.content view.now).next in OneOrOutOfMemory (IsOutcomeOfQuery query.now d (graph_of d.quads (option_copied active.entry)) max_rows) result }
 {
     match request_of(alloc, query)? {
         Request::Select(asked) => selected(alloc, asked, view, active, max_rows),
@@ -277,12 +276,12 @@ fn bounded(all: Vec<Row>, max_rows: u64) -> Result<Items<Row>, QFault>
 
 fn few_solutions<V: View>(
     alloc: Global,
-    pattern: &NamedPattern,
+    pattern: &Pattern,
     view: &V,
     active: Option<&Term>,
     max_rows: u64,
 ) -> Result<Items<Row>, QFault>
-    ensures { let set = seen_of (V.content view.now) (V.default_seen view.now) in OneOrOutOfMemory (in_order.AreFew (whole pattern.now set (graph_of set (option_copied active.entry))) max_rows) result }
+    ensures { let set = visible_quads (V.content view.now) (V.default_seen view.now) in OneOrOutOfMemory (in_order.AreFew (whole pattern.now set (graph_of set (option_copied active.entry))) max_rows) result }
 {
     let most = max_rows.checked_add(1);
     let all = some_solutions(alloc, pattern, view, active, most)?;
@@ -296,12 +295,12 @@ fn few_solutions<V: View>(
 /// `QFault::TooManyRows` where there are more than `max_rows`; `QFault::Memory` where memory runs out.
 pub fn solutions_of<V: View>(
     alloc: Global,
-    pattern: &NamedPattern,
+    pattern: &Pattern,
     view: &V,
     active: Option<&Term>,
     max_rows: u64,
 ) -> Result<Answer, QFault>
-    ensures { let set = once same_statement (seen (V.default_seen view.now) (V.content view.now).quads) in OneOrOutOfMemory (IsAllSolutions pattern.now (whole pattern.now set (graph_of set (option_copied active.entry))) max_rows) result }
+    ensures { let set = once same_statement (visible (V.default_seen view.now) (V.content view.now).quads) in OneOrOutOfMemory (IsAllSolutions pattern.now (whole pattern.now set (graph_of set (option_copied active.entry))) max_rows) result }
 {
     let vars = copied(alloc, pattern.names.as_slice())?;
     let rows = few_solutions(alloc, pattern, view, active, max_rows);

@@ -6,13 +6,13 @@ ghost use Rattle.qs_query_template.specs.Template as made;
 ghost use Rattle.qs_query_forms.specs.Construction as spec;
 
 use crate::modifiers::{Slice, order_of, slice_of};
-use qs_algebra::{NamedPattern, translate};
+use qs_algebra::{Pattern, translate};
+use qs_query_order::OrderCondition;
+use qs_query_template::{Template, template_of};
 use qs_syntax_ast::pattern::Triple;
 use qs_syntax_ast::query::{Construct, Query};
 use qs_syntax_ast::term::Variable;
-use qs_query_order::OrderCondition;
 use qs_syntax_scope::numbered;
-use qs_query_template::{Template, template_of};
 use sqlite_items::Items;
 use std::alloc::{AllocError, Global};
 
@@ -20,7 +20,7 @@ use std::alloc::{AllocError, Global};
 #[derive(Drop)]
 pub struct Construction {
     pub template: Template,
-    pub pattern: NamedPattern,
+    pub pattern: Pattern,
     /// The conditions of ORDER BY.
     pub order: Items<OrderCondition>,
     pub slice: Slice,

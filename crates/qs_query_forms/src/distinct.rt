@@ -4,7 +4,7 @@ ghost use Rattle.std.specs.Prelude.{◌≡◌, map, IfOk};
 ghost use Rattle.std.specs.Option.{option_copied};
 ghost use Rattle.qs_terms.specs.Bag.{once};
 ghost use Rattle.qs_algebra_solutions.specs.Solution.{projected, same_solution};
-ghost use Rattle.old_eval.specs.inner.Lent.{lent};
+ghost use Rattle.qs_base.specs.Lent.{lent};
 
 use qs_algebra_solutions::Row;
 use qs_terms::Term;

@@ -5,10 +5,10 @@ ghost use Rattle.qs_syntax_scope.specs.Firsts.{names_of};
 ghost use Rattle.qs_query_forms.specs.Modifiers as spec;
 
 use qs_algebra::expr_of;
+use qs_query_order::OrderCondition;
 use qs_syntax_ast::query::{OrderCondition as WrittenCondition, SolutionModifiers};
 use qs_syntax_ast::term::Variable;
-use qs_query_order::OrderCondition;
-use qs_syntax_scope::{Seen, numbered};
+use qs_syntax_scope::{NameList, numbered};
 use sqlite_items::Items;
 use std::alloc::{AllocError, Global};
 
@@ -35,7 +35,7 @@ pub fn slice_of(modifiers: &SolutionModifiers) -> Slice
 
 fn condition_of<'a>(
     alloc: Global,
-    names: &Seen<'a>,
+    names: &NameList<'a>,
     condition: &'a WrittenCondition,
 ) -> Result<OrderCondition, AllocError>
     ensures { IfOk result (λ c. c ≡ spec.condition_of names.now condition.now) }
@@ -49,7 +49,7 @@ fn condition_of<'a>(
 
 fn conditions_of<'a>(
     alloc: Global,
-    names: &Seen<'a>,
+    names: &NameList<'a>,
     conditions: &'a [WrittenCondition],
 ) -> Result<Items<OrderCondition>, AllocError>
     ensures { IfOk result (λ all. all ≡ map (spec.condition_of names.now) conditions.now) }

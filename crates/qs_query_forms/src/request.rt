@@ -5,7 +5,7 @@ ghost use Rattle.qs_query_forms.specs.Request as spec;
 
 use crate::construction::{Construction, construction_of};
 use crate::selection::{Selection, selection_of};
-use qs_algebra::{NamedPattern, translate};
+use qs_algebra::{Pattern, translate};
 use qs_syntax_ast::query::{Query, QueryForm};
 use std::alloc::{AllocError, Global};
 
@@ -15,7 +15,7 @@ pub enum Request {
     Select(Selection),
     Construct(Construction),
     /// Whether the pattern has a solution.
-    Ask(NamedPattern),
+    Ask(Pattern),
 }
 
 /// What the query asks for.

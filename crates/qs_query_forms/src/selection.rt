@@ -9,14 +9,14 @@ ghost use Rattle.qs_syntax_scope.specs.Places.{place_of};
 ghost use Rattle.qs_query_forms.specs.Selection as spec;
 
 use crate::modifiers::{Slice, order_of, slice_of};
-use qs_algebra::{NamedPattern, translate};
+use qs_algebra::{Pattern, translate};
+use qs_query_order::OrderCondition;
 use qs_syntax_ast::pattern::{Group, InlineData};
 use qs_syntax_ast::query::{Projection, Query, Select, SelectItem};
 use qs_syntax_ast::term::Variable;
-use qs_query_order::OrderCondition;
-use qs_syntax_scope::{Seen, first_variables, in_scope, numbered};
-use qs_terms::Text;
+use qs_syntax_scope::{NameList, first_variables, in_scope, numbered};
 use qs_syntax_tree::query::Duplicates;
+use qs_terms::Text;
 use sqlite_items::Items;
 use std::alloc::{AllocError, Global};
 
@@ -27,7 +27,7 @@ pub struct Selection {
     pub vars: Items<Text>,
     /// The numbers of these variables.
     pub columns: Items<usize>,
-    pub pattern: NamedPattern,
+    pub pattern: Pattern,
     /// The conditions of ORDER BY.
     pub order: Items<OrderCondition>,
     /// Whether duplicates are eliminated.
@@ -38,7 +38,7 @@ pub struct Selection {
 // those of the variables that are among the names
 fn those_among<'a>(
     alloc: Global,
-    scope: &Seen<'a>,
+    scope: &NameList<'a>,
     variables: &'a [Variable],
 ) -> Result<Items<Text>, AllocError>
     ensures { IfOk result (λ vars. vars ≡ filter (contains scope.now) (names_of variables.now)) }
@@ -53,7 +53,7 @@ fn those_among<'a>(
     Ok(vars)
 }
 
-fn put_names<'a>(names: &mut Seen<'a>, variables: &'a [Variable]) -> Result<(), AllocError>
+fn put_names<'a>(names: &mut NameList<'a>, variables: &'a [Variable]) -> Result<(), AllocError>
     ensures { OnOk result (names.new ≡ names.old ++ names_of variables.now) }
 {
     for variable in variables {
@@ -63,7 +63,10 @@ fn put_names<'a>(names: &mut Seen<'a>, variables: &'a [Variable]) -> Result<(), 
 }
 
 // the variables of the trailing VALUES, if there is one, after the others
-fn put_trailing<'a>(names: &mut Seen<'a>, values: &'a Option<InlineData>) -> Result<(), AllocError>
+fn put_trailing<'a>(
+    names: &mut NameList<'a>,
+    values: &'a Option<InlineData>,
+) -> Result<(), AllocError>
     ensures { OnOk result (names.new ≡ names.old ++ trailing_names values.now) }
 {
     match values {
@@ -144,7 +147,7 @@ fn listed<'a>(
 // the numbers of the variables of these names
 fn numbers<'a>(
     alloc: Global,
-    names: &Seen<'a>,
+    names: &NameList<'a>,
     vars: &'a [Text],
 ) -> Result<Items<usize>, AllocError>
     ensures { IfOk result (λ columns. columns ≡ map (place_of names.now) vars.now) }

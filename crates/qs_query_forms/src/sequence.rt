@@ -3,15 +3,15 @@
 
 ghost use Rattle.std.specs.Prelude.{◌≡◌, true, length, map, take, drop, min, IfOk, IfSome};
 ghost use Rattle.qs_algebra_solutions.specs.Solution.{projected};
-ghost use Rattle.old_eval.specs.inner.Lent.{lent};
+ghost use Rattle.qs_base.specs.Lent.{lent};
 ghost use Rattle.qs_query_forms.specs.inner.InOrder.{AllowsMore, AreEnough, ByLimit, IsFront, Suffices, SufficesToSelect};
 ghost use Rattle.qs_query_forms.specs.Sequence as spec;
 
 use crate::distinct::firsts;
 use crate::modifiers::Slice;
 use crate::selection::Selection;
-use qs_query_order::{OrderCondition, first_ordered, ordered};
 use qs_algebra_solutions::Row;
+use qs_query_order::{OrderCondition, first_ordered, ordered};
 use std::alloc::{AllocError, Global};
 
 /// How many of the solutions in order suffice for the slice, where not all are needed.

@@ -5,10 +5,10 @@ ghost use Rattle.qs_query_order.specs.inner.Keys as spec;
 ghost use Rattle.qs_query_order.specs.Order as order;
 
 use crate::condition::OrderCondition;
-use qs_expr::order_key;
 use qs_algebra_solutions::Row;
-use qs_syntax_tree::query::Direction;
+use qs_expr::order_key_terms;
 use qs_expr_values::Key;
+use qs_syntax_tree::query::Direction;
 use std::alloc::{AllocError, Global};
 use std::cmp::Ordering;
 
@@ -22,7 +22,7 @@ pub fn keys_of(
 {
     let mut keys = Vec::with_capacity(alloc, conditions.len())?;
     for condition in conditions {
-        let key = order_key(alloc, &condition.key, row)?;
+        let key = order_key_terms(alloc, &condition.key, row)?;
         keys.push(key)?;
     }
     Ok(keys)

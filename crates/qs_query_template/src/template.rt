@@ -7,11 +7,11 @@ ghost use Rattle.qs_query_template.specs.declared.template.Slot.TheVariants as s
 ghost use Rattle.qs_terms.specs.declared.term.Term.TheVariants as value;
 
 use crate::blanks::{Blanks, blanks_of, blanks_of_blocks};
+use qs_base::Shared;
 use qs_syntax_ast::pattern::{Triple, Verb};
 use qs_syntax_ast::term::{BlankNode, TermPattern, VarOrIri};
 use qs_syntax_ast::update::QuadBlock;
-use qs_syntax_scope::Seen;
-use qs_shared::Shared;
+use qs_syntax_scope::NameList;
 use qs_terms::{Iri, Lit, Term};
 use sqlite_items::Items;
 use std::alloc::{AllocError, Global};
@@ -83,7 +83,7 @@ fn blank_slot<'a>(blanks: &Blanks<'a>, blank: &'a BlankNode) -> Slot
 
 fn term_slot<'a>(
     alloc: Global,
-    names: &Seen<'a>,
+    names: &NameList<'a>,
     blanks: &Blanks<'a>,
     term: &'a TermPattern,
 ) -> Result<Slot, AllocError>
@@ -99,7 +99,7 @@ fn term_slot<'a>(
 
 fn verb_slot<'a>(
     alloc: Global,
-    names: &Seen<'a>,
+    names: &NameList<'a>,
     verb: &'a Verb,
 ) -> Result<Option<Slot>, AllocError>
     ensures { IfOk result (λ s. s ≡ spec.verb_slot names.now verb.now) }
@@ -113,7 +113,7 @@ fn verb_slot<'a>(
 
 fn graph_slot<'a>(
     alloc: Global,
-    names: &Seen<'a>,
+    names: &NameList<'a>,
     graph: &'a Option<VarOrIri>,
 ) -> Result<Option<Slot>, AllocError>
     ensures { IfOk result (λ s. s ≡ spec.graph_slot names.now graph.now) }
@@ -139,7 +139,7 @@ fn shared_graph(graph: &Option<Slot>) -> Result<Option<Slot>, AllocError>
 // a quad template with its predicate
 fn quad_with<'a>(
     alloc: Global,
-    names: &Seen<'a>,
+    names: &NameList<'a>,
     blanks: &Blanks<'a>,
     graph: &Option<Slot>,
     triple: &'a Triple,
@@ -161,7 +161,7 @@ fn quad_with<'a>(
 // Puts the quad of a triple after the others.
 fn put_triple<'a>(
     alloc: Global,
-    names: &Seen<'a>,
+    names: &NameList<'a>,
     blanks: &Blanks<'a>,
     graph: &Option<Slot>,
     triple: &'a Triple,
@@ -180,7 +180,7 @@ fn put_triple<'a>(
 
 fn put_triples<'a>(
     alloc: Global,
-    names: &Seen<'a>,
+    names: &NameList<'a>,
     blanks: &Blanks<'a>,
     graph: &Option<Slot>,
     triples: &'a [Triple],
@@ -196,7 +196,7 @@ fn put_triples<'a>(
 
 fn put_block<'a>(
     alloc: Global,
-    names: &Seen<'a>,
+    names: &NameList<'a>,
     blanks: &Blanks<'a>,
     block: &'a QuadBlock,
     quads: &mut Items<QuadTemplate>,
@@ -216,7 +216,7 @@ fn put_block<'a>(
 
 fn put_blocks<'a>(
     alloc: Global,
-    names: &Seen<'a>,
+    names: &NameList<'a>,
     blanks: &Blanks<'a>,
     blocks: &'a [QuadBlock],
     quads: &mut Items<QuadTemplate>,
@@ -233,7 +233,7 @@ fn put_blocks<'a>(
 /// nodes, with a label or without one, are numbered from 0 by first appearance. A triple whose verb is a path is left out.
 pub fn template_of<'a>(
     alloc: Global,
-    names: &Seen<'a>,
+    names: &NameList<'a>,
     triples: &'a [Triple],
 ) -> Result<Template, AllocError>
     ensures { IfOk result (λ t. t ≡ spec.template_of names.now triples.now) }
@@ -249,7 +249,7 @@ pub fn template_of<'a>(
 /// numbered as in `template_of`.
 pub fn template_of_blocks<'a>(
     alloc: Global,
-    names: &Seen<'a>,
+    names: &NameList<'a>,
     blocks: &'a [QuadBlock],
 ) -> Result<Template, AllocError>
     ensures { IfOk result (λ t. t ≡ spec.template_of_blocks names.now blocks.now) }

@@ -4,7 +4,7 @@ use Rattle.std.specs.Fmt.{digits}
 use Rattle.serde_json.specs.Written.{compact_text}
 use Rattle.serde_json.proofs.OnLiterals.{serde_json_on_literals}
 use Rattle.qs_terms.specs.declared.term.Term.TheVariants.{Blank, Iri}
-use Rattle.qs_query_answer.specs.declared.answer.Answer.TheVariants.{Solutions, Truth}
+use Rattle.qs_algebra_solutions.specs.declared.answer.Answer.TheVariants.{Solutions, Truth}
 use Rattle.qs_results.specs.Json.{json_of}
 
 -- the one solution that binds nothing is an empty object

@@ -7,8 +7,8 @@ use Rattle.qs_terms.specs.Literal.{xsd_string}
 use Rattle.qs_terms.specs.declared.term.Term.{Term}
 use Rattle.qs_terms.specs.declared.term.Term.TheVariants as term
 use Rattle.qs_algebra_solutions.specs.Solution.{Solution}
-use Rattle.qs_query_answer.specs.declared.answer.Answer.{Answer}
-use Rattle.qs_query_answer.specs.declared.answer.Answer.TheVariants.{Solutions, Truth, Graph}
+use Rattle.qs_algebra_solutions.specs.declared.answer.Answer.{Answer}
+use Rattle.qs_algebra_solutions.specs.declared.answer.Answer.TheVariants.{Solutions, Truth, Graph}
 
 -- a type, a value, and what comes after them (3.2.2)
 abbrev pub typed_value : List ℕ → List ℕ → Members → Members

@@ -1,7 +1,7 @@
 -- Graphs as N-Triples (RDF 1.1 N-Triples, 2).
 use Rattle.std.specs.Prelude.{ℕ, Bool, true, false, List, []}
-use Rattle.qs_query_answer.specs.declared.answer.Answer.{Answer}
-use Rattle.qs_query_answer.specs.declared.answer.Answer.TheVariants.{Solutions, Truth, Graph}
+use Rattle.qs_algebra_solutions.specs.declared.answer.Answer.{Answer}
+use Rattle.qs_algebra_solutions.specs.declared.answer.Answer.TheVariants.{Solutions, Truth, Graph}
 use Rattle.qs_nquads.specs.Written.{nquads_of}
 
 -- whether the answer is a graph

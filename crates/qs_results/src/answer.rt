@@ -3,11 +3,10 @@
 ghost use Rattle.std.specs.Prelude.{◌≡◌, IfOk, true, string_bytes};
 ghost use Rattle.serde_json.specs.Written.{compact_text};
 ghost use Rattle.qs_results.specs.Json.{has_json, json_of};
-ghost use Rattle.qs_query_answer.specs.declared.answer.Answer.TheVariants.{Solutions, Truth};
+ghost use Rattle.qs_algebra_solutions.specs.declared.answer.Answer.TheVariants.{Solutions, Truth};
 
 use crate::solution::{names_text, with_rows};
-use qs_query_answer::Answer;
-use qs_algebra_solutions::Row;
+use qs_algebra_solutions::{Answer, Row};
 use qs_terms::Text;
 use std::alloc::{AllocError, Global};
 

@@ -3,7 +3,7 @@
 ghost use Rattle.std.specs.Prelude.{◌≡◌, IfOk, true, string_bytes};
 ghost use Rattle.qs_results.specs.Triples.{is_graph, ntriples_of};
 
-use qs_query_answer::Answer;
+use qs_algebra_solutions::Answer;
 use qs_nquads::text;
 use std::alloc::{AllocError, Global};
 

@@ -1,7 +1,7 @@
 -- A reply that was made, or that of running out of memory.
 use Rattle.std.proofs.Common.{◌≡◌, ◌∙◌, ℕ, List, sym, subst, refl, Result, Ok, Err, IfOk, inl, inr}
 use Rattle.qs_terms.specs.declared.fault.QFault.{QFault}
-use Rattle.qs_query_answer.specs.declared.answer.Answer.{Answer}
+use Rattle.qs_algebra_solutions.specs.declared.answer.Answer.{Answer}
 use Rattle.qs_http.specs.declared.request.Request.{Request}
 use Rattle.qs_http.specs.declared.request.Request.TheVariants.{Query, Update}
 use Rattle.qs_store.specs.Content.{Content}

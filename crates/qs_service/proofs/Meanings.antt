@@ -3,9 +3,9 @@ use Rattle.std.proofs.Common.{◌≡◌, ◌≢◌, ◌∙◌, ap, ℕ, List, Re
 use Rattle.qs_terms.specs.Outcome.{Outcome, OneOrOutOfMemory}
 use Rattle.qs_terms.specs.Statement.{Statement}
 use Rattle.qs_terms.specs.declared.fault.QFault.TheVariants.{Memory}
-use Rattle.qs_query_answer.specs.declared.answer.Answer.{Answer}
+use Rattle.qs_algebra_solutions.specs.declared.answer.Answer.{Answer}
 use Rattle.qs_nquads.specs.Written.{nquads_of}
-use Rattle.old_plan.specs.Seen.{seen}
+use Rattle.qs_store.specs.Visible.{visible}
 use Rattle.qs_query.specs.Outcome as query
 use Rattle.qs_query_forms.specs.Sequence.{dataset_of}
 use Rattle.qs_store.specs.Content.{Content, Held}
@@ -17,7 +17,7 @@ use Rattle.qs_service.specs.Meaning.{sparql}
 
 -- what a text is answered with over the quads of a store is an answer over what is stored
 pub answered : (held : Held) (text : List ℕ) (rows : ℕ) (r : Outcome Answer) → SameSet held.base.quads held.base.quads
-    → OneOrOutOfMemory (query.IsOutcomeOfText text (dataset_of (seen held.default_graph held.base.quads) held.base.next) rows) r → OneOrOutOfMemory (sparql.answers text (bounds_of rows held) held.base) r
+    → OneOrOutOfMemory (query.IsOutcomeOfText text (dataset_of (visible held.default_graph held.base.quads) held.base.next) rows) r → OneOrOutOfMemory (sparql.answers text (bounds_of rows held) held.base) r
 unfolding sparql
 answered held text rows (Ok answer) same due = (held.base.quads, same, due)
 answered held text rows (Err f) same due = λ other. (held.base.quads, same, due other)

@@ -3,8 +3,8 @@ use Rattle.std.specs.Prelude.{◌≡◌, ℕ, List, [], ◌∷◌, ◌++◌, Ok,
 use Rattle.serde_json.specs.Written.{compact_text}
 use Rattle.qs_terms.specs.Outcome.{Outcome}
 use Rattle.qs_terms.specs.declared.fault.QFault.{QFault}
-use Rattle.qs_query_answer.specs.declared.answer.Answer.{Answer}
-use Rattle.qs_query_answer.specs.declared.answer.Answer.TheVariants.{Solutions, Truth, Graph}
+use Rattle.qs_algebra_solutions.specs.declared.answer.Answer.{Answer}
+use Rattle.qs_algebra_solutions.specs.declared.answer.Answer.TheVariants.{Solutions, Truth, Graph}
 use Rattle.qs_results.specs.Json.{json_of}
 use Rattle.qs_results.specs.Lines.{fault_line, fault_status}
 use Rattle.qs_results.specs.Triples.{ntriples_of}

@@ -2,9 +2,9 @@
 use Rattle.std.specs.Prelude.{◌≡◌, ℕ, List}
 use Rattle.qs_terms.specs.Outcome.{Outcome}
 use Rattle.qs_terms.specs.Statement.{Statement}
-use Rattle.qs_query_answer.specs.declared.answer.Answer.{Answer}
+use Rattle.qs_algebra_solutions.specs.declared.answer.Answer.{Answer}
 use Rattle.qs_nquads.specs.Written.{nquads_of}
-use Rattle.old_plan.specs.Seen.{seen}
+use Rattle.qs_store.specs.Visible.{visible}
 use Rattle.qs_query.specs.Outcome as query
 use Rattle.qs_query_forms.specs.Sequence.{dataset_of}
 use Rattle.qs_store.specs.Content.{Content}
@@ -22,7 +22,7 @@ pub record Meaning : Type 1 where
 abbrev pub IsAnswer : List ℕ → Bounds → Content → Outcome Answer → Type 0
 IsAnswer text bounds c outcome =
     (quads : List Statement) × SameSet quads c.quads
-    × query.IsOutcomeOfText text (dataset_of (seen bounds.default_graph quads) c.next) bounds.rows outcome
+    × query.IsOutcomeOfText text (dataset_of (visible bounds.default_graph quads) c.next) bounds.rows outcome
 
 -- an update's text over what is stored (SPARQL 1.1 Update, 3)
 abbrev pub IsChange : List ℕ → Bounds → Content → Outcome Content → Type 0

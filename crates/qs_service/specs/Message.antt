@@ -2,7 +2,7 @@
 use Rattle.std.specs.Prelude.{◌++◌, ℕ, List, [], length}
 use Rattle.qs_http.specs.declared.fixed_reply.Fixed.{Fixed}
 use Rattle.qs_http.specs.declared.media.Media.{Media}
-use Rattle.qs_http.specs.Reply.{front_of, fixed_of, status_of}
+use Rattle.qs_http.specs.Reply.{head_of, fixed_of, status_of}
 
 -- a reply: its status, and its bytes: those in front of its body, and its body
 pub record Message : Type 0 where
@@ -15,7 +15,7 @@ bytes_of m = m.front ++ m.body
 
 -- a reply with that status, type and body
 abbrev pub message : ℕ → Media → List ℕ → Message
-message status media body = record { status = status; front = front_of status media (length body); body = body }
+message status media body = record { status = status; front = head_of status media (length body); body = body }
 
 -- a reply that is the same each time, of one part
 abbrev pub fixed_message : Fixed → Message

@@ -16,8 +16,8 @@ ghost use Rattle.qs_update.specs.Request.{Bounds, bounds_of};
 use crate::meaning::{answer_over, dump, update_over};
 use crate::reply::Reply;
 use http::StatusCode;
-use qs_query_answer::Answer;
-use qs_http::{Fixed, Media, Request, front};
+use qs_algebra_solutions::Answer;
+use qs_http::{Fixed, Media, Request, reply_head};
 use qs_results::{fault_line, fault_status, json, ntriples};
 use qs_store::Store;
 use qs_terms::QFault;
@@ -35,7 +35,7 @@ fn made(alloc: Global, status: u16, media: Media, body: String) -> Result<Reply,
     } else {
         StatusCode::INTERNAL_SERVER_ERROR
     };
-    let front = front(alloc, code, media, body.len())?;
+    let front = reply_head(alloc, code, media, body.len())?;
     Ok(Reply::made(status, front, body))
 }
 

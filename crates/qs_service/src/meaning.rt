@@ -7,7 +7,7 @@ ghost use Rattle.qs_store.specs.Same.{SameSet};
 ghost use Rattle.qs_terms.specs.Outcome.{OneOrOutOfMemory};
 ghost use Rattle.qs_update.specs.Request.{bounds_of};
 
-use qs_query_answer::Answer;
+use qs_algebra_solutions::Answer;
 use qs_nquads::text;
 use qs_query::answer;
 use qs_store::{Store, same_set_is_an_equivalence};

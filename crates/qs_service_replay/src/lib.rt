@@ -7,15 +7,15 @@
 //! took of it in `Replayed.antt`.
 #![tactic(auto)]
 
-mod script_event;
 mod laws;
 mod line;
 mod parts;
 mod run;
 mod script;
+mod script_event;
 mod told;
 
-pub use script_event::ScriptEvent;
 pub use laws::scripts_are_unique;
 pub use run::{ReplayEnd, Replayed, replay};
 pub use script::{ScriptFault, read_script};
+pub use script_event::ScriptEvent;

@@ -4,8 +4,8 @@ ghost use Rattle.std.specs.Prelude.{◌≡◌, ◌≢◌, ℕ, List, Ok, IfOk, M
 ghost use Rattle.hex.specs.Hex.{decode_of};
 ghost use Rattle.qs_service_replay.specs.inner.Told.{IsPiece, IsToldBy};
 
-use crate::script_event::ScriptEvent;
 use crate::parts::{behind, id_of, parted};
+use crate::script_event::ScriptEvent;
 use hex::FromHexError;
 use std::alloc::{AllocError, Global};
 

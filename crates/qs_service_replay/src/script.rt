@@ -6,9 +6,9 @@ ghost use Rattle.qs_service_replay.specs.Script.{IsScript, IsScriptFault};
 ghost use Rattle.qs_service_replay.specs.inner.Told.{IsToldAt};
 ghost use Rattle.qs_service_replay.specs.declared.script.ScriptFault.TheVariants.{Memory};
 
-use crate::script_event::ScriptEvent;
 use crate::line::script_event_of;
 use crate::parts::first_line;
+use crate::script_event::ScriptEvent;
 use std::alloc::{AllocError, AllocFailed, Global};
 use thiserror::Error;
 

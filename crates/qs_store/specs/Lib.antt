@@ -8,5 +8,6 @@ pub mod Triples
 pub mod Scans
 pub mod Sources
 pub mod WholeGraphs
+pub mod Visible
 pub mod Graphs
 pub mod inner

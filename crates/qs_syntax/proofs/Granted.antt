@@ -7,8 +7,8 @@ use Rattle.std.proofs.lemmas.Bool.{and_parts, or_parts, not-true, eqb-false}
 use Rattle.qs_lex_escapes.specs.Decoded.{decoded, unescaped}
 use Rattle.qs_lex_escapes.specs.Escape.{uchar, string_escape}
 use Rattle.qs_lex_escapes.specs.Piece.{piece}
-use Rattle.qs_lex_forms.specs.Backslashes.{escapes_begin}
-use Rattle.qs_lex_forms.proofs.Pieces.{piece_between}
+use Rattle.qs_lex_escapes.specs.Backslashes.{escapes_begin}
+use Rattle.qs_lex_escapes.proofs.PiecesBetween.{piece_between}
 use Rattle.qs_lex.specs.Lexes.{Lexeme, Lexes}
 use Rattle.qs_lex.specs.Parts as parts
 use Rattle.qs_lex.specs.Parts.{StandsIn, IsSound, IsMadeOf, begins_with}

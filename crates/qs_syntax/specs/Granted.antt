@@ -5,7 +5,7 @@ use Rattle.std.specs.List.{list_any, before_first, after_first}
 use Rattle.qs_lex_escapes.specs.Decoded.{decoded, unescaped}
 use Rattle.qs_lex_escapes.specs.Escape.{uchar, string_escape}
 use Rattle.qs_lex_escapes.specs.Piece.{piece}
-use Rattle.qs_lex_forms.specs.Backslashes.{escapes_begin}
+use Rattle.qs_lex_escapes.specs.Backslashes.{escapes_begin}
 use Rattle.qs_syntax_resolve.specs.Names.{is_colon, marks}
 use Rattle.qs_terms.specs.Iri.{is_excluded}
 use Rattle.qs_terms.specs.Tag.{is_tag}

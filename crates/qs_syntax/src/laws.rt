@@ -1,6 +1,6 @@
 //! What holds of all texts.
 
-ghost use Rattle.std.specs.Prelude.{◌≡◌, List, ℕ, [], Some, Ok, Err};
+ghost use Rattle.std.specs.Prelude.{◌≡◌, List, ℕ, [], Ok, Err};
 ghost use Rattle.std.specs.List.{AllByRecursion};
 ghost use Rattle.std.specs.Str.{IsUtf8};
 ghost use Rattle.qs_syntax_ast.specs.declared.query.Query.{Query};
@@ -8,20 +8,14 @@ ghost use Rattle.qs_syntax_ast.specs.declared.update.Update.{Update};
 ghost use Rattle.qs_syntax_scope.specs.Laws.{AreListed};
 ghost use Rattle.qs_syntax_scope.specs.VariablesIn.{in_query, in_update};
 ghost use Rattle.qs_lex_escapes.specs.Piece.{piece};
-ghost use Rattle.qs_syntax_limits.specs.Large as large;
-ghost use Rattle.qs_syntax_resolve.specs.Resolved.{resolved_query, resolved_update};
 ghost use Rattle.qs_lex.specs.Fault.{HasToken};
 ghost use Rattle.qs_lex.specs.Lexes.{Lexeme, Lexes};
 ghost use Rattle.qs_terms.specs.Outcome.{Outcome};
-ghost use Rattle.qs_terms.specs.declared.fault.QFault.{QFault};
 ghost use Rattle.qs_terms.specs.declared.fault.QFault.TheVariants.{Syntax};
-ghost use Rattle.qs_syntax_tree.specs.declared.query.Query.{Query as WrittenQuery};
-ghost use Rattle.qs_syntax_tree.specs.declared.update.Update.{Update as WrittenUpdate};
 ghost use Rattle.qs_syntax_tree.specs.declared.token.Token.{Token};
-ghost use Rattle.qs_syntax.specs.FirstPlace.{IsOfName, IsFirst};
 ghost use Rattle.qs_syntax.specs.Granted.{IsGrantedToken};
 ghost use Rattle.qs_syntax.specs.Kinds.{token_of};
-ghost use Rattle.qs_syntax.specs.Outcome.{variables_of, query_outcome, update_outcome, IsQueryOutcome, IsUpdateOutcome};
+ghost use Rattle.qs_syntax.specs.Outcome.{IsQueryOutcome, IsUpdateOutcome};
 ghost use Rattle.qs_syntax.specs.Text.{AreTokensOf};
 
 use qs_lex::laws::{one_token_list, some_token_list, tokens_are_sound};

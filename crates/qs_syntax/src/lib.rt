@@ -5,9 +5,9 @@
 
 pub mod laws;
 pub mod parse;
-mod token_check;
 mod resolve_and_check;
 pub mod token;
+mod token_check;
 mod tree;
 
 pub use crate::parse::{parse_query, parse_update};

@@ -9,14 +9,14 @@ ghost use Rattle.qs_terms.specs.Outcome.{OneOrOutOfMemory};
 ghost use Rattle.qs_terms.specs.declared.fault.QFault.TheVariants.{Memory};
 ghost use Rattle.qs_syntax.specs.Outcome.{query_outcome, update_outcome, IsOutcomeOfTokens, IsQueryOutcome, IsUpdateOutcome};
 
-use crate::token_check::check_tokens;
-use crate::resolve_and_check::{settle_nothing, resolve_and_check_query, resolve_and_check_update};
+use crate::resolve_and_check::{resolve_and_check_query, resolve_and_check_update, settle_nothing};
 use crate::token::tokens;
+use crate::token_check::check_tokens;
 use crate::tree::{query_of_tokens, update_of_tokens};
 use qs_syntax_ast::query::Query;
 use qs_syntax_ast::update::Update;
-use qs_terms::QFault;
 use qs_syntax_tree::token::Token;
+use qs_terms::QFault;
 use std::alloc::Global;
 
 fn query_of(alloc: Global, text: &str, tokens: &[Token]) -> Result<Query, QFault>

@@ -8,18 +8,18 @@ ghost use Rattle.qs_syntax_scope.specs.KeepsScope as rule;
 ghost use Rattle.qs_terms.specs.Outcome.{OrOutOfMemory};
 ghost use Rattle.qs_syntax.specs.Outcome as spec;
 
+use qs_base::keep_beside;
 use qs_syntax_ast::query::Query;
 use qs_syntax_ast::term::Variable;
 use qs_syntax_ast::update::Update;
-use qs_beside::keep_beside;
 use qs_syntax_limits::{large_query, large_update};
 use qs_syntax_resolve::{Names, resolve_query, resolve_update};
 use qs_syntax_scope::{query_keeps_scope, query_variables, update_keeps_scope, update_variables};
-use qs_terms::QFault;
 use qs_syntax_tree::kind::Kind;
 use qs_syntax_tree::query::Query as WrittenQuery;
 use qs_syntax_tree::token::Token;
 use qs_syntax_tree::update::Update as WrittenUpdate;
+use qs_terms::QFault;
 use sqlite_items::Items;
 use std::alloc::{AllocError, Global};
 

@@ -4,8 +4,8 @@ ghost use Rattle.qs_terms.specs.Outcome.{OrOutOfMemory};
 ghost use Rattle.qs_syntax.specs.Outcome as spec;
 
 use qs_syntax_limits::{brackets, left_out};
-use qs_terms::{QFault, Text};
 use qs_syntax_tree::token::Token;
+use qs_terms::{QFault, Text};
 use std::alloc::Global;
 
 /// Refuses the first word, decimal or double that is left out, and then the first bracket with which too many are open.

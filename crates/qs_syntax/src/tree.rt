@@ -7,10 +7,10 @@ ghost use Rattle.qs_syntax_tree.specs.Rules as rules;
 ghost use Rattle.qs_syntax_tree.specs.Table.{grammar};
 
 use qs_syntax_grammar::fault::ParseFault;
-use qs_terms::QFault;
 use qs_syntax_tree::query::Query;
 use qs_syntax_tree::token::Token;
 use qs_syntax_tree::update::Update;
+use qs_terms::QFault;
 use std::alloc::Global;
 
 // the place of the token of that number, or the text's end

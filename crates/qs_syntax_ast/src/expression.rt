@@ -1,8 +1,8 @@
 //! Expressions (SPARQL 1.1 Query, 17).
 
 use crate::term::Variable;
-use qs_terms::{Iri, Lit};
 use qs_syntax_tree::expression::{BinaryFunction, Comparison, Sign, UnaryFunction};
+use qs_terms::{Iri, Lit};
 use sqlite_items::{Boxed, Items};
 
 #[cycle(expression)]

@@ -1,7 +1,7 @@
 //! Property paths (SPARQL 1.1 Query, 9).
 
-use qs_terms::Iri;
 use qs_syntax_tree::path::Repetition;
+use qs_terms::Iri;
 use sqlite_items::{Boxed, Items};
 
 /// A member of a negated property set.

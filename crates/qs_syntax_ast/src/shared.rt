@@ -1,3 +1,3 @@
 //! Values that several triples have in common.
 
-pub use qs_shared::Shared;
+pub use qs_base::Shared;

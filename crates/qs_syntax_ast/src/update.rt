@@ -2,8 +2,8 @@
 
 use crate::pattern::{Group, Triple};
 use crate::term::{VarOrIri, Variable};
-use qs_terms::Iri;
 use qs_syntax_tree::update::OnMissing;
+use qs_terms::Iri;
 use sqlite_items::Items;
 
 #[derive(Drop)]

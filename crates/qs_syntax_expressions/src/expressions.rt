@@ -8,9 +8,9 @@ ghost use Rattle.qs_syntax_tree.specs.Sparql as name;
 ghost use Rattle.qs_syntax_tree.specs.Table.{grammar};
 
 use crate::operators::Operators;
+use qs_syntax_grammar::fault::Fault;
 use qs_syntax_tokens::parser::Parser;
 use qs_syntax_tokens::tokens::Tokens;
-use qs_syntax_grammar::fault::Fault;
 use qs_syntax_tree::expression::{Call, Expression};
 
 /// An expression ([110]).

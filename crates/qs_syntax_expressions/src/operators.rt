@@ -10,14 +10,14 @@ ghost use Rattle.qs_syntax_tree.specs.Rules as rules;
 ghost use Rattle.qs_syntax_tree.specs.Sparql as name;
 ghost use Rattle.qs_syntax_tree.specs.Table.{grammar};
 
-use qs_beside::keep_beside;
+use qs_base::keep_beside;
+use qs_syntax_grammar::fault::Fault;
 use qs_syntax_tokens::kinds::{CALLS, COMPARISONS, EXPRESSIONS, RELATIONS, UNARY_FUNCTIONS};
 use qs_syntax_tokens::parser::Parser;
 use qs_syntax_tokens::tokens::Tokens;
 use qs_syntax_tokens::trees::{
     all_of, and, binary_call, conditional, or, product, related, sum, unary_call,
 };
-use qs_syntax_grammar::fault::Fault;
 use qs_syntax_tree::expression::{Addend, Call, Expression, Operand, Relation, Sign};
 use qs_syntax_tree::kind::Kind;
 use qs_syntax_tree::term::Literal;

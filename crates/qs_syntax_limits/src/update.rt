@@ -6,7 +6,9 @@ ghost use Rattle.qs_syntax_limits.specs.Large as spec;
 use crate::pattern::in_group;
 use crate::place::{excess, first};
 use crate::triples::in_triples;
-use qs_syntax_tree::update::{Modify, Operation, QuadElement, QuadPattern, Quads, Update, UpdateStep};
+use qs_syntax_tree::update::{
+    Modify, Operation, QuadElement, QuadPattern, Quads, Update, UpdateStep,
+};
 
 fn in_quads(quads: &Quads) -> Option<usize>
     ensures { result ≡ spec.quads quads.now }

@@ -7,9 +7,9 @@ ghost use Rattle.qs_syntax_tree.specs.Rules as rules;
 ghost use Rattle.qs_syntax_tree.specs.Table.{grammar};
 
 use crate::{queries, updates};
+use qs_syntax_grammar::fault::{Fault, ParseFault};
 use qs_syntax_tokens::parser::Parser;
 use qs_syntax_tokens::tokens::Tokens;
-use qs_syntax_grammar::fault::{Fault, ParseFault};
 use qs_syntax_tree::query::Query;
 use qs_syntax_tree::token::Token;
 use qs_syntax_tree::update::Update;

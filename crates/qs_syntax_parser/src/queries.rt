@@ -5,21 +5,21 @@ ghost use Rattle.qs_syntax_grammar.specs.Reading.{Reads};
 ghost use Rattle.qs_syntax_tree.specs.Rules as rules;
 ghost use Rattle.qs_syntax_tree.specs.Table.{grammar};
 
-use qs_beside::keep_beside;
+use qs_base::keep_beside;
+use qs_syntax_grammar::fault::Fault;
+use qs_syntax_patterns::groups::{group, named_expression};
+use qs_syntax_patterns::modifiers::modifiers;
 use qs_syntax_tokens::parser::Parser;
 use qs_syntax_tokens::tokens::Tokens;
 use qs_syntax_tokens::trees::all_of;
-use qs_syntax_grammar::fault::Fault;
-use qs_syntax_triples::data;
-use qs_syntax_triples::triples::template_braces;
-use qs_syntax_patterns::groups::{group, named_expression};
-use qs_syntax_patterns::modifiers::modifiers;
 use qs_syntax_tree::kind::Kind;
 use qs_syntax_tree::pattern::Group;
 use qs_syntax_tree::query::{
     Ask, Construct, Duplicates, PrefixDeclaration, Projection, Query, QueryForm, Select,
     SelectItem, SolutionModifiers,
 };
+use qs_syntax_triples::data;
+use qs_syntax_triples::triples::template_braces;
 use sqlite_items::Items;
 
 #[tactic(auto, unfolding(qs_syntax_tree::specs::Rules::prefix_declaration))]

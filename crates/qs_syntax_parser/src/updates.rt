@@ -9,13 +9,12 @@ ghost use Rattle.qs_syntax_tree.specs.Rules as rules;
 ghost use Rattle.qs_syntax_tree.specs.Table.{grammar};
 
 use crate::queries;
-use qs_beside::keep_beside;
+use qs_base::keep_beside;
+use qs_syntax_grammar::fault::Fault;
+use qs_syntax_patterns::groups::group;
 use qs_syntax_tokens::kinds::OPERATIONS;
 use qs_syntax_tokens::parser::Parser;
 use qs_syntax_tokens::tokens::Tokens;
-use qs_syntax_grammar::fault::Fault;
-use qs_syntax_triples::quads::quads;
-use qs_syntax_patterns::groups::group;
 use qs_syntax_tree::kind::Kind;
 use qs_syntax_tree::pattern::Group;
 use qs_syntax_tree::query::PrefixDeclaration;
@@ -24,6 +23,7 @@ use qs_syntax_tree::update::{
     GraphOrDefault, GraphTarget, Modify, OnMissing, Operation, QuadPattern, Transfer, Update,
     UpdateStep,
 };
+use qs_syntax_triples::quads::quads;
 use sqlite_items::Items;
 
 #[tactic(auto, unfolding(qs_syntax_tree::specs::Rules::where_group))]

@@ -7,20 +7,20 @@ ghost use Rattle.qs_syntax_tree.specs.Rules as rules;
 ghost use Rattle.qs_syntax_tree.specs.Sparql as name;
 ghost use Rattle.qs_syntax_tree.specs.Table.{grammar};
 
-use qs_beside::keep_beside;
+use qs_base::keep_beside;
+use qs_syntax_expressions::expressions::{call, expression, parenthesized};
+use qs_syntax_grammar::fault::Fault;
 use qs_syntax_tokens::kinds::{ELEMENTS, NODES};
 use qs_syntax_tokens::parser::Parser;
 use qs_syntax_tokens::tokens::Tokens;
 use qs_syntax_tokens::trees::all_of;
-use qs_syntax_grammar::fault::Fault;
-use qs_syntax_triples::data::values;
-use qs_syntax_triples::triples::triples;
-use qs_syntax_expressions::expressions::{call, expression, parenthesized};
 use qs_syntax_tree::expression::Expression;
 use qs_syntax_tree::kind::Kind;
 use qs_syntax_tree::pattern::{Element, GraphPattern, Group};
 use qs_syntax_tree::token::Span;
 use qs_syntax_tree::triples::Form;
+use qs_syntax_triples::data::values;
+use qs_syntax_triples::triples::triples;
 use sqlite_items::Items;
 
 /// A constraint: an expression in parentheses, or a call ([69]).

@@ -6,13 +6,13 @@ ghost use Rattle.qs_syntax_tree.specs.Rules as rules;
 ghost use Rattle.qs_syntax_tree.specs.Table.{grammar};
 
 use crate::groups::constraint;
-use qs_beside::keep_beside;
+use qs_base::keep_beside;
+use qs_syntax_expressions::expressions::parenthesized;
+use qs_syntax_grammar::fault::Fault;
 use qs_syntax_tokens::kinds::{CONSTRAINTS, ORDERS};
 use qs_syntax_tokens::parser::Parser;
 use qs_syntax_tokens::tokens::Tokens;
 use qs_syntax_tokens::trees::all_of;
-use qs_syntax_grammar::fault::Fault;
-use qs_syntax_expressions::expressions::parenthesized;
 use qs_syntax_tree::expression::Expression;
 use qs_syntax_tree::kind::Kind;
 use qs_syntax_tree::query::{Direction, OrderCondition, SolutionModifiers};

@@ -5,10 +5,10 @@ ghost use Rattle.qs_syntax_resolve.specs.Resolving.{Resolves};
 
 use crate::resolver::Resolver;
 use qs_syntax_ast::expression::{Addend, Expression};
-use qs_terms::QFault;
 use qs_syntax_tree::expression::{
     Addend as WrittenAddend, Call as WrittenCall, Expression as WrittenExpression, Operand,
 };
+use qs_terms::QFault;
 use sqlite_items::{Boxed, Items};
 use std::alloc::Global;
 

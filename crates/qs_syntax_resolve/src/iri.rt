@@ -11,8 +11,8 @@ ghost use Rattle.qs_syntax_resolve.specs.Names.{full, is_colon};
 use crate::piece::inside;
 use qs_lex_escapes::Escapes;
 use qs_lex_escapes::decoded::{decoded, joined};
-use qs_terms::{Iri, QFault, IriCache, TermFault, Text};
 use qs_syntax_tree::token::Span;
+use qs_terms::{Iri, IriCache, QFault, TermFault, Text};
 use std::alloc::Global;
 
 const RDF_TYPE: &str = "http://www.w3.org/1999/02/22-rdf-syntax-ns#type";

@@ -7,11 +7,11 @@ ghost use Rattle.qs_syntax_resolve.specs.Resolving.{Resolves};
 
 use crate::resolver::Resolver;
 use qs_syntax_ast::term::{BlankNode, TermPattern, VarOrIri, Variable};
-use qs_terms::{Iri, Lit, QFault, Text};
 use qs_syntax_tree::term::{
     Iri as WrittenIri, Literal as WrittenLiteral, Term as WrittenTerm, VarOrIri as WrittenVarOrIri,
 };
 use qs_syntax_tree::token::Span;
+use qs_terms::{Iri, Lit, QFault, Text};
 use std::alloc::Global;
 
 fn empty_string(alloc: Global) -> Result<Lit, QFault>

@@ -10,8 +10,8 @@ ghost use Rattle.qs_syntax_resolve.specs.Names.{marks};
 use crate::piece::{inside, whole};
 use qs_lex_escapes::Escapes;
 use qs_lex_escapes::decoded::decoded;
-use qs_terms::{Iri, Lit, QFault, TermFault, Text};
 use qs_syntax_tree::token::Span;
+use qs_terms::{Iri, Lit, QFault, TermFault, Text};
 use std::alloc::{AllocError, Global};
 
 fn marks(written: &str) -> usize

@@ -11,16 +11,16 @@ ghost use Rattle.qs_syntax_resolve.specs.Names.{declared as declared_in, expande
 
 use crate::iri::{expanded, full_iri, parted, rdf_type};
 use crate::literal::{boolean, integer, plain, string, tagged, with_datatype};
+use crate::name_cache::NameCache;
 use crate::number::decimal;
 use crate::piece::{before_end, behind, whole};
-use crate::name_cache::NameCache;
 use qs_syntax_ast::shared::Shared;
 use qs_syntax_ast::term::Variable;
-use qs_terms::{Iri, Lit, QFault, IriCache, Text};
 use qs_syntax_tree::path::Predicate;
 use qs_syntax_tree::query::PrefixDeclaration;
 use qs_syntax_tree::term::{Annotation, Iri as WrittenIri, Literal};
 use qs_syntax_tree::token::Span;
+use qs_terms::{Iri, IriCache, Lit, QFault, Text};
 use std::alloc::{AllocError, Global};
 use std::collections::BTreeMap;
 use std::marker::Model;

@@ -3,9 +3,9 @@
 ghost use Rattle.std.specs.Prelude.{◌≡◌, IfOk, OnOk};
 ghost use Rattle.qs_syntax_resolve.specs.Pattern as spec;
 
+use qs_base::push_after;
 use qs_syntax_ast::expression::Expression;
 use qs_syntax_ast::pattern::{GraphPattern, Group, Triple};
-use qs_beside::push_after;
 use sqlite_items::Items;
 use std::alloc::{AllocError, Global};
 use std::mem;

@@ -6,8 +6,8 @@ ghost use Rattle.qs_syntax_resolve.specs.Resolving.{Resolves, all};
 
 use crate::resolver::Resolver;
 use qs_syntax_ast::path::{NegatedIri, Path};
-use qs_terms::{Iri, QFault};
 use qs_syntax_tree::path::{NegatedPredicate, Path as WrittenPath, PathOperand, Predicate};
+use qs_terms::{Iri, QFault};
 use sqlite_items::{Boxed, Items};
 use std::alloc::Global;
 

@@ -5,15 +5,15 @@ ghost use Rattle.qs_syntax_resolve.specs.Resolving.{Resolves, Changes};
 
 use crate::open_group::OpenGroup;
 use crate::resolver::Resolver;
+use qs_base::keep_beside;
 use qs_syntax_ast::pattern::{GraphPattern, Group};
-use qs_beside::keep_beside;
-use qs_terms::QFault;
 use qs_syntax_tree::expression::Expression as WrittenExpression;
 use qs_syntax_tree::pattern::{
     Element, GraphPattern as WrittenPattern, Group as WrittenGroup, InlineData as WrittenData,
 };
 use qs_syntax_tree::token::Span;
 use qs_syntax_tree::triples::TriplesSameSubject;
+use qs_terms::QFault;
 use sqlite_items::Items;
 use std::alloc::Global;
 

@@ -6,14 +6,13 @@ ghost use Rattle.qs_syntax_resolve.specs.Resolving.{Resolves};
 ghost use Rattle.qs_syntax_resolve.specs.Triples.{triples_behind};
 
 use crate::resolver::Resolver;
+use qs_base::keep_beside;
 use qs_syntax_ast::pattern::{Group, InlineData, Triple};
 use qs_syntax_ast::query::{
     Ask, Construct, OrderCondition, Projection, Query, QueryForm, Select, SelectItem,
     SolutionModifiers,
 };
 use qs_syntax_ast::term::Variable;
-use qs_beside::keep_beside;
-use qs_terms::QFault;
 use qs_syntax_tree::pattern::{Group as WrittenGroup, InlineData as WrittenData};
 use qs_syntax_tree::query::{
     Ask as WrittenAsk, Construct as WrittenConstruct, OrderCondition as WrittenOrder,
@@ -23,6 +22,7 @@ use qs_syntax_tree::query::{
 };
 use qs_syntax_tree::token::Span;
 use qs_syntax_tree::triples::TriplesSameSubject;
+use qs_terms::QFault;
 use sqlite_items::Items;
 use std::alloc::Global;
 

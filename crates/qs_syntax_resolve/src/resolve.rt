@@ -9,9 +9,9 @@ use crate::resolver::Resolver;
 use qs_syntax_ast::query::Query;
 use qs_syntax_ast::term::Variable;
 use qs_syntax_ast::update::Update;
-use qs_terms::QFault;
 use qs_syntax_tree::query::Query as WrittenQuery;
 use qs_syntax_tree::update::Update as WrittenUpdate;
+use qs_terms::QFault;
 use sqlite_items::Items;
 use std::alloc::Global;
 

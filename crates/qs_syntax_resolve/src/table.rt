@@ -6,9 +6,9 @@ ghost use Rattle.qs_syntax_resolve.specs.Resolving.{Resolves};
 use crate::resolver::Resolver;
 use qs_syntax_ast::pattern::InlineData;
 use qs_syntax_ast::term::Variable;
-use qs_terms::{QFault, Term};
 use qs_syntax_tree::pattern::{DataValue, InlineData as WrittenData};
 use qs_syntax_tree::token::Span;
+use qs_terms::{QFault, Term};
 use sqlite_items::Items;
 use std::alloc::Global;
 

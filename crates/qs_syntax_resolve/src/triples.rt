@@ -10,10 +10,10 @@ use qs_syntax_ast::path::Path;
 use qs_syntax_ast::pattern::{Triple, Verb};
 use qs_syntax_ast::shared::Shared;
 use qs_syntax_ast::term::TermPattern;
-use qs_terms::QFault;
 use qs_syntax_tree::path::Verb as WrittenVerb;
 use qs_syntax_tree::term::Term as WrittenTerm;
 use qs_syntax_tree::triples::{GraphNode, Property, TriplesSameSubject};
+use qs_terms::QFault;
 use sqlite_items::Items;
 use std::alloc::Global;
 

@@ -4,16 +4,18 @@ ghost use Rattle.qs_syntax_resolve.specs.Resolving.{Resolves, Collects};
 ghost use Rattle.qs_syntax_resolve.specs.Update as spec;
 
 use crate::resolver::Resolver;
+use qs_base::keep_beside;
 use qs_syntax_ast::term::Variable;
-use qs_syntax_ast::update::{GraphOrDefault, GraphTarget, Modify, Operation, QuadBlock, Transfer, Update};
-use qs_beside::keep_beside;
-use qs_terms::{Iri, QFault};
+use qs_syntax_ast::update::{
+    GraphOrDefault, GraphTarget, Modify, Operation, QuadBlock, Transfer, Update,
+};
 use qs_syntax_tree::term::Iri as WrittenIri;
 use qs_syntax_tree::update::{
     GraphOrDefault as WrittenEnd, GraphTarget as WrittenTarget, Modify as WrittenModify,
     Operation as WrittenOperation, QuadElement, QuadPattern, Quads, Transfer as WrittenTransfer,
     Update as WrittenUpdate, UpdateStep,
 };
+use qs_terms::{Iri, QFault};
 use sqlite_items::Items;
 use std::alloc::Global;
 

@@ -8,7 +8,7 @@ use Rattle.std.specs.Cmp.Lexicographic.{pointwise, slice_cmp, texts_ties, bytes_
 use Rattle.std.specs.BTreeMap.{is_at}
 use Rattle.qs_syntax_scope.specs.Names.{Name, contains}
 use Rattle.qs_syntax_scope.specs.Places.{is_before, is_from, first_with, IsWithin, IsIndex}
-use Rattle.qs_syntax_scope.specs.declared.seen.Places.{Places}
+use Rattle.qs_syntax_scope.specs.declared.name_list.Places.{Places}
 
 same : Name → Name → Bool
 same = pointwise nat_eq

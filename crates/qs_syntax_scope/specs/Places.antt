@@ -2,7 +2,7 @@
 use Rattle.std.specs.Prelude.{◌≡◌, ℕ, zero, suc, ◌≤◌, Bool, false, nat_eq, nat_lt, nat_le, List, [], ◌∷◌, length, take, drop, Option, Some, None, if◌then◌else◌}
 use Rattle.std.specs.Cmp.Lexicographic.{pointwise}
 use Rattle.qs_syntax_scope.specs.Names.{Name, contains}
-use Rattle.qs_syntax_scope.specs.declared.seen.Places.{Places}
+use Rattle.qs_syntax_scope.specs.declared.name_list.Places.{Places}
 
 -- whether the name with the places stands before this one
 abbrev pub is_before : ℕ → Option Places → Bool

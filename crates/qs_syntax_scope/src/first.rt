@@ -5,14 +5,14 @@ ghost use Rattle.qs_syntax_scope.specs.Firsts.{names_of, with_name, with_names, 
 ghost use Rattle.qs_syntax_scope.specs.Names.{contains};
 
 use crate::name::Name;
-use crate::seen::Seen;
+use crate::name_list::NameList;
 use qs_syntax_ast::term::Variable;
 use sqlite_items::Items;
 use std::alloc::{AllocError, Global};
 
 // The variable of the name after the others, unless the name stands before its place.
 fn put_first<'a>(
-    names: &Seen<'a>,
+    names: &NameList<'a>,
     found: &mut Items<Variable>,
     place: usize,
     name: &Name<'a>,
@@ -28,7 +28,7 @@ fn put_first<'a>(
 
 /// The variables of the names, each once, in the order in which they first appear.
 #[tactic(auto, using(crate::proofs::FirstsKept::first_more))]
-pub fn first_of_names(alloc: Global, names: &Seen<'_>) -> Result<Items<Variable>, AllocError>
+pub fn first_of_names(alloc: Global, names: &NameList<'_>) -> Result<Items<Variable>, AllocError>
     ensures { IfOk result (λ found. found ≡ firsts (with_names names.now)) }
 {
     let all = names.as_slice();
@@ -49,10 +49,10 @@ pub fn first_variables(alloc: Global, variables: &[Variable]) -> Result<Items<Va
 }
 
 /// The names of the variables, numbered by their places.
-pub fn numbered<'a>(alloc: Global, variables: &'a [Variable]) -> Result<Seen<'a>, AllocError>
+pub fn numbered<'a>(alloc: Global, variables: &'a [Variable]) -> Result<NameList<'a>, AllocError>
     ensures { IfOk result (λ names. names ≡ names_of variables.now) }
 {
-    let mut names = Seen::new(alloc);
+    let mut names = NameList::new(alloc);
     for variable in variables {
         names.push(&variable.name)?;
     }

@@ -3,15 +3,15 @@
 ghost use Rattle.std.specs.Prelude.{◌≡◌, ◌++◌, OnOk};
 ghost use Rattle.qs_syntax_scope.specs.VariablesIn as spec;
 
+use crate::name_list::NameList;
 use crate::scope::push_variable;
-use crate::seen::Seen;
 use qs_syntax_ast::expression::{Addend, Expression};
 use std::alloc::AllocError;
 
 /// Adds the variables that stand in the expression.
 #[cycle(expression)]
 pub fn push_expression<'a>(
-    names: &mut Seen<'a>,
+    names: &mut NameList<'a>,
     expression: &'a Expression,
 ) -> Result<(), AllocError>
     ensures { OnOk result (names.new ≡ names.old ++ spec.in_expression expression.now) }
@@ -52,7 +52,10 @@ pub fn push_expression<'a>(
 
 /// Adds the variables that stand in the expressions.
 #[cycle(expression)]
-pub fn push_expressions<'a>(names: &mut Seen<'a>, all: &'a [Expression]) -> Result<(), AllocError>
+pub fn push_expressions<'a>(
+    names: &mut NameList<'a>,
+    all: &'a [Expression],
+) -> Result<(), AllocError>
     ensures { OnOk result (names.new ≡ names.old ++ spec.in_expressions all.now) }
 {
     for one in all {
@@ -62,7 +65,7 @@ pub fn push_expressions<'a>(names: &mut Seen<'a>, all: &'a [Expression]) -> Resu
 }
 
 #[cycle(expression)]
-fn push_addends<'a>(names: &mut Seen<'a>, all: &'a [Addend]) -> Result<(), AllocError>
+fn push_addends<'a>(names: &mut NameList<'a>, all: &'a [Addend]) -> Result<(), AllocError>
     ensures { OnOk result (names.new ≡ names.old ++ spec.in_addends all.now) }
 {
     for one in all {

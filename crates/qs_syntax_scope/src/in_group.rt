@@ -4,14 +4,14 @@ ghost use Rattle.std.specs.Prelude.{◌≡◌, ◌++◌, OnOk};
 ghost use Rattle.qs_syntax_scope.specs.VariablesIn as spec;
 
 use crate::in_expression::{push_expression, push_expressions};
+use crate::name_list::NameList;
 use crate::scope::{push_columns, push_graph, push_triples, push_variable};
-use crate::seen::Seen;
 use qs_syntax_ast::pattern::{GraphPattern, Group};
 use std::alloc::AllocError;
 
 /// Adds the variables that stand in the group, in its filters and after MINUS too.
 #[cycle(group)]
-pub fn push_group<'a>(names: &mut Seen<'a>, group: &'a Group) -> Result<(), AllocError>
+pub fn push_group<'a>(names: &mut NameList<'a>, group: &'a Group) -> Result<(), AllocError>
     ensures { OnOk result (names.new ≡ names.old ++ spec.in_group group.now) }
 {
     push_patterns(names, group.patterns.as_slice())?;
@@ -19,7 +19,7 @@ pub fn push_group<'a>(names: &mut Seen<'a>, group: &'a Group) -> Result<(), Allo
 }
 
 #[cycle(group)]
-fn push_patterns<'a>(names: &mut Seen<'a>, all: &'a [GraphPattern]) -> Result<(), AllocError>
+fn push_patterns<'a>(names: &mut NameList<'a>, all: &'a [GraphPattern]) -> Result<(), AllocError>
     ensures { OnOk result (names.new ≡ names.old ++ spec.in_patterns all.now) }
 {
     for one in all {
@@ -29,7 +29,7 @@ fn push_patterns<'a>(names: &mut Seen<'a>, all: &'a [GraphPattern]) -> Result<()
 }
 
 #[cycle(group)]
-fn push_pattern<'a>(names: &mut Seen<'a>, pattern: &'a GraphPattern) -> Result<(), AllocError>
+fn push_pattern<'a>(names: &mut NameList<'a>, pattern: &'a GraphPattern) -> Result<(), AllocError>
     ensures { OnOk result (names.new ≡ names.old ++ spec.in_pattern pattern.now) }
 {
     match pattern {
@@ -49,7 +49,7 @@ fn push_pattern<'a>(names: &mut Seen<'a>, pattern: &'a GraphPattern) -> Result<(
 }
 
 #[cycle(group)]
-fn push_groups<'a>(names: &mut Seen<'a>, all: &'a [Group]) -> Result<(), AllocError>
+fn push_groups<'a>(names: &mut NameList<'a>, all: &'a [Group]) -> Result<(), AllocError>
     ensures { OnOk result (names.new ≡ names.old ++ spec.in_groups all.now) }
 {
     for one in all {

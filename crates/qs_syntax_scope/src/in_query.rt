@@ -7,9 +7,9 @@ ghost use Rattle.qs_syntax_scope.specs.VariablesIn as spec;
 use crate::first::{first_of_names, numbered};
 use crate::in_expression::push_expression;
 use crate::in_group::push_group;
+use crate::name_list::NameList;
 use crate::query::push_trailing;
 use crate::scope::{push_triples, push_variable};
-use crate::seen::Seen;
 use qs_syntax_ast::pattern::Group;
 use qs_syntax_ast::query::{
     Ask, Construct, Projection, Query, QueryForm, Select, SelectItem, SolutionModifiers,
@@ -18,7 +18,7 @@ use qs_syntax_ast::term::Variable;
 use sqlite_items::Items;
 use std::alloc::{AllocError, Global};
 
-fn push_item<'a>(names: &mut Seen<'a>, item: &'a SelectItem) -> Result<(), AllocError>
+fn push_item<'a>(names: &mut NameList<'a>, item: &'a SelectItem) -> Result<(), AllocError>
     ensures { OnOk result (names.new ≡ names.old ++ spec.in_item item.now) }
 {
     match item {
@@ -30,7 +30,7 @@ fn push_item<'a>(names: &mut Seen<'a>, item: &'a SelectItem) -> Result<(), Alloc
     }
 }
 
-fn push_items<'a>(names: &mut Seen<'a>, items: &'a [SelectItem]) -> Result<(), AllocError>
+fn push_items<'a>(names: &mut NameList<'a>, items: &'a [SelectItem]) -> Result<(), AllocError>
     ensures { OnOk result (names.new ≡ names.old ++ flat_map spec.in_item items.now) }
 {
     for item in items {
@@ -39,7 +39,10 @@ fn push_items<'a>(names: &mut Seen<'a>, items: &'a [SelectItem]) -> Result<(), A
     Ok(())
 }
 
-fn push_projection<'a>(names: &mut Seen<'a>, projection: &'a Projection) -> Result<(), AllocError>
+fn push_projection<'a>(
+    names: &mut NameList<'a>,
+    projection: &'a Projection,
+) -> Result<(), AllocError>
     ensures { OnOk result (names.new ≡ names.old ++ spec.in_projection projection.now) }
 {
     match projection {
@@ -49,7 +52,7 @@ fn push_projection<'a>(names: &mut Seen<'a>, projection: &'a Projection) -> Resu
 }
 
 fn push_modifiers<'a>(
-    names: &mut Seen<'a>,
+    names: &mut NameList<'a>,
     modifiers: &'a SolutionModifiers,
 ) -> Result<(), AllocError>
     ensures { OnOk result (names.new ≡ names.old ++ spec.in_modifiers modifiers.now) }
@@ -60,7 +63,7 @@ fn push_modifiers<'a>(
     Ok(())
 }
 
-fn push_select<'a>(names: &mut Seen<'a>, select: &'a Select) -> Result<(), AllocError>
+fn push_select<'a>(names: &mut NameList<'a>, select: &'a Select) -> Result<(), AllocError>
     ensures { OnOk result (names.new ≡ names.old ++ spec.in_select select.now) }
 {
     push_projection(names, &select.projection)?;
@@ -68,7 +71,7 @@ fn push_select<'a>(names: &mut Seen<'a>, select: &'a Select) -> Result<(), Alloc
     push_modifiers(names, &select.modifiers)
 }
 
-fn push_where<'a>(names: &mut Seen<'a>, pattern: &'a Option<Group>) -> Result<(), AllocError>
+fn push_where<'a>(names: &mut NameList<'a>, pattern: &'a Option<Group>) -> Result<(), AllocError>
     ensures { OnOk result (names.new ≡ names.old ++ spec.in_where pattern.now) }
 {
     match pattern {
@@ -77,7 +80,7 @@ fn push_where<'a>(names: &mut Seen<'a>, pattern: &'a Option<Group>) -> Result<()
     }
 }
 
-fn push_construct<'a>(names: &mut Seen<'a>, construct: &'a Construct) -> Result<(), AllocError>
+fn push_construct<'a>(names: &mut NameList<'a>, construct: &'a Construct) -> Result<(), AllocError>
     ensures { OnOk result (names.new ≡ names.old ++ spec.in_construct construct.now) }
 {
     push_triples(names, construct.template.as_slice())?;
@@ -85,14 +88,14 @@ fn push_construct<'a>(names: &mut Seen<'a>, construct: &'a Construct) -> Result<
     push_modifiers(names, &construct.modifiers)
 }
 
-fn push_ask<'a>(names: &mut Seen<'a>, ask: &'a Ask) -> Result<(), AllocError>
+fn push_ask<'a>(names: &mut NameList<'a>, ask: &'a Ask) -> Result<(), AllocError>
     ensures { OnOk result (names.new ≡ names.old ++ spec.in_ask ask.now) }
 {
     push_group(names, &ask.pattern)?;
     push_modifiers(names, &ask.modifiers)
 }
 
-fn push_form<'a>(names: &mut Seen<'a>, form: &'a QueryForm) -> Result<(), AllocError>
+fn push_form<'a>(names: &mut NameList<'a>, form: &'a QueryForm) -> Result<(), AllocError>
     ensures { OnOk result (names.new ≡ names.old ++ spec.in_form form.now) }
 {
     match form {
@@ -102,7 +105,7 @@ fn push_form<'a>(names: &mut Seen<'a>, form: &'a QueryForm) -> Result<(), AllocE
     }
 }
 
-fn push_query<'a>(names: &mut Seen<'a>, query: &'a Query) -> Result<(), AllocError>
+fn push_query<'a>(names: &mut NameList<'a>, query: &'a Query) -> Result<(), AllocError>
     ensures { OnOk result (names.new ≡ names.old ++ spec.in_query query.now) }
 {
     push_form(names, &query.form)?;

@@ -5,14 +5,14 @@ ghost use Rattle.qs_syntax_scope.specs.VariablesIn as spec;
 
 use crate::first::{first_of_names, numbered};
 use crate::in_group::push_group;
+use crate::name_list::NameList;
 use crate::scope::{push_graph, push_triples};
-use crate::seen::Seen;
 use qs_syntax_ast::term::{VarOrIri, Variable};
 use qs_syntax_ast::update::{Modify, Operation, QuadBlock, Update};
 use sqlite_items::Items;
 use std::alloc::{AllocError, Global};
 
-fn push_name<'a>(names: &mut Seen<'a>, name: &'a Option<VarOrIri>) -> Result<(), AllocError>
+fn push_name<'a>(names: &mut NameList<'a>, name: &'a Option<VarOrIri>) -> Result<(), AllocError>
     ensures { OnOk result (names.new ≡ names.old ++ spec.in_name name.now) }
 {
     match name {
@@ -21,14 +21,14 @@ fn push_name<'a>(names: &mut Seen<'a>, name: &'a Option<VarOrIri>) -> Result<(),
     }
 }
 
-fn push_block<'a>(names: &mut Seen<'a>, block: &'a QuadBlock) -> Result<(), AllocError>
+fn push_block<'a>(names: &mut NameList<'a>, block: &'a QuadBlock) -> Result<(), AllocError>
     ensures { OnOk result (names.new ≡ names.old ++ spec.in_block block.now) }
 {
     push_name(names, &block.graph)?;
     push_triples(names, block.triples.as_slice())
 }
 
-fn push_blocks<'a>(names: &mut Seen<'a>, blocks: &'a [QuadBlock]) -> Result<(), AllocError>
+fn push_blocks<'a>(names: &mut NameList<'a>, blocks: &'a [QuadBlock]) -> Result<(), AllocError>
     ensures { OnOk result (names.new ≡ names.old ++ spec.in_blocks blocks.now) }
 {
     for block in blocks {
@@ -37,7 +37,7 @@ fn push_blocks<'a>(names: &mut Seen<'a>, blocks: &'a [QuadBlock]) -> Result<(), 
     Ok(())
 }
 
-fn push_modify<'a>(names: &mut Seen<'a>, modify: &'a Modify) -> Result<(), AllocError>
+fn push_modify<'a>(names: &mut NameList<'a>, modify: &'a Modify) -> Result<(), AllocError>
     ensures { OnOk result (names.new ≡ names.old ++ spec.in_modify modify.now) }
 {
     push_blocks(names, modify.delete.as_slice())?;
@@ -45,7 +45,7 @@ fn push_modify<'a>(names: &mut Seen<'a>, modify: &'a Modify) -> Result<(), Alloc
     push_group(names, &modify.pattern)
 }
 
-fn push_operation<'a>(names: &mut Seen<'a>, operation: &'a Operation) -> Result<(), AllocError>
+fn push_operation<'a>(names: &mut NameList<'a>, operation: &'a Operation) -> Result<(), AllocError>
     ensures { OnOk result (names.new ≡ names.old ++ spec.in_operation operation.now) }
 {
     match operation {
@@ -57,7 +57,7 @@ fn push_operation<'a>(names: &mut Seen<'a>, operation: &'a Operation) -> Result<
     }
 }
 
-fn push_update<'a>(names: &mut Seen<'a>, update: &'a Update) -> Result<(), AllocError>
+fn push_update<'a>(names: &mut NameList<'a>, update: &'a Update) -> Result<(), AllocError>
     ensures { OnOk result (names.new ≡ names.old ++ spec.in_update update.now) }
 {
     for operation in update.operations.as_slice() {

@@ -3,7 +3,7 @@
 ghost use Rattle.std.specs.Prelude.{◌≡◌, ◌∷◌, [], ◌++◌, OnOk};
 ghost use Rattle.qs_syntax_scope.specs.Met as spec;
 
-use crate::seen::Seen;
+use crate::name_list::NameList;
 use qs_syntax_ast::shared::Shared;
 use qs_terms::Text;
 use std::alloc::{AllocError, Global};
@@ -11,7 +11,7 @@ use std::alloc::{AllocError, Global};
 /// The names that were met so far, and whether each that had to be new was.
 #[derive(Drop)]
 pub struct Met<'a> {
-    pub names: Seen<'a>,
+    pub names: NameList<'a>,
     pub keeps: bool,
 }
 
@@ -20,7 +20,7 @@ impl<'a> Met<'a> {
         ensures { result ≡ spec.after [] }
     {
         Met {
-            names: Seen::new(alloc),
+            names: NameList::new(alloc),
             keeps: true,
         }
     }

@@ -9,7 +9,7 @@ ghost use Rattle.qs_syntax_scope.specs.Selected.{selected_are_new as are_new};
 ghost use Rattle.qs_syntax_scope.specs.KeepsScope as spec;
 
 use crate::met::Met;
-use crate::seen::Seen;
+use crate::name_list::NameList;
 use crate::selected::selected_are_new;
 use crate::{runs, scope, tables};
 use qs_syntax_ast::pattern::{Group, InlineData};
@@ -45,13 +45,13 @@ fn pattern_keeps(alloc: Global, group: &Group) -> Result<bool, AllocError>
 pub fn binds_are_new(alloc: Global, group: &Group) -> Result<bool, AllocError>
     ensures { IfOk result (λ b. b ≡ binds_are_new group.now) }
 {
-    let mut names = Seen::new(alloc);
+    let mut names = NameList::new(alloc);
     scope::group(alloc, &mut names, group)
 }
 
 /// The variables of the trailing VALUES, if there is one.
 pub fn push_trailing<'a>(
-    names: &mut Seen<'a>,
+    names: &mut NameList<'a>,
     values: &'a Option<InlineData>,
 ) -> Result<(), AllocError>
     ensures { OnOk result (names.new ≡ names.old ++ spec.trailing_names values.now) }
@@ -79,7 +79,7 @@ fn names_keep(
 ) -> Result<bool, AllocError>
     ensures { IfOk result (λ b. b ≡ (binds_are_new select.now.pattern && are_new (in_scope select.now.pattern ++ spec.trailing_names values.now) select.now.projection)) }
 {
-    let mut names = Seen::new(alloc);
+    let mut names = NameList::new(alloc);
     let binds = scope::group(alloc, &mut names, &select.pattern)?;
     push_trailing(&mut names, values)?;
     let items = selected_are_new(names, &select.projection)?;

@@ -6,18 +6,18 @@ ghost use Rattle.qs_syntax_scope.specs.Met.{after};
 ghost use Rattle.qs_syntax_scope.specs.Scope as spec;
 ghost use Rattle.qs_syntax_scope.specs.Variables as variables;
 
-use crate::seen::Seen;
+use crate::name_list::NameList;
 use qs_syntax_ast::pattern::{GraphPattern, Group, InlineData, Triple, Verb};
 use qs_syntax_ast::term::{TermPattern, VarOrIri, Variable};
 use std::alloc::{AllocError, Global};
 
-pub fn push_variable<'a>(names: &mut Seen<'a>, variable: &'a Variable) -> Result<(), AllocError>
+pub fn push_variable<'a>(names: &mut NameList<'a>, variable: &'a Variable) -> Result<(), AllocError>
     ensures { OnOk result (names.new ≡ names.old ++ variable.now.name ∷ []) }
 {
     names.push(&variable.name)
 }
 
-fn push_term<'a>(names: &mut Seen<'a>, term: &'a TermPattern) -> Result<(), AllocError>
+fn push_term<'a>(names: &mut NameList<'a>, term: &'a TermPattern) -> Result<(), AllocError>
     ensures { OnOk result (names.new ≡ names.old ++ variables.term_variables term.now) }
 {
     match term {
@@ -26,7 +26,7 @@ fn push_term<'a>(names: &mut Seen<'a>, term: &'a TermPattern) -> Result<(), Allo
     }
 }
 
-fn push_verb<'a>(names: &mut Seen<'a>, verb: &'a Verb) -> Result<(), AllocError>
+fn push_verb<'a>(names: &mut NameList<'a>, verb: &'a Verb) -> Result<(), AllocError>
     ensures { OnOk result (names.new ≡ names.old ++ variables.verb_variables verb.now) }
 {
     match verb {
@@ -36,7 +36,7 @@ fn push_verb<'a>(names: &mut Seen<'a>, verb: &'a Verb) -> Result<(), AllocError>
 }
 
 /// The variable that the name of a graph is.
-pub fn push_graph<'a>(names: &mut Seen<'a>, graph: &'a VarOrIri) -> Result<(), AllocError>
+pub fn push_graph<'a>(names: &mut NameList<'a>, graph: &'a VarOrIri) -> Result<(), AllocError>
     ensures { OnOk result (names.new ≡ names.old ++ variables.graph_variables graph.now) }
 {
     match graph {
@@ -45,7 +45,7 @@ pub fn push_graph<'a>(names: &mut Seen<'a>, graph: &'a VarOrIri) -> Result<(), A
     }
 }
 
-fn push_triple<'a>(names: &mut Seen<'a>, triple: &'a Triple) -> Result<(), AllocError>
+fn push_triple<'a>(names: &mut NameList<'a>, triple: &'a Triple) -> Result<(), AllocError>
     ensures { OnOk result (names.new ≡ names.old ++ variables.triple_variables triple.now) }
 {
     push_term(names, triple.subject.get())?;
@@ -54,7 +54,7 @@ fn push_triple<'a>(names: &mut Seen<'a>, triple: &'a Triple) -> Result<(), Alloc
 }
 
 /// The variables of triples.
-pub fn push_triples<'a>(names: &mut Seen<'a>, triples: &'a [Triple]) -> Result<(), AllocError>
+pub fn push_triples<'a>(names: &mut NameList<'a>, triples: &'a [Triple]) -> Result<(), AllocError>
     ensures { OnOk result (names.new ≡ names.old ++ flat_map variables.triple_variables triples.now) }
 {
     for triple in triples {
@@ -64,7 +64,7 @@ pub fn push_triples<'a>(names: &mut Seen<'a>, triples: &'a [Triple]) -> Result<(
 }
 
 /// The variables of a VALUES.
-pub fn push_columns<'a>(names: &mut Seen<'a>, table: &'a InlineData) -> Result<(), AllocError>
+pub fn push_columns<'a>(names: &mut NameList<'a>, table: &'a InlineData) -> Result<(), AllocError>
     ensures { OnOk result (names.new ≡ names.old ++ variables.column_names table.now) }
 {
     for variable in table.variables.as_slice() {
@@ -74,17 +74,21 @@ pub fn push_columns<'a>(names: &mut Seen<'a>, table: &'a InlineData) -> Result<(
 }
 
 /// The variables in scope of the group (SPARQL 1.1 Query, 18.2.1). One that several of its patterns bring stands several times.
-pub fn in_scope<'a>(alloc: Global, group: &'a Group) -> Result<Seen<'a>, AllocError>
+pub fn in_scope<'a>(alloc: Global, group: &'a Group) -> Result<NameList<'a>, AllocError>
     ensures { IfOk result (λ names. names ≡ spec.in_scope group.now) }
 {
-    let mut names = Seen::new(alloc);
+    let mut names = NameList::new(alloc);
     self::group(alloc, &mut names, group)?;
     Ok(names)
 }
 
 /// Adds the variables in scope of the group, and says whether every BIND in it keeps the rule.
 #[cycle(scope)]
-pub fn group<'a>(alloc: Global, names: &mut Seen<'a>, group: &'a Group) -> Result<bool, AllocError>
+pub fn group<'a>(
+    alloc: Global,
+    names: &mut NameList<'a>,
+    group: &'a Group,
+) -> Result<bool, AllocError>
     ensures names { OnOk result (names.new ≡ names.old ++ spec.in_scope group.now) }
     ensures keeps { IfOk result (λ b. b ≡ spec.binds_are_new group.now) }
 {
@@ -94,7 +98,7 @@ pub fn group<'a>(alloc: Global, names: &mut Seen<'a>, group: &'a Group) -> Resul
 #[cycle(scope)]
 fn patterns<'a>(
     alloc: Global,
-    names: &mut Seen<'a>,
+    names: &mut NameList<'a>,
     all: &'a [GraphPattern],
 ) -> Result<bool, AllocError>
     ensures names { OnOk result (names.new ≡ names.old ++ (spec.parts all.now).names) }
@@ -113,7 +117,7 @@ fn patterns<'a>(
 #[cycle(scope)]
 fn pattern<'a>(
     alloc: Global,
-    names: &mut Seen<'a>,
+    names: &mut NameList<'a>,
     start: usize,
     pattern: &'a GraphPattern,
 ) -> Result<bool, AllocError>
@@ -127,7 +131,7 @@ fn pattern<'a>(
         }
         GraphPattern::Union(groups) => operands(alloc, names, groups.as_slice()),
         GraphPattern::Optional(inner) => group(alloc, names, inner),
-        GraphPattern::Minus(inner) => group(alloc, &mut Seen::new(alloc), inner),
+        GraphPattern::Minus(inner) => group(alloc, &mut NameList::new(alloc), inner),
         GraphPattern::Graph(graph, inner) => {
             push_graph(names, graph)?;
             group(alloc, names, inner)
@@ -145,7 +149,11 @@ fn pattern<'a>(
 }
 
 #[cycle(scope)]
-fn operands<'a>(alloc: Global, names: &mut Seen<'a>, all: &'a [Group]) -> Result<bool, AllocError>
+fn operands<'a>(
+    alloc: Global,
+    names: &mut NameList<'a>,
+    all: &'a [Group],
+) -> Result<bool, AllocError>
     ensures names { OnOk result (names.new ≡ names.old ++ (spec.operands all.now).names) }
     ensures keeps { IfOk result (λ b. b ≡ (spec.operands all.now).keeps) }
 {

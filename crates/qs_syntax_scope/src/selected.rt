@@ -5,7 +5,7 @@ ghost use Rattle.std.specs.List.{fold};
 ghost use Rattle.qs_syntax_scope.specs.Selected as spec;
 
 use crate::met::Met;
-use crate::seen::Seen;
+use crate::name_list::NameList;
 use qs_syntax_ast::query::{Projection, SelectItem};
 use std::alloc::AllocError;
 
@@ -28,7 +28,10 @@ fn add_items<'a>(met: &mut Met<'a>, items: &'a [SelectItem]) -> Result<(), Alloc
 }
 
 /// Whether no variable after AS is among the given ones, or that of an earlier item.
-pub fn selected_are_new<'a>(taken: Seen<'a>, projection: &'a Projection) -> Result<bool, AllocError>
+pub fn selected_are_new<'a>(
+    taken: NameList<'a>,
+    projection: &'a Projection,
+) -> Result<bool, AllocError>
     ensures { IfOk result (λ b. b ≡ spec.selected_are_new taken.entry projection.now) }
 {
     let mut met = Met {

@@ -4,7 +4,7 @@ ghost use Rattle.std.specs.Prelude.{◌≡◌, [], ◌∷◌, IfOk, OnOk};
 ghost use Rattle.qs_syntax_grammar.specs.inner.Repeated.{keep};
 ghost use Rattle.qs_syntax_tree.specs.Trees.{path_chain, chain, sum, repeated, inverted, singles, related};
 
-use qs_beside::{box_three, box_pair};
+use qs_base::{box_pair, box_three};
 use qs_syntax_tree::expression::{
     Addend, BinaryFunction, Call, Expression, Operand, Relation, UnaryFunction,
 };

@@ -5,12 +5,12 @@ ghost use Rattle.qs_syntax_grammar.specs.Reading.{Reads};
 ghost use Rattle.qs_syntax_tree.specs.Rules as rules;
 ghost use Rattle.qs_syntax_tree.specs.Table.{grammar};
 
-use qs_beside::keep_beside;
+use qs_base::keep_beside;
+use qs_syntax_grammar::fault::Fault;
 use qs_syntax_tokens::kinds::VALUES;
 use qs_syntax_tokens::parser::Parser;
 use qs_syntax_tokens::tokens::Tokens;
 use qs_syntax_tokens::trees;
-use qs_syntax_grammar::fault::Fault;
 use qs_syntax_tree::kind::Kind;
 use qs_syntax_tree::pattern::{DataValue, InlineData};
 use qs_syntax_tree::token::Span;

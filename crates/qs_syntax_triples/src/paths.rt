@@ -8,11 +8,11 @@ ghost use Rattle.qs_syntax_tree.specs.Rules as rules;
 ghost use Rattle.qs_syntax_tree.specs.Sparql as name;
 ghost use Rattle.qs_syntax_tree.specs.Table.{grammar};
 
-use qs_beside::keep_beside;
+use qs_base::keep_beside;
+use qs_syntax_grammar::fault::Fault;
 use qs_syntax_tokens::parser::Parser;
 use qs_syntax_tokens::tokens::Tokens;
 use qs_syntax_tokens::trees::{all_of, alternative, invert, repeat, sequence};
-use qs_syntax_grammar::fault::Fault;
 use qs_syntax_tree::kind::Kind;
 use qs_syntax_tree::path::{NegatedPredicate, Path, PathOperand, Predicate, Repetition};
 use sqlite_items::Items;

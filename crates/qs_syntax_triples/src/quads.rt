@@ -6,12 +6,12 @@ ghost use Rattle.qs_syntax_tree.specs.Rules as rules;
 ghost use Rattle.qs_syntax_tree.specs.Table.{grammar};
 
 use crate::triples::{template_braces, triples};
-use qs_beside::keep_beside;
+use qs_base::keep_beside;
+use qs_syntax_grammar::fault::Fault;
 use qs_syntax_tokens::kinds::NODES;
 use qs_syntax_tokens::parser::Parser;
 use qs_syntax_tokens::tokens::Tokens;
 use qs_syntax_tokens::trees::all_of;
-use qs_syntax_grammar::fault::Fault;
 use qs_syntax_tree::kind::Kind;
 use qs_syntax_tree::triples::Form;
 use qs_syntax_tree::update::{QuadElement, QuadPattern, Quads};

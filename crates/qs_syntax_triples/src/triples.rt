@@ -8,12 +8,12 @@ ghost use Rattle.qs_syntax_tree.specs.Sparql as name;
 ghost use Rattle.qs_syntax_tree.specs.Table.{grammar};
 
 use crate::paths::{alternatives, predicate};
-use qs_beside::keep_beside;
+use qs_base::keep_beside;
+use qs_syntax_grammar::fault::Fault;
 use qs_syntax_tokens::kinds::{NODES, TERMS, verbs};
 use qs_syntax_tokens::parser::Parser;
 use qs_syntax_tokens::tokens::Tokens;
 use qs_syntax_tokens::trees::{all_of, keep};
-use qs_syntax_grammar::fault::Fault;
 use qs_syntax_tree::kind::Kind;
 use qs_syntax_tree::path::{Path, Verb};
 use qs_syntax_tree::term::Term;

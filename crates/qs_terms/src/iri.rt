@@ -8,7 +8,7 @@ ghost use Rattle.qs_terms.specs.Iri.{is_scheme_char, reaches_colon, has_scheme, 
 
 use crate::fault::TermFault;
 use crate::text::Text;
-use qs_shared::Shared;
+use qs_base::Shared;
 use std::alloc::{AllocError, Global};
 use std::marker::Model;
 

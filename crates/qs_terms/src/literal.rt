@@ -14,7 +14,7 @@ use crate::fault::TermFault;
 use crate::iri::Iri;
 use crate::tag::is_tag;
 use crate::text::Text;
-use qs_shared::Shared;
+use qs_base::Shared;
 use std::alloc::{AllocError, Global};
 use std::marker::Model;
 

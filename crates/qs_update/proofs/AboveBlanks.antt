@@ -25,19 +25,19 @@ use Rattle.qs_syntax_scope.specs.Firsts.{names_of}
 use Rattle.qs_syntax_scope.specs.Names.{Name}
 use Rattle.qs_algebra_solutions.specs.Solution.{Solution, unbound}
 use Rattle.qs_algebra_patterns.specs.Eval.{eval}
-use Rattle.qs_algebra_patterns.specs.declared.pattern.Pattern.{Pattern}
+use Rattle.qs_algebra_patterns.specs.declared.pattern.PatternNode.{PatternNode}
 use Rattle.qs_query_template.specs.Instances.{instances, next_after}
 use Rattle.qs_query_template.specs.Template.{template_of_blocks, template_in}
 use Rattle.qs_query_template.specs.declared.template.Template.{Template}
 use Rattle.qs_algebra.specs.Translation.{translated_where, translated_blocks}
-use Rattle.qs_algebra.specs.declared.named.NamedPattern.{NamedPattern}
+use Rattle.qs_algebra.specs.declared.pattern.Pattern.{Pattern}
 use Rattle.qs_update_laws.specs.Below.{is_solution_below, have_iri_predicates}
 use Rattle.qs_update_laws.specs.NoBlank.{has_no_blank}
 use Rattle.qs_update_laws.specs.Written.{values_have_no_blank, operation_values_have_no_blank}
 use Rattle.qs_store.specs.declared.default_graph.DefaultGraph.{DefaultGraph}
 use Rattle.qs_store.specs.declared.default_graph.DefaultGraph.TheVariants.{Stored, Union}
 use Rattle.qs_update.specs.Effect.{nothing, deletion, modified, of_data, solutions, IsModified, cleared, fault_or_nothing, created, put_over, removed_by, transferred, IsEffect}
-use Rattle.qs_update.specs.Graphs.{is_in, is_named, in_graph, exists, put_into, copies, graph_name, seen}
+use Rattle.qs_update.specs.Graphs.{is_in, is_named, in_graph, exists, put_into, copies, graph_name, visible}
 use Rattle.qs_update.specs.inner.Lawful.{IsLawful}
 use Rattle.qs_update.specs.declared.effect.Effect.{Effect}
 use Rattle.qs_store.specs.declared.removal.Removal.{Removal}
@@ -131,7 +131,7 @@ module _ (next : ℕ) where
 
   -- ---- quads as a WHERE sees them
 
-  seen_below : (default : DefaultGraph) (quads : List Statement) → Above quads → Above (seen default quads)
+  seen_below : (default : DefaultGraph) (quads : List Statement) → Above quads → Above (visible default quads)
   seen_below Stored quads h = h
   seen_below Union quads h =
       let below = is_statement_below next in
@@ -141,7 +141,7 @@ module _ (next : ℕ) where
 abbrev predicate_is_iri : Statement → Bool
 predicate_is_iri q = is_iri q.predicate
 
-seen_iris : (default : DefaultGraph) (quads : List Statement) → have_iri_predicates quads ≡ true → have_iri_predicates (seen default quads) ≡ true
+seen_iris : (default : DefaultGraph) (quads : List Statement) → have_iri_predicates quads ≡ true → have_iri_predicates (visible default quads) ≡ true
 seen_iris Stored quads h = h
 seen_iris Union quads h =
     let k = all_filtered predicate_is_iri is_named quads h in
@@ -152,7 +152,7 @@ seen_iris Union quads h =
 -- what is known of solutions, of patterns and of templates
 abbrev pub Bound : Type 0
 Bound =
-    (next width : ℕ) (quads : List Statement) (pattern : Pattern) (name : Option Term) → IsTrue (has_no_blank pattern) → IsTrue (is_above_blanks next quads) → IsTrue (have_iri_predicates quads)
+    (next width : ℕ) (quads : List Statement) (pattern : PatternNode) (name : Option Term) → IsTrue (has_no_blank pattern) → IsTrue (is_above_blanks next quads) → IsTrue (have_iri_predicates quads)
     → All (λ (m : Solution). is_solution_below next m ≡ true) (eval width quads pattern (graph_of quads name))
 
 abbrev pub Made : Type 0
@@ -161,10 +161,10 @@ Made =
     → IsTrue (is_above_blanks (next_after (template_in graph (template_of_blocks names blocks)) next (length rows)) (instances (template_in graph (template_of_blocks names blocks)) next rows))
 
 abbrev pub Wheres : Type 0
-Wheres = (variables : List Variable) (group : Group) → IsTrue (values_have_no_blank group) → IsTrue (has_no_blank (translated_where variables group).pattern)
+Wheres = (variables : List Variable) (group : Group) → IsTrue (values_have_no_blank group) → IsTrue (has_no_blank (translated_where variables group).root)
 
 abbrev pub Blocks : Type 0
-Blocks = (variables : List Variable) (blocks : List QuadBlock) → IsTrue (has_no_blank (translated_blocks variables blocks).pattern)
+Blocks = (variables : List Variable) (blocks : List QuadBlock) → IsTrue (has_no_blank (translated_blocks variables blocks).root)
 
 pub data_lawful : Made → (delete insert : List QuadBlock) (next : ℕ) → IfOk (of_data delete insert next) (IsLawful next)
 data_lawful made delete insert next =
@@ -172,12 +172,12 @@ data_lawful made delete insert next =
     (made None [] insert next (unbound 0 ∷ []) (All-from_recursion (λ (m : Solution). is_solution_below next m ≡ true) (unbound 0 ∷ []) (refl, tt)))
 
 module _ (bound : Bound) (made : Made) (wheres : Wheres) (blocks : Blocks) (max_rows : ℕ) (variables : List Variable) (default : DefaultGraph) where
-  rows_below : (next : ℕ) (quads : List Statement) (pattern : NamedPattern) (name : Option Term) → has_no_blank pattern.pattern ≡ true → is_above_blanks next quads ≡ true → have_iri_predicates quads ≡ true
+  rows_below : (next : ℕ) (quads : List Statement) (pattern : Pattern) (name : Option Term) → has_no_blank pattern.root ≡ true → is_above_blanks next quads ≡ true → have_iri_predicates quads ≡ true
       → AreBelow next (solutions pattern default name quads)
   rows_below next quads pattern name h above iris =
-      bound next (length pattern.names) (once same_statement (seen default quads)) pattern.pattern name h
-      (all_once (is_statement_below next) same_statement (seen default quads) (seen_below next default quads above))
-      (all_once predicate_is_iri same_statement (seen default quads) (seen_iris default quads iris))
+      bound next (length pattern.names) (once same_statement (visible default quads)) pattern.root name h
+      (all_once (is_statement_below next) same_statement (visible default quads) (seen_below next default quads above))
+      (all_once predicate_is_iri same_statement (visible default quads) (seen_iris default quads iris))
 
   pub operation_lawful : (o : Operation) (quads : List Statement) (next : ℕ) (outcome : Outcome Effect) → is_above_blanks next quads ≡ true → have_iri_predicates quads ≡ true → operation_values_have_no_blank o ≡ true
       → IsEffect max_rows variables default o quads next outcome → IfOk outcome (IsLawful next)

@@ -8,7 +8,7 @@ use Rattle.qs_terms.specs.declared.fault.QFault.TheVariants.{TooManyRows}
 use Rattle.qs_terms.specs.declared.term.Term.{Term}
 use Rattle.qs_algebra_solutions.specs.Solution.{Solution}
 use Rattle.qs_query_template.specs.declared.template.Template.{Template}
-use Rattle.qs_algebra.specs.declared.named.NamedPattern.{NamedPattern}
+use Rattle.qs_algebra.specs.declared.pattern.Pattern.{Pattern}
 use Rattle.qs_store.specs.declared.default_graph.DefaultGraph.{DefaultGraph}
 use Rattle.qs_update.specs.Effect.{solutions, modified, IsModified}
 use Rattle.qs_update.specs.inner.Rows.{AreAllRows}
@@ -40,6 +40,6 @@ same_effect a b c d next r s result e f g h =
     (subst (λ (y : Template). OrOutOfMemory (modified b y next r) result) f (subst (λ (x : Template). OrOutOfMemory (modified x c next r) result) e h))
 
 -- the solutions of the same pattern
-pub same_rows : (max_rows : ℕ) (p q : NamedPattern) (default : DefaultGraph) (name : Option Term) (quads : List Statement) (result : Outcome (List Solution)) → p ≡ q
+pub same_rows : (max_rows : ℕ) (p q : Pattern) (default : DefaultGraph) (name : Option Term) (quads : List Statement) (result : Outcome (List Solution)) → p ≡ q
     → OneOrOutOfMemory (AreAllRows max_rows (solutions p default name quads)) result → OneOrOutOfMemory (AreAllRows max_rows (solutions q default name quads)) result
-same_rows max_rows p q default name quads result e h = subst (λ (x : NamedPattern). OneOrOutOfMemory (AreAllRows max_rows (solutions x default name quads)) result) e h
+same_rows max_rows p q default name quads result e h = subst (λ (x : Pattern). OneOrOutOfMemory (AreAllRows max_rows (solutions x default name quads)) result) e h

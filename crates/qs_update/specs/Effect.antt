@@ -25,13 +25,13 @@ use Rattle.qs_query_template.specs.Instances.{instances, made, next_after}
 use Rattle.qs_query_template.specs.Template.{template_of_blocks, template_in}
 use Rattle.qs_query_template.specs.declared.template.Template.{Template}
 use Rattle.qs_algebra.specs.Translation.{translated_where, translated_blocks}
-use Rattle.qs_algebra.specs.declared.named.NamedPattern.{NamedPattern}
+use Rattle.qs_algebra.specs.declared.pattern.Pattern.{Pattern}
 use Rattle.qs_query_forms.specs.Sequence.{whole}
 pub use Rattle.qs_store.specs.WholeGraphs.{removed_by}
 use Rattle.qs_store.specs.declared.default_graph.DefaultGraph.{DefaultGraph}
 use Rattle.qs_store.specs.declared.removal.Removal.{Removal}
 use Rattle.qs_store.specs.declared.removal.Removal.TheVariants as removal
-use Rattle.qs_update.specs.Graphs.{is_target, copies, exists, graph_name, seen}
+use Rattle.qs_update.specs.Graphs.{is_target, copies, exists, graph_name, visible}
 use Rattle.qs_update.specs.declared.effect.Effect.{Effect}
 
 abbrev pub nothing : ℕ → Effect
@@ -54,8 +54,8 @@ abbrev pub of_data : List QuadBlock → List QuadBlock → ℕ → Outcome Effec
 of_data delete insert next = modified (template_of_blocks [] delete) (template_of_blocks [] insert) next (unbound 0 ∷ [])
 
 -- all solutions of a WHERE over the quads, where the graph of this name is the default graph, if one is given
-abbrev pub solutions : NamedPattern → DefaultGraph → Option Term → List Statement → List Solution
-solutions pattern default name quads = let set = once same_statement (seen default quads) in whole pattern set (graph_of set name)
+abbrev pub solutions : Pattern → DefaultGraph → Option Term → List Statement → List Solution
+solutions pattern default name quads = let set = once same_statement (visible default quads) in whole pattern set (graph_of set name)
 
 -- under all solutions of a WHERE, in some order; or the fault that there are more than max_rows of them
 abbrev pub IsModified : ℕ → Template → Template → ℕ → List Solution → Outcome Effect → Type 0

@@ -8,7 +8,7 @@ use Rattle.qs_syntax_ast.specs.declared.update.GraphOrDefault.TheVariants as gra
 use Rattle.qs_syntax_ast.specs.declared.update.GraphTarget.{GraphTarget}
 use Rattle.qs_syntax_ast.specs.declared.update.GraphTarget.TheVariants as target
 pub use Rattle.qs_store.specs.WholeGraphs.{is_in, is_named, in_graph, exists, put_into, copies}
-pub use Rattle.old_plan.specs.Seen.{seen}
+pub use Rattle.qs_store.specs.Visible.{visible}
 
 abbrev pub graph_name : GraphOrDefault → Option Term
 graph_name graph.Default = None

@@ -13,11 +13,11 @@ use crate::carried::apply_operation;
 use crate::lawful::effects_are_lawful;
 use crate::modified::{data, deleted_where, modified_where};
 use crate::whole_graphs::{clear, create, transfer};
+use qs_store::{Draft, Removal};
 use qs_syntax_ast::term::Variable;
 use qs_syntax_ast::update::{Modify, Operation, QuadBlock, Update};
-use qs_update_laws::laws::quads_are_told_one_by_one;
-use qs_store::{Draft, Removal};
 use qs_terms::QFault;
+use qs_update_laws::laws::quads_are_told_one_by_one;
 use std::alloc::Global;
 
 // INSERT DATA and DELETE DATA. They read no quads, so that their time doesn't grow with the store.

@@ -3,8 +3,8 @@
 ghost use Rattle.std.specs.Prelude.{◌≡◌};
 ghost use Rattle.qs_update.specs.Effect as spec;
 
-use qs_terms::{QFault, Quad};
 use qs_syntax_tree::update::OnMissing;
+use qs_terms::{QFault, Quad};
 use sqlite_items::Items;
 use std::alloc::Global;
 

@@ -16,15 +16,14 @@ use crate::effect::Effect;
 use crate::graphs::iri_term;
 use crate::lawful::effects_are_lawful;
 use crate::templates::{deletion, template_with};
-use qs_algebra::{NamedPattern, translate_blocks, translate_where};
-use qs_query_answer::Answer;
+use qs_algebra::{Pattern, translate_blocks, translate_where};
+use qs_algebra_solutions::{Answer, Row};
+use qs_query_forms::solutions_of;
+use qs_query_template::{Template, instances, next_after};
+use qs_store::Draft;
 use qs_syntax_ast::term::Variable;
 use qs_syntax_ast::update::{Modify, QuadBlock};
 use qs_syntax_scope::numbered;
-use qs_query_forms::solutions_of;
-use qs_algebra_solutions::Row;
-use qs_store::Draft;
-use qs_query_template::{Template, instances, next_after};
 use qs_terms::{Iri, QFault, Term};
 use sqlite_items::Items;
 use std::alloc::{AllocError, Global};
@@ -108,7 +107,7 @@ fn lent_rows<'a>(alloc: Global, rows: &'a [Row]) -> Result<Vec<&'a Row>, AllocEr
 // All solutions of a WHERE over the draft, in any order.
 fn solutions(
     alloc: Global,
-    pattern: &NamedPattern,
+    pattern: &Pattern,
     with: Option<&Term>,
     draft: &Draft<'_>,
     max_rows: u64,
@@ -165,7 +164,7 @@ fn with_term(with: &Option<Iri>) -> Result<Option<Term>, AllocError>
 
 fn rows_with(
     alloc: Global,
-    pattern: &NamedPattern,
+    pattern: &Pattern,
     with: &Option<Iri>,
     draft: &Draft<'_>,
     max_rows: u64,

@@ -8,11 +8,11 @@ ghost use Rattle.qs_update.specs.Outcome.{IsAccepted, IsOutcomeOfText};
 ghost use Rattle.qs_update.specs.Request.{bounds_of, AreOperations};
 
 use crate::draft::operate_all;
-use qs_syntax_ast::update::Update;
-use qs_update_laws::laws::updates_write_no_blank_rows;
 use qs_store::Store;
 use qs_syntax::parse_update;
+use qs_syntax_ast::update::Update;
 use qs_terms::QFault;
+use qs_update_laws::laws::updates_write_no_blank_rows;
 use std::alloc::Global;
 
 // The operations of an update, all or none.

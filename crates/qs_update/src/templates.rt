@@ -4,9 +4,9 @@ ghost use Rattle.std.specs.Prelude.{◌≡◌, IfOk};
 ghost use Rattle.qs_query_template.specs.Template as made;
 ghost use Rattle.qs_update.specs.Effect as spec;
 
-use qs_syntax_ast::update::QuadBlock;
-use qs_syntax_scope::Seen;
 use qs_query_template::{Template, template_in, template_of_blocks};
+use qs_syntax_ast::update::QuadBlock;
+use qs_syntax_scope::NameList;
 use qs_terms::Iri;
 use std::alloc::{AllocError, Global};
 
@@ -23,7 +23,7 @@ pub fn deletion(template: Template) -> Template
 /// The template of the blocks, where the graph of WITH is the default graph.
 pub fn template_with<'a>(
     alloc: Global,
-    names: &Seen<'a>,
+    names: &NameList<'a>,
     with: &Option<Iri>,
     blocks: &'a [QuadBlock],
 ) -> Result<Template, AllocError>

@@ -17,10 +17,10 @@ ghost use Rattle.qs_update.specs.Request.{IsCarriedOut};
 use crate::carried::{apply_operation, fault_of};
 use crate::effect::{Effect, fault_or_nothing, nothing};
 use crate::graphs::{graph_name, iri_term, is_same};
-use qs_syntax_ast::update::{GraphTarget, Transfer};
 use qs_store::{Draft, Removal, StoreFault};
-use qs_terms::{Iri, QFault, Term};
+use qs_syntax_ast::update::{GraphTarget, Transfer};
 use qs_syntax_tree::update::OnMissing;
+use qs_terms::{Iri, QFault, Term};
 use std::alloc::Global;
 
 fn empty(target: &GraphTarget, draft: &mut Draft<'_>) -> Result<(), StoreFault>

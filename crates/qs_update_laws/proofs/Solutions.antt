@@ -12,8 +12,8 @@ use Rattle.qs_algebra_solutions.specs.Operators.{join}
 use Rattle.qs_expr.specs.Meaning.{meaning}
 use Rattle.qs_algebra_patterns.specs.declared.pattern.Table.{Table}
 use Rattle.qs_algebra_patterns.specs.declared.pattern.Step.{Step, map-Step, roll-Step, fold-roll-Step}
-use Rattle.qs_algebra_patterns.specs.declared.pattern.Pattern.{Pattern, map-Pattern, roll-Pattern, fold-roll-Pattern, ind-Pattern}
-use Rattle.qs_algebra_patterns.specs.declared.pattern.Pattern.TheOpen.{Pattern-F, Step-F, Basic, Group, Union, Graph, EachGraph, Values, Join, LeftJoin, Minus, Extend}
+use Rattle.qs_algebra_patterns.specs.declared.pattern.PatternNode.{PatternNode, map-PatternNode, roll-PatternNode, fold-roll-PatternNode, ind-PatternNode}
+use Rattle.qs_algebra_patterns.specs.declared.pattern.PatternNode.TheOpen.{PatternNode-F, Step-F, Basic, Group, Union, Graph, EachGraph, Values, Join, LeftJoin, Minus, Extend}
 use Rattle.qs_algebra_patterns.specs.Basic.{Graph as Triples}
 use Rattle.qs_algebra_patterns.specs.Eval.{Found, Stepped, eval, step, eval_level, step_level as stepped_level, all_hold, all_steps, bound_to, extended, in_each, rows_of}
 use Rattle.qs_update_laws.specs.Below.{is_solution_below, is_triple_below, are_triples_below, have_iri_predicates}
@@ -24,7 +24,7 @@ use Rattle.qs_update_laws.proofs.Paths.{TripleBelow, GraphBelow, basic_below}
 use Rattle.qs_update_laws.proofs.Expressions.{meaning_below}
 
 module _ (next width : ℕ) (quads : List Statement) (names : AllByRecursion (TermBelow next) (names_of quads)) (graphs : (name : Option Term) → GraphBelow next (graph_of quads name)) where
-  abbrev IsBelow : Pattern → Type 0
+  abbrev IsBelow : PatternNode → Type 0
   IsBelow p = has_no_blank p ≡ true → (graph : Triples) → GraphBelow next graph → RowsBelow next (eval width quads p graph)
 
   -- a step makes such solutions of such solutions
@@ -32,7 +32,7 @@ module _ (next width : ℕ) (quads : List Statement) (names : AllByRecursion (Te
   StepsBelow s = step_has_no_blank s ≡ true → (graph : Triples) (left : List Solution) → GraphBelow next graph → RowsBelow next left → RowsBelow next (step width quads s graph left)
 
   abbrev Known : Type 0
-  Known = (p : Pattern) × IsBelow p
+  Known = (p : PatternNode) × IsBelow p
 
   abbrev KnownStep : Type 0
   KnownStep = (s : Step) × StepsBelow s
@@ -68,14 +68,14 @@ module _ (next width : ℕ) (quads : List Statement) (names : AllByRecursion (Te
       each_map (λ row. row_has_no_blank row ≡ true) (RowBelow next) (binding width table.variables)
       (λ row k. bound_below next (unbound width) table.variables row (unbound_below next width) (cells_below next row k)) table.rows (each_passes row_has_no_blank table.rows h)
 
-  abbrev inner : Pattern-F Known KnownStep → Pattern-F Pattern Step
-  inner y = map-Pattern Known KnownStep Pattern Step (λ e. e.0) (λ e. e.0) y
+  abbrev inner : PatternNode-F Known KnownStep → PatternNode-F PatternNode Step
+  inner y = map-PatternNode Known KnownStep PatternNode Step (λ e. e.0) (λ e. e.0) y
 
-  abbrev inner_step : Step-F Known KnownStep → Step-F Pattern Step
-  inner_step y = map-Step Known KnownStep Pattern Step (λ e. e.0) (λ e. e.0) y
+  abbrev inner_step : Step-F Known KnownStep → Step-F PatternNode Step
+  inner_step y = map-Step Known KnownStep PatternNode Step (λ e. e.0) (λ e. e.0) y
 
-  level_below : (y : Pattern-F Known KnownStep) → pattern_level (map-Pattern Pattern Step Bool Bool has_no_blank step_has_no_blank (inner y)) ≡ true → (graph : Triples) → GraphBelow next graph
-      → RowsBelow next (eval_level width quads (map-Pattern Pattern Step Found Stepped (eval width quads) (step width quads) (inner y)) graph)
+  level_below : (y : PatternNode-F Known KnownStep) → pattern_level (map-PatternNode PatternNode Step Bool Bool has_no_blank step_has_no_blank (inner y)) ≡ true → (graph : Triples) → GraphBelow next graph
+      → RowsBelow next (eval_level width quads (map-PatternNode PatternNode Step Found Stepped (eval width quads) (step width quads) (inner y)) graph)
   level_below (Basic b) h graph g = basic_below next graph g width b h
   level_below (Group es conditions) h graph g =
       each_filter (RowBelow next) (all_hold conditions) (all_steps width graph (map (step width quads) (map (λ e. e.0) es)))
@@ -87,8 +87,8 @@ module _ (next width : ℕ) (quads : List Statement) (names : AllByRecursion (Te
   level_below (EachGraph v e) h graph g = named_below v e h
   level_below (Values table) h graph g = values_below table h
 
-  step_level_below : (y : Step-F Known KnownStep) → step_level (map-Step Pattern Step Bool Bool has_no_blank step_has_no_blank (inner_step y)) ≡ true → (graph : Triples) (left : List Solution) → GraphBelow next graph → RowsBelow next left
-      → RowsBelow next (stepped_level (map-Step Pattern Step Found Stepped (eval width quads) (step width quads) (inner_step y)) graph left)
+  step_level_below : (y : Step-F Known KnownStep) → step_level (map-Step PatternNode Step Bool Bool has_no_blank step_has_no_blank (inner_step y)) ≡ true → (graph : Triples) (left : List Solution) → GraphBelow next graph → RowsBelow next left
+      → RowsBelow next (stepped_level (map-Step PatternNode Step Found Stepped (eval width quads) (step width quads) (inner_step y)) graph left)
   step_level_below (Join e) h graph left g k = join_below next left (eval width quads e.0 graph) k (e.1 h graph g)
   step_level_below (LeftJoin e conditions) h graph left g k =
       left_join_below next (all_hold conditions) left (eval width quads e.0 graph) k (e.1 (both_hold (has_no_blank e.0) (all_have_no_blank conditions) h).0 graph g)
@@ -96,18 +96,18 @@ module _ (next width : ℕ) (quads : List Statement) (names : AllByRecursion (Te
   step_level_below (Extend v e) h graph left g k =
       each_map (RowBelow next) (RowBelow next) (extended v e) (λ m l. bound_to_below m v (meaning m e) (meaning_below next m l e h) l) left k
 
-  rolled_below : (y : Pattern-F Known KnownStep) → IsBelow (roll-Pattern (inner y))
+  rolled_below : (y : PatternNode-F Known KnownStep) → IsBelow (roll-PatternNode (inner y))
   rolled_below y h graph g =
-      subst (λ (f : Found). RowsBelow next (f graph)) (sym (fold-roll-Pattern Found Stepped (eval_level width quads) stepped_level (inner y)))
-      (level_below y (sym (fold-roll-Pattern Bool Bool pattern_level step_level (inner y)) ∙ h) graph g)
+      subst (λ (f : Found). RowsBelow next (f graph)) (sym (fold-roll-PatternNode Found Stepped (eval_level width quads) stepped_level (inner y)))
+      (level_below y (sym (fold-roll-PatternNode Bool Bool pattern_level step_level (inner y)) ∙ h) graph g)
 
   rolled_step_below : (y : Step-F Known KnownStep) → StepsBelow (roll-Step (inner_step y))
   rolled_step_below y h graph left g k =
       subst (λ (f : Stepped). RowsBelow next (f graph left)) (sym (fold-roll-Step Found Stepped (eval_level width quads) stepped_level (inner_step y)))
       (step_level_below y (sym (fold-roll-Step Bool Bool pattern_level step_level (inner_step y)) ∙ h) graph left g k)
 
-  eval_below : (p : Pattern) → IsBelow p
-  eval_below = ind-Pattern IsBelow StepsBelow (λ x y is. subst (λ z. IsBelow (roll-Pattern z)) is (rolled_below y)) (λ x y is. subst (λ z. StepsBelow (roll-Step z)) is (rolled_step_below y))
+  eval_below : (p : PatternNode) → IsBelow p
+  eval_below = ind-PatternNode IsBelow StepsBelow (λ x y is. subst (λ z. IsBelow (roll-PatternNode z)) is (rolled_below y)) (λ x y is. subst (λ z. StepsBelow (roll-Step z)) is (rolled_step_below y))
 
 -- ---- the data
 
@@ -168,7 +168,7 @@ rows_pass next ms h = All-from_recursion (λ m. is_solution_below next m ≡ tru
     each_map_self [] h = tt
     each_map_self (m ∷ ms) h = (all_pass (is_cell_below next) m h.0, each_map_self ms h.1)
 
-module _ (next width : ℕ) (quads : List Statement) (p : Pattern) (no_blank : has_no_blank p ≡ true) (above : is_above_blanks next quads ≡ true) (iris : have_iri_predicates quads ≡ true) where
+module _ (next width : ℕ) (quads : List Statement) (p : PatternNode) (no_blank : has_no_blank p ≡ true) (above : is_above_blanks next quads ≡ true) (iris : have_iri_predicates quads ≡ true) where
   each : AllByRecursion (QuadBelow next) quads
   each = each_quad next quads above iris
 

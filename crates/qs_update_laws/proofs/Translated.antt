@@ -22,10 +22,10 @@ use Rattle.qs_syntax_scope.specs.Places.{place_of}
 use Rattle.qs_algebra_patterns.specs.declared.pattern.Step.{Step, map-Step, roll-Step, out-Step, fold-roll-Step, fold_out-Step}
 use Rattle.qs_algebra_patterns.specs.declared.pattern.Step.TheVariants as step
 use Rattle.qs_algebra_patterns.specs.declared.pattern.Step.TheVariants.{rolls-Join, rolls-LeftJoin, rolls-Minus, rolls-Extend}
-use Rattle.qs_algebra_patterns.specs.declared.pattern.Pattern.{Pattern, map-Pattern, roll-Pattern, fold-roll-Pattern}
-use Rattle.qs_algebra_patterns.specs.declared.pattern.Pattern.TheOpen.{Pattern-F, Step-F, Basic, Group as OfGroup, Union, Graph, EachGraph, Values, Join, LeftJoin, Minus, Extend}
-use Rattle.qs_algebra_patterns.specs.declared.pattern.Pattern.TheVariants as pattern
-use Rattle.qs_algebra_patterns.specs.declared.pattern.Pattern.TheVariants.{rolls-Basic, rolls-Group, rolls-Union, rolls-Graph, rolls-EachGraph, rolls-Values}
+use Rattle.qs_algebra_patterns.specs.declared.pattern.PatternNode.{PatternNode, map-PatternNode, roll-PatternNode, fold-roll-PatternNode}
+use Rattle.qs_algebra_patterns.specs.declared.pattern.PatternNode.TheOpen.{PatternNode-F, Step-F, Basic, Group as OfGroup, Union, Graph, EachGraph, Values, Join, LeftJoin, Minus, Extend}
+use Rattle.qs_algebra_patterns.specs.declared.pattern.PatternNode.TheVariants as pattern
+use Rattle.qs_algebra_patterns.specs.declared.pattern.PatternNode.TheVariants.{rolls-Basic, rolls-Group, rolls-Union, rolls-Graph, rolls-EachGraph, rolls-Values}
 use Rattle.qs_algebra.specs.Numbers.{hidden_of}
 use Rattle.qs_algebra.specs.Basic.{term_slot, verb_slot, path_of, triple_between, path_between, triple_pattern, path_pattern, basic_of, basic_pattern}
 use Rattle.qs_algebra.specs.Expressions.{expr_of}
@@ -37,24 +37,24 @@ use Rattle.qs_update_laws.specs.Written.{values_level, group_level, values_have_
 use Rattle.qs_update_laws.proofs.Lists.{both_hold, and_both}
 use Rattle.qs_update_laws.proofs.WrittenExpressions.{expr_free}
 
-abbrev NoBlank : Pattern → Type 0
+abbrev NoBlank : PatternNode → Type 0
 NoBlank p = has_no_blank p ≡ true
 
 abbrev NoBlankStep : Step → Type 0
 NoBlankStep s = step_has_no_blank s ≡ true
 
 -- a pattern and a step by their variants
-made : (z : Pattern-F Pattern Step) → pattern_level (map-Pattern Pattern Step Bool Bool has_no_blank step_has_no_blank z) ≡ true → NoBlank (roll-Pattern z)
-made z h = fold-roll-Pattern Bool Bool pattern_level step_level z ∙ h
+made : (z : PatternNode-F PatternNode Step) → pattern_level (map-PatternNode PatternNode Step Bool Bool has_no_blank step_has_no_blank z) ≡ true → NoBlank (roll-PatternNode z)
+made z h = fold-roll-PatternNode Bool Bool pattern_level step_level z ∙ h
 
-made_step : (z : Step-F Pattern Step) → step_level (map-Step Pattern Step Bool Bool has_no_blank step_has_no_blank z) ≡ true → NoBlankStep (roll-Step z)
+made_step : (z : Step-F PatternNode Step) → step_level (map-Step PatternNode Step Bool Bool has_no_blank step_has_no_blank z) ≡ true → NoBlankStep (roll-Step z)
 made_step z h = fold-roll-Step Bool Bool pattern_level step_level z ∙ h
 
 group_free : (steps : List Step) (conditions : List Expr) → all (map step_has_no_blank steps) ≡ true → all_have_no_blank conditions ≡ true → NoBlank (pattern.Group steps conditions)
 group_free steps conditions h k =
     subst NoBlank (rolls-Group steps conditions) (made (OfGroup steps conditions) (and_both (all (map step_has_no_blank steps)) (all_have_no_blank conditions) h k))
 
-join_free : (p : Pattern) → NoBlank p → NoBlankStep (step.Join p)
+join_free : (p : PatternNode) → NoBlank p → NoBlankStep (step.Join p)
 join_free p h = subst NoBlankStep (rolls-Join p) (made_step (Join p) h)
 
 -- ---- triples and paths
@@ -91,7 +91,7 @@ module _ (names : List Name) (hidden : Hidden) where
 
 -- ---- groups that are closed
 
-alone_free : (s : Step) (z : Step-F Pattern Step) → NoBlankStep s → step_level (map-Step Pattern Step Bool Bool has_no_blank step_has_no_blank z) ≡ true → NoBlank (alone s z)
+alone_free : (s : Step) (z : Step-F PatternNode Step) → NoBlankStep s → step_level (map-Step PatternNode Step Bool Bool has_no_blank step_has_no_blank z) ≡ true → NoBlank (alone s z)
 alone_free s (Join part) h k = k
 alone_free s (LeftJoin part conditions) h k = group_free (s ∷ []) [] (and_both (step_has_no_blank s) true h refl) refl
 alone_free s (Minus part) h k = group_free (s ∷ []) [] (and_both (step_has_no_blank s) true h refl) refl
@@ -107,7 +107,7 @@ filtered_free : (steps : List Step) (conditions : List Expr) → all (map step_h
 filtered_free steps [] h k = unfiltered_free steps h
 filtered_free steps (f ∷ fs) h k = group_free steps (f ∷ fs) h k
 
-union_free : (parts : List Pattern) → all (map has_no_blank parts) ≡ true → NoBlank (one_or_union parts)
+union_free : (parts : List PatternNode) → all (map has_no_blank parts) ≡ true → NoBlank (one_or_union parts)
 union_free [] h = subst NoBlank (rolls-Union []) (made (Union []) h)
 union_free (p ∷ []) h = (both_hold (has_no_blank p) true h).0
 union_free (p ∷ q ∷ parts) h = subst NoBlank (rolls-Union (p ∷ q ∷ parts)) (made (Union (p ∷ q ∷ parts)) h)
@@ -142,7 +142,7 @@ module _ (names : List Name) where
       let k = both_hold (values_have_no_blank e.0) (all (map values_have_no_blank (map (λ e. e.0) es))) h in
       and_both (has_no_blank (closed (group_parts names e.0))) (all (map has_no_blank (map closed (map (group_parts names) (map (λ e. e.0) es))))) (closed_free e k.0) (parts_free es k.1)
 
-  in_graph_free : (n : VarOrIri) (p : Pattern) → NoBlank p → NoBlank (in_graph names n p)
+  in_graph_free : (n : VarOrIri) (p : PatternNode) → NoBlank p → NoBlank (in_graph names n p)
   in_graph_free (name.Variable v) p h = subst NoBlank (rolls-EachGraph (place_of names v.name) p) (made (EachGraph (place_of names v.name) p) h)
   in_graph_free (name.Iri i) p h = subst NoBlank (rolls-Graph (value.Iri i) p) (made (Graph (value.Iri i) p) h)
 
@@ -192,7 +192,7 @@ where_free variables group h = closed_free (names_of variables) (group, each_gro
 -- ---- blocks of quads
 
 module _ (names : List Name) where
-  in_block_free : (graph : Option VarOrIri) (p : Pattern) → NoBlank p → NoBlank (in_block names graph p)
+  in_block_free : (graph : Option VarOrIri) (p : PatternNode) → NoBlank p → NoBlank (in_block names graph p)
   in_block_free None p h = h
   in_block_free (Some n) p h = in_graph_free names n p h
 

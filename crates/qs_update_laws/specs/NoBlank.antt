@@ -14,8 +14,8 @@ use Rattle.qs_algebra_patterns.specs.declared.pattern.PathPattern.{PathPattern}
 use Rattle.qs_algebra_patterns.specs.declared.pattern.BasicPattern.{BasicPattern}
 use Rattle.qs_algebra_patterns.specs.declared.pattern.Table.{Table}
 use Rattle.qs_algebra_patterns.specs.declared.pattern.Step.{Step, fold-Step}
-use Rattle.qs_algebra_patterns.specs.declared.pattern.Pattern.{Pattern, fold-Pattern}
-use Rattle.qs_algebra_patterns.specs.declared.pattern.Pattern.TheOpen.{Pattern-F, Step-F, Basic, Group, Union, Graph, EachGraph, Values, Join, LeftJoin, Minus, Extend}
+use Rattle.qs_algebra_patterns.specs.declared.pattern.PatternNode.{PatternNode, fold-PatternNode}
+use Rattle.qs_algebra_patterns.specs.declared.pattern.PatternNode.TheOpen.{PatternNode-F, Step-F, Basic, Group, Union, Graph, EachGraph, Values, Join, LeftJoin, Minus, Extend}
 
 abbrev pub is_no_blank : Term → Bool
 is_no_blank (term.Iri i) = true
@@ -85,7 +85,7 @@ row_has_no_blank row = list_all cell_has_no_blank row
 abbrev pub table_has_no_blank : Table → Bool
 table_has_no_blank table = list_all row_has_no_blank table.rows
 
-abbrev pub pattern_level : Pattern-F Bool Bool → Bool
+abbrev pub pattern_level : PatternNode-F Bool Bool → Bool
 pattern_level (Basic pattern) = basic_has_no_blank pattern
 pattern_level (Group steps conditions) = all steps && all_have_no_blank conditions
 pattern_level (Union parts) = all parts
@@ -100,8 +100,8 @@ step_level (Minus part) = part
 step_level (Extend v e) = expr_has_no_blank e
 
 -- no term of the pattern is a blank node
-abbrev pub has_no_blank : Pattern → Bool
-has_no_blank = fold-Pattern Bool Bool pattern_level step_level
+abbrev pub has_no_blank : PatternNode → Bool
+has_no_blank = fold-PatternNode Bool Bool pattern_level step_level
 
 abbrev pub step_has_no_blank : Step → Bool
 step_has_no_blank = fold-Step Bool Bool pattern_level step_level

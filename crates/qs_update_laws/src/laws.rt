@@ -13,7 +13,7 @@ ghost use Rattle.qs_syntax_ast.specs.declared.update.Update.{Update};
 ghost use Rattle.qs_syntax_scope.specs.Names.{Name};
 ghost use Rattle.qs_algebra_patterns.specs.Basic.{Graph};
 ghost use Rattle.qs_algebra_patterns.specs.Eval.{eval};
-ghost use Rattle.qs_algebra_patterns.specs.declared.pattern.Pattern.{Pattern};
+ghost use Rattle.qs_algebra_patterns.specs.declared.pattern.PatternNode.{PatternNode};
 ghost use Rattle.qs_algebra.specs.Translation.{translated_where, translated_blocks};
 ghost use Rattle.qs_query_template.specs.Fresh.{names_blank};
 ghost use Rattle.qs_query_template.specs.Instances.{instances, next_after};
@@ -30,8 +30,8 @@ use qs_query_template::laws::{blanks_are_fresh, templates_name_no_blanks};
 /// graph have numbers below one, so do those of the solutions. The predicates of quads are IRIs, so that a variable in their place is
 /// bound to no blank node. Of the quads, each graph is such a graph.
 pub fn solutions_bind_no_other_blanks()
-    ensures any { (next width : ℕ) (quads : List Statement) (pattern : Pattern) (graph : Graph) → IsTrue (has_no_blank pattern) → IsTrue (is_above_blanks next quads) → IsTrue (have_iri_predicates quads) → IsTrue (are_triples_below next graph) → All (λ (m : Solution). is_solution_below next m ≡ true) (eval width quads pattern graph) }
-    ensures one { (next width : ℕ) (quads : List Statement) (pattern : Pattern) (name : Option Term) → IsTrue (has_no_blank pattern) → IsTrue (is_above_blanks next quads) → IsTrue (have_iri_predicates quads) → All (λ (m : Solution). is_solution_below next m ≡ true) (eval width quads pattern (graph_of quads name)) }
+    ensures any { (next width : ℕ) (quads : List Statement) (pattern : PatternNode) (graph : Graph) → IsTrue (has_no_blank pattern) → IsTrue (is_above_blanks next quads) → IsTrue (have_iri_predicates quads) → IsTrue (are_triples_below next graph) → All (λ (m : Solution). is_solution_below next m ≡ true) (eval width quads pattern graph) }
+    ensures one { (next width : ℕ) (quads : List Statement) (pattern : PatternNode) (name : Option Term) → IsTrue (has_no_blank pattern) → IsTrue (is_above_blanks next quads) → IsTrue (have_iri_predicates quads) → All (λ (m : Solution). is_solution_below next m ≡ true) (eval width quads pattern (graph_of quads name)) }
 {}
 
 /// The pattern of a text's WHERE names no blank node, where no row of a VALUES in it has one.

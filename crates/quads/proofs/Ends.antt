@@ -2,10 +2,10 @@
 use Rattle.std.proofs.Common.{◌≡◌, List, ℕ, Ok, Err, refl, subst}
 use Rattle.qs_terms.specs.Outcome.{Outcome, OneOrOutOfMemory}
 use Rattle.qs_terms.specs.declared.fault.QFault.{QFault}
-use Rattle.qs_query_answer.specs.declared.answer.Answer.{Answer}
+use Rattle.qs_algebra_solutions.specs.declared.answer.Answer.{Answer}
 use Rattle.qs_store_load.specs.declared.fault.LoadFault.{LoadFault}
 use Rattle.qs_store_load.specs.declared.fault.LoadFault.TheVariants.{Text, Store}
-use Rattle.old_plan.specs.Seen.{seen}
+use Rattle.qs_store.specs.Visible.{visible}
 use Rattle.qs_query.specs.Outcome.{IsOutcomeOfText}
 use Rattle.qs_query_forms.specs.Sequence.{dataset_of}
 use Rattle.qs_service.specs.Meaning.{sparql}
@@ -22,12 +22,12 @@ pub no_text : (choice : DefaultGraph) (bytes : List ℕ) (c : Content) (f : QFau
 no_text choice bytes c f is = λ _. (Err f, is, refl)
 
 module _ (held : Held) (bytes text : List ℕ) (same : SameSet held.base.quads held.base.quads) (is : IsTextOf bytes (Ok text)) where
-  over : (r : Outcome Answer) → IsOutcomeOfText text (dataset_of (seen held.default_graph held.base.quads) held.base.next) max_rows r → IsQueryOutcome held.default_graph bytes held.base r
+  over : (r : Outcome Answer) → IsOutcomeOfText text (dataset_of (visible held.default_graph held.base.quads) held.base.next) max_rows r → IsQueryOutcome held.default_graph bytes held.base r
   unfolding sparql
   over r due = (Ok text, is, (held.base.quads, same, due))
 
   -- what a text is answered with is what its bytes are
-  pub of_text : (r : Outcome Answer) → OneOrOutOfMemory (IsOutcomeOfText text (dataset_of (seen held.default_graph held.base.quads) held.base.next) max_rows) r → OneOrOutOfMemory (IsQueryOutcome held.default_graph bytes held.base) r
+  pub of_text : (r : Outcome Answer) → OneOrOutOfMemory (IsOutcomeOfText text (dataset_of (visible held.default_graph held.base.quads) held.base.next) max_rows) r → OneOrOutOfMemory (IsQueryOutcome held.default_graph bytes held.base) r
   of_text (Ok answer) due = over (Ok answer) due
   of_text (Err f) due = λ other. over (Err f) (due other)
 

@@ -13,8 +13,8 @@ use Rattle.qs_nquads.specs.declared.fault.NqFault.{NqFault}
 use Rattle.qs_store.specs.Content.{Content}
 use Rattle.qs_store.specs.Same.{SameSet}
 use Rattle.qs_store.specs.declared.default_graph.DefaultGraph.{DefaultGraph}
-use Rattle.qs_query_answer.specs.declared.answer.Answer.{Answer}
-use Rattle.qs_query_answer.specs.declared.answer.Answer.TheVariants.{Solutions, Truth, Graph}
+use Rattle.qs_algebra_solutions.specs.declared.answer.Answer.{Answer}
+use Rattle.qs_algebra_solutions.specs.declared.answer.Answer.TheVariants.{Solutions, Truth, Graph}
 use Rattle.qs_nquads.specs.Written.{nquads_of}
 use Rattle.qs_query_forms.specs.Sequence.{dataset_of}
 use Rattle.qs_update.specs.Request.{Bounds, IsCarriedOut}

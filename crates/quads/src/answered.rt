@@ -6,7 +6,7 @@ ghost use Rattle.quads.specs.inner.Ended.{IsQueryEnd};
 
 use crate::ended::{Ended, MAX_ROWS, text_of, unstored};
 use crate::stored::{drop_value, stored};
-use qs_query_answer::Answer;
+use qs_algebra_solutions::Answer;
 use qs_query::answer;
 use qs_store::{DefaultGraph, Store, same_set_is_an_equivalence};
 use qs_terms::QFault;

@@ -6,11 +6,11 @@ ghost use Rattle.quads.specs.inner.Ended as spec;
 ghost use Rattle.quads.specs.inner.Ended.{IsCheckEnd};
 
 use crate::refusal::fault_of;
-use qs_query_answer::Answer;
-use qs_store_load::LoadFault;
+use qs_algebra_solutions::Answer;
 use qs_nquads::laws::next_number_is_fresh;
 use qs_nquads::{NqFault, read};
 use qs_query_forms::laws::quads_are_a_dataset;
+use qs_store_load::LoadFault;
 use qs_terms::{QFault, Quad};
 use std::alloc::Global;
 use std::hash::RandomState;

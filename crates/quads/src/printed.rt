@@ -8,7 +8,7 @@ ghost use Rattle.quads.specs.Due.{line, answer_text};
 ghost use Rattle.quads.specs.inner.Ended as spec;
 
 use crate::ended::Ended;
-use qs_query_answer::Answer;
+use qs_algebra_solutions::Answer;
 use qs_nquads::{NqFault, text};
 use qs_results::{data_fault_line, fault_line, json, ntriples};
 use qs_terms::QFault;

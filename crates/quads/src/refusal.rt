@@ -10,10 +10,10 @@ ghost use Rattle.quads.specs.Run.{Prints};
 use crate::job::Ran;
 use crate::printed::{data_fault_text, fault_text};
 use crate::put::put;
-use qs_store_load::LoadFault;
 use qs_nquads::NqFault;
 use qs_results::out_of_memory_line;
 use qs_store::StoreFault;
+use qs_store_load::LoadFault;
 use qs_terms::{QFault, Sink};
 use std::alloc::{AllocError, Global};
 

@@ -9,9 +9,9 @@ ghost use Rattle.quads.specs.inner.Stored.{BecomesStored, BecomesService};
 
 use crate::ended::MAX_ROWS;
 use crate::refusal::{Refusal, refusal_of};
-use qs_store_load::{LoadFault, load};
 use qs_service::Service;
 use qs_store::{DefaultGraph, Store};
+use qs_store_load::{LoadFault, load};
 use qs_terms::QFault;
 use std::alloc::Global;
 use std::hash::RandomState;

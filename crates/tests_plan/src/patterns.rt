@@ -1,11 +1,11 @@
 //! A pattern over the store.
 
 use crate::matches::is_iri;
-use qs_expr::Expr;
-use qs_algebra_patterns::{BasicPattern, Pattern, Slot, Step, TriplePattern};
 use old_plan::solutions;
-use qs_shared::Shared;
+use qs_algebra_patterns::{BasicPattern, PatternNode, Slot, Step, TriplePattern};
 use qs_algebra_solutions::Row;
+use qs_base::Shared;
+use qs_expr::Expr;
 use qs_store::{Active, Store};
 use qs_terms::{Term, TermFault};
 use sqlite_items::{Boxed, Items};
@@ -59,8 +59,8 @@ fn steps(
 ) -> Result<Items<Step>, TermFault> {
     match (first, second) {
         (Ok(first), Ok(second)) => {
-            let join = Step::Join(Pattern::Basic(first));
-            let optional = Step::LeftJoin(Pattern::Basic(second), Items::new(alloc));
+            let join = Step::Join(PatternNode::Basic(first));
+            let optional = Step::LeftJoin(PatternNode::Basic(second), Items::new(alloc));
             let steps = two(alloc, join, optional)?;
             Ok(steps)
         }
@@ -70,10 +70,10 @@ fn steps(
 }
 
 /// `{ ?0 e:p ?1 OPTIONAL { ?0 e:q ?2 } FILTER(!BOUND(?2)) }`
-fn pattern(alloc: Global) -> Result<Pattern, TermFault> {
+fn pattern(alloc: Global) -> Result<PatternNode, TermFault> {
     let conditions = unbound(alloc)?;
     match steps(alloc, basic(alloc, 0, "e:p", 1), basic(alloc, 0, "e:q", 2)) {
-        Ok(steps) => Ok(Pattern::Group(steps, conditions)),
+        Ok(steps) => Ok(PatternNode::Group(steps, conditions)),
         Err(fault) => Err(fault),
     }
 }
@@ -86,7 +86,7 @@ fn are_wanted(rows: &[Row]) -> bool {
     is_iri(row.term(0), "e:c") && is_iri(row.term(1), "e:d") && row.term(2).is_none()
 }
 
-fn is_answered(alloc: Global, store: &Store, pattern: &Pattern) -> bool {
+fn is_answered(alloc: Global, store: &Store, pattern: &PatternNode) -> bool {
     match solutions(alloc, 3, pattern, store, Active::Default) {
         Ok(rows) => are_wanted(rows.as_slice()),
         Err(_) => false,

@@ -1,10 +1,10 @@
 //! How tightly the operators of expressions and of paths bind (SPARQL 1.1 Query, 9 and 19.8). Queries with them have no answer yet.
 
+use qs_syntax::parse_query;
 use qs_syntax_ast::expression::Expression;
 use qs_syntax_ast::path::Path;
 use qs_syntax_ast::pattern::{GraphPattern, Group, Triple, Verb};
 use qs_syntax_ast::query::QueryForm;
-use qs_syntax::parse_query;
 use qs_syntax_tree::expression::{Comparison, Sign};
 use qs_syntax_tree::path::Repetition;
 use std::alloc::Global;

@@ -1,9 +1,9 @@
 //! Updates form by form (SPARQL 1.1 Update, 3), with their names resolved.
 
 use crate::outcome::Outcome;
+use qs_syntax::parse_update;
 use qs_syntax_ast::term::VarOrIri;
 use qs_syntax_ast::update::{GraphOrDefault, GraphTarget, Modify, Operation, QuadBlock, Transfer};
-use qs_syntax::parse_update;
 use qs_syntax_tree::update::OnMissing;
 use std::alloc::Global;
 

@@ -1,11 +1,11 @@
 //! The variables that patterns bind (SPARQL 1.1 Query, 18.2.1 and 18.5).
 
 use crate::outcome::Outcome;
-use qs_algebra::{NamedPattern, translate, translate_where};
-use qs_syntax_ast::query::{Query, QueryForm};
+use qs_algebra::{Pattern, translate, translate_where};
+use qs_algebra_patterns::PatternNode;
 use qs_algebra_variables::{certain, possible};
-use qs_algebra_patterns::Pattern;
 use qs_syntax::parse_query;
+use qs_syntax_ast::query::{Query, QueryForm};
 use qs_terms::QFault;
 use std::alloc::{AllocError, Global};
 
@@ -44,7 +44,7 @@ const FLAGS: &[(&str, &[bool], &[bool])] = &[
 ];
 
 // the pattern of the WHERE by itself, where the query is a SELECT
-fn pattern_of_where(alloc: Global, query: &Query) -> Result<NamedPattern, AllocError> {
+fn pattern_of_where(alloc: Global, query: &Query) -> Result<Pattern, AllocError> {
     match &query.form {
         QueryForm::Select(select) => {
             translate_where(alloc, query.variables.as_slice(), &select.pattern)
@@ -53,7 +53,7 @@ fn pattern_of_where(alloc: Global, query: &Query) -> Result<NamedPattern, AllocE
     }
 }
 
-fn patterns_of(alloc: Global, text: &str) -> Result<(NamedPattern, NamedPattern), QFault> {
+fn patterns_of(alloc: Global, text: &str) -> Result<(Pattern, Pattern), QFault> {
     let query = parse_query(alloc, text)?;
     let whole = translate(alloc, &query);
     let alone = pattern_of_where(alloc, &query);
@@ -63,7 +63,7 @@ fn patterns_of(alloc: Global, text: &str) -> Result<(NamedPattern, NamedPattern)
 
 fn has_flags(
     alloc: Global,
-    pattern: &Pattern,
+    pattern: &PatternNode,
     are_certain: &[bool],
     are_possible: &[bool],
 ) -> Result<bool, QFault> {
@@ -79,8 +79,8 @@ fn is_flagged(
     are_possible: &[bool],
 ) -> Result<bool, QFault> {
     let (whole, alone) = patterns_of(alloc, text)?;
-    let of_whole = has_flags(alloc, &whole.pattern, are_certain, are_possible);
-    let of_where = has_flags(alloc, &alone.pattern, are_certain, are_possible);
+    let of_whole = has_flags(alloc, &whole.root, are_certain, are_possible);
+    let of_where = has_flags(alloc, &alone.root, are_certain, are_possible);
     drop(whole);
     drop(alone);
     Ok(of_whole? && of_where?)

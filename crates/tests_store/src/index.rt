@@ -121,9 +121,7 @@ fn are_graphs_found(index: &Index) -> bool {
 
 /// Whether the entries are counted and known.
 fn are_known(index: &Index) -> bool {
-    index.len() == 5
-        && index.contains(&A)
-        && !index.contains(&[1, 2, 3, 5])
+    index.len() == 5 && index.contains(&A) && !index.contains(&[1, 2, 3, 5])
 }
 
 /// Whether two entries, and one that isn't there, are taken out at once.

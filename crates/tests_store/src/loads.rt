@@ -1,9 +1,9 @@
 //! Bytes of N-Quads that are put into a store of at most ten terms.
 
 use crate::outcome::Outcome;
-use qs_store_load::{LoadFault, load};
 use qs_nquads::{NqFault, NqFaultKind};
 use qs_store::{Store, StoreFault};
+use qs_store_load::{LoadFault, load};
 use std::alloc::Global;
 use std::hash::RandomState;
 

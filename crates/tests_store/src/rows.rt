@@ -3,9 +3,9 @@
 
 use crate::loads::is_out_of_memory;
 use crate::outcome::Outcome;
-use qs_store_load::{LoadFault, load};
 use qs_nquads::text;
 use qs_store::{Store, StoreFault};
+use qs_store_load::{LoadFault, load};
 use qs_terms::QFault;
 use qs_update::update;
 use std::alloc::{AllocError, Global};

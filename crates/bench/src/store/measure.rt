@@ -2,7 +2,7 @@
 
 use super::quads::{Part, quads};
 use super::work::{
-    add_parts, change, change_draft_each, contained, entries, graphs, drop_value, triples,
+    add_parts, change, change_draft_each, contained, drop_value, entries, graphs, triples,
 };
 use crate::line::line;
 use crate::timing::{RUNS, micros};

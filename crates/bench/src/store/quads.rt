@@ -5,7 +5,7 @@
 //! others are there before it.
 
 use crate::terms::lawful;
-use qs_beside::keep_beside;
+use qs_base::keep_beside;
 use qs_terms::{Quad, Term, datatype};
 use std::alloc::{AllocError, Global};
 
@@ -99,7 +99,10 @@ fn ends(alloc: Global, number: u32) -> Result<(Term, Term), AllocError> {
 fn quad(alloc: Global, number: u32, quarter: u32) -> Result<Quad, AllocError> {
     let graph = graph(alloc, number.checked_div(quarter).unwrap_or(0))?;
     let (graph, predicate) = keep_beside(graph, iri(alloc, "p", number % 10))?;
-    let ((graph, predicate), (subject, object)) = keep_beside((graph, predicate), ends(alloc, number))?;
+    let ((graph, predicate), (subject, object)) = keep_beside(
+        (graph, predicate),
+        ends(alloc, number),
+    )?;
     quad_of(graph, subject, predicate, object)
 }
 

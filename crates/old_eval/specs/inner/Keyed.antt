@@ -6,7 +6,7 @@ use Rattle.std.specs.List.Sorted.{IsSortedBy}
 use Rattle.std.specs.Option.{is_some}
 use Rattle.std.specs.Ordering.{is_lt, nat_cmp, ordering_then}
 use Rattle.std.specs.declared.cmp.Ordering.{Ordering}
-use Rattle.qs_hashed.specs.Hashed.{hash_of}
+use Rattle.qs_base.specs.Hashed.{hash_of}
 use Rattle.qs_terms.specs.contracts.term.TermHash.TheImpl as hashing
 use Rattle.qs_terms.specs.contracts.term.TermOrd.TheImpl as ord
 use Rattle.qs_terms.specs.declared.term.Term.{Term}

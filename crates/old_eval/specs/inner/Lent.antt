@@ -1,2 +1,2 @@
 -- Lists of borrowed values.
-pub use Rattle.qs_paths.specs.Edges.{lent}
+pub use Rattle.qs_base.specs.Lent.{lent}

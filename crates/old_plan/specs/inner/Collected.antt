@@ -4,7 +4,7 @@ use Rattle.std.specs.List.{fold, list_any}
 use Rattle.qs_terms.specs.Bag.{SameBag, with_new}
 use Rattle.qs_terms.specs.declared.term.Term.{Term}
 use Rattle.qs_algebra_solutions.specs.Solution.{Solution, projected, same_solution}
-use Rattle.old_plan.specs.Some.{is_enough}
+use Rattle.qs_algebra_solutions.specs.Some.{is_enough}
 
 -- the rows so far; the columns whose terms alone are kept, once each, where some are given; and how many suffice
 pub record Collection : Type 0 where

@@ -9,7 +9,7 @@ use Rattle.qs_expr.specs.declared.expr.Expr.{Expr}
 use Rattle.qs_algebra_patterns.specs.Basic.{Graph, basic}
 use Rattle.qs_algebra_patterns.specs.Eval.{eval, kept, step}
 use Rattle.qs_algebra_patterns.specs.declared.pattern.BasicPattern.{BasicPattern}
-use Rattle.qs_algebra_patterns.specs.declared.pattern.Pattern.{Pattern}
+use Rattle.qs_algebra_patterns.specs.declared.pattern.PatternNode.{PatternNode}
 use Rattle.qs_algebra_patterns.specs.declared.pattern.Step.{Step}
 use Rattle.old_joins.specs.Joined.{Remaining}
 use Rattle.old_ops.specs.Tests.{IsDropped}
@@ -26,7 +26,7 @@ abbrev pub AreKept : List Kept → (List Solution → List Solution) → Type 0
 AreKept ks f = (xs : List Solution) → SameBag (flat_map (through ks) xs) (f xs)
 
 -- the pattern has the solutions of these triple patterns in which all conditions hold
-pub record IsTriplesOf (part : Pattern) (b : BasicPattern) (conditions : List Expr) : Type 0 where
+pub record IsTriplesOf (part : PatternNode) (b : BasicPattern) (conditions : List Expr) : Type 0 where
   pub paths : b.paths ≡ []
   pub means : (width : ℕ) (quads : List Statement) (graph : Graph) (rows : List Solution) → SameBag rows (kept conditions (basic width b graph)) → SameBag rows (eval width quads part graph)
 

@@ -1,5 +1,5 @@
 use Rattle.qs_algebra_patterns.specs.Eval.{extended}
-use Rattle.old_eval.proofs.Written.{write_more}
+use Rattle.qs_base.proofs.WrittenLists.{write_more}
 use Rattle.old_eval.proofs.conditions.extend_all.Goals as goal
 
 pub loop-row-preserved : goal.loop-row-preserved

@@ -7,7 +7,7 @@ use Rattle.qs_algebra_patterns.specs.Eval.{all_hold}
 use Rattle.old_eval.specs.inner.Lent.{lent}
 use Rattle.old_eval.proofs.LentLaws.{lent_at, lent_within}
 use Rattle.old_eval.proofs.Arms.{basic_arm, group_arm, union_arm, graph_arm, each_arm, values_arm, join_arm, left_join_arm, minus_arm, extend_arm, step_more, union_more, each_more}
-use Rattle.qs_algebra_patterns.specs.declared.pattern.Pattern.{the_lemmas}
+use Rattle.qs_algebra_patterns.specs.declared.pattern.PatternNode.{the_lemmas}
 use Rattle.old_eval.proofs.evaluate.+solutions.Goals as goal
 
 pub solutions-solutions_of_all-requires : goal.solutions-solutions_of_all-requires

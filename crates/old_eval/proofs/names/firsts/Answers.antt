@@ -3,8 +3,8 @@ use Rattle.qs_terms.specs.Term.{same_term}
 use Rattle.qs_terms.proofs.SameTerm.{same_term-Decides}
 use Rattle.old_eval.specs.inner.Lent.{lent}
 use Rattle.old_eval.proofs.LentLaws.{lent_at, lent_within}
-use Rattle.old_eval.proofs.Known.{kept_new, kept_known, knows_more, knows_still, was_new, was_known, on_false}
-use Rattle.old_eval.proofs.KnownTerms.{cmp, tells}
+use Rattle.qs_algebra_solutions.proofs.KnownValues.{kept_new, kept_known, knows_more, knows_still, was_new, was_known, on_false}
+use Rattle.qs_algebra_solutions.proofs.TermOrder.{cmp, tells}
 use Rattle.old_eval.proofs.names.firsts.Goals.{then-branch+in_ok-push, else-branch}
 use Rattle.old_eval.proofs.names.firsts.Goals as goal
 

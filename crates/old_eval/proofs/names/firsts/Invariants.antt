@@ -3,8 +3,8 @@ use Rattle.qs_terms.specs.Bag.{once}
 use Rattle.qs_terms.specs.Term.{same_term}
 use Rattle.qs_terms.proofs.SameTerm.{same_term-Decides}
 use Rattle.old_eval.specs.inner.Lent.{lent}
-use Rattle.old_eval.proofs.Known.{Knows}
-use Rattle.old_eval.proofs.KnownTerms.{cmp, tells}
+use Rattle.qs_algebra_solutions.proofs.KnownValues.{Knows}
+use Rattle.qs_algebra_solutions.proofs.TermOrder.{cmp, tells}
 use Rattle.old_eval.proofs.names.firsts.Given as goal
 
 abbrev pub invariant-loop-term : goal.invariant-loop-term

@@ -1,7 +1,7 @@
 use Rattle.std.proofs.Common.{ap, ◌∙◌, refl}
 use Rattle.qs_terms.specs.Statement.{same_statement}
 use Rattle.qs_terms.proofs.SameStatement.{same_statement-Decides}
-use Rattle.old_eval.proofs.Known.{kept_new, kept_known, knows_more, knows_still, was_new, was_known, on_false}
+use Rattle.qs_algebra_solutions.proofs.KnownValues.{kept_new, kept_known, knows_more, knows_still, was_new, was_known, on_false}
 use Rattle.old_eval.proofs.KnownQuads.{cmp, tells}
 use Rattle.old_eval.proofs.quads.firsts.Goals.{then-branch+in_ok-push, else-branch}
 use Rattle.old_eval.proofs.quads.firsts.Goals as goal

@@ -3,7 +3,7 @@ use Rattle.qs_terms.specs.Bag.{once}
 use Rattle.qs_terms.specs.Statement.{same_statement}
 use Rattle.qs_terms.proofs.SameStatement.{same_statement-Decides}
 use Rattle.old_eval.specs.inner.Lent.{lent}
-use Rattle.old_eval.proofs.Known.{Knows}
+use Rattle.qs_algebra_solutions.proofs.KnownValues.{Knows}
 use Rattle.old_eval.proofs.KnownQuads.{cmp, tells}
 use Rattle.old_eval.proofs.quads.firsts.Given as goal
 

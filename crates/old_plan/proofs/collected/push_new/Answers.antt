@@ -1,5 +1,5 @@
 use Rattle.std.proofs.Common.{◌∙◌, ap}
-use Rattle.old_eval.proofs.Known.{was_new, was_known}
+use Rattle.qs_algebra_solutions.proofs.KnownValues.{was_new, was_known}
 use Rattle.old_plan.proofs.Collecting.{put_known, put_new, knows_new}
 use Rattle.old_plan.proofs.collected.push_new.Goals as goal
 

@@ -8,7 +8,7 @@ use Rattle.old_plan.proofs.Names.{in_graph, in_none}
 use Rattle.qs_algebra_solutions.specs.Operators.{join, left_join, minus}
 use Rattle.qs_algebra_patterns.specs.Eval.{all_hold, eval}
 use Rattle.old_eval.proofs.Arms.{basic_arm, group_arm, union_arm, graph_arm, values_arm, join_arm, left_join_arm, minus_arm, extend_arm, step_more, union_more}
-use Rattle.qs_algebra_patterns.specs.declared.pattern.Pattern.{the_lemmas}
+use Rattle.qs_algebra_patterns.specs.declared.pattern.PatternNode.{the_lemmas}
 use Rattle.old_plan.proofs.Early.{group_alone}
 use Rattle.old_plan.proofs.evaluate.+solutions.Goals as goal
 

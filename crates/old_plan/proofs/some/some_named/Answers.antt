@@ -1,7 +1,7 @@
 use Rattle.std.proofs.Common.{[], ◌∷◌, ap, ◌∙◌, Some, ◌&&◌, nat_lt, length}
 use Rattle.qs_algebra_solutions.specs.Solution.{binding}
 use Rattle.qs_algebra_solutions.specs.Operators.{join}
-use Rattle.old_plan.specs.Some.{is_enough}
+use Rattle.qs_algebra_solutions.specs.Some.{is_enough}
 use Rattle.old_plan.proofs.NamedGraphs.{some_named, whole_suffices}
 use Rattle.old_plan.proofs.some.some_named.Goals as goal
 

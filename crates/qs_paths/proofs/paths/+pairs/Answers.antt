@@ -17,17 +17,17 @@ use Rattle.qs_paths.proofs.Search.{begun_both, begun_steps, optional_at, search_
 use Rattle.qs_paths.proofs.Turned.{tied_turned, right_arm, found_from, turned_arm}
 use Rattle.qs_paths.proofs.paths.+pairs.Goals as goal
 
-pub pairs-returns-in_ok-rows-in-Alternative : goal.pairs-returns-in_ok-rows-in-Alternative
-pairs-returns-in_ok-rows-in-Alternative g t c =
+pub pairs_of_terms-returns-in_ok-rows-in-Alternative : goal.pairs_of_terms-returns-in_ok-rows-in-Alternative
+pairs_of_terms-returns-in_ok-rows-in-Alternative g t c =
     any_arm (g.E.Source.graph c.args.edges.now) c.args.path.now (option_copied c.args.left) (option_copied c.args.right) c.in-Alternative.parts c.as_slice-in-Alternative.result.now c.in_ok-rows-in-Alternative.rows.items c.in-Alternative.is c.as_slice-in-Alternative.ensures c.in_ok-rows-in-Alternative.ensures
 
-pub pairs-returns-in_ok-rows-in-Inverse : goal.pairs-returns-in_ok-rows-in-Inverse
-pairs-returns-in_ok-rows-in-Inverse g t c =
+pub pairs_of_terms-returns-in_ok-rows-in-Inverse : goal.pairs_of_terms-returns-in_ok-rows-in-Inverse
+pairs_of_terms-returns-in_ok-rows-in-Inverse g t c =
     inverse_arm (g.E.Source.graph c.args.edges.now) c.args.path.now (option_copied c.args.left) (option_copied c.args.right) c.in-Inverse.inner c.get.result.now c.in_ok-rows-in-Inverse.rows.items c.in_ok-inverse-in-Inverse.inverse.items c.in-Inverse.is c.get.ensures c.in_ok-inverse-in-Inverse.ensures
     (c.in_ok-rows-in-Inverse.ensures ∙ ap (map swapped) c.as_slice-in-Inverse.ensures.value)
 
-pub pairs_of_any-pairs-requires : goal.pairs_of_any-pairs-requires
-pairs_of_any-pairs-requires g t c = search (rules, the_lemmas)
+pub pairs_of_any-pairs_of_terms-requires : goal.pairs_of_any-pairs_of_terms-requires
+pairs_of_any-pairs_of_terms-requires g t c = search (rules, the_lemmas)
 
 pub pairs_of_any-loop-part-preserved : goal.pairs_of_any-loop-part-preserved
 pairs_of_any-loop-part-preserved g t c =

@@ -1,5 +1,5 @@
 use Rattle.std.proofs.Common.{ap, sym, Ok}
-use Rattle.qs_query_answer.specs.declared.answer.Answer.TheVariants.{Truth}
+use Rattle.qs_algebra_solutions.specs.declared.answer.Answer.TheVariants.{Truth}
 use Rattle.qs_query_forms.proofs.Enough.{has_some}
 use Rattle.qs_query_forms.proofs.answer.truth.Goals as goal
 

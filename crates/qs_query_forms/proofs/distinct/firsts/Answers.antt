@@ -1,11 +1,11 @@
 use Rattle.std.proofs.Common.{◌≡◌, ◌++◌, ◌∷◌, [], ◌∙◌, ap, map, take, sym, List, ◌+◌}
 use Rattle.qs_terms.specs.Bag.{once}
 use Rattle.qs_algebra_solutions.specs.Solution.{Solution, projected, same_solution}
-use Rattle.old_eval.specs.inner.Lent.{lent}
-use Rattle.old_eval.proofs.Same.{same_solution-Decides}
-use Rattle.old_eval.proofs.Known.{was_new, was_known, on_false}
+use Rattle.qs_base.specs.Lent.{lent}
+use Rattle.qs_algebra_solutions.proofs.Same.{same_solution-Decides}
+use Rattle.qs_algebra_solutions.proofs.KnownValues.{was_new, was_known, on_false}
 use Rattle.qs_query_forms.proofs.Cells.{read, order, reads}
-use Rattle.old_plan.proofs.Known.{kept_new, kept_known, knows_more, knows_still}
+use Rattle.qs_algebra_solutions.proofs.KnownKeys.{kept_new, kept_known, knows_more, knows_still}
 use Rattle.qs_query_forms.proofs.Known.{lent_taken_more, lent_more}
 use Rattle.qs_query_forms.proofs.distinct.firsts.Goals.{then-branch+in_ok-push, else-branch}
 use Rattle.qs_query_forms.proofs.distinct.firsts.Goals as goal

@@ -1,10 +1,10 @@
 use Rattle.std.proofs.Common.{◌≡◌, map, take}
 use Rattle.qs_terms.specs.Bag.{once}
 use Rattle.qs_algebra_solutions.specs.Solution.{projected, same_solution}
-use Rattle.old_eval.specs.inner.Lent.{lent}
-use Rattle.old_eval.proofs.Same.{same_solution-Decides}
+use Rattle.qs_base.specs.Lent.{lent}
+use Rattle.qs_algebra_solutions.proofs.Same.{same_solution-Decides}
 use Rattle.qs_query_forms.proofs.Cells.{read, order, reads}
-use Rattle.old_plan.proofs.Known.{Knows}
+use Rattle.qs_algebra_solutions.proofs.KnownKeys.{Knows}
 use Rattle.qs_query_forms.proofs.distinct.firsts.Given as goal
 
 abbrev pub invariant-loop-row : goal.invariant-loop-row

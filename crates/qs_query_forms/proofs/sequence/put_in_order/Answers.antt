@@ -1,5 +1,5 @@
 use Rattle.std.proofs.lemmas.Result.{IfOk-weaker}
-use Rattle.old_eval.specs.inner.Lent.{lent}
+use Rattle.qs_base.specs.Lent.{lent}
 use Rattle.qs_query_order.specs.Order.{IsOrdered, AreFirst}
 use Rattle.qs_terms.specs.Bag.{SameBag}
 use Rattle.qs_query_forms.proofs.Fronts.{first_are_front, all_are_front}

@@ -1,5 +1,5 @@
 use Rattle.qs_algebra_solutions.specs.Solution.{projected}
-use Rattle.old_eval.proofs.Written.{write_more}
+use Rattle.qs_base.proofs.WrittenLists.{write_more}
 use Rattle.qs_query_forms.proofs.unordered.project_all.Goals as goal
 
 pub loop-row-preserved : goal.loop-row-preserved

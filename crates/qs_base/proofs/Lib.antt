@@ -1,0 +1,3 @@
+pub mod HashTests
+pub mod Entries
+pub mod WrittenLists

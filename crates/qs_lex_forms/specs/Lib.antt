@@ -1,2 +1,0 @@
-pub mod Backslashes
-pub mod StandsFor
