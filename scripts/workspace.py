@@ -10,6 +10,14 @@ from concurrent.futures import FIRST_COMPLETED, ThreadPoolExecutor, wait
 EACH = 3_000_000_000
 """The memory that the check of one crate may take, in bytes."""
 
+PROGRAM = "quads_main"
+"""The crate of the program."""
+
+
+def program_path(root):
+    """Returns where the program stands that is built in this checkout, by ./quads or by the gate."""
+    return f"{root}/crates/{PROGRAM}/out/{PROGRAM}"
+
 
 def lines_of(root):
     """Returns the line of each crate in crates.txt."""
@@ -49,18 +57,22 @@ def texts_of(root, crate):
     return found
 
 
-def made_of(root, crates):
-    """Returns a sum of all that these crates are made from and by."""
-    rt = os.path.realpath(shutil.which("rt") or "rt")
-    total, lines = hashlib.sha256(rt.encode()), lines_of(root)
-    if os.path.isfile(rt):
-        total.update(str(os.stat(rt).st_mtime_ns).encode())
+def sources_sum(root, crates):
+    """Returns a sum of the sources of these crates and of their lines in crates.txt. It is the same wherever the checkout stands."""
+    total, lines = hashlib.sha256(), lines_of(root)
     for crate in sorted(crates):
-        total.update(lines[crate].encode())
+        total.update(repr(lines[crate].partition("#")[0].split()).encode())
         for file in texts_of(root, crate):
             with open(file, "rb") as it:
-                total.update(repr((os.path.relpath(file, root), it.read())).encode())
+                total.update(repr((os.path.relpath(file, root), hashlib.sha256(it.read()).hexdigest())).encode())
     return total.hexdigest()
+
+
+def made_of(root, crates):
+    """Returns a sum of all that these crates are made from on this machine: their sources, and the kit."""
+    rt = os.path.realpath(shutil.which("rt") or "rt")
+    time = os.stat(rt).st_mtime_ns if os.path.isfile(rt) else None
+    return hashlib.sha256(repr((rt, time, sources_sum(root, crates))).encode()).hexdigest()
 
 
 def seconds(root, crate):
@@ -164,10 +176,27 @@ def hand_over(root, crate):
             os.replace(f"{to}/{name}.new", f"{to}/{name}")
 
 
+def shares(idle, are_large, is_free):
+    """Returns how many jobs each of the crates that are ready gets where so many processors are idle, in their order; those past the end
+    of the list wait. Of each it is told whether it is large, and besides whether no other crate is being built.
+
+    Each gets one, and the large ones share what is left: to a small one each further job would only load its libraries again. A crate
+    that runs alone gets all, since no other can begin before it ends."""
+    if is_free and len(are_large) == 1:
+        return [idle]
+    are_large = are_large[:idle]
+    spare, large, jobs = idle - len(are_large), sum(are_large), []
+    for is_large_one in are_large:
+        more = -(-spare // large) if is_large_one else 0
+        jobs.append(1 + more)
+        spare, large = spare - more, large - is_large_one
+    return jobs
+
+
 def build(root, crates, folder, words_of, tell):
-    """Builds the crates, each behind those that it names and first those with the longest chain of others behind them. A crate's
+    """Builds the crates, each after those that it names, and first those with the longest chain of others above them. A crate's
     command is words_of(crate), its log stands in the folder. Returns the first crate that was not built, or None."""
-    effort = {it: seconds(root, it) for it in crates}
+    effort, large = {it: seconds(root, it) for it in crates}, {it: is_large(root, it) for it in crates}
     behind = dict.fromkeys(crates, 0)
     for crate in reversed([*crates]):
         behind[crate] += effort[crate]
@@ -188,11 +217,7 @@ def build(root, crates, folder, words_of, tell):
         while left or running:
             ready = [it for it in left if done.issuperset(crates[it])]
             idle = most - sum(jobs for _, jobs in running.values())
-            while ready and idle > 0:
-                # (the processors that no other crate waits for go to this one; to a small one each would only load its libraries again)
-                crate, spare = ready[0], max(1, min(2, idle // len(ready)))
-                jobs = spare if is_large(root, crate) else 1
-                ready, idle = ready[1:], idle - jobs
+            for crate, jobs in zip(ready, shares(idle, [large[it] for it in ready], not running)):
                 left.remove(crate)
                 tell(crate, len(left))
                 running[pool.submit(prove, crate, jobs)] = crate, jobs
