@@ -8,7 +8,11 @@ from collections import namedtuple
 from urllib.parse import quote
 
 ROOT = os.path.dirname(os.path.dirname(os.path.realpath(__file__)))
-PROGRAM = f"{ROOT}/crates/quads_main/out/quads_main"
+sys.path.insert(0, f"{ROOT}/scripts")
+sys.dont_write_bytecode = True
+from program import asked  # noqa: E402
+
+PROGRAM = asked(ROOT, None)
 MB = 1_000_000
 PAST_ALL = 100 * MB
 """An OFFSET past the end of every answer here: with it a query is evaluated, and no row is written."""
