@@ -1,6 +1,7 @@
 //! The patterns of DELETE WHERE (SPARQL 1.1 Update, 3.1.3.3).
 
-ghost use Rattle.std.specs.Prelude.{◌≡◌, map, IfOk};
+ghost use Rattle.std.specs.Prelude.{◌≡◌, map, IfOk, IfErr};
+ghost use Rattle.qs_terms.specs.declared.fault.QFault.TheVariants.{Memory};
 ghost use Rattle.qs_syntax_scope.specs.Firsts as first;
 ghost use Rattle.qs_algebra.specs.Translation as spec;
 
@@ -12,6 +13,7 @@ use qs_algebra_patterns::{PatternNode, Step};
 use qs_syntax_ast::term::{VarOrIri, Variable};
 use qs_syntax_ast::update::QuadBlock;
 use qs_syntax_scope::{NameList, numbered};
+use qs_terms::QFault;
 use sqlite_items::Items;
 use std::alloc::{AllocError, Global};
 
@@ -69,13 +71,18 @@ fn blocks_pattern(
 }
 
 /// The pattern of a DELETE WHERE, whose blocks of triples are its template and its pattern, with the variables of the text.
+///
+/// # Errors
+/// `QFault::Memory` where memory runs out; no other fault.
 pub fn translate_blocks(
     alloc: Global,
     variables: &[Variable],
     blocks: &[QuadBlock],
-) -> Result<Pattern, AllocError>
-    ensures { IfOk result (λ p. p ≡ spec.translated_blocks variables.now blocks.now) }
+) -> Result<Pattern, QFault>
+    ensures pattern { IfOk result (λ p. p ≡ spec.translated_blocks variables.now blocks.now) }
+    ensures memory { IfErr result (λ fault. fault ≡ Memory) }
 {
     let pattern = blocks_pattern(alloc, variables, blocks)?;
-    named(alloc, variables, pattern)
+    let named = named(alloc, variables, pattern)?;
+    Ok(named)
 }

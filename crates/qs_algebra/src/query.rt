@@ -1,7 +1,8 @@
 //! The patterns of queries (SPARQL 1.1 Query, 18.2).
 
 ghost use Rattle.std.specs.List.{flat_map};
-ghost use Rattle.std.specs.Prelude.{◌≡◌, ◌++◌, IfOk, OnOk};
+ghost use Rattle.std.specs.Prelude.{◌≡◌, ◌++◌, IfOk, IfErr, OnOk};
+ghost use Rattle.qs_terms.specs.declared.fault.QFault.TheVariants.{Memory};
 ghost use Rattle.qs_syntax_scope.specs.Firsts as first;
 ghost use Rattle.qs_algebra.specs.Translation as spec;
 
@@ -16,7 +17,7 @@ use qs_syntax_ast::pattern::{Group, InlineData};
 use qs_syntax_ast::query::{Construct, Projection, Query, QueryForm, SelectItem};
 use qs_syntax_ast::term::Variable;
 use qs_syntax_scope::{NameList, numbered};
-use qs_terms::Text;
+use qs_terms::{QFault, Text};
 use sqlite_items::Items;
 use std::alloc::{AllocError, Global};
 
@@ -172,9 +173,13 @@ fn query_pattern(alloc: Global, query: &Query) -> Result<PatternNode, AllocError
 }
 
 /// The pattern of a query with the variables of its text: the pattern of its WHERE, which in a short CONSTRUCT is its template, joined
-/// with the trailing VALUES and extended by the select expressions.
-pub fn translate(alloc: Global, query: &Query) -> Result<Pattern, AllocError>
-    ensures { IfOk result (λ p. p ≡ spec.translated query.now) }
+/// with the trailing VALUES and extended by the select expressions (SPARQL 1.1 Query, 18.2).
+///
+/// # Errors
+/// `QFault::Memory` where memory runs out; no other fault.
+pub fn translate(alloc: Global, query: &Query) -> Result<Pattern, QFault>
+    ensures pattern { IfOk result (λ p. p ≡ spec.translated query.now) }
+    ensures memory { IfErr result (λ fault. fault ≡ Memory) }
 {
     let pattern = query_pattern(alloc, query)?;
     let named = named(alloc, query.variables.as_slice(), pattern)?;
@@ -194,12 +199,16 @@ fn where_pattern(
 }
 
 /// The pattern of a WHERE by itself, as an update has it, with the variables of the text.
-pub fn translate_where(
+///
+/// # Errors
+/// `QFault::Memory` where memory runs out; no other fault.
+pub fn translate_where_with(
     alloc: Global,
     variables: &[Variable],
     group: &Group,
-) -> Result<Pattern, AllocError>
-    ensures { IfOk result (λ p. p ≡ spec.translated_where variables.now group.now) }
+) -> Result<Pattern, QFault>
+    ensures pattern { IfOk result (λ p. p ≡ spec.translated_where variables.now group.now) }
+    ensures memory { IfErr result (λ fault. fault ≡ Memory) }
 {
     let pattern = where_pattern(alloc, variables, group)?;
     let named = named(alloc, variables, pattern)?;

@@ -22,9 +22,9 @@ use Rattle.qs_algebra_patterns.specs.Basic.{Graph as Triples, mentions, puts_int
 use Rattle.qs_algebra_patterns.specs.Eval.{eval, step, all_hold, extended, in_each, rows_of}
 use Rattle.qs_algebra_patterns.proofs.Meaning.{eval_basic, eval_group, eval_union, eval_graph, eval_each_graph, eval_values, step_join, step_left_join, step_minus, step_extend}
 use Rattle.qs_expr.specs.Meaning.{meaning}
-use Rattle.qs_algebra_variables.specs.Certain.{is_certain, is_certain_step, is_column, is_set}
-use Rattle.qs_algebra_variables.specs.Possible.{is_possible, is_possible_step}
-use Rattle.qs_algebra_variables.proofs.Meaning.{certain_basic, certain_group, certain_union, certain_graph, certain_each_graph, certain_values, certain_join, certain_left_join, certain_minus, certain_extend, possible_basic, possible_group, possible_union, possible_graph, possible_each_graph, possible_values, possible_join, possible_left_join, possible_extend}
+use Rattle.qs_algebra.specs.Certain.{is_certain, is_certain_step, is_column, is_set}
+use Rattle.qs_algebra.specs.Possible.{is_possible, is_possible_step}
+use Rattle.qs_algebra.proofs.Variants.{certain_basic, certain_group, certain_union, certain_graph, certain_each_graph, certain_values, certain_join, certain_left_join, certain_minus, certain_extend, possible_basic, possible_group, possible_union, possible_graph, possible_each_graph, possible_values, possible_join, possible_left_join, possible_extend}
 use Rattle.qs_algebra_variables.proofs.BoundCells.{Bound, Unbound, each_append, each_of, each_filter, each_map, join_left, join_right, join_neither, left_join_left, left_join_neither, minus_each, unbound_at, maps_bind, maps_leave, take_bound, take_unbound, take_past}
 use Rattle.qs_algebra_variables.proofs.PathCells.{still_bound as paths_keep, paths_bind, paths_leave}
 use Rattle.qs_algebra_variables.proofs.SetCells.{bound_keeps, unbound_keeps, named_bound, named_other, named_past, row_other, row_past}

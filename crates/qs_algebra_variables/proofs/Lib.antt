@@ -1,9 +1,6 @@
-pub mod FlagLaws
-pub mod MentionLaws
-pub mod ColumnLaws
-pub mod Meaning
-pub mod Arms
 pub mod BoundCells
 pub mod SetCells
 pub mod PathCells
 pub mod BoundLaws
+pub mod Numbers
+pub mod Groups

@@ -1,12 +1,5 @@
-//! Which variables a pattern binds: those that each of its solutions binds, and those that some solution may bind.
+//! Laws of the variables that patterns bind: what the flags of `qs_algebra::certain` and `qs_algebra::possible` say of solutions, and of
+//! what is in scope of a group.
 #![tactic(auto)]
 
-mod certain_variables;
-mod flags;
 pub mod laws;
-mod mentioned;
-mod possible_variables;
-mod table;
-
-pub use certain_variables::certain;
-pub use possible_variables::possible;

@@ -1,3 +1,0 @@
-mod Possible
-mod Numbers
-mod Groups

@@ -1,3 +1,0 @@
-pub mod Certain
-pub mod Possible
-pub mod inner
