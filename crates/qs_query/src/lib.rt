@@ -4,5 +4,5 @@
 mod query;
 
 pub use qs_algebra_solutions::{Answer, Row};
-pub use qs_query_forms::solutions_of;
+pub use qs_query_forms::solutions;
 pub use query::answer;

@@ -293,16 +293,16 @@ fn few_solutions<V: View>(
 ///
 /// # Errors
 /// `QFault::TooManyRows` where there are more than `max_rows`; `QFault::Memory` where memory runs out.
-pub fn solutions_of<V: View>(
+pub fn solutions<V: View>(
     alloc: Global,
     pattern: &Pattern,
     view: &V,
-    active: Option<&Term>,
+    graph: Option<&Term>,
     max_rows: u64,
 ) -> Result<Answer, QFault>
-    ensures { let set = once same_statement (visible (V.default_seen view.now) (V.content view.now).quads) in OneOrOutOfMemory (IsAllSolutions pattern.now (whole pattern.now set (graph_of set (option_copied active.entry))) max_rows) result }
+    ensures { let set = once same_statement (visible (V.default_seen view.now) (V.content view.now).quads) in OneOrOutOfMemory (IsAllSolutions pattern.now (whole pattern.now set (graph_of set (option_copied graph.entry))) max_rows) result }
 {
     let vars = copied(alloc, pattern.names.as_slice())?;
-    let rows = few_solutions(alloc, pattern, view, active, max_rows);
+    let rows = few_solutions(alloc, pattern, view, graph, max_rows);
     with_vars(vars, rows)
 }

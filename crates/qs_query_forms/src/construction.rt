@@ -1,6 +1,7 @@
 //! What a CONSTRUCT asks for (SPARQL 1.1 Query, 16.2).
 
-ghost use Rattle.std.specs.Prelude.{◌≡◌, IfOk};
+ghost use Rattle.std.specs.Prelude.{◌≡◌, IfOk, IfErr};
+ghost use Rattle.qs_terms.specs.declared.fault.QFault.TheVariants.{Memory};
 ghost use Rattle.qs_syntax_scope.specs.Firsts.{names_of};
 ghost use Rattle.qs_query_template.specs.Template as made;
 ghost use Rattle.qs_query_forms.specs.Construction as spec;
@@ -13,6 +14,7 @@ use qs_syntax_ast::pattern::Triple;
 use qs_syntax_ast::query::{Construct, Query};
 use qs_syntax_ast::term::Variable;
 use qs_syntax_scope::numbered;
+use qs_terms::QFault;
 use sqlite_items::Items;
 use std::alloc::{AllocError, Global};
 
@@ -38,12 +40,16 @@ fn template(
 }
 
 /// What the CONSTRUCT of the query asks for.
+///
+/// # Errors
+/// `QFault::Memory` where memory runs out; no other fault.
 pub fn construction_of(
     alloc: Global,
     query: &Query,
     construct: &Construct,
-) -> Result<Construction, AllocError>
-    ensures { IfOk result (λ c. c ≡ spec.construction query.now construct.now) }
+) -> Result<Construction, QFault>
+    ensures construction { IfOk result (λ c. c ≡ spec.construction query.now construct.now) }
+    ensures memory { IfErr result (λ fault. fault ≡ Memory) }
 {
     let variables = query.variables.as_slice();
     let template = template(alloc, variables, construct.template.as_slice())?;

@@ -15,4 +15,4 @@ mod selection;
 mod sequence;
 mod unordered;
 
-pub use answer::{answer_query, solutions_of};
+pub use answer::{answer_query, solutions};

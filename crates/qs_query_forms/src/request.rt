@@ -1,13 +1,15 @@
 //! What a query asks for, by its form (SPARQL 1.1 Query, 16).
 
-ghost use Rattle.std.specs.Prelude.{◌≡◌, IfOk};
+ghost use Rattle.std.specs.Prelude.{◌≡◌, IfOk, IfErr};
+ghost use Rattle.qs_terms.specs.declared.fault.QFault.TheVariants.{Memory};
 ghost use Rattle.qs_query_forms.specs.Request as spec;
 
 use crate::construction::{Construction, construction_of};
 use crate::selection::{Selection, selection_of};
 use qs_algebra::{Pattern, translate};
 use qs_syntax_ast::query::{Query, QueryForm};
-use std::alloc::{AllocError, Global};
+use qs_terms::QFault;
+use std::alloc::Global;
 
 /// What a query asks for.
 #[derive(Drop)]
@@ -19,8 +21,12 @@ pub enum Request {
 }
 
 /// What the query asks for.
-pub fn request_of(alloc: Global, query: &Query) -> Result<Request, AllocError>
-    ensures { IfOk result (λ r. r ≡ spec.request query.now) }
+///
+/// # Errors
+/// `QFault::Memory` where memory runs out; no other fault.
+pub fn request_of(alloc: Global, query: &Query) -> Result<Request, QFault>
+    ensures request { IfOk result (λ r. r ≡ spec.request query.now) }
+    ensures memory { IfErr result (λ fault. fault ≡ Memory) }
 {
     match &query.form {
         QueryForm::Select(select) => {

@@ -1,7 +1,8 @@
 //! What a SELECT asks for (SPARQL 1.1 Query, 15 and 18.2.4).
 
-ghost use Rattle.std.specs.Prelude.{◌≡◌, ◌++◌, map, IfOk, OnOk};
+ghost use Rattle.std.specs.Prelude.{◌≡◌, ◌++◌, map, IfOk, IfErr, OnOk};
 ghost use Rattle.std.specs.List.{filter};
+ghost use Rattle.qs_terms.specs.declared.fault.QFault.TheVariants.{Memory};
 ghost use Rattle.qs_syntax_scope.specs.Firsts.{names_of};
 ghost use Rattle.qs_syntax_scope.specs.KeepsScope.{trailing_names};
 ghost use Rattle.qs_syntax_scope.specs.Names.{contains};
@@ -16,7 +17,7 @@ use qs_syntax_ast::query::{Projection, Query, Select, SelectItem};
 use qs_syntax_ast::term::Variable;
 use qs_syntax_scope::{NameList, first_variables, in_scope, numbered};
 use qs_syntax_tree::query::Duplicates;
-use qs_terms::Text;
+use qs_terms::{QFault, Text};
 use sqlite_items::Items;
 use std::alloc::{AllocError, Global};
 
@@ -181,8 +182,12 @@ fn is_distinct(duplicates: Duplicates) -> bool
 }
 
 /// What the SELECT of the query asks for.
-pub fn selection_of(alloc: Global, query: &Query, select: &Select) -> Result<Selection, AllocError>
-    ensures { IfOk result (λ s. s ≡ spec.selection query.now select.now) }
+///
+/// # Errors
+/// `QFault::Memory` where memory runs out; no other fault.
+pub fn selection_of(alloc: Global, query: &Query, select: &Select) -> Result<Selection, QFault>
+    ensures selection { IfOk result (λ s. s ≡ spec.selection query.now select.now) }
+    ensures memory { IfErr result (λ fault. fault ≡ Memory) }
 {
     let variables = query.variables.as_slice();
     let vars = listed(

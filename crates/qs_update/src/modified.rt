@@ -16,9 +16,9 @@ use crate::effect::Effect;
 use crate::graphs::iri_term;
 use crate::lawful::effects_are_lawful;
 use crate::templates::{deletion, template_with};
-use qs_algebra::{Pattern, translate_blocks, translate_where};
+use qs_algebra::{Pattern, translate_blocks, translate_where_with};
 use qs_algebra_solutions::{Answer, Row};
-use qs_query_forms::solutions_of;
+use qs_query_forms::solutions;
 use qs_query_template::{Template, instances, next_after};
 use qs_store::Draft;
 use qs_syntax_ast::term::Variable;
@@ -105,7 +105,7 @@ fn lent_rows<'a>(alloc: Global, rows: &'a [Row]) -> Result<Vec<&'a Row>, AllocEr
 }
 
 // All solutions of a WHERE over the draft, in any order.
-fn solutions(
+fn all_solutions(
     alloc: Global,
     pattern: &Pattern,
     with: Option<&Term>,
@@ -114,7 +114,7 @@ fn solutions(
 ) -> Result<Items<Row>, QFault>
     ensures { OneOrOutOfMemory (AreAllRows max_rows (spec.solutions pattern.now draft.now.store.now.default_graph (option_copied with.entry) draft.now.store.now.draft.quads)) result }
 {
-    let answer = solutions_of(alloc, pattern, draft, with, max_rows)?;
+    let answer = solutions(alloc, pattern, draft, with, max_rows)?;
     match answer {
         Answer::Solutions { vars: _, rows } => Ok(rows),
         Answer::Truth(_) => Ok(Items::new(alloc)),
@@ -133,7 +133,7 @@ fn deleted_rows(
     ensures { OneOrOutOfMemory (AreAllRows max_rows (spec.solutions (translated_blocks variables.now blocks.now) draft.now.store.now.default_graph None draft.now.store.now.draft.quads)) result }
 {
     let pattern = translate_blocks(alloc, variables, blocks)?;
-    solutions(alloc, &pattern, None, draft, max_rows)
+    all_solutions(alloc, &pattern, None, draft, max_rows)
 }
 
 /// What DELETE WHERE does over the draft.
@@ -172,7 +172,7 @@ fn rows_with(
     ensures { OneOrOutOfMemory (AreAllRows max_rows (spec.solutions pattern.now draft.now.store.now.default_graph (option_map value.Iri with.now) draft.now.store.now.draft.quads)) result }
 {
     let with = with_term(with)?;
-    solutions(alloc, pattern, with.as_ref(), draft, max_rows)
+    all_solutions(alloc, pattern, with.as_ref(), draft, max_rows)
 }
 
 #[tactic(auto, using(crate::proofs::Under::same_rows))]
@@ -185,7 +185,7 @@ fn where_rows(
 ) -> Result<Items<Row>, QFault>
     ensures { OneOrOutOfMemory (AreAllRows max_rows (spec.solutions (translated_where variables.now modify.now.pattern) draft.now.store.now.default_graph (option_map value.Iri modify.now.with) draft.now.store.now.draft.quads)) result }
 {
-    let pattern = translate_where(alloc, variables, &modify.pattern)?;
+    let pattern = translate_where_with(alloc, variables, &modify.pattern)?;
     rows_with(alloc, &pattern, &modify.with, draft, max_rows)
 }
 

@@ -4,7 +4,7 @@ use crate::lines::{comes_to, written};
 use crate::outcome::Outcome;
 use qs_algebra::translate;
 use qs_nquads::{NqFaultKind, read};
-use qs_query::{Answer, answer, solutions_of};
+use qs_query::{Answer, answer, solutions};
 use qs_results::{json, ntriples};
 use qs_store::{Store, StoreFault};
 use qs_syntax::parse_query;
@@ -107,7 +107,7 @@ fn in_graph(alloc: Global, store: &Store, graph: Option<&Term>) -> Result<Answer
     let pattern = translate(alloc, &query);
     drop(query);
     let pattern = pattern?;
-    let answer = solutions_of(alloc, &pattern, store, graph, 2);
+    let answer = solutions(alloc, &pattern, store, graph, 2);
     drop(pattern);
     answer
 }

@@ -1,13 +1,11 @@
 //! The variables that patterns bind (SPARQL 1.1 Query, 18.2.1 and 18.5).
 
 use crate::outcome::Outcome;
-use qs_algebra::{Pattern, translate, translate_where};
-use qs_algebra_patterns::PatternNode;
-use qs_algebra_variables::{certain, possible};
+use qs_algebra::{Pattern, certain, possible, translate, translate_where_with};
 use qs_syntax::parse_query;
 use qs_syntax_ast::query::{Query, QueryForm};
 use qs_terms::QFault;
-use std::alloc::{AllocError, Global};
+use std::alloc::Global;
 
 /// Queries, and which of their variables, in the order of the text, each solution of the pattern binds, and which some solution may bind.
 const FLAGS: &[(&str, &[bool], &[bool])] = &[
@@ -44,10 +42,10 @@ const FLAGS: &[(&str, &[bool], &[bool])] = &[
 ];
 
 // the pattern of the WHERE by itself, where the query is a SELECT
-fn pattern_of_where(alloc: Global, query: &Query) -> Result<Pattern, AllocError> {
+fn pattern_of_where(alloc: Global, query: &Query) -> Result<Pattern, QFault> {
     match &query.form {
         QueryForm::Select(select) => {
-            translate_where(alloc, query.variables.as_slice(), &select.pattern)
+            translate_where_with(alloc, query.variables.as_slice(), &select.pattern)
         }
         _ => translate(alloc, query),
     }
@@ -63,12 +61,12 @@ fn patterns_of(alloc: Global, text: &str) -> Result<(Pattern, Pattern), QFault> 
 
 fn has_flags(
     alloc: Global,
-    pattern: &PatternNode,
+    pattern: &Pattern,
     are_certain: &[bool],
     are_possible: &[bool],
 ) -> Result<bool, QFault> {
-    let found = certain(alloc, are_certain.len(), pattern)?;
-    let possible = possible(alloc, are_possible.len(), pattern)?;
+    let found = certain(alloc, pattern)?;
+    let possible = possible(alloc, pattern)?;
     Ok(found.as_slice() == are_certain && possible.as_slice() == are_possible)
 }
 
@@ -79,8 +77,8 @@ fn is_flagged(
     are_possible: &[bool],
 ) -> Result<bool, QFault> {
     let (whole, alone) = patterns_of(alloc, text)?;
-    let of_whole = has_flags(alloc, &whole.root, are_certain, are_possible);
-    let of_where = has_flags(alloc, &alone.root, are_certain, are_possible);
+    let of_whole = has_flags(alloc, &whole, are_certain, are_possible);
+    let of_where = has_flags(alloc, &alone, are_certain, are_possible);
     drop(whole);
     drop(alone);
     Ok(of_whole? && of_where?)

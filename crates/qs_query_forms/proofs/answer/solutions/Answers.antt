@@ -1,6 +1,6 @@
 use Rattle.std.proofs.Common.{◌∙◌}
 use Rattle.qs_query_forms.proofs.Ordered.{all_named}
-use Rattle.qs_query_forms.proofs.answer.solutions_of.Goals as goal
+use Rattle.qs_query_forms.proofs.answer.solutions.Goals as goal
 
 pub returns : goal.returns
 returns g c =
