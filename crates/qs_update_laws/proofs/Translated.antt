@@ -186,7 +186,7 @@ module _ (names : List Name) where
   each_group_free = ind-Group IsFree IsFreeGroup (λ x y is. subst (λ z. IsFree (roll-GraphPattern z)) is (rolled_free y)) (λ x y is. subst (λ z. IsFreeGroup (roll-Group z)) is (rolled_group_free y))
 
 -- the pattern of a WHERE by itself
-pub where_free : (variables : List Variable) (group : Group) → values_have_no_blank group ≡ true → has_no_blank (translated_where variables group).pattern ≡ true
+pub where_free : (variables : List Variable) (group : Group) → values_have_no_blank group ≡ true → has_no_blank (translated_where variables group).root ≡ true
 where_free variables group h = closed_free (names_of variables) (group, each_group_free (names_of variables) group) h
 
 -- ---- blocks of quads
@@ -207,5 +207,5 @@ module _ (names : List Name) where
   block_steps_free (b ∷ bs) = and_both (step_has_no_blank (block_step names b)) (all (map step_has_no_blank (map (block_step names) bs))) (block_free b) (block_steps_free bs)
 
 -- the pattern of blocks of quads
-pub blocks_free : (variables : List Variable) (blocks : List QuadBlock) → has_no_blank (translated_blocks variables blocks).pattern ≡ true
+pub blocks_free : (variables : List Variable) (blocks : List QuadBlock) → has_no_blank (translated_blocks variables blocks).root ≡ true
 blocks_free variables blocks = unfiltered_free (map (block_step (names_of variables)) blocks) (block_steps_free (names_of variables) blocks)

@@ -36,12 +36,12 @@ pub fn solutions_bind_no_other_blanks()
 
 /// The pattern of a text's WHERE names no blank node, where no row of a VALUES in it has one.
 pub fn texts_name_no_blanks()
-    ensures { (variables : List Variable) (group : Group) → IsTrue (values_have_no_blank group) → IsTrue (has_no_blank (translated_where variables group).pattern) }
+    ensures { (variables : List Variable) (group : Group) → IsTrue (values_have_no_blank group) → IsTrue (has_no_blank (translated_where variables group).root) }
 {}
 
 /// The pattern of a text's DELETE WHERE names no blank node.
 pub fn blocks_name_no_blanks()
-    ensures { (variables : List Variable) (blocks : List QuadBlock) → IsTrue (has_no_blank (translated_blocks variables blocks).pattern) }
+    ensures { (variables : List Variable) (blocks : List QuadBlock) → IsTrue (has_no_blank (translated_blocks variables blocks).root) }
 {}
 
 /// No row of a VALUES in the update of a text has a blank node: none can be written there (SPARQL 1.1 Query, 19.8, DataBlockValue).
