@@ -1,5 +1,5 @@
-pub mod Ends
 pub mod Loads
 pub mod Replays
+pub mod Results
 pub mod Runs
 pub mod Updates

@@ -10,8 +10,8 @@ use Rattle.qs_store_load.specs.declared.fault.LoadFault.TheVariants.{Text, Store
 use Rattle.qs_store.specs.declared.fault.StoreFault.TheVariants as store_fault
 use Rattle.qs_store.specs.Content.{Content}
 use Rattle.quads.specs.Due.{empty, max_terms, IsLoaded, IsOverData}
-use Rattle.quads.specs.inner.Refusal.{refusal_of}
-use Rattle.quads.specs.inner.Stored.{IsRefusalOf}
+use Rattle.quads.specs.Refusal.{refusal_of}
+use Rattle.quads.specs.Service.{IsRefusalOf}
 
 -- a store without quads, number and terms is a new one
 pub is_empty : (c : Content) → c.quads ≡ empty.quads → c.next ≡ empty.next → c.known ≡ empty.known → c ≡ empty

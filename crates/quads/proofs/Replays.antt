@@ -17,17 +17,17 @@ use Rattle.qs_service_replay.specs.Script.{IsScript, IsOtherLine}
 use Rattle.qs_service_replay.specs.declared.run.ReplayEnd.{ReplayEnd}
 use Rattle.qs_service_replay.specs.declared.run.ReplayEnd.TheVariants.{SinkFailed, OutOfMemory}
 use Rattle.quads.specs.Due.{line, script_line, service_over, IsLoaded, IsDueOfEvents, IsDueOfScript}
-use Rattle.quads.specs.inner.Refusal.{refusal_text}
-use Rattle.quads.specs.inner.Replayed.{IsBegunOfEvents, IsScriptDue, IsScriptBegun, IsReplayDue, IsReplayBegun}
+use Rattle.quads.specs.Refusal.{refusal_text}
+use Rattle.quads.specs.inner.Replay.{IsBegunOfEvents, IsScriptDue, IsScriptBegun, IsReplayDue, IsReplayBegun}
 use Rattle.quads.specs.Run.{Prints, Runs}
-use Rattle.quads.specs.inner.Stored.{IsRefusalOf}
+use Rattle.quads.specs.Service.{IsRefusalOf}
 use Rattle.quads.specs.declared.job.Ran.{Ran}
 use Rattle.quads.specs.declared.refusal.Refusal.{Refusal}
 use Rattle.quads.specs.declared.refusal.Refusal.TheVariants.{Data, Script, Fault}
 
--- the line of running out of memory
-abbrev pub wanting : List ℕ
-wanting = line (fault_line fault.Memory)
+-- the line of the fault for out of memory
+abbrev pub memory_line : List ℕ
+memory_line = line (fault_line fault.Memory)
 
 module _ (Due : List ℕ → ℕ → Type 0) (Begun : List ℕ → Type 0) (taken taken2 : Option (List ℕ)) (faults faults2 : ℕ) (r : Ran) where
   -- what is put is due
@@ -38,11 +38,11 @@ module _ (Due : List ℕ → ℕ → Type 0) (Begun : List ℕ → Type 0) (take
       at (inl w) = inl (bytes, subst (λ (n : ℕ). Due bytes n) (sym w.1) due, w.0, subst (λ (l : List ℕ). Appends taken taken2 l) (take_all r.written bytes (omega (arith, w.0))) p.1, w.2)
       at (inr w) = inr (bytes, begun, w.0, p.1, w.1, w.2)
 
-  -- a refusal is put, or running out of memory in its place
-  pub refused : (text : List ℕ) → Due text 1 → Due wanting 1 → ((bytes : List ℕ) (s : ℕ) → Due bytes s → Begun bytes)
-      → (Prints text 1 taken taken2 faults faults2 r) ⊎ (Prints wanting 1 taken taken2 faults faults2 r) → Runs Due Begun taken taken2 faults faults2 r
+  -- a refusal is put, or the fault for out of memory in its place
+  pub refused : (text : List ℕ) → Due text 1 → Due memory_line 1 → ((bytes : List ℕ) (s : ℕ) → Due bytes s → Begun bytes)
+      → (Prints text 1 taken taken2 faults faults2 r) ⊎ (Prints memory_line 1 taken taken2 faults faults2 r) → Runs Due Begun taken taken2 faults faults2 r
   refused text due memory begun (inl p) = runs_of text 1 due (begun text 1 due) p
-  refused text due memory begun (inr p) = runs_of wanting 1 memory (begun wanting 1 memory) p
+  refused text due memory begun (inr p) = runs_of memory_line 1 memory (begun memory_line 1 memory) p
 
   -- what is due of a step is due of the whole
   pub runs_on : (Due2 : List ℕ → ℕ → Type 0) (Begun2 : List ℕ → Type 0) → ((bytes : List ℕ) (s : ℕ) → Due bytes s → Due2 bytes s) → ((bytes : List ℕ) → Begun bytes → Begun2 bytes)
@@ -65,37 +65,37 @@ module _ (old : State) (events : List Event) where
       inr (h.0 ++ h.1, inr (new, h.0, h.1, h.2, refl), h.4, h.5, refl, h.6)
 
   module _ (taken taken1 taken2 : Option (List ℕ)) (faults faults1 faults2 : ℕ) (new : State) (written : ℕ) where
-    behind : (r : Ran) → IsReplayed sparql old events taken taken1 faults faults1 new OutOfMemory written → Prints wanting 1 taken1 taken2 faults1 faults2 r
+    memory_after : (r : Ran) → IsReplayed sparql old events taken taken1 faults faults1 new OutOfMemory written → Prints memory_line 1 taken1 taken2 faults1 faults2 r
         → Runs (IsDueOfEvents old events) (IsBegunOfEvents old events) taken taken2 faults faults2 (record { status = 1; written = written + r.written })
-    behind r h p = at p.2
+    memory_after r h p = at p.2
       where
-        both : length (h.0 ++ wanting) ≡ length h.0 + length wanting
-        both = length-append h.0 wanting
+        both : length (h.0 ++ memory_line) ≡ length h.0 + length memory_line
+        both = length-append h.0 memory_line
 
-        due : IsDueOfEvents old events (h.0 ++ wanting) 1
+        due : IsDueOfEvents old events (h.0 ++ memory_line) 1
         due = inr (new, h.0, h.1, h.2, refl, refl)
 
-        at : ((r.written ≡ length wanting) × (r.status ≡ 1) × (faults2 ≡ faults1)) ⊎ ((r.written < length wanting) × (r.status ≡ 1) × (faults2 ≡ one_more faults1))
+        at : ((r.written ≡ length memory_line) × (r.status ≡ 1) × (faults2 ≡ faults1)) ⊎ ((r.written < length memory_line) × (r.status ≡ 1) × (faults2 ≡ one_more faults1))
             → Runs (IsDueOfEvents old events) (IsBegunOfEvents old events) taken taken2 faults faults2 (record { status = 1; written = written + r.written })
         at (inl w) =
-            let whole : take r.written wanting ≡ wanting = take_all r.written wanting (omega (arith, w.0)) in
-            inl (h.0 ++ wanting, due, omega (arith, h.3, w.0, both), appends_both taken taken1 taken2 h.0 wanting h.4 (subst (λ (l : List ℕ). Appends taken1 taken2 l) whole p.1), w.2 ∙ h.5)
+            let whole : take r.written memory_line ≡ memory_line = take_all r.written memory_line (omega (arith, w.0)) in
+            inl (h.0 ++ memory_line, due, omega (arith, h.3, w.0, both), appends_both taken taken1 taken2 h.0 memory_line h.4 (subst (λ (l : List ℕ). Appends taken1 taken2 l) whole p.1), w.2 ∙ h.5)
         at (inr w) =
-            let front : take (written + r.written) (h.0 ++ wanting) ≡ h.0 ++ take r.written wanting = ap (λ (k : ℕ). take (k + r.written) (h.0 ++ wanting)) h.3 ∙ take-append-add h.0 wanting r.written in
+            let front : take (written + r.written) (h.0 ++ memory_line) ≡ h.0 ++ take r.written memory_line = ap (λ (k : ℕ). take (k + r.written) (h.0 ++ memory_line)) h.3 ∙ take-append-add h.0 memory_line r.written in
             inr (
-              h.0 ++ wanting,
+              h.0 ++ memory_line,
               inl (1, due),
               omega (arith, h.3, w.0, both),
-              subst (λ (l : List ℕ). Appends taken taken2 l) (sym front) (appends_both taken taken1 taken2 h.0 (take r.written wanting) h.4 p.1),
+              subst (λ (l : List ℕ). Appends taken taken2 l) (sym front) (appends_both taken taken1 taken2 h.0 (take r.written memory_line) h.4 p.1),
               refl,
               w.2 ∙ ap one_more h.5,
             )
 
-    -- memory ran out, and its line is put after
-    pub ran_wanting : (end : ReplayEnd) (r : Ran) (bytes : List ℕ) → end ≡ OutOfMemory → bytes ≡ wanting → IsReplayed sparql old events taken taken1 faults faults1 new end written → Prints bytes 1 taken1 taken2 faults1 faults2 r
+    -- out of memory, whose line is put after
+    pub ran_out_of_memory : (end : ReplayEnd) (r : Ran) (bytes : List ℕ) → end ≡ OutOfMemory → bytes ≡ memory_line → IsReplayed sparql old events taken taken1 faults faults1 new end written → Prints bytes 1 taken1 taken2 faults1 faults2 r
         → Runs (IsDueOfEvents old events) (IsBegunOfEvents old events) taken taken2 faults faults2 (record { status = 1; written = written + r.written })
-    ran_wanting end r bytes is put ended prints =
-        behind r (subst (λ (e : ReplayEnd). IsReplayed sparql old events taken taken1 faults faults1 new e written) is ended) (subst (λ (l : List ℕ). Prints l 1 taken1 taken2 faults1 faults2 r) put prints)
+    ran_out_of_memory end r bytes is put ended prints =
+        memory_after r (subst (λ (e : ReplayEnd). IsReplayed sparql old events taken taken1 faults faults1 new e written) is ended) (subst (λ (l : List ℕ). Prints l 1 taken1 taken2 faults1 faults2 r) put prints)
 
 module _ (old : State) (script : List ℕ) where
   -- what is due of the events is due of the script
@@ -109,7 +109,7 @@ module _ (old : State) (script : List ℕ) where
   pub no_script : (n : ℕ) → IsOtherLine script n → IsScriptDue old script (line (script_line n)) 1
   no_script n is = inl (inr (n, is, refl, refl))
 
-  pub no_memory : IsScriptDue old script wanting 1
+  pub no_memory : IsScriptDue old script memory_line 1
   no_memory = inr (refl, refl)
 
   pub begun_of_due : (bytes : List ℕ) (s : ℕ) → IsScriptDue old script bytes s → IsScriptBegun old script bytes
@@ -139,7 +139,7 @@ module _ (choice : DefaultGraph) (file script : List ℕ) where
       at (inl e) = inr (inl (ap (λ (g : QFault). line (fault_line g)) e, refl))
       at (inr n) = inl (Err f, is n, (refl, refl))
 
-  pub memory_due : IsReplayDue choice file script wanting 1
+  pub memory_due : IsReplayDue choice file script memory_line 1
   memory_due = inr (inl (refl, refl))
 
   pub begun_of_replay : (bytes : List ℕ) (s : ℕ) → IsReplayDue choice file script bytes s → IsReplayBegun choice file script bytes

@@ -1,4 +1,4 @@
--- From a job's end, and what the sink took of its line, to the run.
+-- From a job's result, and what the sink took of its line, to the run.
 use Rattle.std.proofs.Common.{◌≡◌, ◌<◌, ℕ, List, Option, Vec, Global, ◌⊎◌, inl, inr, Ok, Err, length, take, refl, sym, subst, arith}
 use Rattle.std.proofs.lemmas.List.{take_all}
 use Rattle.std.specs.Io.KnownBytes.{Appends}
@@ -7,17 +7,17 @@ use Rattle.qs_terms.specs.declared.fault.QFault.TheVariants as fault
 use Rattle.qs_results.specs.Lines.{fault_line}
 use Rattle.qs_store.specs.declared.default_graph.DefaultGraph.{DefaultGraph}
 use Rattle.quads.specs.Due.{line, IsDue, IsBegun}
-use Rattle.quads.specs.inner.Ended.{IsCheckEnd, IsQueryEnd, IsUpdateEnd, IsEnd, printed, status}
-use Rattle.quads.specs.inner.Replayed.{IsReplayDue, IsReplayBegun}
+use Rattle.quads.specs.inner.JobResult.{IsCheckResult, IsQueryResult, IsUpdateResult, IsJobResult, printed, status}
+use Rattle.quads.specs.inner.Replay.{IsReplayDue, IsReplayBegun}
 use Rattle.quads.specs.Run.{Prints, IsRun, Runs}
-use Rattle.quads.specs.declared.ended.Ended.{Ended}
-use Rattle.quads.specs.declared.ended.Ended.TheVariants.{Answered, Quads, DataRefused, Refused}
+use Rattle.quads.specs.declared.result.JobResult.{JobResult}
+use Rattle.quads.specs.declared.result.JobResult.TheVariants.{Answered, Quads, DataRefused, Refused}
 use Rattle.quads.specs.declared.job.Job.{Job}
 use Rattle.quads.specs.declared.job.Job.TheVariants.{Check, Query, Update, Replay}
 use Rattle.quads.specs.declared.job.Ran.{Ran}
 
--- what is printed of a job's end is due
-due_of : (job : Job) (end : Ended) → IsEnd job end → IsDue job (printed end) (status end)
+-- what is printed of a job's result is due
+due_of : (job : Job) (end : JobResult) → IsJobResult job end → IsDue job (printed end) (status end)
 due_of (Check file) (Answered answer) is = absurd is
 due_of (Check file) (Quads quads) is = inl (quads.items, is.0, is.1, is.2, refl, refl)
 due_of (Check file) (DataRefused f) is = inr (inr (f, is, refl, refl))
@@ -38,7 +38,7 @@ begun (Query file text choice) bytes s due = (s, due)
 begun (Update file text choice) bytes s due = (s, due)
 begun (Replay file script choice) bytes s due = inl (s, due)
 
--- memory may always be wanting
+-- out of memory is due of each job
 memory : (job : Job) → IsDue job (line (fault_line fault.Memory)) 1
 memory (Check file) = inr (inl (refl, refl))
 memory (Query file text choice) = inl (Err fault.Memory, (λ other. absurd (other refl)), refl, refl)
@@ -56,25 +56,29 @@ module _ (job : Job) (taken taken2 : Option (List ℕ)) (faults faults2 : ℕ) (
       at (inl w) = inl (bytes, subst (λ (n : ℕ). IsDue job bytes n) (sym w.1) due, w.0, subst (λ (l : List ℕ). Appends taken taken2 l) (whole r.written bytes w.0) p.1, w.2)
       at (inr w) = inr (bytes, begun job bytes s due, w.0, p.1, w.1, w.2)
 
-  -- the job's end that is printed, or running out of memory in its place
-  pub ran : (end : Ended) → IsEnd job end → (Prints (printed end) (status end) taken taken2 faults faults2 r) ⊎ (Prints (line (fault_line fault.Memory)) 1 taken taken2 faults faults2 r) → IsRun job taken taken2 faults faults2 r
+  -- the job's result that is printed, or the fault for out of memory in its place
+  pub ran : (end : JobResult) → IsJobResult job end → (Prints (printed end) (status end) taken taken2 faults faults2 r) ⊎ (Prints (line (fault_line fault.Memory)) 1 taken taken2 faults faults2 r) → IsRun job taken taken2 faults faults2 r
   ran end is (inl p) = ran_of (printed end) (status end) (due_of job end is) p
   ran end is (inr p) = ran_of (line (fault_line fault.Memory)) 1 (memory job) p
 
--- the end of the job's bytes is that of the job
-module _ (job : Job) (end : Ended) (file : Vec ℕ Global) where
-  pub check_end : job ≡ Check file → IsCheckEnd file.items end → IsEnd job end
-  check_end is e = subst (λ (j : Job). IsEnd j end) (sym is) e
+-- the result of the job's bytes is that of the job
+module _ (job : Job) (end : JobResult) (bytes : List ℕ) (file : Vec ℕ Global) where
+  pub check_of_job : job ≡ Check file → bytes ≡ file.items → IsCheckResult bytes end → IsJobResult job end
+  check_of_job is same e = subst (λ (j : Job). IsJobResult j end) (sym is) (subst (λ (l : List ℕ). IsCheckResult l end) same e)
 
   module _ (lent : List ℕ) (text : Vec ℕ Global) (choice : DefaultGraph) where
-    pub query_end : job ≡ Query file text choice → lent ≡ text.items → IsQueryEnd choice file.items lent end → IsEnd job end
-    query_end is same e = subst (λ (j : Job). IsEnd j end) (sym is) (subst (λ (l : List ℕ). IsQueryEnd choice file.items l end) same e)
+    pub query_of_job : job ≡ Query file text choice → bytes ≡ file.items → lent ≡ text.items → IsQueryResult choice bytes lent end → IsJobResult job end
+    query_of_job is same also e =
+        subst (λ (j : Job). IsJobResult j end) (sym is) (subst (λ (l : List ℕ). IsQueryResult choice file.items l end) also (subst (λ (l : List ℕ). IsQueryResult choice l lent end) same e))
 
-    pub update_end : job ≡ Update file text choice → lent ≡ text.items → IsUpdateEnd choice file.items lent end → IsEnd job end
-    update_end is same e = subst (λ (j : Job). IsEnd j end) (sym is) (subst (λ (l : List ℕ). IsUpdateEnd choice file.items l end) same e)
+    pub update_of_job : job ≡ Update file text choice → bytes ≡ file.items → lent ≡ text.items → IsUpdateResult choice bytes lent end → IsJobResult job end
+    update_of_job is same also e =
+        subst (λ (j : Job). IsJobResult j end) (sym is) (subst (λ (l : List ℕ). IsUpdateResult choice file.items l end) also (subst (λ (l : List ℕ). IsUpdateResult choice l lent end) same e))
 
 -- the run of a replay of the job's bytes is that of the job
-pub replay_ran : (job : Job) (lent : List ℕ) (taken taken2 : Option (List ℕ)) (faults faults2 : ℕ) (r : Ran) (file script : Vec ℕ Global) (choice : DefaultGraph) → job ≡ Replay file script choice → lent ≡ script.items
-    → Runs (IsReplayDue choice file.items lent) (IsReplayBegun choice file.items lent) taken taken2 faults faults2 r → IsRun job taken taken2 faults faults2 r
-replay_ran job lent taken taken2 faults faults2 r file script choice is same ran =
-    subst (λ (j : Job). IsRun j taken taken2 faults faults2 r) (sym is) (subst (λ (l : List ℕ). Runs (IsReplayDue choice file.items l) (IsReplayBegun choice file.items l) taken taken2 faults faults2 r) same ran)
+module _ (job : Job) (bytes lent : List ℕ) (taken taken2 : Option (List ℕ)) (faults faults2 : ℕ) (r : Ran) (file script : Vec ℕ Global) (choice : DefaultGraph) where
+  pub replay_ran : job ≡ Replay file script choice → bytes ≡ file.items → lent ≡ script.items
+      → Runs (IsReplayDue choice bytes lent) (IsReplayBegun choice bytes lent) taken taken2 faults faults2 r → IsRun job taken taken2 faults faults2 r
+  replay_ran is same also ran =
+      let at = subst (λ (l : List ℕ). Runs (IsReplayDue choice l lent) (IsReplayBegun choice l lent) taken taken2 faults faults2 r) same ran in
+      subst (λ (j : Job). IsRun j taken taken2 faults faults2 r) (sym is) (subst (λ (l : List ℕ). Runs (IsReplayDue choice file.items l) (IsReplayBegun choice file.items l) taken taken2 faults faults2 r) also at)

@@ -1,4 +1,4 @@
--- How an update ends, from its steps.
+-- The result of an update, from its steps.
 use Rattle.std.proofs.Common.{◌≡◌, ◌≢◌, ℕ, List, Ok, Err, OnOk, IfOk, IfErr, refl, sym, subst}
 use Rattle.qs_terms.specs.Outcome.{Outcome}
 use Rattle.qs_terms.specs.Statement.{Statement}
@@ -11,7 +11,7 @@ use Rattle.qs_store.specs.declared.default_graph.DefaultGraph.{DefaultGraph}
 use Rattle.qs_update.specs.Outcome as update
 use Rattle.qs_update.specs.Request.{Bounds, bounds_of}
 use Rattle.quads.specs.Due.{max_rows, max_terms, bounds, IsTextOf, IsUpdateOutcome}
-use Rattle.quads.specs.inner.Updated.{BecomesUpdated, AreQuadsBehind}
+use Rattle.quads.specs.inner.Update.{BecomesUpdated, AreQuadsAfter}
 
 same_bounds : (held : Held) → held.limit ≡ max_terms → bounds_of max_rows held ≡ bounds held.default_graph
 same_bounds held e =
@@ -36,7 +36,7 @@ becomes held bytes text new (Ok done) limit is ok err = accepted held limit byte
 becomes held bytes text new (Err f) limit is ok err = λ n. refused held limit bytes text is f (err n)
 
 module _ {A : Type 0} (items : A → List Statement) where
-  pub held_behind : (choice : DefaultGraph) (text : List ℕ) (old new : Content) (r : Outcome A) → ((a b d : List Statement) → SameSet a b → SameSet b d → SameSet a d)
-      → (c : Content) × IsUpdateOutcome choice text old (Ok c) × update.IsSameContent new c → IfOk r (λ all. SameSet (items all) new.quads) → IfOk r (λ all. AreQuadsBehind choice text old (items all))
-  held_behind choice text old new (Ok all) joined h same = (h.0, h.1, joined (items all) new.quads h.0.quads same h.2.quads)
-  held_behind choice text old new (Err f) joined h same = same
+  pub held_after : (choice : DefaultGraph) (text : List ℕ) (old new : Content) (r : Outcome A) → ((a b d : List Statement) → SameSet a b → SameSet b d → SameSet a d)
+      → (c : Content) × IsUpdateOutcome choice text old (Ok c) × update.IsSameContent new c → IfOk r (λ all. SameSet (items all) new.quads) → IfOk r (λ all. AreQuadsAfter choice text old (items all))
+  held_after choice text old new (Ok all) joined h same = (h.0, h.1, joined (items all) new.quads h.0.quads same h.2.quads)
+  held_after choice text old new (Err f) joined h same = same

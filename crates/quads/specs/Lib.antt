@@ -1,3 +1,5 @@
 pub mod Due
+pub mod Refusal
 pub mod Run
+pub mod Service
 pub mod inner

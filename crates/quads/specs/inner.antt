@@ -1,6 +1,5 @@
 -- What serves proofs alone: no promise of the product is read by it.
-pub mod Ended
-pub mod Refusal
-pub mod Replayed
-pub mod Stored
-pub mod Updated
+pub mod JobResult
+pub mod Load
+pub mod Replay
+pub mod Update

@@ -2,7 +2,7 @@
 
 use qs_store::DefaultGraph;
 
-/// A job, with the bytes of its files; the data are put into a store whose queries, and the WHERE of whose updates, see the default graph.
+/// A job, with the bytes of its files. The data are put into a store; its queries, and the WHERE of its updates, see this default graph.
 #[derive(Drop)]
 pub enum Job {
     /// The N-Quads of `data`, written again.

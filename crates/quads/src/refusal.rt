@@ -4,11 +4,11 @@ ghost use Rattle.std.specs.Prelude.{◌≡◌, ◌⊎◌, IfOk, string_bytes};
 ghost use Rattle.qs_terms.specs.declared.fault.QFault.TheVariants.{Memory};
 ghost use Rattle.qs_results.specs.Lines.{fault_line};
 ghost use Rattle.quads.specs.Due.{line, script_line};
-ghost use Rattle.quads.specs.inner.Refusal as spec;
+ghost use Rattle.quads.specs.Refusal as spec;
 ghost use Rattle.quads.specs.Run.{Prints};
 
 use crate::job::Ran;
-use crate::printed::{data_fault_text, fault_text};
+use crate::print::{data_fault_text, fault_text};
 use crate::put::put;
 use qs_nquads::NqFault;
 use qs_results::out_of_memory_line;
@@ -24,7 +24,7 @@ pub enum Refusal {
     Data(NqFault),
     /// The script's line of this number, from 1, is the first that tells no event.
     Script(usize),
-    /// The terms of the data find no room, or memory runs out.
+    /// The terms of the data find no room, or out of memory.
     Fault(QFault),
 }
 
@@ -64,7 +64,8 @@ fn refusal_text(alloc: Global, refusal: &Refusal) -> Result<String, AllocError>
     }
 }
 
-/// Puts the line of the refusal, or that of running out of memory where it can't be made.
+/// Returns the exit status of a refusal, 1, and how many bytes the sink took of its line, or of the line of the fault for out of memory where
+/// that one can't be made.
 pub fn put_refusal<S: Sink>(alloc: Global, refusal: &Refusal, out: &mut S) -> Ran
     ensures { Prints (spec.refusal_text refusal.now) 1 (S.taken out.old) (S.taken out.new) (S.faults out.old) (S.faults out.new) result
         ⊎ Prints (line (fault_line Memory)) 1 (S.taken out.old) (S.taken out.new) (S.faults out.old) (S.faults out.new) result }

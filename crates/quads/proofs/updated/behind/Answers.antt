@@ -1,6 +1,0 @@
-use Rattle.quads.proofs.Updates.{held_behind}
-use Rattle.quads.proofs.updated.behind.Goals as goal
-
-pub returns-in-Ok-clause-done : goal.returns-in-Ok-clause-done
-returns-in-Ok-clause-done c =
-    held_behind (λ v. v.items) c.args.store.now.default_graph c.args.text.now c.args.store.now.base c.text_update.new.store.base c.held.result c.same_set_is_an_equivalence.ensures.transitive c.in-Ok.ensures c.held.ensures.same

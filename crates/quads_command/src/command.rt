@@ -1,0 +1,133 @@
+//! The commands of the program, with their arguments.
+
+use crate::held::add_command;
+use clap::{Arg, ArgAction, Command};
+use std::alloc::{AllocError, Global};
+
+/// The version of the program, and of the kit that it is proved with: what `rt version` prints.
+const VERSION: &str = "0.1.0\nrattle-kit-13f logic dac8208d650f15bf";
+
+/// The argument that names the data.
+pub const DATA: &str = "FILE";
+
+/// The argument that names the file of a query.
+pub const QUERY: &str = "QUERYFILE";
+
+/// The argument that names the file of an update.
+pub const UPDATE: &str = "UPDATEFILE";
+
+/// The argument that names a script of connection events.
+pub const SCRIPT: &str = "SCRIPT";
+
+/// The argument of the port.
+pub const PORT: &str = "P";
+
+/// The argument of the number of requests.
+pub const REQUESTS: &str = "N";
+
+/// The flag of a union default graph.
+pub const UNION_DEFAULT: &str = "union-default";
+
+// A file that the command line names.
+fn file_argument<'a>(alloc: Global, name: &'a str, what: &'a str) -> Arg<'a> {
+    Arg::new(alloc, name).required(true).help(what)
+}
+
+// The choice of the default graph.
+fn union_default<'a>(alloc: Global) -> Arg<'a> {
+    Arg::new(alloc, UNION_DEFAULT)
+        .long(UNION_DEFAULT)
+        .action(ArgAction::SetTrue)
+        .help("queries see the union of all named graphs as the default graph")
+}
+
+fn check_command<'a>(alloc: Global) -> Result<Command<'a>, AllocError> {
+    Command::new(alloc, "check")
+        .about("Prints the data of a file as N-Quads, each quad once, in the order of the lines")
+        .arg(file_argument(alloc, DATA, "the data, as N-Quads"))
+}
+
+fn query_command<'a>(alloc: Global) -> Result<Command<'a>, AllocError> {
+    Command::new(alloc, "query")
+        .about(
+            "Prints the answer of a query over the data of a file: as JSON, or for CONSTRUCT as N-Triples",
+        )
+        .arg(file_argument(alloc, DATA, "the data, as N-Quads"))?
+        .arg(file_argument(alloc, QUERY, "the text of the query"))?
+        .arg(union_default(alloc))
+}
+
+fn update_command<'a>(alloc: Global) -> Result<Command<'a>, AllocError> {
+    Command::new(alloc, "update")
+        .about(
+            "Prints what an update makes of the data of a file, as N-Quads; where a part of it is refused, the fault alone",
+        )
+        .arg(file_argument(alloc, DATA, "the data, as N-Quads"))?
+        .arg(file_argument(alloc, UPDATE, "the text of the update"))?
+        .arg(union_default(alloc))
+}
+
+fn replay_command<'a>(alloc: Global) -> Result<Command<'a>, AllocError> {
+    Command::new(alloc, "replay")
+        .about(
+            "Carries out the connection events of a script over the data of a file, and prints each reply in hex when it is made",
+        )
+        .arg(file_argument(alloc, DATA, "the data, as N-Quads"))?
+        .arg(file_argument(
+            alloc,
+            SCRIPT,
+            "lines `join <id>`, `piece <id> <hex>` and `end <id>`",
+        ))?
+        .arg(union_default(alloc))
+}
+
+fn port_argument<'a>(alloc: Global) -> Arg<'a> {
+    Arg::new(alloc, PORT)
+        .long("port")
+        .required(true)
+        .value_parser(clap::value_parser!(u16).range(1..))
+        .help("the port, on 127.0.0.1")
+}
+
+fn served_argument<'a>(alloc: Global) -> Arg<'a> {
+    Arg::new(alloc, DATA)
+        .long("data")
+        .required(true)
+        .help("the data, as N-Quads")
+}
+
+fn requests_argument<'a>(alloc: Global) -> Arg<'a> {
+    Arg::new(alloc, REQUESTS)
+        .long("requests")
+        .required(true)
+        .value_parser(clap::value_parser!(u32))
+        .help("how many connections are served")
+}
+
+fn serve_command<'a>(alloc: Global) -> Result<Command<'a>, AllocError> {
+    Command::new(alloc, "serve")
+        .about(
+            "Serves the data of a file by the SPARQL protocol, at /query, /update and /data: so many connections, one after another",
+        )
+        .arg(port_argument(alloc))?
+        .arg(served_argument(alloc))?
+        .arg(requests_argument(alloc))?
+        .arg(union_default(alloc))
+}
+
+/// Returns the commands of the program.
+///
+/// # Errors
+///
+/// Out of memory.
+pub fn command<'a>(alloc: Global) -> Result<Command<'a>, AllocError> {
+    let command = Command::new(alloc, "quads")
+        .about("An RDF quad store with SPARQL")
+        .version(VERSION)
+        .subcommand_required(true);
+    let command = add_command(command, check_command(alloc))?;
+    let command = add_command(command, query_command(alloc))?;
+    let command = add_command(command, update_command(alloc))?;
+    let command = add_command(command, replay_command(alloc))?;
+    add_command(command, serve_command(alloc))
+}

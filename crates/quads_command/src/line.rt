@@ -1,0 +1,87 @@
+//! What a command line asks for.
+
+use crate::command::{DATA, PORT, QUERY, REQUESTS, SCRIPT, UNION_DEFAULT, UPDATE};
+use clap::ArgMatches;
+
+/// A job of the program, with the names of its files. Where `union_default` is true, queries see the union of all named graphs as the
+/// default graph.
+#[derive(Clone, Copy)]
+pub enum CommandLine<'a> {
+    /// `check FILE`: the data are printed as N-Quads.
+    Check {
+        data: &'a str,
+    },
+    /// `query FILE QUERYFILE`: a query over the data is answered.
+    Query {
+        data: &'a str,
+        query: &'a str,
+        union_default: bool,
+    },
+    /// `update FILE UPDATEFILE`: an update of the data is carried out.
+    Update {
+        data: &'a str,
+        update: &'a str,
+        union_default: bool,
+    },
+    /// `replay FILE SCRIPT`: the connection events of a script are carried out over the data.
+    Replay {
+        data: &'a str,
+        script: &'a str,
+        union_default: bool,
+    },
+    /// `serve --port P --data FILE --requests N`: the data are served on this port of 127.0.0.1, to so many connections.
+    Serve {
+        port: u16,
+        data: &'a str,
+        requests: u32,
+        union_default: bool,
+    },
+}
+
+fn query_line<'a>(matches: &ArgMatches<'a>) -> Option<CommandLine<'a>> {
+    Some(CommandLine::Query {
+        data: matches.get_str(DATA)?,
+        query: matches.get_str(QUERY)?,
+        union_default: matches.get_flag(UNION_DEFAULT),
+    })
+}
+
+fn update_line<'a>(matches: &ArgMatches<'a>) -> Option<CommandLine<'a>> {
+    Some(CommandLine::Update {
+        data: matches.get_str(DATA)?,
+        update: matches.get_str(UPDATE)?,
+        union_default: matches.get_flag(UNION_DEFAULT),
+    })
+}
+
+fn replay_line<'a>(matches: &ArgMatches<'a>) -> Option<CommandLine<'a>> {
+    Some(CommandLine::Replay {
+        data: matches.get_str(DATA)?,
+        script: matches.get_str(SCRIPT)?,
+        union_default: matches.get_flag(UNION_DEFAULT),
+    })
+}
+
+fn serve_line<'a>(matches: &ArgMatches<'a>) -> Option<CommandLine<'a>> {
+    Some(CommandLine::Serve {
+        port: matches.get_one::<u16>(PORT)?,
+        data: matches.get_str(DATA)?,
+        requests: matches.get_one::<u32>(REQUESTS)?,
+        union_default: matches.get_flag(UNION_DEFAULT),
+    })
+}
+
+/// Returns the job that the matches of a command line name, or `None` where one of its parts is missing. `clap` accepts no such words:
+/// each part is required.
+pub fn line_of<'a>(matches: &ArgMatches<'a>) -> Option<CommandLine<'a>> {
+    match matches.subcommand()? {
+        ("check", matches) => Some(CommandLine::Check {
+            data: matches.get_str(DATA)?,
+        }),
+        ("query", matches) => query_line(matches),
+        ("update", matches) => update_line(matches),
+        ("replay", matches) => replay_line(matches),
+        ("serve", matches) => serve_line(matches),
+        _ => None,
+    }
+}
