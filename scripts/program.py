@@ -96,7 +96,7 @@ def released(root):
     try:
         put_program(unpacked(root), program)
     except OSError as error:
-        return None, f"the program of release/ can't be used: {error}"
+        return None, f"the program of release/ can't be used ({error}; release/README.md says what it needs)"
     say("this is the program of release/, which these sources build; `./quads --build` proves and builds it here")
     return program, None
 
@@ -114,7 +114,7 @@ def put_program(data, program):
             it.write(data)
         os.chmod(new, 0o755)
         if not starts(new):
-            raise OSError("it doesn't start on this machine; release/README.md says what it needs")
+            raise OSError("it doesn't start on this machine")
         os.replace(new, program)
     except OSError:
         os.remove(new)
