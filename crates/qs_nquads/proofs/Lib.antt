@@ -7,6 +7,7 @@ pub mod Fronts
 pub mod Steps
 pub mod Stops
 pub mod Numbers
+pub mod ByNumber
 pub mod PlainStrings
 pub mod Readings
 pub mod Unique

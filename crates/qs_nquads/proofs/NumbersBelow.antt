@@ -6,13 +6,14 @@ use Rattle.std.proofs.lemmas.Bool.{cond_both}
 use Rattle.std.proofs.lemmas.List.Elements.{All-nil, All-weaker}
 use Rattle.std.proofs.lemmas.Map.Views.{IfSome-lookup_from_All}
 use Rattle.qs_nquads.specs.Labels.{Numbering, from, with_label, add, known_or_new, number}
+use Rattle.qs_nquads.specs.inner.Entries.{AreBelow}
 use Rattle.qs_nquads.proofs.Numbers.{values_last}
 use Rattle.qs_nquads.specs.declared.fault.NqFaultKind.{NqFaultKind}
 use Rattle.qs_nquads.specs.declared.fault.NqFaultKind.TheVariants as fault
 
 -- the next number is in use for no label
 abbrev pub IsUnused : Numbering → Type 0
-IsUnused n = All (λ k. k < n.next) (values_of n.numbers)
+IsUnused n = AreBelow n.next n.numbers
 
 pub unused_at_first : (first : ℕ) → IsUnused (from first)
 unused_at_first first = All-nil (λ k. k < first)

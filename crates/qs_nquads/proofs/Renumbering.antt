@@ -15,6 +15,7 @@ use Rattle.qs_nquads.specs.Labels.{Numbering, with_label, number, known_or_new, 
 use Rattle.qs_nquads.specs.declared.fault.NqFaultKind.TheVariants as fault
 use Rattle.qs_nquads.specs.Written.{label}
 use Rattle.qs_nquads.specs.Renumbered.{before}
+use Rattle.qs_nquads.proofs.Numbers.{put_last}
 
 abbrev pub same : ℕ → ℕ → Bool
 same = ◌==◌
@@ -36,28 +37,6 @@ bool_same false false P Q d e f g = refl
 
 label_test : (m n : ℕ) → m < 2 ^ 64 → n < 2 ^ 64 → bytes_eq (label m) (label n) ≡ same m n
 label_test m n hm hn = bool_same (bytes_eq (label m) (label n)) (same m n) (label m ≡ label n) (m ≡ n) (bytes_eq-Decides (label m) (label n)) (exact m n) (label_value m n hm hn) (ap label)
-
--- ---- what is found after a new key that is put last
-
-bytes_refl : (k : List ℕ) → bytes_eq k k ≡ true
-bytes_refl k = (bytes_eq-Decides k k).1 refl
-
-swapped : (b : Bool) (q k e : List ℕ) (v w : ℕ) (rest : Option ℕ) → bytes_eq q e ≡ b → bytes_eq k e ≡ false → cond b (Some w) (cond (bytes_eq q k) (Some v) rest) ≡ cond (bytes_eq q k) (Some v) (cond b (Some w) rest)
-swapped false q k e v w rest h n = refl
-swapped true q k e v w rest h n = by (bytes_eq q k) refl where
-  by : (c : Bool) → bytes_eq q k ≡ c → Some w ≡ cond c (Some v) (Some w)
-  by true g = absurd (true≢false (sym (subst (λ z. bytes_eq z e ≡ true) ((bytes_eq-Decides q k).0 g) h) ∙ n))
-  by false g = refl
-
-head_new : (k : List ℕ) (e : List ℕ × ℕ) (es : List (List ℕ × ℕ)) (b : Bool) → bytes_eq k e.0 ≡ b → cond b (Some e.1) (lookup (bytes_eq k) es) ≡ None → (bytes_eq k e.0 ≡ false) × (lookup (bytes_eq k) es ≡ None)
-head_new k e es true h n = cc
-head_new k e es false h n = (h, n)
-
-pub put_last : (es : List (List ℕ × ℕ)) (k : List ℕ) (v : ℕ) (q : List ℕ) → lookup (bytes_eq k) es ≡ None → lookup (bytes_eq q) (es ++ (k, v) ∷ []) ≡ cond (bytes_eq q k) (Some v) (lookup (bytes_eq q) es)
-put_last [] k v q n = refl
-put_last (e ∷ es) k v q n =
-    let h = head_new k e es (bytes_eq k e.0) refl n in
-    ap (λ z. cond (bytes_eq q e.0) (Some e.1) z) (put_last es k v q h.1) ∙ swapped (bytes_eq q e.0) q k e.0 v e.1 (lookup (bytes_eq q) es) refl h.0
 
 -- ---- places
 

@@ -2,3 +2,5 @@
 pub mod Run
 pub mod State
 pub mod Joined
+pub mod Entries
+pub mod LabelMap

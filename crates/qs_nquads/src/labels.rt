@@ -1,43 +1,65 @@
 //! The numbers of blank nodes, by their labels.
 
-ghost use Rattle.std.specs.Prelude.{◌≡◌, ◌∷◌, ◌++◌, ℕ, [], Ok, None, Some, OnOk, OnErr, string_bytes};
+ghost use Rattle.std.specs.Prelude.{◌≡◌, ℕ, [], Ok, Some, OnErr};
 ghost use Rattle.std.specs.Map.{lookup};
 ghost use Rattle.std.specs.Str.{bytes_eq};
 ghost use Rattle.qs_terms.specs.OrOutOf.{WithOrOutOfMemory};
 ghost use Rattle.qs_nquads.specs.declared.fault.NqFaultKind.TheVariants.{Memory};
 ghost use Rattle.qs_nquads.specs.Labels.{from, number};
+ghost use Rattle.qs_nquads.specs.inner.LabelMap.{numbers_of};
 
 use crate::fault::NqFaultKind;
-use indexmap::IndexMap;
-use std::alloc::{AllocFailed, Global};
+use crate::hashed_labels::HashedLabels;
+use crate::label_map::LabelMap;
+use crate::ordered_labels::OrderedLabels;
+use std::alloc::Global;
 use std::hash::RandomState;
 use std::marker::Model;
 
 /// The labels that were met, each with its number, and the number that the next new label gets.
 #[derive(Drop)]
 pub struct Labels {
-    numbers: IndexMap<String, u64, RandomState>,
+    numbers: LabelMap,
     next: u64,
 }
 
 impl Model for Labels {
-    ghost use Rattle.std.specs.Prelude.{map, string_bytes};
     ghost use Rattle.qs_nquads.specs.Labels.{Numbering};
 
     ghost Value = { Numbering };
 
-    ghost view = { λ l. record { numbers = map (λ e. (string_bytes e.0, e.1)) l.numbers.entries; next = l.next } };
+    ghost use Rattle.qs_nquads.specs.inner.Entries.{AreBelow};
+    ghost use Rattle.qs_nquads.specs.inner.LabelMap.{numbers_of};
+
+    ghost view = { λ l. record { numbers = numbers_of l.numbers; next = l.next } };
+
+    ghost invariant = { λ l. AreBelow l.next (numbers_of l.numbers) };
 }
 
 impl Labels {
-    /// No label was met, and the next one gets this number. Labels are hashed by `hasher`, since strangers choose them. Takes no memory.
-    pub fn new(alloc: Global, hasher: RandomState, first: u64) -> Labels
+    // No label was met, and the next one gets this number.
+    fn new(numbers: LabelMap, first: u64) -> Labels
+        requires { numbers_of numbers ≡ [] }
         ensures { result ≡ from first }
     {
         Labels {
-            numbers: IndexMap::with_hasher(alloc, hasher),
+            numbers,
             next: first,
         }
+    }
+
+    /// No label was met, and the next one gets this number. Labels are hashed by `hasher`, since strangers choose them. Takes no memory.
+    pub fn hashed(alloc: Global, hasher: RandomState, first: u64) -> Labels
+        ensures { result ≡ from first }
+    {
+        Labels::new(LabelMap::Hashed(HashedLabels::new(alloc, hasher)), first)
+    }
+
+    /// No label was met, and the next one gets this number. Labels are kept in their order, with no hasher. Takes no memory.
+    pub fn ordered(alloc: Global, first: u64) -> Labels
+        ensures { result ≡ from first }
+    {
+        Labels::new(LabelMap::Ordered(OrderedLabels::new(alloc)), first)
     }
 
     /// The number that the next new label gets.
@@ -45,23 +67,6 @@ impl Labels {
         ensures { result ≡ self.now.next }
     {
         self.next
-    }
-
-    fn known(&self, label: &str) -> Option<u64>
-        ensures { result ≡ lookup (bytes_eq label.now) self.now.numbers }
-    {
-        self.numbers.get(label).copied()
-    }
-
-    // Puts a new label last, with a number.
-    fn put(&mut self, label: String, number: u64) -> Result<(), AllocFailed<(String, u64)>>
-        requires { lookup (bytes_eq (string_bytes label)) self.old.numbers ≡ None }
-        ensures put { OnOk result (self.new.numbers ≡ self.old.numbers ++ (string_bytes label, number) ∷ []) }
-        ensures next { self.new.next ≡ self.old.next }
-        ensures refused { OnErr result (self.new ≡ self.old) }
-    {
-        self.numbers.insert(label, number)?;
-        Ok(())
     }
 
     /// The number of the label, which gets the next one where it is new. Only a new label takes memory: a copy of it is kept. A refusal
@@ -74,7 +79,7 @@ impl Labels {
         ensures known { (k : ℕ) → lookup (bytes_eq label.now) self.old.numbers ≡ Some k → result ≡ Ok k }
         ensures refused { OnErr result (self.new ≡ self.old) }
     {
-        if let Some(number) = self.known(label) {
+        if let Some(number) = self.numbers.get(label) {
             return Ok(number);
         }
         let number = self.next;
@@ -82,7 +87,7 @@ impl Labels {
             return Err(NqFaultKind::Full);
         };
         let own = String::from_str(alloc, label)?;
-        self.put(own, number)?;
+        self.numbers.put(own, number)?;
         self.next = next;
         Ok(number)
     }

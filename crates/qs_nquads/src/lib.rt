@@ -8,6 +8,8 @@
 mod class;
 mod fault;
 mod gap;
+mod hashed_labels;
+mod label_map;
 mod labels;
 pub mod lawful;
 pub mod laws;
@@ -15,6 +17,7 @@ mod line;
 mod longest;
 mod node;
 mod nquads;
+mod ordered_labels;
 mod output;
 mod part;
 mod reader;
@@ -24,6 +27,6 @@ mod statement_state;
 mod written;
 
 pub use crate::fault::{NqFault, NqFaultKind};
-pub use crate::nquads::read;
+pub use crate::nquads::{read, read_hashed};
 pub use crate::output::{WriteFault, text, write};
 pub use crate::reader::Reader;

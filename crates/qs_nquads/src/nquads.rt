@@ -1,10 +1,12 @@
 //! From bytes to quads.
 
 ghost use Rattle.std.specs.Prelude.{◌≡◌, ◌∷◌, ◌++◌, ℕ, [], MatchResult, OnOk};
+ghost use Rattle.qs_nquads.specs.Labels.{from};
 ghost use Rattle.qs_nquads.specs.Nquads.{IsNquads, IsFault};
 ghost use Rattle.qs_nquads.specs.Unread.{HasRead};
 
 use crate::fault::NqFault;
+use crate::labels::Labels;
 use crate::reader::Reader;
 use qs_terms::Quad;
 use std::alloc::{AllocError, Global};
@@ -34,22 +36,11 @@ fn read_into(reader: &mut Reader<'_>, quads: &mut Vec<Quad>) -> Result<u64, NqFa
     }
 }
 
-/// The quads of N-Quads in the order of their statements, repeats kept, and the number that the next new label would get. Labels
-/// of blank nodes are numbered from `first_blank` in the order in which they first appear (RDF 1.1 N-Quads, 3 and 4). They are hashed by
-/// `hasher`, since strangers choose them.
-///
-/// # Errors
-/// The first fault from left to right, with its line: `NqFaultKind::Utf8` before all others. `NqFaultKind::Memory` may come at
-/// any token, with the line of that token.
-pub fn read(
-    alloc: Global,
-    hasher: RandomState,
-    bytes: &[u8],
-    first_blank: u64,
-) -> Result<(Vec<Quad>, u64), NqFault>
-    ensures { MatchResult result (λ r. IsNquads bytes.now first_blank r.0.items r.1) (λ fault. IsFault bytes.now first_blank fault.kind fault.line) }
+// The quads of the bytes, and the number that the next new label would get, from these labels.
+fn read_with(alloc: Global, labels: Labels, bytes: &[u8]) -> Result<(Vec<Quad>, u64), NqFault>
+    ensures { (first : ℕ) → labels ≡ from first → MatchResult result (λ r. IsNquads bytes.now first r.0.items r.1) (λ fault. IsFault bytes.now first fault.kind fault.line) }
 {
-    let mut reader = match Reader::new(alloc, hasher, bytes, first_blank) {
+    let mut reader = match Reader::with_labels(alloc, labels, bytes) {
         Ok(reader) => reader,
         Err(fault) => return Err(fault),
     };
@@ -63,4 +54,35 @@ pub fn read(
             Err(fault)
         }
     }
+}
+
+/// The quads of N-Quads in the order of their statements, repeats kept, and the number that the next new label would get. Labels
+/// of blank nodes are numbered from `first_blank` in the order in which they first appear (RDF 1.1 N-Quads, 3 and 4). They are kept in
+/// an ordered map, which needs no hasher; `read_hashed` is faster.
+///
+/// # Errors
+/// The first fault from left to right, with its line: `NqFaultKind::Utf8` before all others. `NqFaultKind::Memory` may come at
+/// any token, with the line of that token.
+pub fn read(alloc: Global, bytes: &[u8], first_blank: u64) -> Result<(Vec<Quad>, u64), NqFault>
+    ensures { MatchResult result (λ r. IsNquads bytes.now first_blank r.0.items r.1) (λ fault. IsFault bytes.now first_blank fault.kind fault.line) }
+{
+    read_with(alloc, Labels::ordered(alloc, first_blank), bytes)
+}
+
+/// The quads of N-Quads in the order of their statements, repeats kept, and the number that the next new label would get. Labels
+/// of blank nodes are numbered from `first_blank` in the order in which they first appear (RDF 1.1 N-Quads, 3 and 4). They are hashed by
+/// `hasher`, since strangers choose them.
+///
+/// # Errors
+/// The first fault from left to right, with its line: `NqFaultKind::Utf8` before all others. `NqFaultKind::Memory` may come at
+/// any token, with the line of that token.
+pub fn read_hashed(
+    alloc: Global,
+    hasher: RandomState,
+    bytes: &[u8],
+    first_blank: u64,
+) -> Result<(Vec<Quad>, u64), NqFault>
+    ensures { MatchResult result (λ r. IsNquads bytes.now first_blank r.0.items r.1) (λ fault. IsFault bytes.now first_blank fault.kind fault.line) }
+{
+    read_with(alloc, Labels::hashed(alloc, hasher, first_blank), bytes)
 }

@@ -3,6 +3,7 @@
 ghost use Rattle.std.specs.Prelude.{◌≡◌, ◌≢◌, ◌<◌, ◌≤◌, ◌-◌, ℕ, List, [], Ok, Err, length, IfOk, IfErr, OnSome, MatchResult};
 ghost use Rattle.qs_terms.specs.Statement.{Statement};
 ghost use Rattle.qs_nquads.specs.declared.fault.NqFaultKind.TheVariants.{Memory, Utf8};
+ghost use Rattle.qs_nquads.specs.Labels.{from};
 ghost use Rattle.qs_nquads.specs.Nquads.{IsFault, IsStop, line_at};
 ghost use Rattle.qs_nquads.specs.Reading.{read, placed, Comes, State};
 ghost use Rattle.qs_nquads.specs.Unread.{HasRead, HasComeTo, reading, state, with_next, IsNextOf};
@@ -111,6 +112,32 @@ fn read_statement<'a>(
 }
 
 impl<'a> Reader<'a> {
+    // A reader of the bytes, which has read nothing and has these labels.
+    pub(crate) fn with_labels(
+        alloc: Global,
+        labels: Labels,
+        bytes: &'a [u8],
+    ) -> Result<Reader<'a>, NqFault>
+        ensures bytes { IfOk result (λ reader. reader.bytes ≡ bytes.now) }
+        ensures read { IfOk result (λ reader. (first : ℕ) → labels ≡ from first → HasRead first [] reader) }
+        ensures fault { IfErr result (λ fault. (fault.kind ≡ Utf8) × ((first : ℕ) → IsFault bytes.now first fault.kind fault.line)) }
+    {
+        match std::str::from_utf8(bytes) {
+            Ok(text) => Ok(Reader {
+                alloc,
+                text,
+                rest: text,
+                place: StatementState::Start,
+                labels,
+                recent: IriCache::new(alloc),
+            }),
+            Err(error) => Err(NqFault {
+                line: line_at(bytes, error.valid_up_to()),
+                kind: NqFaultKind::Utf8,
+            }),
+        }
+    }
+
     /// A reader of the bytes, which has read nothing. The next new label gets the number `first_blank`. Labels are hashed by `hasher`,
     /// since strangers choose them. It takes no memory.
     ///
@@ -126,20 +153,7 @@ impl<'a> Reader<'a> {
         ensures read { IfOk result (λ reader. HasRead first_blank [] reader) }
         ensures fault { IfErr result (λ fault. (fault.kind ≡ Utf8) × IsFault bytes.now first_blank fault.kind fault.line) }
     {
-        match std::str::from_utf8(bytes) {
-            Ok(text) => Ok(Reader {
-                alloc,
-                text,
-                rest: text,
-                place: StatementState::Start,
-                labels: Labels::new(alloc, hasher, first_blank),
-                recent: IriCache::new(alloc),
-            }),
-            Err(error) => Err(NqFault {
-                line: line_at(bytes, error.valid_up_to()),
-                kind: NqFaultKind::Utf8,
-            }),
-        }
+        Reader::with_labels(alloc, Labels::hashed(alloc, hasher, first_blank), bytes)
     }
 
     // The line where so many bytes are left.

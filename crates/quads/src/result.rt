@@ -8,7 +8,7 @@ ghost use Rattle.quads.specs.inner.JobResult.{IsCheckResult};
 use crate::refusal::fault_of;
 use qs_algebra_solutions::Answer;
 use qs_nquads::laws::next_number_is_fresh;
-use qs_nquads::{NqFault, read};
+use qs_nquads::{NqFault, read_hashed};
 use qs_query_forms::laws::quads_are_a_dataset;
 use qs_store_load::LoadFault;
 use qs_terms::{QFault, Quad};
@@ -59,7 +59,7 @@ pub fn check_result(alloc: Global, hasher: RandomState, file: &[u8]) -> JobResul
 {
     next_number_is_fresh();
     quads_are_a_dataset();
-    match read(alloc, hasher, file, 0) {
+    match read_hashed(alloc, hasher, file, 0) {
         Ok((quads, _)) => JobResult::Quads(quads),
         Err(fault) => JobResult::DataRefused(fault),
     }

@@ -3,7 +3,7 @@
 use crate::lines::{comes_to, written};
 use crate::outcome::Outcome;
 use qs_algebra::translate;
-use qs_nquads::{NqFaultKind, read};
+use qs_nquads::{NqFaultKind, read_hashed};
 use qs_query::{Answer, answer, solutions};
 use qs_results::{json, ntriples};
 use qs_store::{Store, StoreFault};
@@ -152,7 +152,7 @@ fn put(store: &mut Store, quads: &[Quad], next: u64) -> Outcome {
 }
 
 fn put_data(alloc: Global, hasher: RandomState, store: &mut Store) -> Outcome {
-    match read(alloc, hasher, DATA, 0) {
+    match read_hashed(alloc, hasher, DATA, 0) {
         Ok((quads, next)) => {
             let outcome = put(store, quads.as_slice(), next);
             drop(quads);

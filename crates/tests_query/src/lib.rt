@@ -23,6 +23,8 @@ mod patterns;
 #[cfg(test)]
 mod quads;
 #[cfg(test)]
+mod rows;
+#[cfg(test)]
 mod tokens;
 #[cfg(test)]
 mod updates;

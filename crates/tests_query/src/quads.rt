@@ -1,7 +1,7 @@
 //! Quads as the data say them: of three quads the first and the last stand in a named graph, and the second in the default graph.
 
 use crate::outcome::Outcome;
-use qs_nquads::{NqFault, NqFaultKind, read};
+use qs_nquads::{NqFault, NqFaultKind, read_hashed};
 use qs_terms::{Quad, dataset};
 use std::alloc::{AllocError, Global};
 use std::cmp::Ordering;
@@ -30,7 +30,7 @@ const NUMBERED: &[(u64, Result<u64, NqFault>)] = &[
 
 /// The number after the last label.
 fn next_of(alloc: Global, hasher: RandomState, first: u64) -> Result<u64, NqFault> {
-    let (quads, next) = read(alloc, hasher, DATA, first)?;
+    let (quads, next) = read_hashed(alloc, hasher, DATA, first)?;
     drop(quads);
     Ok(next)
 }
@@ -95,7 +95,7 @@ pub fn outcome(alloc: Global, hasher: Option<RandomState>) -> Outcome {
     let Some(hasher) = hasher else {
         return Outcome::Refused;
     };
-    match read(alloc, hasher, DATA, 1) {
+    match read_hashed(alloc, hasher, DATA, 1) {
         Ok((quads, _)) => {
             let are_compared = compare(quads.as_slice());
             let are_copied = are_copied(alloc, quads.as_slice());

@@ -4,7 +4,7 @@ ghost use Rattle.std.specs.Prelude.{None};
 
 use crate::lines::written;
 use crate::outcome::Outcome;
-use qs_nquads::{NqFaultKind, WriteFault, read, text, write};
+use qs_nquads::{NqFaultKind, WriteFault, read_hashed, text, write};
 use qs_terms::{Quad, Sink};
 use std::alloc::Global;
 use std::hash::RandomState;
@@ -88,7 +88,7 @@ fn with_calls(alloc: Global, hasher: Option<RandomState>, calls: u64) -> Outcome
     let Some(hasher) = hasher else {
         return Outcome::Refused;
     };
-    match read(alloc, hasher, DATA, 7) {
+    match read_hashed(alloc, hasher, DATA, 7) {
         Ok((quads, _)) => {
             let outcome = match goes_out(alloc, quads.as_slice(), calls) {
                 Outcome::Whole => written(text(alloc, quads.as_slice()), TEXT),
