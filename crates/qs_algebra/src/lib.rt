@@ -22,7 +22,7 @@ mod translation;
 pub use blocks::translate_blocks;
 pub use certain_variables::certain;
 pub use expression::expr_of;
-pub use pattern::Pattern;
+pub use pattern::{Pattern, drop_pattern};
 pub use possible_variables::possible;
 pub use query::{translate, translate_where_with};
 pub use translation::group_pattern;

@@ -12,3 +12,8 @@ pub struct Pattern {
     /// The operators.
     pub root: PatternNode,
 }
+
+/// Drops the pattern. A crate that drops one in place proves the drop of each type in its tree once more.
+pub fn drop_pattern(pattern: Pattern) {
+    drop(pattern);
+}

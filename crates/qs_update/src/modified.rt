@@ -16,7 +16,7 @@ use crate::effect::Effect;
 use crate::graphs::iri_term;
 use crate::lawful::effects_are_lawful;
 use crate::templates::{deletion, template_with};
-use qs_algebra::{Pattern, translate_blocks, translate_where_with};
+use qs_algebra::{Pattern, drop_pattern, translate_blocks, translate_where_with};
 use qs_algebra_solutions::{Answer, Row};
 use qs_query_forms::solutions;
 use qs_query_template::{Template, instances, next_after};
@@ -133,7 +133,9 @@ fn deleted_rows(
     ensures { OneOrOutOfMemory (AreAllRows max_rows (spec.solutions (translated_blocks variables.now blocks.now) draft.now.store.now.default_graph None draft.now.store.now.draft.quads)) result }
 {
     let pattern = translate_blocks(alloc, variables, blocks)?;
-    all_solutions(alloc, &pattern, None, draft, max_rows)
+    let rows = all_solutions(alloc, &pattern, None, draft, max_rows);
+    drop_pattern(pattern);
+    rows
 }
 
 /// What DELETE WHERE does over the draft.
@@ -186,7 +188,9 @@ fn where_rows(
     ensures { OneOrOutOfMemory (AreAllRows max_rows (spec.solutions (translated_where variables.now modify.now.pattern) draft.now.store.now.default_graph (option_map value.Iri modify.now.with) draft.now.store.now.draft.quads)) result }
 {
     let pattern = translate_where_with(alloc, variables, &modify.pattern)?;
-    rows_with(alloc, &pattern, &modify.with, draft, max_rows)
+    let rows = rows_with(alloc, &pattern, &modify.with, draft, max_rows);
+    drop_pattern(pattern);
+    rows
 }
 
 /// What DELETE and INSERT with a WHERE do over the draft.
