@@ -1,13 +1,16 @@
 //! The variables that stand anywhere in a group.
 
-ghost use Rattle.std.specs.Prelude.{◌≡◌, ◌++◌, OnOk};
+ghost use Rattle.std.specs.Prelude.{◌≡◌, ◌++◌, OnOk, IfOk};
 ghost use Rattle.qs_syntax_scope.specs.VariablesIn as spec;
 
+use crate::first::first_of_names;
 use crate::in_expression::{push_expression, push_expressions};
 use crate::name_list::NameList;
 use crate::scope::{push_columns, push_graph, push_triples, push_variable};
 use qs_syntax_ast::pattern::{GraphPattern, Group};
-use std::alloc::AllocError;
+use qs_syntax_ast::term::Variable;
+use sqlite_items::Items;
+use std::alloc::{AllocError, Global};
 
 /// Adds the variables that stand in the group, in its filters and after MINUS too.
 #[cycle(group)]
@@ -56,4 +59,18 @@ fn push_groups<'a>(names: &mut NameList<'a>, all: &'a [Group]) -> Result<(), All
         push_group(names, one)?;
     }
     Ok(())
+}
+
+/// The variables that stand anywhere in the group, each once, in the order in which they first appear in it, those of its filters last
+/// (SPARQL 1.1 Query, 4.1.3).
+///
+/// # Errors
+/// `AllocError` where memory runs out.
+#[tactic(auto, unfolding(crate::specs::VariablesIn::group_variables))]
+pub fn group_variables(alloc: Global, group: &Group) -> Result<Items<Variable>, AllocError>
+    ensures { IfOk result (λ found. found ≡ spec.group_variables group.now) }
+{
+    let mut names = NameList::new(alloc);
+    push_group(&mut names, group)?;
+    first_of_names(alloc, &names)
 }

@@ -22,6 +22,7 @@ mod tables;
 mod update;
 
 pub use first::{first_variables, numbered};
+pub use in_group::group_variables;
 pub use in_query::query_variables;
 pub use in_update::update_variables;
 pub use name_list::NameList;
