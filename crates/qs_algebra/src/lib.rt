@@ -24,5 +24,5 @@ pub use certain_variables::certain;
 pub use expression::expr_of;
 pub use pattern::{Pattern, drop_pattern};
 pub use possible_variables::possible;
-pub use query::{translate, translate_where_with};
+pub use query::{translate, translate_where, translate_where_with};
 pub use translation::group_pattern;

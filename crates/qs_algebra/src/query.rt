@@ -4,6 +4,7 @@ ghost use Rattle.std.specs.List.{flat_map};
 ghost use Rattle.std.specs.Prelude.{◌≡◌, ◌++◌, IfOk, IfErr, OnOk};
 ghost use Rattle.qs_terms.specs.declared.fault.QFault.TheVariants.{Memory};
 ghost use Rattle.qs_syntax_scope.specs.Firsts as first;
+ghost use Rattle.qs_syntax_scope.specs.VariablesIn.{group_variables};
 ghost use Rattle.qs_algebra.specs.Translation as spec;
 
 use crate::basic::basic_pattern;
@@ -16,7 +17,7 @@ use qs_base::keep_beside;
 use qs_syntax_ast::pattern::{Group, InlineData};
 use qs_syntax_ast::query::{Construct, Projection, Query, QueryForm, SelectItem};
 use qs_syntax_ast::term::Variable;
-use qs_syntax_scope::{NameList, numbered};
+use qs_syntax_scope::{NameList, group_variables, numbered};
 use qs_terms::{QFault, Text};
 use sqlite_items::Items;
 use std::alloc::{AllocError, Global};
@@ -196,6 +197,19 @@ fn where_pattern(
     let names = numbered(alloc, variables)?;
     let pattern = group_pattern(alloc, &names, group)?;
     Ok(pattern)
+}
+
+/// The pattern of a WHERE by itself, with the variables of its own: each once, in the order in which they first appear in it, those of its
+/// filters last. `translate_where_with` takes those of a text of which the WHERE is a part.
+///
+/// # Errors
+/// `QFault::Memory` where memory runs out; no other fault.
+pub fn translate_where(alloc: Global, group: &Group) -> Result<Pattern, QFault>
+    ensures pattern { IfOk result (λ p. p ≡ spec.translated_where (group_variables group.now) group.now) }
+    ensures memory { IfErr result (λ fault. fault ≡ Memory) }
+{
+    let variables = group_variables(alloc, group)?;
+    translate_where_with(alloc, variables.as_slice(), group)
 }
 
 /// The pattern of a WHERE by itself, as an update has it, with the variables of the text.

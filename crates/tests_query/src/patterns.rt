@@ -1,10 +1,10 @@
 //! The variables that patterns bind (SPARQL 1.1 Query, 18.2.1 and 18.5).
 
 use crate::outcome::Outcome;
-use qs_algebra::{Pattern, certain, possible, translate, translate_where_with};
+use qs_algebra::{Pattern, certain, possible, translate, translate_where, translate_where_with};
 use qs_syntax::parse_query;
 use qs_syntax_ast::query::{Query, QueryForm};
-use qs_terms::QFault;
+use qs_terms::{QFault, Text};
 use std::alloc::Global;
 
 /// Queries, and which of their variables, in the order of the text, each solution of the pattern binds, and which some solution may bind.
@@ -41,7 +41,25 @@ const FLAGS: &[(&str, &[bool], &[bool])] = &[
     ),
 ];
 
-// the pattern of the WHERE by itself, where the query is a SELECT
+/// Queries, the variables of the WHERE alone in the order of their numbers, and which of these each solution binds, and some may bind.
+const ALONE: &[(&str, &[&str], &[bool], &[bool])] = &[
+    // a variable that the SELECT alone names has no number
+    (
+        "SELECT ?z { ?a <u:p> _:b . _:b ?d ?a }",
+        &["a", "d"],
+        &[true, true],
+        &[true, true],
+    ),
+    // those of filters are last
+    (
+        "SELECT ?c ?a { ?a <u:p> ?b FILTER(?c = ?a) OPTIONAL { ?a <u:q> ?d } }",
+        &["a", "b", "d", "c"],
+        &[true, true, false, false],
+        &[true, true, true, false],
+    ),
+];
+
+// the pattern of the WHERE with the query's variables, where the query is a SELECT
 fn pattern_of_where(alloc: Global, query: &Query) -> Result<Pattern, QFault> {
     match &query.form {
         QueryForm::Select(select) => {
@@ -84,6 +102,54 @@ fn is_flagged(
     Ok(of_whole? && of_where?)
 }
 
+fn are_named(found: &[Text], names: &[&str]) -> bool {
+    if found.len() != names.len() {
+        return false;
+    }
+    for at in 0..names.len() {
+        if found[at].as_str() != names[at] {
+            return false;
+        }
+    }
+    true
+}
+
+// the pattern of the WHERE with its own variables, where the query is a SELECT
+fn pattern_alone(alloc: Global, text: &str) -> Result<Pattern, QFault> {
+    let query = parse_query(alloc, text)?;
+    let pattern = match &query.form {
+        QueryForm::Select(select) => translate_where(alloc, &select.pattern),
+        _ => translate(alloc, &query),
+    };
+    drop(query);
+    pattern
+}
+
+fn is_flagged_alone(
+    alloc: Global,
+    text: &str,
+    names: &[&str],
+    are_certain: &[bool],
+    are_possible: &[bool],
+) -> Result<bool, QFault> {
+    let pattern = pattern_alone(alloc, text)?;
+    let is_named = are_named(pattern.names.as_slice(), names);
+    let has_flags = has_flags(alloc, &pattern, are_certain, are_possible);
+    drop(pattern);
+    Ok(is_named && has_flags?)
+}
+
+fn alone_outcome(alloc: Global) -> Outcome {
+    for (text, names, are_certain, are_possible) in ALONE {
+        match is_flagged_alone(alloc, text, names, are_certain, are_possible) {
+            Ok(true) => {}
+            Ok(false) => return Outcome::Wrong,
+            Err(fault) => return Outcome::of_fault(&fault),
+        }
+    }
+    Outcome::Whole
+}
+
 /// Whether each pattern has its flags.
 pub fn outcome(alloc: Global) -> Outcome {
     for (text, are_certain, are_possible) in FLAGS {
@@ -93,5 +159,5 @@ pub fn outcome(alloc: Global) -> Outcome {
             Err(fault) => return Outcome::of_fault(&fault),
         }
     }
-    Outcome::Whole
+    alone_outcome(alloc)
 }
