@@ -3,6 +3,7 @@
 //! tokens of a text by kind (`specs/Kinds.antt`) and the place of their fault where they spell no tree (`specs/Text.antt`).
 #![tactic(auto)]
 
+mod drop_tree;
 pub mod laws;
 pub mod parse;
 mod resolve_and_check;
@@ -10,5 +11,6 @@ pub mod token;
 mod token_check;
 mod tree;
 
+pub use crate::drop_tree::{drop_query, drop_update};
 pub use crate::parse::{parse_query, parse_update};
 pub use crate::token::tokens;
