@@ -8,7 +8,7 @@ ghost use Rattle.qs_query.specs.Outcome.{IsOutcomeOfText};
 use qs_algebra_solutions::Answer;
 use qs_query_forms::answer_query;
 use qs_store::View;
-use qs_syntax::parse_query;
+use qs_syntax::{drop_query, parse_query};
 use qs_terms::QFault;
 use std::alloc::Global;
 
@@ -21,5 +21,7 @@ pub fn answer<V: View>(alloc: Global, text: &str, view: &V, max_rows: u64) -> Re
     ensures { OneOrOutOfMemory (IsOutcomeOfText text.now (dataset_of (visible (V.default_seen view.now) (V.content view.now).quads) (V.content view.now).next) max_rows) result }
 {
     let query = parse_query(alloc, text)?;
-    answer_query(alloc, &query, view, None, max_rows)
+    let answer = answer_query(alloc, &query, view, None, max_rows);
+    drop_query(query);
+    answer
 }

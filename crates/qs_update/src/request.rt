@@ -9,7 +9,7 @@ ghost use Rattle.qs_update.specs.Request.{bounds_of, AreOperations};
 
 use crate::draft::operate_all;
 use qs_store::Store;
-use qs_syntax::parse_update;
+use qs_syntax::{drop_update, parse_update};
 use qs_syntax_ast::update::Update;
 use qs_terms::QFault;
 use qs_update_laws::laws::updates_write_no_blank_rows;
@@ -56,5 +56,7 @@ pub fn update(alloc: Global, text: &str, store: &mut Store, max_rows: u64) -> Re
 {
     let update = parse_update(alloc, text)?;
     updates_write_no_blank_rows();
-    taken(alloc, &update, store, max_rows)
+    let done = taken(alloc, &update, store, max_rows);
+    drop_update(update);
+    done
 }

@@ -2,12 +2,12 @@
 
 use crate::lines::{comes_to, written};
 use crate::outcome::Outcome;
-use qs_algebra::translate;
+use qs_algebra::{drop_pattern, translate};
 use qs_nquads::{NqFaultKind, read_hashed};
 use qs_query::{Answer, answer, solutions};
 use qs_results::{json, ntriples};
 use qs_store::{Store, StoreFault};
-use qs_syntax::parse_query;
+use qs_syntax::{drop_query, parse_query};
 use qs_terms::dataset::is_above_blanks;
 use qs_terms::{QFault, Quad, Term, TermFault};
 use std::alloc::Global;
@@ -105,10 +105,10 @@ const NAMED_LINE: &str =
 fn in_graph(alloc: Global, store: &Store, graph: Option<&Term>) -> Result<Answer, QFault> {
     let query = parse_query(alloc, "SELECT * { ?s <u:p> ?o }")?;
     let pattern = translate(alloc, &query);
-    drop(query);
+    drop_query(query);
     let pattern = pattern?;
     let answer = solutions(alloc, &pattern, store, graph, 2);
-    drop(pattern);
+    drop_pattern(pattern);
     answer
 }
 

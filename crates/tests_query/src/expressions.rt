@@ -1,6 +1,6 @@
 //! How tightly the operators of expressions and of paths bind (SPARQL 1.1 Query, 9 and 19.8). Queries with them have no answer yet.
 
-use qs_syntax::parse_query;
+use qs_syntax::{drop_query, parse_query};
 use qs_syntax_ast::expression::Expression;
 use qs_syntax_ast::path::Path;
 use qs_syntax_ast::pattern::{GraphPattern, Group, Triple, Verb};
@@ -71,7 +71,7 @@ fn is_read(alloc: Global) -> bool {
     match parse_query(alloc, TEXT) {
         Ok(query) => {
             let is_read = matches!(&query.form, QueryForm::Ask(ask) if is_meant(&ask.pattern));
-            drop(query);
+            drop_query(query);
             is_read
         }
         Err(_) => false,

@@ -1,7 +1,7 @@
 //! Updates form by form (SPARQL 1.1 Update, 3), with their names resolved.
 
 use crate::outcome::Outcome;
-use qs_syntax::parse_update;
+use qs_syntax::{drop_update, parse_update};
 use qs_syntax_ast::term::VarOrIri;
 use qs_syntax_ast::update::{GraphOrDefault, GraphTarget, Modify, Operation, QuadBlock, Transfer};
 use qs_syntax_tree::update::OnMissing;
@@ -120,7 +120,7 @@ pub fn outcome(alloc: Global) -> Outcome {
     match parse_update(alloc, TEXT) {
         Ok(update) => {
             let are_meant = are_meant(update.operations.as_slice());
-            drop(update);
+            drop_update(update);
             Outcome::of_answer(are_meant)
         }
         Err(fault) => Outcome::of_fault(&fault),

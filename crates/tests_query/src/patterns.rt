@@ -1,8 +1,10 @@
 //! The variables that patterns bind (SPARQL 1.1 Query, 18.2.1 and 18.5).
 
 use crate::outcome::Outcome;
-use qs_algebra::{Pattern, certain, possible, translate, translate_where, translate_where_with};
-use qs_syntax::parse_query;
+use qs_algebra::{
+    Pattern, certain, drop_pattern, possible, translate, translate_where, translate_where_with,
+};
+use qs_syntax::{drop_query, parse_query};
 use qs_syntax_ast::query::{Query, QueryForm};
 use qs_terms::{QFault, Text};
 use std::alloc::Global;
@@ -73,7 +75,7 @@ fn patterns_of(alloc: Global, text: &str) -> Result<(Pattern, Pattern), QFault> 
     let query = parse_query(alloc, text)?;
     let whole = translate(alloc, &query);
     let alone = pattern_of_where(alloc, &query);
-    drop(query);
+    drop_query(query);
     Ok((whole?, alone?))
 }
 
@@ -97,8 +99,8 @@ fn is_flagged(
     let (whole, alone) = patterns_of(alloc, text)?;
     let of_whole = has_flags(alloc, &whole, are_certain, are_possible);
     let of_where = has_flags(alloc, &alone, are_certain, are_possible);
-    drop(whole);
-    drop(alone);
+    drop_pattern(whole);
+    drop_pattern(alone);
     Ok(of_whole? && of_where?)
 }
 
@@ -121,7 +123,7 @@ fn pattern_alone(alloc: Global, text: &str) -> Result<Pattern, QFault> {
         QueryForm::Select(select) => translate_where(alloc, &select.pattern),
         _ => translate(alloc, &query),
     };
-    drop(query);
+    drop_query(query);
     pattern
 }
 
@@ -135,7 +137,7 @@ fn is_flagged_alone(
     let pattern = pattern_alone(alloc, text)?;
     let is_named = are_named(pattern.names.as_slice(), names);
     let has_flags = has_flags(alloc, &pattern, are_certain, are_possible);
-    drop(pattern);
+    drop_pattern(pattern);
     Ok(is_named && has_flags?)
 }
 

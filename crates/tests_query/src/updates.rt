@@ -2,7 +2,7 @@
 
 use crate::lines::comes_to;
 use crate::outcome::Outcome;
-use qs_syntax::parse_update;
+use qs_syntax::{drop_update, parse_update};
 use qs_terms::QFault;
 use std::alloc::Global;
 
@@ -203,6 +203,12 @@ const UPDATES: &[(&str, &str, u32, &str, &str)] = &[
     ("", "CLEAR ALL ; ", 20_000, "CLEAR ALL", ""),
 ];
 
+fn parsed(alloc: Global, text: &str) -> Result<(), QFault> {
+    let update = parse_update(alloc, text)?;
+    drop_update(update);
+    Ok(())
+}
+
 fn parses_to(
     alloc: Global,
     front: &str,
@@ -216,7 +222,7 @@ fn parses_to(
         text.push_str(part)?;
     }
     text.push_str(end)?;
-    Ok(comes_to(alloc, parse_update(alloc, text.as_str()), line))
+    Ok(comes_to(alloc, parsed(alloc, text.as_str()), line))
 }
 
 #[test]
