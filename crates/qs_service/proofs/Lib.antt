@@ -1,6 +1,3 @@
-pub mod Places
-pub mod Listening
-pub mod Puts
 pub mod Made
 pub mod Bounds
-pub mod Meanings
+pub mod Texts

@@ -1,41 +1,49 @@
--- A reply that was made, or that of running out of memory.
+-- A reply that was made, or that of out of memory.
 use Rattle.std.proofs.Common.{◌≡◌, ◌∙◌, ℕ, List, sym, subst, refl, Result, Ok, Err, IfOk, inl, inr}
 use Rattle.qs_terms.specs.declared.fault.QFault.{QFault}
 use Rattle.qs_algebra_solutions.specs.declared.answer.Answer.{Answer}
+use Rattle.qs_http.specs.declared.fixed_reply.Fixed.TheVariants.{NoContent}
 use Rattle.qs_http.specs.declared.request.Request.{Request}
-use Rattle.qs_http.specs.declared.request.Request.TheVariants.{Query, Update}
+use Rattle.qs_http.specs.declared.request.Request.TheVariants.{Query, Update, Dump}
 use Rattle.qs_store.specs.Content.{Content}
+use Rattle.qs_update.specs.Outcome.{IsSameContent}
 use Rattle.qs_update.specs.Request.{Bounds}
-use Rattle.qs_service.specs.Meaning.{Meaning}
-use Rattle.qs_service.specs.Message.{Message}
+use Rattle.qs_service_connections.specs.Meaning.{CarriesOrMemory}
+use Rattle.qs_service_connections.specs.Message.{Message, fixed_message}
 use Rattle.qs_service.specs.Carried.{Carries, answer_reply, fault_reply}
-use Rattle.qs_service.specs.inner.Talk.{CarriesOrMemory, MadeOf}
+use Rattle.qs_service.specs.Language.{Language}
+use Rattle.qs_service.specs.State.{Stored}
+use Rattle.qs_service.specs.inner.Made.{MadeOf, CarriesDump}
 
 -- a request that left what is stored
-pub carries_or : {E : Type 0} (m : Meaning) (bounds : Bounds) (old : Content) (request : Request) (made : Result Message E) (reply : Message)
-    → IfOk made (Carries m bounds old request old) → MadeOf made reply → CarriesOrMemory m bounds old request old reply
-carries_or m bounds old request (Ok r) reply carries is = inl (subst (λ (x : Message). Carries m bounds old request old x) (sym is) carries)
-carries_or m bounds old request (Err e) reply carries is = inr (refl, is)
+pub carries_or : {E : Type 0} (l : Language) (old : Stored) (request : Request) (made : Result Message E) (reply : Message)
+    → IfOk made (Carries l old request old) → MadeOf made reply → CarriesOrMemory (Carries l) old request old reply
+carries_or l old request (Ok r) reply carries is = inl (subst (λ (x : Message). Carries l old request old x) (sym is) carries)
+carries_or l old request (Err e) reply carries is = inr (refl, is)
 
 -- a query's reply
-pub asked_answered : {E : Type 0} (m : Meaning) (bounds : Bounds) (old : Content) (text : List ℕ) (answer : Answer) (r : Result Message E)
-    → m.answers text bounds old (Ok answer) → IfOk r (λ reply. reply ≡ answer_reply answer) → IfOk r (Carries m bounds old (Query text) old)
-asked_answered m bounds old text answer (Ok reply) due is = (Ok answer, due, refl, is)
-asked_answered m bounds old text answer (Err e) due is = is
+pub asked_answered : {E : Type 0} (l : Language) (old : Stored) (text : List ℕ) (answer : Answer) (r : Result Message E)
+    → l.answers text old.bounds old.content (Ok answer) → IfOk r (λ reply. reply ≡ answer_reply answer) → IfOk r (Carries l old (Query text) old)
+asked_answered l old text answer (Ok reply) due is = (Ok answer, due, refl, is)
+asked_answered l old text answer (Err e) due is = is
 
-pub asked_refused : {E : Type 0} (m : Meaning) (bounds : Bounds) (old : Content) (text : List ℕ) (f : QFault) (r : Result Message E)
-    → m.answers text bounds old (Err f) → IfOk r (λ reply. reply ≡ fault_reply f) → IfOk r (Carries m bounds old (Query text) old)
-asked_refused m bounds old text f (Ok reply) due is = (Err f, due, refl, is)
-asked_refused m bounds old text f (Err e) due is = is
+pub asked_refused : {E : Type 0} (l : Language) (old : Stored) (text : List ℕ) (f : QFault) (r : Result Message E)
+    → l.answers text old.bounds old.content (Err f) → IfOk r (λ reply. reply ≡ fault_reply f) → IfOk r (Carries l old (Query text) old)
+asked_refused l old text f (Ok reply) due is = (Err f, due, refl, is)
+asked_refused l old text f (Err e) due is = is
 
 -- an update's reply
-pub changed_refused : {E : Type 0} (m : Meaning) (bounds : Bounds) (old new : Content) (text : List ℕ) (f : QFault) (made : Result Message E) (reply : Message)
-    → m.changes text bounds old (Err f) → new ≡ old → IfOk made (λ r. r ≡ fault_reply f) → MadeOf made reply → CarriesOrMemory m bounds old (Update text) new reply
-changed_refused m bounds old new text f (Ok r) reply due same is made = inl (Err f, due, (same, made ∙ is))
-changed_refused m bounds old new text f (Err e) reply due same is made = inr (same, made)
+pub changed_stored : (l : Language) (old new : Stored) (text : List ℕ) (c : Content) (reply : Message)
+    → l.changes text old.bounds old.content (Ok c) → IsSameContent new.content c → new.bounds ≡ old.bounds → reply ≡ fixed_message NoContent → CarriesOrMemory (Carries l) old (Update text) new reply
+changed_stored l old new text c reply due same bounds is = inl (Ok c, due, (same, bounds, is))
 
--- whatever is fixed for requests
-pub at_bounds : {E : Type 0} (m : Meaning) (bounds : Bounds) (old : Content) (request : Request) (r : Result Message E)
-    → IfOk r (λ reply. (b : Bounds) → Carries m b old request old reply) → IfOk r (Carries m bounds old request old)
-at_bounds m bounds old request (Ok reply) h = h bounds
-at_bounds m bounds old request (Err e) h = h
+pub changed_refused : {E : Type 0} (l : Language) (old new : Stored) (text : List ℕ) (f : QFault) (made : Result Message E) (reply : Message)
+    → l.changes text old.bounds old.content (Err f) → new ≡ old → IfOk made (λ r. r ≡ fault_reply f) → MadeOf made reply → CarriesOrMemory (Carries l) old (Update text) new reply
+changed_refused l old new text f (Ok r) reply due same is made = inl (Err f, due, (same, made ∙ is))
+changed_refused l old new text f (Err e) reply due same is made = inr (same, made)
+
+-- the dataset's reply, whatever is fixed for requests
+pub dumped_at : {E : Type 0} (l : Language) (old : Stored) (r : Result Message E)
+    → IfOk r (λ reply. (bounds : Bounds) → CarriesDump l old.content bounds reply) → IfOk r (Carries l old Dump old)
+dumped_at l old (Ok reply) h = h old.bounds
+dumped_at l old (Err e) h = h

@@ -14,9 +14,9 @@ use Rattle.qs_http.specs.declared.request.Request.TheVariants.{Query, Update, Du
 use Rattle.qs_http.specs.declared.media.Media.TheVariants.{Results, NTriples, NQuads, Text}
 use Rattle.qs_store.specs.Content.{Content}
 use Rattle.qs_update.specs.Outcome.{IsSameContent}
-use Rattle.qs_update.specs.Request.{Bounds}
-use Rattle.qs_service.specs.Meaning.{Meaning}
-use Rattle.qs_service.specs.Message.{Message, message, fixed_message}
+use Rattle.qs_service_connections.specs.Message.{Message, message, fixed_message}
+use Rattle.qs_service.specs.Language.{Language}
+use Rattle.qs_service.specs.State.{Stored}
 
 -- the line of the fault and LF
 abbrev pub fault_reply : QFault → Message
@@ -34,14 +34,14 @@ query_reply (Ok answer) = answer_reply answer
 query_reply (Err f) = fault_reply f
 
 -- what is stored after an update, and its reply: a refused one changes nothing
-abbrev pub IsUpdated : Content → Outcome Content → Content → Message → Type 0
-IsUpdated old (Ok c) new reply = IsSameContent new c × (reply ≡ fixed_message NoContent)
+abbrev pub IsUpdated : Stored → Outcome Content → Stored → Message → Type 0
+IsUpdated old (Ok c) new reply = IsSameContent new.content c × (new.bounds ≡ old.bounds) × (reply ≡ fixed_message NoContent)
 IsUpdated old (Err f) new reply = (new ≡ old) × (reply ≡ fault_reply f)
 
--- carried out over what is stored, with that reply
-abbrev pub Carries : Meaning → Bounds → Content → Request → Content → Message → Type 0
-Carries m bounds old (Query text) new reply =
-    (outcome : Outcome Answer) × m.answers text bounds old outcome × (new ≡ old) × (reply ≡ query_reply outcome)
-Carries m bounds old (Update text) new reply =
-    (outcome : Outcome Content) × m.changes text bounds old outcome × IsUpdated old outcome new reply
-Carries m bounds old Dump new reply = (bytes : List ℕ) × m.writes old bytes × (new ≡ old) × (reply ≡ message 200 NQuads bytes)
+-- what a request does: carried out over what is stored, with that reply
+abbrev pub Carries : Language → Stored → Request → Stored → Message → Type 0
+Carries l old (Query text) new reply =
+    (outcome : Outcome Answer) × l.answers text old.bounds old.content outcome × (new ≡ old) × (reply ≡ query_reply outcome)
+Carries l old (Update text) new reply =
+    (outcome : Outcome Content) × l.changes text old.bounds old.content outcome × IsUpdated old outcome new reply
+Carries l old Dump new reply = (bytes : List ℕ) × l.writes old.content bytes × (new ≡ old) × (reply ≡ message 200 NQuads bytes)

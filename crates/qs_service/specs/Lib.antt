@@ -1,8 +1,4 @@
-pub mod Message
-pub mod Meaning
-pub mod Carried
+pub mod Language
 pub mod State
-pub mod Step
-pub mod Serve
-pub mod Bytes
+pub mod Carried
 pub mod inner

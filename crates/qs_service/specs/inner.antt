@@ -1,4 +1,3 @@
 -- What serves proofs alone: no promise of the product is read by it.
 pub mod Changes
-pub mod Table
-pub mod Talk
+pub mod Made

@@ -4,21 +4,23 @@ ghost use Rattle.std.specs.Prelude.{◌≡◌, IfOk, string_bytes, true};
 ghost use Rattle.serde_json.specs.Written.{compact_text};
 ghost use Rattle.qs_http.specs.Reply.{IsReplyStatus};
 ghost use Rattle.qs_http.specs.declared.media.Media.TheVariants.{Results, NTriples};
-ghost use Rattle.qs_http.specs.declared.request.Request.TheVariants.{Query, Update, Dump};
+ghost use Rattle.qs_http.specs.declared.request.Request.TheVariants.{Query, Update};
 ghost use Rattle.qs_results.specs.Json.{has_json, json_of};
 ghost use Rattle.qs_results.specs.Triples.{is_graph, ntriples_of};
 ghost use Rattle.qs_service.specs.Carried.{Carries, answer_reply, fault_reply};
-ghost use Rattle.qs_service.specs.Meaning.{sparql};
-ghost use Rattle.qs_service.specs.Message.{message};
-ghost use Rattle.qs_service.specs.inner.Talk.{CarriesOrMemory, MadeOf};
-ghost use Rattle.qs_update.specs.Request.{Bounds, bounds_of};
+ghost use Rattle.qs_service.specs.Language.{sparql};
+ghost use Rattle.qs_service.specs.State.{stored_of};
+ghost use Rattle.qs_service.specs.inner.Made.{MadeOf, CarriesDump};
+ghost use Rattle.qs_update.specs.Request.{Bounds};
+ghost use Rattle.qs_service_connections.specs.Meaning.{CarriesOrMemory};
+ghost use Rattle.qs_service_connections.specs.Message.{message};
 
-use crate::meaning::{answer_over, dump, update_over};
-use crate::reply::Reply;
+use crate::text::{answer_over, dump, update_over};
 use http::StatusCode;
 use qs_algebra_solutions::Answer;
 use qs_http::{Fixed, Media, Request, reply_head};
 use qs_results::{fault_line, fault_status, json, ntriples};
+use qs_service_connections::Reply;
 use qs_store::Store;
 use qs_terms::QFault;
 use std::alloc::{AllocError, Global};
@@ -35,8 +37,8 @@ fn made(alloc: Global, status: u16, media: Media, body: String) -> Result<Reply,
     } else {
         StatusCode::INTERNAL_SERVER_ERROR
     };
-    let front = reply_head(alloc, code, media, body.len())?;
-    Ok(Reply::made(status, front, body))
+    let head = reply_head(alloc, code, media, body.len())?;
+    Ok(Reply::made(status, head, body))
 }
 
 /// The reply of a fault.
@@ -77,7 +79,7 @@ fn answered(alloc: Global, answer: &Answer) -> Result<Reply, AllocError>
 
 /// A query's reply, as far as memory is there.
 fn asked(alloc: Global, text: &str, store: &Store, max_rows: u64) -> Result<Reply, AllocError>
-    ensures { IfOk result (Carries sparql (bounds_of max_rows store.now) store.now.base (Query text.now) store.now.base) }
+    ensures { IfOk result (Carries sparql (stored_of max_rows store.now) (Query text.now) (stored_of max_rows store.now)) }
 {
     match answer_over(alloc, text, store, max_rows) {
         Ok(answer) => answered(alloc, &answer),
@@ -88,13 +90,13 @@ fn asked(alloc: Global, text: &str, store: &Store, max_rows: u64) -> Result<Repl
 
 /// The reply with the whole dataset, as far as memory is there.
 fn dumped(alloc: Global, store: &Store) -> Result<Reply, AllocError>
-    ensures { IfOk result (λ reply. (bounds : Bounds) → Carries sparql bounds store.now.base Dump store.now.base reply) }
+    ensures { IfOk result (λ reply. (bounds : Bounds) → CarriesDump sparql store.now.base bounds reply) }
 {
     let body = dump(alloc, store)?;
     made(alloc, 200, Media::NQuads, body)
 }
 
-/// The reply, or that of running out of memory, which takes none.
+/// The reply, or that of out of memory, which takes none.
 fn or_memory(made: Result<Reply, AllocError>) -> Reply
     ensures { MadeOf made result }
 {
@@ -104,11 +106,9 @@ fn or_memory(made: Result<Reply, AllocError>) -> Reply
     }
 }
 
-/// An update's reply. An accepted one has a fixed reply, so that running out of memory never follows a change.
+/// An update's reply. An accepted one has a fixed reply, so that out of memory never follows a change.
 fn changed(alloc: Global, text: &str, store: &mut Store, max_rows: u64) -> Reply
-    ensures carried { CarriesOrMemory sparql (bounds_of max_rows store.old) store.old.base (Update text.now) store.new.base result }
-    ensures limit { store.new.limit ≡ store.old.limit }
-    ensures default_graph { store.new.default_graph ≡ store.old.default_graph }
+    ensures { CarriesOrMemory (Carries sparql) (stored_of max_rows store.old) (Update text.now) (stored_of max_rows store.new) result }
 {
     match update_over(alloc, text, store, max_rows) {
         Ok(()) => Reply::fixed(Fixed::NoContent),
@@ -117,11 +117,9 @@ fn changed(alloc: Global, text: &str, store: &mut Store, max_rows: u64) -> Reply
     }
 }
 
-/// The request is carried out, and its reply is made. Where memory runs out, what is stored stays.
+/// The reply of the request, which is carried out. Where it is out of memory, what is stored stays.
 pub fn carry_out(alloc: Global, request: &Request, store: &mut Store, max_rows: u64) -> Reply
-    ensures carried { CarriesOrMemory sparql (bounds_of max_rows store.old) store.old.base request.now store.new.base result }
-    ensures limit { store.new.limit ≡ store.old.limit }
-    ensures default_graph { store.new.default_graph ≡ store.old.default_graph }
+    ensures { CarriesOrMemory (Carries sparql) (stored_of max_rows store.old) request.now (stored_of max_rows store.new) result }
 {
     match request {
         Request::Query(text) => or_memory(asked(alloc, text.as_str(), store, max_rows)),

@@ -1,27 +1,17 @@
-//! Connections over one store: each event is one step, and the event that brings a request's last byte carries the whole request out
-//! (SPARQL 1.1 Protocol, 2).
+//! Connections over one store (SPARQL 1.1 Protocol, 2).
 //!
-//! `service` has the joined connections: a `connection` is what was read of its request, or its `reply`, and `table` says where it stands.
-//! `carry` makes the reply of a request, by what its `meaning` is over the store. `serve_one` serves one connection over a stream, and
-//! `sockets` one after another that arrive at a listener.
+//! A `Service` is a table of connections whose requests mean what SPARQL says. `StoreMeaning` makes the reply of a request, by `carry`: by
+//! what its `text` means over the store.
 //!
-//! The definitions stand in `specs/`: what requests mean in `Meaning.antt`, the reply of one that is carried out in `Carried.antt`, the
-//! state of a service in `State.antt`, its steps and runs in `Step.antt`, and a connection over a stream in `Serve.antt`.
+//! The definitions stand in `specs/`: what texts mean in `Language.antt`, what requests are carried out over in `State.antt`, and the reply
+//! of one that is carried out in `Carried.antt`. The steps of connections stand in `qs_service_connections`.
 #![tactic(auto)]
 
 mod carry;
-mod connection;
-mod listen;
-mod meaning;
-mod part;
-mod reply;
-mod served;
 mod service;
-mod sockets;
-mod table;
-mod talk;
+mod store_meaning;
+mod text;
 
-pub use reply::Reply;
-pub use served::{ServeFault, Served};
-pub use service::{Service, ServiceFault};
-pub use sockets::serve;
+pub use qs_service_connections::{Reply, ServeFault, Served, ServiceFault, serve};
+pub use service::{OverStore, Service};
+pub use store_meaning::StoreMeaning;

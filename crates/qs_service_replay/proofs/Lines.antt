@@ -9,7 +9,7 @@ use Rattle.std.proofs.lemmas.Str.{IsUtf8-from_ascii}
 use Rattle.std.proofs.lemmas.Str.Parse.{digit_at}
 use Rattle.hex.specs.Hex.{decode_of}
 use Rattle.qs_service_replay.specs.Script.{IsId, TellsEvent}
-use Rattle.qs_service.specs.Step.{Join, Piece, End}
+use Rattle.qs_service_connections.specs.Step.{Join, Piece, End}
 use Rattle.qs_service_replay.specs.inner.Told.{IsPiece}
 
 -- digits are a text

@@ -4,11 +4,11 @@ use Rattle.std.specs.Fmt.{decimal}
 use Rattle.std.specs.Option.{is_some}
 use Rattle.std.specs.declared.alloc.AllocError.{AllocError}
 use Rattle.hex.specs.Hex.{encode_lower}
-use Rattle.qs_service.specs.Meaning.{Meaning}
-use Rattle.qs_service.specs.Message.{Message}
-use Rattle.qs_service.specs.State.{State, reply_at}
-use Rattle.qs_service.specs.Step.{Event, Step}
-use Rattle.qs_service.specs.declared.service.ServiceFault.{ServiceFault}
+use Rattle.qs_service_connections.specs.Meaning.{RequestMeaning}
+use Rattle.qs_service_connections.specs.Message.{Message}
+use Rattle.qs_service_connections.specs.State.{State, reply_at}
+use Rattle.qs_service_connections.specs.Step.{Event, Step}
+use Rattle.qs_service_connections.specs.declared.fault.ServiceFault.{ServiceFault}
 use Rattle.qs_service_replay.specs.ScriptEvents.{event_of}
 use Rattle.qs_service_replay.specs.Replay.{told, Tells, reply_line, made_line}
 use Rattle.qs_service_replay.specs.inner.Told.{HadReply}
@@ -17,17 +17,17 @@ use Rattle.qs_service_replay.specs.declared.script_event.ScriptEvent.TheVariants
 use Rattle.qs_service_replay.proofs.Digits.{hex_of_parts}
 
 -- the text is told, where it is made
-pub tells_of : (r : Result (String Global) AllocError) (m : Meaning) (old new : State) (n : ℕ) (event : Event) (outcome : Option ServiceFault) (text : List ℕ) → Step m old event outcome new → text ≡ told n old event outcome new
-    → IfOk r (λ t. string_bytes t ≡ text) → MatchResult r (λ t. Tells m old n event new (string_bytes t)) (λ _. (x : List ℕ) × Tells m old n event new x)
-tells_of (Ok t) m old new n event outcome text step is made = (outcome, step, made ∙ is)
-tells_of (Err e) m old new n event outcome text step is made = (text, (outcome, step, is))
+pub tells_of : {S : Type 0} (r : Result (String Global) AllocError) (carries : RequestMeaning S) (old new : State S) (n : ℕ) (event : Event) (outcome : Option ServiceFault) (text : List ℕ) → Step carries old event outcome new → text ≡ told n old event outcome new
+    → IfOk r (λ t. string_bytes t ≡ text) → MatchResult r (λ t. Tells carries old n event new (string_bytes t)) (λ _. (x : List ℕ) × Tells carries old n event new x)
+tells_of (Ok t) carries old new n event outcome text step is made = (outcome, step, made ∙ is)
+tells_of (Err e) carries old new n event outcome text step is made = (text, (outcome, step, is))
 
 none_there : (o : Option Message) → is_some o ≡ false → o ≡ None
 none_there None is = refl
 none_there (Some reply) is = absurd (cc)
 
 -- a reply that stands now and stood not before
-pub made_now : (event : ScriptEvent) (id : ℕ) (bytes : Vec ℕ Global) (old new : State) (n : ℕ) (reply : Message) (had : Bool) → event ≡ happening.Piece id bytes → HadReply old (event_of event) had → had ≡ false
+pub made_now : {S : Type 0} (event : ScriptEvent) (id : ℕ) (bytes : Vec ℕ Global) (old new : State S) (n : ℕ) (reply : Message) (had : Bool) → event ≡ happening.Piece id bytes → HadReply old (event_of event) had → had ≡ false
     → Some reply ≡ reply_at id new.joined → reply_line id reply ≡ told n old (event_of event) None new
 made_now event id bytes old new n reply had is before none now =
     let gone : reply_at id old.joined ≡ None = none_there (reply_at id old.joined) (subst (λ (h : ScriptEvent). HadReply old (event_of h) had) is before ∙ none) in
@@ -36,9 +36,9 @@ made_now event id bytes old new n reply had is before none now =
     (subst (λ (o : Option Message). reply_line id reply ≡ made_line id None o) now refl))
 
 -- the line of a reply, made of its parts
-pub line_of_parts : (id : ℕ) (reply : Message) (start front body line : List ℕ) → start ≡ codes "reply " ++ (decimal id ++ 32 ∷ []) → front ≡ start ++ encode_lower reply.front → body ≡ front ++ encode_lower reply.body → line ≡ body ++ 10 ∷ []
+pub line_of_parts : (id : ℕ) (reply : Message) (start head body line : List ℕ) → start ≡ codes "reply " ++ (decimal id ++ 32 ∷ []) → head ≡ start ++ encode_lower reply.head → body ≡ head ++ encode_lower reply.body → line ≡ body ++ 10 ∷ []
     → line ≡ reply_line id reply
-line_of_parts id reply start front body line is_start is_front is_body is_line =
+line_of_parts id reply start head body line is_start is_head is_body is_line =
     is_line
-    ∙ (ap (λ (l : List ℕ). l ++ 10 ∷ []) (is_body ∙ ap (λ (l : List ℕ). l ++ encode_lower reply.body) (is_front ∙ ap (λ (l : List ℕ). l ++ encode_lower reply.front) is_start))
+    ∙ (ap (λ (l : List ℕ). l ++ 10 ∷ []) (is_body ∙ ap (λ (l : List ℕ). l ++ encode_lower reply.body) (is_head ∙ ap (λ (l : List ℕ). l ++ encode_lower reply.head) is_start))
     ∙ simp (append_assoc, hex_of_parts))

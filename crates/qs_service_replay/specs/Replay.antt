@@ -1,12 +1,12 @@
 -- What a run of connection events writes: a line for each reply, when it is made, and one for each event that is refused.
 use Rattle.std.specs.Prelude.{◌≡◌, ◌+◌, ℕ, List, [], ◌∷◌, ◌++◌, codes, decimal, Option, None, Some}
 use Rattle.hex.specs.Hex.{encode_lower}
-use Rattle.qs_service.specs.Meaning.{Meaning}
-use Rattle.qs_service.specs.Message.{Message, bytes_of}
-use Rattle.qs_service.specs.State.{State, reply_at}
-use Rattle.qs_service.specs.Step.{Event, Join, Piece, End, Step}
-use Rattle.qs_service.specs.declared.service.ServiceFault.{ServiceFault}
-use Rattle.qs_service.specs.declared.service.ServiceFault.TheVariants.{Busy, KnownId, UnknownId}
+use Rattle.qs_service_connections.specs.Meaning.{RequestMeaning}
+use Rattle.qs_service_connections.specs.Message.{Message, bytes_of}
+use Rattle.qs_service_connections.specs.State.{State, reply_at}
+use Rattle.qs_service_connections.specs.Step.{Event, Join, Piece, End, Step}
+use Rattle.qs_service_connections.specs.declared.fault.ServiceFault.{ServiceFault}
+use Rattle.qs_service_connections.specs.declared.fault.ServiceFault.TheVariants.{Busy, KnownId, UnknownId}
 
 abbrev pub number_of : ServiceFault → ℕ
 number_of Busy = 1
@@ -28,18 +28,18 @@ made_line id None (Some reply) = reply_line id reply
 made_line id (Some before) now = []
 
 -- what is written of the event on line n, by the states before and after it
-abbrev pub told : ℕ → State → Event → Option ServiceFault → State → List ℕ
+abbrev pub told : {S : Type 0} → ℕ → State S → Event → Option ServiceFault → State S → List ℕ
 told n old event (Some fault) new = refused_line n fault
 told n old (Join id) None new = []
 told n old (Piece id piece) None new = made_line id (reply_at id old.joined) (reply_at id new.joined)
 told n old (End id) None new = []
 
 -- one step, and what is written of it
-abbrev pub Tells : Meaning → State → ℕ → Event → State → List ℕ → Type 0
-Tells m old n event new text = (outcome : Option ServiceFault) × Step m old event outcome new × (text ≡ told n old event outcome new)
+abbrev pub Tells : {S : Type 0} → RequestMeaning S → State S → ℕ → Event → State S → List ℕ → Type 0
+Tells carries old n event new text = (outcome : Option ServiceFault) × Step carries old event outcome new × (text ≡ told n old event outcome new)
 
 -- one step after another, and what is written of them, the first event on line n
-abbrev pub Replays : Meaning → State → ℕ → List Event → State → List ℕ → Type 0
-Replays m old n [] new text = (new ≡ old) × (text ≡ [])
-Replays m old n (event ∷ events) new text =
-    (mid : State) × (first rest : List ℕ) × Tells m old n event mid first × Replays m mid (n + 1) events new rest × (text ≡ first ++ rest)
+abbrev pub Replays : {S : Type 0} → RequestMeaning S → State S → ℕ → List Event → State S → List ℕ → Type 0
+Replays carries old n [] new text = (new ≡ old) × (text ≡ [])
+Replays {S} carries old n (event ∷ events) new text =
+    (mid : State S) × (first rest : List ℕ) × Tells carries old n event mid first × Replays carries mid (n + 1) events new rest × (text ≡ first ++ rest)

@@ -3,7 +3,7 @@ use Rattle.std.specs.Prelude.{◌≡◌, ◌≢◌, ◌<◌, ◌^◌, ◌+◌, �
 use Rattle.std.specs.List.{All, AllZip}
 use Rattle.std.specs.Str.Parse.{IsNumeral, digits_value}
 use Rattle.hex.specs.Hex.{decode_of}
-use Rattle.qs_service.specs.Step.{Event, Join, Piece, End}
+use Rattle.qs_service_connections.specs.Step.{Event, Join, Piece, End}
 use Rattle.qs_service_replay.specs.declared.script.ScriptFault.{ScriptFault}
 use Rattle.qs_service_replay.specs.declared.script.ScriptFault.TheVariants.{Line, Memory}
 

@@ -1,5 +1,5 @@
 -- The events that happenings are.
-use Rattle.qs_service.specs.Step.{Event, Join, Piece, End}
+use Rattle.qs_service_connections.specs.Step.{Event, Join, Piece, End}
 use Rattle.qs_service_replay.specs.declared.script_event.ScriptEvent.{ScriptEvent}
 use Rattle.qs_service_replay.specs.declared.script_event.ScriptEvent.TheVariants as happening
 

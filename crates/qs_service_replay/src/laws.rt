@@ -1,7 +1,7 @@
 //! Laws of scripts.
 
 ghost use Rattle.std.specs.Prelude.{◌≡◌, ℕ, List};
-ghost use Rattle.qs_service.specs.Step.{Event};
+ghost use Rattle.qs_service_connections.specs.Step.{Event};
 ghost use Rattle.qs_service_replay.specs.Script.{IsScript, IsOtherLine};
 
 /// A text is a script of one list of events at most; one that has a line that tells no event is none; and one line of a text at most is the

@@ -1,7 +1,7 @@
-//! Scripts of connection events, and the run of a script's events over a service.
+//! Scripts of connection events, and the run of a script's events over connections.
 //!
 //! `read_script` reads the events that the lines of a text tell: `join <id>`, `piece <id> <hex>` and `end <id>`. `replay` carries events
-//! out over a service, and puts a line for each reply, when it is made, and for each event that is refused.
+//! out over connections, and puts a line for each reply, when it is made, and for each event that is refused.
 //!
 //! The definitions stand in `specs/`: the text of a script in `Script.antt`, what a run of events writes in `Replay.antt`, and what a sink
 //! took of it in `Replayed.antt`.

@@ -1,13 +1,12 @@
 //! The run of a script's events.
 
 ghost use Rattle.std.specs.Prelude.{◌^◌, ◌<◌, map};
-ghost use Rattle.qs_service.specs.Meaning.{sparql};
 ghost use Rattle.qs_service_replay.specs.ScriptEvents.{event_of};
 ghost use Rattle.qs_service_replay.specs.Replayed.{IsReplayed};
 
 use crate::script_event::ScriptEvent;
 use crate::told::told;
-use qs_service::Service;
+use qs_service_connections::{Connections, Meaning};
 use qs_terms::{Sink, put_all};
 use std::alloc::Global;
 
@@ -18,7 +17,7 @@ pub enum ReplayEnd {
     All,
     /// The sink failed in the line of the last event that was carried out.
     SinkFailed,
-    /// Memory ran out for the line of the last event that was carried out.
+    /// Out of memory for the line of the last event that was carried out.
     OutOfMemory,
 }
 
@@ -29,20 +28,20 @@ pub struct Replayed {
     pub written: u128,
 }
 
-/// Carries the events out, and puts a line for each reply, when it is made, and for each event that is refused. It stops where the
-/// sink fails, and where memory runs out for a line.
-pub fn replay<S: Sink>(
+/// How the run of the events ended: they are carried out, and a line is put for each reply, when it is made, and for each event that is
+/// refused. It stops where the sink fails, and where it is out of memory for a line.
+pub fn replay<M: Meaning, S: Sink>(
     alloc: Global,
-    service: &mut Service,
+    connections: &mut Connections<M>,
     events: &[ScriptEvent],
     out: &mut S,
 ) -> Replayed
-    ensures replayed { IsReplayed sparql service.old (map event_of events.now) (S.taken out.old) (S.taken out.new) (S.faults out.old) (S.faults out.new) service.new result.end result.written }
+    ensures replayed { IsReplayed M.carries connections.old (map event_of events.now) (S.taken out.old) (S.taken out.new) (S.faults out.old) (S.faults out.new) connections.new result.end result.written }
     ensures fits { result.written < 2 ^ 127 }
 {
     let mut written: u128 = 0;
     for (i, event) in events.iter().enumerate() {
-        let line = match told(alloc, service, i + 1, event) {
+        let line = match told(alloc, connections, i + 1, event) {
             Ok(line) => line,
             Err(_) => return Replayed {
                 end: ReplayEnd::OutOfMemory,

@@ -3,23 +3,25 @@
 ghost use Rattle.std.specs.Prelude.{◌≡◌, ◌++◌, List, ℕ, IfOk, MatchResult, string_bytes};
 ghost use Rattle.std.specs.Result.{result_err};
 ghost use Rattle.hex.specs.Hex.{encode_lower};
-ghost use Rattle.qs_service.specs.Meaning.{sparql};
-ghost use Rattle.qs_service.specs.Step.{Step};
+ghost use Rattle.qs_service_connections.specs.Step.{Step};
 ghost use Rattle.qs_service_replay.specs.ScriptEvents.{event_of};
 ghost use Rattle.qs_service_replay.specs.Replay as spec;
 ghost use Rattle.qs_service_replay.specs.inner.Told.{HadReply};
 
 use crate::script_event::ScriptEvent;
-use qs_service::{Reply, Service, ServiceFault};
+use qs_service_connections::{Connections, Meaning, Reply, ServiceFault};
 use std::alloc::{AllocError, Global};
 
-fn carry_out(service: &mut Service, event: &ScriptEvent) -> Result<(), ServiceFault>
-    ensures { Step sparql service.old (event_of event.now) (result_err result) service.new }
+fn carry_out<M: Meaning>(
+    connections: &mut Connections<M>,
+    event: &ScriptEvent,
+) -> Result<(), ServiceFault>
+    ensures { Step M.carries connections.old (event_of event.now) (result_err result) connections.new }
 {
     match event {
-        ScriptEvent::Join(id) => service.join_conn(*id),
-        ScriptEvent::Piece(id, bytes) => service.piece(*id, bytes.as_slice()),
-        ScriptEvent::End(id) => service.end_conn(*id),
+        ScriptEvent::Join(id) => connections.join_conn(*id),
+        ScriptEvent::Piece(id, bytes) => connections.piece(*id, bytes.as_slice()),
+        ScriptEvent::End(id) => connections.end_conn(*id),
     }
 }
 
@@ -62,41 +64,41 @@ fn reply_line(alloc: Global, id: u64, reply: &Reply) -> Result<String, AllocErro
     ensures { IfOk result (λ text. string_bytes text ≡ spec.reply_line id reply.now) }
 {
     let mut line = format!(in alloc; "reply {id} ")?;
-    push_hex(alloc, &mut line, reply.front())?;
+    push_hex(alloc, &mut line, reply.head())?;
     push_hex(alloc, &mut line, reply.body())?;
     line.push('\n')?;
     Ok(line)
 }
 
 // Whether the connection of a piece has its reply already.
-fn has_reply(service: &Service, event: &ScriptEvent) -> bool
-    ensures { HadReply service.now (event_of event.now) result }
+fn has_reply<M: Meaning>(connections: &Connections<M>, event: &ScriptEvent) -> bool
+    ensures { HadReply connections.now (event_of event.now) result }
 {
     match event {
         ScriptEvent::Join(_) => false,
-        ScriptEvent::Piece(id, _) => service.reply(*id).is_some(),
+        ScriptEvent::Piece(id, _) => connections.reply(*id).is_some(),
         ScriptEvent::End(_) => false,
     }
 }
 
-/// Carries the event out, which stands on that line, and tells what is written of it. Where memory runs out for that, the event is
+/// What is written of the event, which stands on that line, and is carried out. Where it is out of memory for the text, the event is
 /// carried out all the same.
-pub(crate) fn told(
+pub(crate) fn told<M: Meaning>(
     alloc: Global,
-    service: &mut Service,
+    connections: &mut Connections<M>,
     line: usize,
     event: &ScriptEvent,
 ) -> Result<String, AllocError>
-    ensures { MatchResult result (λ text. spec.Tells sparql service.old line (event_of event.now) service.new (string_bytes text))
-        (λ _. (text : List ℕ) × spec.Tells sparql service.old line (event_of event.now) service.new text) }
+    ensures { MatchResult result (λ text. spec.Tells M.carries connections.old line (event_of event.now) connections.new (string_bytes text))
+        (λ _. (text : List ℕ) × spec.Tells M.carries connections.old line (event_of event.now) connections.new text) }
 {
-    let had = has_reply(service, event);
-    match carry_out(service, event) {
+    let had = has_reply(connections, event);
+    match carry_out(connections, event) {
         Ok(()) => {}
         Err(fault) => return refused_line(alloc, line, fault),
     }
     match event {
-        ScriptEvent::Piece(id, _) if !had => match service.reply(*id) {
+        ScriptEvent::Piece(id, _) if !had => match connections.reply(*id) {
             Some(reply) => reply_line(alloc, *id, reply),
             None => Ok(String::new(alloc)),
         },

@@ -9,9 +9,10 @@ use Rattle.qs_terms.specs.declared.fault.QFault.TheVariants as fault
 use Rattle.qs_results.specs.Lines.{fault_line}
 use Rattle.qs_store.specs.Content.{Content}
 use Rattle.qs_store.specs.declared.default_graph.DefaultGraph.{DefaultGraph}
-use Rattle.qs_service.specs.Meaning.{sparql}
+use Rattle.qs_service.specs.Carried.{Carries}
+use Rattle.qs_service.specs.Language.{sparql}
 use Rattle.qs_service.specs.State.{State}
-use Rattle.qs_service.specs.Step.{Event}
+use Rattle.qs_service_connections.specs.Step.{Event}
 use Rattle.qs_service_replay.specs.Replayed.{StopsAt, IsReplayed}
 use Rattle.qs_service_replay.specs.Script.{IsScript, IsOtherLine}
 use Rattle.qs_service_replay.specs.declared.run.ReplayEnd.{ReplayEnd}
@@ -58,14 +59,14 @@ appends_both (Some a) (Some b) (Some c) x y p q = q ∙ (ap (λ (l : List ℕ). 
 
 module _ (old : State) (events : List Event) where
   -- the sink failed
-  pub ran_short : (taken taken2 : Option (List ℕ)) (faults faults2 : ℕ) (new : State) (written : ℕ) (end : ReplayEnd) → end ≡ SinkFailed → IsReplayed sparql old events taken taken2 faults faults2 new end written
+  pub ran_short : (taken taken2 : Option (List ℕ)) (faults faults2 : ℕ) (new : State) (written : ℕ) (end : ReplayEnd) → end ≡ SinkFailed → IsReplayed (Carries sparql) old events taken taken2 faults faults2 new end written
       → Runs (IsDueOfEvents old events) (IsBegunOfEvents old events) taken taken2 faults faults2 (record { status = 1; written = written })
   ran_short taken taken2 faults faults2 new written end is ended =
-      let h = subst (λ (e : ReplayEnd). IsReplayed sparql old events taken taken2 faults faults2 new e written) is ended in
+      let h = subst (λ (e : ReplayEnd). IsReplayed (Carries sparql) old events taken taken2 faults faults2 new e written) is ended in
       inr (h.0 ++ h.1, inr (new, h.0, h.1, h.2, refl), h.4, h.5, refl, h.6)
 
   module _ (taken taken1 taken2 : Option (List ℕ)) (faults faults1 faults2 : ℕ) (new : State) (written : ℕ) where
-    memory_after : (r : Ran) → IsReplayed sparql old events taken taken1 faults faults1 new OutOfMemory written → Prints memory_line 1 taken1 taken2 faults1 faults2 r
+    memory_after : (r : Ran) → IsReplayed (Carries sparql) old events taken taken1 faults faults1 new OutOfMemory written → Prints memory_line 1 taken1 taken2 faults1 faults2 r
         → Runs (IsDueOfEvents old events) (IsBegunOfEvents old events) taken taken2 faults faults2 (record { status = 1; written = written + r.written })
     memory_after r h p = at p.2
       where
@@ -92,10 +93,10 @@ module _ (old : State) (events : List Event) where
             )
 
     -- out of memory, whose line is put after
-    pub ran_out_of_memory : (end : ReplayEnd) (r : Ran) (bytes : List ℕ) → end ≡ OutOfMemory → bytes ≡ memory_line → IsReplayed sparql old events taken taken1 faults faults1 new end written → Prints bytes 1 taken1 taken2 faults1 faults2 r
+    pub ran_out_of_memory : (end : ReplayEnd) (r : Ran) (bytes : List ℕ) → end ≡ OutOfMemory → bytes ≡ memory_line → IsReplayed (Carries sparql) old events taken taken1 faults faults1 new end written → Prints bytes 1 taken1 taken2 faults1 faults2 r
         → Runs (IsDueOfEvents old events) (IsBegunOfEvents old events) taken taken2 faults faults2 (record { status = 1; written = written + r.written })
     ran_out_of_memory end r bytes is put ended prints =
-        memory_after r (subst (λ (e : ReplayEnd). IsReplayed sparql old events taken taken1 faults faults1 new e written) is ended) (subst (λ (l : List ℕ). Prints l 1 taken1 taken2 faults1 faults2 r) put prints)
+        memory_after r (subst (λ (e : ReplayEnd). IsReplayed (Carries sparql) old events taken taken1 faults faults1 new e written) is ended) (subst (λ (l : List ℕ). Prints l 1 taken1 taken2 faults1 faults2 r) put prints)
 
 module _ (old : State) (script : List ℕ) where
   -- what is due of the events is due of the script
@@ -128,7 +129,7 @@ module _ (choice : DefaultGraph) (file script : List ℕ) where
   pub replay_begun : (c : Content) (state : State) → state ≡ service_over choice c → IsLoaded file (Ok c) → (bytes : List ℕ) → IsScriptBegun state script bytes → IsReplayBegun choice file script bytes
   replay_begun c state is loaded bytes (inl h) = inl (h.0, replay_due c state is loaded bytes h.0 h.1)
   replay_begun c state is loaded bytes (inr h) =
-      inr (c, h.0, h.1, h.2, h.3, loaded, h.4, subst (λ (o : State). StopsAt sparql o h.0 h.1 h.2 h.3) is h.5, h.6)
+      inr (c, h.0, h.1, h.2, h.3, loaded, h.4, subst (λ (o : State). StopsAt (Carries sparql) o h.0 h.1 h.2 h.3) is h.5, h.6)
 
   pub refusal_due : (r : Refusal) → IsRefusalOf file r → IsReplayDue choice file script (refusal_text r) 1
   refusal_due (Data f) is = inr (inr (f, is, refl, refl))

@@ -8,7 +8,7 @@ use Rattle.qs_store_load.specs.declared.fault.LoadFault.TheVariants.{Text, Store
 use Rattle.qs_store.specs.Visible.{visible}
 use Rattle.qs_query.specs.Outcome.{IsOutcomeOfText}
 use Rattle.qs_query_forms.specs.Sequence.{dataset_of}
-use Rattle.qs_service.specs.Meaning.{sparql}
+use Rattle.qs_service.specs.Language.{sparql}
 use Rattle.qs_store.specs.Content.{Held, Content}
 use Rattle.qs_store.specs.Same.{SameSet}
 use Rattle.qs_store.specs.declared.default_graph.DefaultGraph.{DefaultGraph}

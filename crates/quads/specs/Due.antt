@@ -22,9 +22,10 @@ use Rattle.qs_update.specs.declared.effect.Effect.{Effect}
 use Rattle.qs_results.specs.Json.{json_of}
 use Rattle.qs_results.specs.Lines.{fault_line, data_fault_line}
 use Rattle.qs_results.specs.Triples.{ntriples_of}
-use Rattle.qs_service.specs.Meaning.{sparql}
+use Rattle.qs_service.specs.Carried.{Carries}
+use Rattle.qs_service.specs.Language.{sparql}
 use Rattle.qs_service.specs.State.{State}
-use Rattle.qs_service.specs.Step.{Event}
+use Rattle.qs_service_connections.specs.Step.{Event}
 use Rattle.qs_service_replay.specs.Replay.{Replays}
 use Rattle.qs_service_replay.specs.Replayed.{StopsAt}
 use Rattle.qs_service_replay.specs.Script.{IsScript, IsOtherLine}
@@ -157,7 +158,7 @@ IsDueOfMemory bytes status = (bytes ≡ line (fault_line fault.Memory)) × (stat
 
 -- a service over what a store with this default graph holds, with no connection
 abbrev pub service_over : DefaultGraph → Content → State
-service_over choice c = record { stored = c; bounds = bounds choice; joined = [] }
+service_over choice c = record { stored = record { content = c; bounds = bounds choice }; joined = [] }
 
 -- the line of a text that is no script
 abbrev pub script_line : ℕ → List ℕ
@@ -167,8 +168,8 @@ script_line n = codes "script line " ++ decimal n
 -- running out of memory, which was wanting for what that one writes
 abbrev pub IsDueOfEvents : State → List Event → List ℕ → ℕ → Type 0
 IsDueOfEvents old events bytes status =
-    ((new : State) × Replays sparql old 1 events new bytes × (status ≡ 0))
-    ⊎ ((new : State) × (text rest : List ℕ) × StopsAt sparql old events new text rest × (bytes ≡ text ++ line (fault_line fault.Memory)) × (status ≡ 1))
+    ((new : State) × Replays (Carries sparql) old 1 events new bytes × (status ≡ 0))
+    ⊎ ((new : State) × (text rest : List ℕ) × StopsAt (Carries sparql) old events new text rest × (bytes ≡ text ++ line (fault_line fault.Memory)) × (status ≡ 1))
 
 -- the text is a script, and this is printed of its events; or it is none, nothing is run, and this is the line of the first line that
 -- tells no event
@@ -189,7 +190,7 @@ IsDueOfReplay choice file script bytes status = (first : Outcome Content) × IsL
 abbrev pub IsBegunOfReplay : DefaultGraph → List ℕ → List ℕ → List ℕ → Type 0
 IsBegunOfReplay choice file script bytes =
     (c : Content) × (events : List Event) × (new : State) × (text rest : List ℕ) × IsLoaded file (Ok c) × IsScript script events
-    × StopsAt sparql (service_over choice c) events new text rest × (bytes ≡ text ++ rest)
+    × StopsAt (Carries sparql) (service_over choice c) events new text rest × (bytes ≡ text ++ rest)
 
 -- ---- what is due of a job
 

@@ -11,7 +11,7 @@ ghost use Rattle.quads.specs.inner.Load.{BecomesStored};
 use crate::refusal::{Refusal, refusal_of};
 use crate::result::MAX_ROWS;
 use qs_base::drop_value;
-use qs_service::Service;
+use qs_service::{OverStore, Service};
 use qs_store::{DefaultGraph, Store};
 use qs_store_load::{LoadFault, load};
 use qs_terms::QFault;

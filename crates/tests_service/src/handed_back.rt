@@ -1,7 +1,7 @@
 //! The store that a service is made over, and that is handed back where the service can't be made.
 
 use crate::outcome::Outcome;
-use qs_service::Service;
+use qs_service::{OverStore, Service};
 use qs_store::Store;
 use std::alloc::Global;
 use std::hash::RandomState;

@@ -2,7 +2,7 @@
 
 use crate::outcome::Outcome;
 use qs_http::{Fixed, fixed};
-use qs_service::Service;
+use qs_service::{OverStore, Service};
 use qs_store::Store;
 use std::alloc::Global;
 use std::hash::RandomState;
@@ -40,7 +40,7 @@ pub fn service(alloc: Global, hasher: Option<RandomState>) -> Option<Service> {
 
 fn is_reply(service: &Service, id: u64, due: &[u8]) -> bool {
     match service.reply(id) {
-        Some(reply) => match due.strip_prefix(reply.front()) {
+        Some(reply) => match due.strip_prefix(reply.head()) {
             Some(body) => body == reply.body(),
             None => false,
         },

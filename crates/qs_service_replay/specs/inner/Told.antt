@@ -4,8 +4,8 @@ use Rattle.std.specs.List.{AllZip}
 use Rattle.std.specs.Option.{is_some}
 use Rattle.hex.specs.Hex.{decode_of}
 use Rattle.qs_service_replay.specs.Script.{IsId, IsLine, AreLines, TellsEvent}
-use Rattle.qs_service.specs.State.{State, reply_at}
-use Rattle.qs_service.specs.Step.{Event, Join, Piece, End}
+use Rattle.qs_service_connections.specs.State.{State, reply_at}
+use Rattle.qs_service_connections.specs.Step.{Event, Join, Piece, End}
 use Rattle.qs_service_replay.specs.ScriptEvents.{event_of}
 use Rattle.qs_service_replay.specs.declared.script_event.ScriptEvent.{ScriptEvent}
 use Rattle.qs_service_replay.specs.declared.script.ScriptFault.{ScriptFault}
@@ -31,7 +31,7 @@ IsToldAt line number (Err (Line n)) = (n ≡ number) × (¬ TellsEvent line)
 IsToldAt line number (Err Memory) = Unit {0}
 
 -- whether the connection of a piece has its reply already
-abbrev pub HadReply : State → Event → Bool → Type 0
+abbrev pub HadReply : {S : Type 0} → State S → Event → Bool → Type 0
 HadReply old (Join id) had = had ≡ false
 HadReply old (Piece id piece) had = is_some (reply_at id old.joined) ≡ had
 HadReply old (End id) had = had ≡ false

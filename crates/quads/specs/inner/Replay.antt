@@ -1,8 +1,9 @@
 -- The steps of a replay.
 use Rattle.std.specs.Prelude.{◌≡◌, ◌⊎◌, ◌++◌, ℕ, List, Option, Result}
-use Rattle.qs_service.specs.Meaning.{sparql}
+use Rattle.qs_service.specs.Carried.{Carries}
+use Rattle.qs_service.specs.Language.{sparql}
 use Rattle.qs_service.specs.State.{State}
-use Rattle.qs_service.specs.Step.{Event}
+use Rattle.qs_service_connections.specs.Step.{Event}
 use Rattle.qs_service_replay.specs.Replayed.{StopsAt}
 use Rattle.qs_service_replay.specs.Script.{IsScript}
 use Rattle.qs_store.specs.declared.default_graph.DefaultGraph.{DefaultGraph}
@@ -14,7 +15,7 @@ use Rattle.quads.specs.declared.refusal.Refusal.{Refusal}
 
 abbrev pub IsBegunOfEvents : State → List Event → List ℕ → Type 0
 IsBegunOfEvents old events bytes =
-    ((status : ℕ) × IsDueOfEvents old events bytes status) ⊎ ((new : State) × (text rest : List ℕ) × StopsAt sparql old events new text rest × (bytes ≡ text ++ rest))
+    ((status : ℕ) × IsDueOfEvents old events bytes status) ⊎ ((new : State) × (text rest : List ℕ) × StopsAt (Carries sparql) old events new text rest × (bytes ≡ text ++ rest))
 
 abbrev pub IsScriptDue : State → List ℕ → List ℕ → ℕ → Type 0
 IsScriptDue old script bytes status = IsDueOfScript old script bytes status ⊎ IsDueOfMemory bytes status
@@ -22,7 +23,7 @@ IsScriptDue old script bytes status = IsDueOfScript old script bytes status ⊎ 
 abbrev pub IsScriptBegun : State → List ℕ → List ℕ → Type 0
 IsScriptBegun old script bytes =
     ((status : ℕ) × IsScriptDue old script bytes status)
-    ⊎ ((events : List Event) × (new : State) × (text rest : List ℕ) × IsScript script events × StopsAt sparql old events new text rest × (bytes ≡ text ++ rest))
+    ⊎ ((events : List Event) × (new : State) × (text rest : List ℕ) × IsScript script events × StopsAt (Carries sparql) old events new text rest × (bytes ≡ text ++ rest))
 
 abbrev pub IsReplayDue : DefaultGraph → List ℕ → List ℕ → List ℕ → ℕ → Type 0
 IsReplayDue choice file script bytes status = IsDueOfReplay choice file script bytes status ⊎ (IsDueOfMemory bytes status ⊎ IsDueOfData file bytes status)

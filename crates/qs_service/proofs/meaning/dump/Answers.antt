@@ -1,7 +1,0 @@
-use Rattle.std.proofs.Common.{string_bytes}
-use Rattle.qs_service.proofs.Meanings.{written}
-use Rattle.qs_service.proofs.meaning.dump.Goals as goal
-
-pub returns : goal.returns
-returns c =
-    written string_bytes c.args.store.now.base c.in_ok-quads.quads.items c.as_slice.result.now c.text.result c.in_ok-quads.ensures c.as_slice.ensures.value c.text.ensures

@@ -1,0 +1,7 @@
+pub mod Message
+pub mod Meaning
+pub mod State
+pub mod Step
+pub mod Serve
+pub mod Bytes
+pub mod inner

@@ -1,0 +1,57 @@
+-- What connections keep: what is stored, and the joined connections.
+use Rattle.std.specs.Prelude.{◌+◌, ◌-◌, ◌==◌, ℕ, ltb, List, [], ◌∷◌, length, take, drop, Option, None, Some, if◌then◌else◌}
+use Rattle.qs_service_connections.specs.Message.{Message}
+
+-- how far a connection has come: the bytes so far, or its reply and how many of its bytes were taken
+pub data Exchange : Type 0 where
+  Reading : (bytes : List ℕ) → Exchange
+  Answered : (reply : Message) → (taken : ℕ) → Exchange
+
+pub record Joined : Type 0 where
+  pub id : ℕ
+  pub exchange : Exchange
+
+-- what is stored, with what is fixed for requests, and the joined connections
+pub record State (S : Type 0) : Type 0 where
+  pub stored : S
+  pub joined : List Joined
+
+-- how far the connection of that id has come
+abbrev pub exchange_of : ℕ → List Joined → Option Exchange
+exchange_of id [] = None
+exchange_of id (c ∷ joined) = if c.id == id then Some c.exchange else exchange_of id joined
+
+-- that in place of what denoted that id
+abbrev pub put_exchange : ℕ → Exchange → List Joined → List Joined
+put_exchange id exchange [] = []
+put_exchange id exchange (c ∷ joined) = if c.id == id then record c { exchange = exchange } ∷ joined else c ∷ put_exchange id exchange joined
+
+-- the other connections
+abbrev pub without_id : ℕ → List Joined → List Joined
+without_id id [] = []
+without_id id (c ∷ joined) = if c.id == id then joined else c ∷ without_id id joined
+
+-- the reply, where it stands
+abbrev pub reply_in : Option Exchange → Option Message
+reply_in None = None
+reply_in (Some (Reading bytes)) = None
+reply_in (Some (Answered reply taken)) = Some reply
+
+abbrev pub reply_at : ℕ → List Joined → Option Message
+reply_at id joined = reply_in (exchange_of id joined)
+
+-- the next n bytes of a reply of which so many were taken, or all that are left: those of its head, and once these are taken those of its
+-- body
+abbrev pub next_of : ℕ → Message → ℕ → List ℕ
+next_of n reply taken =
+    if ltb taken (length reply.head) then take n (drop taken reply.head) else take n (drop (taken - length reply.head) reply.body)
+
+-- none while there is no reply
+abbrev pub next_bytes : ℕ → Exchange → List ℕ
+next_bytes n (Reading bytes) = []
+next_bytes n (Answered reply taken) = next_of n reply taken
+
+-- these are taken, and nothing else changes
+abbrev pub with_taken : ℕ → Exchange → Exchange
+with_taken n (Reading bytes) = Reading bytes
+with_taken n (Answered reply taken) = Answered reply (taken + length (next_of n reply taken))

@@ -1,0 +1,53 @@
+-- What a connection denotes.
+use Rattle.std.specs.Prelude.{◌≡◌, ◌≤◌, ◌-◌, ℕ, List, [], ◌++◌, length, take, drop, Option, None, Some}
+use Rattle.qs_http.specs.Feeding.{Seen, Reading, Done}
+use Rattle.qs_http.specs.Outcome.{More}
+use Rattle.qs_http.specs.RequestOf.{IsRequestOf}
+use Rattle.qs_service_connections.specs.Meaning.{RequestMeaning}
+use Rattle.qs_service_connections.specs.Message.{Message, bytes_of}
+use Rattle.qs_service_connections.specs.State as state
+use Rattle.qs_service_connections.specs.State.{Exchange}
+use Rattle.qs_service_connections.specs.Step.{Receives}
+use Rattle.qs_service_connections.specs.declared.part.Part.{Part}
+use Rattle.qs_service_connections.specs.declared.part.Part.TheVariants.{Head, Body}
+use Rattle.qs_service_connections.specs.declared.receive.ConnectionState.{ConnectionState}
+use Rattle.qs_service_connections.specs.declared.receive.ConnectionState.TheVariants as connection
+
+abbrev pub exchange_seen : Seen → Exchange
+exchange_seen (Reading bytes) = state.Reading bytes
+exchange_seen (Done outcome) = state.Reading []
+
+abbrev pub exchange_in : ConnectionState → Exchange
+exchange_in (connection.Reading session) = exchange_seen session
+exchange_in (connection.Answered reply taken) = state.Answered reply taken
+
+-- a session with an outcome is kept no longer; no more is taken than there is
+abbrev pub IsReading : Seen → Type 0
+IsReading (Reading bytes) = Unit {0}
+IsReading (Done outcome) = ⊥
+
+abbrev pub IsConnectionState : ConnectionState → Type 0
+IsConnectionState (connection.Reading session) = IsReading session
+IsConnectionState (connection.Answered reply taken) = taken ≤ length (bytes_of reply)
+
+-- a piece is received while the request is read: it isn't whole yet, or its reply is made
+abbrev pub ReceivesOn : {S : Type 0} → RequestMeaning S → S → List ℕ → List ℕ → S → Seen → Option Message → Type 0
+ReceivesOn carries old read piece new seen None = (new ≡ old) × (seen ≡ Reading (read ++ piece)) × IsRequestOf (read ++ piece) More
+ReceivesOn carries old read piece new seen (Some reply) = Receives carries old (state.Reading read) piece new (state.Answered reply 0)
+
+-- the bytes that a session has read
+abbrev pub bytes_read : Seen → List ℕ
+bytes_read (Reading bytes) = bytes
+bytes_read (Done outcome) = []
+
+-- the bytes of a part of the reply
+abbrev pub part_of : Part → Exchange → List ℕ
+part_of part (state.Reading bytes) = []
+part_of Head (state.Answered reply taken) = reply.head
+part_of Body (state.Answered reply taken) = reply.body
+
+-- these bytes stand there in a part of its reply
+pub record IsPart (exchange : Exchange) (part : Part) (from to : ℕ) (bytes : List ℕ) : Type 0 where
+  pub ascends : from ≤ to
+  pub within : to ≤ length (part_of part exchange)
+  pub is : bytes ≡ take (to - from) (drop from (part_of part exchange))
