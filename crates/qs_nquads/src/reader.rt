@@ -120,7 +120,7 @@ impl<'a> Reader<'a> {
     ) -> Result<Reader<'a>, NqFault>
         ensures bytes { IfOk result (λ reader. reader.bytes ≡ bytes.now) }
         ensures read { IfOk result (λ reader. (first : ℕ) → labels ≡ from first → HasRead first [] reader) }
-        ensures fault { IfErr result (λ fault. (fault.kind ≡ Utf8) × ((first : ℕ) → IsFault bytes.now first fault.kind fault.line)) }
+        ensures fault { (first : ℕ) → IfErr result (λ fault. (fault.kind ≡ Utf8) × IsFault bytes.now first fault.kind fault.line) }
     {
         match std::str::from_utf8(bytes) {
             Ok(text) => Ok(Reader {
