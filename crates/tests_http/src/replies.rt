@@ -2,7 +2,7 @@
 
 use crate::outcome::Outcome;
 use http::StatusCode;
-use qs_http::{Fixed, Media, fixed, front, reply};
+use qs_http::{Fixed, Media, fixed, reply, reply_head};
 use std::alloc::{AllocError, Global};
 
 /// Fixed replies, with the status and the line of it, and what stands after `Connection: close`.
@@ -143,7 +143,7 @@ const FRONT: &[u8] =
     b"HTTP/1.1 200 OK\r\nConnection: close\r\nContent-Type: application/n-quads\r\nContent-Length: 176000000\r\n\r\n";
 
 fn is_front_written(alloc: Global) -> bool {
-    match front(alloc, StatusCode::OK, Media::NQuads, 176_000_000) {
+    match reply_head(alloc, StatusCode::OK, Media::NQuads, 176_000_000) {
         Ok(bytes) => bytes.as_slice() == FRONT,
         Err(_) => false,
     }

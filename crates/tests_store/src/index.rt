@@ -1,7 +1,7 @@
 //! The index with orders of the named graphs: five entries, of the default graph, of graph 1 and of the last graph.
 
 use crate::outcome::Outcome;
-use qs_index::{Index, Place, Scan};
+use qs_index::{Index, PagePosition, Scan};
 use std::alloc::{AllocError, Global};
 
 const A: [u32; 4] = [1, 2, 3, 4];
@@ -67,7 +67,7 @@ fn are_found(index: &Index) -> bool {
 const PLACES: &[(usize, usize)] = &[(0, 0), (0, 2), (0, 5), (7, 0)];
 
 /// Whether the same is found from a place.
-fn is_found_from(index: &Index, place: Place) -> bool {
+fn is_found_from(index: &Index, place: PagePosition) -> bool {
     index.has_named()
         && hands_out(index.scan_from(place, 1, None, Some(3), None), &[A, B])
         && hands_out(
@@ -79,7 +79,7 @@ fn is_found_from(index: &Index, place: Place) -> bool {
 /// Whether the same is found from each place.
 fn are_found_from(index: &Index) -> bool {
     for (page, at) in PLACES {
-        let place = Place {
+        let place = PagePosition {
             page: *page,
             at: *at,
         };

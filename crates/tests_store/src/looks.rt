@@ -1,6 +1,6 @@
 //! How many entries a scan looks at, in indexes of four sizes.
 
-use qs_index::{Index, Place, Scan};
+use qs_index::{Index, PagePosition, Scan};
 use std::alloc::{AllocError, Global};
 
 /// Sizes of an index, how many entries have its first predicate, and how many entries a scan looks at besides those that it hands out,
@@ -43,7 +43,7 @@ fn are_few(index: &Index, size: u32, first: u32, bound: u128) -> bool {
 
 /// How many entries are looked at where each of them is looked for from the place of the one before.
 fn looks_of_all(index: &Index, size: u32) -> u128 {
-    let mut place = Place { page: 0, at: 0 };
+    let mut place = PagePosition { page: 0, at: 0 };
     let mut looks: u128 = 0;
     for i in 0..size {
         let mut scan = index.scan_from(place, 0, Some(i / 16), Some(i % 16), Some(i));
