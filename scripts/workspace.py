@@ -85,15 +85,6 @@ def seconds(root, crate):
     return 10 + sum(os.path.getsize(file) for file in texts_of(root, crate) if file.endswith(".rt")) // 150
 
 
-def is_large(root, crate):
-    lines = 0
-    for file in texts_of(root, crate):
-        if file.endswith(".rt"):
-            with open(file, "rb") as it:
-                lines += it.read().count(b"\n")
-    return lines >= 300
-
-
 def free_memory():
     """Returns how many bytes of memory can still be taken."""
     with open("/proc/meminfo", encoding="utf-8") as it:
@@ -176,27 +167,13 @@ def hand_over(root, crate):
             os.replace(f"{to}/{name}.new", f"{to}/{name}")
 
 
-def shares(idle, are_large, is_free):
-    """Returns how many jobs each of the crates that are ready gets where so many processors are idle, in their order; those past the end
-    of the list wait. Of each it is told whether it is large, and besides whether no other crate is being built.
-
-    Each gets one, and the large ones share what is left: to a small one each further job would only load its libraries again. A crate
-    that runs alone gets all, since no other can begin before it ends."""
-    if is_free and len(are_large) == 1:
-        return [idle]
-    are_large = are_large[:idle]
-    spare, large, jobs = idle - len(are_large), sum(are_large), []
-    for is_large_one in are_large:
-        more = -(-spare // large) if is_large_one else 0
-        jobs.append(1 + more)
-        spare, large = spare - more, large - is_large_one
-    return jobs
-
-
 def build(root, crates, folder, words_of, tell):
     """Builds the crates, each after those that it names, and first those with the longest chain of others above them. A crate's
-    command is words_of(crate), its log stands in the folder. Returns the first crate that was not built, or None."""
-    effort, large = {it: seconds(root, it) for it in crates}, {it: is_large(root, it) for it in crates}
+    command is words_of(crate), its log stands in the folder. Returns the first crate that was not built, or None.
+
+    Each crate gets one job, also one that runs alone: each further job loads all that is below once more, so that a crate high in the
+    chain took 300 seconds with four jobs, and 190 with one."""
+    effort = {it: seconds(root, it) for it in crates}
     behind = dict.fromkeys(crates, 0)
     for crate in reversed([*crates]):
         behind[crate] += effort[crate]
@@ -204,10 +181,10 @@ def build(root, crates, folder, words_of, tell):
             behind[it] = max(behind[it], behind[crate])
     left, running, done, most = sorted(crates, key=lambda it: -behind[it]), {}, set(), lanes()
 
-    def prove(crate, jobs):
+    def prove(crate):
         with open(f"{folder}/{crate}.log", "wb") as log:
             at = f"{apart(root, crate)}/crates/{crate}"
-            words = [*words_of(crate)[:2], "--jobs", str(jobs), *words_of(crate)[2:]]
+            words = [*words_of(crate)[:2], "--jobs", "1", *words_of(crate)[2:]]
             status = subprocess.run(words, cwd=at, stdin=subprocess.DEVNULL, stdout=log, stderr=log).returncode
         if not status:
             hand_over(root, crate)
@@ -216,13 +193,12 @@ def build(root, crates, folder, words_of, tell):
     with ThreadPoolExecutor(most) as pool:
         while left or running:
             ready = [it for it in left if done.issuperset(crates[it])]
-            idle = most - sum(jobs for _, jobs in running.values())
-            for crate, jobs in zip(ready, shares(idle, [large[it] for it in ready], not running)):
+            for crate in ready[: most - len(running)]:
                 left.remove(crate)
                 tell(crate, len(left))
-                running[pool.submit(prove, crate, jobs)] = crate, jobs
+                running[pool.submit(prove, crate)] = crate
             for it in wait(running, return_when=FIRST_COMPLETED).done:
-                crate, _ = running.pop(it)
+                crate = running.pop(it)
                 if it.result():
                     wait(running)
                     return crate
