@@ -1,5 +1,5 @@
 -- The numbers of labels are below the next one, which only grows.
-use Rattle.std.proofs.Common.{◌≤◌, ◌<◌, ℕ, ◌+◌, ◌^◌, nat_lt, List, Option, Some, None, Result, Ok, Err, IfOk, IfSome, All, arith, le_refl}
+use Rattle.std.proofs.Common.{◌≤◌, ◌<◌, ℕ, ◌+◌, ◌^◌, nat_lt, List, Option, Some, None, Result, Ok, Err, IfOk, IfSome, arith, le_refl}
 use Rattle.std.specs.Map.{values_of, lookup}
 use Rattle.std.specs.Str.{bytes_eq}
 use Rattle.std.proofs.lemmas.Bool.{cond_both}

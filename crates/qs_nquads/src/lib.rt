@@ -28,5 +28,5 @@ mod written;
 
 pub use crate::fault::{NqFault, NqFaultKind};
 pub use crate::nquads::{read, read_hashed};
-pub use crate::output::{WriteFault, text, write};
+pub use crate::output::{WriteFault, text, text_after, write};
 pub use crate::reader::Reader;

@@ -1,6 +1,6 @@
 //! Quads put into a sink.
 
-ghost use Rattle.std.specs.Prelude.{◌≡◌, ◌<◌, ℕ, List, map, take, length, IfOk, MatchResult, string_bytes};
+ghost use Rattle.std.specs.Prelude.{◌≡◌, ◌<◌, ◌++◌, ℕ, List, map, take, length, IfOk, MatchResult, string_bytes};
 ghost use Rattle.std.specs.Io.KnownBytes.{Appends};
 ghost use Rattle.qs_terms.specs.Device.{one_more};
 ghost use Rattle.qs_nquads.specs.Written.{line, ordered, nquads_of};
@@ -81,24 +81,33 @@ fn count_bytes(lines: &[Line]) -> usize {
     count
 }
 
-/// The lines one after another.
-fn join(alloc: Global, lines: &[Line]) -> Result<Vec<u8>, AllocError>
-    ensures { IfOk result (λ v. v.items ≡ joined lines.now) }
+/// What was written before, and the lines one after another.
+fn join(before: Vec<u8>, lines: &[Line]) -> Result<Vec<u8>, AllocError>
+    ensures { IfOk result (λ v. v.items ≡ before.items ++ joined lines.now) }
 {
-    let mut text = Vec::with_capacity(alloc, count_bytes(lines))?;
+    let mut text = before;
+    text.reserve_exact(count_bytes(lines))?;
     for line in lines {
         text.extend_from_slice(line.as_bytes())?;
     }
     Ok(text)
 }
 
-/// The quads as N-Quads: a line each, ascending by their bytes, equal lines once.
+/// What was written before, and the quads as N-Quads: a line each, ascending by their bytes, equal lines once. The lines stand in memory
+/// beside the text. The one error is running out of memory.
+pub fn text_after(alloc: Global, before: Vec<u8>, quads: &[Quad]) -> Result<Vec<u8>, AllocError>
+    ensures { IfOk result (λ out. out.items ≡ before.items ++ nquads_of quads.now) }
+{
+    let lines = ordered_lines(alloc, quads)?;
+    join(before, lines.as_slice())
+}
+
+/// The quads as N-Quads: a line each, ascending by their bytes, equal lines once. The one error is running out of memory.
 pub fn text(alloc: Global, quads: &[Quad]) -> Result<String, AllocError>
     ensures { IfOk result (λ s. string_bytes s ≡ nquads_of quads.now) }
 {
     lawful_quads(quads);
-    let lines = ordered_lines(alloc, quads)?;
-    let bytes = join(alloc, lines.as_slice())?;
+    let bytes = text_after(alloc, Vec::new(alloc), quads)?;
     match String::from_utf8(bytes) {
         Ok(text) => Ok(text),
         Err(_) => unreachable!(),

@@ -11,6 +11,6 @@ mod solution;
 mod term;
 mod triples;
 
-pub use answer::json;
+pub use answer::{json, json_after};
 pub use line::{data_fault_line, fault_line, fault_status, out_of_memory_line};
-pub use triples::ntriples;
+pub use triples::{ntriples, ntriples_after};

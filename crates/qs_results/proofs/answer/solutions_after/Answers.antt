@@ -1,0 +1,36 @@
+use Rattle.std.proofs.Common.{◌≡◌, ℕ, List, ◌++◌, codes, false, map, append_assoc, ap, ◌∙◌}
+use Rattle.serde_json.specs.View.{items_of}
+use Rattle.serde_json.specs.Written.{compact_text, items_text}
+use Rattle.serde_json.proofs.OnLiterals.{serde_json_on_literals}
+use Rattle.qs_algebra_solutions.specs.Solution.{Solution}
+use Rattle.qs_algebra_solutions.specs.declared.answer.Answer.TheVariants.{Solutions}
+use Rattle.qs_results.specs.Json.{names_data, binding_data, json_of}
+use Rattle.qs_results.proofs.answer.solutions_after.Goals as goal
+
+regroup : (a n b r e : List ℕ) → (((a ++ n) ++ (e ++ b)) ++ r) ++ (e ++ e) ≡ a ++ ((n ++ e) ++ (b ++ ((r ++ e) ++ e)))
+regroup a n b r e = simp append_assoc
+
+-- the parts of the text, one after the other
+whole : (names : List (List ℕ)) (rows : List Solution) → (((codes "{\"head\":{\"vars\":" ++ compact_text (names_data names)) ++ codes "},\"results\":{\"bindings\":[")
+    ++ items_text false (items_of (map (binding_data names) rows))) ++ codes "}}" ≡ compact_text (json_of (Solutions names rows))
+unfolding serde_json_on_literals
+whole names rows =
+    regroup (codes "{\"head\":{\"vars\":") (compact_text (names_data names)) (codes ",\"results\":{\"bindings\":[") (items_text false (items_of (map (binding_data names) rows)))
+    (codes "}")
+
+after : (before a b c d e : List ℕ) → ((((before ++ a) ++ b) ++ c) ++ d) ++ e ≡ before ++ ((((a ++ b) ++ c) ++ d) ++ e)
+after before a b c d e = simp append_assoc
+
+-- each part after those before it
+joined : (names : List (List ℕ)) (rows : List Solution) (before head vars bindings bytes end text : List ℕ) → head ≡ before ++ codes "{\"head\":{\"vars\":" → text ≡ compact_text (names_data names)
+    → vars ≡ head ++ text → bindings ≡ vars ++ codes "},\"results\":{\"bindings\":[" → bytes ≡ bindings ++ items_text false (items_of (map (binding_data names) rows))
+    → end ≡ bytes ++ codes "}}" → end ≡ before ++ compact_text (json_of (Solutions names rows))
+joined names rows before head vars bindings bytes end text e1 e2 e3 e4 e5 e6 =
+    rw (e6, e5, e4, e3, e2, e1)
+    (after before (codes "{\"head\":{\"vars\":") (compact_text (names_data names)) (codes "},\"results\":{\"bindings\":[") (items_text false (items_of (map (binding_data names) rows))) (codes "}}")
+    ∙ ap (λ (l : List ℕ). before ++ l) (whole names rows))
+
+pub returns : goal.returns
+returns c =
+    joined _ _ c.args.before.items _ _ _ _ _ _ c.in_ok-extend_from_slice.ensures.items (c.as_bytes.ensures.value ∙ c.in_ok-names.ensures) c.in_ok-extend_from_slice-2.ensures.items c.in_ok-extend_from_slice-3.ensures.items
+    c.in_ok-text.ensures c.in_ok-extend_from_slice-4.ensures.items
