@@ -16,6 +16,7 @@ mod laws;
 mod media;
 mod parameters;
 mod replies;
+mod reply_buffer;
 mod request;
 mod session;
 mod stage;
@@ -25,6 +26,7 @@ pub use laws::{
     cuts_do_not_matter, requests_are_kept, requests_are_unique, unfinished_requests_are_short,
 };
 pub use media::Media;
-pub use replies::{fixed, reply, reply_head};
+pub use replies::{fixed, reply};
+pub use reply_buffer::{HEAD_ROOM, ReplyBuffer, reply_room};
 pub use request::Request;
 pub use session::{Progress, Session};

@@ -1,14 +1,15 @@
 //! The bytes of replies.
 
-ghost use Rattle.std.specs.Prelude.{◌≡◌, ◌++◌, IfOk};
+ghost use Rattle.std.specs.Prelude.{◌≡◌, ◌++◌, ◌≤◌, IfOk, vec_len};
 ghost use Rattle.qs_http.specs.Reply.{line, phrase_of, status_line, body_fields, head_of, reply_of, fixed_of, IsReplyStatus};
 
 use crate::fixed_reply::Fixed;
 use crate::media::Media;
+use crate::reply_buffer::HEAD_ROOM;
 use http::StatusCode;
 use std::alloc::{AllocError, Global};
 
-/// The whole bytes of a reply with that status, type and body: its `reply_head` and the body. The one error is running out of memory.
+/// The whole bytes of a reply with that status, type and body. The one error is running out of memory.
 pub fn reply(
     alloc: Global,
     status: StatusCode,
@@ -23,16 +24,16 @@ pub fn reply(
     Ok(bytes)
 }
 
-/// The bytes of a reply with that status and type up to its body, which has so many bytes: after them the body can go out from where
-/// it stands, without a copy. `reply` is these bytes and the body. The one error is running out of memory.
-pub fn reply_head(
+/// The bytes of a reply with that status and type up to its body, which has so many bytes.
+pub(crate) fn reply_head(
     alloc: Global,
     status: StatusCode,
     media: Media,
     length: usize,
 ) -> Result<Vec<u8>, AllocError>
     requires { IsReplyStatus status }
-    ensures { IfOk result (λ bytes. bytes.items ≡ head_of status media length) }
+    ensures head { IfOk result (λ bytes. bytes.items ≡ head_of status media length) }
+    ensures fits { IfOk result (λ bytes. vec_len bytes ≤ HEAD_ROOM) }
 {
     let mut bytes = Vec::new(alloc);
     bytes.extend_from_slice(status_text(status).as_bytes())?;

@@ -1,15 +1,17 @@
 -- A reply that was made, or that of out of memory.
-use Rattle.std.proofs.Common.{◌≡◌, ◌∙◌, ℕ, List, sym, subst, refl, Result, Ok, Err, IfOk, inl, inr}
+use Rattle.std.proofs.Common.{◌≡◌, ◌∙◌, ◌++◌, ℕ, List, length, drop, ap, sym, subst, refl, Result, Ok, Err, IfOk, inl, inr}
+use Rattle.std.proofs.Math.Seq.{drop-append_seam}
 use Rattle.qs_terms.specs.declared.fault.QFault.{QFault}
 use Rattle.qs_algebra_solutions.specs.declared.answer.Answer.{Answer}
 use Rattle.qs_http.specs.declared.fixed_reply.Fixed.TheVariants.{NoContent}
+use Rattle.qs_http.specs.declared.media.Media.TheVariants.{NQuads}
 use Rattle.qs_http.specs.declared.request.Request.{Request}
 use Rattle.qs_http.specs.declared.request.Request.TheVariants.{Query, Update, Dump}
 use Rattle.qs_store.specs.Content.{Content}
 use Rattle.qs_update.specs.Outcome.{IsSameContent}
 use Rattle.qs_update.specs.Request.{Bounds}
 use Rattle.qs_service_connections.specs.Meaning.{CarriesOrMemory}
-use Rattle.qs_service_connections.specs.Message.{Message, fixed_message}
+use Rattle.qs_service_connections.specs.Message.{Message, message, fixed_message}
 use Rattle.qs_service.specs.Carried.{Carries, answer_reply, fault_reply}
 use Rattle.qs_service.specs.Language.{Language}
 use Rattle.qs_service.specs.State.{Stored}
@@ -47,3 +49,13 @@ pub dumped_at : {E : Type 0} (l : Language) (old : Stored) (r : Result Message E
     → IfOk r (λ reply. (bounds : Bounds) → CarriesDump l old.content bounds reply) → IfOk r (Carries l old Dump old)
 dumped_at l old (Ok reply) h = h old.bounds
 dumped_at l old (Err e) h = h
+
+-- the dataset's reply, whose body was written after the room
+pub dumped_reply : {E : Type 0} (l : Language) (c : Content) (text body : List ℕ) (r : Result Message E) → l.writes c text → body ≡ text
+    → IfOk r (λ reply. reply ≡ message 200 NQuads body) → IfOk r (λ reply. (bounds : Bounds) → CarriesDump l c bounds reply)
+dumped_reply l c text body (Ok reply) writes is made = λ bounds. (text, writes, refl, made ∙ ap (message 200 NQuads) is)
+dumped_reply l c text body (Err e) writes is made = made
+
+-- what was written after the room, where that has so many bytes
+pub after_room : (size : ℕ) (room text buffer : List ℕ) → length room ≡ size → buffer ≡ room ++ text → drop size buffer ≡ text
+after_room size room text buffer many is = ap (λ (n : ℕ). drop n buffer) (sym many) ∙ ap (drop (length room)) is ∙ drop-append_seam room text

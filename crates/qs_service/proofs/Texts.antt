@@ -1,5 +1,5 @@
 -- From the clauses of queries and updates to what texts mean.
-use Rattle.std.proofs.Common.{◌≡◌, ◌≢◌, ◌∙◌, ap, ℕ, List, Result, Ok, Err, OnOk, OnErr, IfOk, IfErr}
+use Rattle.std.proofs.Common.{◌≡◌, ◌≢◌, ◌∙◌, ◌++◌, ap, refl, ℕ, List, Vec, Global, Result, Ok, Err, OnOk, OnErr, IfOk, IfErr}
 use Rattle.qs_terms.specs.Outcome.{Outcome, OneOrOutOfMemory}
 use Rattle.qs_terms.specs.Statement.{Statement}
 use Rattle.qs_terms.specs.declared.fault.QFault.TheVariants.{Memory}
@@ -29,9 +29,9 @@ unfolding sparql
 changes bounds text old new (Ok done) accepted refused fault = accepted
 changes bounds text old new (Err f) accepted refused fault = (fault, refused)
 
--- the text of the quads, as they are lent
-pub written : {A E : Type 0} (bytes : A → List ℕ) (c : Content) (quads lent : List Statement) (r : Result A E) → SameSet quads c.quads → lent ≡ quads
-    → IfOk r (λ s. bytes s ≡ nquads_of lent) → IfOk r (λ s. sparql.writes c (bytes s))
+-- the text of the quads, as they are lent, after what was written before
+pub written : {E : Type 0} (before : List ℕ) (c : Content) (quads lent : List Statement) (r : Result (Vec ℕ Global) E) → SameSet quads c.quads → lent ≡ quads
+    → IfOk r (λ out. out.items ≡ before ++ nquads_of lent) → IfOk r (λ out. (text : List ℕ) × sparql.writes c text × (out.items ≡ before ++ text))
 unfolding sparql
-written bytes c quads lent (Ok s) same is h = (quads, same, h ∙ ap nquads_of is)
-written bytes c quads lent (Err e) same is h = h
+written before c quads lent (Ok out) same is h = (nquads_of quads, (quads, same, refl), h ∙ ap (λ (l : List Statement). before ++ nquads_of l) is)
+written before c quads lent (Err e) same is h = h

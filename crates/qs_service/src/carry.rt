@@ -1,6 +1,6 @@
 //! A request, carried out over the store.
 
-ghost use Rattle.std.specs.Prelude.{◌≡◌, IfOk, string_bytes, true};
+ghost use Rattle.std.specs.Prelude.{◌≡◌, ◌≤◌, IfOk, drop, true, vec_len};
 ghost use Rattle.serde_json.specs.Written.{compact_text};
 ghost use Rattle.qs_http.specs.Reply.{IsReplyStatus};
 ghost use Rattle.qs_http.specs.declared.media.Media.TheVariants.{Results, NTriples};
@@ -15,20 +15,21 @@ ghost use Rattle.qs_update.specs.Request.{Bounds};
 ghost use Rattle.qs_service_connections.specs.Meaning.{CarriesOrMemory};
 ghost use Rattle.qs_service_connections.specs.Message.{message};
 
-use crate::text::{answer_over, dump, update_over};
+use crate::text::{answer_over, dump_after, update_over};
 use http::StatusCode;
 use qs_algebra_solutions::Answer;
-use qs_http::{Fixed, Media, Request, reply_head};
-use qs_results::{fault_line, fault_status, json, ntriples};
+use qs_http::{Fixed, HEAD_ROOM, Media, ReplyBuffer, Request, reply_room};
+use qs_results::{fault_line, fault_status, json_after, ntriples_after};
 use qs_service_connections::Reply;
 use qs_store::Store;
 use qs_terms::QFault;
 use std::alloc::{AllocError, Global};
 
-/// A reply with that status, type and body.
-fn made(alloc: Global, status: u16, media: Media, body: String) -> Result<Reply, AllocError>
-    requires { IsReplyStatus status }
-    ensures { IfOk result (λ reply. reply ≡ message status media (string_bytes body)) }
+/// A reply with that status and type, whose body stands in the buffer after the room for a head.
+fn made(alloc: Global, status: u16, media: Media, buffer: Vec<u8>) -> Result<Reply, AllocError>
+    requires status { IsReplyStatus status }
+    requires room { HEAD_ROOM ≤ vec_len buffer }
+    ensures { IfOk result (λ reply. reply ≡ message status media (drop HEAD_ROOM buffer.items)) }
 {
     let code = if status == 200 {
         StatusCode::OK
@@ -37,24 +38,27 @@ fn made(alloc: Global, status: u16, media: Media, body: String) -> Result<Reply,
     } else {
         StatusCode::INTERNAL_SERVER_ERROR
     };
-    let head = reply_head(alloc, code, media, body.len())?;
-    Ok(Reply::made(status, head, body))
+    let reply = ReplyBuffer::new(alloc, code, media, buffer)?;
+    Ok(Reply::made(status, reply))
 }
 
 /// The reply of a fault.
 fn refusal(alloc: Global, fault: &QFault) -> Result<Reply, AllocError>
     ensures { IfOk result (λ reply. reply ≡ fault_reply fault.now) }
 {
-    let mut line = fault_line(alloc, fault)?;
-    line.push_str("\n")?;
-    made(alloc, fault_status(fault), Media::Text, line)
+    let line = fault_line(alloc, fault)?;
+    let mut body = reply_room(alloc)?;
+    body.extend_from_slice(line.as_bytes())?;
+    body.push(b'\n')?;
+    made(alloc, fault_status(fault), Media::Text, body)
 }
 
 fn json_reply(alloc: Global, answer: &Answer) -> Result<Reply, AllocError>
     requires { has_json answer.now ≡ true }
     ensures { IfOk result (λ reply. reply ≡ message 200 Results (compact_text (json_of answer.now))) }
 {
-    let body = json(alloc, answer)?;
+    let room = reply_room(alloc)?;
+    let body = json_after(alloc, room, answer)?;
     made(alloc, 200, Media::Results, body)
 }
 
@@ -62,7 +66,8 @@ fn graph_reply(alloc: Global, answer: &Answer) -> Result<Reply, AllocError>
     requires { is_graph answer.now ≡ true }
     ensures { IfOk result (λ reply. reply ≡ message 200 NTriples (ntriples_of answer.now)) }
 {
-    let body = ntriples(alloc, answer)?;
+    let room = reply_room(alloc)?;
+    let body = ntriples_after(alloc, room, answer)?;
     made(alloc, 200, Media::NTriples, body)
 }
 
@@ -92,7 +97,8 @@ fn asked(alloc: Global, text: &str, store: &Store, max_rows: u64) -> Result<Repl
 fn dumped(alloc: Global, store: &Store) -> Result<Reply, AllocError>
     ensures { IfOk result (λ reply. (bounds : Bounds) → CarriesDump sparql store.now.base bounds reply) }
 {
-    let body = dump(alloc, store)?;
+    let room = reply_room(alloc)?;
+    let body = dump_after(alloc, room, store)?;
     made(alloc, 200, Media::NQuads, body)
 }
 

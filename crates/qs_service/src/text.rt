@@ -1,6 +1,6 @@
 //! What the texts of requests mean, carried out over the store.
 
-ghost use Rattle.std.specs.Prelude.{◌≡◌, IfOk, string_bytes};
+ghost use Rattle.std.specs.Prelude.{◌≡◌, ◌++◌, List, ℕ, IfOk};
 ghost use Rattle.qs_service.specs.inner.Changes.{Changes};
 ghost use Rattle.qs_service.specs.Language.{sparql};
 ghost use Rattle.qs_store.specs.Same.{SameSet};
@@ -8,7 +8,7 @@ ghost use Rattle.qs_terms.specs.Outcome.{OneOrOutOfMemory};
 ghost use Rattle.qs_update.specs.Request.{bounds_of};
 
 use qs_algebra_solutions::Answer;
-use qs_nquads::text;
+use qs_nquads::text_after;
 use qs_query::answer;
 use qs_store::{Store, same_set_is_an_equivalence};
 use qs_terms::{QFault, Quad};
@@ -59,10 +59,10 @@ fn quads_of(store: &Store) -> Result<Vec<Quad>, AllocError>
     }
 }
 
-/// The stored quads as N-Quads. The one error is out of memory.
-pub fn dump(alloc: Global, store: &Store) -> Result<String, AllocError>
-    ensures { IfOk result (λ dump. sparql.writes store.now.base (string_bytes dump)) }
+/// What was written before, and the stored quads as N-Quads. The one error is out of memory.
+pub fn dump_after(alloc: Global, before: Vec<u8>, store: &Store) -> Result<Vec<u8>, AllocError>
+    ensures { IfOk result (λ out. (text : List ℕ) × sparql.writes store.now.base text × (out.items ≡ before.items ++ text)) }
 {
     let quads = quads_of(store)?;
-    text(alloc, quads.as_slice())
+    text_after(alloc, before, quads.as_slice())
 }

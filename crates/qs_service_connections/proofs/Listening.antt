@@ -1,5 +1,5 @@
 -- What reads add up to.
-use Rattle.std.proofs.Common.{◌≡◌, ◌∙◌, ap, sym, refl, ℕ, List, [], ◌++◌, Option, None, Some, append_assoc}
+use Rattle.std.proofs.Common.{◌∙◌, ap, sym, refl, ℕ, List, [], ◌++◌, Option, None, Some, append_assoc}
 use Rattle.std.specs.Io.KnownBytes.{Keeps, Consumes, Appends}
 use Rattle.qs_http.specs.Outcome.{More}
 use Rattle.qs_http.specs.HeadEnd as heads
@@ -28,11 +28,11 @@ consumes_kept (Some a) None c xs h k = absurd h
 consumes_kept (Some a) (Some b) None xs h k = absurd k
 consumes_kept (Some a) (Some b) (Some c) xs h k = h ∙ ap (λ (l : List ℕ). xs ++ l) (sym k)
 
-pub keeps_appends : (a b c : Option (List ℕ)) (xs ys : List ℕ) → Keeps a b → Appends b c xs → xs ≡ ys → Appends a c ys
-keeps_appends None b c xs ys h k is = tt
-keeps_appends (Some a) None c xs ys h k is = absurd h
-keeps_appends (Some a) (Some b) None xs ys h k is = absurd k
-keeps_appends (Some a) (Some b) (Some c) xs ys h k is = k ∙ ap (λ (l : List ℕ). l ++ xs) h ∙ ap (λ (l : List ℕ). a ++ l) is
+pub keeps_appends : (a b c : Option (List ℕ)) (xs : List ℕ) → Keeps a b → Appends b c xs → Appends a c xs
+keeps_appends None b c xs h k = tt
+keeps_appends (Some a) None c xs h k = absurd h
+keeps_appends (Some a) (Some b) None xs h k = absurd k
+keeps_appends (Some a) (Some b) (Some c) xs h k = k ∙ ap (λ (l : List ℕ). l ++ xs) h
 
 pub consumes_none : (a : Option (List ℕ)) → Consumes a a []
 consumes_none None = tt

@@ -3,5 +3,4 @@ pub mod Meaning
 pub mod State
 pub mod Step
 pub mod Serve
-pub mod Bytes
 pub mod inner

@@ -1,11 +1,11 @@
 -- One connection, served apart from the joined ones, over a stream of bytes.
-use Rattle.std.specs.Prelude.{◌≡◌, ◌<◌, ℕ, List, [], length, take, Option, None, Some, Result, Ok, Err}
+use Rattle.std.specs.Prelude.{◌≡◌, ◌<◌, ℕ, List, [], length, take, Option, Result, Ok, Err}
 use Rattle.std.specs.Io.KnownBytes.{Appends, Consumes, IsAtEnd, Keeps}
 use Rattle.qs_terms.specs.Device.{one_more}
 use Rattle.qs_http.specs.Outcome.{More}
 use Rattle.qs_http.specs.RequestOf.{IsRequestOf}
 use Rattle.qs_service_connections.specs.Meaning.{RequestMeaning}
-use Rattle.qs_service_connections.specs.Message.{Message, bytes_of}
+use Rattle.qs_service_connections.specs.Message.{Message}
 use Rattle.qs_service_connections.specs.State.{Reading, Answered}
 use Rattle.qs_service_connections.specs.Step.{Receives}
 use Rattle.qs_service_connections.specs.declared.served.Served.{Served}
@@ -21,12 +21,12 @@ IsAnsweredWith carries old read new reply = Receives carries old (Reading []) re
 -- taken, where they are known
 abbrev pub BecomesOf : {S : Type 0} → RequestMeaning S → S → List ℕ → Result Served ServeFault → S → Option (List ℕ) → Option (List ℕ) → Option (List ℕ) → Type 0
 BecomesOf carries old read (Ok (served.Answered status)) new left before after =
-    (reply : Message) × IsAnsweredWith carries old read new reply × (status ≡ reply.status) × Appends before after (bytes_of reply)
+    (reply : Message) × IsAnsweredWith carries old read new reply × (status ≡ reply.status) × Appends before after reply.bytes
 BecomesOf carries old read (Ok served.Silent) new left before after =
     IsRequestOf read More × IsAtEnd left × (new ≡ old) × Keeps before after
 BecomesOf carries old read (Err fault.Read) new left before after = (new ≡ old) × Keeps before after
 BecomesOf carries old read (Err (fault.Write written)) new left before after =
-    (reply : Message) × IsAnsweredWith carries old read new reply × (written < length (bytes_of reply)) × Appends before after (take written (bytes_of reply))
+    (reply : Message) × IsAnsweredWith carries old read new reply × (written < length reply.bytes) × Appends before after (take written reply.bytes)
 
 -- some bytes are read from the front of those that the stream gives, and this becomes of them
 abbrev pub Serves : {S : Type 0} → RequestMeaning S → S → Option (List ℕ) → Option (List ℕ) → Result Served ServeFault → S → Option (List ℕ) → Type 0
@@ -37,21 +37,3 @@ Serves carries old given before r new after =
 abbrev pub CountsFault : {A : Type 0} → ℕ → ℕ → Result A ServeFault → Type 0
 CountsFault old new (Ok a) = new ≡ old
 CountsFault old new (Err e) = new ≡ one_more old
-
--- ---- what the reading alone resulted in
--- (It serves proofs: no promise of the product is read by it.)
-
-abbrev pub ListensTo : {S : Type 0} → RequestMeaning S → S → List ℕ → Result (Option Message) ServeFault → S → Option (List ℕ) → Type 0
-ListensTo carries old read (Ok (Some reply)) new left = IsAnsweredWith carries old read new reply
-ListensTo carries old read (Ok None) new left = IsRequestOf read More × IsAtEnd left × (new ≡ old)
-ListensTo carries old read (Err fault.Read) new left = new ≡ old
-ListensTo carries old read (Err (fault.Write written)) new left = ⊥
-
-abbrev pub Listens : {S : Type 0} → RequestMeaning S → S → Option (List ℕ) → Result (Option Message) ServeFault → S → Option (List ℕ) → Type 0
-Listens carries old given r new left = (read : List ℕ) × Consumes given left read × ListensTo carries old read r new left
-
--- the reply was written whole, or a front of it
-abbrev pub PutsReply : Message → Option (List ℕ) → Result (Unit {0}) ServeFault → Option (List ℕ) → Type 0
-PutsReply reply before (Ok done) after = Appends before after (bytes_of reply)
-PutsReply reply before (Err fault.Read) after = ⊥
-PutsReply reply before (Err (fault.Write written)) after = (written < length (bytes_of reply)) × Appends before after (take written (bytes_of reply))

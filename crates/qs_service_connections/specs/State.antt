@@ -1,5 +1,5 @@
 -- What connections keep: what is stored, and the joined connections.
-use Rattle.std.specs.Prelude.{◌+◌, ◌-◌, ◌==◌, ℕ, ltb, List, [], ◌∷◌, length, take, drop, Option, None, Some, if◌then◌else◌}
+use Rattle.std.specs.Prelude.{◌+◌, ◌==◌, ℕ, List, [], ◌∷◌, length, take, drop, Option, None, Some, if◌then◌else◌}
 use Rattle.qs_service_connections.specs.Message.{Message}
 
 -- how far a connection has come: the bytes so far, or its reply and how many of its bytes were taken
@@ -40,11 +40,9 @@ reply_in (Some (Answered reply taken)) = Some reply
 abbrev pub reply_at : ℕ → List Joined → Option Message
 reply_at id joined = reply_in (exchange_of id joined)
 
--- the next n bytes of a reply of which so many were taken, or all that are left: those of its head, and once these are taken those of its
--- body
+-- the next n bytes of a reply of which so many were taken, or those that are left where they are fewer
 abbrev pub next_of : ℕ → Message → ℕ → List ℕ
-next_of n reply taken =
-    if ltb taken (length reply.head) then take n (drop taken reply.head) else take n (drop (taken - length reply.head) reply.body)
+next_of n reply taken = take n (drop taken reply.bytes)
 
 -- none while there is no reply
 abbrev pub next_bytes : ℕ → Exchange → List ℕ

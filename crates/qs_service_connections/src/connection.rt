@@ -1,14 +1,12 @@
 //! One joined connection.
 
-ghost use Rattle.std.specs.Prelude.{◌≡◌, ◌≤◌, ◌<◌, ◌+◌, ◌-◌, ◌^◌, [], Some, length, min};
-ghost use Rattle.qs_service_connections.specs.Message.{bytes_of};
+ghost use Rattle.std.specs.Prelude.{◌≡◌, ◌≤◌, ◌+◌, ◌-◌, [], Some, min};
 ghost use Rattle.qs_service_connections.specs.State as state;
-ghost use Rattle.qs_service_connections.specs.State.{next_bytes, next_of, with_taken, reply_in};
+ghost use Rattle.qs_service_connections.specs.State.{next_bytes, with_taken, reply_in};
 ghost use Rattle.qs_service_connections.specs.Step.{Receives};
-ghost use Rattle.qs_service_connections.specs.inner.Receive.{part_of, IsPart};
+ghost use Rattle.qs_service_connections.specs.inner.Receive.{bytes_in, StandAt};
 
 use crate::meaning::Meaning;
-use crate::part::Part;
 use crate::receive::{ConnectionState, receive};
 use crate::reply::Reply;
 use qs_http::{Fixed, Session};
@@ -32,24 +30,6 @@ impl Model for Connection {
     ghost view = { λ c. record { id = c.id; exchange = exchange_in c.state } };
 
     ghost invariant = { λ c. IsConnectionState c.state };
-}
-
-// Where the next n bytes of a reply stand of which so many are taken, or all that are left: in this part, from the first number on, up to
-// the second.
-fn next_place(reply: &Reply, taken: usize, n: usize) -> (Part, usize, usize)
-    requires { taken ≤ length (bytes_of reply.now) }
-    ensures bytes { IsPart (state.Answered reply.now taken) result.0 result.1 result.2 (next_of n reply.now taken) }
-    ensures count { result.2 - result.1 ≡ length (next_of n reply.now taken) }
-    ensures left { taken + (result.2 - result.1) ≤ length (bytes_of reply.now) }
-    ensures fits { taken + (result.2 - result.1) < 2 ^ 64 }
-{
-    let head = reply.head().len();
-    if taken < head {
-        (Part::Head, taken, end_of(taken, head, n))
-    } else {
-        let from = taken - head;
-        (Part::Body, from, end_of(from, reply.body().len(), n))
-    }
 }
 
 // Where n bytes end that begin there, or all bytes.
@@ -101,18 +81,18 @@ impl Connection {
         };
     }
 
-    /// The next n bytes of the reply, or all that are left of the part that they stand in, are counted as taken: of this part, from the
-    /// first number on, up to the second.
-    pub fn count(&mut self, n: usize) -> (Part, usize, usize)
-        ensures bytes { IsPart self.old.exchange result.0 result.1 result.2 (next_bytes n self.old.exchange) }
+    /// The next n bytes of the reply, or those that are left, are counted as taken: from the first number on, up to the second.
+    pub fn count(&mut self, n: usize) -> (usize, usize)
+        ensures bytes { StandAt self.old.exchange result.0 result.1 (next_bytes n self.old.exchange) }
         ensures counts { self.new ≡ record self.old { exchange = with_taken n self.old.exchange } }
     {
         match &mut self.state {
-            ConnectionState::Reading(_) => (Part::Body, 0, 0),
+            ConnectionState::Reading(_) => (0, 0),
             ConnectionState::Answered { reply, taken } => {
-                let (part, from, to) = next_place(reply, *taken, n);
-                *taken += to - from;
-                (part, from, to)
+                let from = *taken;
+                let to = end_of(from, reply.bytes().len(), n);
+                *taken = to;
+                (from, to)
             }
         }
     }
@@ -127,16 +107,13 @@ impl Connection {
         }
     }
 
-    /// The bytes of a part of the reply, none while there is no reply.
-    pub fn part(&self, part: Part) -> &[u8]
-        ensures { result.now ≡ part_of part self.now.exchange }
+    /// The bytes of the reply, none while there is no reply.
+    pub fn bytes(&self) -> &[u8]
+        ensures { result.now ≡ bytes_in self.now.exchange }
     {
         match &self.state {
             ConnectionState::Reading(_) => &[],
-            ConnectionState::Answered { reply, taken: _ } => match part {
-                Part::Head => reply.head(),
-                Part::Body => reply.body(),
-            },
+            ConnectionState::Answered { reply, taken: _ } => reply.bytes(),
         }
     }
 }

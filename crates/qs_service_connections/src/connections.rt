@@ -135,8 +135,8 @@ impl<M: Meaning> Connections<M> {
         self.connections[place].reply()
     }
 
-    /// The next n bytes of a connection's reply, or all that are left, as far as they stand together: those of its head first, and once
-    /// these are taken those of its body. None while there is no reply. It takes no memory, and copies none.
+    /// The next n bytes of a connection's reply, or those that are left where they are fewer; none while there is no reply. They are lent
+    /// from the reply, so that it takes no memory and copies nothing.
     ///
     /// # Errors
     /// `UnknownId` where the id isn't joined.
@@ -148,7 +148,7 @@ impl<M: Meaning> Connections<M> {
         if place == self.connections.len() {
             return Err(ServiceFault::UnknownId);
         }
-        let (part, from, to) = self.connections[place].count(n);
-        Ok(&self.connections[place].part(part)[from..to])
+        let (from, to) = self.connections[place].count(n);
+        Ok(&self.connections[place].bytes()[from..to])
     }
 }

@@ -13,7 +13,6 @@ mod connection;
 mod connections;
 mod fault;
 mod meaning;
-mod part;
 mod receive;
 mod reply;
 mod served;

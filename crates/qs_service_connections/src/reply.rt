@@ -1,22 +1,18 @@
 //! Replies.
 
-ghost use Rattle.std.specs.Prelude.{◌≡◌, string_bytes};
+ghost use Rattle.std.specs.Prelude.{◌≡◌};
 
-use qs_http::{Fixed, fixed};
+use qs_http::{Fixed, ReplyBuffer, fixed};
 use std::marker::Model;
 
-/// The bytes of a reply: those of a fixed one take no memory, and a body isn't copied after its head.
+/// The bytes of a reply: those of a fixed one take no memory.
 #[derive(Drop)]
 pub enum Bytes {
-    Made {
-        status: u16,
-        head: Vec<u8>,
-        body: String,
-    },
+    Made { status: u16, reply: ReplyBuffer },
     Fixed(Fixed),
 }
 
-/// A reply of the endpoint: its status, and its bytes, those of the head and those of the body.
+/// A reply of the endpoint: its status and its bytes.
 #[derive(Drop)]
 pub struct Reply {
     bytes: Bytes,
@@ -24,7 +20,7 @@ pub struct Reply {
 
 impl Model for Reply {
     ghost use Rattle.qs_service_connections.specs.Message.{Message};
-    ghost use Rattle.qs_service_connections.specs.Bytes.{message_in};
+    ghost use Rattle.qs_service_connections.specs.inner.Bytes.{message_in};
 
     ghost Value = { Message };
 
@@ -34,16 +30,16 @@ impl Model for Reply {
 impl Reply {
     ghost use Rattle.qs_service_connections.specs.Message.{fixed_message};
 
-    /// A reply of these parts.
-    pub fn made(status: u16, head: Vec<u8>, body: String) -> Reply
-        ensures { result ≡ record { status = status; head = head.items; body = string_bytes body } }
+    /// A reply of that status and these bytes.
+    pub fn made(status: u16, reply: ReplyBuffer) -> Reply
+        ensures { result ≡ record { status = status; bytes = reply } }
     {
         Reply {
-            bytes: Bytes::Made { status, head, body },
+            bytes: Bytes::Made { status, reply },
         }
     }
 
-    /// A fixed reply, of one part.
+    /// A fixed reply.
     pub fn fixed(which: Fixed) -> Reply
         ensures { result ≡ fixed_message which }
     {
@@ -62,23 +58,13 @@ impl Reply {
         }
     }
 
-    /// The bytes of the head: the first line and the fields, and the empty line after them. Those of a fixed reply are all of it.
-    pub fn head(&self) -> &[u8]
-        ensures { result.now ≡ self.now.head }
+    /// The bytes of the reply: its first line, its fields and the empty line after them, and its body.
+    pub fn bytes(&self) -> &[u8]
+        ensures { result.now ≡ self.now.bytes }
     {
         match &self.bytes {
-            Bytes::Made { head, .. } => head.as_slice(),
+            Bytes::Made { reply, .. } => reply.bytes(),
             Bytes::Fixed(which) => fixed(*which),
-        }
-    }
-
-    /// The bytes of the body.
-    pub fn body(&self) -> &[u8]
-        ensures { result.now ≡ self.now.body }
-    {
-        match &self.bytes {
-            Bytes::Made { body, .. } => body.as_bytes(),
-            Bytes::Fixed(_) => &[],
         }
     }
 }

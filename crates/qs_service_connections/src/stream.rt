@@ -1,7 +1,8 @@
 //! One connection over a stream.
 
 ghost use Rattle.std.specs.Io.KnownBytes.{Keeps};
-ghost use Rattle.qs_service_connections.specs.Serve.{Listens, PutsReply, Serves, CountsFault};
+ghost use Rattle.qs_service_connections.specs.Serve.{Serves, CountsFault};
+ghost use Rattle.qs_service_connections.specs.inner.Serve.{Listens, PutsReply};
 
 use crate::meaning::Meaning;
 use crate::receive::receive;
@@ -43,20 +44,15 @@ fn listen<M: Meaning, S: Stream>(
     unreachable!()
 }
 
-/// Writes the reply: the bytes of its head, and then its body.
+/// Writes the reply.
 fn put_reply<S: Stream>(stream: &mut S, reply: &Reply) -> Result<(), ServeFault>
     ensures bytes { PutsReply reply.now (S.Sink.taken stream.old) result (S.Sink.taken stream.new) }
     ensures faults { CountsFault (S.Sink.faults stream.old) (S.Sink.faults stream.new) result }
 {
-    let head = put_all(stream, reply.head());
-    if head < reply.head().len() {
-        return Err(ServeFault::Write { written: head });
-    }
-    let body = put_all(stream, reply.body());
-    if body < reply.body().len() {
-        return Err(ServeFault::Write {
-            written: head + body,
-        });
+    let bytes = reply.bytes();
+    let written = put_all(stream, bytes);
+    if written < bytes.len() {
+        return Err(ServeFault::Write { written });
     }
     Ok(())
 }

@@ -9,7 +9,7 @@ encode_append t [] b = refl
 encode_append t (x ∷ a) b = ap (λ (l : List ℕ). slice_index t (x / 16) ∷ slice_index t (x % 16) ∷ l) (encode_append t a b)
 
 -- bytes in two parts
-pub hex_of_parts : (a b : List ℕ) → encode_lower (a ++ b) ≡ encode_lower a ++ encode_lower b
+hex_of_parts : (a b : List ℕ) → encode_lower (a ++ b) ≡ encode_lower a ++ encode_lower b
 hex_of_parts a b = encode_append lower_digits a b
 
 -- the hex of the first of what is left comes after the line

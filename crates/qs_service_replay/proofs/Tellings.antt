@@ -14,7 +14,6 @@ use Rattle.qs_service_replay.specs.Replay.{told, Tells, reply_line, made_line}
 use Rattle.qs_service_replay.specs.inner.Told.{HadReply}
 use Rattle.qs_service_replay.specs.declared.script_event.ScriptEvent.{ScriptEvent}
 use Rattle.qs_service_replay.specs.declared.script_event.ScriptEvent.TheVariants as happening
-use Rattle.qs_service_replay.proofs.Digits.{hex_of_parts}
 
 -- the text is told, where it is made
 pub tells_of : {S : Type 0} (r : Result (String Global) AllocError) (carries : RequestMeaning S) (old new : State S) (n : ℕ) (event : Event) (outcome : Option ServiceFault) (text : List ℕ) → Step carries old event outcome new → text ≡ told n old event outcome new
@@ -36,9 +35,6 @@ made_now event id bytes old new n reply had is before none now =
     (subst (λ (o : Option Message). reply_line id reply ≡ made_line id None o) now refl))
 
 -- the line of a reply, made of its parts
-pub line_of_parts : (id : ℕ) (reply : Message) (start head body line : List ℕ) → start ≡ codes "reply " ++ (decimal id ++ 32 ∷ []) → head ≡ start ++ encode_lower reply.head → body ≡ head ++ encode_lower reply.body → line ≡ body ++ 10 ∷ []
-    → line ≡ reply_line id reply
-line_of_parts id reply start head body line is_start is_head is_body is_line =
-    is_line
-    ∙ (ap (λ (l : List ℕ). l ++ 10 ∷ []) (is_body ∙ ap (λ (l : List ℕ). l ++ encode_lower reply.body) (is_head ∙ ap (λ (l : List ℕ). l ++ encode_lower reply.head) is_start))
-    ∙ simp (append_assoc, hex_of_parts))
+pub line_of_parts : (id : ℕ) (reply : Message) (start hex line : List ℕ) → start ≡ codes "reply " ++ (decimal id ++ 32 ∷ []) → hex ≡ start ++ encode_lower reply.bytes → line ≡ hex ++ 10 ∷ [] → line ≡ reply_line id reply
+line_of_parts id reply start hex line is_start is_hex is_line =
+    is_line ∙ (ap (λ (l : List ℕ). l ++ 10 ∷ []) (is_hex ∙ ap (λ (l : List ℕ). l ++ encode_lower reply.bytes) is_start) ∙ simp append_assoc)

@@ -2,7 +2,7 @@
 use Rattle.std.specs.Prelude.{◌≡◌, ◌+◌, ℕ, List, [], ◌∷◌, ◌++◌, codes, decimal, Option, None, Some}
 use Rattle.hex.specs.Hex.{encode_lower}
 use Rattle.qs_service_connections.specs.Meaning.{RequestMeaning}
-use Rattle.qs_service_connections.specs.Message.{Message, bytes_of}
+use Rattle.qs_service_connections.specs.Message.{Message}
 use Rattle.qs_service_connections.specs.State.{State, reply_at}
 use Rattle.qs_service_connections.specs.Step.{Event, Join, Piece, End, Step}
 use Rattle.qs_service_connections.specs.declared.fault.ServiceFault.{ServiceFault}
@@ -15,7 +15,7 @@ number_of UnknownId = 3
 
 -- the line of a reply: its bytes in hex, in lower case
 abbrev pub reply_line : ℕ → Message → List ℕ
-reply_line id reply = codes "reply " ++ (decimal id ++ (codes " " ++ (encode_lower (bytes_of reply) ++ 10 ∷ [])))
+reply_line id reply = codes "reply " ++ (decimal id ++ (codes " " ++ (encode_lower reply.bytes ++ 10 ∷ [])))
 
 -- the line of the event on line n of a script, refused
 abbrev pub refused_line : ℕ → ServiceFault → List ℕ

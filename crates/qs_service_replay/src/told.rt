@@ -64,8 +64,7 @@ fn reply_line(alloc: Global, id: u64, reply: &Reply) -> Result<String, AllocErro
     ensures { IfOk result (λ text. string_bytes text ≡ spec.reply_line id reply.now) }
 {
     let mut line = format!(in alloc; "reply {id} ")?;
-    push_hex(alloc, &mut line, reply.head())?;
-    push_hex(alloc, &mut line, reply.body())?;
+    push_hex(alloc, &mut line, reply.bytes())?;
     line.push('\n')?;
     Ok(line)
 }

@@ -40,10 +40,7 @@ pub fn service(alloc: Global, hasher: Option<RandomState>) -> Option<Service> {
 
 fn is_reply(service: &Service, id: u64, due: &[u8]) -> bool {
     match service.reply(id) {
-        Some(reply) => match due.strip_prefix(reply.head()) {
-            Some(body) => body == reply.body(),
-            None => false,
-        },
+        Some(reply) => reply.bytes() == due,
         None => false,
     }
 }

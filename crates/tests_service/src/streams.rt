@@ -107,13 +107,13 @@ fn all_goes_out(alloc: Global, service: &mut Service) -> bool {
     stands(alloc, service, 11, Ok(Served::Answered(204)), reply)
 }
 
-/// The query of 62 bytes is read in four calls, and its reply goes out in six, in front of the body, and two.
+/// The query of 62 bytes is read in four calls, and its reply of 131 bytes goes out in seven. Where one of the last two fails, what went out is
+/// told.
 fn bodies_fail(alloc: Global, service: &mut Service) -> bool {
     let told = |written: usize| Err(ServeFault::Write { written });
     is_served(alloc, service, ASK, 9, told(100), &TRUE[..100])
-        && is_served(alloc, service, ASK, 10, told(105), &TRUE[..105])
-        && is_served(alloc, service, ASK, 11, told(125), &TRUE[..125])
-        && is_served(alloc, service, ASK, 12, Ok(Served::Answered(200)), TRUE)
+        && is_served(alloc, service, ASK, 10, told(120), &TRUE[..120])
+        && is_served(alloc, service, ASK, 11, Ok(Served::Answered(200)), TRUE)
 }
 
 #[test]

@@ -1,38 +1,49 @@
 //! Replies that are taken.
 
+ghost use Rattle.std.specs.Prelude.{◌<◌};
+
 use crate::interleaved::{TRUE, service};
 use qs_service::{Service, ServiceFault};
 use std::hash::RandomState;
 
 const ASK: &[u8] = b"GET /query?query=ASK%7B+FILTER%28true%29+%7D HTTP/1.1\r\nHost: e\r\n\r\n";
 
-/// Whether each byte is taken once, five at a time: 105 in front of the body and 26 of it.
-fn is_taken(service: &mut Service) -> bool {
-    let mut at = 0;
-    for _ in 0..40 {
-        let Ok(bytes) = service.take(7, 5) else {
-            return false;
-        };
-        let rest = TRUE.get(at..).unwrap_or(&[]);
-        if bytes.is_empty() {
-            return rest.is_empty();
-        }
-        if !rest.starts_with(bytes) {
-            return false;
-        }
-        at += bytes.len();
-    }
-    false
+/// Whether a query is sent on a connection that joins, which has nothing to take before.
+fn is_asked(service: &mut Service, id: u64) -> bool {
+    service.join_conn(id).is_ok()
+        && matches!(service.take(id, 5), Ok(bytes) if bytes.is_empty())
+        && service.piece(id, ASK).is_ok()
 }
 
+/// Whether each byte of the reply is taken once: n at a time, and at the end those that are left.
+fn is_taken(service: &mut Service, id: u64, n: usize) -> bool
+    requires { 0 < n }
+{
+    for due in TRUE.chunks(n) {
+        match service.take(id, n) {
+            Ok(bytes) if bytes == due => {}
+            _ => return false,
+        }
+    }
+    matches!(service.take(id, n), Ok(bytes) if bytes.is_empty())
+}
+
+/// Whether replies of 131 bytes, of which 26 are the body, are taken five bytes at a time, byte by byte, and in one call.
 fn takes(service: &mut Service) -> bool {
-    service.join_conn(7).is_ok()
-        && matches!(service.take(7, 5), Ok(bytes) if bytes.is_empty())
-        && service.piece(7, ASK).is_ok()
-        && is_taken(service)
-        && matches!(service.take(8, 5), Err(ServiceFault::UnknownId))
+    is_asked(service, 7)
+        && is_taken(service, 7, 5)
+        && is_asked(service, 8)
+        && is_taken(service, 8, 1)
+        && is_asked(service, 9)
+        && is_taken(service, 9, 131)
+        && is_asked(service, 10)
+        && is_taken(service, 10, usize::MAX)
+        && matches!(service.take(11, 5), Err(ServiceFault::UnknownId))
         && service.end_conn(7).is_ok()
         && matches!(service.take(7, 5), Err(ServiceFault::UnknownId))
+        && service.end_conn(8).is_ok()
+        && service.end_conn(9).is_ok()
+        && service.end_conn(10).is_ok()
 }
 
 /// Whether 64 connections join, and the next is told that there are.

@@ -4,12 +4,10 @@ use Rattle.qs_http.specs.Feeding.{Seen, Reading, Done}
 use Rattle.qs_http.specs.Outcome.{More}
 use Rattle.qs_http.specs.RequestOf.{IsRequestOf}
 use Rattle.qs_service_connections.specs.Meaning.{RequestMeaning}
-use Rattle.qs_service_connections.specs.Message.{Message, bytes_of}
+use Rattle.qs_service_connections.specs.Message.{Message}
 use Rattle.qs_service_connections.specs.State as state
 use Rattle.qs_service_connections.specs.State.{Exchange}
 use Rattle.qs_service_connections.specs.Step.{Receives}
-use Rattle.qs_service_connections.specs.declared.part.Part.{Part}
-use Rattle.qs_service_connections.specs.declared.part.Part.TheVariants.{Head, Body}
 use Rattle.qs_service_connections.specs.declared.receive.ConnectionState.{ConnectionState}
 use Rattle.qs_service_connections.specs.declared.receive.ConnectionState.TheVariants as connection
 
@@ -28,7 +26,7 @@ IsReading (Done outcome) = ⊥
 
 abbrev pub IsConnectionState : ConnectionState → Type 0
 IsConnectionState (connection.Reading session) = IsReading session
-IsConnectionState (connection.Answered reply taken) = taken ≤ length (bytes_of reply)
+IsConnectionState (connection.Answered reply taken) = taken ≤ length reply.bytes
 
 -- a piece is received while the request is read: it isn't whole yet, or its reply is made
 abbrev pub ReceivesOn : {S : Type 0} → RequestMeaning S → S → List ℕ → List ℕ → S → Seen → Option Message → Type 0
@@ -40,14 +38,13 @@ abbrev pub bytes_read : Seen → List ℕ
 bytes_read (Reading bytes) = bytes
 bytes_read (Done outcome) = []
 
--- the bytes of a part of the reply
-abbrev pub part_of : Part → Exchange → List ℕ
-part_of part (state.Reading bytes) = []
-part_of Head (state.Answered reply taken) = reply.head
-part_of Body (state.Answered reply taken) = reply.body
+-- the bytes of the reply, none while there is no reply
+abbrev pub bytes_in : Exchange → List ℕ
+bytes_in (state.Reading bytes) = []
+bytes_in (state.Answered reply taken) = reply.bytes
 
--- these bytes stand there in a part of its reply
-pub record IsPart (exchange : Exchange) (part : Part) (from to : ℕ) (bytes : List ℕ) : Type 0 where
+-- these bytes stand there in the reply
+pub record StandAt (exchange : Exchange) (from to : ℕ) (bytes : List ℕ) : Type 0 where
   pub ascends : from ≤ to
-  pub within : to ≤ length (part_of part exchange)
-  pub is : bytes ≡ take (to - from) (drop from (part_of part exchange))
+  pub within : to ≤ length (bytes_in exchange)
+  pub is : bytes ≡ take (to - from) (drop from (bytes_in exchange))

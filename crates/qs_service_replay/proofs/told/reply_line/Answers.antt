@@ -6,7 +6,6 @@ use Rattle.qs_service_replay.proofs.told.reply_line.Goals as goal
 
 pub returns : goal.returns
 returns c =
-    line_of_parts c.args.id c.args.reply.now (string_bytes c.in_ok-line.line) (string_bytes c.push_hex.new.line) (string_bytes c.push_hex-2.new.line) (string_bytes c.push.new.self) c.in_ok-line.ensures.ok
-    (c.in_ok-push_hex.ensures ∙ ap (λ (l : List ℕ). string_bytes c.in_ok-line.line ++ encode_lower l) c.head.ensures)
-    (c.in_ok-push_hex-2.ensures ∙ ap (λ (l : List ℕ). string_bytes c.push_hex.new.line ++ encode_lower l) c.body.ensures)
-    (c.in_ok-push.ensures.bytes ∙ ap (λ (l : List ℕ). string_bytes c.push_hex-2.new.line ++ l) (encode_ascii 10 (lit< tt)))
+    line_of_parts c.args.id c.args.reply.now (string_bytes c.in_ok-line.line) (string_bytes c.push_hex.new.line) (string_bytes c.push.new.self) c.in_ok-line.ensures.ok
+    (c.in_ok-push_hex.ensures ∙ ap (λ (l : List ℕ). string_bytes c.in_ok-line.line ++ encode_lower l) c.bytes.ensures)
+    (c.in_ok-push.ensures.bytes ∙ ap (λ (l : List ℕ). string_bytes c.push_hex.new.line ++ l) (encode_ascii 10 (lit< tt)))
