@@ -1,0 +1,3 @@
+pub mod Log
+pub mod Run
+pub mod inner

@@ -1,0 +1,89 @@
+-- What a reactor does, one act after another.
+use Rattle.std.specs.Prelude.{◌≡◌, ◌≢◌, ◌≤◌, ◌+◌, ◌==◌, ℕ, Bool, true, false, List, [], ◌∷◌, ◌++◌, Option, Some, IsSome, IfSome, if◌then◌else◌}
+use Rattle.qs_service_reactor.specs.Log.{Io, Got, Put, Fin, Logs}
+
+-- a connection joins, a piece of bytes arrives on one, or one ends
+pub data Event : Type 0 where
+  Join : (id : ℕ) → Event
+  Piece : (id : ℕ) → (bytes : List ℕ) → Event
+  End : (id : ℕ) → Event
+
+-- The endpoint makes a step, and takes the event up or not; bytes of a reply go out; bytes that come after a request are dropped; or the peer
+-- is told that no more bytes come.
+pub data Act : Type 0 where
+  Did : (event : Event) → (done : Bool) → Act
+  Wrote : (id : ℕ) → (bytes : List ℕ) → Act
+  Dropped : (id : ℕ) → (bytes : List ℕ) → Act
+  Finished : (id : ℕ) → Act
+
+-- all bytes that went out to each connection since it joined, after this act
+abbrev pub out_after : (ℕ → List ℕ) → Act → ℕ → List ℕ
+out_after out (Did (Join id) true) k = if k == id then [] else out k
+out_after out (Did (Join id) false) k = out k
+out_after out (Did (Piece id bytes) done) k = out k
+out_after out (Did (End id) done) k = out k
+out_after out (Wrote id bytes) k = if k == id then out k ++ bytes else out k
+out_after out (Dropped id bytes) k = out k
+out_after out (Finished id) k = out k
+
+-- what comes and goes at an act
+abbrev pub ios_of : Act → List Io
+ios_of (Did (Join id) done) = []
+ios_of (Did (Piece id bytes) done) = Got id bytes ∷ []
+ios_of (Did (End id) done) = []
+ios_of (Wrote id bytes) = Put id bytes ∷ []
+ios_of (Dropped id bytes) = Got id bytes ∷ []
+ios_of (Finished id) = Fin id ∷ []
+
+abbrev pub ios : List Act → List Io
+ios [] = []
+ios (act ∷ acts) = ios_of act ++ ios acts
+
+-- how many connections join, whether the endpoint takes them up or not
+abbrev pub joins_of : Act → ℕ
+joins_of (Did (Join id) done) = 1
+joins_of (Did (Piece id bytes) done) = 0
+joins_of (Did (End id) done) = 0
+joins_of (Wrote id bytes) = 0
+joins_of (Dropped id bytes) = 0
+joins_of (Finished id) = 0
+
+abbrev pub joins : List Act → ℕ
+joins [] = 0
+joins (act ∷ acts) = joins_of act + joins acts
+
+-- a reply stands, which begins with these bytes
+pub record BeginsReply (reply : Option (List ℕ)) (bytes : List ℕ) : Type 0 where
+  pub rest : List ℕ
+  pub stands : reply ≡ Some (bytes ++ rest)
+
+-- each reply that stands stays
+pub record KeepsReplies (old new : ℕ → Option (List ℕ)) : Type 0 where
+  pub kept : (k : ℕ) → (reply : List ℕ) → old k ≡ Some reply → new k ≡ Some reply
+
+-- each reply that stands for another id stays
+pub record KeepsOthers (id : ℕ) (old new : ℕ → Option (List ℕ)) : Type 0 where
+  pub kept : (k : ℕ) → k ≢ id → (reply : List ℕ) → old k ≡ Some reply → new k ≡ Some reply
+
+module _ {A : Type 0} (steps : A → Event → Bool → A → Type 0) (reply_of : A → ℕ → Option (List ℕ)) where
+  -- One act: the endpoint makes a step, or stays. With the bytes that go out, all that went out since the join are a front of the one reply;
+  -- the peer is told of the end once they are all of it; and bytes are dropped only once the reply stands.
+  abbrev pub Next : A → (ℕ → List ℕ) → Act → A → Type 0
+  Next old out (Did event done) new = steps old event done new
+  Next old out (Wrote id bytes) new = (new ≡ old) × BeginsReply (reply_of old id) (out id ++ bytes)
+  Next old out (Dropped id bytes) new = (new ≡ old) × IsSome (reply_of old id)
+  Next old out (Finished id) new = (new ≡ old) × (reply_of old id ≡ Some (out id))
+
+  -- one act after another
+  abbrev pub Run : A → (ℕ → List ℕ) → List Act → A → (ℕ → List ℕ) → Type 0
+  Run old out [] new out' = (new ≡ old) × (out' ≡ out)
+  Run old out (act ∷ acts) new out' = (mid : A) × Next old out act mid × Run mid (out_after out act) acts new out'
+
+  -- Some acts lead from the old endpoint to the new one. At most so many connections join, where a number is given. The log is what came and
+  -- went at these acts, and nothing else.
+  pub record Serves (connections : Option ℕ) (old new : A) (log log' : Option (List Io)) : Type 0 where
+    pub acts : List Act
+    pub out : ℕ → List ℕ
+    pub run : Run old (λ _. []) acts new out
+    pub few : IfSome connections (λ n. joins acts ≤ n)
+    pub logged : Logs log log' (ios acts)
