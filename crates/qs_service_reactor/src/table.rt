@@ -112,7 +112,8 @@ impl Table {
 
     /// Each connection that is ready has one turn.
     pub fn take_turns<N: Network, E: Endpoint>(&mut self, net: &mut N, endpoint: &mut E)
-        ensures moves { Moves E.steps E.reply_of 0 self.old.connections.items self.new.connections.items
+        ensures moves { Moves E.steps E.reply_of 0
+            self.old.connections.items self.new.connections.items
             endpoint.old endpoint.new (N.log net.old) (N.log net.new) }
         ensures accepted { self.new.accepted ≡ self.old.accepted }
     {
@@ -125,7 +126,8 @@ impl Table {
     /// The turn of the connection at that place, if it is ready.
     fn turn_at<N: Network, E: Endpoint>(&mut self, place: usize, net: &mut N, endpoint: &mut E)
         requires { place < vec_len self.old.connections }
-        ensures moves { Moves E.steps E.reply_of 0 self.old.connections.items self.new.connections.items
+        ensures moves { Moves E.steps E.reply_of 0
+            self.old.connections.items self.new.connections.items
             endpoint.old endpoint.new (N.log net.old) (N.log net.new) }
         ensures len { vec_len self.new.connections ≡ vec_len self.old.connections }
         ensures accepted { self.new.accepted ≡ self.old.accepted }
@@ -146,7 +148,8 @@ impl Table {
         net: &mut N,
         endpoint: &mut E,
     ) -> u64
-        ensures moves { Moves E.steps E.reply_of 0 self.old.connections.items self.new.connections.items
+        ensures moves { Moves E.steps E.reply_of 0
+            self.old.connections.items self.new.connections.items
             endpoint.old endpoint.new (N.log net.old) (N.log net.new) }
         ensures accepted { self.new.accepted ≡ self.old.accepted }
     {
@@ -167,7 +170,8 @@ impl Table {
         endpoint: &mut E,
     ) -> u64
         requires { place < vec_len self.old.connections }
-        ensures moves { Moves E.steps E.reply_of 0 self.old.connections.items self.new.connections.items
+        ensures moves { Moves E.steps E.reply_of 0
+            self.old.connections.items self.new.connections.items
             endpoint.old endpoint.new (N.log net.old) (N.log net.new) }
         ensures len { vec_len self.new.connections ≡ vec_len self.old.connections }
         ensures accepted { self.new.accepted ≡ self.old.accepted }
@@ -194,7 +198,8 @@ impl Table {
         net: &mut N,
         endpoint: &mut E,
     ) -> io::Result<u64>
-        ensures moves { Moves E.steps E.reply_of 0 self.old.connections.items self.new.connections.items
+        ensures moves { Moves E.steps E.reply_of 0
+            self.old.connections.items self.new.connections.items
             endpoint.old endpoint.new (N.log net.old) (N.log net.new) }
         ensures accepted { self.new.accepted ≡ self.old.accepted }
     {
@@ -216,7 +221,8 @@ impl Table {
 
     /// Drops the silent connections, or if there are none the stalled ones, and counts them.
     fn drop_silent<N: Network, E: Endpoint>(&mut self, net: &mut N, endpoint: &mut E) -> u64
-        ensures moves { Moves E.steps E.reply_of 0 self.old.connections.items self.new.connections.items
+        ensures moves { Moves E.steps E.reply_of 0
+            self.old.connections.items self.new.connections.items
             endpoint.old endpoint.new (N.log net.old) (N.log net.new) }
         ensures accepted { self.new.accepted ≡ self.old.accepted }
     {
@@ -296,7 +302,8 @@ impl Table {
     fn take_in<N: Network, E: Endpoint>(&mut self, place: usize, net: &mut N, endpoint: &mut E)
         requires place { place < vec_len self.old.connections }
         requires accepted { self.old.accepted + 1 < 2 ^ 64 }
-        ensures moves { Moves E.steps E.reply_of 1 self.old.connections.items self.new.connections.items
+        ensures moves { Moves E.steps E.reply_of 1
+            self.old.connections.items self.new.connections.items
             endpoint.old endpoint.new (N.log net.old) (N.log net.new) }
         ensures len { vec_len self.new.connections ≡ vec_len self.old.connections }
         ensures accepted { self.new.accepted ≡ self.old.accepted + 1 }

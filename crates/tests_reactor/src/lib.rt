@@ -1,0 +1,26 @@
+//! Tests of the event loop: they stand in a crate of their own, since a crate with tests is proved twice.
+//!
+//! `script` is a network in memory with a clock of its own, whose log is known; `peers` has its clients. `echo` is an endpoint that replies with
+//! what it was sent.
+#![tactic(auto)]
+
+#[cfg(test)]
+mod crowd;
+#[cfg(test)]
+mod echo;
+#[cfg(test)]
+mod entry;
+#[cfg(test)]
+mod faults;
+#[cfg(test)]
+mod late;
+#[cfg(test)]
+mod peers;
+#[cfg(test)]
+mod run;
+#[cfg(test)]
+mod script;
+#[cfg(test)]
+mod served;
+#[cfg(test)]
+mod sockets;
