@@ -21,6 +21,9 @@ pub struct Echo {
 }
 
 impl Echo {
+    ghost use Rattle.qs_service_reactor.specs.Run.{KeepsReplies};
+    ghost use Rattle.tests_reactor.specs.Echo.{reply_at};
+
     /// No connections.
     pub fn new(alloc: Global) -> Result<Echo, AllocError> {
         let mut heard = Vec::new(alloc);
@@ -39,7 +42,9 @@ impl Echo {
     }
 
     /// The reply takes its place, unless one stands there.
-    fn answer(&mut self, place: usize, reply: Vec<u8>) {
+    fn answer(&mut self, place: usize, reply: Vec<u8>)
+        ensures { KeepsReplies (reply_at self.old.replies.items) (reply_at self.new.replies.items) }
+    {
         if place < self.replies.len() && self.replies[place].is_none() {
             self.replies[place] = Some(reply);
         }

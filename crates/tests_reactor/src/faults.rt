@@ -13,8 +13,8 @@ fn three(alloc: Global) -> Result<Peers, AllocError> {
     let mut peers = Peers::new(alloc)?;
     for i in 0..3u64 {
         let mut peer = Peer::new(alloc, i, 3);
-        peer.send(alloc, i * 10, &REQUEST[..2])?;
-        peer.send(alloc, i * 10 + 5, &REQUEST[2..])?;
+        peer.send(alloc, i * 10, b"a ")?;
+        peer.send(alloc, i * 10 + 5, b"line\n\n")?;
         peer.send(alloc, 100, b"and more")?;
         peer.send(alloc, 101, b"")?;
         peers.peers.push(peer)?;
