@@ -4,22 +4,18 @@
 //! what it was sent.
 #![tactic(auto)]
 
+mod echo;
+mod entry;
+mod peers;
+mod run;
+mod script;
+
 #[cfg(test)]
 mod crowd;
-#[cfg(test)]
-mod echo;
-#[cfg(test)]
-mod entry;
 #[cfg(test)]
 mod faults;
 #[cfg(test)]
 mod late;
-#[cfg(test)]
-mod peers;
-#[cfg(test)]
-mod run;
-#[cfg(test)]
-mod script;
 #[cfg(test)]
 mod served;
 #[cfg(test)]
