@@ -24,18 +24,18 @@ logs_more (Some a) (Some b) None xs ys h k = absurd k
 logs_more (Some a) (Some b) (Some c) xs ys h k = k ∙ ap (λ (l : List Io). l ++ ys) h ∙ append_assoc a xs ys
 
 module _ {A : Type 0} (steps : A → Event → Bool → A → Type 0) (reply_of : A → ℕ → Option (List ℕ)) where
-  pub run_more : (a b c : A) (s t u : ℕ → List ℕ) (xs ys : List Act) → Run steps reply_of a s xs b t → Run steps reply_of b t ys c u → Run steps reply_of a s (xs ++ ys) c u
-  run_more a b c s t u [] ys h k = subst (λ (x : A). Run steps reply_of x s ys c u) h.0 (subst (λ (f : ℕ → List ℕ). Run steps reply_of b f ys c u) h.1 k)
+  pub run_more : (a b c : A) (s t u : ℕ → Option (List ℕ)) (xs ys : List Act) → Run steps reply_of a s xs b t → Run steps reply_of b t ys c u → Run steps reply_of a s (xs ++ ys) c u
+  run_more a b c s t u [] ys h k = subst (λ (x : A). Run steps reply_of x s ys c u) h.0 (subst (λ (f : ℕ → Option (List ℕ)). Run steps reply_of b f ys c u) h.1 k)
   run_more a b c s t u (x ∷ xs) ys h k = (h.0, h.1, run_more h.0 b c (out_after s x) t u xs ys h.2 k)
 
 module _ {A : Type 0} {steps : A → Event → Bool → A → Type 0} {reply_of : A → ℕ → Option (List ℕ)} where
-  pub goes_none : (a : A) (s : ℕ → List ℕ) (n : ℕ) (l m : Option (List Io)) → Logs l m [] → Goes steps reply_of n a a s s l m
+  pub goes_none : (a : A) (s : ℕ → Option (List ℕ)) (n : ℕ) (l m : Option (List Io)) → Logs l m [] → Goes steps reply_of n a a s s l m
   goes_none a s n l m h = record { acts = []; run = (refl, refl); few = omega arith; logged = h }
 
-  pub goes_one : (a b : A) (s : ℕ → List ℕ) (act : Act) (n : ℕ) (l m : Option (List Io)) → Next steps reply_of a s act b → joins_of act ≤ n → Logs l m (ios_of act ++ []) → Goes steps reply_of n a b s (out_after s act) l m
+  pub goes_one : (a b : A) (s : ℕ → Option (List ℕ)) (act : Act) (n : ℕ) (l m : Option (List Io)) → Next steps reply_of a s act b → joins_of act ≤ n → Logs l m (ios_of act ++ []) → Goes steps reply_of n a b s (out_after s act) l m
   goes_one a b s act n l m h few k = record { acts = act ∷ []; run = (b, h, (refl, refl)); few = omega arith; logged = k }
 
-  pub goes_sum : (a b c : A) (s t u : ℕ → List ℕ) (i j n : ℕ) (l m o : Option (List Io)) → Goes steps reply_of i a b s t l m → Goes steps reply_of j b c t u m o → i + j ≤ n → Goes steps reply_of n a c s u l o
+  pub goes_sum : (a b c : A) (s t u : ℕ → Option (List ℕ)) (i j n : ℕ) (l m o : Option (List Io)) → Goes steps reply_of i a b s t l m → Goes steps reply_of j b c t u m o → i + j ≤ n → Goes steps reply_of n a c s u l o
   goes_sum a b c s t u i j n l m o h k le =
       let e = joins-append h.acts k.acts in
       let hf = h.few in

@@ -1,15 +1,16 @@
 -- Turns, and what a table does.
-use Rattle.std.proofs.Common.{◌≡◌, ◌∙◌, ◌≤◌, ◌<◌, ◌+◌, ℕ, Bool, true, false, List, [], ◌∷◌, ◌++◌, length, take, drop, slice_get, slice_set, Option, None, Some, IsSome, IfSome, option_map, refl, sym, subst, arith, ap, cond, append-nil, inl, inr}
+use Rattle.std.proofs.Common.{◌≡◌, ◌≢◌, ◌∙◌, ◌≤◌, ◌<◌, ◌+◌, ℕ, Bool, true, false, List, [], ◌∷◌, ◌++◌, length, take, drop, slice_get, slice_set, Option, None, Some, Result, Ok, Err, IsSome, IfSome, OnOk, option_map, refl, sym, subst, arith, ap, append-nil, append_assoc, length-append, length-take-le, inl, inr}
 use Rattle.std.proofs.lemmas.Bool.Decides.{eqb_tells}
+use Rattle.std.proofs.lemmas.List.{take-append-drop}
 use Rattle.std.specs.Option.{is_some}
 use Rattle.qs_service_reactor.specs.Log.{Io, Got, Put, Fin, Logs}
 use Rattle.qs_service_reactor.specs.Run.{Event, Join, Piece, End, Did, Wrote, Dropped, Finished, KeepsReplies, KeepsOthers, out_after, joins, Serves}
-use Rattle.qs_service_reactor.specs.inner.Turn.{AgreesAt, AllFree, Turns, Moves}
+use Rattle.qs_service_reactor.specs.inner.Turn.{IsSent, AgreesAt, AgreesPlace, Agrees, AllFree, Turns, Moves}
 use Rattle.qs_service_reactor.specs.declared.connection.Connection.{Connection}
 use Rattle.qs_service_reactor.specs.declared.connection.Stage.{Stage}
 use Rattle.qs_service_reactor.specs.declared.connection.Stage.TheVariants.{Free, Reading, Writing, Lingering}
 use Rattle.qs_service_reactor.proofs.Goes.{goes_none, goes_one, goes_sum}
-use Rattle.qs_service_reactor.proofs.Agrees.{at_same, at_other, set_here, set_there, agrees_kept, agrees_at, unsent_rest, agrees_wrote, agrees_free}
+use Rattle.qs_service_reactor.proofs.Agrees.{at_same, at_other, get_same, get_other, place_kept, unsent_rest, agrees_free, all_ended}
 
 pub keeps_same : (id : ℕ) (replies : ℕ → Option (List ℕ)) → KeepsOthers id replies replies
 keeps_same id replies = record { kept = λ k ne reply e. e }
@@ -20,28 +21,61 @@ keeps_others id old new h = record { kept = λ k ne reply e. h.kept k reply e }
 pub keeps_then : (id : ℕ) (f g h : ℕ → Option (List ℕ)) → KeepsOthers id f g → KeepsOthers id g h → KeepsOthers id f h
 keeps_then id f g h x y = record { kept = λ k ne reply e. y.kept k ne reply (x.kept k ne reply e) }
 
-pub few_of : (connections : Option ℕ) (i n most : ℕ) → IfSome connections (λ k. most ≡ k) → n ≤ most → i ≤ n → IfSome connections (λ k. i ≤ k)
+few_of : (connections : Option ℕ) (i n most : ℕ) → IfSome connections (λ k. most ≡ k) → n ≤ most → i ≤ n → IfSome connections (λ k. i ≤ k)
 few_of None i n most h le few = tt
 few_of (Some k) i n most h le few = omega arith
 
-pub few_none : (connections : Option ℕ) → IfSome connections (λ k. 0 ≤ k)
-few_none None = tt
-few_none (Some k) = omega arith
+-- what stands at a place after a write, and at the others
+at_places : (replies out : ℕ → Option (List ℕ)) (replies' out' : ℕ → Option (List ℕ)) (places : List Connection) (p : ℕ) (c : Connection) → p < length places → KeepsOthers p replies replies' → ((k : ℕ) → k ≢ p → out' k ≡ out k) → Agrees replies out places → AgreesAt (replies' p) (out' p) c.stage → Agrees replies' out' (slice_set places p c)
+at_places replies out replies' out' places p c lt keeps same h at k =
+    elim (eqb_tells k p) [
+      | inl t ↦ subst (λ (i : ℕ). AgreesPlace (replies' i) (out' i) (slice_get (slice_set places p c) i)) (sym t.1) (subst (λ (o : Option Connection). AgreesPlace (replies' p) (out' p) o) (sym (get_same places p c lt)) at)
+      | inr t ↦ subst (λ (o : Option Connection). AgreesPlace (replies' k) (out' k) o) (sym (get_other places p k c t.1)) (place_kept (replies k) (replies' k) (out k) (out' k) (slice_get places k) (keeps.kept k t.1) (same k t.1) (h k))
+    ]
+
+-- with what the peer takes of the bytes from there on, all that went out is still a front of the reply
+wrote_stands : (reply out : Option (List ℕ)) (next : List ℕ) (n i : ℕ) (h : IsSent reply out n) → Some next ≡ option_map (drop n) reply → reply ≡ Some (h.sent ++ take i next ++ drop i next)
+wrote_stands reply out next n i h e =
+    let split : h.sent ++ next ≡ (h.sent ++ take i next) ++ drop i next = ap (λ (l : List ℕ). h.sent ++ l) (sym (take-append-drop i next)) ∙ sym (append_assoc h.sent (take i next) (drop i next)) in
+    unsent_rest reply out next n h e ∙ ap (λ (l : List ℕ). Some l) split
+
+wrote : (reply out out' : Option (List ℕ)) (next : List ℕ) (n i m : ℕ) (h : IsSent reply out n) → Some next ≡ option_map (drop n) reply → i ≤ length next → m ≡ n + i → out' ≡ option_map (λ (sent : List ℕ). sent ++ take i next) out → IsSent reply out' m
+wrote reply out out' next n i m h e le sum is =
+    let count = h.count in
+    record {
+      sent = h.sent ++ take i next;
+      rest = drop i next;
+      joined = is ∙ ap (λ (o : Option (List ℕ)). option_map (λ (sent : List ℕ). sent ++ take i next) o) h.joined;
+      stands = wrote_stands reply out next n i h e;
+      count = omega (arith, length-append h.sent (take i next), length-take-le i next le);
+    }
+
+ended_of : {T E : Type 0} (replies out : ℕ → Option (List ℕ)) (places : List Connection) (result : Result T E) → OnOk result (AllFree places) → Agrees replies out places → OnOk result ((id : ℕ) → out id ≡ None)
+ended_of {T} {E} replies out places (Ok t) h e = all_ended replies out places h e
+ended_of {T} {E} replies out places (Err x) h e = tt
 
 module _ {A : Type 0} {steps : A → Event → Bool → A → Type 0} {reply_of : A → ℕ → Option (List ℕ)} where
   pub turns_none : (p : ℕ) (s : Stage) (a : A) (l m : Option (List Io)) → Logs l m [] → Turns steps reply_of p s s a a l m
   turns_none p s a l m h = record { goes = λ out e. (out, goes_none a out 0 l m h, e, λ k ne. refl); keeps = keeps_same p (reply_of a) }
 
   pub turns_end : (p : ℕ) (s : Stage) (a b : A) (done : Bool) (l m : Option (List Io)) → steps a (End p) done b → KeepsOthers p (reply_of a) (reply_of b) → Logs l m [] → Turns steps reply_of p s Free a b l m
-  turns_end p s a b done l m h kept k = record { goes = λ out e. (out, goes_one a b out (Did (End p) done) 0 l m h (omega arith) k, tt, λ j ne. refl); keeps = kept }
+  turns_end p s a b done l m h kept k = record {
+    goes = λ out e. (
+      out_after out (Did (End p) done),
+      goes_one a b out (Did (End p) done) 0 l m h (omega arith) k,
+      at_same p None (out p),
+      λ j ne. at_other j p None (out j) ne,
+    );
+    keeps = kept;
+  }
 
-  pub turns_received : (p : ℕ) (s t u : Stage) (bytes : List ℕ) (a b : A) (done : Bool) (l m : Option (List Io)) → s ≡ Reading → Logs l m (Got p bytes ∷ []) → steps a (Piece p bytes) done b → KeepsReplies (reply_of a) (reply_of b) → AgreesAt (reply_of b p) [] t → u ≡ t → Turns steps reply_of p s u a b l m
+  pub turns_received : (p : ℕ) (s t u : Stage) (bytes : List ℕ) (a b : A) (done : Bool) (l m : Option (List Io)) → s ≡ Reading → Logs l m (Got p bytes ∷ []) → steps a (Piece p bytes) done b → KeepsReplies (reply_of a) (reply_of b) → AgreesAt (reply_of b p) (Some []) t → u ≡ t → Turns steps reply_of p s u a b l m
   turns_received p s t u bytes a b done l m is k h kept at now = record {
     goes = λ out e.
-        let empty : out p ≡ [] = subst (λ (x : Stage). AgreesAt (reply_of a p) (out p) x) is e in (
+        let none : out p ≡ Some [] = subst (λ (x : Stage). AgreesAt (reply_of a p) (out p) x) is e in (
           out,
           goes_one a b out (Did (Piece p bytes) done) 0 l m h (omega arith) k,
-          subst (λ (x : Stage). AgreesAt (reply_of b p) (out p) x) (sym now) (subst (λ (o : List ℕ). AgreesAt (reply_of b p) o t) (sym empty) at),
+          subst (λ (x : Stage). AgreesAt (reply_of b p) (out p) x) (sym now) (subst (λ (o : Option (List ℕ)). AgreesAt (reply_of b p) o t) (sym none) at),
           λ j ne. refl,
         );
     keeps = keeps_others p (reply_of a) (reply_of b) kept;
@@ -50,37 +84,40 @@ module _ {A : Type 0} {steps : A → Event → Bool → A → Type 0} {reply_of 
   pub turns_drained : (p : ℕ) (s t : Stage) (bytes : List ℕ) (a : A) (l m : Option (List Io)) → s ≡ Lingering → t ≡ Lingering → Logs l m (Got p bytes ∷ []) → Turns steps reply_of p s t a a l m
   turns_drained p s t bytes a l m is now k = record {
     goes = λ out e.
-        let stands : IsSome (reply_of a p) = subst (λ (x : Stage). AgreesAt (reply_of a p) (out p) x) is e in (
+        let stands : AgreesAt (reply_of a p) (out p) Lingering = subst (λ (x : Stage). AgreesAt (reply_of a p) (out p) x) is e in (
           out,
-          goes_one a a out (Dropped p bytes) 0 l m (refl, stands) (omega arith) k,
+          goes_one a a out (Dropped p bytes) 0 l m (refl, stands.0, stands.1) (omega arith) k,
           subst (λ (x : Stage). AgreesAt (reply_of a p) (out p) x) (sym now) stands,
           λ j ne. refl,
         );
     keeps = keeps_same p (reply_of a);
   }
 
-  pub turns_wrote : (p : ℕ) (s t : Stage) (sent n m : ℕ) (next : List ℕ) (a : A) (l o : Option (List Io)) → s ≡ Writing sent → t ≡ Writing m → m ≡ sent + n → Logs l o (Put p (take n next) ∷ []) → Some next ≡ option_map (drop sent) (reply_of a p) → n ≤ length next → Turns steps reply_of p s t a a l o
-  turns_wrote p s t sent n m next a l o is now sum k e le = record {
+  pub turns_wrote : (p : ℕ) (s t : Stage) (n i m : ℕ) (next : List ℕ) (a : A) (l o : Option (List Io)) → s ≡ Writing n → t ≡ Writing m → m ≡ n + i → Logs l o (Put p (take i next) ∷ []) → Some next ≡ option_map (drop n) (reply_of a p) → i ≤ length next → Turns steps reply_of p s t a a l o
+  turns_wrote p s t n i m next a l o is now sum k e le = record {
     goes = λ out at.
-        let h : AgreesAt (reply_of a p) (out p) (Writing sent) = subst (λ (x : Stage). AgreesAt (reply_of a p) (out p) x) is at in
-        let f : AgreesAt (reply_of a p) (out p ++ take n next) (Writing m) = agrees_wrote (reply_of a p) (out p) next sent n m h.1 (unsent_rest (reply_of a p) (out p) next sent h e) le sum in (
-          out_after out (Wrote p (take n next)),
-          goes_one a a out (Wrote p (take n next)) 0 l o (refl, f.0) (omega arith) k,
-          subst (λ (x : Stage). AgreesAt (reply_of a p) (out_after out (Wrote p (take n next)) p) x) (sym now) (subst (λ (b : List ℕ). AgreesAt (reply_of a p) b (Writing m)) (sym (at_same p (out p ++ take n next) (out p))) f),
-          λ j ne. at_other j p (out j ++ take n next) (out j) ne,
+        let h : IsSent (reply_of a p) (out p) n = subst (λ (x : Stage). AgreesAt (reply_of a p) (out p) x) is at in
+        let out' : ℕ → Option (List ℕ) = out_after out (Wrote p (take i next)) in
+        let same : out' p ≡ option_map (λ (sent : List ℕ). sent ++ take i next) (out p) = at_same p (option_map (λ (sent : List ℕ). sent ++ take i next) (out p)) (out p) in
+        let f : IsSent (reply_of a p) (out' p) m = wrote (reply_of a p) (out p) (out' p) next n i m h e le sum same in (
+          out',
+          goes_one a a out (Wrote p (take i next)) 0 l o (refl, record { sent = h.sent; rest = drop i next; joined = h.joined; stands = wrote_stands (reply_of a p) (out p) next n i h e }) (omega arith) k,
+          subst (λ (x : Stage). AgreesAt (reply_of a p) (out' p) x) (sym now) f,
+          λ j ne. at_other j p (option_map (λ (sent : List ℕ). sent ++ take i next) (out j)) (out j) ne,
         );
     keeps = keeps_same p (reply_of a);
   }
 
-  pub turns_finished : (p : ℕ) (s t : Stage) (sent : ℕ) (next : List ℕ) (a : A) (l o : Option (List Io)) → s ≡ Writing sent → t ≡ Lingering → Logs l o (Fin p ∷ []) → Some next ≡ option_map (drop sent) (reply_of a p) → next ≡ [] → Turns steps reply_of p s t a a l o
-  turns_finished p s t sent next a l o is now k e none = record {
+  pub turns_finished : (p : ℕ) (s t : Stage) (n : ℕ) (next : List ℕ) (a : A) (l o : Option (List Io)) → s ≡ Writing n → t ≡ Lingering → Logs l o (Fin p ∷ []) → Some next ≡ option_map (drop n) (reply_of a p) → next ≡ [] → Turns steps reply_of p s t a a l o
+  turns_finished p s t n next a l o is now k e none = record {
     goes = λ out at.
-        let h : AgreesAt (reply_of a p) (out p) (Writing sent) = subst (λ (x : Stage). AgreesAt (reply_of a p) (out p) x) is at in
-        let whole : reply_of a p ≡ Some (out p) = unsent_rest (reply_of a p) (out p) next sent h e ∙ ap (λ (x : List ℕ). Some (out p ++ x)) none ∙ ap (λ (x : List ℕ). Some x) (append-nil (out p)) in
+        let h : IsSent (reply_of a p) (out p) n = subst (λ (x : Stage). AgreesAt (reply_of a p) (out p) x) is at in
+        let whole : reply_of a p ≡ Some h.sent = unsent_rest (reply_of a p) (out p) next n h e ∙ ap (λ (x : List ℕ). Some (h.sent ++ x)) none ∙ ap (λ (x : List ℕ). Some x) (append-nil h.sent) in
+        let joined : IsSome (out p) = ap (λ (r : Option (List ℕ)). is_some r) h.joined in
         let stands : IsSome (reply_of a p) = ap (λ (r : Option (List ℕ)). is_some r) whole in (
           out,
-          goes_one a a out (Finished p) 0 l o (refl, whole) (omega arith) k,
-          subst (λ (x : Stage). AgreesAt (reply_of a p) (out p) x) (sym now) stands,
+          goes_one a a out (Finished p) 0 l o (refl, joined, whole ∙ sym h.joined) (omega arith) k,
+          subst (λ (x : Stage). AgreesAt (reply_of a p) (out p) x) (sym now) (joined, stands),
           λ j ne. refl,
         );
     keeps = keeps_same p (reply_of a);
@@ -101,40 +138,28 @@ module _ {A : Type 0} {steps : A → Event → Bool → A → Type 0} {reply_of 
   pub moves_turn : (p : ℕ) (c c' : Connection) (places : List Connection) (a b : A) (l m : Option (List Io)) → slice_get places p ≡ Some c → p < length places → Turns steps reply_of p c.stage c'.stage a b l m → Moves steps reply_of 0 places (slice_set places p c') a b l m
   moves_turn p c c' places a b l m is lt h = record {
     goes = λ out e.
-        let f = h.goes out (e p c is) in (
-          f.0,
-          f.1,
-          λ k x at.
-              elim (eqb_tells k p) [
-                | inl t ↦ subst (λ (i : ℕ). AgreesAt (reply_of b i) (f.0 i) x.stage) (sym t.1) (subst (λ (y : Connection). AgreesAt (reply_of b p) (f.0 p) y.stage) (set_here places p k x c' lt t.1 at) f.2)
-                | inr t ↦ agrees_at (reply_of a k) (reply_of b k) (out k) (f.0 k) x.stage (h.keeps.kept k t.1) (f.3 k t.1) (e k x (set_there places p k x c' t.1 at))
-              ],
-        );
+        let here : AgreesAt (reply_of a p) (out p) c.stage = subst (λ (o : Option Connection). AgreesPlace (reply_of a p) (out p) o) is (e p) in
+        let f = h.goes out here in
+        (f.0, f.1, at_places (reply_of a) out (reply_of b) f.0 places p c' lt h.keeps f.3 e f.2);
   }
 
   pub moves_joined : (p : ℕ) (c : Connection) (places : List Connection) (a b : A) (l m : Option (List Io)) → p < length places → c.stage ≡ Reading → steps a (Join p) true b → KeepsReplies (reply_of a) (reply_of b) → Logs l m [] → Moves steps reply_of 1 places (slice_set places p c) a b l m
   moves_joined p c places a b l m lt is h kept k = record {
-    goes = λ out e. (
-      out_after out (Did (Join p) true),
-      goes_one a b out (Did (Join p) true) 1 l m h (omega arith) k,
-      λ j x at.
-          elim (eqb_tells j p) [
-            | inl t ↦ subst (λ (s : Stage). AgreesAt (reply_of b j) (out_after out (Did (Join p) true) j) s) (sym is ∙ ap (λ (y : Connection). y.stage) (set_here places p j x c lt t.1 at)) (ap (λ (v : Bool). cond v [] (out j)) t.0)
-            | inr t ↦ agrees_at (reply_of a j) (reply_of b j) (out j) (out_after out (Did (Join p) true) j) x.stage (kept.kept j) (ap (λ (v : Bool). cond v [] (out j)) t.0) (e j x (set_there places p j x c t.1 at))
-          ],
-    );
+    goes = λ out e.
+        let out' : ℕ → Option (List ℕ) = out_after out (Did (Join p) true) in
+        let here : AgreesAt (reply_of b p) (out' p) c.stage = subst (λ (s : Stage). AgreesAt (reply_of b p) (out' p) s) (sym is) (at_same p (Some []) (out p)) in (
+          out',
+          goes_one a b out (Did (Join p) true) 1 l m h (omega arith) k,
+          at_places (reply_of a) out (reply_of b) out' places p c lt (keeps_others p (reply_of a) (reply_of b) kept) (λ j ne. at_other j p (Some []) (out j) ne) e here,
+        );
   }
 
-  pub moves_refused : (p : ℕ) (c : Connection) (places : List Connection) (a b : A) (l m : Option (List Io)) → p < length places → c.stage ≡ Free → steps a (Join p) false b → KeepsReplies (reply_of a) (reply_of b) → Logs l m [] → Moves steps reply_of 1 places (slice_set places p c) a b l m
-  moves_refused p c places a b l m lt is h kept k = record {
+  pub moves_refused : (p : ℕ) (places : List Connection) (a b : A) (l m : Option (List Io)) → steps a (Join p) false b → KeepsReplies (reply_of a) (reply_of b) → Logs l m [] → Moves steps reply_of 1 places places a b l m
+  moves_refused p places a b l m h kept k = record {
     goes = λ out e. (
       out,
       goes_one a b out (Did (Join p) false) 1 l m h (omega arith) k,
-      λ j x at.
-          elim (eqb_tells j p) [
-            | inl t ↦ subst (λ (s : Stage). AgreesAt (reply_of b j) (out j) s) (sym is ∙ ap (λ (y : Connection). y.stage) (set_here places p j x c lt t.1 at)) tt
-            | inr t ↦ agrees_kept (reply_of a j) (reply_of b j) (out j) x.stage (kept.kept j) (e j x (set_there places p j x c t.1 at))
-          ],
+      λ j. place_kept (reply_of a j) (reply_of b j) (out j) (out j) (slice_get places j) (kept.kept j) refl (e j),
     );
   }
 
@@ -157,10 +182,14 @@ module _ {A : Type 0} {steps : A → Event → Bool → A → Type 0} {reply_of 
   moves_from n x x' y a b l m e h = subst (λ (z : List Connection). Moves steps reply_of n z y a b l m) e h
 
   -- what a table with no connections does
-  pub serves_of : (connections : Option ℕ) (n most : ℕ) (x y : List Connection) (a b : A) (l m : Option (List Io)) → AllFree x → Moves steps reply_of n x y a b l m → IfSome connections (λ k. most ≡ k) → n ≤ most → Serves steps reply_of connections a b l m
-  serves_of connections n most x y a b l m free h is le =
-      let f = h.goes (λ _. []) (agrees_free (reply_of a) (λ _. []) x free) in
-      record { acts = f.1.acts; out = f.0; run = f.1.run; few = few_of connections (joins f.1.acts) n most is le f.1.few; logged = f.1.logged }
-
-  pub serves_none : (connections : Option ℕ) (a : A) (l m : Option (List Io)) → Logs l m [] → Serves steps reply_of connections a a l m
-  serves_none connections a l m h = record { acts = []; out = λ _. []; run = (refl, refl); few = few_none connections; logged = h }
+  pub serves_of : {T E : Type 0} (connections : Option ℕ) (n most : ℕ) (x y : List Connection) (result : Result T E) (a b : A) (l m : Option (List Io)) → AllFree x → Moves steps reply_of n x y a b l m → IfSome connections (λ k. most ≡ k) → n ≤ most → OnOk result (AllFree y) → Serves steps reply_of connections result a b l m
+  serves_of {T} {E} connections n most x y result a b l m free h is le end =
+      let f = h.goes (λ _. None) (agrees_free (reply_of a) x free) in
+      record {
+        acts = f.1.acts;
+        out = f.0;
+        run = f.1.run;
+        few = few_of connections (joins f.1.acts) n most is le f.1.few;
+        logged = f.1.logged;
+        ended = ended_of (reply_of b) f.0 y result end f.2;
+      }

@@ -1,5 +1,5 @@
 -- What a reactor does, one act after another.
-use Rattle.std.specs.Prelude.{◌≡◌, ◌≢◌, ◌≤◌, ◌+◌, ◌==◌, ℕ, Bool, true, false, List, [], ◌∷◌, ◌++◌, Option, Some, IsSome, IfSome, if◌then◌else◌}
+use Rattle.std.specs.Prelude.{◌≡◌, ◌≢◌, ◌≤◌, ◌+◌, ◌==◌, ℕ, Bool, true, false, List, [], ◌∷◌, ◌++◌, Option, None, Some, Result, IsSome, IfSome, OnOk, option_map, if◌then◌else◌}
 use Rattle.qs_service_reactor.specs.Log.{Io, Got, Put, Fin, Logs}
 
 -- a connection joins, a piece of bytes arrives on one, or one ends
@@ -16,13 +16,13 @@ pub data Act : Type 0 where
   Dropped : (id : ℕ) → (bytes : List ℕ) → Act
   Finished : (id : ℕ) → Act
 
--- all bytes that went out to each connection since it joined, after this act
-abbrev pub out_after : (ℕ → List ℕ) → Act → ℕ → List ℕ
-out_after out (Did (Join id) true) k = if k == id then [] else out k
+-- the bytes that went out to each joined connection since it joined, after this act; none where none is joined
+abbrev pub out_after : (ℕ → Option (List ℕ)) → Act → ℕ → Option (List ℕ)
+out_after out (Did (Join id) true) k = if k == id then Some [] else out k
 out_after out (Did (Join id) false) k = out k
 out_after out (Did (Piece id bytes) done) k = out k
-out_after out (Did (End id) done) k = out k
-out_after out (Wrote id bytes) k = if k == id then out k ++ bytes else out k
+out_after out (Did (End id) done) k = if k == id then None else out k
+out_after out (Wrote id bytes) k = if k == id then option_map (λ sent. sent ++ bytes) (out k) else out k
 out_after out (Dropped id bytes) k = out k
 out_after out (Finished id) k = out k
 
@@ -52,10 +52,12 @@ abbrev pub joins : List Act → ℕ
 joins [] = 0
 joins (act ∷ acts) = joins_of act + joins acts
 
--- a reply stands, which begins with these bytes
-pub record BeginsReply (reply : Option (List ℕ)) (bytes : List ℕ) : Type 0 where
+-- the connection is joined and its reply stands, which begins with what went out to it and then these bytes
+pub record GoesOn (reply out : Option (List ℕ)) (bytes : List ℕ) : Type 0 where
+  pub sent : List ℕ
   pub rest : List ℕ
-  pub stands : reply ≡ Some (bytes ++ rest)
+  pub joined : out ≡ Some sent
+  pub stands : reply ≡ Some (sent ++ bytes ++ rest)
 
 -- each reply that stands stays
 pub record KeepsReplies (old new : ℕ → Option (List ℕ)) : Type 0 where
@@ -68,22 +70,23 @@ pub record KeepsOthers (id : ℕ) (old new : ℕ → Option (List ℕ)) : Type 0
 module _ {A : Type 0} (steps : A → Event → Bool → A → Type 0) (reply_of : A → ℕ → Option (List ℕ)) where
   -- One act: the endpoint makes a step, or stays. With the bytes that go out, all that went out since the join are a front of the one reply;
   -- the peer is told of the end once they are all of it; and bytes are dropped only once the reply stands.
-  abbrev pub Next : A → (ℕ → List ℕ) → Act → A → Type 0
+  abbrev pub Next : A → (ℕ → Option (List ℕ)) → Act → A → Type 0
   Next old out (Did event done) new = steps old event done new
-  Next old out (Wrote id bytes) new = (new ≡ old) × BeginsReply (reply_of old id) (out id ++ bytes)
-  Next old out (Dropped id bytes) new = (new ≡ old) × IsSome (reply_of old id)
-  Next old out (Finished id) new = (new ≡ old) × (reply_of old id ≡ Some (out id))
+  Next old out (Wrote id bytes) new = (new ≡ old) × GoesOn (reply_of old id) (out id) bytes
+  Next old out (Dropped id bytes) new = (new ≡ old) × IsSome (out id) × IsSome (reply_of old id)
+  Next old out (Finished id) new = (new ≡ old) × IsSome (out id) × (reply_of old id ≡ out id)
 
   -- one act after another
-  abbrev pub Run : A → (ℕ → List ℕ) → List Act → A → (ℕ → List ℕ) → Type 0
+  abbrev pub Run : A → (ℕ → Option (List ℕ)) → List Act → A → (ℕ → Option (List ℕ)) → Type 0
   Run old out [] new out' = (new ≡ old) × (out' ≡ out)
   Run old out (act ∷ acts) new out' = (mid : A) × Next old out act mid × Run mid (out_after out act) acts new out'
 
   -- Some acts lead from the old endpoint to the new one. At most so many connections join, where a number is given. The log is what came and
-  -- went at these acts, and nothing else.
-  pub record Serves (connections : Option ℕ) (old new : A) (log log' : Option (List Io)) : Type 0 where
+  -- went at these acts, and nothing else. All that joined have ended, unless there was an error.
+  pub record Serves {T E : Type 0} (connections : Option ℕ) (result : Result T E) (old new : A) (log log' : Option (List Io)) : Type 0 where
     pub acts : List Act
-    pub out : ℕ → List ℕ
-    pub run : Run old (λ _. []) acts new out
+    pub out : ℕ → Option (List ℕ)
+    pub run : Run old (λ _. None) acts new out
     pub few : IfSome connections (λ n. joins acts ≤ n)
     pub logged : Logs log log' (ios acts)
+    pub ended : OnOk result ((id : ℕ) → out id ≡ None)

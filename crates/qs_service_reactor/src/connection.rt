@@ -1,7 +1,7 @@
 //! One connection, and its turn.
 
-ghost use Rattle.std.specs.Prelude.{◌≡◌, []};
-ghost use Rattle.qs_service_reactor.specs.inner.Turn.{AgreesAt, Turns};
+ghost use Rattle.std.specs.Prelude.{◌≡◌, [], Some};
+ghost use Rattle.qs_service_reactor.specs.inner.Turn.{AgreesAt, Turns, is_free};
 
 use crate::endpoint::Endpoint;
 use crate::limits::Limits;
@@ -83,7 +83,7 @@ fn turn_of(n: usize) -> Turn {
 
 /// How far a connection has come after a piece: it writes once its reply stands.
 fn stage_after<E: Endpoint>(place: usize, endpoint: &E) -> Stage
-    ensures { AgreesAt (E.reply_of endpoint.now place) [] result }
+    ensures { AgreesAt (E.reply_of endpoint.now place) (Some []) result }
 {
     match endpoint.unsent(place as u64, 0) {
         Some(_) => Stage::Writing(0),
@@ -119,8 +119,13 @@ impl Connection {
     }
 
     /// Whether there is no connection at this place.
-    pub fn is_free(&self) -> bool {
-        self.stage == Stage::Free
+    pub fn is_free(&self) -> bool
+        ensures { result ≡ is_free self.now }
+    {
+        match self.stage {
+            Stage::Free => true,
+            Stage::Reading | Stage::Writing(_) | Stage::Lingering => false,
+        }
     }
 
     /// Whether the connection may be dropped for that cause.

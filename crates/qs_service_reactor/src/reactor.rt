@@ -61,18 +61,18 @@ pub fn serve_events<N: Network, E: Endpoint, O: Observer>(
     endpoint: &mut E,
     observer: &mut O,
 ) -> io::Result<()>
-    ensures { Serves E.steps E.reply_of connections
+    ensures { Serves E.steps E.reply_of connections result
         endpoint.old endpoint.new (N.log net.old) (N.log net.new) }
 {
     let most = most_of(connections);
     let mut table = Table::new(alloc, limits)?;
     for _ in 0..u64::MAX {
         if table.is_done(most) {
-            break;
+            return Ok(());
         }
         let waited = net.wait(table.timeout(most), &mut table.ready)?;
         table.note(waited);
         take_round(&mut table, most, net, endpoint, observer)?;
     }
-    Ok(())
+    Err(io::Error::other("the loop has come to its last round"))
 }

@@ -1,7 +1,8 @@
 //! The places of the connections.
 
 ghost use Rattle.std.specs.Prelude.{◌≡◌, ◌≤◌, ◌<◌, ◌-◌, ◌+◌, ◌^◌, vec_len, IfOk, IsTrue};
-ghost use Rattle.qs_service_reactor.specs.inner.Turn.{AllFree, Moves};
+ghost use Rattle.std.specs.List.{list_all};
+ghost use Rattle.qs_service_reactor.specs.inner.Turn.{AllFree, Moves, is_free};
 
 use crate::arrivals::{Arrivals, arrivals_after};
 use crate::connection::{Cause, Connection};
@@ -63,14 +64,9 @@ impl Table {
         })
     }
 
-    /// How many connections there are.
-    fn open(&self) -> usize {
-        self.connections.iter().filter(|c| !c.is_free()).count()
-    }
-
     /// Whether all places are taken.
     fn is_full(&self) -> bool {
-        self.open() == self.connections.len()
+        !self.connections.iter().any(|c| c.is_free())
     }
 
     /// Whether somebody may be waiting who is to be accepted.
@@ -80,9 +76,18 @@ impl Table {
         self.arrivals == Arrivals::Pending && self.accepted < most
     }
 
+    /// Whether there are no connections.
+    fn is_empty(&self) -> bool
+        ensures { result ≡ list_all is_free self.now.connections.items }
+    {
+        self.connections.iter().all(|c| c.is_free())
+    }
+
     /// Whether that many were accepted, and all have ended.
-    pub fn is_done(&self, most: u64) -> bool {
-        self.accepted >= most && self.open() == 0
+    pub fn is_done(&self, most: u64) -> bool
+        ensures { IsTrue result → AllFree self.now.connections.items }
+    {
+        self.is_empty() && self.accepted >= most
     }
 
     /// How long to wait: not at all where something can go on at once, and for ever where no connection is open.
@@ -92,10 +97,10 @@ impl Table {
             Some(Duration::ZERO)
         } else if is_wanted {
             Some(Duration::from_millis(FULL_TICK))
-        } else if self.open() > 0 {
-            Some(Duration::from_millis(TICK))
-        } else {
+        } else if self.is_empty() {
             None
+        } else {
+            Some(Duration::from_millis(TICK))
         }
     }
 
@@ -292,7 +297,7 @@ impl Table {
                 Ok(())
             }
             Err(fault) => {
-                self.arrivals = arrivals_after(fault, self.open() > 0)?;
+                self.arrivals = arrivals_after(fault, !self.is_empty())?;
                 Ok(())
             }
         }
@@ -313,7 +318,6 @@ impl Table {
             self.connections[place] = Connection::new(self.clock);
             self.ready[place] = true;
         } else {
-            self.connections[place] = Connection::free();
             net.close(place);
         }
     }

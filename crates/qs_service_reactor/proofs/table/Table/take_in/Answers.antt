@@ -9,6 +9,4 @@ returns-then-join-clause-moves g c =
     moves_joined _ _ _ _ _ _ _ lt c.new.ensures c.if-join.ensures.step c.if-join.ensures.keeps (logs_none _)
 
 pub returns-else-join-clause-moves : goal.returns-else-join-clause-moves
-returns-else-join-clause-moves g c =
-    let lt : c.args.place < length c.args.self.now.connections.items = let at = c.requires.place in omega arith in
-    moves_refused _ _ _ _ _ _ _ lt c.free.ensures c.if-join.ensures.step c.if-join.ensures.keeps c.close.ensures
+returns-else-join-clause-moves g c = moves_refused _ _ _ _ _ _ c.if-join.ensures.step c.if-join.ensures.keeps c.close.ensures
