@@ -45,7 +45,7 @@ fn silent(alloc: Global, until: u64, is_third: bool) -> Result<Peers, AllocError
 
 #[test]
 fn silent_connections_make_room(rt: HostRuntime) -> Result<(), Fail> {
-    let outcome = run(rt.alloc(), silent(rt.alloc(), 5_000, true)?, 0, 2, 3)?;
+    let outcome = run(rt.alloc(), silent(rt.alloc(), 5_000, true)?, 2, 3)?;
     assert!(rt; outcome.result.is_ok());
     assert_eq!(rt; times(&outcome, 0), (millis(0), millis(60)));
     assert_eq!(rt; times(&outcome, 1), (millis(0), millis(60)));
@@ -57,7 +57,7 @@ fn silent_connections_make_room(rt: HostRuntime) -> Result<(), Fail> {
 
 #[test]
 fn silent_connections_stay_where_nobody_waits(rt: HostRuntime) -> Result<(), Fail> {
-    let outcome = run(rt.alloc(), silent(rt.alloc(), 5_000, false)?, 0, 2, 2)?;
+    let outcome = run(rt.alloc(), silent(rt.alloc(), 5_000, false)?, 2, 2)?;
     assert!(rt; outcome.result.is_ok());
     assert!(rt; has(&outcome, 0, b"late\n\n"));
     assert!(rt; has(&outcome, 1, b"late\n\n"));
@@ -76,7 +76,7 @@ fn stalled_and_lingering_connections_make_room(rt: HostRuntime) -> Result<(), Fa
     peers.peers.push(stalled)?;
     peers.peers.push(lingering)?;
     peers.peers.push(simple(rt.alloc(), 100, b"c\n\n")?)?;
-    let outcome = run(rt.alloc(), peers, 0, 1, 3)?;
+    let outcome = run(rt.alloc(), peers, 1, 3)?;
     assert!(rt; outcome.result.is_ok());
     assert_eq!(rt; times(&outcome, 0), (millis(0), millis(2_000)));
     assert_eq!(rt; times(&outcome, 1), (millis(2_000), millis(2_050)));

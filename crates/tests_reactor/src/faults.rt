@@ -1,8 +1,10 @@
 //! A fault at each call of the network in turn.
 
 use crate::peers::{Peer, Peers};
-use crate::run::{Outcome, run};
+use crate::run::{Outcome, run_with};
+use crate::script::Fault;
 use std::alloc::{AllocError, Global};
+use std::io::ErrorKind;
 use std::test::Fail;
 
 /// The request of each client.
@@ -31,20 +33,58 @@ fn are_fronts(outcome: &Outcome) -> bool {
     })
 }
 
-#[test]
-fn fault_at_each_call(rt: HostRuntime) -> Result<(), Fail> {
-    let mut faults = 0u64;
-    for fault in 1..1_000u64 {
-        let outcome = run(rt.alloc(), three(rt.alloc())?, fault, 2, 3)?;
-        assert!(rt; are_fronts(&outcome), "a fault at call {fault}");
-        if outcome.script.calls < fault {
+/// How many clients got the whole reply.
+fn whole_count(outcome: &Outcome) -> usize {
+    let peers = &outcome.script.peers.peers;
+    peers
+        .iter()
+        .filter(|peer| peer.received.as_slice() == REQUEST.as_slice())
+        .count()
+}
+
+/// How many calls a run has that meets no fault. A call that was interrupted is made again, unless it is a wait.
+fn calls_of(rt: &HostRuntime, kind: ErrorKind) -> Result<u64, Fail> {
+    for call in 1..1_000u64 {
+        let fault = Fault { call, kind };
+        let outcome = run_with(rt.alloc(), three(rt.alloc())?, fault, 2, 3)?;
+        assert!(rt; are_fronts(&outcome), "a fault at call {call}");
+        if kind == ErrorKind::Interrupted && outcome.result.is_ok() {
+            assert_eq!(rt; whole_count(&outcome), 3, "interrupted at call {call}");
+        }
+        if outcome.script.calls < call {
             assert!(rt; outcome.result.is_ok());
             assert_eq!(rt; outcome.echo.ended, 3);
-            break;
+            return Ok(outcome.script.calls);
         }
-        faults = fault;
     }
-    assert!(rt; faults > 20);
-    assert!(rt; faults < 999);
+    Ok(0)
+}
+
+#[test]
+fn fault_at_each_call(rt: HostRuntime) -> Result<(), Fail> {
+    for kind in [
+        ErrorKind::Other,
+        ErrorKind::Interrupted,
+        ErrorKind::ConnectionAborted,
+        ErrorKind::OutOfMemory,
+    ] {
+        assert!(rt; calls_of(&rt, kind)? > 20);
+    }
+    Ok(())
+}
+
+#[test]
+fn accept_that_fails_first(rt: HostRuntime) -> Result<(), Fail> {
+    for (kind, is_served) in [
+        (ErrorKind::Other, false),
+        (ErrorKind::OutOfMemory, false),
+        (ErrorKind::Interrupted, true),
+        (ErrorKind::ConnectionAborted, true),
+    ] {
+        let fault = Fault { call: 2, kind };
+        let outcome = run_with(rt.alloc(), three(rt.alloc())?, fault, 2, 3)?;
+        assert_eq!(rt; outcome.result.is_ok(), is_served);
+        assert_eq!(rt; outcome.echo.joined, if is_served { 3 } else { 0 });
+    }
     Ok(())
 }

@@ -13,7 +13,7 @@ type End = (Option<Duration>, bool, usize);
 fn end_of(alloc: Global, peer: Peer) -> Result<End, AllocError> {
     let mut peers = Peers::new(alloc)?;
     peers.peers.push(peer)?;
-    let outcome = run(alloc, peers, 0, 2, 1)?;
+    let outcome = run(alloc, peers, 2, 1)?;
     match outcome.script.peers.peers.get(0) {
         Some(peer) => Ok((peer.closed, peer.finished.is_some(), peer.received.len())),
         None => Ok((None, false, 0)),

@@ -2,10 +2,11 @@
 
 use crate::echo::Echo;
 use crate::peers::Peers;
-use crate::script::Script;
+use crate::script::{Fault, Script};
 use qs_service_reactor::{Limits, Observer, serve_events};
 use std::alloc::{AllocError, Global};
 use std::io;
+use std::io::ErrorKind;
 use std::time::Duration;
 
 /// The connections that were dropped since all places were taken, one number for each time.
@@ -31,11 +32,25 @@ pub struct Outcome {
     pub drops: Drops,
 }
 
-/// Serves so many of these clients, with that many places: a pause of 30 s, a request of 60 s, and a second for the end.
+/// Serves so many of these clients, with that many places.
 pub fn run(
     alloc: Global,
     peers: Peers,
-    fault: u64,
+    at_once: usize,
+    connections: u32,
+) -> Result<Outcome, AllocError> {
+    let none = Fault {
+        call: 0,
+        kind: ErrorKind::Other,
+    };
+    run_with(alloc, peers, none, at_once, connections)
+}
+
+/// The same with that fault: a pause of 30 s, a request of 60 s, and a second for the end.
+pub fn run_with(
+    alloc: Global,
+    peers: Peers,
+    fault: Fault,
     at_once: usize,
     connections: u32,
 ) -> Result<Outcome, AllocError> {

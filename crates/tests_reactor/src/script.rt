@@ -7,7 +7,15 @@ use crate::peers::Peers;
 use qs_service_reactor::{Accepted, Network, Waited};
 use std::alloc::{AllocError, Global};
 use std::io;
+use std::io::ErrorKind;
 use std::time::Duration;
+
+/// The number of the call that fails, from 1 on, and how.
+#[derive(Clone, Copy)]
+pub struct Fault {
+    pub call: u64,
+    pub kind: ErrorKind,
+}
 
 /// Clients, what came and went, and the call that fails.
 #[derive(Drop)]
@@ -17,13 +25,12 @@ pub struct Script {
     pub log: Vec<Entry>,
     /// How many calls were made.
     pub calls: u64,
-    /// The number of the call that fails, from 1 on.
-    fault: u64,
+    fault: Fault,
 }
 
 impl Script {
-    /// These clients. The call of that number fails, from 1 on.
-    pub fn new(alloc: Global, peers: Peers, fault: u64) -> Script {
+    /// These clients, and that fault.
+    pub fn new(alloc: Global, peers: Peers, fault: Fault) -> Script {
         Script {
             alloc,
             peers,
@@ -38,8 +45,8 @@ impl Script {
         ensures { self.new.log ≡ self.old.log }
     {
         self.calls = self.calls.saturating_add(1);
-        if self.calls == self.fault {
-            Err(io::Error::other("the call that fails"))
+        if self.calls == self.fault.call {
+            Err(io::Error::from(self.fault.kind))
         } else {
             Ok(())
         }

@@ -45,7 +45,7 @@ fn are_answered(outcome: &Outcome) -> bool {
 #[test]
 fn interleaved_connections_get_their_own_replies(rt: HostRuntime) -> Result<(), Fail> {
     for at_once in [20, 32, 64] {
-        let outcome = run(rt.alloc(), interleaved(rt.alloc())?, 0, at_once, 20)?;
+        let outcome = run(rt.alloc(), interleaved(rt.alloc())?, at_once, 20)?;
         assert!(rt; outcome.result.is_ok());
         assert!(rt; are_answered(&outcome), "{at_once} at once");
         assert_eq!(rt; outcome.drops.dropped, 0);
@@ -62,7 +62,7 @@ fn one_at_a_time_and_no_more_than_asked(rt: HostRuntime) -> Result<(), Fail> {
         for _ in 0..3 {
             peers.peers.push(simple(rt.alloc(), 0, b"one\n\n")?)?;
         }
-        let outcome = run(rt.alloc(), peers, 0, 1, connections)?;
+        let outcome = run(rt.alloc(), peers, 1, connections)?;
         assert!(rt; outcome.result.is_ok());
         assert_eq!(rt; outcome.echo.joined, connections as u64);
         let mut served = 0u32;
