@@ -42,22 +42,25 @@ fn whole_count(outcome: &Outcome) -> usize {
         .count()
 }
 
-/// How many calls a run has that meets no fault. A call that was interrupted is made again, unless it is a wait.
-fn calls_of(rt: &HostRuntime, kind: ErrorKind) -> Result<u64, Fail> {
+/// Whether a run with a fault is as it ought to be. A call that was interrupted is made again, unless it is a wait.
+fn is_right(outcome: &Outcome, kind: ErrorKind) -> bool {
+    let is_retried = kind == ErrorKind::Interrupted && outcome.result.is_ok();
+    are_fronts(outcome) && (!is_retried || whole_count(outcome) == 3)
+}
+
+/// A fault at each call in turn, until a run meets none: how many runs met one, if all were right.
+fn runs_with(alloc: Global, kind: ErrorKind) -> Result<Option<u64>, AllocError> {
     for call in 1..1_000u64 {
-        let fault = Fault { call, kind };
-        let outcome = run_with(rt.alloc(), three(rt.alloc())?, fault, 2, 3)?;
-        assert!(rt; are_fronts(&outcome), "a fault at call {call}");
-        if kind == ErrorKind::Interrupted && outcome.result.is_ok() {
-            assert_eq!(rt; whole_count(&outcome), 3, "interrupted at call {call}");
+        let outcome = run_with(alloc, three(alloc)?, Fault { call, kind }, 2, 3)?;
+        if !is_right(&outcome, kind) {
+            return Ok(None);
         }
         if outcome.script.calls < call {
-            assert!(rt; outcome.result.is_ok());
-            assert_eq!(rt; outcome.echo.ended, 3);
-            return Ok(outcome.script.calls);
+            let is_whole = outcome.result.is_ok() && outcome.echo.ended == 3;
+            return Ok(if is_whole { Some(call - 1) } else { None });
         }
     }
-    Ok(0)
+    Ok(None)
 }
 
 #[test]
@@ -68,7 +71,8 @@ fn fault_at_each_call(rt: HostRuntime) -> Result<(), Fail> {
         ErrorKind::ConnectionAborted,
         ErrorKind::OutOfMemory,
     ] {
-        assert!(rt; calls_of(&rt, kind)? > 20);
+        let runs = runs_with(rt.alloc(), kind)?;
+        assert!(rt; runs.is_some_and(|runs| runs > 20));
     }
     Ok(())
 }

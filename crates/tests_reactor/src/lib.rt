@@ -4,18 +4,17 @@
 //! what it was sent.
 #![tactic(auto)]
 
-mod echo;
-mod entry;
-mod peers;
-mod run;
-mod script;
-
 #[cfg(test)]
 mod crowd;
+mod echo;
+mod entry;
 #[cfg(test)]
 mod faults;
 #[cfg(test)]
 mod late;
+mod peers;
+mod run;
+mod script;
 #[cfg(test)]
 mod served;
 #[cfg(test)]

@@ -269,11 +269,7 @@ impl Peers {
     }
 
     /// Waits.
-    pub fn wait(
-        &mut self,
-        timeout: Option<Duration>,
-        ready: &mut [bool],
-    ) -> io::Result<Waited> {
+    pub fn wait(&mut self, timeout: Option<Duration>, ready: &mut [bool]) -> io::Result<Waited> {
         let before = self.now;
         let arrival = self.announce();
         let any = self.wake(ready);
