@@ -1,0 +1,259 @@
+"""Rounds with few places and short times: which connections the program drops and when, and which it doesn't.
+
+Each round has a program of its own and a few clients, whose times are compared with what is promised. A busy machine only makes things later,
+so the bounds above are wide: a second in which the program may look at its connections, and SLACK.
+"""
+import os
+import resource
+import signal
+import socket
+import subprocess
+import threading
+
+from crowd import EACH, Client, Read, talk
+from messages import dumped
+from model import RESULTS, Exactly, Term, Wrong, iri, lines_of, reply
+from serving import Unserved, serving
+
+SLACK, TICK = 1.5, 1
+ASK = b"GET /query?query=ASK%7B%7D HTTP/1.1\r\nHost: e\r\n\r\n"
+TRUE = Exactly(reply(200, RESULTS, '{"boolean":true,"head":{}}'))
+DATA = b"GET /data HTTP/1.1\r\nHost: e\r\n\r\n"
+SMALL = frozenset({(None, iri("a"), iri("p"), iri("b"))})
+LARGE = frozenset((iri("big"), iri(str(at)), iri("p"), Term("literal", f"{at:03}-" * 100_000)) for at in range(60))
+"""Quads of 24 MB."""
+CUT = len(ASK) - 1
+
+
+def sound(**how):
+    return Client([("send", ASK), ("read", Read())], **how)
+
+
+def silent(**how):
+    """Returns a client that sends nothing until it is dropped."""
+    return Client([("read", Read())], **how)
+
+
+def stalled(**how):
+    """Returns a client that sends all but the last byte, and nothing more until it is dropped."""
+    return Client([("send", ASK[:CUT]), ("read", Read())], **how)
+
+
+def slow(pause, count):
+    """Returns a client that sends so many bytes one by one, with these pauses, and then the rest."""
+    acts = [act for at in range(count) for act in (("send", ASK[at : at + 1]), ("wait", pause))]
+    return Client([*acts, ("send", ASK[count:]), ("read", Read())])
+
+
+def took(client):
+    return client.ended - client.begun
+
+
+def check(truth, what):
+    if not truth:
+        raise Wrong(what)
+
+
+def check_answered(client, most=EACH, due=TRUE):
+    check(client.end == "end", f"a reply is due, and the connection is {client.end} after {took(client):.2f} s and {len(client.found)} bytes")
+    due.check(bytes(client.found))
+    check(took(client) <= most, f"the reply took {took(client):.2f} s, and {most} are allowed")
+
+
+def check_dropped(client, least, most):
+    """Checks that a client was dropped so many seconds after it connected."""
+    check(client.end in ("end", "broken") and not client.found, f"it is due to be dropped, but it is {client.end}, and is answered {client.found[:60]!r}")
+    check(least <= took(client) <= most, f"it is dropped after {took(client):.2f} s, and {least} to {most} are due")
+
+
+# ---- the rounds: the words of the command line, the data, and what makes the clients and the checks of each
+
+
+def times_round():
+    """Limits of time. There are places for all."""
+    idle, request = 1, 2
+    last = idle + TICK + SLACK
+    lively, endless = slow(0.075, 20), slow(0.2, 40)
+    reader = Client([("send", DATA), ("read", Read(None, 1 << 20, 0.15))], receive=1 << 20)
+    deaf = Client([("send", DATA), ("wait", last + 1), ("read", Read())], receive=4096)
+    clients = [(silent(), "a silent one"), (stalled(), "one within its request")]
+    checks = [(it, lambda it: check_dropped(it, 0.9 * idle, last), name) for it, name in clients]
+    checks += [
+        (lively, lambda it: check_answered(it), "a lively one that takes longer than --idle"),
+        (endless, lambda it: check_dropped(it, 0.9 * request, request + TICK + SLACK + 0.2), "a lively one that takes longer than --request"),
+        (reader, lambda it: check_slow_reader(it, request), "one that reads its reply for longer than --request"),
+        (deaf, lambda it: check_cut(it), "one that doesn't read its reply"),
+    ]
+    checks += [(sound(delay=at / 4), lambda it: check_answered(it, 3), "a sound one") for at in range(16)]
+    return ["--at-once", 24, "--idle", idle, "--request", request], LARGE, checks, 0
+
+
+def check_slow_reader(client, request):
+    check_answered(client, due=dumped(LARGE))
+    check(took(client) > request, f"this shows nothing: it took {took(client):.2f} s")
+
+
+def check_cut(client):
+    whole = dumped(LARGE).due
+    found = bytes(client.found)
+    check(whole.startswith(found) and len(found) < len(whole), f"a front of its reply is due, and {len(found)} bytes of {len(whole)} came")
+
+
+def silent_round():
+    """Silent ones have all places, and nobody waits until a sound one comes."""
+    wait, last = 0.6, sound(delay=0.6)
+    checks = [(silent(), lambda it: check_dropped(it, 0.9 * wait, wait + 3), "a silent one") for _ in range(4)]
+    return ["--at-once", 4], SMALL, [*checks, (last, lambda it: check_answered(it, 3), "a sound one that waits")], 4
+
+
+def crowd_round():
+    """Again and again many silent ones come before a sound one."""
+    checks = []
+    for at in range(4):
+        last = sound(delay=at + 0.05)
+        crowd = [Client([("after", last), ("look", None), ("close", None)], delay=at) for _ in range(50)]
+        checks += [(it, lambda it: check(not it.found and it.end != "late", "a silent one is answered"), "a silent one") for it in crowd]
+        checks.append((last, lambda it: check_answered(it, 3), "a sound one after 50 silent ones"))
+    return ["--at-once", 4], SMALL, checks, None
+
+
+def stalled_round():
+    """All places are taken by those that stop within their requests."""
+    checks = [(stalled(), lambda it: check_dropped(it, 1.8, 3.5), "one that stops within its request") for _ in range(4)]
+    return ["--at-once", 4], SMALL, [*checks, (sound(delay=0.2), lambda it: check_answered(it, 3.3), "a sound one that waits")], 4
+
+
+def mixed_round():
+    """Silent ones are dropped before those that stopped a second ago."""
+    late = [Client([("send", ASK[:CUT]), ("wait", 1.2), ("send", ASK[CUT:]), ("read", Read())]) for _ in range(2)]
+    checks = [(it, lambda it: check_answered(it, 4), "one that goes on after 1.2 s") for it in late]
+    checks += [(silent(), lambda it: check_dropped(it, 0.04, 3), "a silent one") for _ in range(2)]
+    return ["--at-once", 4], SMALL, [*checks, (sound(delay=0.2), lambda it: check_answered(it, 3), "a sound one that waits")], 2
+
+
+def lively_round():
+    """All places are taken by slow ones that send a byte now and then, and somebody waits: none is dropped."""
+    checks = [(slow(0.3, 10), lambda it: check_answered(it), "a slow one") for _ in range(4)]
+    return ["--at-once", 4], SMALL, [*checks, (sound(delay=0.2), lambda it: check_answered(it), "a sound one that waits")], 0
+
+
+def writing_round():
+    """All places are taken by those that don't read their replies for a while, and somebody waits: none is dropped."""
+    deaf = lambda: Client([("send", DATA), ("wait", 3), ("read", Read(step=1 << 20))], receive=4096)
+    checks = [(deaf(), lambda it: check_answered(it, due=dumped(LARGE)), "one that reads its reply late") for _ in range(4)]
+    return ["--at-once", 4], LARGE, [*checks, (sound(delay=0.2), lambda it: check_answered(it), "a sound one that waits")], 0
+
+
+def descriptors_round():
+    """There are fewer descriptors than connections: those that wait are accepted as others end."""
+    crowd = [Client([("send", ASK[:CUT]), ("all", None), ("wait", 0.1), ("send", ASK[CUT:]), ("read", Read())]) for _ in range(40)]
+    return [], SMALL, [(it, lambda it: check_answered(it), "one of 40") for it in crowd], 0
+
+
+ROUNDS = {
+    "limits of time": times_round,
+    "silent ones in all places": silent_round,
+    "crowds of silent ones": crowd_round,
+    "stalled ones in all places": stalled_round,
+    "silent and stalled ones": mixed_round,
+    "slow ones in all places": lively_round,
+    "unread replies in all places": writing_round,
+    "few descriptors": descriptors_round,
+}
+
+
+class Tried:
+    """How a round went: how many checks it has, how many passed, and what is to be told."""
+
+    def __init__(self, name):
+        self.name, self.tried, self.passed, self.told = name, 1, 0, []
+
+    def check(self, call, what):
+        try:
+            call()
+            self.passed += 1
+        except (Wrong, Unserved) as wrong:
+            self.told.append(f"{self.name}: {what}: {wrong}")
+
+
+def try_round(it, made, program, room, seconds_left):
+    """Tries a round: each of its connections and the program's end."""
+    words, quads, checks, dropped = made()
+    it.tried += len(checks)
+    put_data(room, quads)
+    how = {"preexec_fn": lambda: resource.setrlimit(resource.RLIMIT_NOFILE, (16, 16))} if made is descriptors_round else {}
+    with serving(program, room, ["--requests", len(checks), *words], seconds_left(EACH), **how) as served:
+        talk([client for client, _, _ in checks], served.port, seconds_left(EACH))
+        for client, look, what in checks:
+            it.check(lambda: look(client), what)
+        it.check(lambda: served.check_end(seconds_left(EACH), dropped), "the program's end")
+
+
+def put_data(room, quads):
+    os.mkdir(room)
+    with open(f"{room}/data.nq", "w", encoding="utf-8") as file:
+        file.write(lines_of(quads))
+
+
+def try_endless(it, program, room, seconds_left):
+    """Without a count the program serves until a signal ends it, which it doesn't catch."""
+    put_data(room, SMALL)
+    clients = [sound(delay=at / 20) for at in range(20)]
+    it.tried += len(clients)
+    with serving(program, room, [], seconds_left(EACH)) as served:
+        talk(clients, served.port, seconds_left(EACH))
+        for client in clients:
+            it.check(lambda: check_answered(client), "a sound one")
+        served.program.send_signal(signal.SIGTERM)
+        it.check(lambda: served.check_end(seconds_left(EACH), 0, -signal.SIGTERM), "the program's end")
+
+
+def try_taken(it, program, room, seconds_left):
+    """A port that another program has can't be listened on."""
+    put_data(room, SMALL)
+    with Taken() as port:
+        words = [program, "serve", "--port", str(port), "--data", f"{room}/data.nq", "--requests", "1"]
+        ran = subprocess.run(words, stdin=subprocess.DEVNULL, capture_output=True, timeout=seconds_left(EACH))
+    found = ran.returncode, ran.stdout.decode(errors="replace")
+    it.check(lambda: check(found == (1, f"cannot listen on {port}\n"), f"it ends so: {found}"), "the program's end")
+
+
+class Taken:
+    """A port that is listened on here."""
+
+    def __enter__(self):
+        self.socket = socket.socket()
+        self.socket.bind(("127.0.0.1", 0))
+        self.socket.listen()
+        return self.socket.getsockname()[1]
+
+    def __exit__(self, *_):
+        self.socket.close()
+
+
+def try_all(program, room, seconds_left, only=""):
+    """Tries all rounds side by side whose names hold a text, and tells what is wrong. Returns how many checks passed, and how many there were."""
+    calls = {name: (lambda it, room, made=made: try_round(it, made, program, room, seconds_left)) for name, made in ROUNDS.items()}
+    calls["no count of connections"] = lambda it, room: try_endless(it, program, room, seconds_left)
+    calls["a port that is taken"] = lambda it, room: try_taken(it, program, room, seconds_left)
+    calls = {name: call for name, call in calls.items() if only in name}
+    tried = [Tried(name) for name in calls]
+
+    def attempt(it, call, folder):
+        try:
+            call(it, folder)
+        except (Unserved, subprocess.TimeoutExpired) as wrong:
+            it.told.append(f"{it.name}: {wrong}")
+
+    threads = [
+        threading.Thread(target=attempt, args=(it, call, f"{room}/limits-{at}"), daemon=True)
+        for at, (it, call) in enumerate(zip(tried, calls.values()))
+    ]
+    for thread in threads:
+        thread.start()
+    for thread in threads:
+        thread.join(seconds_left(3 * EACH))
+    for it in tried:
+        for line in it.told:
+            print(f"storm: FAILED: {line}", flush=True)
+    return sum(it.passed for it in tried), sum(it.tried for it in tried)

@@ -1,0 +1,81 @@
+"""The program as it serves a file on loopback, and how it ends."""
+import contextlib
+import random
+import re
+import socket
+import subprocess
+import time
+
+
+class Unserved(Exception):
+    """The program doesn't listen, or doesn't end as it is due."""
+
+
+def free_port():
+    """Returns a port that nobody listens on. It is below those that the system gives to clients, of which one may be taken at any time."""
+    for _ in range(1000):
+        with socket.socket() as it, contextlib.suppress(OSError):
+            it.bind(("127.0.0.1", random.SystemRandom().randrange(10_000, 32_000)))
+            return it.getsockname()[1]
+    raise Unserved("no port is free")
+
+
+def said(room, name):
+    with open(f"{room}/{name}", encoding="utf-8", errors="replace") as it:
+        return it.read()
+
+
+class Served:
+    """The running program, its port, and the folder that has what it is given and what it says."""
+
+    def __init__(self, program, port, room):
+        self.program, self.port, self.room = program, port, room
+
+    def said(self):
+        return (said(self.room, "out") + said(self.room, "err"))[:1000]
+
+    def errors(self):
+        """Returns the lines of standard error."""
+        return said(self.room, "err").splitlines()
+
+    def check_end(self, seconds, dropped=0, status=0):
+        """Waits until it ends, by itself with status 0, or by a signal with the status that is named. If connections were dropped because
+        the table was full, standard error has a line of the first, and at the end one with how many; with None both are allowed.
+
+        # Errors
+
+        Unserved where it doesn't end so."""
+        try:
+            self.program.wait(seconds)
+        except subprocess.TimeoutExpired:
+            raise Unserved("it doesn't end") from None
+        if self.program.returncode != status or said(self.room, "out").count("\n") != 1:
+            raise Unserved(f"it ends with status {self.program.returncode} and says: {self.said()!r}")
+        lines = self.errors()
+        is_counted = len(lines) == 2 and (dropped is None or str(dropped) in re.findall(r"\d+", lines[1]))
+        if lines and (dropped == 0 or not is_counted) or dropped and not lines:
+            raise Unserved(f"{dropped} connections were dropped because the table was full, and it says: {self.said()!r}")
+
+
+@contextlib.contextmanager
+def serving(program, room, words, seconds, **how):
+    """Serves room/data.nq with these words of the command line besides, and gives the running program once it says that it listens."""
+    for name in ("out", "err"):
+        open(f"{room}/{name}", "wb").close()
+    with open(f"{room}/out", "wb") as out, open(f"{room}/err", "wb") as err:
+        port = free_port()
+        words = [program, "serve", "--port", str(port), "--data", f"{room}/data.nq", *map(str, words)]
+        running = subprocess.Popen(words, stdin=subprocess.DEVNULL, stdout=out, stderr=err, **how)
+    try:
+        served = Served(running, port, room)
+        end = time.monotonic() + seconds
+        while running.poll() is None and not said(room, "out").endswith("\n") and time.monotonic() < end:
+            time.sleep(0.01)
+        if said(room, "out") != f"listening on 127.0.0.1:{port}\n":
+            raise Unserved(f"nothing listens; the program says: {served.said()!r}")
+        yield served
+    finally:
+        running.kill()
+        # (a wait without a limit may never end where a signal has cut off an earlier one)
+        with contextlib.suppress(subprocess.TimeoutExpired):
+            running.wait(5)
