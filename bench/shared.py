@@ -1,5 +1,6 @@
-"""What the benchmarks share: the program, the data, runs of the program, and requests to it over loopback."""
+"""What the benchmarks share: the program and a peer, the data, runs of the program, and requests over loopback."""
 import os
+import shutil
 import socket
 import subprocess
 import sys
@@ -96,16 +97,54 @@ def get(path):
     return f"GET {path} HTTP/1.1\r\nHost: e\r\n\r\n".encode()
 
 
-class Server:
-    """The program as it serves a file on loopback, until the block ends. `ready` are the milliseconds from its start until it listens."""
+def free_port():
+    with socket.socket() as it:
+        it.bind(("127.0.0.1", 0))
+        return it.getsockname()[1]
+
+
+class Running:
+    """A program that serves on loopback: `program` is it, and `port` where it listens. `ready` are the milliseconds until it did."""
+
+    def __exit__(self, *_):
+        self.program.kill()
+        if self.program.stdout:
+            self.program.stdout.close()
+        self.program.wait()
+
+    def status(self, name):
+        """Returns a number of bytes that the system tells of the program."""
+        with open(f"/proc/{self.program.pid}/status", encoding="utf-8") as it:
+            return 1024 * next(int(line.split()[1]) for line in it if line.startswith(name))
+
+    def memory(self):
+        """Returns the most bytes of memory that the program has held."""
+        return self.status("VmHWM")
+
+    def resident(self):
+        """Returns the bytes of memory that the program holds."""
+        return self.status("VmRSS")
+
+    def busy(self):
+        """Returns the seconds of processor time that the program has taken."""
+        with open(f"/proc/{self.program.pid}/schedstat", encoding="utf-8") as it:
+            main = int(it.read().split()[0])
+        with open(f"/proc/{self.program.pid}/stat", encoding="utf-8") as it:
+            fields = it.read().rpartition(")")[2].split()
+        # (the first is exact, but of the main thread alone; the second is of all threads, in ticks)
+        return main / 1e9 if int(fields[17]) == 1 else (int(fields[11]) + int(fields[12])) / os.sysconf("SC_CLK_TCK")
+
+
+class Server(Running):
+    """The program as it serves a file, until the block ends."""
+
+    NAME = "Vinnakush"
 
     def __init__(self, file):
         self.file = file
 
     def __enter__(self):
-        with socket.socket() as it:
-            it.bind(("127.0.0.1", 0))
-            self.port = it.getsockname()[1]
+        self.port = free_port()
         begin = time.perf_counter()
         # (it ends by itself once it has served so many)
         words = [PROGRAM, "serve", "--port", str(self.port), "--data", self.file, "--requests", "4294967295"]
@@ -116,11 +155,6 @@ class Server:
             self.__exit__()
             sys.exit(f"the program doesn't listen: {said.decode().strip()}")
         return self
-
-    def __exit__(self, *_):
-        self.program.kill()
-        self.program.stdout.close()
-        self.program.wait()
 
     def ask(self, request):
         """Returns the reply of a request over a connection of its own."""
@@ -134,7 +168,51 @@ class Server:
         head, _, body = b"".join(pieces).partition(b"\r\n\r\n")
         return Reply(head.decode(), body, first, whole)
 
-    def memory(self):
-        """Returns the most bytes of memory that the program has held."""
-        with open(f"/proc/{self.program.pid}/status", encoding="utf-8") as it:
-            return 1024 * next(int(line.split()[1]) for line in it if line.startswith("VmHWM"))
+
+class Oxigraph(Running):
+    """Oxigraph with the quads of a file in memory, until the block ends."""
+
+    NAME = "Oxigraph"
+
+    def __init__(self, file):
+        self.file = file
+
+    @staticmethod
+    def path():
+        """Returns where Oxigraph stands, or None: what bench/fetch-oxigraph fetched, else the one of the system."""
+        fetched = f"{os.environ.get('PEERS', f'{ROOT}/.out/peers')}/oxigraph/oxigraph.sh"
+        return fetched if os.access(fetched, os.X_OK) else shutil.which("oxigraph")
+
+    def __enter__(self):
+        self.port = free_port()
+        words = [self.path(), "serve", "--bind", f"127.0.0.1:{self.port}"]
+        begin = time.perf_counter()
+        self.program = subprocess.Popen(words, stdin=subprocess.DEVNULL, stdout=subprocess.DEVNULL, stderr=subprocess.DEVNULL)
+        try:
+            self.wait_until_ready(begin + 60)
+            self.put()
+        except BaseException:
+            self.__exit__()
+            raise
+        self.ready = 1000 * (time.perf_counter() - begin)
+        return self
+
+    def wait_until_ready(self, end):
+        while True:
+            try:
+                return socket.create_connection(("127.0.0.1", self.port), 1).close()
+            except OSError:
+                if self.program.poll() is not None or time.perf_counter() > end:
+                    sys.exit("Oxigraph doesn't listen")
+                time.sleep(0.01)
+
+    def put(self):
+        """Puts the quads of the file into the store."""
+        with open(self.file, "rb") as it:
+            data = it.read()
+        head = f"POST /store HTTP/1.1\r\nHost: e\r\nContent-Type: application/n-quads\r\nConnection: close\r\nContent-Length: {len(data)}\r\n\r\n"
+        with socket.create_connection(("127.0.0.1", self.port), 600) as it:
+            it.sendall(head.encode() + data)
+            found = b"".join(iter(lambda: it.recv(1 << 16), b""))
+        if not found.startswith(b"HTTP/1.1 20"):
+            sys.exit(f"Oxigraph doesn't take the data: {found[:200]!r}")

@@ -29,7 +29,7 @@ class Connection:
         count = end if is_slow else rng.choice((0, 0, 1, 2, 5, 20))
         if count == end and 0 < end < 1000:
             self.places |= {*range(1, end)}
-            pause = rng.choice((0.05, 0.2, 0.4)) / end
+            pause = rng.choice((0.05, 0.1, 0.3)) / end
             self.before = {it: [("wait", pause)] for it in range(1, end)}
             return self
         self.places |= {rng.randrange(end + 1) for _ in range(min(count, 20))}

@@ -7,7 +7,7 @@ What a client does is a list of acts, each a pair of a name and a value:
     all None        waits until each client of the crowd has begun: it is connected, and has done its acts up to its first wait
     after CLIENT    waits until that client is done
     half None       closes its sending side
-    read HOW        reads to the end, or as many bytes as `HOW.most` says, at most `HOW.step` at a time, with `HOW.pause` seconds after each
+    read HOW        reads to the end, or as many bytes as `HOW.most` says, at most `HOW.step` at a time and `HOW.rate` in a second
     look None       reads what is there, without waiting
     close None      closes the connection
     reset None      closes it by a reset
@@ -24,7 +24,7 @@ EACH = 20
 """The seconds that a client may take."""
 
 EVENTS = {"read": selectors.EVENT_READ, "write": selectors.EVENT_WRITE}
-Read = namedtuple("Read", "most step pause", defaults=(None, 1 << 16, 0))
+Read = namedtuple("Read", "most step rate", defaults=(None, 1 << 16, None))
 """How a client reads."""
 
 
@@ -136,8 +136,8 @@ class Client:
                 return
             self.heard = self.heard or time.monotonic()
             self.found += piece
-            if how.pause:
-                yield time.monotonic() + how.pause
+            if how.rate:
+                yield self.heard + len(self.found) / how.rate
 
     def look(self, _):
         try:

@@ -3,19 +3,19 @@
 Each round has a program of its own and a few clients, whose times are compared with what is promised. A busy machine only makes things later,
 so the bounds above are wide: a second in which the program may look at its connections, and SLACK.
 """
+import multiprocessing
 import os
 import resource
 import signal
 import socket
 import subprocess
-import threading
 
 from crowd import EACH, Client, Read, talk
 from messages import dumped
 from model import RESULTS, Exactly, Term, Wrong, iri, lines_of, reply
 from serving import Unserved, serving
 
-SLACK, TICK = 1.5, 1
+SLACK, TICK = 3, 1
 ASK = b"GET /query?query=ASK%7B%7D HTTP/1.1\r\nHost: e\r\n\r\n"
 TRUE = Exactly(reply(200, RESULTS, '{"boolean":true,"head":{}}'))
 DATA = b"GET /data HTTP/1.1\r\nHost: e\r\n\r\n"
@@ -72,12 +72,13 @@ def check_dropped(client, least, most):
 def times_round():
     """Limits of time. There are places for all."""
     idle, request = 1, 2
+    # (of 24 MB, at 8 MB a second)
     last = idle + TICK + SLACK
     lively, endless = slow(0.075, 20), slow(0.2, 40)
-    reader = Client([("send", DATA), ("read", Read(None, 1 << 20, 0.15))], receive=1 << 20)
+    reader = Client([("send", DATA), ("read", Read(rate=8_000_000))])
     deaf = Client([("send", DATA), ("wait", last + 1), ("read", Read())], receive=4096)
     clients = [(silent(), "a silent one"), (stalled(), "one within its request")]
-    checks = [(it, lambda it: check_dropped(it, 0.9 * idle, last), name) for it, name in clients]
+    checks = [(it, lambda it: check_dropped(it, 0.9 * idle, last), what) for it, what in clients]
     checks += [
         (lively, lambda it: check_answered(it), "a lively one that takes longer than --idle"),
         (endless, lambda it: check_dropped(it, 0.9 * request, request + TICK + SLACK + 0.2), "a lively one that takes longer than --request"),
@@ -134,14 +135,15 @@ def mixed_round():
 def lively_round():
     """All places are taken by slow ones that send a byte now and then, and somebody waits: none is dropped."""
     checks = [(slow(0.3, 10), lambda it: check_answered(it), "a slow one") for _ in range(4)]
-    return ["--at-once", 4], SMALL, [*checks, (sound(delay=0.2), lambda it: check_answered(it), "a sound one that waits")], 0
+    # (one that has its reply may be dropped before it has closed the connection)
+    return ["--at-once", 4], SMALL, [*checks, (sound(delay=0.2), lambda it: check_answered(it), "a sound one that waits")], None
 
 
 def writing_round():
     """All places are taken by those that don't read their replies for a while, and somebody waits: none is dropped."""
     deaf = lambda: Client([("send", DATA), ("wait", 3), ("read", Read(step=1 << 20))], receive=4096)
     checks = [(deaf(), lambda it: check_answered(it, due=dumped(LARGE)), "one that reads its reply late") for _ in range(4)]
-    return ["--at-once", 4], LARGE, [*checks, (sound(delay=0.2), lambda it: check_answered(it), "a sound one that waits")], 0
+    return ["--at-once", 4], LARGE, [*checks, (sound(delay=0.2), lambda it: check_answered(it), "a sound one that waits")], None
 
 
 def descriptors_round():
@@ -231,29 +233,28 @@ class Taken:
         self.socket.close()
 
 
+def attempt(pipe, it, call, room):
+    """Tries a round in a process of its own, and sends how it went."""
+    try:
+        call(it, room)
+    except (Unserved, subprocess.TimeoutExpired) as wrong:
+        it.told.append(f"{it.name}: {wrong}")
+    pipe.send((it.tried, it.passed, it.told))
+
+
 def try_all(program, room, seconds_left, only=""):
     """Tries all rounds side by side whose names hold a text, and tells what is wrong. Returns how many checks passed, and how many there were."""
     calls = {name: (lambda it, room, made=made: try_round(it, made, program, room, seconds_left)) for name, made in ROUNDS.items()}
     calls["no count of connections"] = lambda it, room: try_endless(it, program, room, seconds_left)
     calls["a port that is taken"] = lambda it, room: try_taken(it, program, room, seconds_left)
-    calls = {name: call for name, call in calls.items() if only in name}
-    tried = [Tried(name) for name in calls]
-
-    def attempt(it, call, folder):
-        try:
-            call(it, folder)
-        except (Unserved, subprocess.TimeoutExpired) as wrong:
-            it.told.append(f"{it.name}: {wrong}")
-
-    threads = [
-        threading.Thread(target=attempt, args=(it, call, f"{room}/limits-{at}"), daemon=True)
-        for at, (it, call) in enumerate(zip(tried, calls.values()))
-    ]
-    for thread in threads:
-        thread.start()
-    for thread in threads:
-        thread.join(seconds_left(3 * EACH))
-    for it in tried:
-        for line in it.told:
+    context, pipes, passed, tried = multiprocessing.get_context("fork"), {}, 0, 0
+    for name, call in calls.items():
+        if only in name:
+            pipes[name], its = context.Pipe(False)
+            context.Process(target=attempt, args=(its, Tried(name), call, f"{room}/{name}"), daemon=True).start()
+    for name, pipe in pipes.items():
+        result = pipe.recv() if pipe.poll(seconds_left(3 * EACH)) else (1, 0, [f"{name}: no end in time"])
+        tried, passed = tried + result[0], passed + result[1]
+        for line in result[2]:
             print(f"storm: FAILED: {line}", flush=True)
-    return sum(it.passed for it in tried), sum(it.tried for it in tried)
+    return passed, tried
