@@ -28,13 +28,13 @@ class Connection:
         end = len(self.sent)
         count = end if is_slow else rng.choice((0, 0, 1, 2, 5, 20))
         if count == end and 0 < end < 1000:
-            self.places |= {*range(1, end)}
-            pause = rng.choice((0.05, 0.1, 0.3)) / end
-            self.before = {it: [("wait", pause)] for it in range(1, end)}
+            pause = rng.choice((0.03, 0.1, 0.2)) / end
+            for place in range(1, end):
+                self.hold(place, ("wait", pause))
             return self
         self.places |= {rng.randrange(end + 1) for _ in range(min(count, 20))}
-        pauses = rng.sample(sorted(self.places), min(len(self.places), rng.choice((0, 0, 0, 1, 3))))
-        self.before = {it: [("wait", 0.002)] for it in pauses}
+        for place in rng.sample(sorted(self.places), min(len(self.places), rng.choice((0, 0, 0, 1, 3)))):
+            self.hold(place, ("wait", 0.002))
         return self
 
     def hold(self, place, act):

@@ -123,7 +123,7 @@ def left_within(rng):
 
 def silent(rng):
     """A client that sends nothing for a while, and then leaves, or makes a sound request."""
-    pause = ("wait", rng.choice((0.01, 0.04, 0.1, 0.3)))
+    pause = ("wait", rng.choice((0.01, 0.04, 0.1, 0.2)))
     if rng.random() < 0.5:
         return answered(rng).hold(0, pause)
     it = Connection("silence", b"", Meaning(NOTHING), "silent").hold(0, pause)

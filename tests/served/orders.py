@@ -7,8 +7,10 @@ Only what may change the dataset is tried in each order. A request that changes 
 has it later, then so does the order in which it is moved to the front, which leads to the same.
 """
 import math
+import time
 from collections import namedtuple
 
+NEVER = math.inf
 MOST = 300_000
 """How many states are looked at before the search is given up."""
 
@@ -79,7 +81,7 @@ class Search:
         return found
 
     def datasets(self, starts):
-        """Returns the datasets that may be stored meanwhile, whatever the replies are."""
+        """Returns datasets that may be stored meanwhile, whatever the queries' replies are. Of very many some are left out."""
         left, seen = list(starts), set()
         while left:
             done, quads = state = left.pop()
@@ -109,4 +111,10 @@ def strangers(worlds, asked):
     return [it for it in asked if not any(it.fits(quads) for quads in datasets)]
 
 
-NEVER = math.inf
+def suspects(worlds, asked, seconds):
+    """Returns those of the queries without which all others have an order, as far as they are found in this time."""
+    end, found = time.monotonic() + seconds, []
+    for it in asked:
+        if not it.writes and time.monotonic() < end and worlds_after(worlds, [other for other in asked if other is not it]):
+            found.append(it)
+    return found
