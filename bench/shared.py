@@ -13,7 +13,8 @@ sys.path.insert(0, f"{ROOT}/scripts")
 sys.dont_write_bytecode = True
 from program import asked  # noqa: E402
 
-PROGRAM = asked(ROOT, None)
+PROGRAM = asked(ROOT, os.environ.get("BENCH_PROGRAM"))
+"""The program that is measured: the one that ./quads runs, unless BENCH_PROGRAM names another."""
 MB = 1_000_000
 PAST_ALL = 100 * MB
 """An OFFSET past the end of every answer here: with it a query is evaluated, and no row is written."""

@@ -62,7 +62,8 @@ def check_answered(client, most=EACH, due=TRUE):
 
 def check_dropped(client, least, most):
     """Checks that a client was dropped so many seconds after it connected."""
-    check(client.end in ("end", "broken") and not client.found, f"it is due to be dropped, but it is {client.end}, and is answered {client.found[:60]!r}")
+    is_dropped = client.end in ("end", "broken") and not client.found
+    check(is_dropped, f"it is due to be dropped, but it is {client.end}, and is answered {bytes(client.found[:60])!r}")
     check(least <= took(client) <= most, f"it is dropped after {took(client):.2f} s, and {least} to {most} are due")
 
 
