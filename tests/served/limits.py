@@ -201,14 +201,14 @@ def put_data(room, quads):
 def try_endless(it, program, room, seconds_left):
     """Without a count the program serves until a signal ends it, which it doesn't catch."""
     put_data(room, SMALL)
-    clients = [sound(delay=at / 20) for at in range(20)]
+    crowd, clients = [silent() for _ in range(4)], [sound(delay=0.1 + at / 20) for at in range(20)]
     it.tried += len(clients)
-    with serving(program, room, [], seconds_left(EACH)) as served:
-        talk(clients, served.port, seconds_left(EACH))
+    with serving(program, room, ["--at-once", 4], seconds_left(EACH)) as served:
+        talk(crowd + clients, served.port, seconds_left(EACH))
         for client in clients:
             it.check(lambda: check_answered(client), "a sound one")
         served.program.send_signal(signal.SIGTERM)
-        it.check(lambda: served.check_end(seconds_left(EACH), 0, -signal.SIGTERM), "the program's end")
+        it.check(lambda: served.check_end(seconds_left(EACH), len(crowd), -signal.SIGTERM), "the program's end")
 
 
 def try_taken(it, program, room, seconds_left):

@@ -40,7 +40,8 @@ class Served:
 
     def check_end(self, seconds, dropped=0, status=0):
         """Waits until it ends, by itself with status 0, or by a signal with the status that is named. If connections were dropped because
-        the table was full, standard error has a line of the first, and at the end one with how many; with None both are allowed.
+        the table was full, standard error has a line of the first, and where it ends by itself a last one with how many. For `dropped` None
+        stands for any number.
 
         # Errors
 
@@ -52,9 +53,11 @@ class Served:
         if self.program.returncode != status or said(self.room, "out").count("\n") != 1:
             raise Unserved(f"it ends with status {self.program.returncode} and says: {self.said()!r}")
         lines = self.errors()
-        is_counted = len(lines) == 2 and (dropped is None or str(dropped) in re.findall(r"\d+", lines[1]))
-        if lines and (dropped == 0 or not is_counted) or dropped and not lines:
-            raise Unserved(f"{dropped} connections were dropped because the table was full, and it says: {self.said()!r}")
+        count = 1 if status else 2
+        is_told = len(lines) == count and (status or not dropped or str(dropped) in re.findall(r"\d+", lines[-1]))
+        if not (is_told if dropped else not lines or dropped is None and is_told):
+            what = "as many as there were" if dropped is None else dropped
+            raise Unserved(f"{what} connections were dropped because the table was full, and it says: {self.said()!r}")
 
 
 @contextlib.contextmanager
