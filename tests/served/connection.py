@@ -3,7 +3,7 @@ from crowd import Read
 from model import Wrong, shown
 from orders import NEVER, Asked
 
-PATIENCE = 4
+PATIENCE = 3
 """The seconds after which a request is carried out at the latest, if its client left without the reply."""
 FIRST_GAP, GAP = 0.025, 1.5
 """Where somebody waits for a place, a connection may be dropped if it was silent for longer, in seconds, before its first byte or later. These
@@ -77,8 +77,7 @@ class Connection:
         Wrong where its client met what isn't due over any dataset."""
         if client.end == "late":
             raise Wrong("no end of the reply in time")
-        is_dropped = client.end == "broken" or client.end == "end" and not client.found and not self.is_due_nothing()
-        if is_dropped and is_crowded and self.may_be_dropped(client):
+        if self.is_dropped(client) and is_crowded and self.may_be_dropped(client):
             return self.unanswered(client, True) if client.sent >= self.length else None
         if client.end in ("broken", "refused"):
             raise Wrong(f"the connection is {client.end} after {client.sent} bytes were sent")
@@ -89,8 +88,10 @@ class Connection:
             return self.unanswered(client, may_be_lost)
         return self.answered(client)
 
-    def is_due_nothing(self):
-        return self.how == "silent" or getattr(self.meaning.always, "due", None) == b""
+    def is_dropped(self, client):
+        """Returns whether its client was dropped, as far as that can be told from the end that it met."""
+        is_due_nothing = self.how != "silent" and getattr(self.meaning.always, "due", None) == b""
+        return client.end == "broken" or client.end == "end" and not client.found and not is_due_nothing
 
     def unanswered(self, client, may_be_lost):
         """Returns the request whose reply nobody read. A reset may come before the program has read what was sent."""

@@ -60,25 +60,42 @@ class Served:
             raise Unserved(f"{what} connections were dropped because the table was full, and it says: {self.said()!r}")
 
 
-@contextlib.contextmanager
-def serving(program, room, words, seconds, **how):
-    """Serves room/data.nq with these words of the command line besides, and gives the running program once it says that it listens."""
-    for name in ("out", "err"):
-        open(f"{room}/{name}", "wb").close()
+    def wait_until_said(self, end):
+        """Waits until it has said a line, has ended, or the time is up. Returns what it said."""
+        while self.program.poll() is None and not said(self.room, "out").endswith("\n") and time.monotonic() < end:
+            time.sleep(0.01)
+        return said(self.room, "out")
+
+    def stop(self):
+        self.program.kill()
+        # (a wait without a limit may never end where a signal has cut off an earlier one)
+        with contextlib.suppress(subprocess.TimeoutExpired):
+            self.program.wait(5)
+
+
+def started(program, room, words, **how):
+    """Starts the program on a port that was free a moment ago."""
     with open(f"{room}/out", "wb") as out, open(f"{room}/err", "wb") as err:
         port = free_port()
         words = [program, "serve", "--port", str(port), "--data", f"{room}/data.nq", *map(str, words)]
-        running = subprocess.Popen(words, stdin=subprocess.DEVNULL, stdout=out, stderr=err, **how)
-    try:
-        served = Served(running, port, room)
-        end = time.monotonic() + seconds
-        while running.poll() is None and not said(room, "out").endswith("\n") and time.monotonic() < end:
-            time.sleep(0.01)
-        if said(room, "out") != f"listening on 127.0.0.1:{port}\n":
-            raise Unserved(f"nothing listens; the program says: {served.said()!r}")
-        yield served
-    finally:
-        running.kill()
-        # (a wait without a limit may never end where a signal has cut off an earlier one)
-        with contextlib.suppress(subprocess.TimeoutExpired):
-            running.wait(5)
+        return Served(subprocess.Popen(words, stdin=subprocess.DEVNULL, stdout=out, stderr=err, **how), port, room)
+
+
+@contextlib.contextmanager
+def serving(program, room, words, seconds, **how):
+    """Serves room/data.nq with these words of the command line besides, and gives the running program once it says that it listens."""
+    end = time.monotonic() + seconds
+    for _ in range(3):
+        served = started(program, room, words, **how)
+        try:
+            line = served.wait_until_said(end)
+            # (another program may have taken the port meanwhile)
+            if line == f"cannot listen on {served.port}\n":
+                continue
+            if line != f"listening on 127.0.0.1:{served.port}\n":
+                raise Unserved(f"nothing listens; the program says: {served.said()!r}")
+            yield served
+            return
+        finally:
+            served.stop()
+    raise Unserved(f"nothing listens; the program says: {served.said()!r}")
