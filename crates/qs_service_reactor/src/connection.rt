@@ -47,6 +47,9 @@ pub enum Cause {
 /// How many reads and writes a turn has at most.
 const STEPS: u32 = 4;
 
+/// How many bytes are dropped after a reply at most: as many as the longest request has.
+const MOST_DROPPED: usize = 4_210_688;
+
 /// For how many milliseconds a connection may be silent where its place is wanted.
 const SILENT: u64 = 50;
 
@@ -65,6 +68,8 @@ pub struct Connection {
     moved: Duration,
     /// Whether no byte has come yet.
     silent: bool,
+    /// How many bytes came after the reply.
+    dropped: usize,
 }
 
 /// What a failed call of the network results in.
@@ -102,6 +107,7 @@ impl Connection {
             began: Duration::ZERO,
             moved: Duration::ZERO,
             silent: true,
+            dropped: 0,
         }
     }
 
@@ -115,6 +121,7 @@ impl Connection {
             began: now,
             moved: now,
             silent: true,
+            dropped: 0,
         }
     }
 
@@ -306,7 +313,19 @@ impl Connection {
         }
     }
 
-    /// Reads what the peer still sends, and drops it.
+    /// So many bytes came after the reply: whether it goes on.
+    fn count_dropped(&mut self, n: usize) -> Turn
+        ensures { self.new.stage ≡ self.old.stage }
+    {
+        self.dropped = self.dropped.saturating_add(n);
+        if self.dropped > MOST_DROPPED {
+            Turn::Done
+        } else {
+            turn_of(n)
+        }
+    }
+
+    /// Reads what the peer still sends, and drops it, up to a bound.
     fn drain<N: Network, E: Endpoint>(
         &mut self,
         place: usize,
@@ -322,7 +341,7 @@ impl Connection {
         match net.get(place, buf) {
             Ok(n) => {
                 self.enter(Stage::Lingering, now);
-                turn_of(n)
+                self.count_dropped(n)
             }
             Err(error) => turn_after(error.kind()),
         }

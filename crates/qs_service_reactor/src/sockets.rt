@@ -147,8 +147,17 @@ impl<C: Clock> Network for Sockets<'_, C> {
 
     fn wait(&mut self, timeout: Option<Duration>, ready: &mut [bool]) -> io::Result<Waited> {
         let before = Instant::now(self.clock)?;
-        self.poll.poll(&mut self.events, timeout)?;
+        let polled = self.poll.poll(&mut self.events, timeout);
         let elapsed = before.elapsed(self.clock)?;
+        match polled {
+            Ok(()) => {}
+            // (a signal ended the wait, and nothing is told)
+            Err(error) if error.kind() == ErrorKind::Interrupted => {
+                let arrival = false;
+                return Ok(Waited { arrival, elapsed });
+            }
+            Err(error) => return Err(error),
+        }
         let mut arrival = false;
         for event in &self.events {
             let place = event.token().0;
