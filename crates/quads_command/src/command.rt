@@ -4,8 +4,8 @@ use crate::held::add_command;
 use clap::{Arg, ArgAction, Command};
 use std::alloc::{AllocError, Global};
 
-/// The version of the program, and of the kit that it is proved with: what `rt version` prints.
-const VERSION: &str = "0.1.0\nrattle-kit-13f logic dac8208d650f15bf";
+/// The version of the program.
+const VERSION: &str = "0.1.0";
 
 /// The argument that names the data.
 pub const DATA: &str = "FILE";
@@ -22,8 +22,17 @@ pub const SCRIPT: &str = "SCRIPT";
 /// The argument of the port.
 pub const PORT: &str = "P";
 
-/// The argument of the number of requests.
+/// The argument of the number of connections that are served.
 pub const REQUESTS: &str = "N";
+
+/// The argument of the number of connections that are open at once.
+pub const AT_ONCE: &str = "M";
+
+/// The argument of the seconds in which no byte comes or goes.
+pub const IDLE: &str = "IDLE";
+
+/// The argument of the seconds that a request may take.
+pub const REQUEST: &str = "REQUEST";
 
 /// The flag of a union default graph.
 pub const UNION_DEFAULT: &str = "union-default";
@@ -99,19 +108,42 @@ fn served_argument<'a>(alloc: Global) -> Arg<'a> {
 fn requests_argument<'a>(alloc: Global) -> Arg<'a> {
     Arg::new(alloc, REQUESTS)
         .long("requests")
-        .required(true)
         .value_parser(clap::value_parser!(u32))
-        .help("how many connections are served")
+        .help("how many connections are served; without it, until the program is stopped")
+}
+
+fn at_once_argument<'a>(alloc: Global) -> Arg<'a> {
+    Arg::new(alloc, AT_ONCE)
+        .long("at-once")
+        .value_parser(clap::value_parser!(u16).range(1..=64))
+        .help("how many connections are open at once, from 1 to 64; 64 unless said")
+}
+
+fn idle_argument<'a>(alloc: Global) -> Arg<'a> {
+    Arg::new(alloc, IDLE)
+        .long("idle")
+        .value_name("SECONDS")
+        .value_parser(clap::value_parser!(u32).range(1..))
+        .help("a connection is dropped when no byte comes or goes for so long; 30 unless said")
+}
+
+fn request_argument<'a>(alloc: Global) -> Arg<'a> {
+    Arg::new(alloc, REQUEST)
+        .long("request")
+        .value_name("SECONDS")
+        .value_parser(clap::value_parser!(u32).range(1..))
+        .help("a connection is dropped when its request isn't whole by then; 120 unless said")
 }
 
 fn serve_command<'a>(alloc: Global) -> Result<Command<'a>, AllocError> {
     Command::new(alloc, "serve")
-        .about(
-            "Serves the data of a file by the SPARQL protocol, at /query, /update and /data: so many connections, one after another",
-        )
+        .about("Serves the data of a file by the SPARQL protocol, at /query, /update and /data")
         .arg(port_argument(alloc))?
         .arg(served_argument(alloc))?
         .arg(requests_argument(alloc))?
+        .arg(at_once_argument(alloc))?
+        .arg(idle_argument(alloc))?
+        .arg(request_argument(alloc))?
         .arg(union_default(alloc))
 }
 

@@ -10,6 +10,6 @@ mod line;
 mod usage;
 mod words;
 
-pub use line::CommandLine;
+pub use line::{CommandLine, ServeOptions};
 pub use usage::Usage;
 pub use words::read;

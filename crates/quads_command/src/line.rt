@@ -1,7 +1,22 @@
 //! What a command line asks for.
 
-use crate::command::{DATA, PORT, QUERY, REQUESTS, SCRIPT, UNION_DEFAULT, UPDATE};
+use crate::command::{
+    AT_ONCE, DATA, IDLE, PORT, QUERY, REQUEST, REQUESTS, SCRIPT, UNION_DEFAULT, UPDATE,
+};
 use clap::ArgMatches;
+
+/// How the connections of a server are treated.
+#[derive(Clone, Copy)]
+pub struct ServeOptions {
+    /// How many connections are served in all; `None` where there is no end.
+    pub requests: Option<u32>,
+    /// How many connections are open at once at most, from 1 to 64.
+    pub at_once: u16,
+    /// After how many seconds a connection is dropped on which no byte comes or goes.
+    pub idle: u32,
+    /// After how many seconds a connection is dropped whose request isn't whole.
+    pub request: u32,
+}
 
 /// A job of the program, with the names of its files. Where `union_default` is true, queries see the union of all named graphs as the
 /// default graph.
@@ -29,11 +44,11 @@ pub enum CommandLine<'a> {
         script: &'a str,
         union_default: bool,
     },
-    /// `serve --port P --data FILE --requests N`: the data are served on this port of 127.0.0.1, to so many connections.
+    /// `serve --port P --data FILE`: the data are served on this port of 127.0.0.1.
     Serve {
         port: u16,
         data: &'a str,
-        requests: u32,
+        options: ServeOptions,
         union_default: bool,
     },
 }
@@ -62,11 +77,20 @@ fn replay_line<'a>(matches: &ArgMatches<'a>) -> Option<CommandLine<'a>> {
     })
 }
 
+fn serve_options(matches: &ArgMatches<'_>) -> ServeOptions {
+    ServeOptions {
+        requests: matches.get_one::<u32>(REQUESTS),
+        at_once: matches.get_one::<u16>(AT_ONCE).unwrap_or(64),
+        idle: matches.get_one::<u32>(IDLE).unwrap_or(30),
+        request: matches.get_one::<u32>(REQUEST).unwrap_or(120),
+    }
+}
+
 fn serve_line<'a>(matches: &ArgMatches<'a>) -> Option<CommandLine<'a>> {
     Some(CommandLine::Serve {
         port: matches.get_one::<u16>(PORT)?,
         data: matches.get_str(DATA)?,
-        requests: matches.get_one::<u32>(REQUESTS)?,
+        options: serve_options(matches),
         union_default: matches.get_flag(UNION_DEFAULT),
     })
 }

@@ -23,8 +23,8 @@ fn named<'a>(alloc: Global, matches: &ArgMatches<'a>) -> Result<CommandLine<'a>,
     }
 }
 
-/// Returns the job that the words ask for. The first word is the name of the program; the port is a number from 1 to 65535, and the number of
-/// requests one from 0 to 4294967295.
+/// Returns the job that the words ask for. The first word is the name of the program. The port is a number from 1 to 65535, the number of
+/// requests one from 0 to 4294967295, that of connections at once from 1 to 64, and seconds are from 1 to 4294967295.
 ///
 /// # Errors
 ///

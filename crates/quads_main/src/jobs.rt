@@ -100,11 +100,11 @@ pub fn do_line<S: Sink>(rt: &HostRuntime, out: &mut S, line: CommandLine<'_>) ->
         CommandLine::Serve {
             port,
             data,
-            requests,
+            options,
             union_default,
         } => {
             let default_graph = default_graph(union_default);
-            return serve_data(rt, out, port, requests, data, default_graph);
+            return serve_data(rt, out, port, &options, data, default_graph);
         }
     };
     do_job(rt, out, job)

@@ -1,13 +1,22 @@
-//! The data of a file, served to the connections that result in a port.
+//! The data of a file, served on a port.
 
+use crate::dropped::Dropped;
 use crate::files::{file, hasher, refuse_for_memory};
 use qs_base::drop_value;
 use qs_service::Service;
+use qs_service_endpoint::ConnectionsEndpoint;
+use qs_service_reactor::{Limits, Sockets};
 use qs_store::DefaultGraph;
 use qs_terms::{Sink, put_all};
-use quads::{load_owned_service, put_refusal, serve};
+use quads::{ServiceEndpoint, load_owned_service, put_refusal, serve_events};
+use quads_command::ServeOptions;
 use std::alloc::Global;
+use std::io;
 use std::net::{Ipv4Addr, TcpListener};
+use std::time::Duration;
+
+/// How many seconds a peer has to end its side once its whole reply went out.
+const LINGER: u64 = 1;
 
 // A service over the data of the file, or the exit status where there is none.
 fn service_of<S: Sink>(
@@ -35,13 +44,45 @@ fn put_port<S: Sink>(alloc: Global, out: &mut S, text: &str, port: u16) -> bool 
     }
 }
 
-// Listens, says so, and serves so many connections: the exit status.
+// The limits that the command line chose.
+fn limits_of(options: &ServeOptions) -> Limits {
+    Limits {
+        at_once: (options.at_once as usize).clamp(1, 64),
+        idle: Duration::from_secs(options.idle as u64),
+        request: Duration::from_secs(options.request as u64),
+        linger: Duration::from_secs(LINGER),
+    }
+}
+
+// Serves the connections of the listener, and tells on standard error how many were dropped because all places were taken.
+fn serve_listener(
+    rt: &HostRuntime,
+    listener: &TcpListener,
+    options: &ServeOptions,
+    endpoint: &mut ServiceEndpoint,
+) -> io::Result<()> {
+    let limits = limits_of(options);
+    let mut sockets = Sockets::new(rt, rt, rt.alloc(), listener)?;
+    let mut dropped = Dropped::new(rt, limits.at_once);
+    let served = serve_events(
+        rt.alloc(),
+        &mut sockets,
+        &limits,
+        options.requests,
+        endpoint,
+        &mut dropped,
+    );
+    dropped.tell_sum();
+    served
+}
+
+// Listens, says so, and serves: the exit status.
 fn serve_on<S: Sink>(
     rt: &HostRuntime,
     out: &mut S,
     port: u16,
-    requests: u32,
-    service: &mut Service,
+    options: &ServeOptions,
+    endpoint: &mut ServiceEndpoint,
 ) -> u8 {
     let Ok(listener) = TcpListener::bind(rt, (Ipv4Addr::LOCALHOST, port)) else {
         put_port(rt.alloc(), out, "cannot listen on ", port);
@@ -50,27 +91,30 @@ fn serve_on<S: Sink>(
     if !put_port(rt.alloc(), out, "listening on 127.0.0.1:", port) {
         return 1;
     }
-    if serve(&listener, requests, service).is_err() {
-        put_port(rt.alloc(), out, "cannot listen on ", port);
-        return 1;
+    match serve_listener(rt, &listener, options, endpoint) {
+        Ok(()) => 0,
+        Err(error) if error.kind() == io::ErrorKind::OutOfMemory => refuse_for_memory(out),
+        Err(_) => {
+            put_port(rt.alloc(), out, "cannot listen on ", port);
+            1
+        }
     }
-    0
 }
 
-/// Serves the data of the file on a port of 127.0.0.1 to so many connections, and returns the exit status. The file is read before the port
-/// is bound.
+/// Serves the data of the file on a port of 127.0.0.1, and returns the exit status. The file is read before the port is bound.
 pub fn serve_data<S: Sink>(
     rt: &HostRuntime,
     out: &mut S,
     port: u16,
-    requests: u32,
+    options: &ServeOptions,
     data: &str,
     default_graph: DefaultGraph,
 ) -> u8 {
     match service_of(rt, out, data, default_graph) {
-        Ok(mut service) => {
-            let status = serve_on(rt, out, port, requests, &mut service);
-            drop_value(service);
+        Ok(service) => {
+            let mut endpoint = ConnectionsEndpoint::new(service);
+            let status = serve_on(rt, out, port, options, &mut endpoint);
+            drop_value(endpoint);
             status
         }
         Err(status) => status,

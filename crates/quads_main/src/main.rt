@@ -5,6 +5,7 @@
 //! and the port is bound.
 #![tactic(auto)]
 
+mod dropped;
 mod files;
 mod jobs;
 mod listen;

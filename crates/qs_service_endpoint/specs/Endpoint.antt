@@ -1,0 +1,28 @@
+-- Connections as the endpoint of an event loop.
+use Rattle.std.specs.Prelude.{◌≡◌, ℕ, Bool, true, false, List, Option, None, Some}
+use Rattle.std.specs.Option.{option_map}
+use Rattle.qs_service_connections.specs.Meaning.{RequestMeaning}
+use Rattle.qs_service_connections.specs.Message.{Message}
+use Rattle.qs_service_connections.specs.State.{State, reply_at}
+use Rattle.qs_service_connections.specs.Step.{Event, Join, Piece, End, Step}
+use Rattle.qs_service_connections.specs.declared.fault.ServiceFault.{ServiceFault}
+use Rattle.qs_service_reactor.specs.Run as loop
+
+-- an event of the loop, as one of the connections
+abbrev pub event_of : loop.Event → Event
+event_of (loop.Join id) = Join id
+event_of (loop.Piece id bytes) = Piece id bytes
+event_of (loop.End id) = End id
+
+-- whether an event is taken up: where nothing refuses it
+abbrev pub is_done : Option ServiceFault → Bool
+is_done None = true
+is_done (Some fault) = false
+
+-- one step of the connections, which takes the event up or refuses it
+abbrev pub Steps : {S : Type 0} → RequestMeaning S → State S → loop.Event → Bool → State S → Type 0
+Steps carries old event done new = (outcome : Option ServiceFault) × Step carries old (event_of event) outcome new × (done ≡ is_done outcome)
+
+-- the bytes of the reply that stands for that id
+abbrev pub reply_bytes : {S : Type 0} → State S → ℕ → Option (List ℕ)
+reply_bytes s id = option_map (λ (m : Message). m.bytes) (reply_at id s.joined)
