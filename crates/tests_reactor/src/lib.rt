@@ -1,7 +1,7 @@
 //! Tests of the event loop: they stand in a crate of their own, since a crate with tests is proved twice.
 //!
-//! `script` is a network in memory with a clock of its own, whose log is known; `peers` has its clients. `echo` is an endpoint that replies with
-//! what it was sent.
+//! `script` is a network in memory with a clock of its own, whose log is known; `peers` has its clients. Other tests use these too. `echo` is an
+//! endpoint that replies with what it was sent.
 #![tactic(auto)]
 
 #[cfg(test)]
@@ -19,3 +19,6 @@ mod script;
 mod served;
 #[cfg(test)]
 mod sockets;
+
+pub use peers::{Peer, Peers};
+pub use script::{Fault, Script};

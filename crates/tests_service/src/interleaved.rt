@@ -17,7 +17,7 @@ const DUMP: &[u8] = b"GET /data HTTP/1.1\r\nHost: e\r\n\r\n";
 pub const TRUE: &[u8] =
     b"HTTP/1.1 200 OK\r\nConnection: close\r\nContent-Type: application/sparql-results+json\r\nContent-Length: 26\r\n\r\n{\"boolean\":true,\"head\":{}}";
 
-const FALSE: &[u8] =
+pub const FALSE: &[u8] =
     b"HTTP/1.1 200 OK\r\nConnection: close\r\nContent-Type: application/sparql-results+json\r\nContent-Length: 27\r\n\r\n{\"boolean\":false,\"head\":{}}";
 
 const ONE_QUAD: &[u8] =

@@ -1,8 +1,10 @@
 //! Tests of connections over one store: they stand in a crate of their own, since a crate with tests is proved twice.
 //!
-//! Replies that are taken, connections over streams in memory and over sockets. `growth` has the pairs for refused allocations.
+//! Replies that are taken, connections over streams in memory and over sockets, and many at once over a network in memory. `growth` has the pairs for refused allocations.
 #![tactic(auto)]
 
+#[cfg(test)]
+mod events;
 #[cfg(test)]
 mod growth;
 #[cfg(test)]
