@@ -62,8 +62,8 @@ fn are_answered(script: &Script) -> bool {
     is_answered(script, 63, fixed(Fixed::NoContent))
 }
 
-/// Serves the clients, and returns the network after that, or none where the loop failed.
-fn served(alloc: Global, service: Service) -> Result<Option<Script>, AllocError> {
+/// Serves the clients, and returns the network after that, and whether all went well.
+fn served(alloc: Global, peers: Peers, service: Service) -> (Script, bool) {
     let fault = Fault {
         call: 0,
         kind: ErrorKind::Other,
@@ -74,7 +74,7 @@ fn served(alloc: Global, service: Service) -> Result<Option<Script>, AllocError>
         request: Duration::from_secs(60),
         linger: Duration::from_secs(1),
     };
-    let mut script = Script::new(alloc, clients(alloc)?, fault);
+    let mut script = Script::new(alloc, peers, fault);
     let mut endpoint = ConnectionsEndpoint::new(service);
     let result = serve_events(
         alloc,
@@ -85,19 +85,24 @@ fn served(alloc: Global, service: Service) -> Result<Option<Script>, AllocError>
         &mut Nobody,
     );
     drop(endpoint);
-    Ok(if result.is_ok() { Some(script) } else { None })
+    (script, result.is_ok())
+}
+
+/// Whether 63 clients and one with an update between them are answered.
+fn is_served(alloc: Global, peers: Peers, service: Option<Service>) -> bool {
+    match service {
+        Some(service) => {
+            let (script, is_ok) = served(alloc, peers, service);
+            is_ok && are_answered(&script)
+        }
+        None => false,
+    }
 }
 
 #[test]
 fn sixty_three_and_an_update_between_them(rt: HostRuntime) -> Result<(), Fail> {
-    let script = match service(rt.alloc(), RandomState::new(&rt).ok()) {
-        Some(service) => served(rt.alloc(), service)?,
-        None => None,
-    };
-    let is = match script {
-        Some(script) => are_answered(&script),
-        None => false,
-    };
-    assert!(rt; is);
+    let peers = clients(rt.alloc())?;
+    let service = service(rt.alloc(), RandomState::new(&rt).ok());
+    assert!(rt; is_served(rt.alloc(), peers, service));
     Ok(())
 }
