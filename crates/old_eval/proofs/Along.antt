@@ -4,8 +4,8 @@ use Rattle.std.specs.List.{filter, flat_map}
 use Rattle.std.proofs.lemmas.List.{take_more}
 use Rattle.std.proofs.lemmas.List.Sorted.{IsPermutation-refl}
 use Rattle.qs_terms.specs.Bag.{SameBag}
-use Rattle.qs_paths.specs.Pair.{Pair}
-use Rattle.qs_paths.specs.Pairs.{pairs}
+use Rattle.qs_paths_meaning.specs.Pair.{Pair}
+use Rattle.qs_paths_meaning.specs.Pairs.{pairs}
 use Rattle.qs_algebra_solutions.specs.Operators.{join}
 use Rattle.qs_algebra_solutions.specs.Solution.{Solution}
 use Rattle.qs_algebra_patterns.specs.declared.pattern.PathPattern.{PathPattern}

@@ -11,7 +11,7 @@ use Rattle.qs_terms.specs.declared.term.Term.{Term}
 use Rattle.qs_algebra_solutions.specs.Solution.{Solution, both_bound, compatible, compatible_terms, first_bound, merge, share}
 use Rattle.old_eval.specs.inner.Keyed.{is_short}
 use Rattle.qs_algebra_solutions.specs.Operators.{merges, or_alone, join, left_join, excludes, minus}
-use Rattle.qs_expr.specs.declared.expr.Expr.{Expr}
+use Rattle.qs_expr_meaning.specs.declared.expr.Expr.{Expr}
 use Rattle.qs_algebra_patterns.specs.Eval.{kept}
 use Rattle.old_eval.proofs.Optional.{one_more}
 

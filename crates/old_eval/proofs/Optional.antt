@@ -10,7 +10,7 @@ use Rattle.qs_algebra_solutions.specs.Operators.{merges, or_alone, left_join}
 use Rattle.std.specs.Borrow.{Bor}
 use Rattle.old_eval.specs.inner.Lent.{lent}
 use Rattle.old_eval.proofs.LentLaws.{lent_next}
-use Rattle.qs_expr.specs.declared.expr.Expr.{Expr}
+use Rattle.qs_expr_meaning.specs.declared.expr.Expr.{Expr}
 use Rattle.qs_algebra_patterns.specs.Eval.{kept}
 
 merges_behind : (holds : Solution → Bool) (a : Solution) (xs ys : List Solution) → filter holds (merges (xs ++ ys) a) ≡ filter holds (merges xs a) ++ filter holds (merges ys a)

@@ -9,7 +9,7 @@ ghost use Rattle.qs_algebra_patterns.specs.Eval as spec;
 
 use crate::keyed::Keyed;
 use qs_algebra_solutions::Row;
-use qs_expr::{Expr, ExprFault, eval_terms, holds};
+use qs_expr_meaning::{Expr, ExprFault, eval_terms, holds};
 use std::alloc::{AllocError, Global};
 
 /// Whether all conditions are true in the solution; an error isn't true.

@@ -11,7 +11,7 @@ use crate::conditions::joined_rows;
 use crate::quads::Quads;
 use qs_algebra_patterns::{PathPattern, Slot};
 use qs_algebra_solutions::Row;
-use qs_paths::{Edges, Pair, Source, pairs_of_terms};
+use qs_paths_meaning::{Edges, Pair, Source, pairs_of_terms};
 use qs_terms::Term;
 use std::alloc::{AllocError, Global};
 

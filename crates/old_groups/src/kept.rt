@@ -1,7 +1,7 @@
 //! Steps of a group whose right sides are evaluated.
 
 use qs_algebra_solutions::Row;
-use qs_expr::Expr;
+use qs_expr_meaning::Expr;
 use sqlite_items::Items;
 
 /// A step of a group with the solutions of its right side, or the group's conditions (SPARQL 1.1 Query, 18.5).

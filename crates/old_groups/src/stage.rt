@@ -6,7 +6,7 @@ ghost use Rattle.old_groups.specs.Stages.{kept_of};
 use crate::kept::Kept;
 use old_eval::Keyed;
 use qs_algebra_solutions::Row;
-use qs_expr::Expr;
+use qs_expr_meaning::Expr;
 use std::alloc::{AllocError, Global};
 
 /// A step with the solutions of its right side by their terms.

@@ -5,7 +5,7 @@ use Rattle.std.proofs.lemmas.List.{take_more, map-append, length-map, length-app
 use Rattle.std.proofs.lemmas.List.Elements.{filter-append}
 use Rattle.qs_algebra_solutions.specs.Solution.{Solution, compatible, merge, share}
 use Rattle.qs_algebra_solutions.specs.Operators.{merges, or_alone, excludes}
-use Rattle.qs_expr.specs.declared.expr.Expr.{Expr}
+use Rattle.qs_expr_meaning.specs.declared.expr.Expr.{Expr}
 use Rattle.qs_algebra_patterns.specs.Eval.{all_hold, kept}
 use Rattle.old_groups.specs.Stages.{before}
 use Rattle.old_groups.specs.declared.stages.Waiting.{Waiting as Solved}

@@ -12,7 +12,7 @@ use crate::stage::Stage;
 use crate::waiting::Waiting;
 use old_ops::{Front, Row, are_compatible, merged, share};
 use old_sides::Side;
-use qs_expr::{Expr, holds};
+use qs_expr_meaning::{Expr, holds};
 use qs_store::View;
 use std::alloc::{AllocError, Global};
 

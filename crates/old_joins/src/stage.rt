@@ -1,7 +1,7 @@
 //! Steps of a group by numbers.
 
 use old_sides::Side;
-use qs_expr::Expr;
+use qs_expr_meaning::Expr;
 
 /// A step of a group whose right side is rows of numbers, or conditions of the group (SPARQL 1.1 Query, 18.5).
 #[derive(Drop)]

@@ -17,7 +17,7 @@ use Rattle.qs_store.specs.declared.default_graph.DefaultGraph.TheVariants.{Store
 use Rattle.qs_store.proofs.Members.{nothing, member_of_filter, filter_has}
 use Rattle.old_eval.proofs.GraphLaws.{graph_distinct}
 use Rattle.qs_algebra_solutions.proofs.Same.{same_triple-Decides}
-use Rattle.old_ops.specs.Graph.{is_named, named_graph, active_graph}
+use Rattle.qs_store.specs.ActiveGraph.{is_named, named_graph, active_graph}
 use Rattle.old_ops.proofs.Lists.{map_has, member_of_map, once_has, once_only}
 
 graph_has : (quads : List Statement) (name : Option Term) (q : Statement) → Contains quads q → q.graph ≡ name → Contains (graph_of quads name) (triple_of q)

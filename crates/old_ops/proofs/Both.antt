@@ -7,7 +7,7 @@ use Rattle.qs_dict.specs.Dict.{term_at}
 use Rattle.qs_store.specs.Content.{Content}
 use Rattle.qs_algebra_solutions.specs.Solution.{Solution, unbound, term_at as bound_term, compatible_terms, compatible, both_bound, share, first_bound, merge}
 use Rattle.qs_algebra_solutions.proofs.Cells.{compatible_step, share_step, merge_step}
-use Rattle.old_ops.specs.Graph.{IsSeen}
+use Rattle.qs_store.specs.ActiveGraph.{IsSeen}
 use Rattle.old_ops.specs.Row.{Cells, cell_at, cell_term, row_solution, front, front_solution}
 use Rattle.old_ops.specs.inner.Steps.{is_used}
 use Rattle.old_ops.proofs.Cells.{at_cell, itself, none_term, other_term, some_term}

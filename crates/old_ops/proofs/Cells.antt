@@ -9,7 +9,7 @@ use Rattle.qs_store.specs.Content.{Content}
 use Rattle.qs_store.proofs.TriplesSaid.{same_number}
 use Rattle.qs_algebra_solutions.specs.Solution.{Solution, unbound, term_at as bound_term}
 use Rattle.qs_algebra_patterns.specs.declared.pattern.Slot.TheVariants as slot
-use Rattle.old_ops.specs.Graph.{IsSeen}
+use Rattle.qs_store.specs.ActiveGraph.{IsSeen}
 use Rattle.old_ops.specs.Row.{Cells, cell_at, no_cells, cell_term, row_solution}
 use Rattle.old_ops.specs.Place.{term_slot, slot_if}
 use Rattle.old_ops.specs.inner.Steps.{is_used, used_cell, bound_variable, bound_by}

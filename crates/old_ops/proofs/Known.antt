@@ -20,7 +20,7 @@ use Rattle.qs_algebra_patterns.specs.declared.pattern.Slot.TheVariants as slot
 use Rattle.qs_algebra_patterns.specs.declared.pattern.TriplePattern.{TriplePattern}
 use Rattle.old_eval.specs.inner.Found.{agrees, may_match, extensions, found}
 use Rattle.old_eval.proofs.May.{cannot_match}
-use Rattle.old_ops.specs.Graph.{IsSeen, active_graph}
+use Rattle.qs_store.specs.ActiveGraph.{IsSeen, active_graph}
 use Rattle.old_ops.specs.Place.{slot_if, known_slot, known_pattern, pattern_of}
 use Rattle.old_ops.specs.inner.Steps.{extensions_of}
 use Rattle.old_ops.specs.Coming.{made}

@@ -1,12 +1,12 @@
 -- Tests of a list of conditions.
 use Rattle.std.proofs.Common.{◌≡◌, ℕ, zero, suc, ◌<◌, Bool, true, false, Option, Some, None, List, [], ◌∷◌, ◌++◌, length, map, get_or, refl, sym, ◌∙◌, ap, subst, arith}
 use Rattle.qs_algebra_solutions.specs.Solution.{Solution}
-use Rattle.qs_expr.specs.Truth.{both, every}
-use Rattle.qs_expr.specs.Meaning.{holds, meaning, truth}
-use Rattle.qs_expr.proofs.Equations.{and_is}
-use Rattle.qs_expr.proofs.Truths.{truth_of}
-use Rattle.qs_expr.specs.declared.expr.Expr.{Expr}
-use Rattle.qs_expr.specs.declared.expr.Expr.TheVariants.{And}
+use Rattle.qs_expr_meaning.specs.Truth.{both, every}
+use Rattle.qs_expr_meaning.specs.Meaning.{holds, meaning, truth}
+use Rattle.qs_expr_meaning.proofs.Equations.{and_is}
+use Rattle.qs_expr_meaning.proofs.Truths.{truth_of}
+use Rattle.qs_expr_meaning.specs.declared.expr.Expr.{Expr}
+use Rattle.qs_expr_meaning.specs.declared.expr.Expr.TheVariants.{And}
 use Rattle.qs_algebra_patterns.specs.Eval.{all_hold}
 use Rattle.old_eval.proofs.AndOr.{and_left, and_right}
 use Rattle.old_ops.specs.Tests.{Settles, IsNeeded, AreNeeded, AreTests, TestsMore}

@@ -18,7 +18,7 @@ use Rattle.old_eval.specs.inner.Found.{extensions, found}
 use Rattle.old_eval.proofs.AndOr.{and_left, and_right}
 use Rattle.old_eval.proofs.Below.{all_fit}
 use Rattle.old_eval.proofs.FoundLaw.{found_is_matches}
-use Rattle.old_ops.specs.Graph.{IsSeen, active_graph}
+use Rattle.qs_store.specs.ActiveGraph.{IsSeen, active_graph}
 use Rattle.old_ops.specs.Place.{pattern_of, known_slot, known_pattern}
 use Rattle.old_ops.specs.inner.Steps.{extensions_of}
 use Rattle.old_ops.specs.Coming.{made}

@@ -34,7 +34,7 @@ use Rattle.old_eval.proofs.AndOr.{and_left, and_right}
 use Rattle.old_eval.proofs.May.{cannot_match}
 use Rattle.old_eval.proofs.Operators.{flat_map_same}
 use Rattle.qs_algebra_solutions.proofs.Same.{same_triple-Decides}
-use Rattle.old_ops.specs.Graph.{IsSeen, active_graph}
+use Rattle.qs_store.specs.ActiveGraph.{IsSeen, active_graph}
 use Rattle.old_ops.specs.Row.{Cells, cell_at, cell_term, row_solution}
 use Rattle.old_ops.specs.Place.{term_slot, slot_of, three, pattern_of}
 use Rattle.old_ops.specs.inner.Steps.{used_cell, given, bound_by, bound_entry, extensions_of, step}

@@ -3,11 +3,11 @@ use Rattle.std.proofs.Common.{◌≡◌, ℕ, ◌+◌, ◌<◌, ◌≤◌, true,
 use Rattle.std.specs.List.{AllByRecursion}
 use Rattle.std.proofs.lemmas.List.{take_all, take_more}
 use Rattle.qs_algebra_solutions.specs.Solution.{Solution}
-use Rattle.qs_expr.specs.Truth.{any, every, denied}
-use Rattle.qs_expr.specs.Meaning.{among, boolean_value, first_value, meaning, truth}
-use Rattle.qs_expr.specs.declared.expr.Expr.{Expr}
-use Rattle.qs_expr.specs.declared.expr.Expr.TheVariants.{Or, And, Coalesce, In, NotIn}
-use Rattle.qs_expr.proofs.Equations.{or_is, and_is, coalesce_is, in_is, not_in_is}
+use Rattle.qs_expr_meaning.specs.Truth.{any, every, denied}
+use Rattle.qs_expr_meaning.specs.Meaning.{among, boolean_value, first_value, meaning, truth}
+use Rattle.qs_expr_meaning.specs.declared.expr.Expr.{Expr}
+use Rattle.qs_expr_meaning.specs.declared.expr.Expr.TheVariants.{Or, And, Coalesce, In, NotIn}
+use Rattle.qs_expr_meaning.proofs.Equations.{or_is, and_is, coalesce_is, in_is, not_in_is}
 use Rattle.old_ops.specs.Tests.{Extends, Settles, Grows, are_bound}
 
 pub grows_same : (vs : List ℕ) → Grows vs vs

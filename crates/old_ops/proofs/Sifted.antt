@@ -10,8 +10,8 @@ use Rattle.qs_terms.specs.Dataset.{Triple}
 use Rattle.qs_terms.specs.Term.{same_term}
 use Rattle.qs_terms.specs.declared.term.Term.{Term}
 use Rattle.qs_algebra_solutions.specs.Solution.{Solution, term_at}
-use Rattle.qs_expr.specs.Meaning.{meaning, holds}
-use Rattle.qs_expr.specs.declared.expr.Expr.{Expr}
+use Rattle.qs_expr_meaning.specs.Meaning.{meaning, holds}
+use Rattle.qs_expr_meaning.specs.declared.expr.Expr.{Expr}
 use Rattle.qs_algebra_patterns.specs.Basic.{Graph}
 use Rattle.qs_algebra_patterns.specs.Eval.{all_hold}
 use Rattle.qs_algebra_patterns.specs.declared.pattern.Slot.{Slot}

@@ -1,5 +1,4 @@
 pub mod Row
-pub mod Graph
 pub mod Place
 pub mod Tests
 pub mod Coming

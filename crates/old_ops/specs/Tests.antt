@@ -5,14 +5,14 @@ use Rattle.std.specs.Option.{is_some}
 use Rattle.qs_terms.specs.Bag.{SameBag}
 use Rattle.qs_terms.specs.declared.term.Term.{Term}
 use Rattle.qs_algebra_solutions.specs.Solution.{Solution, term_at}
-use Rattle.qs_expr.specs.Meaning.{meaning, holds}
-use Rattle.qs_expr.specs.declared.expr.Expr.{Expr}
+use Rattle.qs_expr_meaning.specs.Meaning.{meaning, holds}
+use Rattle.qs_expr_meaning.specs.declared.expr.Expr.{Expr}
 use Rattle.qs_algebra_patterns.specs.Basic.{Graph}
 use Rattle.qs_algebra_patterns.specs.Eval.{all_hold}
 use Rattle.qs_store.specs.Content.{Content}
 use Rattle.qs_store.specs.declared.active.Active.{Active}
 use Rattle.qs_store.specs.declared.default_graph.DefaultGraph.{DefaultGraph}
-use Rattle.old_ops.specs.Graph.{active_graph}
+use Rattle.qs_store.specs.ActiveGraph.{active_graph}
 use Rattle.old_ops.specs.Row.{front}
 use Rattle.old_ops.specs.declared.tests.Test.{Test}
 use Rattle.old_ops.specs.declared.tests.Tests.{Tests}

@@ -3,7 +3,7 @@
 ghost use Rattle.std.specs.Prelude.{◌≡◌, IfOk, true};
 ghost use Rattle.std.specs.Option.{option_map};
 ghost use Rattle.qs_dict.specs.Dict.{term_at};
-ghost use Rattle.old_ops.specs.Graph.{IsSeen};
+ghost use Rattle.qs_store.specs.ActiveGraph.{IsSeen};
 ghost use Rattle.old_ops.specs.Row.{row_solution, cell_term, cell_at};
 ghost use Rattle.old_ops.specs.inner.Steps.{is_used, given, bound_number, bound_variable, bound_entry};
 

@@ -4,7 +4,7 @@ ghost use Rattle.std.specs.Prelude.{◌≡◌, IfOk};
 ghost use Rattle.std.specs.Option.{option_map};
 ghost use Rattle.std.specs.List.{filter, filter_map};
 ghost use Rattle.old_ops.specs.Coming.{GivesNext};
-ghost use Rattle.old_ops.specs.Graph.{IsSeen, active_graph};
+ghost use Rattle.qs_store.specs.ActiveGraph.{IsSeen, active_graph};
 ghost use Rattle.old_ops.specs.Row.{row_solution};
 ghost use Rattle.old_ops.specs.inner.Steps.{IsOpen, bound_entry, rest_of, step};
 ghost use Rattle.old_ops.specs.Tests.{lets};

@@ -7,7 +7,7 @@ ghost use Rattle.qs_algebra_solutions.specs.Solution.{unbound};
 ghost use Rattle.qs_algebra_patterns.specs.Basic.{matches};
 ghost use Rattle.old_eval.specs.inner.Below.{slot_below, triple_below, all_below};
 ghost use Rattle.old_ops.specs.Coming.{GivesOne, coming, sifted};
-ghost use Rattle.old_ops.specs.Graph.{IsSeen, active_graph};
+ghost use Rattle.qs_store.specs.ActiveGraph.{IsSeen, active_graph};
 ghost use Rattle.old_ops.specs.Row.{row_solution};
 ghost use Rattle.old_ops.specs.Tests.{AreWanted, search_of};
 
@@ -18,7 +18,7 @@ use crate::row::Row;
 use crate::search::{Level, next_of};
 use crate::tests::{Tests, no_tests, tests_of};
 use qs_algebra_patterns::{Slot, TriplePattern};
-use qs_expr::Expr;
+use qs_expr_meaning::Expr;
 use qs_store::{Active, View};
 use std::alloc::{AllocError, Global};
 use std::marker::Model;
@@ -45,7 +45,7 @@ pub struct Matches<'a, V: View> {
 
 impl<'a, V: View> Model for Matches<'a, V> {
     ghost use Rattle.old_ops.specs.Coming.{Left, coming};
-    ghost use Rattle.old_ops.specs.Graph.{IsSeen};
+    ghost use Rattle.qs_store.specs.ActiveGraph.{IsSeen};
     ghost use Rattle.old_ops.specs.Tests.{search_of};
 
     ghost Value = { Left };

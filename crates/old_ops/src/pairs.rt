@@ -3,7 +3,7 @@
 ghost use Rattle.std.specs.Prelude.{◌≡◌, Some, None, IfOk, IfSome, IfNone};
 ghost use Rattle.qs_dict.specs.Dict.{IsInUse};
 ghost use Rattle.qs_algebra_solutions.specs.Solution.{term_at, compatible, compatible_terms, share, both_bound, merge, first_bound};
-ghost use Rattle.old_ops.specs.Graph.{IsSeen};
+ghost use Rattle.qs_store.specs.ActiveGraph.{IsSeen};
 ghost use Rattle.old_ops.specs.Row.{cell_at, cell_term, front_solution, row_solution};
 
 use crate::bind::is_used;

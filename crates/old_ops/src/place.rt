@@ -1,7 +1,7 @@
 //! Triple patterns by numbers.
 
 ghost use Rattle.std.specs.Prelude.{◌≡◌, map, IfOk};
-ghost use Rattle.old_ops.specs.Graph.{IsSeen};
+ghost use Rattle.qs_store.specs.ActiveGraph.{IsSeen};
 ghost use Rattle.old_ops.specs.Place.{slot_of, known_slot, pattern_of, known_pattern};
 
 use qs_algebra_patterns::{Slot, TriplePattern};

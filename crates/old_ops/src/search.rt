@@ -4,7 +4,7 @@ ghost use Rattle.std.specs.Prelude.{◌≡◌, ◌<◌, ◌+◌, ◌-◌, length
 ghost use Rattle.std.specs.Option.{option_map};
 ghost use Rattle.qs_terms.specs.Bag.{SameBag};
 ghost use Rattle.old_ops.specs.Coming.{GivesOne, IsMove, coming};
-ghost use Rattle.old_ops.specs.Graph.{IsSeen, active_graph};
+ghost use Rattle.qs_store.specs.ActiveGraph.{IsSeen, active_graph};
 ghost use Rattle.old_ops.specs.Row.{row_solution};
 ghost use Rattle.old_ops.specs.Tests.{search_of};
 ghost use Rattle.old_ops.specs.inner.Levels.{IsPut};

@@ -4,7 +4,7 @@ ghost use Rattle.std.specs.Prelude.{◌≡◌, true, IfOk, OnOk};
 ghost use Rattle.std.specs.List.{AllByRecursion};
 ghost use Rattle.old_ops.specs.Tests.{Grows, Settles};
 
-use qs_expr::Expr;
+use qs_expr_meaning::Expr;
 use std::alloc::{AllocError, Global};
 
 /// Puts variables after the others that settle the expression, and answers whether it did. Arithmetic, IF and CONCAT it leaves

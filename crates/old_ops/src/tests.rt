@@ -7,7 +7,7 @@ ghost use Rattle.old_ops.specs.Tests.{AreNeeded, AreTests, IsNeeded, Settles, Te
 use crate::row::Row;
 use crate::settle::settle;
 use crate::terms::term;
-use qs_expr::{Bindings, Expr, holds};
+use qs_expr_meaning::{Bindings, Expr, holds};
 use qs_store::View;
 use qs_terms::Term;
 use sqlite_items::Items;

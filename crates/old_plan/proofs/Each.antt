@@ -26,7 +26,7 @@ use Rattle.qs_algebra_patterns.specs.Eval.{Found, eval, in_each}
 use Rattle.qs_algebra_patterns.specs.declared.pattern.PatternNode.{PatternNode}
 use Rattle.old_eval.proofs.Arms.{each_more}
 use Rattle.old_eval.proofs.Operators.{flat_map_same}
-use Rattle.old_ops.specs.Graph.{active_graph, named_graph}
+use Rattle.qs_store.specs.ActiveGraph.{active_graph, named_graph}
 use Rattle.old_ops.proofs.Lists.{map_has, member_of_map, of_any, once_has, once_only, same_members}
 use Rattle.old_ops.proofs.Scanned.{number_there}
 

@@ -10,7 +10,7 @@ use Rattle.qs_terms.specs.Statement.{Statement}
 use Rattle.qs_terms.specs.declared.term.Term.{Term}
 use Rattle.qs_algebra_solutions.specs.Solution.{Solution, unbound, term_at, merge, first_bound, compatible}
 use Rattle.qs_algebra_solutions.specs.Operators as of
-use Rattle.qs_expr.specs.declared.expr.Expr.{Expr}
+use Rattle.qs_expr_meaning.specs.declared.expr.Expr.{Expr}
 use Rattle.qs_algebra_patterns.specs.Basic.{Graph, basic, matches}
 use Rattle.qs_algebra_patterns.specs.Eval.{all_hold, eval, kept, step}
 use Rattle.qs_algebra_patterns.specs.declared.pattern.BasicPattern.{BasicPattern}

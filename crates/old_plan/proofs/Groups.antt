@@ -13,7 +13,7 @@ use Rattle.qs_terms.specs.Statement.{Statement}
 use Rattle.qs_terms.specs.declared.term.Term.{Term}
 use Rattle.qs_algebra_solutions.specs.Solution.{Solution, unbound}
 use Rattle.qs_algebra_solutions.specs.Operators as of
-use Rattle.qs_expr.specs.declared.expr.Expr.{Expr}
+use Rattle.qs_expr_meaning.specs.declared.expr.Expr.{Expr}
 use Rattle.qs_algebra_patterns.specs.Basic.{Graph, basic, matches}
 use Rattle.qs_algebra_patterns.specs.Eval.{all_hold, eval, extended, in_named, in_each, kept as all_kept, step}
 use Rattle.qs_algebra_patterns.specs.declared.pattern.BasicPattern.{BasicPattern}

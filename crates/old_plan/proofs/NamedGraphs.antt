@@ -20,7 +20,7 @@ use Rattle.qs_algebra_solutions.specs.Operators as of
 use Rattle.qs_algebra_patterns.specs.Eval.{Found, eval, in_each}
 use Rattle.qs_algebra_patterns.specs.declared.pattern.PatternNode.{PatternNode}
 use Rattle.old_eval.proofs.Operators.{flat_map_same}
-use Rattle.old_ops.specs.Graph.{active_graph}
+use Rattle.qs_store.specs.ActiveGraph.{active_graph}
 use Rattle.qs_algebra_solutions.specs.Some.{is_enough, AreSome}
 use Rattle.old_plan.specs.inner.Collected.{Collection, Collects, with_row, with_rows}
 use Rattle.old_plan.specs.inner.EachGraph.{named, in_one}

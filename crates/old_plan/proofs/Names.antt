@@ -18,7 +18,7 @@ use Rattle.qs_store.proofs.Members.{nothing, head_or_tail, here, there}
 use Rattle.qs_algebra_solutions.specs.Solution.{Solution}
 use Rattle.qs_algebra_patterns.specs.Eval.{in_named, Found}
 use Rattle.old_eval.proofs.Named.{is_named}
-use Rattle.old_ops.specs.Graph.{named_graph, active_graph}
+use Rattle.qs_store.specs.ActiveGraph.{named_graph, active_graph}
 use Rattle.old_ops.proofs.Scanned.{number_there}
 use Rattle.old_plan.specs.inner.Graphs.{IsGraphNamed}
 use Rattle.old_plan.specs.inner.Collected.{Collection, Collects}

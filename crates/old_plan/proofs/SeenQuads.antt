@@ -24,7 +24,7 @@ use Rattle.qs_algebra_patterns.specs.Eval.{Found, Stepped, eval, eval_level, ste
 use Rattle.qs_algebra_patterns.specs.declared.pattern.PatternNode.{PatternNode, fold-PatternNode}
 use Rattle.qs_algebra_patterns.specs.declared.pattern.PatternNode.TheOpen.{PatternNode-F, Basic, Group, Union as Unite, Graph, EachGraph, Values}
 use Rattle.old_eval.proofs.Named.{is_named as is_named_by}
-use Rattle.old_ops.specs.Graph.{active_graph, is_named as has_name}
+use Rattle.qs_store.specs.ActiveGraph.{active_graph, is_named as has_name}
 use Rattle.old_plan.specs.inner.Graphs.{IsGraphNamed}
 use Rattle.old_plan.specs.inner.Collected.{Collection, Collects}
 use Rattle.qs_store.specs.Visible.{visible, visible_quads}

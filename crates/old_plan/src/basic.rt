@@ -4,7 +4,7 @@ ghost use Rattle.std.specs.Prelude.{◌≡◌, ◌≤◌, ◌+◌, [], map, take
 ghost use Rattle.qs_terms.specs.Bag.{SameBag};
 ghost use Rattle.qs_algebra_patterns.specs.Basic.{basic, matches};
 ghost use Rattle.qs_algebra_patterns.specs.Eval.{kept};
-ghost use Rattle.old_ops.specs.Graph.{active_graph};
+ghost use Rattle.qs_store.specs.ActiveGraph.{active_graph};
 ghost use Rattle.old_ops.specs.Row.{front};
 ghost use Rattle.old_plan.specs.inner.Collected.{Collects};
 
@@ -14,7 +14,7 @@ use old_ops::{Matches, solution};
 use old_view_paths::with_paths;
 use qs_algebra_patterns::{BasicPattern, TriplePattern};
 use qs_algebra_solutions::Row;
-use qs_expr::Expr;
+use qs_expr_meaning::Expr;
 use qs_store::{Active, View};
 use std::alloc::{AllocError, Global};
 

@@ -7,7 +7,7 @@ ghost use Rattle.qs_algebra_solutions.specs.Solution.{Solution, unbound};
 ghost use Rattle.qs_terms.specs.Dataset.{names_of};
 ghost use Rattle.qs_algebra_patterns.specs.Eval.{eval, step, in_named, in_each};
 ghost use Rattle.qs_store.specs.Graphs.{AreGraphs};
-ghost use Rattle.old_ops.specs.Graph.{active_graph};
+ghost use Rattle.qs_store.specs.ActiveGraph.{active_graph};
 
 use crate::basic::{solutions_of_basic, solutions_under};
 use crate::graphs::{graph_named, graphs, name_of};

@@ -10,7 +10,7 @@ ghost use Rattle.qs_algebra_patterns.specs.declared.pattern.PatternNode.TheVaria
 ghost use Rattle.qs_algebra_patterns.specs.declared.pattern.Step.TheVariants.{Join};
 ghost use Rattle.old_groups.specs.Stages.{ahead, before, coming, kept_of, through};
 ghost use Rattle.old_joins.specs.Joined.{kept_of as number_step};
-ghost use Rattle.old_ops.specs.Graph.{active_graph};
+ghost use Rattle.qs_store.specs.ActiveGraph.{active_graph};
 ghost use Rattle.old_ops.specs.Row.{front};
 ghost use Rattle.old_plan.specs.inner.Collected.{Collects};
 ghost use Rattle.old_plan.specs.inner.Groups.{AreKept, IsKept, IsOver, KeepsDropped, Took};
@@ -23,7 +23,7 @@ use old_joins::Joined;
 use old_ops::{Matches, solution};
 use qs_algebra_patterns::{BasicPattern, PatternNode, Step, TriplePattern};
 use qs_algebra_solutions::Row;
-use qs_expr::Expr;
+use qs_expr_meaning::Expr;
 use qs_store::{Active, View};
 use sqlite_items::Items;
 use std::alloc::{AllocError, Global};

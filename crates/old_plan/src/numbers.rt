@@ -9,7 +9,7 @@ ghost use Rattle.qs_algebra_patterns.specs.Basic.{basic};
 ghost use Rattle.qs_algebra_patterns.specs.Eval.{eval, kept, step};
 ghost use Rattle.old_groups.specs.Stages.{through};
 ghost use Rattle.old_joins.specs.Joined.{kept_of};
-ghost use Rattle.old_ops.specs.Graph.{active_graph};
+ghost use Rattle.qs_store.specs.ActiveGraph.{active_graph};
 ghost use Rattle.old_ops.specs.Row.{front, front_solution};
 ghost use Rattle.old_plan.specs.inner.Groups.{AreKept, IsKept, IsTriplesOf};
 
@@ -18,7 +18,7 @@ use old_joins::{Joined, Stage};
 use old_ops::{Matches, Row};
 use old_sides::Side;
 use qs_algebra_patterns::{BasicPattern, PatternNode, Slot, Step, TriplePattern};
-use qs_expr::Expr;
+use qs_expr_meaning::Expr;
 use qs_store::{Active, View};
 use std::alloc::{AllocError, Global};
 

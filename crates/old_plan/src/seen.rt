@@ -5,7 +5,7 @@ ghost use Rattle.std.specs.Option.{option_copied};
 ghost use Rattle.qs_terms.specs.Bag.{SameBag};
 ghost use Rattle.qs_terms.specs.Dataset.{graph_of};
 ghost use Rattle.qs_algebra_patterns.specs.Eval.{eval};
-ghost use Rattle.old_ops.specs.Graph.{active_graph};
+ghost use Rattle.qs_store.specs.ActiveGraph.{active_graph};
 ghost use Rattle.qs_store.specs.Visible.{visible_quads};
 ghost use Rattle.qs_algebra_solutions.specs.Some.{AreSome, AreSomeDistinct};
 

@@ -6,7 +6,7 @@ ghost use Rattle.qs_terms.specs.Bag.{SameBag};
 ghost use Rattle.qs_terms.specs.Dataset.{names_of};
 ghost use Rattle.qs_algebra_patterns.specs.Eval.{eval, in_named, in_each};
 ghost use Rattle.qs_store.specs.Graphs.{AreGraphs, IsGraph};
-ghost use Rattle.old_ops.specs.Graph.{active_graph};
+ghost use Rattle.qs_store.specs.ActiveGraph.{active_graph};
 ghost use Rattle.qs_algebra_solutions.specs.Some.{is_enough, AreSome};
 ghost use Rattle.old_plan.specs.inner.EachGraph.{in_one};
 ghost use Rattle.old_plan.specs.inner.Collected.{Collects};

@@ -11,7 +11,7 @@ use Rattle.qs_dict.specs.Dict.{term_at, IsInUse}
 use Rattle.qs_store.specs.Content.{Content}
 use Rattle.qs_store.proofs.TriplesSaid.{same_number}
 use Rattle.qs_algebra_solutions.specs.Solution.{Solution, term_at as bound_term, compatible_terms, compatible}
-use Rattle.old_ops.specs.Graph.{IsSeen}
+use Rattle.qs_store.specs.ActiveGraph.{IsSeen}
 use Rattle.old_ops.specs.Row.{Cells, cell_at, cell_term, row_solution, front_solution}
 use Rattle.old_ops.specs.inner.Steps.{is_used}
 use Rattle.old_ops.proofs.Cells.{at_cell, used_within}

@@ -6,7 +6,7 @@ ghost use Rattle.std.specs.List.Sorted.{IsNonDecreasing, IsNonDecreasingBy, IsPa
 ghost use Rattle.qs_dict.specs.Dict.{IsInUse};
 ghost use Rattle.qs_terms.specs.Bag.{SameBag};
 ghost use Rattle.qs_algebra_solutions.specs.Solution.{compatible};
-ghost use Rattle.old_ops.specs.Graph.{IsSeen};
+ghost use Rattle.qs_store.specs.ActiveGraph.{IsSeen};
 ghost use Rattle.old_ops.specs.Row.{cell_at, front_solution};
 ghost use Rattle.old_sides.specs.inner.Sides.{IsBound, IsPlaced, IsPartAt, is_bound, key_of, row_of};
 

@@ -14,8 +14,8 @@ use Rattle.qs_store.specs.Triples.{AreTriples}
 use Rattle.qs_store.specs.declared.active.Active.{Active}
 use Rattle.qs_store.specs.declared.default_graph.DefaultGraph.{DefaultGraph}
 use Rattle.qs_store.proofs.Members.{here, there}
-use Rattle.qs_paths.proofs.Members.{in_mem, mem_in, mem_once, mem_of_once, bool_same}
-use Rattle.old_ops.specs.Graph.{active_graph}
+use Rattle.qs_paths_meaning.proofs.Members.{in_mem, mem_in, mem_once, mem_of_once, bool_same}
+use Rattle.qs_store.specs.ActiveGraph.{active_graph}
 use Rattle.old_view_paths.specs.inner.Said.{said}
 use Rattle.old_view_paths.proofs.Lists.{is_any, any_of_bag}
 use Rattle.old_view_paths.proofs.Scanned.{scanned_from, scanned_to, apart_from, apart_to}

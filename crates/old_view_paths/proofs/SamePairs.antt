@@ -11,14 +11,14 @@ use Rattle.qs_syntax_tree.specs.declared.path.Repetition.{Repetition}
 use Rattle.qs_syntax_ast.specs.declared.path.NegatedIri.{NegatedIri}
 use Rattle.qs_syntax_ast.specs.declared.path.Path.{Path, Path-F, map-Path, roll-Path, ind-Path}
 use Rattle.qs_syntax_ast.specs.declared.path.Path.TheVariants.{Repeated, rolls-Iri, rolls-NegatedSet, rolls-Alternative, rolls-Sequence, rolls-Inverse, rolls-Repeated}
-use Rattle.qs_paths.specs.Pair.{Pair, pair, swapped, same_pair}
-use Rattle.qs_paths.specs.Steps.{Graph, is_between, pair_of, along, against, negated, is_of, is_none, is_outside}
-use Rattle.qs_paths.specs.Pairs.{AtEnds, in_sequence, pairs}
-use Rattle.qs_paths.specs.Walk.{IsWalk, IsStep, MayBegin, ClosuresAreWalks, ClosuresAreDistinct}
-use Rattle.qs_paths.proofs.Arms.{same_pair-Decides, filter_same_by, composed_same}
-use Rattle.qs_paths.proofs.Finds.{same_nodes}
-use Rattle.qs_paths.proofs.Meaning.{pairs_iri, pairs_negated, pairs_alternative, pairs_sequence, pairs_inverse}
-use Rattle.qs_paths.proofs.Members.{Mem, in_mem, mem_in, same_bag}
+use Rattle.qs_paths_meaning.specs.Pair.{Pair, pair, swapped, same_pair}
+use Rattle.qs_paths_meaning.specs.Steps.{Graph, is_between, pair_of, along, against, negated, is_of, is_none, is_outside}
+use Rattle.qs_paths_meaning.specs.Pairs.{AtEnds, in_sequence, pairs}
+use Rattle.qs_paths_meaning.specs.Walk.{IsWalk, IsStep, MayBegin, ClosuresAreWalks, ClosuresAreDistinct}
+use Rattle.qs_paths_meaning.proofs.Arms.{same_pair-Decides, filter_same_by, composed_same}
+use Rattle.qs_paths_meaning.proofs.Finds.{same_nodes}
+use Rattle.qs_paths_meaning.proofs.Meaning.{pairs_iri, pairs_negated, pairs_alternative, pairs_sequence, pairs_inverse}
+use Rattle.qs_paths_meaning.proofs.Members.{Mem, in_mem, mem_in, same_bag}
 use Rattle.qs_algebra_solutions.proofs.Same.{same_triple-Decides}
 
 abbrev Same : AtEnds → AtEnds → Type 0

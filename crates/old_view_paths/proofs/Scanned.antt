@@ -26,12 +26,12 @@ use Rattle.qs_store.specs.declared.default_graph.DefaultGraph.{DefaultGraph}
 use Rattle.qs_store.proofs.Members.{here, there, member_of_filter, filter_has, before_member, not_before_itself}
 use Rattle.qs_store.proofs.TriplesSaid.{same_number}
 use Rattle.qs_algebra_solutions.proofs.Same.{same_triple-Decides}
-use Rattle.old_ops.specs.Graph.{active_graph}
+use Rattle.qs_store.specs.ActiveGraph.{active_graph}
 use Rattle.old_ops.proofs.Active.{active_has, active_only, active_once}
 use Rattle.old_ops.proofs.Lists.{map_has, member_of_map, of_any, same_members}
 use Rattle.old_ops.proofs.Scanned.{number_there}
-use Rattle.qs_paths.specs.Edges.{has, having}
-use Rattle.qs_paths.specs.Steps.{agrees}
+use Rattle.qs_paths_meaning.specs.Edges.{has, having}
+use Rattle.qs_paths_meaning.specs.Steps.{agrees}
 use Rattle.old_view_paths.specs.inner.Said.{said, IsGiven, IsUnknown}
 use Rattle.old_view_paths.proofs.Lists.{filter_none}
 

@@ -4,10 +4,10 @@ ghost use Rattle.std.specs.Prelude.{Option};
 ghost use Rattle.qs_terms.specs.Bag.{SameBag};
 ghost use Rattle.qs_terms.specs.declared.term.Term.{Term};
 ghost use Rattle.qs_syntax_ast.specs.declared.path.Path.{Path};
-ghost use Rattle.qs_paths.specs.Pairs.{pairs};
-ghost use Rattle.qs_paths.specs.Steps.{Graph};
+ghost use Rattle.qs_paths_meaning.specs.Pairs.{pairs};
+ghost use Rattle.qs_paths_meaning.specs.Steps.{Graph};
 
-use qs_paths::laws::closures;
+use qs_paths_meaning::laws::closures;
 
 /// A path leads between the same pairs, each as often, in graphs that have the same triples, each as often: the order in which they
 /// stand says nothing.

@@ -3,7 +3,7 @@
 ghost use Rattle.std.specs.Prelude.{◌≡◌, IfOk};
 ghost use Rattle.qs_terms.specs.Bag.{SameBag};
 ghost use Rattle.qs_algebra_patterns.specs.Basic as spec;
-ghost use Rattle.old_ops.specs.Graph.{active_graph};
+ghost use Rattle.qs_store.specs.ActiveGraph.{active_graph};
 
 use crate::seen::Seen;
 use old_eval::joined_along;

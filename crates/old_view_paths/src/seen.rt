@@ -7,11 +7,11 @@ ghost use Rattle.qs_terms.specs.Bag.{SameBag};
 ghost use Rattle.qs_terms.specs.Dataset.{nodes_of};
 ghost use Rattle.qs_terms.specs.Term.{same_term};
 ghost use Rattle.qs_store.specs.Triples.{IsTriple, AreTriples};
-ghost use Rattle.old_ops.specs.Graph.{active_graph};
-ghost use Rattle.qs_paths.specs.Edges.{having};
+ghost use Rattle.qs_store.specs.ActiveGraph.{active_graph};
+ghost use Rattle.qs_paths_meaning.specs.Edges.{having};
 ghost use Rattle.old_view_paths.specs.inner.Said.{said, IsGiven, IsUnknown};
 
-use qs_paths::{Edge, Source};
+use qs_paths_meaning::{Edge, Source};
 use qs_store::{Active, Triples, View};
 use qs_terms::Term;
 use std::alloc::{AllocError, Global};

@@ -12,17 +12,17 @@ use Rattle.qs_syntax_tree.specs.declared.expression.BinaryFunction.TheVariants a
 use Rattle.qs_syntax_ast.specs.declared.expression.Expression.{Expression, fold-Expression}
 use Rattle.qs_syntax_ast.specs.declared.expression.Addend.{Addend as WrittenAddend, fold-Addend}
 use Rattle.qs_syntax_ast.specs.declared.expression.Expression.TheOpen.{Expression-F, Addend-F}
-use Rattle.qs_expr.specs.declared.operator.Comparison.{Comparison}
-use Rattle.qs_expr.specs.declared.operator.Comparison.TheVariants.{Equal, NotEqual, Less, Greater, LessOrEqual, GreaterOrEqual}
-use Rattle.qs_expr.specs.declared.operator.Sign.{Sign}
-use Rattle.qs_expr.specs.declared.operator.Sign.TheVariants.{Plus, Minus}
-use Rattle.qs_expr.specs.declared.operator.UnaryFunction.{UnaryFunction}
-use Rattle.qs_expr.specs.declared.operator.UnaryFunction.TheVariants.{IsIri, IsBlank, IsLiteral, IsNumeric, Str, Lang, Datatype, StrLen}
-use Rattle.qs_expr.specs.declared.operator.BinaryFunction.{BinaryFunction}
-use Rattle.qs_expr.specs.declared.operator.BinaryFunction.TheVariants.{SameTerm, LangMatches, Contains, StrStarts, StrEnds}
-use Rattle.qs_expr.specs.declared.expr.Expr.{Expr}
-use Rattle.qs_expr.specs.declared.expr.Expr.TheVariants as expr
-use Rattle.qs_expr.specs.declared.expr.Addend.{Addend}
+use Rattle.qs_expr_meaning.specs.declared.operator.Comparison.{Comparison}
+use Rattle.qs_expr_meaning.specs.declared.operator.Comparison.TheVariants.{Equal, NotEqual, Less, Greater, LessOrEqual, GreaterOrEqual}
+use Rattle.qs_expr_meaning.specs.declared.operator.Sign.{Sign}
+use Rattle.qs_expr_meaning.specs.declared.operator.Sign.TheVariants.{Plus, Minus}
+use Rattle.qs_expr_meaning.specs.declared.operator.UnaryFunction.{UnaryFunction}
+use Rattle.qs_expr_meaning.specs.declared.operator.UnaryFunction.TheVariants.{IsIri, IsBlank, IsLiteral, IsNumeric, Str, Lang, Datatype, StrLen}
+use Rattle.qs_expr_meaning.specs.declared.operator.BinaryFunction.{BinaryFunction}
+use Rattle.qs_expr_meaning.specs.declared.operator.BinaryFunction.TheVariants.{SameTerm, LangMatches, Contains, StrStarts, StrEnds}
+use Rattle.qs_expr_meaning.specs.declared.expr.Expr.{Expr}
+use Rattle.qs_expr_meaning.specs.declared.expr.Expr.TheVariants as expr
+use Rattle.qs_expr_meaning.specs.declared.expr.Addend.{Addend}
 use Rattle.qs_syntax_scope.specs.Names.{Name}
 use Rattle.qs_syntax_scope.specs.Places.{place_of}
 

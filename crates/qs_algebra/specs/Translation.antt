@@ -28,7 +28,7 @@ use Rattle.qs_algebra_patterns.specs.declared.pattern.PatternNode.TheOpen as lev
 use Rattle.qs_algebra_patterns.specs.declared.pattern.Step.{Step, out-Step}
 use Rattle.qs_algebra_patterns.specs.declared.pattern.Step.TheVariants as step
 use Rattle.qs_algebra_patterns.specs.declared.pattern.Table.{Table}
-use Rattle.qs_expr.specs.declared.expr.Expr.{Expr}
+use Rattle.qs_expr_meaning.specs.declared.expr.Expr.{Expr}
 use Rattle.qs_algebra.specs.Basic.{basic_pattern}
 use Rattle.qs_algebra.specs.Expressions.{expr_of}
 use Rattle.qs_algebra.specs.declared.pattern.Pattern.{Pattern}

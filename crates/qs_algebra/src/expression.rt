@@ -5,7 +5,7 @@ ghost use Rattle.qs_algebra.specs.Expressions as spec;
 
 use crate::operator::{binary_function, comparison, sign, unary_function};
 use qs_base::keep_beside;
-use qs_expr::{Addend, Expr};
+use qs_expr_meaning::{Addend, Expr};
 use qs_syntax_ast::expression::{Addend as WrittenAddend, Expression};
 use qs_syntax_scope::NameList;
 use qs_terms::Term;

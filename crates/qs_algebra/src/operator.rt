@@ -3,7 +3,7 @@
 ghost use Rattle.std.specs.Prelude.{◌≡◌};
 ghost use Rattle.qs_algebra.specs.Expressions as spec;
 
-use qs_expr::{BinaryFunction, Comparison, Sign, UnaryFunction};
+use qs_expr_meaning::{BinaryFunction, Comparison, Sign, UnaryFunction};
 use qs_syntax_tree::expression as written;
 
 pub fn comparison(comparison: written::Comparison) -> Comparison

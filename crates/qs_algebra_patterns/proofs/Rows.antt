@@ -9,8 +9,8 @@ use Rattle.std.specs.List.{filter}
 use Rattle.qs_syntax_tree.specs.declared.path.Repetition.TheVariants.{ZeroOrMore}
 use Rattle.qs_syntax_ast.specs.declared.path.Path.{Path, Path-F}
 use Rattle.qs_syntax_ast.specs.declared.path.Path.TheVariants as path
-use Rattle.qs_paths.specs.Pairs.{AtEnds, pairs, pairs_level}
-use Rattle.qs_paths.proofs.Meaning.{pairs_iri, pairs_inverse, pairs_repeated}
+use Rattle.qs_paths_meaning.specs.Pairs.{AtEnds, pairs, pairs_level}
+use Rattle.qs_paths_meaning.proofs.Meaning.{pairs_iri, pairs_inverse, pairs_repeated}
 use Rattle.qs_algebra_solutions.specs.Solution.{Solution}
 use Rattle.qs_algebra_solutions.specs.Operators.{join, left_join, minus}
 use Rattle.qs_algebra_patterns.specs.declared.pattern.Slot.{Slot}

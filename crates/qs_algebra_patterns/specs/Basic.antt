@@ -7,8 +7,8 @@ use Rattle.qs_terms.specs.declared.term.Term.{Term}
 use Rattle.qs_terms.specs.Bag.{once}
 use Rattle.qs_terms.specs.Dataset.{Triple, same_triple}
 use Rattle.qs_terms.specs.Term.{same_term}
-use Rattle.qs_paths.specs.Pair.{Pair}
-use Rattle.qs_paths.specs.Pairs.{pairs}
+use Rattle.qs_paths_meaning.specs.Pair.{Pair}
+use Rattle.qs_paths_meaning.specs.Pairs.{pairs}
 use Rattle.qs_algebra_solutions.specs.Operators.{join}
 use Rattle.qs_algebra_solutions.specs.Solution.{Solution, term_at, unbound}
 use Rattle.qs_algebra_patterns.specs.declared.pattern.Slot.{Slot}
@@ -16,7 +16,7 @@ use Rattle.qs_algebra_patterns.specs.declared.pattern.Slot.TheVariants as slot
 use Rattle.qs_algebra_patterns.specs.declared.pattern.TriplePattern.{TriplePattern}
 use Rattle.qs_algebra_patterns.specs.declared.pattern.PathPattern.{PathPattern}
 use Rattle.qs_algebra_patterns.specs.declared.pattern.BasicPattern.{BasicPattern}
-pub use Rattle.qs_paths.specs.Steps.{Graph}
+pub use Rattle.qs_paths_meaning.specs.Steps.{Graph}
 
 -- the term that a solution puts into a slot
 abbrev pub value : Solution → Slot → Option Term

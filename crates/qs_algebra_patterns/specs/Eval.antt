@@ -8,8 +8,8 @@ use Rattle.qs_terms.specs.Term.{same_term}
 use Rattle.qs_terms.specs.declared.term.Term.{Term}
 use Rattle.qs_algebra_solutions.specs.Solution.{Solution, unbound, binding}
 use Rattle.qs_algebra_solutions.specs.Operators as of
-use Rattle.qs_expr.specs.Meaning.{meaning, holds}
-use Rattle.qs_expr.specs.declared.expr.Expr.{Expr}
+use Rattle.qs_expr_meaning.specs.Meaning.{meaning, holds}
+use Rattle.qs_expr_meaning.specs.declared.expr.Expr.{Expr}
 use Rattle.qs_algebra_patterns.specs.Basic.{Graph as Triples, basic}
 use Rattle.qs_algebra_patterns.specs.declared.pattern.Table.{Table}
 use Rattle.qs_algebra_patterns.specs.declared.pattern.PatternNode.{PatternNode, fold-PatternNode}

@@ -2,7 +2,7 @@
 //! hidden ones of each basic graph pattern, which its blank nodes are.
 
 use qs_base::Shared;
-use qs_expr::Expr;
+use qs_expr_meaning::Expr;
 use qs_syntax_ast::path::Path;
 use qs_terms::Term;
 use sqlite_items::{Boxed, Items};

@@ -10,7 +10,7 @@ use Rattle.qs_terms.specs.Term.{same_term}
 use Rattle.qs_terms.specs.declared.term.Term.{Term}
 use Rattle.qs_algebra_solutions.specs.Solution.{Solution, term_at, unbound, binding}
 use Rattle.qs_algebra_solutions.specs.Operators.{join}
-use Rattle.qs_expr.specs.declared.expr.Expr.{Expr}
+use Rattle.qs_expr_meaning.specs.declared.expr.Expr.{Expr}
 use Rattle.qs_algebra_patterns.specs.declared.pattern.BasicPattern.{BasicPattern}
 use Rattle.qs_algebra_patterns.specs.declared.pattern.Table.{Table}
 use Rattle.qs_algebra_patterns.specs.declared.pattern.Step.{Step, map-Step, roll-Step}
@@ -21,7 +21,7 @@ use Rattle.qs_algebra_patterns.specs.declared.pattern.PatternNode.TheVariants.{B
 use Rattle.qs_algebra_patterns.specs.Basic.{Graph as Triples, mentions, puts_into, terms_of, all_maps, matches, is_end, occurs, with_paths}
 use Rattle.qs_algebra_patterns.specs.Eval.{eval, step, all_hold, extended, in_each, rows_of}
 use Rattle.qs_algebra_patterns.proofs.Meaning.{eval_basic, eval_group, eval_union, eval_graph, eval_each_graph, eval_values, step_join, step_left_join, step_minus, step_extend}
-use Rattle.qs_expr.specs.Meaning.{meaning}
+use Rattle.qs_expr_meaning.specs.Meaning.{meaning}
 use Rattle.qs_algebra.specs.Certain.{is_certain, is_certain_step, is_column, is_set}
 use Rattle.qs_algebra.specs.Possible.{is_possible, is_possible_step}
 use Rattle.qs_algebra.proofs.Variants.{certain_basic, certain_group, certain_union, certain_graph, certain_each_graph, certain_values, certain_join, certain_left_join, certain_minus, certain_extend, possible_basic, possible_group, possible_union, possible_graph, possible_each_graph, possible_values, possible_join, possible_left_join, possible_extend}

@@ -5,7 +5,7 @@ use Rattle.std.proofs.lemmas.List.Folds.{list_any-append}
 use Rattle.std.specs.Cmp.Lexicographic.{pointwise}
 use Rattle.std.specs.List.{list_any, fold}
 use Rattle.qs_terms.specs.declared.term.Term.TheVariants as value
-use Rattle.qs_expr.specs.declared.expr.Expr.{Expr}
+use Rattle.qs_expr_meaning.specs.declared.expr.Expr.{Expr}
 use Rattle.qs_syntax_ast.specs.declared.pattern.Group.{Group, map-Group, roll-Group, fold-roll-Group, ind-Group}
 use Rattle.qs_syntax_ast.specs.declared.pattern.GraphPattern.{GraphPattern, map-GraphPattern, roll-GraphPattern, fold-roll-GraphPattern}
 use Rattle.qs_syntax_ast.specs.declared.pattern.GraphPattern.TheOpen as written

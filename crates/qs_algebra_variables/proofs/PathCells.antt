@@ -2,8 +2,8 @@
 use Rattle.std.proofs.Common.{◌≡◌, ℕ, zero, suc, ◌<◌, Bool, true, false, ◌||◌, List, [], ◌∷◌, Some, IsSome, length, slice_set, refl, sym, subst, ◌∙◌, arith}
 use Rattle.std.specs.List.{AllByRecursion, filter}
 use Rattle.qs_terms.specs.declared.term.Term.{Term}
-use Rattle.qs_paths.specs.Pair.{Pair}
-use Rattle.qs_paths.specs.Pairs.{pairs}
+use Rattle.qs_paths_meaning.specs.Pair.{Pair}
+use Rattle.qs_paths_meaning.specs.Pairs.{pairs}
 use Rattle.qs_algebra_solutions.specs.Operators.{join}
 use Rattle.qs_algebra_solutions.specs.Solution.{Solution, term_at, unbound}
 use Rattle.qs_algebra_patterns.specs.declared.pattern.Slot.{Slot}

@@ -9,7 +9,7 @@ use Rattle.qs_terms.specs.Bag.{SameBag}
 use Rattle.qs_algebra_solutions.specs.Solution.{Solution}
 use Rattle.qs_expr_values.specs.Sorting.{key_of, compare_keys}
 use Rattle.qs_expr_values.specs.declared.key.Key.{Key}
-use Rattle.qs_expr.specs.Meaning.{meaning}
+use Rattle.qs_expr_meaning.specs.Meaning.{meaning}
 use Rattle.qs_query_order.specs.declared.condition.OrderCondition.{OrderCondition}
 
 -- DESC turns the order round

@@ -6,7 +6,7 @@ ghost use Rattle.qs_query_order.specs.Order as order;
 
 use crate::condition::OrderCondition;
 use qs_algebra_solutions::Row;
-use qs_expr::order_key_terms;
+use qs_expr_meaning::order_key_terms;
 use qs_expr_values::Key;
 use qs_syntax_tree::query::Direction;
 use std::alloc::{AllocError, Global};

@@ -10,4 +10,5 @@ pub mod Sources
 pub mod WholeGraphs
 pub mod Visible
 pub mod Graphs
+pub mod ActiveGraph
 pub mod inner

@@ -5,15 +5,15 @@ use Rattle.qs_terms.specs.declared.term.Term.{Term}
 use Rattle.qs_terms.specs.declared.term.Term.TheVariants as term
 use Rattle.qs_expr_values.specs.Values.{worth, boolean_term, integer_term, strung}
 use Rattle.qs_algebra_solutions.specs.Solution.{Solution}
-use Rattle.qs_expr.specs.Calls.{Value, unary, binary, length_of, string_of, of_texts, text_of_worth, both_forms, strings, forms, common_tag, joined}
-use Rattle.qs_expr.specs.Meaning.{truth, boolean_value, of_both, integer_value, SignedValue, choice, first_value, level, addend_level as addend_value_level, meaning, addend_meaning}
-use Rattle.qs_expr.specs.declared.operator.UnaryFunction.{UnaryFunction}
-use Rattle.qs_expr.specs.declared.operator.UnaryFunction.TheVariants.{IsIri, IsBlank, IsLiteral, IsNumeric, Str, Lang, Datatype, StrLen}
-use Rattle.qs_expr.specs.declared.operator.BinaryFunction.{BinaryFunction}
-use Rattle.qs_expr.specs.declared.operator.BinaryFunction.TheVariants.{SameTerm, LangMatches, Contains, StrStarts, StrEnds}
-use Rattle.qs_expr.specs.declared.expr.Addend.{Addend}
-use Rattle.qs_expr.specs.declared.expr.Expr.{Expr, map-Expr, roll-Expr, fold-roll-Expr, ind-Expr}
-use Rattle.qs_expr.specs.declared.expr.Expr.TheOpen.{Expr-F}
+use Rattle.qs_expr_meaning.specs.Calls.{Value, unary, binary, length_of, string_of, of_texts, text_of_worth, both_forms, strings, forms, common_tag, joined}
+use Rattle.qs_expr_meaning.specs.Meaning.{truth, boolean_value, of_both, integer_value, SignedValue, choice, first_value, level, addend_level as addend_value_level, meaning, addend_meaning}
+use Rattle.qs_expr_meaning.specs.declared.operator.UnaryFunction.{UnaryFunction}
+use Rattle.qs_expr_meaning.specs.declared.operator.UnaryFunction.TheVariants.{IsIri, IsBlank, IsLiteral, IsNumeric, Str, Lang, Datatype, StrLen}
+use Rattle.qs_expr_meaning.specs.declared.operator.BinaryFunction.{BinaryFunction}
+use Rattle.qs_expr_meaning.specs.declared.operator.BinaryFunction.TheVariants.{SameTerm, LangMatches, Contains, StrStarts, StrEnds}
+use Rattle.qs_expr_meaning.specs.declared.expr.Addend.{Addend}
+use Rattle.qs_expr_meaning.specs.declared.expr.Expr.{Expr, map-Expr, roll-Expr, fold-roll-Expr, ind-Expr}
+use Rattle.qs_expr_meaning.specs.declared.expr.Expr.TheOpen.{Expr-F}
 use Rattle.qs_update_laws.specs.NoBlank.{all, expr_level, addend_level, expr_has_no_blank, addend_has_no_blank}
 use Rattle.qs_update_laws.proofs.Lists.{both_hold}
 use Rattle.qs_update_laws.proofs.Cells.{TermBelow, CellBelow, RowBelow, no_blank_below, at_below}

@@ -8,10 +8,10 @@ use Rattle.qs_terms.specs.declared.term.Term.TheVariants as term
 use Rattle.qs_syntax_tree.specs.declared.path.Repetition.{Repetition}
 use Rattle.qs_syntax_ast.specs.declared.path.NegatedIri.{NegatedIri}
 use Rattle.qs_syntax_ast.specs.declared.path.Path.{Path, Path-F, map-Path, roll-Path, fold-roll-Path, ind-Path}
-use Rattle.qs_paths.specs.Pair.{Pair, pair, swapped}
-use Rattle.qs_paths.specs.Steps.{Graph, agrees, is_between, pair_of, along, against, negated, is_of, is_none, is_outside, composed, from_pair}
-use Rattle.qs_paths.specs.Closure.{candidates, repeats, ends, starts, from_start, closure}
-use Rattle.qs_paths.specs.Pairs.{AtEnds, in_sequence, is_step, pairs, pairs_level}
+use Rattle.qs_paths_meaning.specs.Pair.{Pair, pair, swapped}
+use Rattle.qs_paths_meaning.specs.Steps.{Graph, agrees, is_between, pair_of, along, against, negated, is_of, is_none, is_outside, composed, from_pair}
+use Rattle.qs_paths_meaning.specs.Closure.{candidates, repeats, ends, starts, from_start, closure}
+use Rattle.qs_paths_meaning.specs.Pairs.{AtEnds, in_sequence, is_step, pairs, pairs_level}
 use Rattle.qs_algebra_solutions.specs.Solution.{Solution, unbound}
 use Rattle.qs_algebra_solutions.specs.Operators.{join}
 use Rattle.qs_algebra_patterns.specs.declared.pattern.Slot.{Slot}

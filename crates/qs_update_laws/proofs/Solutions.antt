@@ -9,7 +9,7 @@ use Rattle.qs_terms.specs.declared.term.Term.{Term}
 use Rattle.qs_terms.specs.declared.term.Term.TheVariants as term
 use Rattle.qs_algebra_solutions.specs.Solution.{Solution, unbound, binding}
 use Rattle.qs_algebra_solutions.specs.Operators.{join}
-use Rattle.qs_expr.specs.Meaning.{meaning}
+use Rattle.qs_expr_meaning.specs.Meaning.{meaning}
 use Rattle.qs_algebra_patterns.specs.declared.pattern.Table.{Table}
 use Rattle.qs_algebra_patterns.specs.declared.pattern.Step.{Step, map-Step, roll-Step, fold-roll-Step}
 use Rattle.qs_algebra_patterns.specs.declared.pattern.PatternNode.{PatternNode, map-PatternNode, roll-PatternNode, fold-roll-PatternNode, ind-PatternNode}

@@ -2,7 +2,7 @@
 use Rattle.std.proofs.Common.{◌≡◌, Bool, true, List, [], ◌∷◌, map, Option, Some, None, option_map, refl, sym, subst, ◌∙◌}
 use Rattle.std.specs.List.{filter_map, cons_option, list_all}
 use Rattle.qs_terms.specs.declared.term.Term.TheVariants as value
-use Rattle.qs_expr.specs.declared.expr.Expr.{Expr}
+use Rattle.qs_expr_meaning.specs.declared.expr.Expr.{Expr}
 use Rattle.qs_syntax_ast.specs.declared.expression.Expression.{Expression}
 use Rattle.qs_syntax_ast.specs.declared.pattern.Group.{Group, map-Group, roll-Group, fold-roll-Group, ind-Group}
 use Rattle.qs_syntax_ast.specs.declared.pattern.GraphPattern.{GraphPattern, map-GraphPattern, roll-GraphPattern, fold-roll-GraphPattern}

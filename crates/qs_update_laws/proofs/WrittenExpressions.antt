@@ -1,9 +1,9 @@
 -- The expressions of a text name no blank node.
 use Rattle.std.proofs.Common.{◌≡◌, Bool, true, ◌&&◌, List, [], ◌∷◌, map, refl, sym, subst, ◌∙◌}
-use Rattle.qs_expr.specs.declared.expr.Addend.{Addend, fold_out-Addend}
-use Rattle.qs_expr.specs.declared.expr.Expr.{Expr, map-Expr, roll-Expr, fold-roll-Expr}
-use Rattle.qs_expr.specs.declared.expr.Expr.TheOpen.{Expr-F}
-use Rattle.qs_expr.specs.declared.expr.Expr.TheVariants.{rolls-Variable, rolls-Term, rolls-Or, rolls-And, rolls-Compare, rolls-In, rolls-NotIn, rolls-Sum, rolls-Product, rolls-Not, rolls-Signed, rolls-Bound, rolls-If, rolls-Coalesce, rolls-Concat, rolls-Unary, rolls-Binary}
+use Rattle.qs_expr_meaning.specs.declared.expr.Addend.{Addend, fold_out-Addend}
+use Rattle.qs_expr_meaning.specs.declared.expr.Expr.{Expr, map-Expr, roll-Expr, fold-roll-Expr}
+use Rattle.qs_expr_meaning.specs.declared.expr.Expr.TheOpen.{Expr-F}
+use Rattle.qs_expr_meaning.specs.declared.expr.Expr.TheVariants.{rolls-Variable, rolls-Term, rolls-Or, rolls-And, rolls-Compare, rolls-In, rolls-NotIn, rolls-Sum, rolls-Product, rolls-Not, rolls-Signed, rolls-Bound, rolls-If, rolls-Coalesce, rolls-Concat, rolls-Unary, rolls-Binary}
 use Rattle.qs_terms.specs.declared.term.Term.TheVariants as term
 use Rattle.qs_syntax_ast.specs.declared.expression.Expression.{Expression, map-Expression, roll-Expression, fold-roll-Expression, ind-Expression}
 use Rattle.qs_syntax_ast.specs.declared.expression.Addend.{Addend as WrittenAddend, map-Addend, roll-Addend, fold-roll-Addend}

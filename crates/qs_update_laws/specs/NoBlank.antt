@@ -4,9 +4,9 @@ use Rattle.std.specs.Prelude.{Bool, true, false, ◌&&◌, List, Option, Some, N
 use Rattle.std.specs.List.{list_all}
 use Rattle.qs_terms.specs.declared.term.Term.{Term}
 use Rattle.qs_terms.specs.declared.term.Term.TheVariants as term
-use Rattle.qs_expr.specs.declared.expr.Expr.{Expr, fold-Expr}
-use Rattle.qs_expr.specs.declared.expr.Addend.{Addend, fold-Addend}
-use Rattle.qs_expr.specs.declared.expr.Expr.TheOpen.{Expr-F, Addend-F}
+use Rattle.qs_expr_meaning.specs.declared.expr.Expr.{Expr, fold-Expr}
+use Rattle.qs_expr_meaning.specs.declared.expr.Addend.{Addend, fold-Addend}
+use Rattle.qs_expr_meaning.specs.declared.expr.Expr.TheOpen.{Expr-F, Addend-F}
 use Rattle.qs_algebra_patterns.specs.declared.pattern.Slot.{Slot}
 use Rattle.qs_algebra_patterns.specs.declared.pattern.Slot.TheVariants as slot
 use Rattle.qs_algebra_patterns.specs.declared.pattern.TriplePattern.{TriplePattern}

@@ -5,7 +5,7 @@ use old_plan::solutions;
 use qs_algebra_patterns::{BasicPattern, PatternNode, Slot, Step, TriplePattern};
 use qs_algebra_solutions::Row;
 use qs_base::Shared;
-use qs_expr::Expr;
+use qs_expr_meaning::Expr;
 use qs_store::{Active, Store};
 use qs_terms::{Term, TermFault};
 use sqlite_items::{Boxed, Items};

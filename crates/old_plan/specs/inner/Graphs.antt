@@ -7,7 +7,7 @@ use Rattle.qs_terms.specs.declared.term.Term.{Term}
 use Rattle.qs_store.specs.Content.{Content}
 use Rattle.qs_store.specs.declared.active.Active.TheVariants.{Graph}
 use Rattle.qs_store.specs.declared.default_graph.DefaultGraph.{DefaultGraph}
-use Rattle.old_ops.specs.Graph.{active_graph}
+use Rattle.qs_store.specs.ActiveGraph.{active_graph}
 
 -- the number is that of the graph of this name; there is none only where no graph has the name
 abbrev pub IsGraphNamed : Content → Term → Option ℕ → Type 0

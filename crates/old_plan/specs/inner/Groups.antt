@@ -5,7 +5,7 @@ use Rattle.qs_terms.specs.Bag.{SameBag}
 use Rattle.qs_terms.specs.Statement.{Statement}
 use Rattle.qs_terms.specs.declared.term.Term.{Term}
 use Rattle.qs_algebra_solutions.specs.Solution.{Solution}
-use Rattle.qs_expr.specs.declared.expr.Expr.{Expr}
+use Rattle.qs_expr_meaning.specs.declared.expr.Expr.{Expr}
 use Rattle.qs_algebra_patterns.specs.Basic.{Graph, basic}
 use Rattle.qs_algebra_patterns.specs.Eval.{eval, kept, step}
 use Rattle.qs_algebra_patterns.specs.declared.pattern.BasicPattern.{BasicPattern}

@@ -1,8 +1,8 @@
 use Rattle.std.proofs.Common.{List, map, ap, ◌∙◌}
 use Rattle.std.specs.List.{filter}
 use Rattle.qs_terms.specs.Bag.{SameBag}
-use Rattle.qs_paths.specs.Pair.{Pair}
-use Rattle.qs_paths.specs.Pairs.{pairs}
+use Rattle.qs_paths_meaning.specs.Pair.{Pair}
+use Rattle.qs_paths_meaning.specs.Pairs.{pairs}
 use Rattle.qs_algebra_patterns.specs.Basic.{ends_bound, fits, end_of}
 use Rattle.old_eval.proofs.Along.{any_order}
 use Rattle.old_eval.proofs.paths.path_solutions.Goals as goal

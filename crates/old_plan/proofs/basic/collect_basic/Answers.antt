@@ -1,5 +1,5 @@
 use Rattle.std.proofs.Common.{rules}
-use Rattle.old_ops.specs.Graph.{active_graph}
+use Rattle.qs_store.specs.ActiveGraph.{active_graph}
 use Rattle.old_plan.proofs.Collecting.{all_put}
 use Rattle.old_plan.proofs.Enough.{basic_collected}
 use Rattle.old_plan.proofs.basic.collect_basic.Goals as goal

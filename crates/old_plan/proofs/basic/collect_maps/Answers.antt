@@ -1,4 +1,4 @@
-use Rattle.old_ops.specs.Graph.{active_graph}
+use Rattle.qs_store.specs.ActiveGraph.{active_graph}
 use Rattle.old_plan.proofs.Enough.{maps_collected}
 use Rattle.old_plan.proofs.basic.collect_maps.Goals as goal
 

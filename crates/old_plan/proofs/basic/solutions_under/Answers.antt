@@ -1,5 +1,5 @@
 use Rattle.std.proofs.Common.{rules}
-use Rattle.old_ops.specs.Graph.{active_graph}
+use Rattle.qs_store.specs.ActiveGraph.{active_graph}
 use Rattle.old_plan.proofs.Early.{kept_wanted}
 use Rattle.old_plan.proofs.basic.solutions_under.Goals as goal
 

@@ -1,4 +1,4 @@
-use Rattle.old_ops.specs.Graph.{active_graph}
+use Rattle.qs_store.specs.ActiveGraph.{active_graph}
 use Rattle.old_plan.proofs.Fitted.{along_paths}
 use Rattle.old_plan.proofs.basic.solutions_with_paths.Goals as goal
 

@@ -3,7 +3,7 @@ use Rattle.std.proofs.lemmas.List.Sorted.{IsPermutation-refl}
 use Rattle.qs_terms.specs.Bag.{SameBag}
 use Rattle.qs_algebra_solutions.specs.Solution.{Solution, binding}
 use Rattle.old_plan.proofs.Each.{graph_more, graphs_all}
-use Rattle.old_ops.specs.Graph.{active_graph}
+use Rattle.qs_store.specs.ActiveGraph.{active_graph}
 use Rattle.old_plan.proofs.Names.{in_graph, in_none}
 use Rattle.qs_algebra_solutions.specs.Operators.{join, left_join, minus}
 use Rattle.qs_algebra_patterns.specs.Eval.{all_hold, eval}

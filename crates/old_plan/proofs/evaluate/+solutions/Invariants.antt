@@ -4,7 +4,7 @@ use Rattle.qs_terms.specs.Bag.{SameBag}
 use Rattle.qs_algebra_solutions.specs.Solution.{unbound}
 use Rattle.qs_algebra_patterns.specs.Eval.{eval, in_each, step}
 use Rattle.qs_store.specs.Entries.{term_or}
-use Rattle.old_ops.specs.Graph.{active_graph}
+use Rattle.qs_store.specs.ActiveGraph.{active_graph}
 use Rattle.old_plan.proofs.evaluate.+solutions.Given as goal
 
 abbrev pub invariant-solutions_of_group-loop-one : goal.invariant-solutions_of_group-loop-one

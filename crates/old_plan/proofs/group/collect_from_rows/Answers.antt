@@ -4,7 +4,7 @@ use Rattle.qs_algebra_solutions.specs.Solution.{Solution}
 use Rattle.old_groups.specs.Stages.{kept_of}
 use Rattle.qs_algebra_patterns.specs.Eval.{kept, step}
 use Rattle.qs_algebra_patterns.specs.declared.pattern.Step.{Step}
-use Rattle.old_ops.specs.Graph.{active_graph}
+use Rattle.qs_store.specs.ActiveGraph.{active_graph}
 use Rattle.old_plan.proofs.Groups.{from_rows}
 use Rattle.old_plan.proofs.group.collect_from_rows.Goals as goal
 

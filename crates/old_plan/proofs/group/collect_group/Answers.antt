@@ -1,5 +1,5 @@
 use Rattle.std.proofs.Common.{rules}
-use Rattle.old_ops.specs.Graph.{active_graph}
+use Rattle.qs_store.specs.ActiveGraph.{active_graph}
 use Rattle.old_plan.proofs.Groups.{same, stepped_first, triples_first}
 use Rattle.old_plan.proofs.group.collect_group.Goals as goal
 

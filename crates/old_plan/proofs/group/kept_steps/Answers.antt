@@ -3,7 +3,7 @@ use Rattle.std.specs.List.{fold}
 use Rattle.qs_algebra_solutions.specs.Solution.{Solution}
 use Rattle.qs_algebra_patterns.specs.Eval.{step}
 use Rattle.qs_algebra_patterns.specs.declared.pattern.Step.{Step}
-use Rattle.old_ops.specs.Graph.{active_graph}
+use Rattle.qs_store.specs.ActiveGraph.{active_graph}
 use Rattle.old_plan.proofs.Groups.{none_kept, more_kept, with_conditions, all_stepped}
 use Rattle.old_plan.proofs.group.kept_steps.Goals as goal
 

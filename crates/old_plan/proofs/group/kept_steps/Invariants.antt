@@ -4,7 +4,7 @@ use Rattle.qs_terms.specs.Bag.{SameBag}
 use Rattle.qs_algebra_solutions.specs.Solution.{Solution}
 use Rattle.qs_algebra_patterns.specs.Eval.{step}
 use Rattle.old_groups.specs.Stages.{through}
-use Rattle.old_ops.specs.Graph.{active_graph}
+use Rattle.qs_store.specs.ActiveGraph.{active_graph}
 use Rattle.old_plan.proofs.group.kept_steps.Given as goal
 
 abbrev pub invariant-loop-one : goal.invariant-loop-one

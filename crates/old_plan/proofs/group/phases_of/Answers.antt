@@ -2,7 +2,7 @@ use Rattle.std.proofs.Common.{List, length, map, drop, sym, ap, ◌∙◌}
 use Rattle.qs_algebra_solutions.specs.Solution.{Solution}
 use Rattle.qs_algebra_patterns.specs.Eval.{kept, step}
 use Rattle.qs_algebra_patterns.specs.declared.pattern.Step.{Step}
-use Rattle.old_ops.specs.Graph.{active_graph}
+use Rattle.qs_store.specs.ActiveGraph.{active_graph}
 use Rattle.old_joins.specs.Joined.{kept_of}
 use Rattle.old_plan.proofs.Groups.{one_phase, through_alike, two_phases}
 use Rattle.old_eval.proofs.Optional.{is_none}

@@ -8,7 +8,7 @@ use Rattle.old_joins.specs.Joined.{kept_of as number_step}
 use Rattle.qs_algebra_patterns.specs.Basic.{matches}
 use Rattle.qs_algebra_patterns.specs.Eval.{kept, step}
 use Rattle.qs_algebra_patterns.specs.declared.pattern.Step.{Step}
-use Rattle.old_ops.specs.Graph.{active_graph}
+use Rattle.qs_store.specs.ActiveGraph.{active_graph}
 use Rattle.old_ops.specs.Row.{front}
 use Rattle.old_plan.proofs.Fitted.{found_rows}
 use Rattle.old_plan.proofs.Groups.{some_kept}

@@ -2,7 +2,7 @@ use Rattle.std.proofs.Common.{map, rules, subst, List}
 use Rattle.qs_terms.specs.Bag.{SameBag}
 use Rattle.qs_terms.specs.declared.term.Term.{Term}
 use Rattle.qs_algebra_patterns.specs.Eval.{kept}
-use Rattle.old_ops.specs.Graph.{active_graph}
+use Rattle.qs_store.specs.ActiveGraph.{active_graph}
 use Rattle.old_ops.specs.Row.{front, front_solution}
 use Rattle.old_plan.proofs.ByNumber.{side_found}
 use Rattle.old_plan.proofs.numbers.side.Goals as goal

@@ -1,4 +1,4 @@
-use Rattle.old_ops.specs.Graph.{active_graph}
+use Rattle.qs_store.specs.ActiveGraph.{active_graph}
 use Rattle.old_plan.proofs.numbers.side_of.Goals as goal
 
 pub returns : goal.returns

@@ -1,4 +1,4 @@
-use Rattle.old_ops.specs.Graph.{active_graph}
+use Rattle.qs_store.specs.ActiveGraph.{active_graph}
 use Rattle.old_plan.proofs.Groups.{join_kept, left_join_kept, minus_kept}
 use Rattle.old_plan.proofs.numbers.stage_of.Goals as goal
 

@@ -2,7 +2,7 @@ use Rattle.std.proofs.Common.{List, length, map, ap}
 use Rattle.qs_algebra_solutions.specs.Solution.{Solution}
 use Rattle.qs_algebra_patterns.specs.Eval.{step}
 use Rattle.qs_algebra_patterns.specs.declared.pattern.Step.{Step}
-use Rattle.old_ops.specs.Graph.{active_graph}
+use Rattle.qs_store.specs.ActiveGraph.{active_graph}
 use Rattle.old_joins.specs.Joined.{kept_of}
 use Rattle.old_plan.proofs.ByNumber.{as_many, count_more, one_more}
 use Rattle.old_plan.proofs.Groups.{none_kept}

@@ -2,7 +2,7 @@ use Rattle.std.proofs.Common.{◌≡◌, length, map, take}
 use Rattle.std.specs.List.{fold}
 use Rattle.qs_algebra_patterns.specs.Eval.{step}
 use Rattle.old_joins.specs.Joined.{kept_of}
-use Rattle.old_ops.specs.Graph.{active_graph}
+use Rattle.qs_store.specs.ActiveGraph.{active_graph}
 use Rattle.old_plan.specs.inner.Groups.{AreKept}
 use Rattle.old_plan.proofs.numbers.stages_of.Given as goal
 

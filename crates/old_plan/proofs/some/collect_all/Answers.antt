@@ -1,5 +1,5 @@
 use Rattle.qs_algebra_patterns.specs.Eval.{eval}
-use Rattle.old_ops.specs.Graph.{active_graph}
+use Rattle.qs_store.specs.ActiveGraph.{active_graph}
 use Rattle.old_plan.proofs.Groups.{more_parts, enough_parts, all_parts, no_parts}
 use Rattle.old_plan.proofs.some.collect_all.Goals as goal
 

@@ -1,7 +1,7 @@
 use Rattle.std.proofs.Common.{take}
 use Rattle.std.specs.List.{flat_map}
 use Rattle.qs_algebra_patterns.specs.Eval.{eval}
-use Rattle.old_ops.specs.Graph.{active_graph}
+use Rattle.qs_store.specs.ActiveGraph.{active_graph}
 use Rattle.old_plan.specs.inner.Collected.{Collects}
 use Rattle.old_plan.proofs.some.collect_all.Given as goal
 

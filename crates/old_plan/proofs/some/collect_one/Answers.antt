@@ -1,5 +1,5 @@
 use Rattle.std.proofs.lemmas.Result.{on_ok_weaker}
-use Rattle.old_ops.specs.Graph.{active_graph}
+use Rattle.qs_store.specs.ActiveGraph.{active_graph}
 use Rattle.old_plan.proofs.Collecting.{all_put}
 use Rattle.old_plan.proofs.Groups.{some_basic, some_group}
 use Rattle.old_plan.proofs.some.collect_one.Goals as goal

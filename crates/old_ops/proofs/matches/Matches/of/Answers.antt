@@ -3,7 +3,7 @@ use Rattle.qs_terms.specs.Bag.{SameBag}
 use Rattle.qs_algebra_solutions.specs.Solution.{Solution}
 use Rattle.qs_algebra_patterns.specs.Basic.{matches}
 use Rattle.old_eval.proofs.Past.{none_past}
-use Rattle.old_ops.specs.Graph.{active_graph}
+use Rattle.qs_store.specs.ActiveGraph.{active_graph}
 use Rattle.old_ops.specs.declared.place.Seek.{Seek}
 use Rattle.old_ops.specs.Tests.{search_of}
 use Rattle.old_ops.proofs.Sifted.{all_sifted}

@@ -1,8 +1,0 @@
-use Rattle.qs_paths.proofs.ClosureLaws.{closures_are_walks, closures_are_distinct}
-use Rattle.qs_paths.proofs.laws.closures.Goals as goal
-
-pub returns-clause-walks : goal.returns-clause-walks
-returns-clause-walks c = closures_are_walks
-
-pub returns-clause-once : goal.returns-clause-once
-returns-clause-once c = closures_are_distinct

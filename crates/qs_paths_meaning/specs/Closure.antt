@@ -1,0 +1,42 @@
+-- The pairs of `?`, `*` and `+` (SPARQL 1.1 Query, 9.1 and 18.4; for nested closures and walks of no step this project's own reading).
+use Rattle.std.specs.Prelude.{Bool, ◌&&◌, ◌||◌, List, [], ◌∷◌, map, Option, Some, None}
+use Rattle.std.specs.List.{filter, flat_map}
+use Rattle.qs_terms.specs.declared.term.Term.{Term}
+use Rattle.qs_terms.specs.Bag.{once}
+use Rattle.qs_terms.specs.Dataset.{nodes_of}
+use Rattle.qs_terms.specs.Term.{same_term}
+use Rattle.qs_syntax_tree.specs.declared.path.Repetition.{Repetition}
+use Rattle.qs_syntax_tree.specs.declared.path.Repetition.TheVariants.{ZeroOrOne, ZeroOrMore, OneOrMore}
+use Rattle.qs_paths_meaning.specs.Pair.{Pair, pair}
+use Rattle.qs_paths_meaning.specs.Steps.{Graph, agrees}
+
+-- the terms that a path can lead to from x
+abbrev pub candidates : Graph → Term → List Term
+candidates graph x = once same_term (x ∷ nodes_of graph)
+
+-- a walk of at least one step leads from x to y, and all terms between them are among these
+abbrev pub leads : (Term → Term → Bool) → List Term → Term → Term → Bool
+leads step [] x y = step x y
+leads step (c ∷ cs) x y = leads step cs x y || (leads step cs x c && leads step cs c y)
+
+abbrev pub repeats : Repetition → (Term → Term → Bool) → List Term → Term → Term → Bool
+repeats ZeroOrOne step cs x y = same_term x y || step x y
+repeats ZeroOrMore step cs x y = same_term x y || leads step cs x y
+repeats OneOrMore step cs x y = leads step cs x y
+
+-- those that are led to from x, each once
+abbrev pub ends : Repetition → (Term → Term → Bool) → Graph → Term → List Term
+ends repetition step graph x = filter (repeats repetition step (candidates graph x) x) (candidates graph x)
+
+-- where the walks begin: with both ends open at the nodes of the graph; with the right end alone given, also at that term, since no
+-- other term outside the graph is led to it
+abbrev pub starts : Graph → Option Term → Option Term → List Term
+starts graph (Some x) right = x ∷ []
+starts graph None (Some y) = candidates graph y
+starts graph None None = nodes_of graph
+
+abbrev pub from_start : Repetition → (Term → Term → Bool) → Graph → Option Term → Term → List Pair
+from_start repetition step graph right x = map (pair x) (filter (agrees right) (ends repetition step graph x))
+
+abbrev pub closure : Repetition → (Term → Term → Bool) → Graph → Option Term → Option Term → List Pair
+closure repetition step graph left right = flat_map (from_start repetition step graph right) (starts graph left right)
