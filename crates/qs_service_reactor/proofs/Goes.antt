@@ -1,5 +1,5 @@
 -- Acts, one after another.
-use Rattle.std.proofs.Common.{◌≡◌, ◌∙◌, ◌≤◌, ◌+◌, ℕ, Bool, List, [], ◌∷◌, ◌++◌, Option, None, Some, refl, sym, subst, arith, ap, append_assoc}
+use Rattle.std.proofs.Common.{◌≡◌, ◌∙◌, ◌+◌, ℕ, Bool, List, [], ◌∷◌, ◌++◌, Option, None, Some, refl, sym, subst, arith, ap, append_assoc}
 use Rattle.std.proofs.lemmas.List.{append-nil}
 use Rattle.qs_service_reactor.specs.Log.{Io, Logs}
 use Rattle.qs_service_reactor.specs.Run.{Event, Act, out_after, ios, ios_of, joins, joins_of, Next, Run}
@@ -29,20 +29,20 @@ module _ {A : Type 0} (steps : A → Event → Bool → A → Type 0) (reply_of 
   run_more a b c s t u (x ∷ xs) ys h k = (h.0, h.1, run_more h.0 b c (out_after s x) t u xs ys h.2 k)
 
 module _ {A : Type 0} {steps : A → Event → Bool → A → Type 0} {reply_of : A → ℕ → Option (List ℕ)} where
-  pub goes_none : (a : A) (s : ℕ → Option (List ℕ)) (n : ℕ) (l m : Option (List Io)) → Logs l m [] → Goes steps reply_of n a a s s l m
-  goes_none a s n l m h = record { acts = []; run = (refl, refl); few = omega arith; logged = h }
+  pub goes_none : (a : A) (s : ℕ → Option (List ℕ)) (n : ℕ) (l m : Option (List Io)) → n ≡ 0 → Logs l m [] → Goes steps reply_of n a a s s l m
+  goes_none a s n l m e h = record { acts = []; run = (refl, refl); count = sym e; logged = h }
 
-  pub goes_one : (a b : A) (s : ℕ → Option (List ℕ)) (act : Act) (n : ℕ) (l m : Option (List Io)) → Next steps reply_of a s act b → joins_of act ≤ n → Logs l m (ios_of act ++ []) → Goes steps reply_of n a b s (out_after s act) l m
-  goes_one a b s act n l m h few k = record { acts = act ∷ []; run = (b, h, (refl, refl)); few = omega arith; logged = k }
+  pub goes_one : (a b : A) (s : ℕ → Option (List ℕ)) (act : Act) (n : ℕ) (l m : Option (List Io)) → Next steps reply_of a s act b → joins_of act ≡ n → Logs l m (ios_of act ++ []) → Goes steps reply_of n a b s (out_after s act) l m
+  goes_one a b s act n l m h count k = record { acts = act ∷ []; run = (b, h, (refl, refl)); count = omega arith; logged = k }
 
-  pub goes_sum : (a b c : A) (s t u : ℕ → Option (List ℕ)) (i j n : ℕ) (l m o : Option (List Io)) → Goes steps reply_of i a b s t l m → Goes steps reply_of j b c t u m o → i + j ≤ n → Goes steps reply_of n a c s u l o
-  goes_sum a b c s t u i j n l m o h k le =
+  pub goes_sum : (a b c : A) (s t u : ℕ → Option (List ℕ)) (i j n : ℕ) (l m o : Option (List Io)) → Goes steps reply_of i a b s t l m → Goes steps reply_of j b c t u m o → i + j ≡ n → Goes steps reply_of n a c s u l o
+  goes_sum a b c s t u i j n l m o h k sum =
       let e = joins-append h.acts k.acts in
-      let hf = h.few in
-      let kf = k.few in
+      let hf = h.count in
+      let kf = k.count in
       record {
         acts = h.acts ++ k.acts;
         run = run_more steps reply_of a b c s t u h.acts k.acts h.run k.run;
-        few = omega arith;
+        count = omega arith;
         logged = subst (λ (x : List Io). Logs l o x) (sym (ios-append h.acts k.acts)) (logs_more l m o (ios h.acts) (ios k.acts) h.logged k.logged);
       }

@@ -21,9 +21,14 @@ keeps_others id old new h = record { kept = λ k ne reply e. h.kept k reply e }
 pub keeps_then : (id : ℕ) (f g h : ℕ → Option (List ℕ)) → KeepsOthers id f g → KeepsOthers id g h → KeepsOthers id f h
 keeps_then id f g h x y = record { kept = λ k ne reply e. y.kept k ne reply (x.kept k ne reply e) }
 
-few_of : (connections : Option ℕ) (i n most : ℕ) → IfSome connections (λ k. most ≡ k) → n ≤ most → i ≤ n → IfSome connections (λ k. i ≤ k)
-few_of None i n most h le few = tt
-few_of (Some k) i n most h le few = omega arith
+pub few_of : (connections : Option ℕ) (i n most : ℕ) → IfSome connections (λ k. most ≡ k) → n ≤ most → i ≡ n → IfSome connections (λ k. i ≤ k)
+few_of None i n most h le count = tt
+few_of (Some k) i n most h le count = omega arith
+
+all_of : {T E : Type 0} (connections : Option ℕ) (i n most : ℕ) (result : Result T E) → IfSome connections (λ k. most ≡ k) → n ≤ most → i ≡ n → OnOk result (most ≤ n) → OnOk result (IfSome connections (λ k. i ≡ k))
+all_of {T} {E} None i n most (Ok t) h le count done = tt
+all_of {T} {E} (Some k) i n most (Ok t) h le count done = omega arith
+all_of {T} {E} connections i n most (Err x) h le count done = tt
 
 -- what stands at a place after a write, and at the others
 at_places : (replies out : ℕ → Option (List ℕ)) (replies' out' : ℕ → Option (List ℕ)) (places : List Connection) (p : ℕ) (c : Connection) → p < length places → KeepsOthers p replies replies' → ((k : ℕ) → k ≢ p → out' k ≡ out k) → Agrees replies out places → AgreesAt (replies' p) (out' p) c.stage → Agrees replies' out' (slice_set places p c)
@@ -56,7 +61,7 @@ ended_of {T} {E} replies out places (Err x) h e = tt
 
 module _ {A : Type 0} {steps : A → Event → Bool → A → Type 0} {reply_of : A → ℕ → Option (List ℕ)} where
   pub turns_none : (p : ℕ) (s : Stage) (a : A) (l m : Option (List Io)) → Logs l m [] → Turns steps reply_of p s s a a l m
-  turns_none p s a l m h = record { goes = λ out e. (out, goes_none a out 0 l m h, e, λ k ne. refl); keeps = keeps_same p (reply_of a) }
+  turns_none p s a l m h = record { goes = λ out e. (out, goes_none a out 0 l m refl h, e, λ k ne. refl); keeps = keeps_same p (reply_of a) }
 
   pub turns_end : (p : ℕ) (s : Stage) (a b : A) (done : Bool) (l m : Option (List Io)) → steps a (End p) done b → KeepsOthers p (reply_of a) (reply_of b) → Logs l m [] → Turns steps reply_of p s Free a b l m
   turns_end p s a b done l m h kept k = record {
@@ -132,8 +137,8 @@ module _ {A : Type 0} {steps : A → Event → Bool → A → Type 0} {reply_of 
     keeps = keeps_then p (reply_of a) (reply_of b) (reply_of c) h.keeps k.keeps;
   }
 
-  pub moves_none : (n : ℕ) (places : List Connection) (a : A) (l m : Option (List Io)) → Logs l m [] → Moves steps reply_of n places places a a l m
-  moves_none n places a l m h = record { goes = λ out e. (out, goes_none a out n l m h, e) }
+  pub moves_none : (n : ℕ) (places : List Connection) (a : A) (l m : Option (List Io)) → n ≡ 0 → Logs l m [] → Moves steps reply_of n places places a a l m
+  moves_none n places a l m z h = record { goes = λ out e. (out, goes_none a out n l m z h, e) }
 
   pub moves_turn : (p : ℕ) (c c' : Connection) (places : List Connection) (a b : A) (l m : Option (List Io)) → slice_get places p ≡ Some c → p < length places → Turns steps reply_of p c.stage c'.stage a b l m → Moves steps reply_of 0 places (slice_set places p c') a b l m
   moves_turn p c c' places a b l m is lt h = record {
@@ -163,33 +168,34 @@ module _ {A : Type 0} {steps : A → Event → Bool → A → Type 0} {reply_of 
     );
   }
 
-  pub moves_sum : (i j n : ℕ) (x y z : List Connection) (a b c : A) (l m o : Option (List Io)) → Moves steps reply_of i x y a b l m → Moves steps reply_of j y z b c m o → i + j ≤ n → Moves steps reply_of n x z a c l o
-  moves_sum i j n x y z a b c l m o h k le = record {
+  pub moves_sum : (i j n : ℕ) (x y z : List Connection) (a b c : A) (l m o : Option (List Io)) → Moves steps reply_of i x y a b l m → Moves steps reply_of j y z b c m o → i + j ≡ n → Moves steps reply_of n x z a c l o
+  moves_sum i j n x y z a b c l m o h k sum = record {
     goes = λ out e.
         let f = h.goes out e in
         let g = k.goes f.0 f.2 in
-        (g.0, goes_sum a b c out f.0 g.0 i j n l m o f.1 g.1 le, g.2);
+        (g.0, goes_sum a b c out f.0 g.0 i j n l m o f.1 g.1 sum, g.2);
   }
 
   -- nothing comes or goes before, or afterwards
   pub moves_later : (n : ℕ) (x y : List Connection) (a b : A) (l m o : Option (List Io)) → Logs l m [] → Moves steps reply_of n x y a b m o → Moves steps reply_of n x y a b l o
-  moves_later n x y a b l m o h k = moves_sum 0 n n x x y a a b l m o (moves_none 0 x a l m h) k (omega arith)
+  moves_later n x y a b l m o h k = moves_sum 0 n n x x y a a b l m o (moves_none 0 x a l m refl h) k (omega arith)
 
   pub moves_quiet : (n : ℕ) (x y : List Connection) (a b : A) (l m o : Option (List Io)) → Moves steps reply_of n x y a b l m → Logs m o [] → Moves steps reply_of n x y a b l o
-  moves_quiet n x y a b l m o h k = moves_sum n 0 n x y y a b b l m o h (moves_none 0 y b m o k) (omega arith)
+  moves_quiet n x y a b l m o h k = moves_sum n 0 n x y y a b b l m o h (moves_none 0 y b m o refl k) (omega arith)
 
   pub moves_from : (n : ℕ) (x x' y : List Connection) (a b : A) (l m : Option (List Io)) → x ≡ x' → Moves steps reply_of n x y a b l m → Moves steps reply_of n x' y a b l m
   moves_from n x x' y a b l m e h = subst (λ (z : List Connection). Moves steps reply_of n z y a b l m) e h
 
   -- what a table with no connections does
-  pub serves_of : {T E : Type 0} (connections : Option ℕ) (n most : ℕ) (x y : List Connection) (result : Result T E) (a b : A) (l m : Option (List Io)) → AllFree x → Moves steps reply_of n x y a b l m → IfSome connections (λ k. most ≡ k) → n ≤ most → OnOk result (AllFree y) → Serves steps reply_of connections result a b l m
-  serves_of {T} {E} connections n most x y result a b l m free h is le end =
+  pub serves_of : {T E : Type 0} (connections : Option ℕ) (n most : ℕ) (x y : List Connection) (result : Result T E) (a b : A) (l m : Option (List Io)) → AllFree x → Moves steps reply_of n x y a b l m → IfSome connections (λ k. most ≡ k) → n ≤ most → OnOk result (most ≤ n) → OnOk result (AllFree y) → Serves steps reply_of connections result a b l m
+  serves_of {T} {E} connections n most x y result a b l m free h is le done end =
       let f = h.goes (λ _. None) (agrees_free (reply_of a) x free) in
       record {
         acts = f.1.acts;
         out = f.0;
         run = f.1.run;
-        few = few_of connections (joins f.1.acts) n most is le f.1.few;
+        few = few_of connections (joins f.1.acts) n most is le f.1.count;
+        all = all_of connections (joins f.1.acts) n most result is le f.1.count done;
         logged = f.1.logged;
         ended = ended_of (reply_of b) f.0 y result end f.2;
       }

@@ -81,12 +81,13 @@ module _ {A : Type 0} (steps : A → Event → Bool → A → Type 0) (reply_of 
   Run old out [] new out' = (new ≡ old) × (out' ≡ out)
   Run old out (act ∷ acts) new out' = (mid : A) × Next old out act mid × Run mid (out_after out act) acts new out'
 
-  -- Some acts lead from the old endpoint to the new one. At most so many connections join, where a number is given. The log is what came and
-  -- went at these acts, and nothing else. All that joined have ended, unless there was an error.
+  -- Some acts lead from the old endpoint to the new one. Where a number is given, no more than so many connections join; and unless there was an
+  -- error, so many joined. The log is what came and went at these acts, and nothing else. All that joined have ended, unless there was an error.
   pub record Serves {T E : Type 0} (connections : Option ℕ) (result : Result T E) (old new : A) (log log' : Option (List Io)) : Type 0 where
     pub acts : List Act
     pub out : ℕ → Option (List ℕ)
     pub run : Run old (λ _. None) acts new out
     pub few : IfSome connections (λ n. joins acts ≤ n)
+    pub all : OnOk result (IfSome connections (λ n. joins acts ≡ n))
     pub logged : Logs log log' (ios acts)
     pub ended : OnOk result ((id : ℕ) → out id ≡ None)

@@ -7,15 +7,6 @@ ghost use Rattle.qs_service_reactor.specs.Log.{Io, Logs, LogsGot, LogsPut, LogsF
 use std::io;
 use std::time::Duration;
 
-/// What became of an accepted connection.
-#[derive(Clone, Copy, Debug, PartialEq, Eq)]
-pub enum Accepted {
-    /// It is open, at its place.
-    Open,
-    /// It couldn't be set up, and was dropped.
-    Dropped,
-}
-
 /// What a wait reports.
 #[derive(Clone, Copy, Debug, PartialEq, Eq)]
 pub struct Waited {
@@ -34,11 +25,11 @@ pub trait Network {
     fn is_waiting(&mut self) -> io::Result<bool>
         ensures { Logs (log self.old) (log self.new) [] };
 
-    /// Accepts the next connection that waits, at that place.
+    /// Accepts the next connection that waits, at that place. One that can't be set up is at the end of its input.
     ///
     /// # Errors
     /// `WouldBlock` where nobody waits; that of the system.
-    fn accept(&mut self, place: usize) -> io::Result<Accepted>
+    fn accept(&mut self, place: usize) -> io::Result<()>
         ensures { Logs (log self.old) (log self.new) [] };
 
     /// Reads from the peer into the front of the buffer: no bytes are the end of its input.

@@ -2,7 +2,7 @@
 
 ghost use Rattle.std.specs.Prelude.{None};
 
-use crate::network::{Accepted, Network, Waited};
+use crate::network::{Network, Waited};
 use mio::net::TcpStream;
 use mio::unix::SourceFd;
 use mio::{Events, Interest, Poll, Token};
@@ -110,12 +110,11 @@ impl<C: Clock> Network for Sockets<'_, C> {
         }
     }
 
-    fn accept(&mut self, place: usize) -> io::Result<Accepted> {
+    fn accept(&mut self, place: usize) -> io::Result<()> {
         let stream = self.next()?;
-        match self.place(place, stream) {
-            Ok(()) => Ok(Accepted::Open),
-            Err(_) => Ok(Accepted::Dropped),
-        }
+        // (one that can't be set up is dropped: at its place no byte is read then)
+        let _ = self.place(place, stream);
+        Ok(())
     }
 
     fn get(&mut self, place: usize, buf: &mut [u8]) -> io::Result<usize> {

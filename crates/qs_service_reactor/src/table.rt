@@ -8,7 +8,7 @@ use crate::arrivals::{Arrivals, arrivals_after};
 use crate::connection::{Cause, Connection};
 use crate::endpoint::Endpoint;
 use crate::limits::Limits;
-use crate::network::{Accepted, Network, Waited};
+use crate::network::{Network, Waited};
 use std::alloc::{AllocError, Global};
 use std::io;
 use std::time::Duration;
@@ -85,7 +85,8 @@ impl Table {
 
     /// Whether that many were accepted, and all have ended.
     pub fn is_done(&self, most: u64) -> bool
-        ensures { IsTrue result → AllFree self.now.connections.items }
+        ensures free { IsTrue result → AllFree self.now.connections.items }
+        ensures accepted { IsTrue result → most ≤ self.now.accepted }
     {
         self.is_empty() && self.accepted >= most
     }
@@ -288,12 +289,8 @@ impl Table {
             return Ok(());
         }
         match net.accept(place) {
-            Ok(Accepted::Open) => {
+            Ok(()) => {
                 self.take_in(place, net, endpoint);
-                Ok(())
-            }
-            Ok(Accepted::Dropped) => {
-                self.accepted += 1;
                 Ok(())
             }
             Err(fault) => {

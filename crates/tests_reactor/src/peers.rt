@@ -2,7 +2,7 @@
 
 ghost use Rattle.std.specs.Prelude.{◌≤◌, length, IfOk};
 
-use qs_service_reactor::{Accepted, Waited};
+use qs_service_reactor::Waited;
 use std::alloc::{AllocError, Global};
 use std::io;
 use std::io::ErrorKind;
@@ -165,7 +165,7 @@ impl Peers {
     }
 
     /// The next client takes that place.
-    pub fn accept(&mut self, place: usize) -> io::Result<Accepted> {
+    pub fn accept(&mut self, place: usize) -> io::Result<()> {
         let which = self.accepted;
         if !self.is_waiting() || which >= self.peers.len() || place >= self.places.len() {
             return Err(io::Error::from(ErrorKind::WouldBlock));
@@ -174,7 +174,7 @@ impl Peers {
         self.peers[which].accepted = Some(now);
         self.places[place] = Some(which);
         self.accepted = which.saturating_add(1);
-        Ok(Accepted::Open)
+        Ok(())
     }
 
     /// The client at that place, if there is one: its number.

@@ -4,7 +4,7 @@ ghost use Rattle.std.specs.Prelude.{◌≡◌, Some, map};
 
 use crate::entry::{Entry, add};
 use crate::peers::Peers;
-use qs_service_reactor::{Accepted, Network, Waited};
+use qs_service_reactor::{Network, Waited};
 use std::alloc::{AllocError, Global};
 use std::io;
 use std::io::ErrorKind;
@@ -63,7 +63,7 @@ impl Network for Script {
         Ok(self.peers.is_waiting())
     }
 
-    fn accept(&mut self, place: usize) -> io::Result<Accepted> {
+    fn accept(&mut self, place: usize) -> io::Result<()> {
         self.call()?;
         self.peers.accept(place)
     }

@@ -1,5 +1,5 @@
 -- What the functions of a reactor do.
-use Rattle.std.specs.Prelude.{◌≡◌, ◌≢◌, ◌≤◌, ◌++◌, ℕ, Bool, true, false, List, [], length, slice_get, Option, None, Some, IsSome}
+use Rattle.std.specs.Prelude.{◌≡◌, ◌≢◌, ◌++◌, ℕ, Bool, true, false, List, [], length, slice_get, Option, None, Some, IsSome}
 use Rattle.qs_service_reactor.specs.Log.{Io, Logs}
 use Rattle.qs_service_reactor.specs.Run.{Event, Act, ios, joins, KeepsOthers, Run}
 use Rattle.qs_service_reactor.specs.declared.connection.Connection.{Connection}
@@ -45,11 +45,11 @@ pub record AllFree (places : List Connection) : Type 0 where
   pub free : (k : ℕ) → (c : Connection) → slice_get places k ≡ Some c → c.stage ≡ Free
 
 module _ {A : Type 0} (steps : A → Event → Bool → A → Type 0) (reply_of : A → ℕ → Option (List ℕ)) where
-  -- some acts lead there, in which at most n connections join; the log is what came and went at them
+  -- some acts lead there, in which n connections join; the log is what came and went at them
   pub record Goes (n : ℕ) (old new : A) (out out' : ℕ → Option (List ℕ)) (log log' : Option (List Io)) : Type 0 where
     pub acts : List Act
     pub run : Run steps reply_of old out acts new out'
-    pub few : joins acts ≤ n
+    pub count : joins acts ≡ n
     pub logged : Logs log log' (ios acts)
 
   -- a turn of one connection
@@ -58,7 +58,7 @@ module _ {A : Type 0} (steps : A → Event → Bool → A → Type 0) (reply_of 
         → (out' : ℕ → Option (List ℕ)) × Goes 0 old new out out' log log' × AgreesAt (reply_of new place) (out' place) stage' × ((k : ℕ) → k ≢ place → out' k ≡ out k)
     pub keeps : KeepsOthers place (reply_of old) (reply_of new)
 
-  -- what a table does, in which at most n connections join
+  -- what a table does, in which n connections join
   pub record Moves (n : ℕ) (places places' : List Connection) (old new : A) (log log' : Option (List Io)) : Type 0 where
     pub goes : (out : ℕ → Option (List ℕ)) → Agrees (reply_of old) out places
         → (out' : ℕ → Option (List ℕ)) × Goes n old new out out' log log' × Agrees (reply_of new) out' places'

@@ -4,7 +4,7 @@ use Rattle.qs_service_reactor.proofs.Moves.{moves_none, moves_sum}
 use Rattle.qs_service_reactor.proofs.table.Table.accept_all.Goals as goal
 
 pub loop-place-init : goal.loop-place-init
-loop-place-init g c = record { moves = moves_none _ _ _ _ _ (logs_none _); more = omega arith; most = c.requires; len = omega arith; sized = c.args.self.now.sized }
+loop-place-init g c = record { moves = moves_none _ _ _ _ _ (omega arith) (logs_none _); more = omega arith; most = c.requires; len = omega arith; sized = c.args.self.now.sized }
 
 pub returns-in_err-accept_at-clause-moves : goal.returns-in_err-accept_at-clause-moves
 returns-in_err-accept_at-clause-moves g c =

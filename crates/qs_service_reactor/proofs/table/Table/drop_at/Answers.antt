@@ -5,10 +5,10 @@ use Rattle.qs_service_reactor.proofs.Moves.{moves_none, moves_turn}
 use Rattle.qs_service_reactor.proofs.table.Table.drop_at.Goals as goal
 
 pub returns-then-index-clause-moves : goal.returns-then-index-clause-moves
-returns-then-index-clause-moves g c = moves_none _ _ _ _ _ (logs_none _)
+returns-then-index-clause-moves g c = moves_none _ _ _ _ _ (omega arith) (logs_none _)
 
 pub returns-then-not-is_due-clause-moves : goal.returns-then-not-is_due-clause-moves
-returns-then-not-is_due-clause-moves g c = moves_none _ _ _ _ _ (logs_none _)
+returns-then-not-is_due-clause-moves g c = moves_none _ _ _ _ _ (omega arith) (logs_none _)
 
 pub returns-clause-moves : goal.returns-clause-moves
 returns-clause-moves g c =

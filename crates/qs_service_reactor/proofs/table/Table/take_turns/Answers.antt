@@ -4,7 +4,7 @@ use Rattle.qs_service_reactor.proofs.Moves.{moves_none, moves_sum}
 use Rattle.qs_service_reactor.proofs.table.Table.take_turns.Goals as goal
 
 pub loop-place-init : goal.loop-place-init
-loop-place-init g c = record { moves = moves_none _ _ _ _ _ (logs_none _); accepted = refl; len = omega arith; sized = c.args.self.now.sized }
+loop-place-init g c = record { moves = moves_none _ _ _ _ _ (omega arith) (logs_none _); accepted = refl; len = omega arith; sized = c.args.self.now.sized }
 
 pub loop-place-preserved : goal.loop-place-preserved
 loop-place-preserved g c = record {

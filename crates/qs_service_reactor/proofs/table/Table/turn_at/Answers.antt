@@ -5,7 +5,7 @@ use Rattle.qs_service_reactor.proofs.Moves.{moves_none, moves_turn}
 use Rattle.qs_service_reactor.proofs.table.Table.turn_at.Goals as goal
 
 pub returns-then-not-index-clause-moves : goal.returns-then-not-index-clause-moves
-returns-then-not-index-clause-moves g c = moves_none _ _ _ _ _ (logs_none _)
+returns-then-not-index-clause-moves g c = moves_none _ _ _ _ _ (omega arith) (logs_none _)
 
 pub returns-clause-moves : goal.returns-clause-moves
 returns-clause-moves g c =
