@@ -1,6 +1,6 @@
 """A connection of the storm: what its client sends and how it goes on, and whether what it met is due."""
 from crowd import Read
-from model import Wrong, shown
+from due import Wrong, shown
 from orders import NEVER, Asked
 
 PATIENCE = 3

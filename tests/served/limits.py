@@ -11,9 +11,10 @@ import socket
 import subprocess
 
 from crowd import EACH, Client, Read, talk
+from due import RESULTS, Exactly, Wrong, reply
 from messages import dumped
-from model import RESULTS, Exactly, Term, Wrong, iri, lines_of, reply
 from serving import Unserved, serving
+from trees import Term, iri, lines_of
 
 SLACK, TICK = 3, 1
 ASK = b"GET /query?query=ASK%7B%7D HTTP/1.1\r\nHost: e\r\n\r\n"

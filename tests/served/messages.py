@@ -2,8 +2,9 @@
 import functools
 
 from connection import Connection
-from model import NOTHING, NQUADS, REFUSED, Exactly, Lawful, Line, Meaning, Term, deleted, fault, fixed, inserted, iri, lines_of, reply
+from due import NOTHING, NQUADS, REFUSED, Exactly, Lawful, Line, Meaning, carried, deleted, fault, fixed, inserted, reply
 from texts import FAULTS, Spelling, ask, by_graph, random_bytes, random_quads, random_query, random_update
+from trees import Term, iri, lines_of
 
 FORM = "application/x-www-form-urlencoded"
 FIELDS = ["Accept: */*", "User-Agent: storm/1.0 (é)", "X-Empty:", "Content-Language: en", "Accept-Encoding: gzip, deflate", "Cookie: query=ASK%7B%7D"]
@@ -102,8 +103,8 @@ def small(rng, is_update):
     if not is_update:
         return Connection("a small query", Request(rng, "query", f"ASK {{ {words} }}").written(), Meaning(ask([(None, [triple])]), has_fronts=True))
     word = rng.choice(("INSERT", "DELETE"))
-    carried = (inserted if word == "INSERT" else deleted)(quads)
-    meaning = Meaning(lambda it: (Exactly(reply(204)), carried(it)), writes=True, has_fronts=True)
+    operation = (inserted if word == "INSERT" else deleted)(quads)
+    meaning = Meaning(lambda it: (Exactly(reply(204)), carried([operation], it)), writes=True, has_fronts=True)
     return Connection("a small update", Request(rng, "update", f"{word} DATA {{ {words} }}").written(), meaning)
 
 

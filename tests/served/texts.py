@@ -1,9 +1,10 @@
 """Random texts of SPARQL, each with what it means for the model."""
 import re
 
-from model import GRAPHS, LITERALS, NTRIPLES, PREDICATES, RESULTS, SUBJECTS, XSD, Exactly, Meaning, Refused, Rows, Term
-from model import cleared, compact, created, deleted, fault, inserted, instances, json_of, lines_of, modified, reply, solutions, transferred
-from model import variables_of
+from due import GRAPHS, LITERALS, NTRIPLES, PREDICATES, RESULTS, SUBJECTS, Exactly, Meaning, Rows, carried, deleted, fault, group_of, inserted
+from due import quads_of, reply, solutions, variables_of
+from model import Refused, instances
+from trees import XSD, Clear, Create, Modify, Term, Transfer, compact, json_of, lines_of
 
 
 class Spelling:
@@ -83,25 +84,23 @@ def by_graph(quads):
 
 
 def random_modify(rng, spelling):
-    """Returns the tokens of an operation with a pattern of one triple, and what it makes of a dataset."""
+    """Returns the tokens of an operation with a pattern of one triple, and its tree."""
     word = spelling.keyword
     form = rng.choice(("DELETE WHERE", "DELETE", "DELETE", "INSERT", "both"))
     pattern = random_elements(rng, 1, 1)
     if form == "DELETE WHERE":
-        return [word("DELETE"), word("WHERE"), "{", *spelling.blocks(pattern), "}"], modified(pattern, [], pattern)
+        return [word("DELETE"), word("WHERE"), "{", *spelling.blocks(pattern), "}"], Modify(form, None, quads_of(pattern), None, None)
     graph = rng.choice((None, None, None, *GRAPHS))
     delete, insert = (random_template(rng) if form in (it, "both") else None for it in ("DELETE", "INSERT"))
     tokens = [word("WITH"), spelling.term(graph)] if graph else []
     for name, it in (("DELETE", delete), ("INSERT", insert)):
         tokens += [word(name), "{", *spelling.blocks(it), "}"] if it is not None else []
     tokens += [word("WHERE"), "{", *spelling.blocks(pattern), "}"]
-    # (what names no graph means that of WITH)
-    within = lambda blocks: [(it or graph, triples) for it, triples in blocks or []]
-    return tokens, modified(within(delete), within(insert), within(pattern))
+    return tokens, Modify("MODIFY", graph, delete and quads_of(delete), insert and quads_of(insert), group_of(pattern))
 
 
 def random_operation(rng, spelling):
-    """Returns an operation's tokens, and what it makes of a dataset."""
+    """Returns an operation's tokens, and its tree."""
     word = spelling.keyword
     form = rng.choices(("INSERT", "DELETE", "CLEAR", "CREATE", "MOVE", "MODIFY"), (9, 7, 1, 1, 3, 5))[0]
     if form == "MODIFY":
@@ -109,36 +108,33 @@ def random_operation(rng, spelling):
     if form in ("INSERT", "DELETE"):
         quads = random_quads(rng, 6)
         tokens = [word(form), word("DATA"), "{", *spelling.blocks(by_graph(quads)), "}"]
-        return tokens, (inserted if form == "INSERT" else deleted)(frozenset(quads))
+        return tokens, (inserted if form == "INSERT" else deleted)(quads)
     silent = [word("SILENT")] if rng.random() < 0.5 else []
     graph = rng.choice(GRAPHS)
     if form == "CREATE":
-        return [word(form), *silent, word("GRAPH"), spelling.term(graph)], created(graph, silent)
+        return [word(form), *silent, word("GRAPH"), spelling.term(graph)], Create(graph, bool(silent))
     if form == "CLEAR":
-        target = rng.choices(("ALL", "NAMED", None, graph), (1, 2, 4, 8))[0]
-        said = [word("GRAPH"), spelling.term(graph)] if target is graph else [word(target or "DEFAULT")]
-        return [word(rng.choice(("CLEAR", "DROP"))), *silent, *said], cleared(target)
+        target = rng.choices(("ALL", "NAMED", "DEFAULT", graph), (1, 2, 4, 8))[0]
+        said = [word("GRAPH"), spelling.term(graph)] if target is graph else [word(target)]
+        return [word(rng.choice(("CLEAR", "DROP"))), *silent, *said], Clear("CLEAR", target, bool(silent))
     form, ends = rng.choice(("ADD", "COPY", "MOVE")), [rng.choice((None, *GRAPHS)) for _ in "st"]
     said = [[word("DEFAULT")] if it is None else [word("GRAPH")] * (rng.random() < 0.5) + [spelling.term(it)] for it in ends]
-    return [word(form), *silent, *said[0], word("TO"), *said[1]], transferred(form, *ends, bool(silent))
+    return [word(form), *silent, *said[0], word("TO"), *said[1]], Transfer(form, *ends, bool(silent))
 
 
 def random_update(rng):
     """Returns a text, and what it means."""
     spelling, tokens, operations = Spelling(rng), [], []
     for _ in range(rng.choice((1, 1, 1, 2, 3, 5))):
-        more, carried = random_operation(rng, spelling)
+        more, operation = random_operation(rng, spelling)
         tokens += ([";"] if tokens else []) + more
-        operations.append(carried)
+        operations.append(operation)
 
     def due(quads):
-        behind = quads
         try:
-            for carried in operations:
-                behind = frozenset(carried(behind))
+            return Exactly(reply(204)), carried(operations, quads)
         except Refused as it:
             return Exactly(fault(str(it))), quads
-        return Exactly(reply(204)), behind
 
     return spelling.text(spelling.prologue() + tokens), Meaning(due, writes=True, has_fronts=True)
 
@@ -186,7 +182,7 @@ def select(elements, names, is_distinct, limit):
 
 def construct(elements, template):
     def due(quads):
-        made = instances([(None, template)], solutions(elements, quads))
+        made = instances(template, solutions(elements, quads))
         return Exactly(reply(200, NTRIPLES, lines_of(made))), quads
 
     return due

@@ -1,8 +1,10 @@
-"""A model of the endpoint: what updates make of a set of quads, what queries find in it, and the replies that are due. It is plain and slow."""
-import functools
+"""The replies that are due: what requests mean for a set of quads, by the model of SPARQL in `model.py`."""
 import json
 import re
-from collections import Counter, namedtuple
+from collections import Counter
+
+from model import Dataset, group_solutions, updated
+from trees import XSD, Graph, Group, Modify, Term, Triples, compact, iri
 
 UNION = False
 """Whether queries see the union of the named graphs as the default graph. `see_union` sets it."""
@@ -17,39 +19,7 @@ def see_union(is_union):
     UNION = is_union
 
 
-# ---- terms and quads, and how they are written
-
-XSD = "http://www.w3.org/2001/XMLSchema#"
-Term = namedtuple("Term", "kind text datatype tag", defaults=("", ""))
-"""An IRI (`uri`), a literal (without datatype where that is xsd:string), or a variable (`var`)."""
-
-
-def iri(name):
-    return Term("uri", "http://e/" + name)
-
-
-@functools.lru_cache(4096)
-def nquads_of(term):
-    if term.kind == "uri":
-        return f"<{term.text}>"
-    form = term.text.replace("\\", "\\\\").replace('"', '\\"').replace("\n", "\\n").replace("\r", "\\r")
-    return f'"{form}"' + (f"@{term.tag}" if term.tag else f"^^<{term.datatype}>" if term.datatype else "")
-
-
-def lines_of(statements):
-    """Returns the written form: the lines of quads (graph, subject, predicate, object), or of triples, ascending, each once."""
-    lines = {" ".join(nquads_of(it) for it in (*quad[-3:], *filter(None, quad[:-3]))) + " .\n" for quad in statements}
-    return "".join(sorted(lines, key=str.encode))
-
-
-def json_of(term):
-    more = {"xml:lang": term.tag} if term.tag else {"datatype": term.datatype} if term.datatype else {}
-    return {"type": term.kind, "value": term.text, **more}
-
-
-def compact(value):
-    return json.dumps(value, sort_keys=True, separators=(",", ":"), ensure_ascii=False)
-
+# ---- terms
 
 SUBJECTS = [iri(it) for it in "abcd"]
 PREDICATES = [iri(it) for it in "pqr"]
@@ -64,116 +34,40 @@ LITERALS = [
 GRAPHS = [iri(it) for it in "gh"] + [iri("a")]
 
 
-# ---- what updates make of a dataset: a frozen set of quads, whose graph is None for the default graph
+# ---- what patterns, templates and updates give over a set of quads (graph, subject, predicate, object), whose graph is None for the default graph
 
 
-class Refused(Exception):
-    """An operation can't be carried out; its words are the fault's line."""
+def carried(operations, quads):
+    """Returns the quads after an update.
+
+    # Errors
+
+    Refused where an operation can't be carried out; its words are the fault's line."""
+    return frozenset(updated(operations, Dataset(quads, UNION)))
 
 
-def is_there(graph, quads):
-    return graph is None or any(it[0] == graph for it in quads)
+def inserted(quads):
+    return Modify("INSERT DATA", None, None, tuple(quads), None)
 
 
-def put(graph, quads):
-    return {(graph, *it[1:]) for it in quads}
+def deleted(quads):
+    return Modify("DELETE DATA", None, tuple(quads), None, None)
 
 
-def inserted(more):
-    return lambda quads: quads | more
+def group_of(elements):
+    """Returns the group of (graph, triples), where the graph is None, an IRI or a variable."""
+    return Group(tuple(Graph(graph, Group((Triples(tuple(triples)),))) if graph else Triples(tuple(triples)) for graph, triples in elements))
 
 
-def deleted(less):
-    return lambda quads: quads - less
-
-
-def cleared(target):
-    def carried(quads):
-        if target == "ALL":
-            return frozenset()
-        return frozenset(it for it in quads if (it[0] is None if target == "NAMED" else it[0] != target))
-
-    return carried
-
-
-def created(graph, silent):
-    def carried(quads):
-        if is_there(graph, quads) and not silent:
-            raise Refused("F7 graph exists")
-        return quads
-
-    return carried
-
-
-def transferred(word, source, target, silent):
-    def carried(quads):
-        if not is_there(source, quads):
-            if silent:
-                return quads
-            raise Refused("F7 no such graph")
-        if source == target:
-            return quads
-        emptied = {"ADD": (), "COPY": (target,), "MOVE": (source, target)}[word]
-        copied = put(target, (it for it in quads if it[0] == source))
-        return frozenset(it for it in quads if it[0] not in emptied) | copied
-
-    return carried
-
-
-def modified(delete, insert, elements):
-    """Takes away the instances of one template under the solutions of a pattern, and then adds those of the other."""
-
-    def carried(quads):
-        rows = solutions(elements, quads)
-        return (quads - instances(delete, rows)) | instances(insert, rows)
-
-    return carried
-
-
-# ---- what patterns and templates give over a dataset
-
-
-def seen(quads):
-    """Returns what patterns see of a dataset: where the default graph is the union of the named ones, their triples stand in it, each once,
-    and those of the stored default graph don't."""
-    if not UNION:
-        return quads
-    named = {it for it in quads if it[0] is not None}
-    return named | put(None, named)
-
-
-def matches(quads, graph, triple, row):
-    """Returns each row that agrees with the given one, and in which the triple's instance stands in the graph."""
-    for quad in quads:
-        if quad[0] != graph:
-            continue
-        found = dict(row)
-        if all((found.setdefault(a.text, b) if a.kind == "var" else a) == b for a, b in zip(triple, quad[1:])):
-            yield found
+def quads_of(elements):
+    """Returns the quads of a template's (graph, triples)."""
+    return tuple((graph, *triple) for graph, triples in elements for triple in triples)
 
 
 def solutions(elements, quads):
-    """Returns the bag of solutions of a group: of (graph, triples), where the graph is None, an IRI or a variable."""
-    quads, rows = seen(quads), [{}]
-    for graph, triples in elements:
-        pairs = [(graph, row) for row in rows]
-        if graph and graph.kind == "var":
-            names = {it[0] for it in quads} - {None}
-            pairs = [(name, {**row, graph.text: name}) for row in rows for name in names if row.get(graph.text, name) == name]
-        for triple in triples:
-            pairs = [(name, found) for name, row in pairs for found in matches(quads, name, triple, row)]
-        rows = [row for _, row in pairs]
-    return rows
-
-
-UNBOUND = Term("unbound", "")
-
-
-def instances(blocks, rows):
-    """Returns the quads that (graph, triples) make of the rows: with an IRI as predicate, no literal as subject or graph, and all bound."""
-    words = [(graph, *triple) for graph, triples in blocks for triple in triples]
-    made = {tuple(row.get(it.text, UNBOUND) if it and it.kind == "var" else it for it in quad) for quad in words for row in rows}
-    return {it for it in made if all(term is None or term.kind == "uri" for term in it[:3]) and it[3] != UNBOUND}
+    """Returns the bag of solutions of a group."""
+    data = Dataset(quads, UNION)
+    return group_solutions(group_of(elements), data, data.default())
 
 
 def variables_of(elements):

@@ -1,0 +1,621 @@
+"""What queries and updates mean: a plain evaluator over lists, written from the standards and not from the program's code.
+
+A query or an update is a tree (`trees.py`), and a dataset a set of quads. `select`, `ask` and `construct` give all that an answer may be, `updated`
+the dataset after an update. Each operator is evaluated on whole lists, inside out, by its definition, so that nothing here is quick.
+
+Sections are those of SPARQL 1.1 Query, where no other standard is named. "(own)" marks what this store's profile narrows, or where it takes one
+of several readings.
+"""
+import itertools
+import re
+from collections import Counter, namedtuple
+from functools import lru_cache
+from math import comb, inf, prod
+from operator import ge, gt, le, lt
+
+from scope import in_scope, is_hidden, labels, parts, pattern_of
+from trees import BOOLEAN, INTEGER, PATHS, XSD, Alternative, Bind, Call, Clear, Create, Filter, Graph, Group, Inverse, Minus, Modify, Negated
+from trees import Optional, Sequence, Term, Triples, Union, text_of
+
+STRING, TAGGED = XSD + "string", "http://www.w3.org/1999/02/22-rdf-syntax-ns#langString"
+
+# ---- terms with a value (17.1)
+
+
+@lru_cache(None)
+def integer(term):
+    """Returns the value of an integer; None for another term, an ill-formed one, or one that signed 128 bits don't hold (own)."""
+    is_formed = term.datatype == INTEGER and re.fullmatch(r"[+-]?[0-9]+", term.text)
+    return int(term.text) if is_formed and is_in_range(int(term.text)) else None
+
+
+def is_in_range(number):
+    return -(2**127) <= number < 2**127
+
+
+def boolean(term):
+    """Returns the value of a boolean; None for another term or an ill-formed one."""
+    return {"true": True, "1": True, "false": False, "0": False}.get(term.text) if term.datatype == BOOLEAN else None
+
+
+def string(term):
+    """Returns the value of an xsd:string; None for another term."""
+    return term.text if term.kind == "literal" and not term.datatype and not term.tag else None
+
+
+# ---- solutions: maps from the names of variables to terms (18.1.8, 18.3)
+
+
+class TooLarge(Exception):
+    """An evaluation has more steps than a test has time for."""
+
+
+MOST = inf
+"""The most pairs of solutions that one join looks at. `bound_joins` sets it."""
+
+
+def bound_joins(most):
+    global MOST
+    MOST = most
+
+
+def compatible(one, other):
+    """18.3: each variable that both bind has the same term."""
+    return all(other.get(name, term) == term for name, term in one.items())
+
+
+def join(left, right):
+    """18.5, Join: the merges of compatible solutions, each as often as there are such pairs."""
+    if len(left) * len(right) > MOST:
+        raise TooLarge
+    return [{**one, **other} for one in left for other in right if compatible(one, other)]
+
+
+def left_join(left, right, conditions):
+    """18.5, LeftJoin: the joined solutions for which the condition is true, and each left one that has none."""
+    found = []
+    for one in left:
+        found += [it for it in join([one], right) if all_true(conditions, it)] or [one]
+    return found
+
+
+def minus(left, right):
+    """18.5, Minus: each left solution for which no right one is compatible and shares a variable."""
+    return [one for one in left if not any(one.keys() & other.keys() and compatible(one, other) for other in right)]
+
+
+def extend(solutions, name, expression):
+    """18.5, Extend: with the value, or the solution as it is where the expression is an error."""
+    return [{**it, **bound_to(name, expression, it)} for it in solutions]
+
+
+def bound_to(name, expression, solution):
+    try:
+        return {name.text: value(expression, solution)}
+    except ExpressionError:
+        return {}
+
+
+def all_true(conditions, solution):
+    """18.5, Filter: the effective boolean value of the conjunction is true; an error isn't."""
+    return all(truth(it, solution) is True for it in conditions)
+
+
+# ---- evaluation of patterns over a dataset (18.2.2, 18.5, 18.6)
+
+
+class Dataset:
+    """A set of quads (graph, subject, predicate, object), whose graph is None for the default graph (RDF 1.1 Concepts, 4). Where `is_union`, the
+    default graph of queries is the union of the named graphs, each triple once (own; 13.1 leaves it open)."""
+
+    def __init__(self, quads, is_union=False):
+        self.quads, self.is_union = frozenset(quads), is_union
+
+    def names(self):
+        """The names of graphs, each of which holds a quad (own: there is no empty named graph)."""
+        return {it[0] for it in self.quads} - {None}
+
+    def graph(self, name):
+        return {it[1:] for it in self.quads if it[0] == name}
+
+    def default(self):
+        return {it[1:] for it in self.quads if it[0]} if self.is_union else self.graph(None)
+
+
+def group_solutions(group, data, graph):
+    """18.2.2.2 and 18.2.2.7: the FILTERs of a group are about the whole group."""
+    return [it for it in unfiltered(group, data, graph) if all_true(conditions(group), it)]
+
+
+def conditions(group):
+    return [it.condition for it in group.elements if isinstance(it, Filter)]
+
+
+def unfiltered(group, data, graph):
+    """18.2.2.6: each part is put to what stands before it, beginning with the one empty solution."""
+    found = [{}]
+    for it in parts(group):
+        if isinstance(it, Optional):
+            found = left_join(found, unfiltered(it.group, data, graph), conditions(it.group))
+        elif isinstance(it, Minus):
+            found = minus(found, group_solutions(it.group, data, graph))
+        elif isinstance(it, Bind):
+            found = extend(found, it.name, it.value)
+        else:
+            found = join(found, alone(it, data, graph))
+    return found
+
+
+def alone(it, data, graph):
+    """Returns the solutions of a part that is joined to what stands before."""
+    if isinstance(it, Triples):
+        return run_solutions(it.triples, graph)
+    if isinstance(it, Group):
+        return group_solutions(it, data, graph)
+    if isinstance(it, Union):
+        return [found for inner in it.groups for found in group_solutions(inner, data, graph)]
+    return graph_solutions(it, data) if isinstance(it, Graph) else row_solutions(it)
+
+
+def row_solutions(values):
+    """10.2, 18.2.2.6: a solution for each row, without what is UNDEF."""
+    return [{name.text: term for name, term in zip(values.names, row) if term} for row in values.rows]
+
+
+def graph_solutions(it, data):
+    """18.6, Graph: the pattern in the named graph; for a variable the union over the names, each joined with the variable bound to it."""
+    if it.name.kind == "uri":
+        return group_solutions(it.group, data, data.graph(it.name)) if it.name in data.names() else []
+    return [found for name in data.names() for found in join(group_solutions(it.group, data, data.graph(name)), [{it.name.text: name}])]
+
+
+def run_solutions(triples, graph):
+    """18.3.1: the maps that put each triple into the graph, joined with the solutions of the paths. What blank nodes are mapped to is left out of
+    the solutions, and counts."""
+    found = [{}]
+    for subject, verb, object in triples:
+        is_path = isinstance(verb, PATHS)
+        found = join(found, path_solutions(subject, verb, object, graph) if is_path else maps((subject, verb, object), graph))
+    return [{name: term for name, term in it.items() if not is_hidden(name)} for it in found]
+
+
+def maps(words, rows):
+    """Returns each map of the variables that makes one of the rows of the words."""
+    found = []
+    for row in rows:
+        it = {}
+        if all((it.setdefault(word.text, term) if word.kind == "var" else word) == term for word, term in zip(words, row)):
+            found.append(it)
+    return found
+
+
+# ---- property paths (9, 18.4)
+
+
+def path_solutions(subject, path, object, graph):
+    ends = [None if it.kind == "var" else it for it in (subject, object)]
+    return maps((subject, object), pairs(path, graph, *ends))
+
+
+def pairs(path, graph, left, right):
+    """18.4: the list of pairs that a path leads from and to. An end is a term, or None where it is a variable. (Own: a closure evaluates its path
+    from each term that it has reached, and a sequence its second path from any term.)"""
+    if isinstance(path, Term):
+        found = [(s, o) for s, p, o in graph if p == path]
+    elif isinstance(path, Negated):
+        found = negated_pairs(path, graph)
+    elif isinstance(path, Inverse):
+        found = [(y, x) for x, y in pairs(path.path, graph, right, left)]
+    elif isinstance(path, Alternative):
+        found = pairs(path.first, graph, left, right) + pairs(path.second, graph, left, right)
+    elif isinstance(path, Sequence):
+        second = pairs(path.second, graph, None, right)
+        found = [(x, z) for x, y in pairs(path.first, graph, left, None) for middle, z in second if y == middle]
+    else:
+        found = closure_pairs(path, graph, left, right)
+    if len(found) > MOST:
+        raise TooLarge
+    return [(x, y) for x, y in found if left in (None, x) and right in (None, y)]
+
+
+def negated_pairs(path, graph):
+    """9.1: triples by an IRI that isn't named, and reversed triples by one that isn't named behind `^`; `!()` is the first of these."""
+    forward = [(s, o) for s, p, o in graph if p not in path.forward] if path.forward or not path.inverse else []
+    return forward + ([(o, s) for s, p, o in graph if p not in path.inverse] if path.inverse else [])
+
+
+def closure_pairs(path, graph, left, right):
+    """18.4, ZeroOrOnePath, ZeroOrMorePath and OneOrMorePath: each pair once. A path of length zero leads from any term that is an end to itself,
+    and between variables from the terms that stand as subject or object in the graph."""
+    nodes = {it for s, _, o in graph for it in (s, o)}
+    starts = {left} if left else nodes | {right} if right else nodes
+    found = []
+    for start in starts:
+        reached = step(path.path, graph, start) if path.mark == "?" else walk(path.path, graph, start)
+        found += [(start, it) for it in (reached if path.mark == "+" else reached | {start})]
+    return found
+
+
+def step(path, graph, start):
+    return {it for _, it in pairs(path, graph, start, None)}
+
+
+def walk(path, graph, start):
+    """Returns the terms that one step or more lead to."""
+    reached, last = set(), {start}
+    while last:
+        last = set().union(*(step(path, graph, it) for it in last)) - reached
+        reached |= last
+    return reached
+
+
+# ---- expressions (17)
+
+
+class ExpressionError(Exception):
+    """An expression has no value."""
+
+
+def value(it, solution):
+    """Returns the value of an expression: a term.
+
+    # Errors
+
+    ExpressionError where it has none: an unbound variable is such an error (17.2)."""
+    if isinstance(it, Term):
+        term = solution.get(it.text) if it.kind == "var" else it
+        if term is None:
+            raise ExpressionError
+        return term
+    if it.name in FORMS:
+        return FORMS[it.name](it.args, solution)
+    return FUNCTIONS[it.name](*(value(arg, solution) for arg in it.args))
+
+
+def effective(term):
+    """17.2.2: the effective boolean value."""
+    if term.datatype == BOOLEAN:
+        return boolean(term) is True
+    if term.datatype == INTEGER:
+        return bool(re.fullmatch(r"[+-]?[0-9]+", term.text)) and int(term.text) != 0
+    if term.kind == "literal" and not term.datatype:
+        return term.text != ""
+    raise ExpressionError
+
+
+def truth(it, solution):
+    """Returns the effective boolean value of an expression, or None for an error."""
+    try:
+        return effective(value(it, solution))
+    except ExpressionError:
+        return None
+
+
+def truth_of(is_true):
+    return Term("literal", "true" if is_true else "false", BOOLEAN)
+
+
+def whole(term):
+    found = integer(term)
+    if found is None:
+        raise ExpressionError
+    return found
+
+
+def number(found):
+    """The integer of an operator's result, unless 128 bits don't hold it (own)."""
+    if not is_in_range(found):
+        raise ExpressionError
+    return Term("literal", str(found), INTEGER)
+
+
+def any_of(truths):
+    """17.2, the table of `||`: true beats an error, and an error beats false."""
+    if True not in truths and None in truths:
+        raise ExpressionError
+    return True in truths
+
+
+def disjunction(args, solution):
+    return truth_of(any_of([truth(it, solution) for it in args]))
+
+
+def conjunction(args, solution):
+    """17.2, the table of `&&`: false beats an error, and an error beats true."""
+    return truth_of(not any_of([None if it is None else not it for it in (truth(arg, solution) for arg in args)]))
+
+
+def among(args, solution):
+    """17.4.1.9: `x IN (a, ..)` is `(x = a) || ..`, and false for an empty list."""
+    return truth_of(any_of([truth(Call("=", (args[0], it)), solution) for it in args[1:]]))
+
+
+def not_among(args, solution):
+    """17.4.1.10."""
+    return truth_of(among(args, solution).text == "false")
+
+
+def choice(args, solution):
+    """17.4.1.2, IF."""
+    is_true = truth(args[0], solution)
+    if is_true is None:
+        raise ExpressionError
+    return value(args[1] if is_true else args[2], solution)
+
+
+def coalesce(args, solution):
+    """17.4.1.3: the first argument that isn't an error."""
+    for it in args:
+        try:
+            return value(it, solution)
+        except ExpressionError:
+            continue
+    raise ExpressionError
+
+
+def equal(one, other):
+    """17.4.1.7, RDFterm-equal, and `=` of 17.3: by value where both have one of a kind; two other literals that aren't the same are an error."""
+    for kind in (integer, boolean, string):
+        if kind(one) is not None and kind(other) is not None:
+            return kind(one) == kind(other)
+    if one != other and one.kind == other.kind == "literal":
+        raise ExpressionError
+    return one == other
+
+
+def comparison(relation):
+    """17.3: `<` and the like, of two integers, booleans (false first) or xsd:strings (by code points)."""
+
+    def compared(one, other):
+        for kind in (integer, boolean, string):
+            if kind(one) is not None and kind(other) is not None:
+                return truth_of(relation(kind(one), kind(other)))
+        raise ExpressionError
+
+    return compared
+
+
+def literal(term):
+    if term.kind != "literal":
+        raise ExpressionError
+    return term
+
+
+def text(term):
+    """A string literal: an xsd:string or a tagged one (17.4.3.1.1)."""
+    if literal(term).datatype:
+        raise ExpressionError
+    return term
+
+
+def plain(term):
+    if text(term).tag:
+        raise ExpressionError
+    return term.text
+
+
+def str_of(term):
+    """17.4.2.5; a blank node has none."""
+    return Term("literal", term.text if term.kind == "uri" else literal(term).text)
+
+
+def datatype_of(term):
+    """17.4.2.7."""
+    return Term("uri", literal(term).datatype or (TAGGED if term.tag else STRING))
+
+
+def arguments(one, other):
+    """17.4.3.1.2: two strings are compatible arguments where the second has no tag, or both have the same."""
+    if text(other).tag not in ("", text(one).tag):
+        raise ExpressionError
+    return one.text, other.text
+
+
+def concat(*args):
+    """17.4.3.12: with the tag that all have, if they have one."""
+    tags = {text(it).tag for it in args}
+    return Term("literal", "".join(it.text for it in args), "", tags.pop() if len(tags) == 1 else "")
+
+
+def language_matches(tag, span):
+    """17.4.3.13; RFC 4647, 3.3.1. ASCII case is looked over."""
+    tag, span = (plain(it).encode().lower() for it in (tag, span))
+    return truth_of(tag != b"" if span == b"*" else tag == span or span != b"" and tag.startswith(span + b"-"))
+
+
+FORMS = {
+    "BOUND": lambda args, solution: truth_of(args[0].text in solution),
+    "IF": choice,
+    "COALESCE": coalesce,
+    "||": disjunction,
+    "&&": conjunction,
+    "IN": among,
+    "NOT IN": not_among,
+}
+"""What sees its arguments unevaluated."""
+FUNCTIONS = {
+    "!": lambda x: truth_of(not effective(x)),
+    "=": lambda x, y: truth_of(equal(x, y)),
+    "!=": lambda x, y: truth_of(not equal(x, y)),
+    **{name: comparison(it) for name, it in (("<", lt), (">", gt), ("<=", le), (">=", ge))},
+    "+": lambda x, y=None: number(whole(x) if y is None else whole(x) + whole(y)),
+    "-": lambda x, y=None: number(-whole(x) if y is None else whole(x) - whole(y)),
+    "*": lambda x, y: number(whole(x) * whole(y)),
+    "sameTerm": lambda x, y: truth_of(x == y),
+    **dict.fromkeys(("isIRI", "isURI"), lambda x: truth_of(x.kind == "uri")),
+    "isBlank": lambda x: truth_of(x.kind == "bnode"),
+    "isLiteral": lambda x: truth_of(x.kind == "literal"),
+    "isNumeric": lambda x: truth_of(integer(x) is not None),
+    "STR": str_of,
+    "LANG": lambda x: Term("literal", literal(x).tag),
+    "DATATYPE": datatype_of,
+    "LANGMATCHES": language_matches,
+    "STRLEN": lambda x: number(len(text(x).text)),
+    "CONTAINS": lambda x, y: truth_of((lambda a, b: b in a)(*arguments(x, y))),
+    "STRSTARTS": lambda x, y: truth_of((lambda a, b: a.startswith(b))(*arguments(x, y))),
+    "STRENDS": lambda x, y: truth_of((lambda a, b: a.endswith(b))(*arguments(x, y))),
+    "CONCAT": concat,
+}
+
+
+# ---- answers (15, 16, 18.2.4, 18.2.5)
+
+
+class Lists(namedtuple("Lists", "classes offset limit")):
+    """All lists that a sequence of solutions may be: a slice of the classes one after another, where each class is a bag in any order."""
+
+    def spans(self):
+        """Returns each class that the slice meets, with the places of the slice, from 0, that it fills."""
+        found, place, end = [], -self.offset, inf if self.limit is None else self.limit
+        for it in self.classes:
+            found.append((it, max(place, 0), min(place + len(it), end)))
+            place += len(it)
+        return [it for it in found if it[1] < it[2]]
+
+    def allows(self, rows):
+        """Returns whether a list is one of these."""
+        spans = self.spans()
+        fits = all(not Counter(rows[begin:end]) - Counter(it) for it, begin, end in spans)
+        return fits and len(rows) == (spans[-1][2] if spans else 0)
+
+    def bags(self, most=200):
+        """Returns each bag that the slice may hold."""
+        if prod(comb(len(it), end - begin) for it, begin, end in self.spans()) > most:
+            raise TooLarge
+        chosen = [itertools.combinations(it, end - begin) for it, begin, end in self.spans()]
+        return [[*itertools.chain(*it)] for it in itertools.product(*chosen)]
+
+
+def rank(it, solution):
+    """15.1: the place of an expression's value in an order. Blank nodes by number, and literals by kind and value (own)."""
+    try:
+        term = value(it, solution)
+    except ExpressionError:
+        return (0,)
+    if term.kind == "bnode":
+        return 1, int(term.text[1:])
+    if term.kind == "uri":
+        return 2, term.text
+    for place, kind in enumerate((boolean, integer, string), 3):
+        if kind(term) is not None:
+            return place, kind(term)
+    return 6, datatype_of(term).text, term.text, term.tag
+
+
+def ordered(solutions, order):
+    """15.1: the classes of solutions with equal keys, in the order of the keys."""
+    keyed = [([rank(it, solution) for it, _ in order], solution) for solution in solutions]
+    for place in reversed(range(len(order))):
+        keyed.sort(key=lambda it: it[0][place], reverse=order[place][1])
+    return [[it for _, it in tied] for _, tied in itertools.groupby(keyed, key=lambda it: it[0])]
+
+
+def where_solutions(query, data):
+    """18.2.4.3: WHERE, joined with the trailing VALUES."""
+    found = group_solutions(query.where, data, data.default())
+    return join(found, row_solutions(query.values)) if query.values else found
+
+
+def select_names(query):
+    """Returns the names of a SELECT's variables, each once; `*` lists those in scope by their first places in the text (16.1.1; own: the order)."""
+    if query.items is not None:
+        return list(dict.fromkeys(it.text if isinstance(it, Term) else it[1].text for it in query.items))
+    names = in_scope(query.where) | (in_scope(query.values) if query.values else set())
+    return [it for it in dict.fromkeys(re.findall(r"\?(\w+)", text_of(query))) if it in names]
+
+
+def select(query, data):
+    """18.2.4.4, 18.2.5: expressions, ORDER BY, projection, DISTINCT, OFFSET and LIMIT. Returns the names, and all lists of solutions, each the set
+    of its pairs (name, term), that may be the answer."""
+    found, names = where_solutions(query, data), select_names(query)
+    for it in query.items or ():
+        found = found if isinstance(it, Term) else extend(found, it[1], it[0])
+    projected = [[frozenset((name, it[name]) for name in names if name in it) for it in tied] for tied in ordered(found, query.order)]
+    if query.distinct == "DISTINCT":
+        before = [set().union(*projected[:at]) for at in range(len(projected))]
+        projected = [[*dict.fromkeys(it for it in tied if it not in seen)] for tied, seen in zip(projected, before)]
+    return names, Lists(projected, query.offset, query.limit)
+
+
+def ask(query, data):
+    """16.3."""
+    return bool(where_solutions(query, data))
+
+
+def construct(query, data):
+    """16.2: the triples that may be the answer, over each bag of solutions that the slice may hold, blank nodes of the template up to renaming."""
+    solutions = [[frozenset(it.items()) for it in tied] for tied in ordered(where_solutions(query, data), query.order)]
+    return [instances(query.items, map(dict, bag)) for bag in Lists(solutions, query.offset, query.limit).bags()]
+
+
+def instances(template, solutions, name=""):
+    """16.2, 16.2.1; Update 3.1.3: the triples or quads (graph first) that a template gives, each once, without those with an unbound variable or a
+    term at an unlawful place. A blank node of the template is another one for each solution, named for both."""
+    found = set()
+    for at, solution in enumerate(solutions):
+        fresh = {it: Term("bnode", f"{name}n{at}{it[2:]}") for it in labels(template)}
+        for words in template:
+            terms = tuple({**solution, **fresh}.get(it.text) if it and it.kind == "var" else it for it in words)
+            if is_lawful(terms) and all(term or not word for word, term in zip(words, terms)):
+                found.add(terms)
+    return found
+
+
+def is_lawful(terms):
+    """RDF 1.1 Concepts, 3.1, 4: the predicate is an IRI, and neither subject nor graph a literal."""
+    *front, predicate, _ = terms
+    return (not predicate or predicate.kind == "uri") and all(not it or it.kind != "literal" for it in front)
+
+
+# ---- updates (SPARQL 1.1 Update, 3 and 4)
+
+
+class Refused(Exception):
+    """An operation can't be carried out; its words are the fault's line."""
+
+
+def updated(operations, data):
+    """Update 2.2, 3: the quads after the operations, each of which sees what those before it left.
+
+    # Errors
+
+    Refused where one of them can't be carried out; then none of them has an effect."""
+    for at, it in enumerate(operations):
+        by = {Modify: modified, Clear: cleared, Create: created}.get(type(it), transferred)
+        data = Dataset(by(it, data, str(at)), data.is_union)
+    return data.quads
+
+
+def modified(it, data, name):
+    """Update 3.1.1 to 3.1.3: WHERE is evaluated once; all deletions come before all insertions. The graph of WITH is the default graph of WHERE and
+    of the templates. DATA forms have the one empty solution."""
+    where = pattern_of(it.delete) if it.form == "DELETE WHERE" else it.where or Group(())
+    solutions = group_solutions(where, data, data.graph(it.graph) if it.graph else data.default())
+    less, more = ([(graph or it.graph, *triple) for graph, *triple in quads or ()] for quads in (it.delete, it.insert))
+    return data.quads - instances(less, solutions) | instances(more, solutions, name)
+
+
+def cleared(it, data, _):
+    """Update 3.1.5, 3.2.2: CLEAR and DROP, which always succeed here, since a graph that isn't there is an empty one (own)."""
+    goes = {"ALL": lambda graph: True, "NAMED": lambda graph: graph, "DEFAULT": lambda graph: not graph}
+    return {quad for quad in data.quads if not goes.get(it.target, lambda graph: graph == it.target)(quad[0])}
+
+
+def created(it, data, _):
+    """Update 3.2.1: nothing is stored of an empty graph (own)."""
+    if it.graph in data.names() and not it.silent:
+        raise Refused("F7 graph exists")
+    return data.quads
+
+
+def transferred(it, data, _):
+    """Update 3.2.3 to 3.2.5. ADD leaves the target's quads; COPY and MOVE don't, and MOVE takes the source's away. The default graph is always
+    there; a graph onto itself is left as it is."""
+    if it.source and it.source not in data.names():
+        if it.silent:
+            return data.quads
+        raise Refused("F7 no such graph")
+    if it.source == it.target:
+        return data.quads
+    emptied = {"ADD": (), "COPY": (it.target,), "MOVE": (it.source, it.target)}[it.word]
+    return {quad for quad in data.quads if quad[0] not in emptied} | {(it.target, *triple) for triple in data.graph(it.source)}
