@@ -1,0 +1,214 @@
+//! How a condition is taken into parts.
+
+ghost use Rattle.std.specs.Prelude.{◌≡◌, ◌&&◌, ◌||◌, [], ◌∷◌, OnOk};
+ghost use Rattle.std.specs.List.{list_all, list_any};
+ghost use Rattle.qs_dict.specs.Dict.{number_of};
+ghost use Rattle.qs_algebra_solutions.specs.Solution.{Solution, term_at};
+ghost use Rattle.qs_expr_meaning.specs.Makes.{makes};
+ghost use Rattle.qs_expr_meaning.specs.Meaning as spec;
+ghost use Rattle.qs_expr_meaning.specs.declared.expr.Expr.TheVariants as expr_of;
+ghost use Rattle.qs_expr_meaning.specs.declared.operator.BinaryFunction.TheVariants as binary_function;
+ghost use Rattle.qs_expr_values.specs.Values as of_terms;
+ghost use Rattle.qs_expr.specs.Condition.{AreNumbersOf};
+ghost use Rattle.qs_expr.specs.inner.Against.{has_term, with_constant};
+ghost use Rattle.qs_expr.specs.inner.Parts.{all_hold, asked, numbers_of, some_make, IsNumbered};
+
+use crate::constant::AgainstConstant;
+use crate::part::{AreAlike, HasTerm, Part};
+use qs_expr_meaning::{BinaryFunction, Comparison, Expr};
+use qs_store::View;
+use qs_terms::Term;
+use std::alloc::AllocError;
+
+// Whether the variable has the term, or another one; the term's number is looked up.
+fn has_part<'e, V: View>(
+    expr: &'e Expr,
+    variable: usize,
+    term: &'e Term,
+    apart: bool,
+    view: &V,
+) -> Part<'e>
+    requires { (m : Solution) → spec.holds m expr.now ≡ has_term apart term.now (term_at m variable) }
+    ensures asked { asked result ≡ expr.now }
+    ensures number { IsNumbered (V.content view.now).known result }
+{
+    Part::Has(HasTerm {
+        expr,
+        variable,
+        term,
+        number: view.find(term),
+        apart,
+    })
+}
+
+fn is_literal(term: &Term) -> bool
+    ensures { result ≡ of_terms.is_literal term.now }
+{
+    match term {
+        Term::Iri(_) => false,
+        Term::Blank(_) => false,
+        Term::Literal(_) => true,
+    }
+}
+
+// The comparison of a variable with a constant, which comes `first` or second. One with an IRI asks for the term, in whichever order.
+fn constant_part<'e, V: View>(
+    expr: &'e Expr,
+    comparison: Comparison,
+    variable: usize,
+    term: &'e Term,
+    first: bool,
+    view: &V,
+) -> Part<'e>
+    requires { expr.now ≡ with_constant first comparison variable term.now }
+    ensures asked { asked result ≡ expr.now }
+    ensures number { IsNumbered (V.content view.now).known result }
+{
+    if is_literal(term) {
+        return Part::Against(AgainstConstant::new(expr, comparison, variable, term, first));
+    }
+    match comparison {
+        Comparison::Equal => has_part(expr, variable, term, false, view),
+        Comparison::NotEqual => has_part(expr, variable, term, true, view),
+        _ => Part::Other(expr),
+    }
+}
+
+// The comparison of two variables.
+fn variables_part<'e>(
+    expr: &'e Expr,
+    comparison: Comparison,
+    first: usize,
+    second: usize,
+) -> Part<'e>
+    requires { expr.now ≡ expr_of.Compare comparison (expr_of.Variable first) (expr_of.Variable second) }
+    ensures asked { asked result ≡ expr.now }
+    ensures number { numbers_of (result ∷ []) ≡ [] }
+{
+    let truth = match comparison {
+        Comparison::Equal => true,
+        Comparison::NotEqual => false,
+        _ => return Part::Other(expr),
+    };
+    Part::Alike(AreAlike {
+        expr,
+        first,
+        second,
+        truth,
+        exact: false,
+    })
+}
+
+// The part of a comparison.
+fn comparison_part<'e, V: View>(
+    expr: &'e Expr,
+    comparison: Comparison,
+    a: &'e Expr,
+    b: &'e Expr,
+    view: &V,
+) -> Part<'e>
+    requires { expr.now ≡ expr_of.Compare comparison a.now b.now }
+    ensures asked { asked result ≡ expr.now }
+    ensures number { IsNumbered (V.content view.now).known result }
+{
+    match (a, b) {
+        (Expr::Variable(variable), Expr::Term(term)) => {
+            constant_part(expr, comparison, *variable, term, false, view)
+        }
+        (Expr::Term(term), Expr::Variable(variable)) => {
+            constant_part(expr, comparison, *variable, term, true, view)
+        }
+        (Expr::Variable(first), Expr::Variable(second)) => {
+            variables_part(expr, comparison, *first, *second)
+        }
+        _ => Part::Other(expr),
+    }
+}
+
+// sameTerm of two variables.
+#[tactic(auto, using(crate::proofs::Said::same_term_alike, crate::proofs::Said::same_term_unlike))]
+fn same_variables<'e>(expr: &'e Expr, first: usize, second: usize) -> Part<'e>
+    requires { expr.now ≡ expr_of.Binary binary_function.SameTerm (expr_of.Variable first) (expr_of.Variable second) }
+    ensures asked { asked result ≡ expr.now }
+    ensures number { numbers_of (result ∷ []) ≡ [] }
+{
+    Part::Alike(AreAlike {
+        expr,
+        first,
+        second,
+        truth: true,
+        exact: true,
+    })
+}
+
+// The part of a sameTerm.
+#[tactic(auto, using(crate::proofs::Said::same_term_second, crate::proofs::Said::same_term_first))]
+fn same_term_part<'e, V: View>(expr: &'e Expr, a: &'e Expr, b: &'e Expr, view: &V) -> Part<'e>
+    requires { expr.now ≡ expr_of.Binary binary_function.SameTerm a.now b.now }
+    ensures asked { asked result ≡ expr.now }
+    ensures number { IsNumbered (V.content view.now).known result }
+{
+    match (a, b) {
+        (Expr::Variable(variable), Expr::Term(term)) => {
+            has_part(expr, *variable, term, false, view)
+        }
+        (Expr::Term(term), Expr::Variable(variable)) => {
+            has_part(expr, *variable, term, false, view)
+        }
+        (Expr::Variable(first), Expr::Variable(second)) => same_variables(expr, *first, *second),
+        _ => Part::Other(expr),
+    }
+}
+
+// The part of a condition that is no conjunction.
+fn part_of<'e, V: View>(expr: &'e Expr, view: &V) -> Part<'e>
+    ensures asked { asked result ≡ expr.now }
+    ensures number { IsNumbered (V.content view.now).known result }
+{
+    match expr {
+        Expr::Compare(comparison, a, b) => {
+            comparison_part(expr, *comparison, a.get(), b.get(), view)
+        }
+        Expr::Binary(BinaryFunction::SameTerm, a, b) => {
+            same_term_part(expr, a.get(), b.get(), view)
+        }
+        _ => Part::Other(expr),
+    }
+}
+
+/// Puts the parts of the condition after the others: those of each operand, where it is a conjunction.
+#[cycle(parts)]
+pub(crate) fn put_parts<'e, V: View>(
+    expr: &'e Expr,
+    view: &V,
+    parts: &mut Vec<Part<'e>>,
+) -> Result<(), AllocError>
+    ensures hold { OnOk result ((m : Solution) → all_hold m parts.new.items ≡ (all_hold m parts.old.items && spec.holds m expr.now)) }
+    ensures make { OnOk result (some_make parts.new.items ≡ (some_make parts.old.items || makes expr.now)) }
+    ensures numbers { OnOk result (AreNumbersOf (V.content view.now).known (numbers_of parts.old.items) → AreNumbersOf (V.content view.now).known (numbers_of parts.new.items)) }
+{
+    match expr {
+        Expr::And(conjuncts) => put_all(conjuncts.as_slice(), view, parts),
+        _ => {
+            parts.push(part_of(expr, view))?;
+            Ok(())
+        }
+    }
+}
+
+/// The same of each of the conditions.
+#[cycle(parts)]
+fn put_all<'e, V: View>(
+    exprs: &'e [Expr],
+    view: &V,
+    parts: &mut Vec<Part<'e>>,
+) -> Result<(), AllocError>
+    ensures hold { OnOk result ((m : Solution) → all_hold m parts.new.items ≡ (all_hold m parts.old.items && list_all (spec.holds m) exprs.now)) }
+    ensures make { OnOk result (some_make parts.new.items ≡ (some_make parts.old.items || list_any makes exprs.now)) }
+    ensures numbers { OnOk result (AreNumbersOf (V.content view.now).known (numbers_of parts.old.items) → AreNumbersOf (V.content view.now).known (numbers_of parts.new.items)) }
+{
+    for expr in exprs {
+        put_parts(expr, view, parts)?;
+    }
+    Ok(())
+}

@@ -1,0 +1,172 @@
+//! The scratch table.
+
+ghost use Rattle.std.specs.Prelude.{◌≡◌, ◌<◌, ◌++◌, ◌∷◌, [], length, slice_get, false, Some, IfOk, OnOk, OnErr};
+ghost use Rattle.std.specs.List.{list_any};
+ghost use Rattle.qs_terms.specs.Bag.{with_new};
+ghost use Rattle.qs_terms.specs.Term.{same_term};
+ghost use Rattle.qs_expr.specs.Cell.{denoted, FitsCell};
+ghost use Rattle.qs_expr.specs.inner.Places.{place_of};
+ghost use Rattle.qs_expr.specs.Scratch.{IsTable, Grows, with_term};
+
+use crate::cell::Cell;
+use qs_base::{Hashed, drop_value};
+use qs_store::View;
+use qs_terms::Term;
+use std::alloc::{AllocError, Global};
+use std::collections::BTreeMap;
+use std::marker::Model;
+
+/// Terms that the dictionary lacks, each once, in the order of their places. The table only grows. Terms are found by their hashes; a
+/// table whose hashes are all equal is searched in the order of terms.
+#[derive(Drop)]
+pub struct Scratch {
+    terms: Vec<Term>,
+    places: BTreeMap<Hashed<Term>, u64>,
+}
+
+impl Model for Scratch {
+    ghost use Rattle.std.specs.Prelude.{List};
+    ghost use Rattle.qs_terms.specs.declared.term.Term.{Term};
+
+    ghost Value = { List Term };
+
+    ghost use Rattle.qs_expr.specs.inner.Places.{IsIndexOf};
+
+    ghost view = { λ s. s.terms.items };
+
+    ghost invariant = { λ s. IsIndexOf s.places.entries s.terms.items };
+}
+
+impl Scratch {
+    /// A table of no terms, beside the dictionary of a view. It takes no memory.
+    #[tactic(auto, using(crate::proofs::Finding::starts, crate::proofs::Places::nothing_indexed))]
+    pub fn new<V: View>(alloc: Global, view: &V) -> Scratch
+        ensures empty { result ≡ [] }
+        ensures table { IsTable (V.content view.now).known result }
+    {
+        let _count = view.count();
+        Scratch {
+            terms: Vec::new(alloc),
+            places: BTreeMap::new(alloc),
+        }
+    }
+
+    /// The term at the place.
+    fn term(&self, place: u64) -> &Term
+        requires { place < length self.now }
+        ensures { slice_get self.now place ≡ Some result.now }
+    {
+        &self.terms.as_slice()[place as usize]
+    }
+
+    /// The term at the place, if there is one.
+    pub(crate) fn get(&self, place: u64) -> Option<&Term>
+        ensures { Rattle.std.specs.Option.option_copied result ≡ slice_get self.now place }
+    {
+        self.terms.as_slice().get(place as usize)
+    }
+
+    // Puts a new term at the end.
+    fn push(&mut self, key: Hashed<Term>) -> Result<u64, AllocError>
+        requires { list_any (same_term key) self.old ≡ false }
+        ensures terms { OnOk result (self.new ≡ self.old ++ key ∷ []) }
+        ensures place { IfOk result (λ k. k ≡ length self.old) }
+        ensures refused { OnErr result (self.new ≡ self.old) }
+    {
+        let place = self.terms.len() as u64;
+        let term = key.get().try_clone()?;
+        self.terms.push(term)?;
+        match self.places.insert(key, place) {
+            Ok(_) => Ok(place),
+            Err(_) => {
+                self.terms.pop();
+                Err(AllocError)
+            }
+        }
+    }
+
+    // The place of the term, if the table has it.
+    fn find(&self, key: &Hashed<Term>) -> Option<u64>
+        ensures { result ≡ place_of key.now self.now }
+    {
+        self.places.get(key).copied()
+    }
+
+    // The place of the term, which is put at the end where it is new.
+    pub(crate) fn place(&mut self, term: Term) -> Result<u64, AllocError>
+        ensures terms { OnOk result (self.new ≡ with_new same_term self.old term) }
+        ensures place { IfOk result (λ k. slice_get self.new k ≡ Some term) }
+        ensures refused { OnErr result (self.new ≡ self.old) }
+    {
+        let key = Hashed::new(term);
+        match self.find(&key) {
+            Some(place) => {
+                drop_value(key);
+                Ok(place)
+            }
+            None => {
+                let place = self.push(key)?;
+                Ok(place)
+            }
+        }
+    }
+}
+
+/// The term of a cell.
+pub fn term<'a, V: View>(cell: Cell, view: &'a V, scratch: &'a Scratch) -> &'a Term
+    requires { FitsCell (V.content view.now).known scratch.now cell }
+    ensures { denoted (V.content view.now).known scratch.now cell ≡ Some result.now }
+{
+    match cell {
+        Cell::Known(number) => view.term(number),
+        Cell::Scratch(place) => scratch.term(place),
+    }
+}
+
+/// The cell of the term. The table gets the term where neither the dictionary nor the table has it, and is else left alone.
+///
+/// # Errors
+/// Out of memory, which changes nothing.
+pub fn intern_owned<V: View>(
+    term: Term,
+    view: &V,
+    scratch: &mut Scratch,
+) -> Result<Cell, AllocError>
+    requires { IsTable (V.content view.now).known scratch.old }
+    ensures cell { IfOk result (λ c. denoted (V.content view.now).known scratch.new c ≡ Some term) }
+    ensures table { OnOk result (scratch.new ≡ with_term (V.content view.now).known scratch.old term) }
+    ensures grows { Grows (V.content view.now).known scratch.old scratch.new }
+    ensures refused { OnErr result (scratch.new ≡ scratch.old) }
+{
+    match view.find(&term) {
+        Some(number) => {
+            drop_value(term);
+            Ok(Cell::Known(number))
+        }
+        None => {
+            let place = scratch.place(term)?;
+            Ok(Cell::Scratch(place))
+        }
+    }
+}
+
+/// The cell of the term, as `intern_owned` answers it; a new term in the table has its texts in common with this one.
+///
+/// # Errors
+/// Out of memory, which changes nothing.
+pub fn intern<V: View>(term: &Term, view: &V, scratch: &mut Scratch) -> Result<Cell, AllocError>
+    requires { IsTable (V.content view.now).known scratch.old }
+    ensures cell { IfOk result (λ c. denoted (V.content view.now).known scratch.new c ≡ Some term.now) }
+    ensures table { OnOk result (scratch.new ≡ with_term (V.content view.now).known scratch.old term.now) }
+    ensures grows { Grows (V.content view.now).known scratch.old scratch.new }
+    ensures refused { OnErr result (scratch.new ≡ scratch.old) }
+{
+    match view.find(term) {
+        Some(number) => Ok(Cell::Known(number)),
+        None => {
+            let own = term.try_clone()?;
+            let place = scratch.place(own)?;
+            Ok(Cell::Scratch(place))
+        }
+    }
+}
