@@ -1,0 +1,6 @@
+use Rattle.std.proofs.Common.{◌≡◌, ◌++◌, map, take}
+use Rattle.qs_plan.specs.declared.stage.Stage.TheVariants.{Filter}
+use Rattle.qs_plan.proofs.lay.lay_filters.Given as goal
+
+abbrev pub invariant-loop-condition : goal.invariant-loop-condition
+invariant-loop-condition l = l.stages ≡ l.fn.laid.stages ++ map Filter (take l.condition-index l.conditions)

@@ -1,0 +1,4 @@
+pub mod Scans
+pub mod Stages
+pub mod Plans
+pub mod inner

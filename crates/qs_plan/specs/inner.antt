@@ -1,0 +1,6 @@
+-- What serves proofs alone: no promise of the product is read by it.
+pub mod Below
+pub mod Numbers
+pub mod Lays
+pub mod Sames
+pub mod Reads

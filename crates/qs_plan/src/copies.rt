@@ -1,0 +1,193 @@
+//! Copies of what a plan has from its pattern: expressions and tables.
+
+ghost use Rattle.std.specs.Prelude.{◌≡◌, IfOk};
+
+use qs_algebra_patterns::Table;
+use qs_base::{Shared, keep_beside};
+use qs_expr_meaning::{Addend, Expr};
+use qs_terms::Term;
+use sqlite_items::{Boxed, Items};
+use std::alloc::{AllocError, Global};
+
+/// An equal expression of its own.
+#[cycle(expr)]
+fn copied_expr(alloc: Global, expr: &Expr) -> Result<Expr, AllocError>
+    ensures { IfOk result (λ copy. copy ≡ expr.now) }
+{
+    match expr {
+        Expr::Variable(variable) => Ok(Expr::Variable(*variable)),
+        Expr::Term(term) => Ok(Expr::Term(term.try_clone()?)),
+        Expr::Or(parts) => Ok(Expr::Or(copied_parts(alloc, parts.as_slice())?)),
+        Expr::And(parts) => Ok(Expr::And(copied_parts(alloc, parts.as_slice())?)),
+        Expr::Compare(comparison, left, right) => {
+            let left = copied_box(alloc, left.get())?;
+            let (left, right) = keep_beside(left, copied_box(alloc, right.get()))?;
+            Ok(Expr::Compare(*comparison, left, right))
+        }
+        Expr::In(one, parts) => {
+            let one = copied_box(alloc, one.get())?;
+            let (one, parts) = keep_beside(one, copied_parts(alloc, parts.as_slice()))?;
+            Ok(Expr::In(one, parts))
+        }
+        Expr::NotIn(one, parts) => {
+            let one = copied_box(alloc, one.get())?;
+            let (one, parts) = keep_beside(one, copied_parts(alloc, parts.as_slice()))?;
+            Ok(Expr::NotIn(one, parts))
+        }
+        Expr::Sum(first, addends) => {
+            let first = copied_box(alloc, first.get())?;
+            let (first, addends) = keep_beside(first, copied_addends(alloc, addends.as_slice()))?;
+            Ok(Expr::Sum(first, addends))
+        }
+        Expr::Product(first, factors) => {
+            let first = copied_box(alloc, first.get())?;
+            let (first, factors) = keep_beside(first, copied_parts(alloc, factors.as_slice()))?;
+            Ok(Expr::Product(first, factors))
+        }
+        Expr::Not(part) => Ok(Expr::Not(copied_box(alloc, part.get())?)),
+        Expr::Signed(sign, part) => {
+            let part = copied_box(alloc, part.get())?;
+            Ok(Expr::Signed(*sign, part))
+        }
+        Expr::Bound(variable) => Ok(Expr::Bound(*variable)),
+        Expr::If(test, yes, no) => {
+            let test = copied_box(alloc, test.get())?;
+            let (test, yes) = keep_beside(test, copied_box(alloc, yes.get()))?;
+            let (two, no) = keep_beside((test, yes), copied_box(alloc, no.get()))?;
+            let (test, yes) = two;
+            Ok(Expr::If(test, yes, no))
+        }
+        Expr::Coalesce(parts) => Ok(Expr::Coalesce(copied_parts(alloc, parts.as_slice())?)),
+        Expr::Concat(parts) => Ok(Expr::Concat(copied_parts(alloc, parts.as_slice())?)),
+        Expr::Unary(function, part) => {
+            let part = copied_box(alloc, part.get())?;
+            Ok(Expr::Unary(*function, part))
+        }
+        Expr::Binary(function, left, right) => {
+            let left = copied_box(alloc, left.get())?;
+            let (left, right) = keep_beside(left, copied_box(alloc, right.get()))?;
+            Ok(Expr::Binary(*function, left, right))
+        }
+    }
+}
+
+#[cycle(expr)]
+fn copied_box(alloc: Global, expr: &Expr) -> Result<Boxed<Expr>, AllocError>
+    ensures { IfOk result (λ copy. copy ≡ expr.now) }
+{
+    let copy = copied_expr(alloc, expr)?;
+    Boxed::new(alloc, copy)
+}
+
+#[cycle(expr)]
+fn copied_parts(alloc: Global, parts: &[Expr]) -> Result<Items<Expr>, AllocError>
+    ensures { IfOk result (λ copies. copies ≡ parts.now) }
+{
+    let mut copies = Items::new(alloc);
+    for part in parts {
+        let copy = copied_expr(alloc, part)?;
+        copies.push(copy)?;
+    }
+    Ok(copies)
+}
+
+#[cycle(expr)]
+fn copied_addends(alloc: Global, addends: &[Addend]) -> Result<Items<Addend>, AllocError>
+    ensures { IfOk result (λ copies. copies ≡ addends.now) }
+{
+    let mut copies = Items::new(alloc);
+    for addend in addends {
+        let operand = copied_expr(alloc, &addend.operand)?;
+        copies.push(Addend {
+            sign: addend.sign,
+            operand,
+        })?;
+    }
+    Ok(copies)
+}
+
+fn copied_conditions(alloc: Global, conditions: &[Expr]) -> Result<Items<Expr>, AllocError>
+    ensures { IfOk result (λ copies. copies ≡ conditions.now) }
+{
+    let mut copies = Items::new(alloc);
+    for condition in conditions {
+        let copy = copied_expr(alloc, condition)?;
+        copies.push(copy)?;
+    }
+    Ok(copies)
+}
+
+/// An equal expression, to be shared.
+pub(crate) fn shared_expr(alloc: Global, expr: &Expr) -> Result<Shared<Expr>, AllocError>
+    ensures { IfOk result (λ copy. copy ≡ expr.now) }
+{
+    let copy = copied_expr(alloc, expr)?;
+    Shared::new(alloc, copy)
+}
+
+/// Equal conditions, to be shared.
+pub(crate) fn shared_conditions(
+    alloc: Global,
+    conditions: &[Expr],
+) -> Result<Shared<Items<Expr>>, AllocError>
+    ensures { IfOk result (λ copies. copies ≡ conditions.now) }
+{
+    let copies = copied_conditions(alloc, conditions)?;
+    Shared::new(alloc, copies)
+}
+
+fn copied_numbers(alloc: Global, numbers: &[usize]) -> Result<Items<usize>, AllocError>
+    ensures { IfOk result (λ copies. copies ≡ numbers.now) }
+{
+    Items::from_slice(alloc, numbers)
+}
+
+fn copied_cell(term: &Option<Term>) -> Result<Option<Term>, AllocError>
+    ensures { IfOk result (λ copy. copy ≡ term.now) }
+{
+    match term {
+        None => Ok(None),
+        Some(term) => Ok(Some(term.try_clone()?)),
+    }
+}
+
+fn copied_row(alloc: Global, row: &[Option<Term>]) -> Result<Items<Option<Term>>, AllocError>
+    ensures { IfOk result (λ copy. copy ≡ row.now) }
+{
+    let mut copy = Items::new(alloc);
+    for term in row {
+        let term = copied_cell(term)?;
+        copy.push(term)?;
+    }
+    Ok(copy)
+}
+
+fn copied_rows(
+    alloc: Global,
+    rows: &[Items<Option<Term>>],
+) -> Result<Items<Items<Option<Term>>>, AllocError>
+    ensures { IfOk result (λ copies. copies ≡ rows.now) }
+{
+    let mut copies = Items::new(alloc);
+    for row in rows {
+        let row = copied_row(alloc, row.as_slice())?;
+        copies.push(row)?;
+    }
+    Ok(copies)
+}
+
+/// An equal table, to be shared.
+pub(crate) fn shared_table(alloc: Global, table: &Table) -> Result<Shared<Table>, AllocError>
+    ensures { IfOk result (λ copy. copy ≡ table.now) }
+{
+    let copy = copied_table(alloc, table)?;
+    Shared::new(alloc, copy)
+}
+
+fn copied_table(alloc: Global, table: &Table) -> Result<Table, AllocError>
+    ensures { IfOk result (λ copy. copy ≡ table.now) }
+{
+    let variables = copied_numbers(alloc, table.variables.as_slice())?;
+    let rows = copied_rows(alloc, table.rows.as_slice())?;
+    Ok(Table { variables, rows })
+}

@@ -1,0 +1,442 @@
+//! Plans as text: a line a stage, indented by nesting. A variable is printed by its number, and an expression with its operator first.
+
+use crate::stage::{Group, Look, Plan, Stage};
+use qs_algebra_patterns::{PathPattern, Slot, Table, TriplePattern};
+use qs_expr_meaning::{Addend, BinaryFunction, Comparison, Expr, Sign, UnaryFunction};
+use qs_syntax_ast::path::{NegatedIri, Path};
+use qs_syntax_tree::path::Repetition;
+use qs_terms::{Lit, Term};
+use std::fmt;
+
+// ---- terms
+
+fn put_literal<W: fmt::Write>(f: &mut fmt::Formatter<W>, literal: &Lit) -> fmt::Result {
+    let form = literal.form();
+    if let Some(tag) = literal.tag() {
+        return write!(f, "\"{form}\"@{tag}");
+    }
+    if literal.is_string() {
+        return write!(f, "\"{form}\"");
+    }
+    let datatype = literal.datatype();
+    write!(f, "\"{form}\"^^<{datatype}>")
+}
+
+fn put_term<W: fmt::Write>(f: &mut fmt::Formatter<W>, term: &Term) -> fmt::Result {
+    match term {
+        Term::Iri(iri) => {
+            let text = iri.text();
+            write!(f, "<{text}>")
+        }
+        Term::Blank(number) => {
+            let number = *number;
+            write!(f, "_:{number}")
+        }
+        Term::Literal(literal) => put_literal(f, literal),
+    }
+}
+
+fn put_slot<W: fmt::Write>(f: &mut fmt::Formatter<W>, slot: &Slot) -> fmt::Result {
+    match slot {
+        Slot::Term(term) => put_term(f, term.get()),
+        Slot::Variable(variable) => {
+            let variable = *variable;
+            write!(f, "?{variable}")
+        }
+    }
+}
+
+fn put_look<W: fmt::Write>(f: &mut fmt::Formatter<W>, look: &Look) -> fmt::Result {
+    match look {
+        Look::Active => Ok(()),
+        Look::Named(name) => {
+            write!(f, " in ")?;
+            put_term(f, name.get())
+        }
+        Look::Register(register) => {
+            let register = *register;
+            write!(f, " in ?{register}")
+        }
+    }
+}
+
+// ---- paths
+
+fn put_members<W: fmt::Write>(f: &mut fmt::Formatter<W>, members: &[NegatedIri]) -> fmt::Result {
+    write!(f, "!(")?;
+    for member in members {
+        let text = member.iri.text();
+        if member.inverse {
+            write!(f, "^")?;
+        }
+        write!(f, "<{text}>|")?;
+    }
+    write!(f, ")")
+}
+
+fn repetition_sign(repetition: Repetition) -> char {
+    match repetition {
+        Repetition::ZeroOrOne => '?',
+        Repetition::ZeroOrMore => '*',
+        Repetition::OneOrMore => '+',
+    }
+}
+
+#[cycle(path)]
+fn put_path<W: fmt::Write>(f: &mut fmt::Formatter<W>, path: &Path) -> fmt::Result {
+    match path {
+        Path::Iri(iri) => {
+            let text = iri.text();
+            write!(f, "<{text}>")
+        }
+        Path::NegatedSet(members) => put_members(f, members.as_slice()),
+        Path::Alternative(parts) => put_paths(f, '|', parts.as_slice()),
+        Path::Sequence(parts) => put_paths(f, '/', parts.as_slice()),
+        Path::Inverse(inner) => {
+            write!(f, "^")?;
+            put_path(f, inner.get())
+        }
+        Path::Repeated(inner, repetition) => {
+            put_path(f, inner.get())?;
+            let sign = repetition_sign(*repetition);
+            write!(f, "{sign}")
+        }
+    }
+}
+
+#[cycle(path)]
+fn put_paths<W: fmt::Write>(f: &mut fmt::Formatter<W>, sign: char, parts: &[Path]) -> fmt::Result {
+    write!(f, "({sign}")?;
+    for part in parts {
+        write!(f, " ")?;
+        put_path(f, part)?;
+    }
+    write!(f, ")")
+}
+
+// ---- expressions
+
+fn comparison_word(comparison: Comparison) -> &'static str {
+    match comparison {
+        Comparison::Equal => "=",
+        Comparison::NotEqual => "!=",
+        Comparison::Less => "<",
+        Comparison::Greater => ">",
+        Comparison::LessOrEqual => "<=",
+        Comparison::GreaterOrEqual => ">=",
+    }
+}
+
+fn sign_word(sign: Sign) -> &'static str {
+    match sign {
+        Sign::Plus => "+",
+        Sign::Minus => "-",
+    }
+}
+
+fn unary_word(function: UnaryFunction) -> &'static str {
+    match function {
+        UnaryFunction::IsIri => "isIRI",
+        UnaryFunction::IsBlank => "isBlank",
+        UnaryFunction::IsLiteral => "isLiteral",
+        UnaryFunction::IsNumeric => "isNumeric",
+        UnaryFunction::Str => "str",
+        UnaryFunction::Lang => "lang",
+        UnaryFunction::Datatype => "datatype",
+        UnaryFunction::StrLen => "strlen",
+    }
+}
+
+fn binary_word(function: BinaryFunction) -> &'static str {
+    match function {
+        BinaryFunction::SameTerm => "sameTerm",
+        BinaryFunction::LangMatches => "langMatches",
+        BinaryFunction::Contains => "contains",
+        BinaryFunction::StrStarts => "strStarts",
+        BinaryFunction::StrEnds => "strEnds",
+    }
+}
+
+/// The beginning of an expression with this operator.
+fn open<W: fmt::Write>(f: &mut fmt::Formatter<W>, word: &str) -> fmt::Result {
+    write!(f, "({word} ")
+}
+
+#[cycle(expr)]
+fn put_expr<W: fmt::Write>(f: &mut fmt::Formatter<W>, expr: &Expr) -> fmt::Result {
+    match expr {
+        Expr::Variable(variable) => {
+            let variable = *variable;
+            write!(f, "?{variable}")
+        }
+        Expr::Term(term) => put_term(f, term),
+        Expr::Or(parts) => {
+            open(f, "||")?;
+            put_rest(f, parts.as_slice())
+        }
+        Expr::And(parts) => {
+            open(f, "&&")?;
+            put_rest(f, parts.as_slice())
+        }
+        Expr::Compare(comparison, left, right) => {
+            open(f, comparison_word(*comparison))?;
+            put_expr(f, left.get())?;
+            write!(f, " ")?;
+            put_expr(f, right.get())?;
+            write!(f, ")")
+        }
+        Expr::In(one, parts) => {
+            open(f, "in")?;
+            put_expr(f, one.get())?;
+            write!(f, " ")?;
+            put_rest(f, parts.as_slice())
+        }
+        Expr::NotIn(one, parts) => {
+            open(f, "not in")?;
+            put_expr(f, one.get())?;
+            write!(f, " ")?;
+            put_rest(f, parts.as_slice())
+        }
+        Expr::Sum(first, addends) => {
+            open(f, "sum")?;
+            put_expr(f, first.get())?;
+            put_addends(f, addends.as_slice())
+        }
+        Expr::Product(first, factors) => {
+            open(f, "*")?;
+            put_expr(f, first.get())?;
+            write!(f, " ")?;
+            put_rest(f, factors.as_slice())
+        }
+        Expr::Not(part) => {
+            open(f, "!")?;
+            put_expr(f, part.get())?;
+            write!(f, ")")
+        }
+        Expr::Signed(sign, part) => {
+            open(f, sign_word(*sign))?;
+            put_expr(f, part.get())?;
+            write!(f, ")")
+        }
+        Expr::Bound(variable) => {
+            let variable = *variable;
+            write!(f, "(bound ?{variable})")
+        }
+        Expr::If(test, yes, no) => {
+            open(f, "if")?;
+            put_expr(f, test.get())?;
+            write!(f, " ")?;
+            put_expr(f, yes.get())?;
+            write!(f, " ")?;
+            put_expr(f, no.get())?;
+            write!(f, ")")
+        }
+        Expr::Coalesce(parts) => {
+            open(f, "coalesce")?;
+            put_rest(f, parts.as_slice())
+        }
+        Expr::Concat(parts) => {
+            open(f, "concat")?;
+            put_rest(f, parts.as_slice())
+        }
+        Expr::Unary(function, part) => {
+            open(f, unary_word(*function))?;
+            put_expr(f, part.get())?;
+            write!(f, ")")
+        }
+        Expr::Binary(function, left, right) => {
+            open(f, binary_word(*function))?;
+            put_expr(f, left.get())?;
+            write!(f, " ")?;
+            put_expr(f, right.get())?;
+            write!(f, ")")
+        }
+    }
+}
+
+/// Operands with blanks between them, and the end of their expression.
+#[cycle(expr)]
+fn put_rest<W: fmt::Write>(f: &mut fmt::Formatter<W>, parts: &[Expr]) -> fmt::Result {
+    let mut is_first = true;
+    for part in parts {
+        if !is_first {
+            write!(f, " ")?;
+        }
+        put_expr(f, part)?;
+        is_first = false;
+    }
+    write!(f, ")")
+}
+
+#[cycle(expr)]
+fn put_addends<W: fmt::Write>(f: &mut fmt::Formatter<W>, addends: &[Addend]) -> fmt::Result {
+    for addend in addends {
+        let sign = sign_word(addend.sign);
+        write!(f, " {sign}")?;
+        put_expr(f, &addend.operand)?;
+    }
+    write!(f, ")")
+}
+
+fn put_conditions<W: fmt::Write>(f: &mut fmt::Formatter<W>, conditions: &[Expr]) -> fmt::Result {
+    for condition in conditions {
+        write!(f, " if ")?;
+        put_expr(f, condition)?;
+    }
+    Ok(())
+}
+
+// ---- stages
+
+fn put_triple<W: fmt::Write>(f: &mut fmt::Formatter<W>, pattern: &TriplePattern) -> fmt::Result {
+    write!(f, "triple ")?;
+    put_slot(f, &pattern.subject)?;
+    write!(f, " ")?;
+    put_slot(f, &pattern.predicate)?;
+    write!(f, " ")?;
+    put_slot(f, &pattern.object)
+}
+
+fn put_path_pattern<W: fmt::Write>(
+    f: &mut fmt::Formatter<W>,
+    pattern: &PathPattern,
+) -> fmt::Result {
+    write!(f, "path ")?;
+    put_slot(f, &pattern.subject)?;
+    write!(f, " ")?;
+    put_path(f, pattern.path.get())?;
+    write!(f, " ")?;
+    put_slot(f, &pattern.object)
+}
+
+fn put_table<W: fmt::Write>(f: &mut fmt::Formatter<W>, table: &Table) -> fmt::Result {
+    write!(f, "values")?;
+    for at in 0..table.variables.len() {
+        let variable = table.variables.as_slice()[at];
+        write!(f, " ?{variable}")?;
+    }
+    let rows = table.rows.len();
+    write!(f, ", rows: {rows}")
+}
+
+fn put_register<W: fmt::Write>(
+    f: &mut fmt::Formatter<W>,
+    word: &str,
+    register: Option<usize>,
+) -> fmt::Result {
+    match register {
+        None => write!(f, "{word}"),
+        Some(register) => write!(f, "{word} of ?{register}"),
+    }
+}
+
+fn put_indent<W: fmt::Write>(f: &mut fmt::Formatter<W>, depth: usize) -> fmt::Result {
+    for _ in 0..depth {
+        write!(f, "  ")?;
+    }
+    Ok(())
+}
+
+#[cycle(stages)]
+fn put_stages<W: fmt::Write>(
+    f: &mut fmt::Formatter<W>,
+    stages: &[Stage],
+    depth: usize,
+) -> fmt::Result {
+    for stage in stages {
+        put_indent(f, depth)?;
+        put_stage(f, stage, depth)?;
+    }
+    Ok(())
+}
+
+#[cycle(stages)]
+fn put_stage<W: fmt::Write>(f: &mut fmt::Formatter<W>, stage: &Stage, depth: usize) -> fmt::Result {
+    let inner = depth.saturating_add(1);
+    match stage {
+        Stage::Triple(look, pattern) => {
+            put_triple(f, pattern)?;
+            put_look(f, look)?;
+            writeln!(f)
+        }
+        Stage::Path(look, pattern) => {
+            put_path_pattern(f, pattern)?;
+            put_look(f, look)?;
+            writeln!(f)
+        }
+        Stage::Exists(name) => {
+            write!(f, "exists ")?;
+            put_term(f, name.get())?;
+            writeln!(f)
+        }
+        Stage::Names(register) => {
+            let register = *register;
+            writeln!(f, "names ?{register}")
+        }
+        Stage::Name(variable, register) => {
+            let variable = *variable;
+            let register = *register;
+            writeln!(f, "name ?{variable} = ?{register}")
+        }
+        Stage::Filter(condition) => {
+            write!(f, "filter ")?;
+            put_expr(f, condition.get())?;
+            writeln!(f)
+        }
+        Stage::Bind(variable, expr) => {
+            let variable = *variable;
+            write!(f, "bind ?{variable} = ")?;
+            put_expr(f, expr.get())?;
+            writeln!(f)
+        }
+        Stage::Values(table) => {
+            put_table(f, table.get())?;
+            writeln!(f)
+        }
+        Stage::Union(branches) => {
+            writeln!(f, "union")?;
+            put_branches(f, branches.as_slice(), inner)
+        }
+        Stage::Optional(register, group, conditions) => {
+            put_register(f, "optional", *register)?;
+            put_conditions(f, conditions.get().as_slice())?;
+            writeln!(f)?;
+            put_group(f, group, inner)
+        }
+        Stage::Minus(register, group) => {
+            put_register(f, "minus", *register)?;
+            writeln!(f)?;
+            put_group(f, group, inner)
+        }
+        Stage::Apart(register, group) => {
+            put_register(f, "join", *register)?;
+            writeln!(f)?;
+            put_group(f, group, inner)
+        }
+    }
+}
+
+#[cycle(stages)]
+fn put_group<W: fmt::Write>(f: &mut fmt::Formatter<W>, group: &Group, depth: usize) -> fmt::Result {
+    put_stages(f, group.stages.as_slice(), depth)
+}
+
+#[cycle(stages)]
+fn put_branches<W: fmt::Write>(
+    f: &mut fmt::Formatter<W>,
+    branches: &[Group],
+    depth: usize,
+) -> fmt::Result {
+    for branch in branches {
+        put_indent(f, depth)?;
+        writeln!(f, "branch")?;
+        put_group(f, branch, depth.saturating_add(1))?;
+    }
+    Ok(())
+}
+
+impl fmt::Display for Plan {
+    fn fmt<W: fmt::Write>(&self, f: &mut fmt::Formatter<W>) -> fmt::Result {
+        put_stages(f, self.stages.as_slice(), 0)
+    }
+}

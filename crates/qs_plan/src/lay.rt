@@ -1,0 +1,339 @@
+//! The text's order: the stages of a pattern (SPARQL 1.1 Query, 18.5), as they stand in its text.
+
+ghost use Rattle.std.specs.Prelude.{◌≡◌, ◌≤◌, true, false, [], ◌∷◌, ◌++◌, map, IfOk};
+ghost use Rattle.std.specs.List.{AllByRecursion};
+ghost use Rattle.qs_algebra_patterns.specs.declared.pattern.PatternNode.TheVariants as pattern;
+ghost use Rattle.qs_plan.specs.declared.stage.Look as places;
+ghost use Rattle.qs_plan.specs.declared.stage.Stage.TheVariants as stage;
+ghost use Rattle.qs_plan.specs.inner.Lays.{Lays, LaysStep, Within, IsJoin, all_kept, all_stepped, joined_with};
+
+use crate::copies::{shared_expr, shared_table};
+use crate::laid::{Laid, alone, apart, bind, if_exists, in_each, look_named, minus, optional};
+use crate::run::{lay_run, room_after};
+use crate::stage::{Group, Look, Stage};
+use qs_algebra_patterns::{PatternNode, Step, Table};
+use qs_expr_meaning::Expr;
+use qs_terms::Term;
+use sqlite_items::Items;
+use std::alloc::{AllocError, Global};
+
+/// Whether the pattern holds triples, paths and VALUES alone.
+#[cycle(plain)]
+fn is_plain(part: &PatternNode) -> bool {
+    match part {
+        PatternNode::Basic(_) => true,
+        PatternNode::Values(_) => true,
+        PatternNode::Group(steps, conditions) => {
+            conditions.is_empty() && are_plain_steps(steps.as_slice())
+        }
+        PatternNode::Union(parts) => are_plain(parts.as_slice()),
+        PatternNode::Graph(_, part) => is_plain(part.get()),
+        PatternNode::EachGraph(_, part) => is_plain(part.get()),
+    }
+}
+
+#[cycle(plain)]
+fn are_plain(parts: &[PatternNode]) -> bool {
+    for part in parts {
+        if !is_plain(part) {
+            return false;
+        }
+    }
+    true
+}
+
+#[cycle(plain)]
+fn are_plain_steps(steps: &[Step]) -> bool {
+    for one in steps {
+        if !is_plain_step(one) {
+            return false;
+        }
+    }
+    true
+}
+
+#[cycle(plain)]
+fn is_plain_step(one: &Step) -> bool {
+    match one {
+        Step::Join(part) => is_plain(part),
+        _ => false,
+    }
+}
+
+/// Whether the step joins a pattern.
+fn is_join(one: &Step) -> bool
+    ensures { result ≡ true → IsJoin one.now }
+{
+    match one {
+        Step::Join(_) => true,
+        _ => false,
+    }
+}
+
+/// Whether each of the steps joins a pattern.
+fn are_joins(steps: &[Step]) -> bool
+    ensures { result ≡ true → AllByRecursion IsJoin steps.now }
+{
+    for one in steps {
+        if !is_join(one) {
+            return false;
+        }
+    }
+    true
+}
+
+/// Whether there are no conditions.
+fn are_none(conditions: &[Expr]) -> bool
+    ensures { result ≡ true → conditions.now ≡ [] }
+{
+    conditions.is_empty()
+}
+
+/// Whether rows stand before the stages that come next as they stood before the first.
+fn is_start(first: bool, stages: &Items<Stage>) -> bool
+    ensures { result ≡ true → (first ≡ true) × (stages.now ≡ []) }
+{
+    first && stages.is_empty()
+}
+
+/// The stage of a table of VALUES.
+fn lay_values(alloc: Global, table: &Table, from: usize) -> Result<Laid, AllocError>
+    ensures { IfOk result (λ l. (l.stages ≡ stage.Values table.now ∷ []) × (l.next ≡ from)) }
+{
+    let table = shared_table(alloc, table)?;
+    alone(alloc, Stage::Values(table), from)
+}
+
+/// The stages, and after them a filter for each condition.
+fn lay_filters(alloc: Global, conditions: &[Expr], laid: Laid) -> Result<Laid, AllocError>
+    ensures { IfOk result (λ l. (l.stages ≡ laid.stages ++ map stage.Filter conditions.now) × (l.next ≡ laid.next)) }
+{
+    let Laid { mut stages, next } = laid;
+    for condition in conditions {
+        let condition = shared_expr(alloc, condition)?;
+        stages.push(Stage::Filter(condition))?;
+    }
+    Ok(Laid { stages, next })
+}
+
+/// The stages of a pattern, which looks in this graph and has the hidden cells from `from` on, for rows that are joined with its solutions.
+/// Where it comes first, the rows bind no named variable. All is in line that a row may be put into before: runs, tables, and groups, unions
+/// and named graphs of them; each other part that doesn't come first is evaluated by itself.
+#[cycle(lay)]
+pub fn lay(
+    alloc: Global,
+    width: usize,
+    part: &PatternNode,
+    look: &Look,
+    from: usize,
+    first: bool,
+) -> Result<Laid, AllocError>
+    requires named { width ≤ from }
+    requires within { Within width from look.now }
+    ensures { IfOk result (λ l. Lays first width look.now from l.next l.stages (joined_with width part.now)) }
+{
+    match part {
+        PatternNode::Basic(basic) => {
+            let laid = lay_run(alloc, width, basic, look, from)?;
+            Ok(laid)
+        }
+        PatternNode::Group(steps, conditions) => {
+            let laid = lay_group(
+                alloc,
+                width,
+                steps.as_slice(),
+                conditions.as_slice(),
+                look,
+                from,
+                first,
+            )?;
+            Ok(laid)
+        }
+        PatternNode::Union(parts) => {
+            let laid = lay_union(alloc, width, parts.as_slice(), look, from, first)?;
+            Ok(laid)
+        }
+        PatternNode::Graph(name, part) => {
+            let laid = lay_graph(alloc, width, name, part.get(), from, first)?;
+            Ok(laid)
+        }
+        PatternNode::EachGraph(variable, part) => {
+            let laid = lay_each(alloc, width, *variable, part.get(), look, from, first)?;
+            Ok(laid)
+        }
+        PatternNode::Values(table) => {
+            let laid = lay_values(alloc, table, from)?;
+            Ok(laid)
+        }
+    }
+}
+
+/// The stages of a group: in line where it comes first, or where it only joins.
+#[cycle(lay)]
+fn lay_group(
+    alloc: Global,
+    width: usize,
+    steps: &[Step],
+    conditions: &[Expr],
+    look: &Look,
+    from: usize,
+    first: bool,
+) -> Result<Laid, AllocError>
+    requires named { width ≤ from }
+    requires within { Within width from look.now }
+    ensures { IfOk result (λ l. Lays first width look.now from l.next l.stages (joined_with width (pattern.Group steps.now conditions.now))) }
+{
+    if !first && are_none(conditions) && are_joins(steps) {
+        let laid = lay_steps(alloc, width, steps, look, from, false)?;
+        return Ok(laid);
+    }
+    let laid = lay_steps(alloc, width, steps, look, from, true)?;
+    let laid = lay_filters(alloc, conditions, laid)?;
+    if first {
+        return Ok(laid);
+    }
+    let laid = apart(alloc, look, laid)?;
+    Ok(laid)
+}
+
+/// The stages of the steps of a group.
+#[cycle(lay)]
+fn lay_steps(
+    alloc: Global,
+    width: usize,
+    steps: &[Step],
+    look: &Look,
+    from: usize,
+    first: bool,
+) -> Result<Laid, AllocError>
+    requires named { width ≤ from }
+    requires within { Within width from look.now }
+    ensures { IfOk result (λ l. Lays first width look.now from l.next l.stages (all_stepped width steps.now)) }
+{
+    let mut stages = Items::new(alloc);
+    let mut next = from;
+    for one in steps {
+        let second = is_start(first, &stages);
+        let laid = lay_step(alloc, width, one, look, next, second)?;
+        let Laid {
+            stages: more,
+            next: end,
+        } = laid;
+        stages.append(more)?;
+        next = end;
+    }
+    Ok(Laid { stages, next })
+}
+
+/// The stages of a step of a group. What is optional, or taken away, is evaluated by itself.
+#[cycle(lay)]
+fn lay_step(
+    alloc: Global,
+    width: usize,
+    one: &Step,
+    look: &Look,
+    from: usize,
+    first: bool,
+) -> Result<Laid, AllocError>
+    requires named { width ≤ from }
+    requires within { Within width from look.now }
+    ensures { IfOk result (λ l. LaysStep first width look.now from l.next l.stages one.now) }
+{
+    match one {
+        Step::Join(part) => {
+            let laid = lay(alloc, width, part, look, from, first)?;
+            Ok(laid)
+        }
+        Step::LeftJoin(part, conditions) => {
+            let laid = lay(alloc, width, part, look, from, true)?;
+            let laid = optional(alloc, look, conditions.as_slice(), laid)?;
+            Ok(laid)
+        }
+        Step::Minus(part) => {
+            let laid = lay(alloc, width, part, look, from, true)?;
+            let laid = minus(alloc, look, laid)?;
+            Ok(laid)
+        }
+        Step::Extend(variable, expr) => {
+            let laid = bind(alloc, *variable, expr, from)?;
+            Ok(laid)
+        }
+    }
+}
+
+/// The stage of a union, whose branches begin with the same row.
+#[cycle(lay)]
+fn lay_union(
+    alloc: Global,
+    width: usize,
+    parts: &[PatternNode],
+    look: &Look,
+    from: usize,
+    first: bool,
+) -> Result<Laid, AllocError>
+    requires named { width ≤ from }
+    requires within { Within width from look.now }
+    ensures { IfOk result (λ l. Lays first width look.now from l.next l.stages (joined_with width (pattern.Union parts.now))) }
+{
+    let mut branches = Items::new(alloc);
+    let mut next = from;
+    for part in parts {
+        let laid = lay(alloc, width, part, look, next, first)?;
+        let Laid { stages, next: end } = laid;
+        branches.push(Group { stages })?;
+        next = end;
+    }
+    let laid = alone(alloc, Stage::Union(branches), next)?;
+    Ok(laid)
+}
+
+/// The stages of a pattern in the graph of this name: none goes on where there is no such graph.
+#[cycle(lay)]
+fn lay_graph(
+    alloc: Global,
+    width: usize,
+    name: &Term,
+    part: &PatternNode,
+    from: usize,
+    first: bool,
+) -> Result<Laid, AllocError>
+    requires { width ≤ from }
+    ensures { IfOk result (λ l. (place : places.Look) → Lays first width place from l.next l.stages (joined_with width (pattern.Graph name.now part.now))) }
+{
+    let look = look_named(alloc, name)?;
+    let laid = lay(alloc, width, part, &look, from, first)?;
+    let laid = if_exists(alloc, name, laid)?;
+    Ok(laid)
+}
+
+/// The stages of a pattern in each named graph: in line where it comes first, or where all of it is plain. The variable is joined with the
+/// name behind all others, so that no part of the pattern sees it.
+#[cycle(lay)]
+fn lay_each(
+    alloc: Global,
+    width: usize,
+    variable: usize,
+    part: &PatternNode,
+    look: &Look,
+    from: usize,
+    first: bool,
+) -> Result<Laid, AllocError>
+    requires named { width ≤ from }
+    requires within { Within width from look.now }
+    ensures { IfOk result (λ l. Lays first width look.now from l.next l.stages (joined_with width (pattern.EachGraph variable part.now))) }
+{
+    let next = room_after(from, 1)?;
+    let register = Look::Register(from);
+    if !first && is_plain(part) {
+        let laid = lay(alloc, width, part, &register, next, false)?;
+        let laid = in_each(alloc, variable, from, laid)?;
+        return Ok(laid);
+    }
+    let laid = lay(alloc, width, part, &register, next, true)?;
+    let laid = in_each(alloc, variable, from, laid)?;
+    if first {
+        return Ok(laid);
+    }
+    let laid = apart(alloc, look, laid)?;
+    Ok(laid)
+}

@@ -1,0 +1,18 @@
+//! Plans: what a pattern of the algebra asks, as a list of stages that each make rows of one row. A plan is data, and has the solutions of
+//! its pattern over each dataset.
+#![tactic(auto)]
+
+mod copies;
+mod display;
+mod filters;
+mod laid;
+mod lay;
+mod order;
+mod planner;
+mod run;
+mod stage;
+
+pub use filters::filter_order;
+pub use order::run_order;
+pub use planner::{plan, text_order};
+pub use stage::{Group, Look, Plan, Stage, drop_plan};

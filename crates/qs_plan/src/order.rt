@@ -1,0 +1,431 @@
+//! The order of runs: which triple or path comes next.
+
+ghost use Rattle.std.specs.Prelude.{◌≡◌, ◌≢◌, ◌<◌, ◌≤◌, true, [], ◌∷◌, ◌++◌, length, slice_get, remove, Some, IfOk, OnOk, MatchOption};
+ghost use Rattle.std.specs.List.{AllByRecursion};
+ghost use Rattle.qs_plan.specs.declared.stage.Stage.TheVariants as stage;
+ghost use Rattle.qs_plan.specs.Plans.{SamePlan};
+ghost use Rattle.qs_plan.specs.inner.Lays.{register_of};
+ghost use Rattle.qs_plan.specs.inner.Sames.{IsScan, Misses, SameStages};
+
+use crate::stage::{Group, Look, Plan, Stage};
+use qs_algebra_patterns::{PathPattern, Slot, TriplePattern};
+use sqlite_items::Items;
+use std::alloc::{AllocError, Global};
+
+// ---- which variables are bound
+
+/// Whether the variable is flagged.
+fn is_known(known: &[bool], variable: usize) -> bool {
+    match known.get(variable) {
+        Some(flag) => *flag,
+        None => false,
+    }
+}
+
+/// Flags the variable, if it is one of them.
+fn mark(known: &mut Vec<bool>, variable: usize) {
+    if let Some(flag) = known.get_mut(variable) {
+        *flag = true;
+    }
+}
+
+fn mark_slot(known: &mut Vec<bool>, slot: &Slot) {
+    match slot {
+        Slot::Term(_) => {}
+        Slot::Variable(variable) => mark(known, *variable),
+    }
+}
+
+fn mark_all(known: &mut Vec<bool>, variables: &[usize]) {
+    for at in 0..variables.len() {
+        mark(known, variables[at]);
+    }
+}
+
+/// Flags the variables that the stage binds, if it holds no groups.
+fn mark_stage(known: &mut Vec<bool>, stage: &Stage) {
+    match stage {
+        Stage::Triple(_, pattern) => {
+            mark_slot(known, &pattern.subject);
+            mark_slot(known, &pattern.predicate);
+            mark_slot(known, &pattern.object);
+        }
+        Stage::Path(_, pattern) => {
+            mark_slot(known, &pattern.subject);
+            mark_slot(known, &pattern.object);
+        }
+        Stage::Name(variable, _) => mark(known, *variable),
+        Stage::Bind(variable, _) => mark(known, *variable),
+        Stage::Values(table) => mark_all(known, table.get().variables.as_slice()),
+        _ => {}
+    }
+}
+
+/// As many flags, none set.
+fn no_flags(alloc: Global, count: usize) -> Result<Vec<bool>, AllocError> {
+    let mut flags = Vec::new(alloc);
+    for _ in 0..count {
+        flags.push(false)?;
+    }
+    Ok(flags)
+}
+
+/// As many flags, all set.
+fn all_flags(alloc: Global, count: usize) -> Result<Vec<bool>, AllocError> {
+    let mut flags = Vec::new(alloc);
+    for _ in 0..count {
+        flags.push(true)?;
+    }
+    Ok(flags)
+}
+
+/// Flags those that the others flag too.
+fn add_flags(known: &mut Vec<bool>, others: &[bool]) {
+    for at in 0..others.len() {
+        if others[at] {
+            mark(known, at);
+        }
+    }
+}
+
+/// Leaves those that the others flag too.
+fn keep_flags(known: &mut Vec<bool>, others: &[bool]) {
+    for at in 0..known.len() {
+        if !is_known(others, at) {
+            known[at] = false;
+        }
+    }
+}
+
+/// One, where the slot's term is fixed or its variable bound before.
+fn fixed_slot(known: &[bool], slot: &Slot) -> usize
+    ensures { result ≤ 1 }
+{
+    let is_fixed = match slot {
+        Slot::Term(_) => true,
+        Slot::Variable(variable) => is_known(known, *variable),
+    };
+    if is_fixed { 1 } else { 0 }
+}
+
+/// How many places of a triple or a path are fixed by terms or by variables bound before. The predicate of a path is.
+fn fixed_places(known: &[bool], stage: &Stage) -> usize {
+    match stage {
+        Stage::Triple(_, pattern) => {
+            let subject = fixed_slot(known, &pattern.subject);
+            let predicate = fixed_slot(known, &pattern.predicate);
+            let object = fixed_slot(known, &pattern.object);
+            subject + predicate + object
+        }
+        Stage::Path(_, pattern) => {
+            let subject = fixed_slot(known, &pattern.subject);
+            let object = fixed_slot(known, &pattern.object);
+            subject + 1 + object
+        }
+        _ => 0,
+    }
+}
+
+// ---- which stages may be exchanged
+
+/// Whether the slot isn't the variable that is the register.
+fn misses(slot: &Slot, register: Option<usize>) -> bool
+    ensures { result ≡ true → Misses register slot.now }
+{
+    match register {
+        None => true,
+        Some(register) => match slot {
+            Slot::Term(_) => true,
+            Slot::Variable(variable) => *variable != register,
+        },
+    }
+}
+
+pub(crate) fn triple_misses(pattern: &TriplePattern, register: Option<usize>) -> bool
+    ensures { result ≡ true → Misses register pattern.now.subject × (Misses register pattern.now.predicate × Misses register pattern.now.object) }
+{
+    misses(&pattern.subject, register)
+        && misses(&pattern.predicate, register)
+        && misses(&pattern.object, register)
+}
+
+pub(crate) fn path_misses(pattern: &PathPattern, register: Option<usize>) -> bool
+    ensures { result ≡ true → Misses register pattern.now.subject × Misses register pattern.now.object }
+{
+    misses(&pattern.subject, register) && misses(&pattern.object, register)
+}
+
+/// Whether it looks in this register, or in none where there is none.
+fn looks_in(look: &Look, register: Option<usize>) -> bool
+    ensures { result ≡ true → register_of look.now ≡ register }
+{
+    match (look.register(), register) {
+        (None, None) => true,
+        (Some(one), Some(other)) => one == other,
+        _ => false,
+    }
+}
+
+/// Whether the stage is a triple or a path that looks in this register, or in none where there is none, and doesn't bind it.
+fn is_scan(stage: &Stage, register: Option<usize>) -> bool
+    ensures { result ≡ true → IsScan register stage.now }
+{
+    match stage {
+        Stage::Triple(look, pattern) => {
+            looks_in(look, register) && triple_misses(pattern, register)
+        }
+        Stage::Path(look, pattern) => looks_in(look, register) && path_misses(pattern, register),
+        _ => false,
+    }
+}
+
+/// The register in which the stage looks, if it does in one.
+fn register_in(stage: &Stage) -> Option<usize> {
+    match stage {
+        Stage::Triple(look, _) => look.register(),
+        Stage::Path(look, _) => look.register(),
+        _ => None,
+    }
+}
+
+// ---- the order
+
+/// The place of the stage with most places fixed; of several, the first.
+fn best_of(stages: &[Stage], known: &[bool]) -> Option<usize>
+    ensures { MatchOption result (stages.now ≡ []) (λ best. best < length stages.now) }
+{
+    if stages.is_empty() {
+        return None;
+    }
+    let mut best = 0;
+    let mut most = 0;
+    for at in 0..stages.len() {
+        let places = fixed_places(known, &stages[at]);
+        if most < places {
+            most = places;
+            best = at;
+        }
+    }
+    Some(best)
+}
+
+/// Puts the scans behind those that are done, one with most places fixed after another.
+fn put_run(
+    register: Option<usize>,
+    run: &mut Items<Stage>,
+    known: &mut Vec<bool>,
+    done: &mut Items<Stage>,
+) -> Result<(), AllocError>
+    requires { AllByRecursion (IsScan register) run.old }
+    ensures { OnOk result ((run.new ≡ []) × SameStages done.new (done.old ++ run.old)) }
+{
+    'put: while let Some(best) = best_of(run.as_slice(), known.as_slice()) {
+        let stage = run.remove(best);
+        mark_stage(known, &stage);
+        done.push(stage)?;
+    }
+    Ok(())
+}
+
+/// Ends the run where the stage isn't one of it, and tells in which register the next one looks.
+fn begin_run(
+    register: Option<usize>,
+    stage: &Stage,
+    run: &mut Items<Stage>,
+    known: &mut Vec<bool>,
+    done: &mut Items<Stage>,
+) -> Result<Option<usize>, AllocError>
+    requires { AllByRecursion (IsScan register) run.old }
+    ensures { IfOk result (λ r. AllByRecursion (IsScan r) run.new × SameStages (done.new ++ run.new) (done.old ++ run.old)) }
+{
+    if is_scan(stage, register) {
+        return Ok(register);
+    }
+    put_run(register, run, known, done)?;
+    Ok(register_in(stage))
+}
+
+/// Puts the stage into the run, or behind those that are done.
+fn put_next(
+    register: Option<usize>,
+    stage: Stage,
+    run: &mut Items<Stage>,
+    known: &mut Vec<bool>,
+    done: &mut Items<Stage>,
+) -> Result<(), AllocError>
+    requires { AllByRecursion (IsScan register) run.old }
+    ensures { OnOk result (AllByRecursion (IsScan register) run.new × SameStages (done.new ++ run.new) ((done.old ++ run.old) ++ stage ∷ [])) }
+{
+    if is_scan(&stage, register) {
+        run.push(stage)?;
+        return Ok(());
+    }
+    put_run(register, run, known, done)?;
+    mark_stage(known, &stage);
+    done.push(stage)?;
+    Ok(())
+}
+
+// ---- groups
+
+fn copied_slot(slot: &Slot) -> Result<Slot, AllocError>
+    ensures { IfOk result (λ s. s ≡ slot.now) }
+{
+    match slot {
+        Slot::Term(term) => Ok(Slot::Term(term.share()?)),
+        Slot::Variable(variable) => Ok(Slot::Variable(*variable)),
+    }
+}
+
+pub(crate) fn copied_triple(pattern: &TriplePattern) -> Result<TriplePattern, AllocError>
+    ensures { IfOk result (λ p. p ≡ pattern.now) }
+{
+    let subject = copied_slot(&pattern.subject)?;
+    let predicate = copied_slot(&pattern.predicate)?;
+    let object = copied_slot(&pattern.object)?;
+    Ok(TriplePattern {
+        subject,
+        predicate,
+        object,
+    })
+}
+
+pub(crate) fn copied_path(pattern: &PathPattern) -> Result<PathPattern, AllocError>
+    ensures { IfOk result (λ p. p ≡ pattern.now) }
+{
+    let subject = copied_slot(&pattern.subject)?;
+    let path = pattern.path.share()?;
+    let object = copied_slot(&pattern.object)?;
+    Ok(PathPattern {
+        subject,
+        path,
+        object,
+    })
+}
+
+/// The stages with the scans of each run in their order. The flags tell which variables are bound before, and afterwards which are bound
+/// behind them.
+#[cycle(ordered)]
+fn ordered_stages(
+    alloc: Global,
+    stages: &[Stage],
+    known: &mut Vec<bool>,
+) -> Result<Items<Stage>, AllocError>
+    ensures { IfOk result (λ ss. SameStages ss stages.now) }
+{
+    let mut done = Items::new(alloc);
+    let mut run = Items::new(alloc);
+    let mut register = None;
+    for stage in stages {
+        register = begin_run(register, stage, &mut run, known, &mut done)?;
+        let one = ordered_stage(alloc, stage, known)?;
+        put_next(register, one, &mut run, known, &mut done)?;
+    }
+    put_run(register, &mut run, known, &mut done)?;
+    Ok(done)
+}
+
+/// The stage, with its groups in their order.
+#[cycle(ordered)]
+fn ordered_stage(alloc: Global, stage: &Stage, known: &mut Vec<bool>) -> Result<Stage, AllocError>
+    ensures { IfOk result (λ s. SameStages (s ∷ []) (stage.now ∷ [])) }
+{
+    match stage {
+        Stage::Triple(look, pattern) => {
+            let pattern = copied_triple(pattern)?;
+            let look = look.try_clone()?;
+            Ok(Stage::Triple(look, pattern))
+        }
+        Stage::Path(look, pattern) => {
+            let pattern = copied_path(pattern)?;
+            let look = look.try_clone()?;
+            Ok(Stage::Path(look, pattern))
+        }
+        Stage::Exists(name) => {
+            let name = name.share()?;
+            Ok(Stage::Exists(name))
+        }
+        Stage::Names(register) => Ok(Stage::Names(*register)),
+        Stage::Name(variable, register) => Ok(Stage::Name(*variable, *register)),
+        Stage::Filter(condition) => {
+            let condition = condition.share()?;
+            Ok(Stage::Filter(condition))
+        }
+        Stage::Bind(variable, expr) => {
+            let expr = expr.share()?;
+            Ok(Stage::Bind(*variable, expr))
+        }
+        Stage::Values(table) => {
+            let table = table.share()?;
+            Ok(Stage::Values(table))
+        }
+        Stage::Union(branches) => {
+            let branches = ordered_branches(alloc, branches.as_slice(), known)?;
+            Ok(Stage::Union(branches))
+        }
+        Stage::Optional(register, group, conditions) => {
+            let conditions = conditions.share()?;
+            let mut own = no_flags(alloc, known.len())?;
+            let group = ordered_group(alloc, group, &mut own)?;
+            Ok(Stage::Optional(*register, group, conditions))
+        }
+        Stage::Minus(register, group) => {
+            let mut own = no_flags(alloc, known.len())?;
+            let group = ordered_group(alloc, group, &mut own)?;
+            Ok(Stage::Minus(*register, group))
+        }
+        Stage::Apart(register, group) => {
+            let mut own = no_flags(alloc, known.len())?;
+            let group = ordered_group(alloc, group, &mut own)?;
+            add_flags(known, own.as_slice());
+            Ok(Stage::Apart(*register, group))
+        }
+    }
+}
+
+#[cycle(ordered)]
+fn ordered_group(alloc: Global, group: &Group, known: &mut Vec<bool>) -> Result<Group, AllocError>
+    ensures { IfOk result (λ g. SameStages g.stages group.now.stages) }
+{
+    let stages = ordered_stages(alloc, group.stages.as_slice(), known)?;
+    Ok(Group { stages })
+}
+
+/// The branches, each in its order. What each of them binds is bound behind them.
+#[cycle(ordered)]
+fn ordered_branches(
+    alloc: Global,
+    branches: &[Group],
+    known: &mut Vec<bool>,
+) -> Result<Items<Group>, AllocError>
+    ensures { IfOk result (λ bs. SameStages (stage.Union bs ∷ []) (stage.Union branches.now ∷ [])) }
+{
+    let mut done = Items::new(alloc);
+    let mut all = all_flags(alloc, known.len())?;
+    for branch in branches {
+        let mut own = no_flags(alloc, known.len())?;
+        add_flags(&mut own, known.as_slice());
+        let group = ordered_group(alloc, branch, &mut own)?;
+        done.push(group)?;
+        keep_flags(&mut all, own.as_slice());
+    }
+    add_flags(known, all.as_slice());
+    Ok(done)
+}
+
+/// The plan with the triples and paths of each run in their order: next comes the one with most places fixed by terms or by variables bound
+/// before; of several, the first of the text. It has the same solutions.
+///
+/// # Errors
+/// `AllocError` where memory runs out.
+pub fn run_order(alloc: Global, plan: &Plan) -> Result<Plan, AllocError>
+    ensures { IfOk result (λ p. SamePlan p plan.now) }
+{
+    let mut known = no_flags(alloc, plan.cells)?;
+    let stages = ordered_stages(alloc, plan.stages.as_slice(), &mut known)?;
+    Ok(Plan {
+        width: plan.width,
+        cells: plan.cells,
+        stages,
+    })
+}

@@ -1,0 +1,58 @@
+//! From a pattern to a plan.
+
+ghost use Rattle.std.specs.Prelude.{◌≡◌, ◌<◌, true, IfOk, IfErr};
+ghost use Rattle.qs_terms.specs.declared.fault.QFault.TheVariants.{Memory};
+ghost use Rattle.qs_plan.specs.Plans.{IsPlanOf};
+ghost use Rattle.qs_plan.specs.inner.Numbers.{past};
+
+use crate::filters::filter_order;
+use crate::laid::Laid;
+use crate::lay::lay;
+use crate::order::run_order;
+use crate::run::PAST;
+use crate::stage::{Look, Plan};
+use qs_algebra::Pattern;
+use qs_terms::QFault;
+use std::alloc::{AllocError, Global};
+
+/// Whether a row may have so many cells.
+fn is_row(cells: usize) -> bool
+    ensures { result ≡ true → cells < past }
+{
+    cells < PAST
+}
+
+/// The plan of a pattern in the order of its text: it has the solutions of the pattern over each dataset and in each graph (SPARQL 1.1 Query,
+/// 18.5 and 18.6).
+///
+/// # Errors
+/// `AllocError` where memory runs out.
+pub fn text_order(alloc: Global, pattern: &Pattern) -> Result<Plan, AllocError>
+    ensures { IfOk result (λ p. IsPlanOf p pattern.now) }
+{
+    let width = pattern.names.len();
+    let laid = lay(alloc, width, &pattern.root, &Look::Active, width, true)?;
+    let Laid { stages, next } = laid;
+    if !is_row(next) {
+        return Err(AllocError);
+    }
+    Ok(Plan {
+        width,
+        cells: next,
+        stages,
+    })
+}
+
+/// The plan of a pattern: it has the solutions of the pattern over each dataset and in each graph (SPARQL 1.1 Query, 18.5 and 18.6).
+///
+/// # Errors
+/// `Memory` where memory runs out.
+pub fn plan(alloc: Global, pattern: &Pattern) -> Result<Plan, QFault>
+    ensures plan { IfOk result (λ p. IsPlanOf p pattern.now) }
+    ensures fault { IfErr result (λ f. f ≡ Memory) }
+{
+    let plan = text_order(alloc, pattern)?;
+    let plan = run_order(alloc, &plan)?;
+    let plan = filter_order(alloc, &plan)?;
+    Ok(plan)
+}

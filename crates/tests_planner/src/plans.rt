@@ -1,0 +1,145 @@
+//! Texts, and their plans as they are printed. The named variables of a text have their numbers in its order, and after them come hidden
+//! ones and registers.
+
+use qs_algebra::{drop_pattern, translate};
+use qs_plan::{drop_plan, plan, run_order, text_order};
+use qs_syntax::{drop_query, parse_query};
+use qs_terms::QFault;
+use std::alloc::Global;
+
+/// Texts and what is printed of their plans.
+const PLANS: &[(&str, &str)] = &[
+    // the triple with more places fixed comes first
+    (
+        "SELECT * { ?a <u:p> ?b . ?b <u:q> <u:c> }",
+        "triple ?1 <u:q> <u:c>\ntriple ?0 <u:p> ?1\n",
+    ),
+    // and then the one whose subject is bound by it, before one that stands first in the text
+    (
+        "SELECT * { ?d <u:r> ?e . ?a <u:p> ?b . ?b <u:q> <u:c> }",
+        "triple ?3 <u:q> <u:c>\ntriple ?2 <u:p> ?3\ntriple ?0 <u:r> ?1\n",
+    ),
+    // a path is evaluated with its variables open; its predicate is a place that is fixed
+    (
+        "SELECT * { ?a <u:p>/<u:q>* ?b . ?b <u:r> 'x' }",
+        "triple ?1 <u:r> \"x\"\npath ?0 (/ <u:p> <u:q>*) ?1\n",
+    ),
+    // what is optional is evaluated by itself, under its own conditions
+    (
+        "SELECT * { ?a <u:p> ?b OPTIONAL { ?b <u:q> ?c FILTER(?c = ?a) } }",
+        "triple ?0 <u:p> ?1\noptional if (= ?2 ?0)\n  triple ?1 <u:q> ?2\n",
+    ),
+    (
+        "SELECT * { ?a <u:p> ?b MINUS { ?a <u:q> ?b } }",
+        "triple ?0 <u:p> ?1\nminus\n  triple ?0 <u:q> ?1\n",
+    ),
+    // a union that comes first is in line
+    (
+        "SELECT * { { ?a <u:p> ?b } UNION { ?b <u:q> ?c } }",
+        "union\n  branch\n    triple ?0 <u:p> ?1\n  branch\n    triple ?1 <u:q> ?2\n",
+    ),
+    // a blank node is a hidden variable, and each block has its own
+    (
+        "SELECT * { ?a <u:p> _:x { ?a <u:q> _:y } }",
+        "triple ?0 <u:p> ?1\ntriple ?0 <u:q> ?2\n",
+    ),
+    // the name is joined behind the triples, which look in the register
+    (
+        "SELECT * { GRAPH ?g { ?a <u:p> _:b } }",
+        "names ?2\ntriple ?1 <u:p> ?3 in ?2\nname ?0 = ?2\n",
+    ),
+    // the filter of a graph that doesn't come first sees neither its name nor what is bound outside
+    (
+        "SELECT * { ?a <u:p> ?b GRAPH ?g { ?a <u:q> ?c FILTER(?c = ?g) } }",
+        "triple ?0 <u:p> ?1\njoin\n  names ?4\n  triple ?0 <u:q> ?3 in ?4\n  filter (= ?3 ?2)\n  name ?2 = ?4\n",
+    ),
+    // an absent graph has no solution, not even of the empty group
+    ("ASK { GRAPH <u:g> {} }", "exists <u:g>\n"),
+    (
+        "SELECT * { GRAPH <u:g> { ?a <u:p> ?b OPTIONAL { ?b <u:q> ?c } } }",
+        "exists <u:g>\ntriple ?0 <u:p> ?1 in <u:g>\noptional\n  triple ?1 <u:q> ?2 in <u:g>\n",
+    ),
+    // a filter goes before what doesn't bind a variable of it, and not into what is optional
+    (
+        "SELECT * { ?a <u:p> ?b . ?a <u:q> ?c FILTER(?b = 'x') }",
+        "triple ?0 <u:p> ?1\nfilter (= ?1 \"x\")\ntriple ?0 <u:q> ?2\n",
+    ),
+    (
+        "SELECT * { ?a <u:p> ?b OPTIONAL { ?b <u:q> ?c } FILTER(!bound(?c)) }",
+        "triple ?0 <u:p> ?1\noptional\n  triple ?1 <u:q> ?2\nfilter (! (bound ?2))\n",
+    ),
+    (
+        "SELECT * { VALUES ?a { <u:x> UNDEF } ?a <u:p> ?b BIND(str(?b) AS ?c) FILTER(?c > 'x') }",
+        "values ?0, rows: 2\ntriple ?0 <u:p> ?1\nbind ?2 = (str ?1)\nfilter (> ?2 \"x\")\n",
+    ),
+];
+
+fn printed(alloc: Global, text: &str) -> Result<String, QFault> {
+    let query = parse_query(alloc, text)?;
+    let pattern = translate(alloc, &query);
+    drop_query(query);
+    let pattern = pattern?;
+    let found = plan(alloc, &pattern);
+    drop_pattern(pattern);
+    let found = found?;
+    let printed = found.to_string(alloc);
+    drop_plan(found);
+    Ok(printed?)
+}
+
+fn is_printed(alloc: Global, text: &str, expected: &str) -> Result<bool, QFault> {
+    let printed = printed(alloc, text)?;
+    Ok(printed.as_str() == expected)
+}
+
+fn are_printed(alloc: Global) -> bool {
+    for (text, expected) in PLANS {
+        match is_printed(alloc, text, expected) {
+            Ok(true) => {}
+            _ => return false,
+        }
+    }
+    true
+}
+
+#[test]
+fn plans_are_printed(rt: HostRuntime) {
+    assert!(rt; are_printed(rt.alloc()));
+}
+
+/// The plan in the order of the text, and what is printed of it.
+fn printed_in_text_order(alloc: Global, text: &str) -> Result<(String, String), QFault> {
+    let query = parse_query(alloc, text)?;
+    let pattern = translate(alloc, &query);
+    drop_query(query);
+    let pattern = pattern?;
+    let first = text_order(alloc, &pattern);
+    drop_pattern(pattern);
+    let first = first?;
+    let second = run_order(alloc, &first);
+    let before = first.to_string(alloc);
+    drop_plan(first);
+    let second = second?;
+    let after = second.to_string(alloc);
+    drop_plan(second);
+    Ok((before?, after?))
+}
+
+fn are_in_order(alloc: Global) -> Result<bool, QFault> {
+    let (before, after) =
+        printed_in_text_order(alloc, "SELECT * { ?a <u:p> ?b . ?b <u:q> <u:c> }")?;
+    Ok(before.as_str() == "triple ?0 <u:p> ?1\ntriple ?1 <u:q> <u:c>\n"
+        && after.as_str() == "triple ?1 <u:q> <u:c>\ntriple ?0 <u:p> ?1\n")
+}
+
+fn is_in_order(alloc: Global) -> bool {
+    match are_in_order(alloc) {
+        Ok(is_right) => is_right,
+        Err(_) => false,
+    }
+}
+
+#[test]
+fn steps_are_printed(rt: HostRuntime) {
+    assert!(rt; is_in_order(rt.alloc()));
+}
