@@ -1,0 +1,14 @@
+use Rattle.std.proofs.Common.{◌∙◌, ap, get_or, sym, []}
+use Rattle.qs_terms.specs.Bag.{with_new}
+use Rattle.qs_paths_meaning.specs.inner.Links.{same_number}
+use Rattle.qs_paths.proofs.Names.{item, lefts_more, zero_pair}
+use Rattle.qs_paths.proofs.found.left_ends.Goals as goal
+
+pub loop-pair-preserved : goal.loop-pair-preserved
+loop-pair-preserved c = record {
+  known = c.in_ok-add.ensures.known c.loop-pair.invariant.known;
+  nodes =
+      c.in_ok-add.ensures.nodes c.loop-pair.invariant.known
+      ∙ (ap (λ l. with_new same_number l (get_or c.args.pairs.now c.loop-pair.pair-index zero_pair).left) c.loop-pair.invariant.nodes
+      ∙ sym (lefts_more [] c.args.pairs.now c.loop-pair.pair-index (get_or c.args.pairs.now c.loop-pair.pair-index zero_pair) c.loop-pair-test.true (item c.args.pairs.now c.loop-pair.pair-index zero_pair c.loop-pair-test.true)));
+}

@@ -1,0 +1,12 @@
+use Rattle.std.proofs.Common.{◌≡◌, length, map, take}
+use Rattle.qs_paths_meaning.specs.Pairs.{pairs}
+use Rattle.qs_paths_meaning.specs.inner.Links.{IsMarked}
+use Rattle.qs_paths.proofs.Along.{AreFromStarts}
+use Rattle.qs_paths.proofs.linked.linked_from_all.Given as goal
+
+abbrev pub invariant-loop-start : goal.invariant-loop-start
+invariant-loop-start g l = record {
+  long : length l.found.rounds.items ≡ length l.links.nodes.items;
+  marked : IsMarked l.found.round l.found.rounds.items l.found.numbers.items;
+  rows : AreFromStarts (g.E.Source.known l.edges) (g.E.Source.graph l.edges) (pairs (g.E.Source.graph l.edges) l.path) l.repetition (take l.start-index (map (λ s. s.node) l.start-items)) l.rows.items;
+}

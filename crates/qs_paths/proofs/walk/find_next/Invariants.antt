@@ -1,0 +1,15 @@
+use Rattle.std.proofs.Common.{◌≡◌, ℕ, ◌-◌, ◌^◌, List}
+use Rattle.qs_terms.specs.declared.term.Term.{Term}
+use Rattle.qs_paths_meaning.specs.Pair.{Pair}
+use Rattle.qs_paths.specs.inner.Nodes.{IsNaming}
+use Rattle.qs_paths.specs.inner.State.{IsWalking}
+use Rattle.qs_paths.proofs.walk.find_next.Given as goal
+
+abbrev pub invariant-steps : goal.invariant-steps
+invariant-steps g l = record {
+  goes : (name : ℕ → Term) → IsNaming (g.E.Source.known l.edges) name → (ps : List Pair) → IsWalking (g.E.Source.graph l.edges) name l.fn.walk ps → IsWalking (g.E.Source.graph l.edges) name l.walk ps;
+  given : l.walk.given ≡ l.fn.walk.given;
+}
+
+abbrev pub decreases-steps : goal.decreases-steps
+decreases-steps g l = 2 ^ 64 - l.walk.at

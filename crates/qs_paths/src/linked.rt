@@ -1,0 +1,166 @@
+//! Closures with both ends open: the path's pairs are found once, and walks followed along them; under `+` from their left ends, else from
+//! each node.
+
+ghost use Rattle.std.specs.Prelude.{◌≡◌, ◌≢◌, [], length, None, IfOk, OnOk};
+ghost use Rattle.qs_paths_meaning.specs.Closure.{closure};
+ghost use Rattle.qs_paths_meaning.specs.inner.Links.{IsMarked, rows_of};
+ghost use Rattle.qs_paths_meaning.specs.Pairs.{is_step, pairs};
+ghost use Rattle.qs_syntax_tree.specs.declared.path.Repetition.TheVariants.{ZeroOrOne};
+ghost use Rattle.qs_paths.specs.inner.Links.{IsWeb, LinkSteps, StandsAt, nodes_at};
+ghost use Rattle.qs_paths.specs.inner.Nodes.{AreBegun, AreEnds, ArePairs, AreStarts, NamesNode};
+
+use crate::found::{Found, left_ends, nodes};
+use crate::links::{Links, Placed, links_of};
+use crate::node::NodePair;
+use crate::reached::{Reached, put_reached};
+use crate::source::Source;
+use crate::sweep::put_in_order;
+use qs_syntax_ast::path::Path;
+use qs_syntax_tree::path::Repetition;
+use std::alloc::{AllocError, Global};
+
+/// Nodes from which all pairs of the closure lead. For `+` these are the left ends of the path's pairs: from another node no walk takes
+/// a step.
+fn starts_of<E: Source>(
+    alloc: Global,
+    edges: &E,
+    path: &Path,
+    repetition: Repetition,
+    steps: &[NodePair],
+) -> Result<Found, AllocError>
+    requires { ArePairs (E.known edges.now) (pairs (E.graph edges.now) path.now) None None steps.now }
+    ensures { IfOk result (λ f. AreStarts (E.known edges.now) (E.graph edges.now) (pairs (E.graph edges.now) path.now) repetition f.nodes.items) }
+{
+    match repetition {
+        Repetition::OneOrMore => {
+            let lefts = left_ends(alloc, steps)?;
+            Ok(lefts)
+        }
+        _ => {
+            let all = nodes(alloc, edges)?;
+            Ok(all)
+        }
+    }
+}
+
+/// The pairs of a closure, both ends of which are open, by the pairs of its path.
+pub fn linked_from_all<E: Source>(
+    alloc: Global,
+    edges: &E,
+    path: &Path,
+    repetition: Repetition,
+    steps: &[NodePair],
+) -> Result<Vec<NodePair>, AllocError>
+    requires { ArePairs (E.known edges.now) (pairs (E.graph edges.now) path.now) None None steps.now }
+    ensures { IfOk result (λ ps. ArePairs (E.known edges.now) (closure repetition (is_step (pairs (E.graph edges.now) path.now)) (E.graph edges.now)) None None ps.items) }
+{
+    let mut links = links_of(alloc, steps)?;
+    let ends = starts_of(alloc, edges, path, repetition, steps)?;
+    let mut starts = links.placed(alloc, ends.nodes.as_slice())?;
+    put_in_order(alloc, &links, &mut starts)?;
+    let mut found = Reached::new(alloc, links.nodes.as_slice().len())?;
+    let mut rows = Vec::new(alloc);
+    for start in starts.as_slice() {
+        walk(edges, path, repetition, &links, *start, &mut found)?;
+        put_reached(
+            &mut rows,
+            links.nodes.as_slice(),
+            start.node,
+            found.numbers.as_slice(),
+        )?;
+    }
+    Ok(rows)
+}
+
+/// Finds what the closure leads to from a node, each once.
+fn walk<E: Source>(
+    edges: &E,
+    path: &Path,
+    repetition: Repetition,
+    links: &Links,
+    start: Placed,
+    found: &mut Reached,
+) -> Result<(), AllocError>
+    requires web { IsWeb links.now.places.entries links.now.nodes.items (rows_of links.now.next.items) }
+    requires links { LinkSteps (E.known edges.now) links.now.nodes.items (rows_of links.now.next.items) (pairs (E.graph edges.now) path.now) }
+    requires at { StandsAt links.now.nodes.items start.place start.node }
+    requires node { NamesNode (E.known edges.now) (E.graph edges.now) start.node }
+    requires long { length found.old.rounds.items ≡ length links.now.nodes.items }
+    requires marked { IsMarked found.old.round found.old.rounds.items found.old.numbers.items }
+    ensures ends { OnOk result (AreEnds (E.known edges.now) repetition (pairs (E.graph edges.now) path.now) (E.graph edges.now) start.node (nodes_at start.node links.now.nodes.items found.new.numbers.items)) }
+    ensures long { OnOk result (length found.new.rounds.items ≡ length links.now.nodes.items) }
+    ensures marked { OnOk result (IsMarked found.new.round found.new.rounds.items found.new.numbers.items) }
+{
+    found.clear()?;
+    begin(edges, path, repetition, links, start, found)?;
+    match repetition {
+        Repetition::ZeroOrOne => Ok(()),
+        _ => {
+            follow(edges, path, repetition, links, start, found)?;
+            Ok(())
+        }
+    }
+}
+
+/// Puts what is led to before the search: by no step, or by one.
+fn begin<E: Source>(
+    edges: &E,
+    path: &Path,
+    repetition: Repetition,
+    links: &Links,
+    start: Placed,
+    found: &mut Reached,
+) -> Result<(), AllocError>
+    requires web { IsWeb links.now.places.entries links.now.nodes.items (rows_of links.now.next.items) }
+    requires links { LinkSteps (E.known edges.now) links.now.nodes.items (rows_of links.now.next.items) (pairs (E.graph edges.now) path.now) }
+    requires at { StandsAt links.now.nodes.items start.place start.node }
+    requires node { NamesNode (E.known edges.now) (E.graph edges.now) start.node }
+    requires empty { found.old.numbers.items ≡ [] }
+    requires long { length found.old.rounds.items ≡ length links.now.nodes.items }
+    requires marked { IsMarked found.old.round found.old.rounds.items found.old.numbers.items }
+    ensures holds { OnOk result (AreBegun (E.known edges.now) repetition (pairs (E.graph edges.now) path.now) start.node (nodes_at start.node links.now.nodes.items found.new.numbers.items)) }
+    ensures long { OnOk result (length found.new.rounds.items ≡ length links.now.nodes.items) }
+    ensures marked { OnOk result (IsMarked found.new.round found.new.rounds.items found.new.numbers.items) }
+{
+    match repetition {
+        Repetition::ZeroOrOne => {
+            found.add(start.place)?;
+            links.lead_on(start.place, found)?;
+            Ok(())
+        }
+        Repetition::ZeroOrMore => found.add(start.place),
+        Repetition::OneOrMore => {
+            links.lead_on(start.place, found)?;
+            Ok(())
+        }
+    }
+}
+
+/// Breadth first: goes on from each number that was found, once, until nothing new is found.
+fn follow<E: Source>(
+    edges: &E,
+    path: &Path,
+    repetition: Repetition,
+    links: &Links,
+    start: Placed,
+    found: &mut Reached,
+) -> Result<(), AllocError>
+    requires closing { repetition ≢ ZeroOrOne }
+    requires web { IsWeb links.now.places.entries links.now.nodes.items (rows_of links.now.next.items) }
+    requires links { LinkSteps (E.known edges.now) links.now.nodes.items (rows_of links.now.next.items) (pairs (E.graph edges.now) path.now) }
+    requires node { NamesNode (E.known edges.now) (E.graph edges.now) start.node }
+    requires long { length found.old.rounds.items ≡ length links.now.nodes.items }
+    requires marked { IsMarked found.old.round found.old.rounds.items found.old.numbers.items }
+    requires holds { AreBegun (E.known edges.now) repetition (pairs (E.graph edges.now) path.now) start.node (nodes_at start.node links.now.nodes.items found.old.numbers.items) }
+    ensures ends { OnOk result (AreEnds (E.known edges.now) repetition (pairs (E.graph edges.now) path.now) (E.graph edges.now) start.node (nodes_at start.node links.now.nodes.items found.new.numbers.items)) }
+    ensures long { OnOk result (length found.new.rounds.items ≡ length links.now.nodes.items) }
+    ensures marked { OnOk result (IsMarked found.new.round found.new.rounds.items found.new.numbers.items) }
+{
+    let mut at = 0;
+    while at < found.len() {
+        let number = found.number(at);
+        links.lead_on(number, found)?;
+        at += 1;
+    }
+    Ok(())
+}

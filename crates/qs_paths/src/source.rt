@@ -1,0 +1,57 @@
+//! Where the edges of a graph come from, by numbers.
+
+ghost use Rattle.std.specs.Prelude.{List, IfOk};
+ghost use Rattle.qs_terms.specs.Dataset.{Triple};
+ghost use Rattle.qs_terms.specs.Term.{same_term};
+ghost use Rattle.qs_terms.specs.declared.term.Term.{Term};
+ghost use Rattle.qs_terms.specs.declared.term.Term.TheVariants as term_is;
+ghost use Rattle.qs_paths_meaning.specs.Steps.{along, is_outside};
+ghost use Rattle.qs_paths.specs.inner.Nodes.{ArePairs, IsNodeOrOpen, TellsNode};
+
+use crate::node::NodePair;
+use qs_syntax_ast::path::NegatedIri;
+use qs_terms::Iri;
+use std::alloc::{AllocError, Global};
+
+/// A graph whose edges are found by the numbers of the nodes at their ends.
+pub trait Source {
+    ghost graph: { Self → List Triple };
+
+    ghost known: { Self → List Term };
+
+    /// One pair for each triple with this predicate and these ends, as far as they are given. They come in no promised order.
+    fn along(
+        &self,
+        alloc: Global,
+        predicate: &Iri,
+        left: Option<u64>,
+        right: Option<u64>,
+    ) -> Result<Vec<NodePair>, AllocError>
+        ensures { IfOk result (λ ps. ArePairs (known self.now) (along (same_term (term_is.Iri predicate.now)) (graph self.now)) left right ps.items) };
+
+    /// One pair for each triple with these ends whose predicate none of the members of this direction names.
+    fn outside(
+        &self,
+        alloc: Global,
+        members: &[NegatedIri],
+        inverse: bool,
+        left: Option<u64>,
+        right: Option<u64>,
+    ) -> Result<Vec<NodePair>, AllocError>
+        ensures { IfOk result (λ ps. ArePairs (known self.now) (along (is_outside inverse members.now) (graph self.now)) left right ps.items) };
+
+    /// Whether the number names a node of the graph: the subject or the object of a triple.
+    fn has_node(&self, node: u64) -> bool
+        ensures { TellsNode (known self.now) (graph self.now) node result };
+}
+
+/// The number, where it names a node of the graph.
+pub fn node<E: Source>(edges: &E, number: u64) -> Option<u64>
+    ensures { IsNodeOrOpen (E.known edges.now) (E.graph edges.now) number result }
+{
+    if edges.has_node(number) {
+        Some(number)
+    } else {
+        None
+    }
+}

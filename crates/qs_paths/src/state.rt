@@ -1,0 +1,187 @@
+//! The ways in which pairs come: found whole, as a scan finds them, or as a walk does.
+
+ghost use Rattle.std.specs.Prelude.{◌≡◌, ◌≢◌, IfOk, IsErr};
+ghost use Rattle.qs_syntax_ast.specs.declared.path.Path.TheVariants as path_is;
+ghost use Rattle.qs_syntax_tree.specs.declared.path.Repetition.TheVariants.{ZeroOrOne};
+ghost use Rattle.qs_paths.specs.declared.state.State.TheVariants as state_is;
+ghost use Rattle.qs_paths.specs.inner.Seen.{graph_in, known_in};
+ghost use Rattle.qs_paths.specs.inner.State.{GivesLeft, GivesRow, Opens, OpensAt};
+
+use crate::node::NodePair;
+use crate::paths::pairs_of_nodes;
+use crate::seen::Seen;
+use crate::stretch::{Stretch, next_of_stretch, of_iri, of_set};
+use crate::walk::{Walk, next_walked, started};
+use qs_store::View;
+use qs_syntax_ast::path::Path;
+use qs_syntax_tree::path::Repetition;
+use std::alloc::{AllocError, Global};
+
+/// What was asked for.
+#[derive(Drop)]
+pub struct Request<'a> {
+    pub path: &'a Path,
+    pub left: Option<u64>,
+    pub right: Option<u64>,
+}
+
+/// Pairs that were found whole, and how many of them were handed out.
+#[derive(Drop)]
+pub struct Rows {
+    pub rows: Vec<NodePair>,
+    pub at: usize,
+}
+
+/// Where the next pair comes from.
+#[derive(Drop)]
+pub enum State<'a> {
+    Whole(Rows),
+    Edges(Stretch<'a>),
+    Walked(Walk<'a>),
+    Failed,
+}
+
+/// A state, and whether its pairs are turned: for the inverse of a path.
+#[derive(Drop)]
+pub struct Opened<'a> {
+    pub state: State<'a>,
+    pub turned: bool,
+}
+
+/// The state at the start of what was asked for. The inverse of a path is read as the path, with its ends exchanged.
+pub fn start_of<'a, V: View>(
+    alloc: Global,
+    edges: &Seen<'a, V>,
+    request: &Request<'a>,
+) -> Result<Opened<'a>, AllocError>
+    ensures { IfOk result (λ o. Opens (known_in V.content edges.now) (graph_in V.content V.default_seen edges.now) request.now o.turned o.state) }
+{
+    match request.path {
+        Path::Inverse(inner) => {
+            let state = start_at(alloc, edges, inner.get(), request.right, request.left)?;
+            Ok(Opened {
+                state,
+                turned: true,
+            })
+        }
+        path => {
+            let state = start_at(alloc, edges, path, request.left, request.right)?;
+            Ok(Opened {
+                state,
+                turned: false,
+            })
+        }
+    }
+}
+
+/// The state at the start of a path.
+fn start_at<'a, V: View>(
+    alloc: Global,
+    edges: &Seen<'a, V>,
+    path: &'a Path,
+    left: Option<u64>,
+    right: Option<u64>,
+) -> Result<State<'a>, AllocError>
+    ensures { IfOk result (λ s. OpensAt (known_in V.content edges.now) (graph_in V.content V.default_seen edges.now) path.now left right s) }
+{
+    match path {
+        Path::Iri(iri) => {
+            let stretch = of_iri(alloc, edges, iri, left, right)?;
+            Ok(State::Edges(stretch))
+        }
+        Path::NegatedSet(members) => {
+            let stretch = of_set(alloc, edges, members.as_slice(), left, right)?;
+            Ok(State::Edges(stretch))
+        }
+        Path::Repeated(inner, Repetition::ZeroOrMore) => {
+            closure_at(
+                alloc,
+                edges,
+                path,
+                inner.get(),
+                Repetition::ZeroOrMore,
+                left,
+                right,
+            )
+        }
+        Path::Repeated(inner, Repetition::OneOrMore) => {
+            closure_at(
+                alloc,
+                edges,
+                path,
+                inner.get(),
+                Repetition::OneOrMore,
+                left,
+                right,
+            )
+        }
+        _ => whole(alloc, edges, path, left, right),
+    }
+}
+
+/// The state at the start of a closure: a walk, where an end is given.
+fn closure_at<'a, V: View>(
+    alloc: Global,
+    edges: &Seen<'a, V>,
+    path: &'a Path,
+    inner: &'a Path,
+    repetition: Repetition,
+    left: Option<u64>,
+    right: Option<u64>,
+) -> Result<State<'a>, AllocError>
+    requires path { path.now ≡ path_is.Repeated inner.now repetition }
+    requires closing { repetition ≢ ZeroOrOne }
+    ensures { IfOk result (λ s. OpensAt (known_in V.content edges.now) (graph_in V.content V.default_seen edges.now) path.now left right s) }
+{
+    match (left, right) {
+        (Some(start), _) => {
+            let walk = started(alloc, edges, inner, repetition, false, start, right)?;
+            Ok(State::Walked(walk))
+        }
+        (None, Some(start)) => {
+            let walk = started(alloc, edges, inner, repetition, true, start, None)?;
+            Ok(State::Walked(walk))
+        }
+        (None, None) => whole(alloc, edges, path, left, right),
+    }
+}
+
+/// All pairs of a path.
+fn whole<'a, V: View>(
+    alloc: Global,
+    edges: &Seen<'a, V>,
+    path: &Path,
+    left: Option<u64>,
+    right: Option<u64>,
+) -> Result<State<'a>, AllocError>
+    ensures { IfOk result (λ s. OpensAt (known_in V.content edges.now) (graph_in V.content V.default_seen edges.now) path.now left right s) }
+{
+    let rows = pairs_of_nodes(alloc, edges, path, left, right)?;
+    Ok(State::Whole(Rows { rows, at: 0 }))
+}
+
+/// The next of the pairs that were found whole.
+fn next_row(rows: &mut Rows) -> Option<NodePair>
+    ensures { GivesRow rows.old result rows.new }
+{
+    let pair = *rows.rows.get(rows.at)?;
+    rows.at += 1;
+    Some(pair)
+}
+
+/// The next pair. A state that failed fails again.
+pub fn next_of_state<'a, V: View>(
+    alloc: Global,
+    edges: &Seen<'a, V>,
+    state: &mut State<'a>,
+) -> Result<Option<NodePair>, AllocError>
+    ensures gives { IfOk result (λ o. GivesLeft (known_in V.content edges.now) (graph_in V.content V.default_seen edges.now) state.old o state.new) }
+    ensures failed { state.old ≡ state_is.Failed → IsErr result }
+{
+    match state {
+        State::Whole(rows) => Ok(next_row(rows)),
+        State::Edges(stretch) => next_of_stretch(alloc, edges, stretch),
+        State::Walked(walk) => next_walked(alloc, edges, walk),
+        State::Failed => Err(AllocError),
+    }
+}

@@ -1,0 +1,82 @@
+//! The pairs of a path over a view, one by one.
+
+ghost use Rattle.std.specs.Prelude.{◌≡◌, IfOk, IsErr};
+ghost use Rattle.qs_paths.specs.Coming.{GivesPair};
+ghost use Rattle.qs_paths.specs.inner.Nodes.{cell_of};
+ghost use Rattle.qs_paths.specs.inner.Seen.{graph_in, known_in};
+ghost use Rattle.qs_paths.specs.inner.State.{GivesStep, HasFailedIn};
+
+use crate::node::{NodePair, cell_of};
+use crate::seen::Seen;
+use crate::state::{Request, State, next_of_state, start_of};
+use crate::stretch::turned;
+use qs_expr::Cell;
+use qs_store::View;
+use qs_terms::QFault;
+use std::alloc::{AllocError, Global};
+
+/// The pairs of a path that are still to come. It holds what a closure has seen, or the pairs where they were found whole.
+#[derive(Drop)]
+pub struct Pairs<'a, V: View> {
+    pub(crate) alloc: Global,
+    pub(crate) edges: Seen<'a, V>,
+    pub(crate) request: Option<Request<'a>>,
+    pub(crate) turned: bool,
+    pub(crate) state: State<'a>,
+}
+
+/// The next pair, which is turned where the state says so.
+fn step<'a, V: View>(
+    alloc: Global,
+    edges: &Seen<'a, V>,
+    request: &mut Option<Request<'a>>,
+    is_turned: &mut bool,
+    state: &mut State<'a>,
+) -> Result<Option<NodePair>, AllocError>
+    ensures gives { IfOk result (λ o. GivesStep (known_in V.content edges.now) (graph_in V.content V.default_seen edges.now) request.old is_turned.old state.old o request.new is_turned.new state.new) }
+    ensures failed { HasFailedIn request.old state.old → IsErr result }
+{
+    let Some(request) = request.take() else {
+        return next_of_state(alloc, edges, state);
+    };
+    let opened = start_of(alloc, edges, &request)?;
+    *is_turned = opened.turned;
+    *state = opened.state;
+    next_of_state(alloc, edges, state)
+}
+
+/// The cells of a pair.
+fn cells_of(pair: NodePair) -> (Cell, Cell)
+    ensures left { result.0 ≡ cell_of pair.left }
+    ensures right { result.1 ≡ cell_of pair.right }
+{
+    (cell_of(pair.left), cell_of(pair.right))
+}
+
+impl<'a, V: View> Iterator for Pairs<'a, V> {
+    type Item = Result<(Cell, Cell), QFault>;
+
+    ghost next_gives = { GivesPair V.content V.default_seen };
+
+    /// The next pair, or none where there is none left.
+    ///
+    /// # Errors
+    ///
+    /// `QFault::Memory` where memory runs out, now or at an earlier call; no other fault.
+    fn next(&mut self) -> Option<Result<(Cell, Cell), QFault>> {
+        let next = step(
+            self.alloc,
+            &self.edges,
+            &mut self.request,
+            &mut self.turned,
+            &mut self.state,
+        );
+        let Ok(answer) = next else {
+            self.request = None;
+            self.state = State::Failed;
+            return Some(Err(QFault::Memory));
+        };
+        let pair = answer?;
+        Some(Ok(cells_of(turned(pair, self.turned))))
+    }
+}
