@@ -4,7 +4,9 @@ use qs_expr::{Cell, Row, is_same};
 use std::alloc::{AllocError, Global};
 
 const ONE: Cell = Cell::Known(1);
+
 const OTHER: Cell = Cell::Known(2);
+
 const PLACE: Cell = Cell::Scratch(1);
 
 /// A row that binds the first of three variables to the cell, and the last to the place.
@@ -28,9 +30,11 @@ fn is_merged(alloc: Global, one: &Row) -> Result<bool, AllocError> {
     let mut second = Row::unbound(alloc, 2)?;
     second.bind(1, OTHER);
     let merged = one.merged(alloc, &second)?;
-    Ok(one.is_compatible(&second)
-        && is_row(&merged, Some(ONE), Some(OTHER), Some(PLACE))
-        && second.width() == 2)
+    Ok(
+        one.is_compatible(&second)
+            && is_row(&merged, Some(ONE), Some(OTHER), Some(PLACE))
+            && second.width() == 2,
+    )
 }
 
 /// Whether copies of a row are equal, also in the memory of a spare one.
@@ -40,9 +44,11 @@ fn is_copied(alloc: Global, one: &Row) -> Result<bool, AllocError> {
     spare.push(own)?;
     let copy = one.copy(alloc, &mut spare)?;
     let again = one.copy(alloc, &mut spare)?;
-    Ok(is_row(&copy, Some(ONE), None, Some(PLACE))
-        && is_row(&again, Some(ONE), None, Some(PLACE))
-        && spare.is_empty())
+    Ok(
+        is_row(&copy, Some(ONE), None, Some(PLACE))
+            && is_row(&again, Some(ONE), None, Some(PLACE))
+            && spare.is_empty(),
+    )
 }
 
 /// Whether rows are merged, compared and copied.

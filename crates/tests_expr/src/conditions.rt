@@ -12,16 +12,25 @@ use qs_terms::TermFault;
 use std::alloc::Global;
 
 const A: Operand = Operand::Variable(0);
+
 const ONE_AGAIN: Operand = Operand::Variable(2);
+
 const TWO: Operand = Operand::Variable(3);
+
 const NEW: Operand = Operand::Variable(4);
+
 const ILL_FORMED: Operand = Operand::Variable(5);
+
 const UNBOUND: Operand = Operand::Variable(6);
 
 const EQUAL: Asked = Asked::Compare(Comparison::Equal);
+
 const UNLIKE: Asked = Asked::Compare(Comparison::NotEqual);
+
 const LESS: Asked = Asked::Compare(Comparison::Less);
+
 const GREATER: Asked = Asked::Compare(Comparison::Greater);
+
 const SAME: Asked = Asked::SameTerm;
 
 /// Conditions, each with whether it is true of the row.

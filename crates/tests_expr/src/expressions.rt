@@ -41,7 +41,10 @@ pub fn expr_of(alloc: Global, operand: Operand) -> Result<Expr, TermFault> {
     }
 }
 
-fn both(one: Result<Expr, TermFault>, other: Result<Expr, TermFault>) -> Result<(Expr, Expr), TermFault> {
+fn both(
+    one: Result<Expr, TermFault>,
+    other: Result<Expr, TermFault>,
+) -> Result<(Expr, Expr), TermFault> {
     match (one, other) {
         (Ok(one), Ok(other)) => Ok((one, other)),
         (Err(fault), Ok(other)) => {

@@ -74,10 +74,18 @@ fn is_value<V: View>(
 
 /// Expressions, as an operand or the sum of two, each with the cell that is due. The table begins with the two terms that the row put there.
 const VALUES: &[(Operand, Option<Operand>, Due)] = &[
-    (Operand::Variable(2), None, Due::Known(Operand::Integer("01"))),
+    (
+        Operand::Variable(2),
+        None,
+        Due::Known(Operand::Integer("01")),
+    ),
     (Operand::Variable(6), None, Due::Error),
     (Operand::Iri("e:none"), None, Due::Scratch(0)),
-    (Operand::Integer("2"), None, Due::Known(Operand::Integer("2"))),
+    (
+        Operand::Integer("2"),
+        None,
+        Due::Known(Operand::Integer("2")),
+    ),
     // 1 + 1 is the dictionary's 2
     (
         Operand::Integer("1"),
@@ -95,8 +103,16 @@ const VALUES: &[(Operand, Option<Operand>, Due)] = &[
         Some(Operand::Integer("1")),
         Due::Scratch(2),
     ),
-    (Operand::Variable(0), Some(Operand::Integer("1")), Due::Error),
-    (Operand::Variable(6), Some(Operand::Integer("1")), Due::Error),
+    (
+        Operand::Variable(0),
+        Some(Operand::Integer("1")),
+        Due::Error,
+    ),
+    (
+        Operand::Variable(6),
+        Some(Operand::Integer("1")),
+        Due::Error,
+    ),
 ];
 
 fn expression(alloc: Global, a: Operand, b: Option<Operand>) -> Result<Expr, TermFault> {

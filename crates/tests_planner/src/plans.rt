@@ -126,10 +126,14 @@ fn printed_in_text_order(alloc: Global, text: &str) -> Result<(String, String), 
 }
 
 fn are_in_order(alloc: Global) -> Result<bool, QFault> {
-    let (before, after) =
-        printed_in_text_order(alloc, "SELECT * { ?a <u:p> ?b . ?b <u:q> <u:c> }")?;
-    Ok(before.as_str() == "triple ?0 <u:p> ?1\ntriple ?1 <u:q> <u:c>\n"
-        && after.as_str() == "triple ?1 <u:q> <u:c>\ntriple ?0 <u:p> ?1\n")
+    let (before, after) = printed_in_text_order(
+        alloc,
+        "SELECT * { ?a <u:p> ?b . ?b <u:q> <u:c> }",
+    )?;
+    Ok(
+        before.as_str() == "triple ?0 <u:p> ?1\ntriple ?1 <u:q> <u:c>\n"
+            && after.as_str() == "triple ?1 <u:q> <u:c>\ntriple ?0 <u:p> ?1\n",
+    )
 }
 
 fn is_in_order(alloc: Global) -> bool {
