@@ -196,7 +196,7 @@ NOTHING = Exactly(b"")
 
 
 class Meaning:
-    """What a request means: for each dataset the reply that is due, and the dataset behind it."""
+    """What a request means: for each dataset the reply that is due, and the dataset after it."""
 
     def __init__(self, due, writes=False, has_fronts=False):
         """`due` is a reply of any dataset, or what gives a reply and a dataset for one, which is another one only where it `writes`. It

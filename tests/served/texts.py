@@ -53,7 +53,7 @@ class Spelling:
         return tokens + (["."] if tokens and self.rng.random() < 0.5 else [])
 
     def blocks(self, elements):
-        """Returns the tokens of (graph, triples) one behind another."""
+        """Returns the tokens of (graph, triples), one after another."""
         tokens = []
         for graph, triples in elements:
             inner = self.triples(triples)

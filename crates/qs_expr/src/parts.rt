@@ -196,7 +196,7 @@ pub(crate) fn put_parts<'e, V: View>(
     }
 }
 
-/// The same of each of the conditions.
+/// Puts the parts of each of the conditions after the others.
 #[cycle(parts)]
 fn put_all<'e, V: View>(
     exprs: &'e [Expr],

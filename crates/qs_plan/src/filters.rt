@@ -1,4 +1,5 @@
-//! Where filters stand: each goes to the earliest place of its group where nothing that comes behind it binds a variable of it.
+//! Where filters stand: each goes to the earliest place of its group after which no stage binds a variable of it. A filter with arithmetic, IF
+//! or CONCAT stays where it is.
 
 ghost use Rattle.std.specs.Prelude.{◌≡◌, ◌≢◌, ◌==◌, true, [], ◌∷◌, ◌++◌, reverse, Some, IfOk, OnOk};
 ghost use Rattle.std.specs.List.{AllByRecursion, list_any};
@@ -81,7 +82,7 @@ fn settle(alloc: Global, expr: &Expr, variables: &mut Vec<usize>) -> Result<bool
     }
 }
 
-/// The same of all the expressions.
+/// Puts variables after the others that settle all the expressions, and answers whether it did.
 #[cycle(settle)]
 #[tactic(auto, using(crate::proofs::Settled::part_settled, crate::proofs::Settled::all_settled, crate::proofs::Settled::grows_more, crate::proofs::Settled::grows_same))]
 fn settle_all(alloc: Global, parts: &[Expr], variables: &mut Vec<usize>) -> Result<bool, AllocError>
@@ -229,7 +230,7 @@ fn put_filter(
     Ok(())
 }
 
-/// Puts the stage behind those that are done, or where it may go if it is a filter.
+/// Puts the stage after those that are done, or where it may go if it is a filter.
 fn put_placed(alloc: Global, one: Stage, done: &mut Items<Stage>) -> Result<(), AllocError>
     ensures { OnOk result (SameStages done.new (done.old ++ one ∷ [])) }
 {
@@ -326,7 +327,8 @@ fn placed_branches(alloc: Global, branches: &[Group]) -> Result<Items<Group>, Al
     Ok(done)
 }
 
-/// The plan with each filter at the earliest place of its group where no stage behind it binds a variable of it. It has the same solutions.
+/// The plan with each filter at the earliest place of its group after which no stage binds a variable of it, and those with arithmetic, IF or
+/// CONCAT where they were. Both plans have the same solutions.
 ///
 /// # Errors
 /// `AllocError` where memory runs out.

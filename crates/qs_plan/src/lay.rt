@@ -307,7 +307,7 @@ fn lay_graph(
 }
 
 /// The stages of a pattern in each named graph: in line where it comes first, or where all of it is plain. The variable is joined with the
-/// name behind all others, so that no part of the pattern sees it.
+/// name after all stages of the part, so that no part of the pattern sees it.
 #[cycle(lay)]
 fn lay_each(
     alloc: Global,

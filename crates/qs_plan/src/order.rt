@@ -209,7 +209,7 @@ fn best_of(stages: &[Stage], known: &[bool]) -> Option<usize>
     Some(best)
 }
 
-/// Puts the scans behind those that are done, one with most places fixed after another.
+/// Puts the scans after those that are done: next always one with most places fixed.
 fn put_run(
     register: Option<usize>,
     run: &mut Items<Stage>,
@@ -245,7 +245,7 @@ fn begin_run(
     Ok(register_in(stage))
 }
 
-/// Puts the stage into the run, or behind those that are done.
+/// Puts the stage into the run, or after those that are done.
 fn put_next(
     register: Option<usize>,
     stage: Stage,
@@ -304,7 +304,7 @@ pub(crate) fn copied_path(pattern: &PathPattern) -> Result<PathPattern, AllocErr
 }
 
 /// The stages with the scans of each run in their order. The flags tell which variables are bound before, and afterwards which are bound
-/// behind them.
+/// after them.
 #[cycle(ordered)]
 fn ordered_stages(
     alloc: Global,
@@ -391,7 +391,7 @@ fn ordered_group(alloc: Global, group: &Group, known: &mut Vec<bool>) -> Result<
     Ok(Group { stages })
 }
 
-/// The branches, each in its order. What each of them binds is bound behind them.
+/// The branches, each in its order. What each of them binds is bound after them.
 #[cycle(ordered)]
 fn ordered_branches(
     alloc: Global,
@@ -414,7 +414,7 @@ fn ordered_branches(
 }
 
 /// The plan with the triples and paths of each run in their order: next comes the one with most places fixed by terms or by variables bound
-/// before; of several, the first of the text. It has the same solutions.
+/// before; of several, the first of the text. Both plans have the same solutions.
 ///
 /// # Errors
 /// `AllocError` where memory runs out.

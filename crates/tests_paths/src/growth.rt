@@ -103,7 +103,7 @@ const OPEN: &[Question] = &[
     },
 ];
 
-/// The same with an end given, among them ends that aren't nodes of the graph.
+/// Questions with an end given, among them ends that aren't nodes of the graph.
 const GIVEN: &[Question] = &[
     Question {
         form: Form::P,

@@ -43,7 +43,7 @@ const PLANS: &[(&str, &str)] = &[
         "SELECT * { ?a <u:p> _:x { ?a <u:q> _:y } }",
         "triple ?0 <u:p> ?1\ntriple ?0 <u:q> ?2\n",
     ),
-    // the name is joined behind the triples, which look in the register
+    // the name is joined after the triples, which look in the register
     (
         "SELECT * { GRAPH ?g { ?a <u:p> _:b } }",
         "names ?2\ntriple ?1 <u:p> ?3 in ?2\nname ?0 = ?2\n",
