@@ -38,7 +38,7 @@ use Rattle.qs_paths.proofs.Listed.{filter_all}
 use Rattle.qs_paths.proofs.Names.{lefts_named, map_long, names_all, names_at, names_distinct}
 use Rattle.qs_paths.proofs.Whole.{begun_none, ends_from}
 
-module _ (nodes : List ℕ) (rows : List (List ℕ)) (entries : List (ℕ × ℕ)) (web : IsWeb entries nodes rows) (name : ℕ → Term) (apart : AreApart name) where
+module _ (nodes : List ℕ) (rows : List (List ℕ)) (web : IsWeb nodes rows) (name : ℕ → Term) (apart : AreApart name) where
   abbrev ts : List Term
   ts = names name nodes
 
@@ -67,7 +67,7 @@ module _ (nodes : List ℕ) (rows : List (List ℕ)) (entries : List (ℕ × ℕ
       ∙ (named_new ts (names_distinct name apart nodes web.distinct) at (name start) (name start) (at_named name nodes at start h) ns (below ns b)
       ∙ ap (λ l. with_new same_term l (name start)) (sym (names_at name start nodes ns))))
 
-module _ (known : List Term) (graph : Graph) (p : Path) (nodes : List ℕ) (rows : List (List ℕ)) (entries : List (ℕ × ℕ)) (web : IsWeb entries nodes rows) (links : LinkSteps known nodes rows (pairs graph p)) (start : ℕ) (repetition : Repetition) where
+module _ (known : List Term) (graph : Graph) (p : Path) (nodes : List ℕ) (rows : List (List ℕ)) (web : IsWeb nodes rows) (links : LinkSteps known nodes rows (pairs graph p)) (start : ℕ) (repetition : Repetition) where
   pub begun_alone : (at : ℕ) (ns ns' : List ℕ) → StandsAt nodes at start → repetition ≡ ZeroOrMore → ns ≡ [] → ns' ≡ with_new same_number ns at → AreBegun known repetition (pairs graph p) start (nodes_at start nodes ns')
   begun_alone at ns ns' h r z e =
       begun_none known graph p repetition false start [] (nodes_at start nodes ns') r refl (ap (nodes_at start nodes) (e ∙ ap (λ l. with_new same_number l at) z) ∙ ap (λ n. n ∷ []) h.1)
@@ -76,11 +76,11 @@ module _ (known : List Term) (graph : Graph) (p : Path) (nodes : List ℕ) (rows
     pub begun_with : (at : ℕ) (ns ns' ns'' : List ℕ) → StandsAt nodes at start → AreBelow (length nodes) ns → AreBelow (length nodes) ns' → repetition ≡ ZeroOrOne → ns ≡ [] → ns' ≡ with_new same_number ns at → ns'' ≡ with_numbers ns' (get_or rows at []) → AreBegun known repetition (pairs graph p) start (nodes_at start nodes ns'')
     begun_with at ns ns' ns'' h b b' r z e k name n =
         linked_both graph p (names name nodes) rows (links name n) (name start) (node name n) repetition (names name (nodes_at start nodes ns)) (names name (nodes_at start nodes ns')) (names name (nodes_at start nodes ns'')) r (ap (λ l. names name (nodes_at start nodes l)) z)
-        (start_names nodes rows entries web name n.apart start at ns ns' h b e) (lead_names nodes rows entries web name n.apart start start at ns' ns'' h b' k)
+        (start_names nodes rows web name n.apart start at ns ns' h b e) (lead_names nodes rows web name n.apart start start at ns' ns'' h b' k)
 
     pub begun_by : (at : ℕ) (ns ns' : List ℕ) → StandsAt nodes at start → AreBelow (length nodes) ns → repetition ≡ OneOrMore → ns ≡ [] → ns' ≡ with_numbers ns (get_or rows at []) → AreBegun known repetition (pairs graph p) start (nodes_at start nodes ns')
     begun_by at ns ns' h b r z k name n =
-        linked_steps graph p (names name nodes) rows (links name n) (name start) (node name n) repetition (names name (nodes_at start nodes ns)) (names name (nodes_at start nodes ns')) r (ap (λ l. names name (nodes_at start nodes l)) z) (lead_names nodes rows entries web name n.apart start start at ns ns' h b k)
+        linked_steps graph p (names name nodes) rows (links name n) (name start) (node name n) repetition (names name (nodes_at start nodes ns)) (names name (nodes_at start nodes ns')) r (ap (λ l. names name (nodes_at start nodes l)) z) (lead_names nodes rows web name n.apart start start at ns ns' h b k)
 
     pub followed_none : (ns : List ℕ) → AreBegun known repetition (pairs graph p) start (nodes_at start nodes ns) → AreFollowed known graph p nodes repetition start ns 0
     followed_none ns h name n = search_begins graph (pairs graph p) (tied graph p) (name start) repetition (names name (nodes_at start nodes ns)) (h name n)
@@ -91,14 +91,14 @@ module _ (known : List Term) (graph : Graph) (p : Path) (nodes : List ℕ) (rows
     pub followed_next : (ns ns' : List ℕ) (at place : ℕ) → repetition ≢ ZeroOrOne → AreFollowed known graph p nodes repetition start ns at → at < length ns → place ≡ get_or ns at place → AreBelow (length nodes) ns → ns' ≡ with_numbers ns (get_or rows place []) → AreFollowed known graph p nodes repetition start ns' (at + 1)
     followed_next ns ns' at place ne was lt is b e name n =
         let d = name start in
-        let w = named_at d (names name nodes) ns at place lt is (below nodes rows entries web name n.apart ns b) in
+        let w = named_at d (names name nodes) ns at place lt is (below nodes rows web name n.apart ns b) in
         let k : place < length nodes = subst (λ m. m < length nodes) (sym is) (All-get_or (λ m. m < length nodes) ns at place lt b) in
         let u = get_or nodes place start in
         let i : get_or (names name nodes) place d ≡ name u = get_or-map name nodes place start in
         linked_on graph p (names name nodes) rows (links name n) d (node name n) repetition (names name (nodes_at start nodes ns)) (names name (nodes_at start nodes ns')) at (get_or (names name nodes) place d) ne (was name n)
         (let l : length (names name (nodes_at start nodes ns)) ≡ length ns = long_at name ns in omega (arith, l, lt))
         (subst (λ l. get_or (names name nodes) place d ≡ get_or l at (get_or (names name nodes) place d)) (sym (names_at name start nodes ns)) w.1)
-        (lead_names nodes rows entries web name n.apart start u place ns ns' (k, get_or_default nodes place u start k) b e ∙ ap (λ z. with_all (names name (nodes_at start nodes ns)) (leads_to (names name nodes) rows z)) (sym i))
+        (lead_names nodes rows web name n.apart start u place ns ns' (k, get_or_default nodes place u start k) b e ∙ ap (λ z. with_all (names name (nodes_at start nodes ns)) (leads_to (names name nodes) rows z)) (sym i))
 
     pub followed_all : (ns : List ℕ) (at : ℕ) → repetition ≢ ZeroOrOne → AreFollowed known graph p nodes repetition start ns at → length ns ≤ at → AreEnds known repetition (pairs graph p) graph start (nodes_at start nodes ns)
     followed_all ns at ne was le name n =

@@ -1,8 +1,6 @@
 -- Links between nodes that have places.
 use Rattle.std.proofs.Common.{◌≡◌, ℕ, ◌+◌, ◌<◌, Bool, true, false, cond, if◌then◌else◌, List, [], ◌∷◌, ◌++◌, length, map, take, get_or, Option, Some, None, nat_cmp, refl, sym, ◌∙◌, ap, subst, arith}
 use Rattle.std.specs.Prelude.{Vec, All}
-use Rattle.std.specs.BTreeMap.{is_at, insert_entry}
-use Rattle.std.specs.Map.{lookup}
 use Rattle.std.specs.List.{filter, list_any}
 use Rattle.std.proofs.Math.ListN.{get_or-map}
 use Rattle.std.proofs.lemmas.List.{take_more, length-append, length-map, length-set}
@@ -20,18 +18,9 @@ use Rattle.qs_paths_meaning.proofs.Numbers.{below_put, leads_more, leads_put}
 use Rattle.qs_paths_meaning.specs.Pair.{Pair}
 use Rattle.qs_paths_meaning.specs.inner.Links.{AreBelow, IsAt, leads_to, put_at, rights_from, rows_of, same_number}
 use Rattle.qs_paths.specs.declared.node.NodePair.{NodePair}
-use Rattle.qs_paths.specs.inner.Links.{Finds, IsWeb, LeadAlike, LinkPairs, StandsAt}
+use Rattle.qs_paths.specs.inner.Links.{IsWeb, LeadAlike, LinkPairs, StandsAt}
 use Rattle.qs_paths.specs.inner.Nodes.{AreApart, named_pair, named_pairs, names}
 use Rattle.qs_paths.proofs.Names.{map_long, names_distinct}
-use Rattle.qs_paths.proofs.Sets.{find_insert, find_is, finds_more}
-
--- ---- places
-
-pub found_at : (entries : List (ℕ × ℕ)) (nodes : List ℕ) (rows : List (List ℕ)) (n at : ℕ) → IsWeb entries nodes rows → lookup (is_at (nat_cmp n)) entries ≡ Some at → StandsAt nodes at n
-found_at entries nodes rows n at w e = subst (λ (o : Option ℕ). Finds nodes n o) (sym (find_is n entries) ∙ e) (w.finds n)
-
-pub found_none : (entries : List (ℕ × ℕ)) (nodes : List ℕ) (rows : List (List ℕ)) (n : ℕ) → IsWeb entries nodes rows → lookup (is_at (nat_cmp n)) entries ≡ None → list_any (same_number n) nodes ≡ false
-found_none entries nodes rows n w e = subst (λ (o : Option ℕ). Finds nodes n o) (sym (find_is n entries) ∙ e) (w.finds n)
 
 more_below : (nodes : List ℕ) (k : ℕ) (rows : List (List ℕ)) → All (AreBelow (length nodes)) rows → All (AreBelow (length (nodes ++ k ∷ []))) (rows ++ [] ∷ [])
 more_below nodes k rows h =
@@ -43,12 +32,11 @@ rows_last : {Z : Type 0} (next next' : List (Vec ℕ Z)) (v : Vec ℕ Z) → nex
 rows_last next next' v e i = ap rows_of e ∙ (map-append (λ (z : Vec ℕ _). z.items) next (v ∷ []) ∙ ap (λ l. rows_of next ++ l ∷ []) i)
 
 -- a new node has the next place, and an empty row
-pub put_web : {Z : Type 0} (entries entries' : List (ℕ × ℕ)) (nodes nodes' : List ℕ) (next next' : List (Vec ℕ Z)) (k at : ℕ) (v : Vec ℕ Z) → IsWeb entries nodes (rows_of next)
-    → list_any (same_number k) nodes ≡ false → at ≡ length nodes → entries' ≡ insert_entry nat_cmp entries k at → nodes' ≡ nodes ++ k ∷ [] → next' ≡ next ++ v ∷ [] → v.items ≡ [] → IsWeb entries' nodes' (rows_of next')
-put_web entries entries' nodes nodes' next next' k at v w f l e t r i =
-    subst (λ (x : List ℕ). IsWeb entries' x (rows_of next')) (sym t)
-    (subst (λ (x : List (List ℕ)). IsWeb entries' (nodes ++ k ∷ []) x) (sym (rows_last next next' v r i)) (record {
-      finds = λ n. subst (λ (o : Option ℕ). Finds (nodes ++ k ∷ []) n o) (sym (ap (lookup (same_number n)) e ∙ find_insert n k entries at)) (finds_more nodes k n at (lookup (same_number n) entries) (same_number n k) refl l (w.finds n));
+pub put_web : {Z : Type 0} (nodes nodes' : List ℕ) (next next' : List (Vec ℕ Z)) (k : ℕ) (v : Vec ℕ Z) → IsWeb nodes (rows_of next)
+    → list_any (same_number k) nodes ≡ false → nodes' ≡ nodes ++ k ∷ [] → next' ≡ next ++ v ∷ [] → v.items ≡ [] → IsWeb nodes' (rows_of next')
+put_web nodes nodes' next next' k v w f t r i =
+    subst (λ (x : List ℕ). IsWeb x (rows_of next')) (sym t)
+    (subst (λ (x : List (List ℕ)). IsWeb (nodes ++ k ∷ []) x) (sym (rows_last next next' v r i)) (record {
       distinct = subst (λ b. Distinct same_number (cond b nodes (nodes ++ k ∷ []))) f (distinct_with_new same_number Decides-eqb k nodes w.distinct);
       long = let a : length (rows_of next ++ [] ∷ []) ≡ length (rows_of next) + 1 = length-append (rows_of next) ([] ∷ []) in let b : length (nodes ++ k ∷ []) ≡ length nodes + 1 = length-append nodes (k ∷ []) in omega (arith, a, b, w.long);
       below = more_below nodes k (rows_of next) w.below;
@@ -57,8 +45,8 @@ put_web entries entries' nodes nodes' next next' k at v w f l e t r i =
 names_below : (name : ℕ → Term) (nodes : List ℕ) (rows : List (List ℕ)) → All (AreBelow (length nodes)) rows → All (AreBelow (length (names name nodes))) rows
 names_below name nodes rows h = subst (λ n. All (AreBelow n) rows) (sym (map_long name nodes)) h
 
-pub put_leads : {Z : Type 0} (entries : List (ℕ × ℕ)) (nodes nodes' : List ℕ) (next next' : List (Vec ℕ Z)) (k : ℕ) (v : Vec ℕ Z) → IsWeb entries nodes (rows_of next) → nodes' ≡ nodes ++ k ∷ [] → next' ≡ next ++ v ∷ [] → v.items ≡ [] → LeadAlike nodes (rows_of next) nodes' (rows_of next')
-put_leads entries nodes nodes' next next' k v w t r i name apart x =
+pub put_leads : {Z : Type 0} (nodes nodes' : List ℕ) (next next' : List (Vec ℕ Z)) (k : ℕ) (v : Vec ℕ Z) → IsWeb nodes (rows_of next) → nodes' ≡ nodes ++ k ∷ [] → next' ≡ next ++ v ∷ [] → v.items ≡ [] → LeadAlike nodes (rows_of next) nodes' (rows_of next')
+put_leads nodes nodes' next next' k v w t r i name apart x =
     ap (λ (l : List ℕ). leads_to (names name l) (rows_of next') x) t
     ∙ (ap (λ (l : List Term). leads_to l (rows_of next') x) (map-append name nodes (k ∷ []))
     ∙ (ap (λ (l : List (List ℕ)). leads_to (names name nodes ++ name k ∷ []) l x) (rows_last next next' v r i)
@@ -68,15 +56,14 @@ pub at_named : (name : ℕ → Term) (nodes : List ℕ) (at n : ℕ) → StandsA
 at_named name nodes at n h = (let l : length (names name nodes) ≡ length nodes = map_long name nodes in omega (arith, l, h.0), get_or-map name nodes at n ∙ ap name h.1)
 
 -- a link from one node to another
-pub link_leads : (entries : List (ℕ × ℕ)) (nodes : List ℕ) (rows rows' : List (List ℕ)) (from to x y : ℕ) → IsWeb entries nodes rows → StandsAt nodes from x → StandsAt nodes to y → rows' ≡ put_at rows from to
+pub link_leads : (nodes : List ℕ) (rows rows' : List (List ℕ)) (from to x y : ℕ) → IsWeb nodes rows → StandsAt nodes from x → StandsAt nodes to y → rows' ≡ put_at rows from to
     → (name : ℕ → Term) → AreApart name → (z : Term) → leads_to (names name nodes) rows' z ≡ leads_to (names name nodes) rows z ++ (if same_term z (name x) then name y ∷ [] else [])
-link_leads entries nodes rows rows' from to x y w h k e name apart z =
+link_leads nodes rows rows' from to x y w h k e name apart z =
     ap (λ l. leads_to (names name nodes) l z) e
     ∙ leads_put (names name nodes) rows from to (name x) (name y) z (names_distinct name apart nodes w.distinct) (w.long ∙ sym (map_long name nodes)) (at_named name nodes from x h) (at_named name nodes to y k)
 
-pub link_web : (entries : List (ℕ × ℕ)) (nodes : List ℕ) (rows rows' : List (List ℕ)) (from to x y : ℕ) → IsWeb entries nodes rows → StandsAt nodes from x → StandsAt nodes to y → rows' ≡ put_at rows from to → IsWeb entries nodes rows'
-link_web entries nodes rows rows' from to x y w h k e = record {
-  finds = w.finds;
+pub link_web : (nodes : List ℕ) (rows rows' : List (List ℕ)) (from to x y : ℕ) → IsWeb nodes rows → StandsAt nodes from x → StandsAt nodes to y → rows' ≡ put_at rows from to → IsWeb nodes rows'
+link_web nodes rows rows' from to x y w h k e = record {
   distinct = w.distinct;
   long = ap length e ∙ (length-set rows from (get_or rows from [] ++ to ∷ []) ∙ w.long);
   below = subst (All (AreBelow (length nodes))) (sym e) (below_put (length nodes) rows from to (let l : length rows ≡ length nodes = w.long in omega (arith, l, h.0)) k.0 w.below);

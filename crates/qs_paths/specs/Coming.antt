@@ -11,7 +11,7 @@ use Rattle.qs_paths_meaning.specs.Walk.{IsIn}
 use Rattle.qs_expr.specs.declared.cell.Cell.{Cell}
 use Rattle.qs_expr.specs.Cell.{denoted}
 use Rattle.qs_paths.specs.declared.stream.Pairs.{Pairs}
-use Rattle.qs_paths.specs.inner.Nodes.{IsNaming, cell_of}
+use Rattle.qs_paths.specs.inner.Nodes.{IsNaming, IsTooFar, cell_of}
 use Rattle.qs_paths.specs.inner.Seen.{graph_in, known_in}
 use Rattle.qs_paths.specs.inner.State.{HasFailedIn, IsLeftIn}
 
@@ -26,6 +26,11 @@ pub record IsToCome {V : Type 0} (content : V → Content) (default : V → Defa
   pub naming : IsNaming (known_in content pairs.edges) name
   pub denoted : AreDenoted (known_in content pairs.edges) table name ps
   pub left : IsLeftIn (graph_in content default pairs.edges) name pairs.request pairs.turned pairs.state ps
+
+-- an end is a place of the scratch table at which no table of this machine can have a term
+abbrev pub IsEndTooFar : Option Cell → Type 0
+IsEndTooFar None = ⊥
+IsEndTooFar (Some cell) = IsTooFar cell
 
 -- a fault was answered, and will be from now on
 abbrev pub HasFailed : {V : Type 0} → Pairs V → Type 0

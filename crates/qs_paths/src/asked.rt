@@ -1,15 +1,16 @@
 //! What a path is asked for over a view.
 
-ghost use Rattle.std.specs.Prelude.{◌≡◌, List, IfSome};
+ghost use Rattle.std.specs.Prelude.{◌≡◌, ◌⊎◌, List, IfNone, IfSome};
 ghost use Rattle.std.specs.Option.{option_map};
 ghost use Rattle.qs_terms.specs.declared.term.Term.{Term};
 ghost use Rattle.qs_store.specs.ActiveGraph.{active_graph};
 ghost use Rattle.qs_paths_meaning.specs.Pairs as meaning;
 ghost use Rattle.qs_expr.specs.Cell.{FitsIf, denoted_if};
 ghost use Rattle.qs_expr.specs.Scratch.{IsTable};
-ghost use Rattle.qs_paths.specs.Coming.{IsToCome};
+ghost use Rattle.qs_paths.specs.Coming.{HasFailed, IsEndTooFar, IsToCome};
 ghost use Rattle.qs_paths.specs.inner.Nodes.{cell_of};
 
+use crate::numbered::kept_numbers;
 use crate::node::node_of;
 use crate::seen::{Seen, is_lawful};
 use crate::state::{Request, State};
@@ -21,7 +22,8 @@ use std::alloc::Global;
 
 /// The number of an end, or none where it is past the greatest number.
 fn number_of(end: Option<Cell>) -> Option<Option<u64>>
-    ensures { IfSome result (λ o. option_map cell_of o ≡ end) }
+    ensures some { IfSome result (λ o. option_map cell_of o ≡ end) }
+    ensures none { IfNone result (IsEndTooFar end) }
 {
     match end {
         Some(cell) => {
@@ -34,7 +36,8 @@ fn number_of(end: Option<Cell>) -> Option<Option<u64>>
 
 /// What is asked for of a path with these ends, or none where the number of an end is past the greatest.
 fn requested<'a>(path: &'a Path, left: Option<Cell>, right: Option<Cell>) -> Option<Request<'a>>
-    ensures { IfSome result (λ q. (q.path.now ≡ path.now) × (option_map cell_of q.left ≡ left) × (option_map cell_of q.right ≡ right)) }
+    ensures none { IfNone result (IsEndTooFar left ⊎ IsEndTooFar right) }
+    ensures some { IfSome result (λ q. (q.path.now ≡ path.now) × (option_map cell_of q.left ≡ left) × (option_map cell_of q.right ≡ right)) }
 {
     let left = number_of(left)?;
     let right = number_of(right)?;
@@ -52,16 +55,19 @@ pub fn pairs<'a, V: View>(
     left: Option<Cell>,
     right: Option<Cell>,
 ) -> Pairs<'a, V>
-    ensures { (table : List Term) → IsTable (V.content view.now).known table
+    ensures asked { HasFailed result → IsEndTooFar left ⊎ IsEndTooFar right }
+    ensures coming { (table : List Term) → IsTable (V.content view.now).known table
         → FitsIf (V.content view.now).known table left → FitsIf (V.content view.now).known table right
         → IsToCome V.content V.default_seen table result
         (meaning.pairs (active_graph (V.content view.now) (V.default_seen view.now) graph) path.now
         (denoted_if (V.content view.now).known table left) (denoted_if (V.content view.now).known table right)) }
 {
     is_lawful(view);
+    let kept = kept_numbers(alloc, view, path);
     let edges = Seen {
         view,
         active: graph,
+        kept,
     };
     match requested(path, left, right) {
         Some(request) => Pairs {

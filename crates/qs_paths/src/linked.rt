@@ -29,7 +29,7 @@ fn starts_of<E: Source>(
     steps: &[NodePair],
 ) -> Result<Found, AllocError>
     requires { ArePairs (E.known edges.now) (pairs (E.graph edges.now) path.now) None None steps.now }
-    ensures { IfOk result (λ f. AreStarts (E.known edges.now) (E.graph edges.now) (pairs (E.graph edges.now) path.now) repetition f.nodes.items) }
+    ensures { IfOk result (λ f. AreStarts (E.known edges.now) (E.graph edges.now) (pairs (E.graph edges.now) path.now) repetition f.nodes.keys) }
 {
     match repetition {
         Repetition::OneOrMore => {
@@ -81,14 +81,14 @@ fn walk<E: Source>(
     start: Placed,
     found: &mut Reached,
 ) -> Result<(), AllocError>
-    requires web { IsWeb links.now.places.entries links.now.nodes.items (rows_of links.now.next.items) }
-    requires links { LinkSteps (E.known edges.now) links.now.nodes.items (rows_of links.now.next.items) (pairs (E.graph edges.now) path.now) }
-    requires at { StandsAt links.now.nodes.items start.place start.node }
+    requires web { IsWeb links.now.nodes.keys (rows_of links.now.next.items) }
+    requires links { LinkSteps (E.known edges.now) links.now.nodes.keys (rows_of links.now.next.items) (pairs (E.graph edges.now) path.now) }
+    requires at { StandsAt links.now.nodes.keys start.place start.node }
     requires node { NamesNode (E.known edges.now) (E.graph edges.now) start.node }
-    requires long { length found.old.rounds.items ≡ length links.now.nodes.items }
+    requires long { length found.old.rounds.items ≡ length links.now.nodes.keys }
     requires marked { IsMarked found.old.round found.old.rounds.items found.old.numbers.items }
-    ensures ends { OnOk result (AreEnds (E.known edges.now) repetition (pairs (E.graph edges.now) path.now) (E.graph edges.now) start.node (nodes_at start.node links.now.nodes.items found.new.numbers.items)) }
-    ensures long { OnOk result (length found.new.rounds.items ≡ length links.now.nodes.items) }
+    ensures ends { OnOk result (AreEnds (E.known edges.now) repetition (pairs (E.graph edges.now) path.now) (E.graph edges.now) start.node (nodes_at start.node links.now.nodes.keys found.new.numbers.items)) }
+    ensures long { OnOk result (length found.new.rounds.items ≡ length links.now.nodes.keys) }
     ensures marked { OnOk result (IsMarked found.new.round found.new.rounds.items found.new.numbers.items) }
 {
     found.clear()?;
@@ -111,15 +111,15 @@ fn begin<E: Source>(
     start: Placed,
     found: &mut Reached,
 ) -> Result<(), AllocError>
-    requires web { IsWeb links.now.places.entries links.now.nodes.items (rows_of links.now.next.items) }
-    requires links { LinkSteps (E.known edges.now) links.now.nodes.items (rows_of links.now.next.items) (pairs (E.graph edges.now) path.now) }
-    requires at { StandsAt links.now.nodes.items start.place start.node }
+    requires web { IsWeb links.now.nodes.keys (rows_of links.now.next.items) }
+    requires links { LinkSteps (E.known edges.now) links.now.nodes.keys (rows_of links.now.next.items) (pairs (E.graph edges.now) path.now) }
+    requires at { StandsAt links.now.nodes.keys start.place start.node }
     requires node { NamesNode (E.known edges.now) (E.graph edges.now) start.node }
     requires empty { found.old.numbers.items ≡ [] }
-    requires long { length found.old.rounds.items ≡ length links.now.nodes.items }
+    requires long { length found.old.rounds.items ≡ length links.now.nodes.keys }
     requires marked { IsMarked found.old.round found.old.rounds.items found.old.numbers.items }
-    ensures holds { OnOk result (AreBegun (E.known edges.now) repetition (pairs (E.graph edges.now) path.now) start.node (nodes_at start.node links.now.nodes.items found.new.numbers.items)) }
-    ensures long { OnOk result (length found.new.rounds.items ≡ length links.now.nodes.items) }
+    ensures holds { OnOk result (AreBegun (E.known edges.now) repetition (pairs (E.graph edges.now) path.now) start.node (nodes_at start.node links.now.nodes.keys found.new.numbers.items)) }
+    ensures long { OnOk result (length found.new.rounds.items ≡ length links.now.nodes.keys) }
     ensures marked { OnOk result (IsMarked found.new.round found.new.rounds.items found.new.numbers.items) }
 {
     match repetition {
@@ -146,14 +146,14 @@ fn follow<E: Source>(
     found: &mut Reached,
 ) -> Result<(), AllocError>
     requires closing { repetition ≢ ZeroOrOne }
-    requires web { IsWeb links.now.places.entries links.now.nodes.items (rows_of links.now.next.items) }
-    requires links { LinkSteps (E.known edges.now) links.now.nodes.items (rows_of links.now.next.items) (pairs (E.graph edges.now) path.now) }
+    requires web { IsWeb links.now.nodes.keys (rows_of links.now.next.items) }
+    requires links { LinkSteps (E.known edges.now) links.now.nodes.keys (rows_of links.now.next.items) (pairs (E.graph edges.now) path.now) }
     requires node { NamesNode (E.known edges.now) (E.graph edges.now) start.node }
-    requires long { length found.old.rounds.items ≡ length links.now.nodes.items }
+    requires long { length found.old.rounds.items ≡ length links.now.nodes.keys }
     requires marked { IsMarked found.old.round found.old.rounds.items found.old.numbers.items }
-    requires holds { AreBegun (E.known edges.now) repetition (pairs (E.graph edges.now) path.now) start.node (nodes_at start.node links.now.nodes.items found.old.numbers.items) }
-    ensures ends { OnOk result (AreEnds (E.known edges.now) repetition (pairs (E.graph edges.now) path.now) (E.graph edges.now) start.node (nodes_at start.node links.now.nodes.items found.new.numbers.items)) }
-    ensures long { OnOk result (length found.new.rounds.items ≡ length links.now.nodes.items) }
+    requires holds { AreBegun (E.known edges.now) repetition (pairs (E.graph edges.now) path.now) start.node (nodes_at start.node links.now.nodes.keys found.old.numbers.items) }
+    ensures ends { OnOk result (AreEnds (E.known edges.now) repetition (pairs (E.graph edges.now) path.now) (E.graph edges.now) start.node (nodes_at start.node links.now.nodes.keys found.new.numbers.items)) }
+    ensures long { OnOk result (length found.new.rounds.items ≡ length links.now.nodes.keys) }
     ensures marked { OnOk result (IsMarked found.new.round found.new.rounds.items found.new.numbers.items) }
 {
     let mut at = 0;

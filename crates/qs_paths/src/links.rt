@@ -10,14 +10,13 @@ ghost use Rattle.qs_paths.specs.inner.Nodes.{AreApart, names};
 
 use crate::node::NodePair;
 use crate::reached::Reached;
+use indexmap::IndexSet;
 use std::alloc::{AllocError, Global};
-use std::collections::BTreeMap;
 
 /// Nodes with their places, and at each place those of the nodes that pairs lead to from its node, one for each pair.
 #[derive(Drop)]
 pub struct Links {
-    pub places: BTreeMap<u64, usize>,
-    pub nodes: Vec<u64>,
+    pub nodes: IndexSet<u64>,
     pub next: Vec<Vec<usize>>,
 }
 
@@ -40,51 +39,36 @@ fn push_at(rows: &mut Vec<Vec<usize>>, at: usize, number: usize) -> Result<(), A
 
 impl Links {
     fn new(alloc: Global) -> Links
-        ensures web { IsWeb result.places.entries result.nodes.items (rows_of result.next.items) }
-        ensures links { LinkPairs result.nodes.items (rows_of result.next.items) [] }
+        ensures web { IsWeb result.nodes.keys (rows_of result.next.items) }
+        ensures links { LinkPairs result.nodes.keys (rows_of result.next.items) [] }
     {
         Links {
-            places: BTreeMap::new(alloc),
-            nodes: Vec::new(alloc),
+            nodes: IndexSet::new(alloc),
             next: Vec::new(alloc),
         }
     }
 
-    /// Gives the node the next place, and an empty row.
-    fn put_new(&mut self, alloc: Global, node: u64) -> Result<usize, AllocError>
-        requires web { IsWeb self.old.places.entries self.old.nodes.items (rows_of self.old.next.items) }
-        requires new { list_any (same_number node) self.old.nodes.items ≡ false }
-        ensures web { OnOk result (IsWeb self.new.places.entries self.new.nodes.items (rows_of self.new.next.items)) }
-        ensures kept { OnOk result ((at n : ℕ) → StandsAt self.old.nodes.items at n → StandsAt self.new.nodes.items at n) }
-        ensures leads { OnOk result (LeadAlike self.old.nodes.items (rows_of self.old.next.items) self.new.nodes.items (rows_of self.new.next.items)) }
-        ensures at { IfOk result (λ at. StandsAt self.new.nodes.items at node) }
-    {
-        let place = self.nodes.as_slice().len();
-        self.nodes.push(node)?;
-        self.next.push(Vec::new(alloc))?;
-        self.places.insert(node, place)?;
-        Ok(place)
-    }
-
     /// The place of the node; the next one where it has none yet.
     fn place(&mut self, alloc: Global, node: u64) -> Result<usize, AllocError>
-        requires { IsWeb self.old.places.entries self.old.nodes.items (rows_of self.old.next.items) }
-        ensures web { OnOk result (IsWeb self.new.places.entries self.new.nodes.items (rows_of self.new.next.items)) }
-        ensures kept { OnOk result ((at n : ℕ) → StandsAt self.old.nodes.items at n → StandsAt self.new.nodes.items at n) }
-        ensures leads { OnOk result (LeadAlike self.old.nodes.items (rows_of self.old.next.items) self.new.nodes.items (rows_of self.new.next.items)) }
-        ensures at { IfOk result (λ at. StandsAt self.new.nodes.items at node) }
+        requires { IsWeb self.old.nodes.keys (rows_of self.old.next.items) }
+        ensures web { OnOk result (IsWeb self.new.nodes.keys (rows_of self.new.next.items)) }
+        ensures kept { OnOk result ((at n : ℕ) → StandsAt self.old.nodes.keys at n → StandsAt self.new.nodes.keys at n) }
+        ensures leads { OnOk result (LeadAlike self.old.nodes.keys (rows_of self.old.next.items) self.new.nodes.keys (rows_of self.new.next.items)) }
+        ensures at { IfOk result (λ at. StandsAt self.new.nodes.keys at node) }
     {
-        match self.places.get(&node) {
-            Some(place) => Ok(*place),
-            None => self.put_new(alloc, node),
+        let (place, is_new) = self.nodes.insert_full(node)?;
+        if !is_new {
+            return Ok(place);
         }
+        self.next.push(Vec::new(alloc))?;
+        Ok(place)
     }
 
     /// Has a link lead from the left end of the pair to its right end.
     fn link(&mut self, alloc: Global, pair: NodePair) -> Result<(), AllocError>
-        requires { IsWeb self.old.places.entries self.old.nodes.items (rows_of self.old.next.items) }
-        ensures web { OnOk result (IsWeb self.new.places.entries self.new.nodes.items (rows_of self.new.next.items)) }
-        ensures leads { OnOk result ((name : ℕ → Term) → AreApart name → (x : Term) → leads_to (names name self.new.nodes.items) (rows_of self.new.next.items) x ≡ leads_to (names name self.old.nodes.items) (rows_of self.old.next.items) x ++ (if same_term x (name pair.left) then name pair.right ∷ [] else [])) }
+        requires { IsWeb self.old.nodes.keys (rows_of self.old.next.items) }
+        ensures web { OnOk result (IsWeb self.new.nodes.keys (rows_of self.new.next.items)) }
+        ensures leads { OnOk result ((name : ℕ → Term) → AreApart name → (x : Term) → leads_to (names name self.new.nodes.keys) (rows_of self.new.next.items) x ≡ leads_to (names name self.old.nodes.keys) (rows_of self.old.next.items) x ++ (if same_term x (name pair.left) then name pair.right ∷ [] else [])) }
     {
         let from = self.place(alloc, pair.left)?;
         let to = self.place(alloc, pair.right)?;
@@ -94,11 +78,11 @@ impl Links {
 
     /// The nodes with their places; those that no link has yet get the next ones.
     pub fn placed(&mut self, alloc: Global, nodes: &[u64]) -> Result<Vec<Placed>, AllocError>
-        requires { IsWeb self.old.places.entries self.old.nodes.items (rows_of self.old.next.items) }
-        ensures web { OnOk result (IsWeb self.new.places.entries self.new.nodes.items (rows_of self.new.next.items)) }
-        ensures leads { OnOk result (LeadAlike self.old.nodes.items (rows_of self.old.next.items) self.new.nodes.items (rows_of self.new.next.items)) }
+        requires { IsWeb self.old.nodes.keys (rows_of self.old.next.items) }
+        ensures web { OnOk result (IsWeb self.new.nodes.keys (rows_of self.new.next.items)) }
+        ensures leads { OnOk result (LeadAlike self.old.nodes.keys (rows_of self.old.next.items) self.new.nodes.keys (rows_of self.new.next.items)) }
         ensures nodes { IfOk result (λ all. map (λ s. s.node) all.items ≡ nodes.now) }
-        ensures at { IfOk result (λ all. All (λ s. StandsAt self.new.nodes.items s.place s.node) all.items) }
+        ensures at { IfOk result (λ all. All (λ s. StandsAt self.new.nodes.keys s.place s.node) all.items) }
     {
         let mut all = Vec::with_capacity(alloc, nodes.len())?;
         for node in nodes {
@@ -124,8 +108,8 @@ impl Links {
 
 /// The links of the pairs.
 pub fn links_of(alloc: Global, pairs: &[NodePair]) -> Result<Links, AllocError>
-    ensures web { IfOk result (λ l. IsWeb l.places.entries l.nodes.items (rows_of l.next.items)) }
-    ensures links { IfOk result (λ l. LinkPairs l.nodes.items (rows_of l.next.items) pairs.now) }
+    ensures web { IfOk result (λ l. IsWeb l.nodes.keys (rows_of l.next.items)) }
+    ensures links { IfOk result (λ l. LinkPairs l.nodes.keys (rows_of l.next.items) pairs.now) }
 {
     let mut links = Links::new(alloc);
     for pair in pairs {

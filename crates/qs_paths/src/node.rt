@@ -1,7 +1,7 @@
 //! Nodes by numbers.
 
-ghost use Rattle.std.specs.Prelude.{◌≡◌, IfSome};
-ghost use Rattle.qs_paths.specs.inner.Nodes.{agrees_node, cell_of, node_pair, swapped_nodes};
+ghost use Rattle.std.specs.Prelude.{◌≡◌, IfNone, IfSome};
+ghost use Rattle.qs_paths.specs.inner.Nodes.{IsTooFar, agrees_node, cell_of, node_pair, swapped_nodes};
 
 use qs_expr::Cell;
 
@@ -29,7 +29,8 @@ impl NodePair {
 
 /// The number of a cell, or none where it is past the greatest number.
 pub fn node_of(cell: Cell) -> Option<u64>
-    ensures { IfSome result (λ n. cell_of n ≡ cell) }
+    ensures some { IfSome result (λ n. cell_of n ≡ cell) }
+    ensures none { IfNone result (IsTooFar cell) }
 {
     match cell {
         Cell::Known(number) => Some(number as u64),

@@ -3,26 +3,27 @@
 ghost use Rattle.std.specs.Prelude.{◌≡◌, ◌<◌, ◌^◌, ◌++◌, length, MatchOption, IfOk, OnOk};
 ghost use Rattle.qs_terms.specs.Term.{same_term};
 ghost use Rattle.qs_terms.specs.declared.term.Term.TheVariants as term_is;
-ghost use Rattle.qs_dict.specs.Dict.{number_of};
 ghost use Rattle.qs_store.specs.ActiveGraph.{IsSeen, active_graph};
 ghost use Rattle.qs_paths_meaning.specs.Steps.{along, is_outside};
 ghost use Rattle.qs_paths.specs.inner.Nodes.{ArePairs, TellsNode};
 ghost use Rattle.qs_paths.specs.inner.Scans.{AreOutside, AreScanned, IsPast, edges_in, number_out};
 
+use crate::numbered::number_of_iri;
 use crate::node::NodePair;
 use crate::scan::{Scan, collected};
 use crate::source::Source;
 use crate::steps::is_of;
 use qs_store::{Active, Triples, View};
 use qs_syntax_ast::path::NegatedIri;
-use qs_terms::{Iri, Term};
+use qs_terms::Iri;
 use std::alloc::{AllocError, Global};
 
-/// The graph that is active over a view.
+/// The graph that is active over a view, and numbers of IRIs that may be asked for again.
 #[derive(Drop)]
 pub struct Seen<'v, V: View> {
     pub view: &'v V,
     pub active: Active,
+    pub kept: Vec<u32>,
 }
 
 /// The content of a view is lawful, and the numbers of its terms fit 4 bytes.
@@ -63,32 +64,21 @@ fn scanned<'v, V: View>(
     Some(view.scan(active, subject, predicate, object))
 }
 
-/// The number of the IRI, where it is known.
-fn number_of_iri<V: View>(view: &V, iri: &Iri) -> Result<Option<u32>, AllocError>
-    ensures { IfOk result (λ o. o ≡ number_of (V.content view.now).known (term_is.Iri iri.now)) }
-{
-    let term = Term::Iri(iri.try_clone()?);
-    let number = view.find(&term);
-    drop(term);
-    Ok(number)
-}
-
 /// The pairs of the triples with this predicate and these ends.
 pub fn along_scan<'v, V: View>(
     alloc: Global,
-    view: &'v V,
-    active: Active,
+    edges: &Seen<'v, V>,
     predicate: &Iri,
     left: Option<u64>,
     right: Option<u64>,
 ) -> Result<Option<Scan<'v>>, AllocError>
-    ensures { IfOk result (λ s. ArePairs (V.content view.now).known (along (same_term (term_is.Iri predicate.now)) (active_graph (V.content view.now) (V.default_seen view.now) active)) left right (edges_in s)) }
+    ensures { IfOk result (λ s. ArePairs (V.content edges.now.view.now).known (along (same_term (term_is.Iri predicate.now)) (active_graph (V.content edges.now.view.now) (V.default_seen edges.now.view.now) edges.now.active)) left right (edges_in s)) }
 {
-    is_lawful(view);
-    let Some(number) = number_of_iri(view, predicate)? else {
+    is_lawful(edges.view);
+    let Some(number) = number_of_iri(edges.view, edges.kept.as_slice(), predicate)? else {
         return Ok(None);
     };
-    match scanned(view, active, left, Some(number), right) {
+    match scanned(edges.view, edges.active, left, Some(number), right) {
         Some(triples) => Ok(Some(Scan {
             triples,
             outside: Vec::new(alloc),
@@ -100,31 +90,31 @@ pub fn along_scan<'v, V: View>(
 /// The numbers of the IRIs of the members of this direction, as far as they are known.
 fn numbers_of<V: View>(
     alloc: Global,
-    view: &V,
+    edges: &Seen<'_, V>,
     members: &[NegatedIri],
     inverse: bool,
 ) -> Result<Vec<u32>, AllocError>
-    requires { IsSeen (V.content view.now) }
-    ensures { IfOk result (λ ns. AreOutside (V.content view.now).known inverse members.now ns.items) }
+    requires { IsSeen (V.content edges.now.view.now) }
+    ensures { IfOk result (λ ns. AreOutside (V.content edges.now.view.now).known inverse members.now ns.items) }
 {
     let mut numbers = Vec::new(alloc);
     for member in members {
-        put_number(view, member, inverse, &mut numbers)?;
+        put_number(edges, member, inverse, &mut numbers)?;
     }
     Ok(numbers)
 }
 
 /// Puts the number of the member's IRI, where it is of this direction and known.
 fn put_number<V: View>(
-    view: &V,
+    edges: &Seen<'_, V>,
     member: &NegatedIri,
     inverse: bool,
     numbers: &mut Vec<u32>,
 ) -> Result<(), AllocError>
-    ensures { OnOk result (numbers.new.items ≡ numbers.old.items ++ number_out (V.content view.now).known inverse member.now) }
+    ensures { OnOk result (numbers.new.items ≡ numbers.old.items ++ number_out (V.content edges.now.view.now).known inverse member.now) }
 {
     if is_of(member, inverse) {
-        if let Some(number) = number_of_iri(view, &member.iri)? {
+        if let Some(number) = number_of_iri(edges.view, edges.kept.as_slice(), &member.iri)? {
             numbers.push(number)?;
         }
     }
@@ -134,18 +124,17 @@ fn put_number<V: View>(
 /// The pairs of the triples with these ends whose predicate none of the members of this direction names.
 pub fn outside_scan<'v, V: View>(
     alloc: Global,
-    view: &'v V,
-    active: Active,
+    edges: &Seen<'v, V>,
     members: &[NegatedIri],
     inverse: bool,
     left: Option<u64>,
     right: Option<u64>,
 ) -> Result<Option<Scan<'v>>, AllocError>
-    ensures { IfOk result (λ s. ArePairs (V.content view.now).known (along (is_outside inverse members.now) (active_graph (V.content view.now) (V.default_seen view.now) active)) left right (edges_in s)) }
+    ensures { IfOk result (λ s. ArePairs (V.content edges.now.view.now).known (along (is_outside inverse members.now) (active_graph (V.content edges.now.view.now) (V.default_seen edges.now.view.now) edges.now.active)) left right (edges_in s)) }
 {
-    is_lawful(view);
-    let outside = numbers_of(alloc, view, members, inverse)?;
-    match scanned(view, active, left, None, right) {
+    is_lawful(edges.view);
+    let outside = numbers_of(alloc, edges, members, inverse)?;
+    match scanned(edges.view, edges.active, left, None, right) {
         Some(triples) => Ok(Some(Scan { triples, outside })),
         None => Ok(None),
     }
@@ -180,7 +169,7 @@ impl<'v, V: View> Source for Seen<'v, V> {
         left: Option<u64>,
         right: Option<u64>,
     ) -> Result<Vec<NodePair>, AllocError> {
-        let scan = along_scan(alloc, self.view, self.active, predicate, left, right)?;
+        let scan = along_scan(alloc, self, predicate, left, right)?;
         let pairs = collected(alloc, scan)?;
         Ok(pairs)
     }
@@ -193,7 +182,7 @@ impl<'v, V: View> Source for Seen<'v, V> {
         left: Option<u64>,
         right: Option<u64>,
     ) -> Result<Vec<NodePair>, AllocError> {
-        let scan = outside_scan(alloc, self.view, self.active, members, inverse, left, right)?;
+        let scan = outside_scan(alloc, self, members, inverse, left, right)?;
         let pairs = collected(alloc, scan)?;
         Ok(pairs)
     }

@@ -46,7 +46,7 @@ pub fn of_iri<'a, V: View>(
 ) -> Result<Stretch<'a>, AllocError>
     ensures { IfOk result (λ s. OpensStretch (known_in V.content edges.now) (graph_in V.content V.default_seen edges.now) (along (same_term (term_is.Iri iri.now)) (graph_in V.content V.default_seen edges.now)) left right s) }
 {
-    let scan = along_scan(alloc, edges.view, edges.active, iri, left, right)?;
+    let scan = along_scan(alloc, edges, iri, left, right)?;
     Ok(Stretch {
         scan,
         turned: false,
@@ -87,7 +87,7 @@ pub fn of_set<'a, V: View>(
             more,
         });
     }
-    let scan = outside_scan(alloc, edges.view, edges.active, members, false, left, right)?;
+    let scan = outside_scan(alloc, edges, members, false, left, right)?;
     Ok(Stretch {
         scan,
         turned: false,
@@ -129,8 +129,7 @@ pub fn next_of_stretch<'a, V: View>(
     stretch.turned = true;
     stretch.scan = outside_scan(
         alloc,
-        edges.view,
-        edges.active,
+        edges,
         more.members,
         true,
         more.right,

@@ -32,8 +32,8 @@ fn spread(links: &Links, from: usize, found: &mut Reached) -> Result<(), AllocEr
 
 /// The starts' numbers and those that links lead to from them, each once, in the order in which they are led to.
 fn swept(alloc: Global, links: &Links, starts: &[Placed]) -> Result<Reached, AllocError>
-    requires web { IsWeb links.now.places.entries links.now.nodes.items (rows_of links.now.next.items) }
-    requires at { All (λ s. StandsAt links.now.nodes.items s.place s.node) starts.now }
+    requires web { IsWeb links.now.nodes.keys (rows_of links.now.next.items) }
+    requires at { All (λ s. StandsAt links.now.nodes.keys s.place s.node) starts.now }
 {
     let mut found = Reached::new(alloc, links.nodes.as_slice().len())?;
     for start in starts {
@@ -69,8 +69,8 @@ pub fn put_in_order(
     links: &Links,
     starts: &mut Vec<Placed>,
 ) -> Result<(), AllocError>
-    requires web { IsWeb links.now.places.entries links.now.nodes.items (rows_of links.now.next.items) }
-    requires at { All (λ s. StandsAt links.now.nodes.items s.place s.node) starts.old.items }
+    requires web { IsWeb links.now.nodes.keys (rows_of links.now.next.items) }
+    requires at { All (λ s. StandsAt links.now.nodes.keys s.place s.node) starts.old.items }
     ensures { OnOk result (IsPermutation starts.old.items starts.new.items) }
 {
     let found = swept(alloc, links, starts.as_slice())?;

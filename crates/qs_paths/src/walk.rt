@@ -1,6 +1,6 @@
 //! Closures from one end: a walk that goes on as far as it is asked for.
 
-ghost use Rattle.std.specs.Prelude.{◌≡◌, ◌≢◌, ◌<◌, true, length, IfOk, OnOk};
+ghost use Rattle.std.specs.Prelude.{◌≡◌, ◌≢◌, ◌+◌, ◌<◌, ◌^◌, true, length, IfOk, OnOk};
 ghost use Rattle.qs_syntax_tree.specs.declared.path.Repetition.TheVariants.{ZeroOrOne};
 ghost use Rattle.qs_paths.specs.inner.State.{FindsNext, GivesWalked, Starts, walked_pair};
 
@@ -57,7 +57,8 @@ pub fn started<'a, E: Source>(
 fn find_next<E: Source>(alloc: Global, edges: &E, walk: &mut Walk<'_>) -> Result<bool, AllocError>
     ensures goes { IfOk result (λ b. FindsNext (E.known edges.now) (E.graph edges.now) walk.old b walk.new) }
     ensures given { OnOk result (walk.new.given ≡ walk.old.given) }
-    ensures ready { IfOk result (λ b. b ≡ true → walk.new.given < length walk.new.found.nodes.items) }
+    ensures ready { IfOk result (λ b. b ≡ true → walk.new.given < length walk.new.found.nodes.keys) }
+    ensures small { IfOk result (λ b. b ≡ true → walk.new.given + 1 < 2 ^ 64) }
 {
     'steps: while walk.given >= walk.found.len() {
         if walk.at >= walk.found.len() {

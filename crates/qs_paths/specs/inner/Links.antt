@@ -1,7 +1,6 @@
 -- The nodes that steps lead to, kept at those that they lead from, by places.
 use Rattle.std.specs.Prelude.{◌≡◌, ℕ, ◌<◌, List, length, map, Option, None, Some, All, slice_index_or, false}
 use Rattle.std.specs.List.{list_any}
-use Rattle.std.specs.Map.{lookup}
 use Rattle.qs_terms.specs.declared.term.Term.{Term}
 use Rattle.qs_terms.specs.Bag.{Distinct}
 use Rattle.qs_paths_meaning.specs.Pairs.{AtEnds}
@@ -17,14 +16,8 @@ StandsAt nodes at n = (at < length nodes) × (slice_index_or nodes at n ≡ n)
 abbrev pub nodes_at : ℕ → List ℕ → List ℕ → List ℕ
 nodes_at d nodes places = map (λ at. slice_index_or nodes at d) places
 
--- what a map answers for the node: its place, or none where it isn't in the list
-abbrev pub Finds : List ℕ → ℕ → Option ℕ → Type 0
-Finds nodes n None = list_any (same_number n) nodes ≡ false
-Finds nodes n (Some at) = StandsAt nodes at n
-
 -- each node has one place, and a row of places
-pub record IsWeb (entries : List (ℕ × ℕ)) (nodes : List ℕ) (rows : List (List ℕ)) : Type 0 where
-  pub finds : (n : ℕ) → Finds nodes n (lookup (same_number n) entries)
+pub record IsWeb (nodes : List ℕ) (rows : List (List ℕ)) : Type 0 where
   pub distinct : Distinct same_number nodes
   pub long : length rows ≡ length nodes
   pub below : All (AreBelow (length nodes)) rows

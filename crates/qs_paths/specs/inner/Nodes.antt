@@ -1,5 +1,5 @@
 -- Nodes by numbers, and the terms that the numbers name.
-use Rattle.std.specs.Prelude.{◌≡◌, ℕ, ◌-◌, ◌==◌, Bool, true, false, ◌||◌, List, [], ◌∷◌, map, Option, None, Some, nat_lt, if◌then◌else◌}
+use Rattle.std.specs.Prelude.{◌≡◌, ℕ, ◌+◌, ◌-◌, ◌^◌, ◌≤◌, ◌==◌, Bool, true, false, ◌||◌, List, [], ◌∷◌, map, Option, None, Some, nat_lt, if◌then◌else◌}
 use Rattle.std.specs.List.{filter, flat_map, list_any}
 use Rattle.qs_terms.specs.declared.term.Term.{Term}
 use Rattle.qs_terms.specs.Bag.{SameBag}
@@ -23,6 +23,11 @@ use Rattle.qs_paths.specs.declared.node.NodePair.{NodePair}
 -- the cell of a node's number: the numbers of known terms come first, then the places of the scratch table
 abbrev pub cell_of : ℕ → Cell
 cell_of n = if nat_lt n 4294967296 then Known n else Scratch (n - 4294967296)
+
+-- the cell has no number, since that would be past the greatest
+abbrev pub IsTooFar : Cell → Type 0
+IsTooFar (Known n) = ⊥
+IsTooFar (Scratch place) = 2 ^ 64 ≤ place + 2 ^ 32
 
 -- numbers name the same term only where they are equal
 abbrev pub AreApart : (ℕ → Term) → Type 0
@@ -131,7 +136,3 @@ TellsNode known graph n b = (name : ℕ → Term) → IsNaming known name → b 
 -- a node is given, and another number is left open
 abbrev pub IsNodeOrOpen : List Term → Graph → ℕ → Option ℕ → Type 0
 IsNodeOrOpen known graph n o = (name : ℕ → Term) → IsNaming known name → named_end name o ≡ (if list_any (same_term (name n)) (nodes_of graph) then Some (name n) else None)
-
--- the keys of the set are the numbers of the list
-abbrev pub Knows : List ℕ → List ℕ → Type 0
-Knows keys ns = (n : ℕ) → list_any (same_number n) keys ≡ list_any (same_number n) ns

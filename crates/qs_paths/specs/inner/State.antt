@@ -23,7 +23,7 @@ use Rattle.qs_paths.specs.declared.state.Request.{Request}
 use Rattle.qs_paths.specs.declared.state.Rows.{Rows}
 use Rattle.qs_paths.specs.declared.state.State.{State}
 use Rattle.qs_paths.specs.declared.state.State.TheVariants as state
-use Rattle.qs_paths.specs.inner.Nodes.{IsNaming, Knows, named_end, named_pair, named_pairs, names, node_pair, swapped_nodes}
+use Rattle.qs_paths.specs.inner.Nodes.{IsNaming, named_end, named_pair, named_pairs, names, node_pair, swapped_nodes}
 use Rattle.qs_paths.specs.inner.Scans.{edges_in}
 
 -- ---- one pair after another
@@ -53,11 +53,11 @@ followed graph walk = turned walk.backward (pairs graph walk.path.now)
 
 -- the search of a walk, between two steps
 abbrev pub IsSearch : Graph → (ℕ → Term) → Walk → Type 0
-IsSearch graph name walk = Searching graph (followed graph walk) (tied_turned graph walk.backward (pairs graph walk.path.now) (tied graph walk.path.now)) (name walk.start) walk.repetition (names name walk.found.nodes.items) walk.at
+IsSearch graph name walk = Searching graph (followed graph walk) (tied_turned graph walk.backward (pairs graph walk.path.now) (tied graph walk.path.now)) (name walk.start) walk.repetition (names name walk.found.nodes.keys) walk.at
 
 -- a term that wasn't handed out yet
 abbrev pub is_new : (ℕ → Term) → Walk → Term → Bool
-is_new name walk y = not (list_any (same_term y) (names name (take walk.given walk.found.nodes.items)))
+is_new name walk y = not (list_any (same_term y) (names name (take walk.given walk.found.nodes.keys)))
 
 -- the pairs with those ends of the closure that weren't handed out yet
 abbrev pub walk_left : Graph → (ℕ → Term) → Walk → List Pair
@@ -66,9 +66,8 @@ walk_left graph name walk = turned_pairs walk.backward (map (pair (name walk.sta
 -- the pairs that the walk has still to give
 pub record IsWalking (graph : Graph) (name : ℕ → Term) (walk : Walk) (ps : List Pair) : Type 0 where
   pub closing : walk.repetition ≢ ZeroOrOne
-  pub knows : Knows walk.found.known.keys walk.found.nodes.items
   pub search : IsSearch graph name walk
-  pub given : walk.given ≤ length walk.found.nodes.items
+  pub given : walk.given ≤ length walk.found.nodes.keys
   pub left : SameBag ps (walk_left graph name walk)
 
 -- a walk that begins has all pairs of the closure from its start to give

@@ -5,8 +5,8 @@ use Rattle.qs_paths.proofs.Naming.{all_denoted, name, named_given, naming}
 use Rattle.qs_paths.proofs.Opening.{asked_left}
 use Rattle.qs_paths.proofs.asked.pairs.Goals as goal
 
-pub returns-in-Some : goal.returns-in-Some
-returns-in-Some g c table one l r =
+pub returns-in-Some-clause-coming : goal.returns-in-Some-clause-coming
+returns-in-Some-clause-coming g c table one l r =
     let content = g.V.View.content c.args.view.now in
     let default = g.V.View.default_seen c.args.view.now in
     let few = c.is_lawful.ensures.few in
@@ -15,12 +15,12 @@ returns-in-Some g c table one l r =
       naming = naming content.known table one few;
       denoted = all_denoted content default c.args.graph c.is_lawful.ensures.seen few table one c.args.path.now c.args.left c.args.right l r;
       left =
-          asked_left (active_graph content default c.args.graph) c.args.path.now q.path.now (denoted_if content.known table c.args.left) (denoted_if content.known table c.args.right) (named_end (name content.known table one few) q.left) (named_end (name content.known table one few) q.right) c.in-Some.ensures.0
-          (named_given content.known table one few q.left c.args.left l c.in-Some.ensures.1) (named_given content.known table one few q.right c.args.right r c.in-Some.ensures.2);
+          asked_left (active_graph content default c.args.graph) c.args.path.now q.path.now (denoted_if content.known table c.args.left) (denoted_if content.known table c.args.right) (named_end (name content.known table one few) q.left) (named_end (name content.known table one few) q.right) c.in-Some.ensures.some.0
+          (named_given content.known table one few q.left c.args.left l c.in-Some.ensures.some.1) (named_given content.known table one few q.right c.args.right r c.in-Some.ensures.some.2);
     }
 
-pub returns-in-None : goal.returns-in-None
-returns-in-None g c table one l r =
+pub returns-in-None-clause-coming : goal.returns-in-None-clause-coming
+returns-in-None-clause-coming g c table one l r =
     let content = g.V.View.content c.args.view.now in
     let few = c.is_lawful.ensures.few in record {
       name = name content.known table one few;

@@ -5,10 +5,8 @@ use Rattle.qs_paths.proofs.Names.{item, lefts_more, zero_pair}
 use Rattle.qs_paths.proofs.found.left_ends.Goals as goal
 
 pub loop-pair-preserved : goal.loop-pair-preserved
-loop-pair-preserved c = record {
-  known = c.in_ok-add.ensures.known c.loop-pair.invariant.known;
-  nodes =
-      c.in_ok-add.ensures.nodes c.loop-pair.invariant.known
-      ∙ (ap (λ l. with_new same_number l (get_or c.args.pairs.now c.loop-pair.pair-index zero_pair).left) c.loop-pair.invariant.nodes
-      ∙ sym (lefts_more [] c.args.pairs.now c.loop-pair.pair-index (get_or c.args.pairs.now c.loop-pair.pair-index zero_pair) c.loop-pair-test.true (item c.args.pairs.now c.loop-pair.pair-index zero_pair c.loop-pair-test.true)));
-}
+loop-pair-preserved c =
+    let e = get_or c.args.pairs.now c.loop-pair.pair-index zero_pair in
+    c.in_ok-add.ensures
+    ∙ (ap (λ l. with_new same_number l e.left) c.loop-pair.invariant
+    ∙ sym (lefts_more [] c.args.pairs.now c.loop-pair.pair-index e c.loop-pair-test.true (item c.args.pairs.now c.loop-pair.pair-index zero_pair c.loop-pair-test.true)))

@@ -1,29 +1,39 @@
-use Rattle.std.proofs.Common.{◌++◌, ◌∙◌, ap, get_or, map}
+use Rattle.std.proofs.Common.{◌++◌, ◌∙◌, [], ap, get_or, length, map, subst, sym}
+use Rattle.std.proofs.lemmas.List.Sorted.{IsPermutation-refl}
 use Rattle.qs_paths_meaning.specs.Pairs.{pairs}
 use Rattle.qs_paths_meaning.specs.inner.Links.{rows_of}
 use Rattle.qs_paths_meaning.proofs.AlongLinks.{start_at}
 use Rattle.qs_paths.specs.declared.links.Placed.{Placed as PlacedValue}
 use Rattle.qs_paths.specs.inner.Links.{StandsAt, nodes_at}
-use Rattle.qs_paths.specs.inner.Nodes.{node_pair}
+use Rattle.qs_paths_meaning.specs.Pair.{Pair}
+use Rattle.qs_terms.specs.Bag.{SameBag}
+use Rattle.qs_paths.specs.inner.Nodes.{named_pairs, node_pair}
 use Rattle.qs_paths.proofs.Along.{from_all, from_next, links_alike, start_names_node, starts_named, steps_linked}
 use Rattle.qs_paths.proofs.Names.{item}
 use Rattle.qs_paths.proofs.linked.linked_from_all.Goals as goal
 
 pub walk-requires-clause-links : goal.walk-requires-clause-links
 walk-requires-clause-links g c =
-    steps_linked (g.E.Source.known c.args.edges.now) c.placed.new.self.nodes.items (rows_of c.placed.new.self.next.items) (pairs (g.E.Source.graph c.args.edges.now) c.args.path.now) c.args.steps.now c.requires
-    (links_alike c.in_ok-links.links.nodes.items c.placed.new.self.nodes.items (rows_of c.in_ok-links.links.next.items) (rows_of c.placed.new.self.next.items) c.args.steps.now c.in_ok-starts.ensures.leads c.in_ok-links.ensures.links)
+    steps_linked (g.E.Source.known c.args.edges.now) c.placed.new.self.nodes.keys (rows_of c.placed.new.self.next.items) (pairs (g.E.Source.graph c.args.edges.now) c.args.path.now) c.args.steps.now c.requires
+    (links_alike c.in_ok-links.links.nodes.keys c.placed.new.self.nodes.keys (rows_of c.in_ok-links.links.next.items) (rows_of c.placed.new.self.next.items) c.args.steps.now c.in_ok-starts.ensures.leads c.in_ok-links.ensures.links)
 
 pub walk-requires-clause-at : goal.walk-requires-clause-at
 walk-requires-clause-at g c =
-    start_at (λ (s : PlacedValue). StandsAt c.placed.new.self.nodes.items s.place s.node) c.in_ok-starts.starts.items c.put_in_order.new.starts.items c.as_slice-start-items.result.now c.loop-start.start-index (get_or c.as_slice-start-items.result.now c.loop-start.start-index (record { place = 0; node = 0 })) c.in_ok-put_in_order.ensures c.as_slice-start-items.ensures.value
+    start_at (λ (s : PlacedValue). StandsAt c.placed.new.self.nodes.keys s.place s.node) c.in_ok-starts.starts.items c.put_in_order.new.starts.items c.as_slice-start-items.result.now c.loop-start.start-index (get_or c.as_slice-start-items.result.now c.loop-start.start-index (record { place = 0; node = 0 })) c.in_ok-put_in_order.ensures c.as_slice-start-items.ensures.value
     c.loop-start-test.true (item c.as_slice-start-items.result.now c.loop-start.start-index (record { place = 0; node = 0 }) c.loop-start-test.true) c.in_ok-starts.ensures.at
 
 pub walk-requires-clause-node : goal.walk-requires-clause-node
 walk-requires-clause-node g c =
     start_names_node (g.E.Source.known c.args.edges.now) (g.E.Source.graph c.args.edges.now) (pairs (g.E.Source.graph c.args.edges.now) c.args.path.now) c.args.repetition (λ (s : PlacedValue). s.node) c.put_in_order.new.starts.items c.as_slice-start-items.result.now c.loop-start.start-index (get_or c.as_slice-start-items.result.now c.loop-start.start-index (record { place = 0; node = 0 }))
     c.as_slice-start-items.ensures.value c.loop-start-test.true (item c.as_slice-start-items.result.now c.loop-start.start-index (record { place = 0; node = 0 }) c.loop-start-test.true)
-    (starts_named (g.E.Source.known c.args.edges.now) (g.E.Source.graph c.args.edges.now) (pairs (g.E.Source.graph c.args.edges.now) c.args.path.now) c.args.repetition (λ (s : PlacedValue). s.node) c.in_ok-starts.starts.items c.put_in_order.new.starts.items c.in_ok-ends.ends.nodes.items c.in_ok-put_in_order.ensures (c.in_ok-starts.ensures.nodes ∙ c.as_slice.ensures.value) c.in_ok-ends.ensures)
+    (starts_named (g.E.Source.known c.args.edges.now) (g.E.Source.graph c.args.edges.now) (pairs (g.E.Source.graph c.args.edges.now) c.args.path.now) c.args.repetition (λ (s : PlacedValue). s.node) c.in_ok-starts.starts.items c.put_in_order.new.starts.items c.in_ok-ends.ends.nodes.keys c.in_ok-put_in_order.ensures (c.in_ok-starts.ensures.nodes ∙ c.as_slice.ensures.keys) c.in_ok-ends.ensures)
+
+pub loop-start-init : goal.loop-start-init
+loop-start-init g c = record {
+  long = c.in_ok-found.ensures.long ∙ ap length c.as_slice-2.ensures.keys;
+  marked = c.in_ok-found.ensures.marked;
+  rows = λ name n. subst (λ l. SameBag {X = Pair} (named_pairs name l) []) (sym c.new-rows.ensures.items) (IsPermutation-refl []);
+}
 
 pub loop-start-preserved : goal.loop-start-preserved
 loop-start-preserved g c =
@@ -31,16 +41,16 @@ loop-start-preserved g c =
       long = c.in_ok-walk.ensures.long;
       marked = c.in_ok-walk.ensures.marked;
       rows =
-          from_next (g.E.Source.known c.args.edges.now) (g.E.Source.graph c.args.edges.now) c.args.path.now c.args.repetition (λ (z : PlacedValue). z.node) c.as_slice-start-items.result.now c.loop-start.start-index s c.loop-start.rows.items c.put_reached.new.pairs.items (nodes_at s.node c.placed.new.self.nodes.items c.walk.new.found.numbers.items)
+          from_next (g.E.Source.known c.args.edges.now) (g.E.Source.graph c.args.edges.now) c.args.path.now c.args.repetition (λ (z : PlacedValue). z.node) c.as_slice-start-items.result.now c.loop-start.start-index s c.loop-start.rows.items c.put_reached.new.pairs.items (nodes_at s.node c.placed.new.self.nodes.keys c.walk.new.found.numbers.items)
           c.loop-start-test.true (item c.as_slice-start-items.result.now c.loop-start.start-index (record { place = 0; node = 0 }) c.loop-start-test.true) c.loop-start.invariant.rows c.in_ok-walk.ensures.ends
           (c.in_ok-put_reached.ensures
-          ∙ (ap (λ t. c.loop-start.rows.items ++ map (node_pair s.node) (nodes_at s.node t c.as_slice-in-loop-start-2.result.now)) c.as_slice-in-loop-start.ensures.value
-          ∙ ap (λ n. c.loop-start.rows.items ++ map (node_pair s.node) (nodes_at s.node c.placed.new.self.nodes.items n)) c.as_slice-in-loop-start-2.ensures.value));
+          ∙ (ap (λ t. c.loop-start.rows.items ++ map (node_pair s.node) (nodes_at s.node t c.as_slice-in-loop-start-2.result.now)) c.as_slice-in-loop-start.ensures.keys
+          ∙ ap (λ n. c.loop-start.rows.items ++ map (node_pair s.node) (nodes_at s.node c.placed.new.self.nodes.keys n)) c.as_slice-in-loop-start-2.ensures.value));
     }
 
 pub returns : goal.returns
 returns g c =
     from_all (g.E.Source.known c.args.edges.now) (g.E.Source.graph c.args.edges.now) (pairs (g.E.Source.graph c.args.edges.now) c.args.path.now) c.args.repetition (λ (s : PlacedValue). s.node) c.as_slice-start-items.result.now c.put_in_order.new.starts.items c.loop-start.start-index c.loop-start.rows.items
     c.loop-start-test.false c.as_slice-start-items.ensures.value
-    (starts_named (g.E.Source.known c.args.edges.now) (g.E.Source.graph c.args.edges.now) (pairs (g.E.Source.graph c.args.edges.now) c.args.path.now) c.args.repetition (λ (s : PlacedValue). s.node) c.in_ok-starts.starts.items c.put_in_order.new.starts.items c.in_ok-ends.ends.nodes.items c.in_ok-put_in_order.ensures (c.in_ok-starts.ensures.nodes ∙ c.as_slice.ensures.value) c.in_ok-ends.ensures)
+    (starts_named (g.E.Source.known c.args.edges.now) (g.E.Source.graph c.args.edges.now) (pairs (g.E.Source.graph c.args.edges.now) c.args.path.now) c.args.repetition (λ (s : PlacedValue). s.node) c.in_ok-starts.starts.items c.put_in_order.new.starts.items c.in_ok-ends.ends.nodes.keys c.in_ok-put_in_order.ensures (c.in_ok-starts.ensures.nodes ∙ c.as_slice.ensures.keys) c.in_ok-ends.ensures)
     c.loop-start.invariant.rows

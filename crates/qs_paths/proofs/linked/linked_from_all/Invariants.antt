@@ -6,7 +6,7 @@ use Rattle.qs_paths.proofs.linked.linked_from_all.Given as goal
 
 abbrev pub invariant-loop-start : goal.invariant-loop-start
 invariant-loop-start g l = record {
-  long : length l.found.rounds.items ≡ length l.links.nodes.items;
+  long : length l.found.rounds.items ≡ length l.links.nodes.keys;
   marked : IsMarked l.found.round l.found.rounds.items l.found.numbers.items;
   rows : AreFromStarts (g.E.Source.known l.edges) (g.E.Source.graph l.edges) (pairs (g.E.Source.graph l.edges) l.path) l.repetition (take l.start-index (map (λ s. s.node) l.start-items)) l.rows.items;
 }

@@ -5,6 +5,6 @@ use Rattle.qs_paths.proofs.links.links_of.Given as goal
 
 abbrev pub invariant-loop-pair : goal.invariant-loop-pair
 invariant-loop-pair l = record {
-  web : IsWeb l.links.places.entries l.links.nodes.items (rows_of l.links.next.items);
-  links : LinkPairs l.links.nodes.items (rows_of l.links.next.items) (take l.pair-index l.pairs);
+  web : IsWeb l.links.nodes.keys (rows_of l.links.next.items);
+  links : LinkPairs l.links.nodes.keys (rows_of l.links.next.items) (take l.pair-index l.pairs);
 }

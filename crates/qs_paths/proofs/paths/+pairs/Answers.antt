@@ -39,15 +39,15 @@ behind-loop-row-preserved g t c =
 pub behind-returns : goal.behind-returns
 behind-returns g t c = behind_all (g.E.Source.known c.args.edges.now) (g.E.Source.graph c.args.edges.now) (pairs (g.E.Source.graph c.args.edges.now) c.args.part.now) c.args.right c.args.rows.now c.loop-row.longer.items c.loop-row.row-index c.loop-row-test.false c.loop-row.invariant
 
-pub begin-returns-in_ok-add_rights-in-ZeroOrOne-clause-holds : goal.begin-returns-in_ok-add_rights-in-ZeroOrOne-clause-holds
-begin-returns-in_ok-add_rights-in-ZeroOrOne-clause-holds g t c =
-    begun_either (g.E.Source.known c.args.edges.now) (g.E.Source.graph c.args.edges.now) c.args.path.now c.args.repetition c.args.backward c.args.start c.args.found.now.nodes.items c.add.new.self.nodes.items c.add_rights.new.self.nodes.items c.in_ok-first-in-ZeroOrOne.first.items c.as_slice.result.now
-    c.in-ZeroOrOne.is c.requires.empty (c.in_ok-add-in-ZeroOrOne.ensures.nodes c.requires.known) c.in_ok-first-in-ZeroOrOne.ensures c.as_slice.ensures.value (c.in_ok-add_rights-in-ZeroOrOne.ensures.nodes (c.in_ok-add-in-ZeroOrOne.ensures.known c.requires.known))
+pub begin-returns-in_ok-add_rights-in-ZeroOrOne : goal.begin-returns-in_ok-add_rights-in-ZeroOrOne
+begin-returns-in_ok-add_rights-in-ZeroOrOne g t c =
+    begun_either (g.E.Source.known c.args.edges.now) (g.E.Source.graph c.args.edges.now) c.args.path.now c.args.repetition c.args.backward c.args.start c.args.found.now.nodes.keys c.add.new.self.nodes.keys c.add_rights.new.self.nodes.keys c.in_ok-first-in-ZeroOrOne.first.items c.as_slice.result.now
+    c.in-ZeroOrOne.is c.requires c.in_ok-add-in-ZeroOrOne.ensures c.in_ok-first-in-ZeroOrOne.ensures c.as_slice.ensures.value c.in_ok-add_rights-in-ZeroOrOne.ensures
 
-pub begin-returns-in_ok-add_rights-in-OneOrMore-clause-holds : goal.begin-returns-in_ok-add_rights-in-OneOrMore-clause-holds
-begin-returns-in_ok-add_rights-in-OneOrMore-clause-holds g t c =
-    begun_next (g.E.Source.known c.args.edges.now) (g.E.Source.graph c.args.edges.now) c.args.path.now c.args.repetition c.args.backward c.args.start c.args.found.now.nodes.items c.add_rights-in-OneOrMore.new.self.nodes.items c.in_ok-first-in-OneOrMore.first.items c.as_slice-in-OneOrMore.result.now
-    c.in-OneOrMore.is c.requires.empty c.in_ok-first-in-OneOrMore.ensures c.as_slice-in-OneOrMore.ensures.value (c.in_ok-add_rights-in-OneOrMore.ensures.nodes c.requires.known)
+pub begin-returns-in_ok-add_rights-in-OneOrMore : goal.begin-returns-in_ok-add_rights-in-OneOrMore
+begin-returns-in_ok-add_rights-in-OneOrMore g t c =
+    begun_next (g.E.Source.known c.args.edges.now) (g.E.Source.graph c.args.edges.now) c.args.path.now c.args.repetition c.args.backward c.args.start c.args.found.now.nodes.keys c.add_rights-in-OneOrMore.new.self.nodes.keys c.in_ok-first-in-OneOrMore.first.items c.as_slice-in-OneOrMore.result.now
+    c.in-OneOrMore.is c.requires c.in_ok-first-in-OneOrMore.ensures c.as_slice-in-OneOrMore.ensures.value c.in_ok-add_rights-in-OneOrMore.ensures
 
 pub closure-returns-in_ok-rows-in-None-Some : goal.closure-returns-in_ok-rows-in-None-Some
 closure-returns-in_ok-rows-in-None-Some g t c =
@@ -74,32 +74,30 @@ from_the_right-loop-at-preserved g t c = record {
 
 pub pairs_from-returns : goal.pairs_from-returns
 pairs_from-returns g t c =
-    ends_from (g.E.Source.known c.args.edges.now) (g.E.Source.graph c.args.edges.now) c.args.path.now c.args.repetition c.args.backward c.args.start c.args.end c.in_ok-found.found.nodes.items c.as_slice.result.now c.new-rows.result.items c.put_ends.new.pairs.items
-    c.new-rows.ensures.items c.as_slice.ensures.value c.in_ok-found.ensures c.in_ok-put_ends.ensures
+    ends_from (g.E.Source.known c.args.edges.now) (g.E.Source.graph c.args.edges.now) c.args.path.now c.args.repetition c.args.backward c.args.start c.args.end c.in_ok-found.found.nodes.keys c.as_slice.result.now c.new-rows.result.items c.put_ends.new.pairs.items
+    c.new-rows.ensures.items c.as_slice.ensures.keys c.in_ok-found.ensures c.in_ok-put_ends.ensures
 
 pub reached-returns-in-ZeroOrOne : goal.reached-returns-in-ZeroOrOne
 reached-returns-in-ZeroOrOne g t c =
-    optional_named (g.E.Source.known c.args.edges.now) (g.E.Source.graph c.args.edges.now) c.args.path.now c.args.repetition c.args.backward c.args.start c.begin.new.found.nodes.items c.in-ZeroOrOne.is c.in_ok-begin.ensures.holds
+    optional_named (g.E.Source.known c.args.edges.now) (g.E.Source.graph c.args.edges.now) c.args.path.now c.args.repetition c.args.backward c.args.start c.begin.new.found.nodes.keys c.in-ZeroOrOne.is c.in_ok-begin.ensures
 
 pub searched-loop-at-init : goal.searched-loop-at-init
 searched-loop-at-init g t c = record {
-  known = c.requires.known;
-  searching = searched_none (g.E.Source.known c.args.edges.now) (g.E.Source.graph c.args.edges.now) c.args.path.now c.args.repetition c.args.backward c.args.start c.args.found.now.nodes.items c.requires.holds;
+  searching = searched_none (g.E.Source.known c.args.edges.now) (g.E.Source.graph c.args.edges.now) c.args.path.now c.args.repetition c.args.backward c.args.start c.args.found.now.nodes.keys c.requires.holds;
 }
 
 pub searched-loop-at-preserved : goal.searched-loop-at-preserved
 searched-loop-at-preserved g t c = record {
-  known = c.in_ok-add_rights.ensures.known c.loop-at.invariant.known;
   searching =
-      searched_next (g.E.Source.known c.args.edges.now) (g.E.Source.graph c.args.edges.now) c.args.path.now c.args.repetition c.args.backward c.args.start c.loop-at.found.nodes.items c.add_rights.new.self.nodes.items c.loop-at.at c.node.result c.in_ok-next.next.items c.as_slice.result.now c.requires.closing c.loop-at.invariant.searching
-      (let k : c.loop-at.at < length c.loop-at.found.nodes.items = omega (arith, c.len.ensures, c.loop-at-test.true) in k)
-      c.node.ensures c.in_ok-next.ensures c.as_slice.ensures.value (c.in_ok-add_rights.ensures.nodes c.loop-at.invariant.known);
+      searched_next (g.E.Source.known c.args.edges.now) (g.E.Source.graph c.args.edges.now) c.args.path.now c.args.repetition c.args.backward c.args.start c.loop-at.found.nodes.keys c.add_rights.new.self.nodes.keys c.loop-at.at c.node.result c.in_ok-next.next.items c.as_slice.result.now c.requires.closing c.loop-at.invariant.searching
+      (let k : c.loop-at.at < length c.loop-at.found.nodes.keys = omega (arith, c.len.ensures, c.loop-at-test.true) in k)
+      c.node.ensures c.in_ok-next.ensures c.as_slice.ensures.value c.in_ok-add_rights.ensures;
 }
 
 pub searched-returns : goal.searched-returns
 searched-returns g t c =
-    searched_all (g.E.Source.known c.args.edges.now) (g.E.Source.graph c.args.edges.now) c.args.path.now c.args.repetition c.args.backward c.args.start c.loop-at.found.nodes.items c.loop-at.at c.requires.closing c.loop-at.invariant.searching
-    (let k : length c.loop-at.found.nodes.items ≤ c.loop-at.at = omega (arith, c.len.ensures, c.loop-at-test.false) in k)
+    searched_all (g.E.Source.known c.args.edges.now) (g.E.Source.graph c.args.edges.now) c.args.path.now c.args.repetition c.args.backward c.args.start c.loop-at.found.nodes.keys c.loop-at.at c.requires.closing c.loop-at.invariant.searching
+    (let k : length c.loop-at.found.nodes.keys ≤ c.loop-at.at = omega (arith, c.len.ensures, c.loop-at-test.false) in k)
 
 pub stepped-returns-in_ok-rows : goal.stepped-returns-in_ok-rows
 stepped-returns-in_ok-rows g t c =

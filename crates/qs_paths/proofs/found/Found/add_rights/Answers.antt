@@ -6,10 +6,7 @@ use Rattle.qs_paths.proofs.found.Found.add_rights.Goals as goal
 
 pub loop-pair-preserved : goal.loop-pair-preserved
 loop-pair-preserved c =
-    let e = get_or c.args.pairs.now c.loop-pair.pair-index zero_pair in record {
-      known = λ k. c.in_ok-add.ensures.known (c.loop-pair.invariant.known k);
-      nodes = λ k.
-          c.in_ok-add.ensures.nodes (c.loop-pair.invariant.known k)
-          ∙ (ap (λ l. with_new same_number l e.right) (c.loop-pair.invariant.nodes k)
-          ∙ sym (rights_more c.args.self.now.nodes.items c.args.pairs.now c.loop-pair.pair-index e c.loop-pair-test.true (item c.args.pairs.now c.loop-pair.pair-index zero_pair c.loop-pair-test.true)));
-    }
+    let e = get_or c.args.pairs.now c.loop-pair.pair-index zero_pair in
+    c.in_ok-add.ensures
+    ∙ (ap (λ l. with_new same_number l e.right) c.loop-pair.invariant
+    ∙ sym (rights_more c.args.self.now.nodes.keys c.args.pairs.now c.loop-pair.pair-index e c.loop-pair-test.true (item c.args.pairs.now c.loop-pair.pair-index zero_pair c.loop-pair-test.true)))

@@ -6,8 +6,8 @@ use Rattle.qs_paths.proofs.links.Links.placed.Given as goal
 
 abbrev pub invariant-loop-node : goal.invariant-loop-node
 invariant-loop-node l = record {
-  web : IsWeb l.self.places.entries l.self.nodes.items (rows_of l.self.next.items);
-  leads : LeadAlike l.fn.self.nodes.items (rows_of l.fn.self.next.items) l.self.nodes.items (rows_of l.self.next.items);
+  web : IsWeb l.self.nodes.keys (rows_of l.self.next.items);
+  leads : LeadAlike l.fn.self.nodes.keys (rows_of l.fn.self.next.items) l.self.nodes.keys (rows_of l.self.next.items);
   nodes : map (λ s. s.node) l.all.items ≡ take l.node-index l.nodes;
-  at : All (λ s. StandsAt l.self.nodes.items s.place s.node) l.all.items;
+  at : All (λ s. StandsAt l.self.nodes.keys s.place s.node) l.all.items;
 }
