@@ -14,7 +14,8 @@ use Rattle.qs_paths_meaning.specs.Walk.{IsIn}
 use Rattle.qs_paths_meaning.proofs.Arms.{same_as, same_pair-Decides}
 use Rattle.qs_paths_meaning.proofs.Members.{mem_in}
 use Rattle.qs_paths.specs.declared.node.NodePair.{NodePair}
-use Rattle.std.specs.Prelude.{Result, Ok, IsErr}
+use Rattle.std.specs.Prelude.{IfSome, Result, Ok, IsErr}
+use Rattle.qs_terms.specs.declared.fault.QFault.{QFault}
 use Rattle.qs_syntax_tree.specs.declared.path.Repetition.{Repetition}
 use Rattle.qs_syntax_ast.specs.declared.path.Path.TheVariants as path
 use Rattle.qs_store.specs.Content.{Content}
@@ -30,7 +31,7 @@ use Rattle.qs_paths.specs.declared.state.State.TheVariants as state
 use Rattle.qs_paths.specs.declared.stream.Pairs.{Pairs}
 use Rattle.qs_paths.specs.declared.stretch.Stretch.{Stretch}
 use Rattle.qs_paths.specs.declared.walk.Walk.{Walk}
-use Rattle.qs_paths.specs.Coming.{AreDenoted, HandsOut, IsToCome}
+use Rattle.qs_paths.specs.Coming.{AreDenoted, GivesPair, HandsOut, IsToCome}
 use Rattle.qs_paths.specs.inner.Nodes.{cell_of, named_pair, named_pairs}
 use Rattle.qs_paths.specs.inner.Seen.{graph_in, known_in}
 use Rattle.qs_paths.specs.inner.State.{GivesEdge, GivesLeft, GivesOne, GivesRow, GivesStep, GivesWalked, IsLeft, IsLeftIn, Opens, turn, turned_pairs}
@@ -203,3 +204,15 @@ hands content default table ps old q t s e d cells h step i c0 c1 =
 
 pub no_err : {A E : Type 0} (r : Result A E) (x : A) → IsErr r → r ≡ Ok x → ⊥
 no_err r x h e = let f : false ≡ true = subst IsErr e h in cc
+
+-- a state that stayed as it was
+pub same_state : {V : Type 0} (content : V → Content) (default : V → DefaultGraph) (old : Pairs V) (s : State) (answer : Option (Result (Cell × Cell) QFault)) (new : Pairs V) → s ≡ old.state
+    → GivesPair content default (record { alloc = old.alloc; edges = old.edges; request = old.request; turned = old.turned; state = s }) answer new → GivesPair content default old answer new
+same_state content default old s answer new e h =
+    subst (λ z. GivesPair content default (record { alloc = old.alloc; edges = old.edges; request = old.request; turned = old.turned; state = z }) answer new) e h
+
+-- ---- pairs that were found whole
+
+pub some_left : (s : State) (old new : Rows) (o : Option NodePair) → s ≡ state.Whole old → GivesRow old o new → IfSome o (λ e. (known : List Term) (graph : Graph) → GivesLeft known graph s (Some e) (state.Whole new))
+some_left s old new None is h = tt
+some_left s old new (Some e) is h = λ known graph name n ps l. state_whole graph name ps s old new (Some e) is h l

@@ -10,8 +10,8 @@ ghost use Rattle.qs_expr.specs.Scratch.{IsTable};
 ghost use Rattle.qs_paths.specs.Coming.{HasFailed, IsEndTooFar, IsToCome};
 ghost use Rattle.qs_paths.specs.inner.Nodes.{cell_of};
 
-use crate::numbered::kept_numbers;
 use crate::node::node_of;
+use crate::numbered::kept_numbers;
 use crate::seen::{Seen, is_lawful};
 use crate::state::{Request, State};
 use crate::stream::Pairs;

@@ -17,6 +17,7 @@ pub struct NodePair {
 
 impl NodePair {
     /// The pair with its ends exchanged.
+    #[inline(always)]
     pub fn swapped(self) -> NodePair
         ensures { result ≡ swapped_nodes self }
     {
@@ -39,6 +40,7 @@ pub fn node_of(cell: Cell) -> Option<u64>
 }
 
 /// The cell of a number.
+#[inline(always)]
 pub fn cell_of(node: u64) -> Cell
     ensures { result ≡ cell_of node }
 {

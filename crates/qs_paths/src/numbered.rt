@@ -49,11 +49,7 @@ fn number_among<V: View>(view: &V, kept: &[u32], iri: &Iri) -> Option<u32>
 }
 
 /// The number of the IRI, where the view knows it. Where it is among those that are kept, nothing is hashed.
-pub fn number_of_iri<V: View>(
-    view: &V,
-    kept: &[u32],
-    iri: &Iri,
-) -> Result<Option<u32>, AllocError>
+pub fn number_of_iri<V: View>(view: &V, kept: &[u32], iri: &Iri) -> Result<Option<u32>, AllocError>
     ensures { IfOk result (λ o. o ≡ number_of (V.content view.now).known (term_is.Iri iri.now)) }
 {
     match number_among(view, kept, iri) {

@@ -40,6 +40,7 @@ pub fn next_edge(scan: &mut Scan<'_>) -> Option<NodePair>
 }
 
 /// The pairs of a scan, if there is one.
+#[inline(always)]
 pub fn collected(alloc: Global, scan: Option<Scan<'_>>) -> Result<Vec<NodePair>, AllocError>
     ensures { IfOk result (λ ps. ps.items ≡ edges_in scan.entry) }
 {

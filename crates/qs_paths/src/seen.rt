@@ -8,8 +8,8 @@ ghost use Rattle.qs_paths_meaning.specs.Steps.{along, is_outside};
 ghost use Rattle.qs_paths.specs.inner.Nodes.{ArePairs, TellsNode};
 ghost use Rattle.qs_paths.specs.inner.Scans.{AreOutside, AreScanned, IsPast, edges_in, number_out};
 
-use crate::numbered::number_of_iri;
 use crate::node::NodePair;
+use crate::numbered::number_of_iri;
 use crate::scan::{Scan, collected};
 use crate::source::Source;
 use crate::steps::is_of;
@@ -50,6 +50,7 @@ fn given(end: Option<u64>) -> Option<Option<u32>>
 }
 
 /// The triples with these ends and this predicate.
+#[inline(always)]
 fn scanned<'v, V: View>(
     view: &'v V,
     active: Active,
@@ -65,6 +66,7 @@ fn scanned<'v, V: View>(
 }
 
 /// The pairs of the triples with this predicate and these ends.
+#[inline(always)]
 pub fn along_scan<'v, V: View>(
     alloc: Global,
     edges: &Seen<'v, V>,

@@ -1,6 +1,8 @@
 //! The ways in which pairs come: found whole, as a scan finds them, or as a walk does.
 
-ghost use Rattle.std.specs.Prelude.{◌≡◌, ◌≢◌, IfOk, IsErr};
+ghost use Rattle.std.specs.Prelude.{◌≡◌, ◌≢◌, List, None, Some, IfNone, IfOk, IfSome, IsErr};
+ghost use Rattle.qs_terms.specs.declared.term.Term.{Term};
+ghost use Rattle.qs_paths_meaning.specs.Steps.{Graph};
 ghost use Rattle.qs_syntax_ast.specs.declared.path.Path.TheVariants as path_is;
 ghost use Rattle.qs_syntax_tree.specs.declared.path.Repetition.TheVariants.{ZeroOrOne};
 ghost use Rattle.qs_paths.specs.declared.state.State.TheVariants as state_is;
@@ -161,15 +163,45 @@ fn whole<'a, V: View>(
 }
 
 /// The next of the pairs that were found whole.
+#[inline(always)]
 fn next_row(rows: &mut Rows) -> Option<NodePair>
-    ensures { GivesRow rows.old result rows.new }
+    ensures gives { GivesRow rows.old result rows.new }
+    ensures none { IfNone result (rows.new ≡ rows.old) }
 {
     let pair = *rows.rows.get(rows.at)?;
     rows.at += 1;
     Some(pair)
 }
 
+/// The next of the pairs that were found whole, where they were.
+#[inline(always)]
+fn next_whole(state: &mut State<'_>) -> Option<NodePair>
+    ensures some { IfSome result (λ e. (known : List Term) (graph : Graph) → GivesLeft known graph state.old (Some e) state.new) }
+    ensures whole { IfSome result (λ e. state.old ≢ state_is.Failed) }
+    ensures none { IfNone result (state.new ≡ state.old) }
+{
+    match state {
+        State::Whole(rows) => next_row(rows),
+        _ => None,
+    }
+}
+
+/// The next of the pairs that were found whole, where all was opened before.
+#[inline(always)]
+pub fn next_found(request: &Option<Request<'_>>, state: &mut State<'_>) -> Option<NodePair>
+    ensures asked { IfSome result (λ e. request.now ≡ None) }
+    ensures some { IfSome result (λ e. (known : List Term) (graph : Graph) → GivesLeft known graph state.old (Some e) state.new) }
+    ensures whole { IfSome result (λ e. state.old ≢ state_is.Failed) }
+    ensures none { IfNone result (state.new ≡ state.old) }
+{
+    match request {
+        None => next_whole(state),
+        Some(_) => None,
+    }
+}
+
 /// The next pair. A state that failed fails again.
+#[inline(always)]
 pub fn next_of_state<'a, V: View>(
     alloc: Global,
     edges: &Seen<'a, V>,

@@ -8,7 +8,7 @@ ghost use Rattle.qs_paths.specs.inner.State.{GivesStep, HasFailedIn};
 
 use crate::node::{NodePair, cell_of};
 use crate::seen::Seen;
-use crate::state::{Request, State, next_of_state, start_of};
+use crate::state::{Request, State, next_found, next_of_state, start_of};
 use crate::stretch::turned;
 use qs_expr::Cell;
 use qs_store::View;
@@ -46,6 +46,7 @@ fn step<'a, V: View>(
 }
 
 /// The cells of a pair.
+#[inline(always)]
 fn cells_of(pair: NodePair) -> (Cell, Cell)
     ensures left { result.0 ≡ cell_of pair.left }
     ensures right { result.1 ≡ cell_of pair.right }
@@ -53,17 +54,12 @@ fn cells_of(pair: NodePair) -> (Cell, Cell)
     (cell_of(pair.left), cell_of(pair.right))
 }
 
-impl<'a, V: View> Iterator for Pairs<'a, V> {
-    type Item = Result<(Cell, Cell), QFault>;
-
-    ghost next_gives = { GivesPair V.content V.default_seen };
-
-    /// The next pair, or none where there is none left.
-    ///
-    /// # Errors
-    ///
-    /// `QFault::Memory` where memory runs out, now or at an earlier call; no other fault.
-    fn next(&mut self) -> Option<Result<(Cell, Cell), QFault>> {
+impl<'a, V: View> Pairs<'a, V> {
+    /// The next pair, wherever it comes from. It stands apart from what each pair that was found before goes through.
+    #[inline(never)]
+    fn find_next(&mut self) -> Option<Result<(Cell, Cell), QFault>>
+        ensures { GivesPair V.content V.default_seen self.old result self.new }
+    {
         let next = step(
             self.alloc,
             &self.edges,
@@ -78,5 +74,23 @@ impl<'a, V: View> Iterator for Pairs<'a, V> {
         };
         let pair = answer?;
         Some(Ok(cells_of(turned(pair, self.turned))))
+    }
+}
+
+impl<'a, V: View> Iterator for Pairs<'a, V> {
+    type Item = Result<(Cell, Cell), QFault>;
+
+    ghost next_gives = { GivesPair V.content V.default_seen };
+
+    /// The next pair, or none where there is none left.
+    ///
+    /// # Errors
+    ///
+    /// `QFault::Memory` where memory runs out, now or at an earlier call; no other fault.
+    fn next(&mut self) -> Option<Result<(Cell, Cell), QFault>> {
+        match next_found(&self.request, &mut self.state) {
+            Some(pair) => Some(Ok(cells_of(turned(pair, self.turned)))),
+            None => self.find_next(),
+        }
     }
 }

@@ -106,6 +106,7 @@ fn next_in(scan: &mut Option<Scan<'_>>) -> Option<NodePair>
 }
 
 /// The pair, turned where the answer is to be.
+#[inline(always)]
 pub fn turned(pair: NodePair, turned: bool) -> NodePair
     ensures { result ≡ turn turned pair }
 {
@@ -113,6 +114,7 @@ pub fn turned(pair: NodePair, turned: bool) -> NodePair
 }
 
 /// The next pair.
+#[inline(never)]
 pub fn next_of_stretch<'a, V: View>(
     alloc: Global,
     edges: &Seen<'a, V>,
@@ -127,14 +129,7 @@ pub fn next_of_stretch<'a, V: View>(
         return Ok(None);
     };
     stretch.turned = true;
-    stretch.scan = outside_scan(
-        alloc,
-        edges,
-        more.members,
-        true,
-        more.right,
-        more.left,
-    )?;
+    stretch.scan = outside_scan(alloc, edges, more.members, true, more.right, more.left)?;
     match next_in(&mut stretch.scan) {
         Some(pair) => Ok(Some(pair.swapped())),
         None => Ok(None),

@@ -90,6 +90,7 @@ fn pair_with(walk: &Walk<'_>, node: u64) -> NodePair
 }
 
 /// The next pair of the walk, each once.
+#[inline(never)]
 pub fn next_walked<E: Source>(
     alloc: Global,
     edges: &E,

@@ -1,6 +1,5 @@
 -- The nodes that steps lead to, kept at those that they lead from, by places.
-use Rattle.std.specs.Prelude.{◌≡◌, ℕ, ◌<◌, List, length, map, Option, None, Some, All, slice_index_or, false}
-use Rattle.std.specs.List.{list_any}
+use Rattle.std.specs.Prelude.{◌≡◌, ℕ, ◌<◌, List, length, map, All, slice_index_or}
 use Rattle.qs_terms.specs.declared.term.Term.{Term}
 use Rattle.qs_terms.specs.Bag.{Distinct}
 use Rattle.qs_paths_meaning.specs.Pairs.{AtEnds}

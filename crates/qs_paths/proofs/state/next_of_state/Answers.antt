@@ -5,7 +5,7 @@ use Rattle.qs_paths.proofs.state.next_of_state.Goals as goal
 
 pub returns-in-Whole-clause-gives : goal.returns-in-Whole-clause-gives
 returns-in-Whole-clause-gives g c name n ps h =
-    state_whole (graph_in g.V.View.content g.V.View.default_seen c.args.edges.now) name ps c.args.state.now c.in-Whole.rows c.next_row.new.rows c.next_row.result c.in-Whole.is c.next_row.ensures h
+    state_whole (graph_in g.V.View.content g.V.View.default_seen c.args.edges.now) name ps c.args.state.now c.in-Whole.rows c.next_row.new.rows c.next_row.result c.in-Whole.is c.next_row.ensures.gives h
 
 pub returns-in-Edges-clause-gives : goal.returns-in-Edges-clause-gives
 returns-in-Edges-clause-gives g c =

@@ -1,4 +1,4 @@
-use Rattle.std.proofs.Common.{◌≡◌, ap, true, false, sym, ◌∙◌, subst}
+use Rattle.std.proofs.Common.{false}
 use Rattle.std.specs.List.{list_any}
 use Rattle.qs_paths_meaning.specs.inner.Links.{same_number}
 use Rattle.qs_paths.proofs.LinkLaws.{put_leads, put_web}
