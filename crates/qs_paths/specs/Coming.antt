@@ -56,7 +56,8 @@ Answers content default old None new = (table : List Term) (ps : List Pair) → 
 Answers content default old (Some (Ok cells)) new = (table : List Term) (ps : List Pair) → IsToCome content default table old ps → HandsOut content default table ps cells new
 Answers content default old (Some (Err fault)) new = (fault ≡ Memory) × HasFailed new
 
--- an answer, which is a fault again after a fault
+-- an answer, which is a fault again after a fault, by the same dictionary
 pub record GivesPair {V : Type 0} (content : V → Content) (default : V → DefaultGraph) (old : Pairs V) (answer : Option (Result (Cell × Cell) QFault)) (new : Pairs V) : Type 0 where
   pub answers : Answers content default old answer new
   pub again : HasFailed old → answer ≡ Some (Err Memory)
+  pub known : known_in content new.edges ≡ known_in content old.edges

@@ -9,6 +9,7 @@ ghost use Rattle.qs_expr.specs.Cell.{FitsIf, denoted_if};
 ghost use Rattle.qs_expr.specs.Scratch.{IsTable};
 ghost use Rattle.qs_paths.specs.Coming.{HasFailed, IsEndTooFar, IsToCome};
 ghost use Rattle.qs_paths.specs.inner.Nodes.{cell_of};
+ghost use Rattle.qs_paths.specs.inner.Seen.{known_in};
 
 use crate::node::node_of;
 use crate::numbered::kept_numbers;
@@ -56,7 +57,8 @@ pub fn pairs<'a, V: View>(
     right: Option<Cell>,
 ) -> Pairs<'a, V>
     ensures asked { HasFailed result → IsEndTooFar left ⊎ IsEndTooFar right }
-    ensures coming { (table : List Term) → IsTable (V.content view.now).known table
+    ensures known { known_in V.content result.edges ≡ (V.content view.now).known }
+    ensures pairs { (table : List Term) → IsTable (V.content view.now).known table
         → FitsIf (V.content view.now).known table left → FitsIf (V.content view.now).known table right
         → IsToCome V.content V.default_seen table result
         (meaning.pairs (active_graph (V.content view.now) (V.default_seen view.now) graph) path.now

@@ -5,8 +5,8 @@ use Rattle.qs_paths.proofs.Naming.{all_denoted, name, named_given, naming}
 use Rattle.qs_paths.proofs.Opening.{asked_left}
 use Rattle.qs_paths.proofs.asked.pairs.Goals as goal
 
-pub returns-in-Some-clause-coming : goal.returns-in-Some-clause-coming
-returns-in-Some-clause-coming g c table one l r =
+pub returns-in-Some-clause-pairs : goal.returns-in-Some-clause-pairs
+returns-in-Some-clause-pairs g c table one l r =
     let content = g.V.View.content c.args.view.now in
     let default = g.V.View.default_seen c.args.view.now in
     let few = c.is_lawful.ensures.few in
@@ -19,8 +19,8 @@ returns-in-Some-clause-coming g c table one l r =
           (named_given content.known table one few q.left c.args.left l c.in-Some.ensures.some.1) (named_given content.known table one few q.right c.args.right r c.in-Some.ensures.some.2);
     }
 
-pub returns-in-None-clause-coming : goal.returns-in-None-clause-coming
-returns-in-None-clause-coming g c table one l r =
+pub returns-in-None-clause-pairs : goal.returns-in-None-clause-pairs
+returns-in-None-clause-pairs g c table one l r =
     let content = g.V.View.content c.args.view.now in
     let few = c.is_lawful.ensures.few in record {
       name = name content.known table one few;

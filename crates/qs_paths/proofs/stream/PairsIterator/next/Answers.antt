@@ -1,4 +1,4 @@
-use Rattle.std.proofs.Common.{Some, sym}
+use Rattle.std.proofs.Common.{Some, refl, sym}
 use Rattle.qs_paths.specs.inner.Seen.{graph_in, known_in}
 use Rattle.qs_paths.proofs.Opening.{hands, same_state, steps_on}
 use Rattle.qs_paths.proofs.stream.PairsIterator.next.Goals as goal
@@ -13,6 +13,7 @@ returns-in-Some-clause-steps g c =
           (steps_on known graph old.turned old.state c.next_found.new.state old.request c.in-Some.ensures.asked old.request (Some c.in-Some.pair) (sym c.in-Some.ensures.asked) (c.in-Some.ensures.some known graph))
           c.turned.ensures c.cells_of.ensures.left c.cells_of.ensures.right;
       again = λ f. absurd (c.in-Some.ensures.whole f.1);
+      known = refl;
     }
 
 pub returns-in-None-clause-steps : goal.returns-in-None-clause-steps
