@@ -6,3 +6,4 @@ pub mod RowTerms
 pub mod Numbered
 pub mod Said
 pub mod Taken
+pub mod Compacts

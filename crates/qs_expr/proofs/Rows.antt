@@ -1,6 +1,5 @@
 -- Rows, variable by variable.
-use Rattle.std.proofs.Common.{◌≡◌, ℕ, zero, suc, ◌<◌, ◌≤◌, ◌+◌, true, ◌&&◌, List, [], ◌∷◌, ◌++◌, length, drop, slice_set, Option, Some, None, max, subst, refl, sym, ap, ◌∙◌, arith, add-one}
-use Rattle.std.proofs.lemmas.List.{append_assoc, append-nil, drop_all}
+use Rattle.std.proofs.Common.{◌≡◌, ℕ, zero, suc, ◌<◌, ◌+◌, true, ◌&&◌, List, [], ◌∷◌, length, take, drop, slice_set, Option, Some, None, max, subst, refl, sym, ap, ◌∙◌, arith, add-one}
 use Rattle.std.specs.Option.{is_some}
 use Rattle.qs_terms.specs.declared.term.Term.{Term}
 use Rattle.qs_algebra_solutions.specs.Solution.{compatible_terms, compatible, first_bound, merge, unbound}
@@ -11,14 +10,6 @@ use Rattle.qs_expr.specs.Scratch.{IsTable}
 use Rattle.qs_expr.proofs.Finding.{same_cells, term_there}
 
 -- ---- no cells
-
-suc_more : (n : ℕ) → no_cells n ++ None ∷ [] ≡ no_cells (suc n)
-suc_more zero = refl
-suc_more (suc n) = ap (λ m. None ∷ m) (suc_more n)
-
--- one variable more
-pub no_cells_more : (n : ℕ) → no_cells (n + 1) ≡ no_cells n ++ None ∷ []
-no_cells_more n = rw add-one (sym (suc_more n))
 
 pub no_cells_unbound : (known table : List Term) (n : ℕ) → row_solution known table (no_cells n) ≡ unbound n
 no_cells_unbound known table zero = refl
@@ -51,9 +42,6 @@ step (x ∷ a) (y ∷ b) (suc i) h = step a b i (omega arith)
 pub compatible_step : (a b : Cells) (i : ℕ) → i < length a → compatible_cells (drop i a) (drop i b) ≡ (agree (cell_at a i) (cell_at b i) && compatible_cells (drop (i + 1) a) (drop (i + 1) b))
 compatible_step a b i h = rw add-one (step a b i h)
 
-pub compatible_end : (a b : Cells) (i : ℕ) → length a ≤ i → compatible_cells a b ≡ compatible_cells (drop i a) (drop i b) → compatible_cells a b ≡ true
-compatible_end a b i h e = e ∙ ap (λ l. compatible_cells l (drop i b)) (drop_all i a (omega arith))
-
 -- ---- merged rows
 
 merged_nil : (a : Cells) → merged_cells a [] ≡ a
@@ -69,7 +57,7 @@ front [] i h = absurd (omega arith)
 front (x ∷ a) zero h = refl
 front (x ∷ a) (suc i) h = front a i (omega arith)
 
-put : (a b : Cells) (i : ℕ) → i < max (length a) (length b) → merged_cells (drop i a) (drop i b) ≡ first_cell (cell_at a i) (cell_at b i) ∷ merged_cells (drop (suc i) a) (drop (suc i) b)
+pub put : (a b : Cells) (i : ℕ) → i < max (length a) (length b) → merged_cells (drop i a) (drop i b) ≡ first_cell (cell_at a i) (cell_at b i) ∷ merged_cells (drop (suc i) a) (drop (suc i) b)
 put [] b i h = ap (λ l. merged_cells l (drop i b)) (drop_nil i) ∙ front b i (omega arith)
 put (x ∷ a) [] i h =
     ap (merged_cells (drop i (x ∷ a))) (drop_nil i) ∙ (merged_nil (drop i (x ∷ a))) ∙ front (x ∷ a) i (omega arith)
@@ -77,19 +65,6 @@ put (x ∷ a) [] i h =
     ∙ ap (λ l. first_cell (cell_at (x ∷ a) i) None ∷ l) (sym (merged_nil (drop (suc i) (x ∷ a))))
 put (x ∷ a) (y ∷ b) zero h = refl
 put (x ∷ a) (y ∷ b) (suc i) h = put a b i (omega arith)
-
--- one cell more of a merged row
-pub merge_step : (a b : Cells) (i : ℕ) (cells : Cells) (cell : Option Cell) (whole : Cells) → i < max (length a) (length b) → cell ≡ first_cell (cell_at a i) (cell_at b i)
-    → cells ++ merged_cells (drop i a) (drop i b) ≡ whole → (cells ++ cell ∷ []) ++ merged_cells (drop (i + 1) a) (drop (i + 1) b) ≡ whole
-merge_step a b i cells cell whole h e is =
-    rw (add-one, e) (append_assoc cells (first_cell (cell_at a i) (cell_at b i) ∷ []) (merged_cells (drop (suc i) a) (drop (suc i) b)) ∙ ap (λ l. cells ++ l) (sym (put a b i h)) ∙ is)
-
--- no cell is left
-pub merge_end : (a b : Cells) (i : ℕ) (cells : Cells) {whole : Cells} → max (length a) (length b) ≤ i → cells ++ merged_cells (drop i a) (drop i b) ≡ whole → cells ≡ whole
-merge_end a b i cells h is =
-    let e : drop i a ≡ [] = drop_all i a (omega arith) in
-    let f : drop i b ≡ [] = drop_all i b (omega arith) in
-    sym (append-nil cells) ∙ ap (λ l. cells ++ l) (sym (ap (λ l. merged_cells l (drop i b)) e ∙ f)) ∙ is
 
 -- ---- the solutions of rows
 
@@ -162,3 +137,25 @@ module _ (known table : List Term) where
       first : (x y : Option Cell) → ((c : Cell) → x ≡ Some c → is_some (denoted known table c) ≡ true) → ((c : Cell) → y ≡ Some c → is_some (denoted known table c) ≡ true) → (c : Cell) → first_cell x y ≡ Some c → is_some (denoted known table c) ≡ true
       first None y h k = k
       first (Some d) y h k = h
+
+  pub set_fits : (m : Cells) (v : ℕ) (x : Option Cell) → FitsRow known table m → ((c : Cell) → x ≡ Some c → is_some (denoted known table c) ≡ true) → FitsRow known table (slice_set m v x)
+  set_fits [] v x h k = h
+  set_fits (y ∷ m) zero x h k = fits_both x m k (fits_rest y m h)
+  set_fits (y ∷ m) (suc v) x h k = fits_both y (slice_set m v x) (fits_first y m h) (set_fits m v x (fits_rest y m h) k)
+
+  pub set_terms : (m : Cells) (v : ℕ) (x : Option Cell) → row_solution known table (slice_set m v x) ≡ slice_set (row_solution known table m) v (denoted_if known table x)
+  set_terms [] v x = refl
+  set_terms (y ∷ m) zero x = refl
+  set_terms (y ∷ m) (suc v) x = ap (λ n. denoted_if known table y ∷ n) (set_terms m v x)
+
+  -- ---- the front of a row
+
+  pub front_terms : (n : ℕ) (m : Cells) → row_solution known table (take n m) ≡ take n (row_solution known table m)
+  front_terms zero m = refl
+  front_terms (suc n) [] = refl
+  front_terms (suc n) (x ∷ m) = ap (λ s. denoted_if known table x ∷ s) (front_terms n m)
+
+  pub front_fits : (n : ℕ) (m : Cells) → FitsRow known table m → FitsRow known table (take n m)
+  front_fits zero m h = fits_nil
+  front_fits (suc n) [] h = h
+  front_fits (suc n) (x ∷ m) h = fits_both x (take n m) (fits_first x m h) (front_fits n m (fits_rest x m h))

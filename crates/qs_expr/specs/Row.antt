@@ -1,9 +1,9 @@
 -- Rows by their cells (SPARQL 1.1 Query, 18.3).
-use Rattle.std.specs.Prelude.{◌≡◌, ℕ, zero, suc, slice_set, Bool, true, ◌&&◌, List, [], ◌∷◌, Option, None, Some}
+use Rattle.std.specs.Prelude.{◌≡◌, ℕ, zero, suc, slice_set, take, Bool, true, ◌&&◌, List, [], ◌∷◌, Option, None, Some}
 use Rattle.qs_expr.specs.declared.cell.Cell.{Cell}
 use Rattle.qs_terms.specs.declared.term.Term.{Term}
 use Rattle.qs_algebra_solutions.specs.Solution.{compatible, merge}
-use Rattle.qs_expr.specs.Cell.{Cells, denoted, row_solution, same_cell, FitsCell, FitsRow}
+use Rattle.qs_expr.specs.Cell.{Cells, denoted, denoted_if, row_solution, same_cell, FitsCell, FitsIf, FitsRow}
 use Rattle.qs_expr.specs.Scratch.{IsTable}
 
 -- n variables, none of them bound
@@ -57,3 +57,20 @@ BindsTerm old v c new =
 -- the new row fits where the old one and the cell do
 abbrev pub FitsWith : Cells → Cell → Cells → Type 0
 FitsWith old c new = (known table : List Term) → FitsRow known table old → FitsCell known table c → FitsRow known table new
+
+-- the new row's solution has the cell's term at the variable, or none where there is no cell
+abbrev pub BindsTermIf : Cells → ℕ → Option Cell → Cells → Type 0
+BindsTermIf old v x new =
+    (known table : List Term) → row_solution known table new ≡ slice_set (row_solution known table old) v (denoted_if known table x)
+
+-- the new row fits where the old one and the cell, if there is one, do
+abbrev pub FitsWithIf : Cells → Option Cell → Cells → Type 0
+FitsWithIf old x new = (known table : List Term) → FitsRow known table old → FitsIf known table x → FitsRow known table new
+
+-- the new row's solution has the first terms of the old one's
+abbrev pub HasFront : ℕ → Cells → Cells → Type 0
+HasFront width old new = (known table : List Term) → row_solution known table new ≡ take width (row_solution known table old)
+
+-- the new row fits where the old one does
+abbrev pub FitsFront : Cells → Cells → Type 0
+FitsFront old new = (known table : List Term) → FitsRow known table old → FitsRow known table new

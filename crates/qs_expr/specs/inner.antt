@@ -2,3 +2,4 @@
 pub mod Places
 pub mod Against
 pub mod Parts
+pub mod Compact

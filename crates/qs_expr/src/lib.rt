@@ -10,6 +10,7 @@
 #![tactic(auto)]
 
 mod cell;
+mod compact;
 mod condition;
 mod constant;
 mod evaluate;

@@ -1,10 +1,7 @@
-use Rattle.std.proofs.Common.{◌≡◌, ◌∙◌, ap, arith}
+use Rattle.std.proofs.Common.{ap, ◌∙◌}
 use Rattle.qs_expr.specs.Cell.{row_solution}
-use Rattle.qs_expr.specs.Row.{no_cells}
 use Rattle.qs_expr.proofs.Rows.{no_cells_unbound}
 use Rattle.qs_expr.proofs.row.Row.unbound.Goals as goal
 
 pub returns-clause-terms : goal.returns-clause-terms
-returns-clause-terms c known table =
-    let e : c.loop.counter ≡ c.args.width = omega arith in
-    ap (row_solution known table) (c.loop.invariant ∙ ap no_cells e) ∙ no_cells_unbound known table c.args.width
+returns-clause-terms c known table = ap (row_solution known table) c.in_ok-cells.ensures ∙ no_cells_unbound known table c.args.width
