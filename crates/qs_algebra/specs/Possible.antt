@@ -6,7 +6,7 @@ use Rattle.qs_algebra_patterns.specs.declared.pattern.Step.{Step, fold-Step}
 use Rattle.qs_algebra_patterns.specs.declared.pattern.PatternNode.{PatternNode, fold-PatternNode}
 use Rattle.qs_algebra_patterns.specs.declared.pattern.PatternNode.TheOpen.{PatternNode-F, Step-F, Basic, Group, Union, Graph, EachGraph, Values, Join, LeftJoin, Minus, Extend}
 use Rattle.qs_algebra.specs.Certain.{is_column}
-use Rattle.qs_algebra.specs.declared.pattern.Pattern.{Pattern}
+use Rattle.qs_algebra_patterns.specs.declared.named_pattern.Pattern.{Pattern}
 
 -- a step of a group, or a part of a union, may bind it, or GRAPH or BIND its variable, or a table; what is taken away binds none
 abbrev pub is_possible_level : ℕ → PatternNode-F (ℕ → Bool) (ℕ → Bool) → ℕ → Bool

@@ -31,7 +31,7 @@ use Rattle.qs_algebra_patterns.specs.declared.pattern.Table.{Table}
 use Rattle.qs_expr_meaning.specs.declared.expr.Expr.{Expr}
 use Rattle.qs_algebra.specs.Basic.{basic_pattern}
 use Rattle.qs_algebra.specs.Expressions.{expr_of}
-use Rattle.qs_algebra.specs.declared.pattern.Pattern.{Pattern}
+use Rattle.qs_algebra_patterns.specs.declared.named_pattern.Pattern.{Pattern}
 use Rattle.qs_algebra.specs.declared.parts.GroupParts.{GroupParts}
 
 -- one group, or a union of groups

@@ -6,7 +6,7 @@ ghost use Rattle.qs_syntax_scope.specs.Firsts as first;
 ghost use Rattle.qs_algebra.specs.Translation as spec;
 
 use crate::basic::basic_pattern;
-use crate::pattern::Pattern;
+use qs_algebra_patterns::Pattern;
 use crate::query::named;
 use crate::translation::{in_graph, unfiltered};
 use qs_algebra_patterns::{PatternNode, Step};

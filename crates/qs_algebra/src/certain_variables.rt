@@ -8,7 +8,7 @@ ghost use Rattle.qs_algebra.specs.Certain.{certain_in, is_certain, is_certain_st
 use crate::bound_columns::certain_of_table;
 use crate::flags::{alike, both, either, flag};
 use crate::mentioned::mentioned;
-use crate::pattern::Pattern;
+use qs_algebra_patterns::Pattern;
 use qs_algebra_patterns::{PatternNode, Step};
 use std::alloc::{AllocError, Global};
 

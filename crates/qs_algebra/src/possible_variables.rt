@@ -8,7 +8,7 @@ ghost use Rattle.qs_algebra.specs.Possible.{is_possible, is_possible_step, possi
 use crate::bound_columns::columns;
 use crate::flags::{alike, either, flag};
 use crate::mentioned::mentioned;
-use crate::pattern::Pattern;
+use qs_algebra_patterns::Pattern;
 use qs_algebra_patterns::{PatternNode, Step};
 use std::alloc::{AllocError, Global};
 

@@ -9,7 +9,7 @@ ghost use Rattle.qs_algebra.specs.Translation as spec;
 
 use crate::basic::basic_pattern;
 use crate::expression::expr_of;
-use crate::pattern::Pattern;
+use qs_algebra_patterns::Pattern;
 use crate::table::table_of;
 use crate::translation::{group_pattern, unfiltered};
 use qs_algebra_patterns::{PatternNode, Step};

@@ -16,7 +16,7 @@ ghost use Rattle.qs_algebra_patterns.specs.declared.pattern.PatternNode.{Pattern
 ghost use Rattle.qs_algebra.specs.Certain.{is_certain, certain_in};
 ghost use Rattle.qs_algebra.specs.Possible.{is_possible, possible_in};
 ghost use Rattle.qs_algebra.specs.Translation.{group_pattern, translated_where};
-ghost use Rattle.qs_algebra.specs.declared.pattern.Pattern.{Pattern};
+ghost use Rattle.qs_algebra_patterns.specs.declared.named_pattern.Pattern.{Pattern};
 
 use qs_syntax_scope::laws::names_stand_at_their_places;
 

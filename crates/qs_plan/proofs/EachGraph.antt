@@ -15,11 +15,11 @@ use Rattle.qs_algebra_patterns.specs.Eval.{eval}
 use Rattle.qs_algebra_patterns.specs.declared.pattern.PatternNode.{PatternNode}
 use Rattle.qs_algebra_patterns.specs.declared.pattern.PatternNode.TheVariants as pattern
 use Rattle.qs_algebra_patterns.proofs.Meaning.{eval_each_graph}
-use Rattle.qs_plan.specs.declared.stage.Look.{Look}
-use Rattle.qs_plan.specs.declared.stage.Look.TheVariants as look
-use Rattle.qs_plan.specs.declared.stage.Stage.{Stage}
-use Rattle.qs_plan.specs.declared.stage.Stage.TheVariants as stage
-use Rattle.qs_plan.specs.Stages.{Made, looked, graph_named, through}
+use Rattle.qs_plan_meaning.specs.declared.stage.Look.{Look}
+use Rattle.qs_plan_meaning.specs.declared.stage.Look.TheVariants as look
+use Rattle.qs_plan_meaning.specs.declared.stage.Stage.{Stage}
+use Rattle.qs_plan_meaning.specs.declared.stage.Stage.TheVariants as stage
+use Rattle.qs_plan_meaning.specs.Stages.{Made, looked, graph_named, through}
 use Rattle.qs_plan.specs.inner.Lays.{Ready, After, Lays, joined_with}
 use Rattle.qs_plan.proofs.Commutes.{all_map, merges_append, merges_joined}
 use Rattle.qs_plan.proofs.Levels.{gives_names, gives_name, through_append, through_one}

@@ -22,13 +22,14 @@ use Rattle.qs_algebra_patterns.specs.declared.pattern.PatternNode.TheVariants as
 use Rattle.qs_algebra_patterns.specs.declared.pattern.Step.{Step}
 use Rattle.qs_algebra_patterns.specs.declared.pattern.Step.TheVariants as one
 use Rattle.qs_algebra_patterns.proofs.Meaning.{eval_group, eval_union, eval_graph, eval_values, step_join, step_left_join, step_minus, step_extend}
-use Rattle.qs_plan.specs.declared.stage.Look.{Look}
-use Rattle.qs_plan.specs.declared.stage.Look.TheVariants as look
-use Rattle.qs_plan.specs.declared.stage.Group.{Group}
-use Rattle.qs_plan.specs.declared.stage.Stage.{Stage}
-use Rattle.qs_plan.specs.declared.stage.Stage.TheVariants as stage
-use Rattle.qs_plan.specs.Stages.{Made, looked, graph_named, kept_if, only, aside, gives, through}
-use Rattle.qs_plan.specs.inner.Lays.{Ready, After, Within, Makes, Lays, register_of, joined_with, joined_with_all, stepped, all_stepped, all_kept, IsLinear, LaysStep, IsJoin}
+use Rattle.qs_plan_meaning.specs.declared.stage.Look.{Look}
+use Rattle.qs_plan_meaning.specs.declared.stage.Look.TheVariants as look
+use Rattle.qs_plan_meaning.specs.declared.stage.Group.{Group}
+use Rattle.qs_plan_meaning.specs.declared.stage.Stage.{Stage}
+use Rattle.qs_plan_meaning.specs.declared.stage.Stage.TheVariants as stage
+use Rattle.qs_plan_meaning.specs.Stages.{Made, looked, graph_named, kept_if, only, aside, gives, through}
+use Rattle.qs_plan.specs.inner.Lays.{Ready, After, Within, Makes, Lays, joined_with, joined_with_all, stepped, all_stepped, all_kept, IsLinear, LaysStep, IsJoin}
+use Rattle.qs_plan_meaning.specs.Stages.{register_of}
 use Rattle.qs_plan.proofs.Commutes.{all_map, merges_append, merges_joined}
 use Rattle.qs_plan.proofs.Levels.{gives_exists, gives_filter, gives_bind, gives_values, gives_union, gives_optional, gives_minus, gives_apart, through_append, through_one, flat_ap}
 use Rattle.qs_plan.proofs.Operators.{filter_same, flat_map_same, merges_same, alone_same}

@@ -17,12 +17,12 @@ use Rattle.qs_algebra_patterns.specs.Eval.{all_hold, bound_to, rows_of}
 use Rattle.qs_algebra_patterns.specs.declared.pattern.Table.{Table}
 use Rattle.qs_algebra_patterns.specs.declared.pattern.TriplePattern.{TriplePattern}
 use Rattle.qs_algebra_patterns.specs.declared.pattern.PathPattern.{PathPattern}
-use Rattle.qs_plan.specs.declared.stage.Group.{Group}
-use Rattle.qs_plan.specs.declared.stage.Look.{Look}
-use Rattle.qs_plan.specs.declared.stage.Stage.{Stage}
-use Rattle.qs_plan.specs.declared.stage.Stage.TheVariants as stage
-use Rattle.qs_plan.specs.Scans.{bound_triple, bound_ends, path_pairs}
-use Rattle.qs_plan.specs.Stages.{Made, looked, kept_if, only, aside, gives, through}
+use Rattle.qs_plan_meaning.specs.declared.stage.Group.{Group}
+use Rattle.qs_plan_meaning.specs.declared.stage.Look.{Look}
+use Rattle.qs_plan_meaning.specs.declared.stage.Stage.{Stage}
+use Rattle.qs_plan_meaning.specs.declared.stage.Stage.TheVariants as stage
+use Rattle.qs_plan_meaning.specs.Scans.{bound_triple, bound_ends, path_pairs}
+use Rattle.qs_plan_meaning.specs.Stages.{Made, looked, kept_if, only, aside, gives, through}
 use Rattle.qs_plan.specs.inner.Reads.{Agree, Settles, Leaves, LeaveAll}
 use Rattle.qs_plan.specs.inner.Sames.{SameStages, Misses}
 use Rattle.qs_plan.proofs.Commutes.{all_map, scanned_each}

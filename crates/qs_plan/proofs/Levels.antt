@@ -13,13 +13,13 @@ use Rattle.qs_algebra_patterns.specs.Eval.{all_hold, extended, rows_of}
 use Rattle.qs_algebra_patterns.specs.declared.pattern.Table.{Table}
 use Rattle.qs_algebra_patterns.specs.declared.pattern.TriplePattern.{TriplePattern}
 use Rattle.qs_algebra_patterns.specs.declared.pattern.PathPattern.{PathPattern}
-use Rattle.qs_plan.specs.declared.stage.Look.{Look}
-use Rattle.qs_plan.specs.declared.stage.Group.{Group, fold-Group, the_lemmas as group_lemmas}
-use Rattle.qs_plan.specs.declared.stage.Stage.{Stage, fold-roll-Stage, the_lemmas}
-use Rattle.qs_plan.specs.declared.stage.Stage.TheOpen as level
-use Rattle.qs_plan.specs.declared.stage.Stage.TheVariants.{Triple, Path, Exists, Names, Name, Filter, Bind, Values, Union, Optional, Minus, Apart, rolls-Triple, rolls-Path, rolls-Exists, rolls-Names, rolls-Name, rolls-Filter, rolls-Bind, rolls-Values, rolls-Union, rolls-Optional, rolls-Minus, rolls-Apart}
-use Rattle.qs_plan.specs.Scans.{extensions, path_extensions}
-use Rattle.qs_plan.specs.Stages.{Made, looked, if_named, each_named, kept_if, aside, along, gives_level, group_level, gives, through}
+use Rattle.qs_plan_meaning.specs.declared.stage.Look.{Look}
+use Rattle.qs_plan_meaning.specs.declared.stage.Group.{Group, fold-Group, the_lemmas as group_lemmas}
+use Rattle.qs_plan_meaning.specs.declared.stage.Stage.{Stage, fold-roll-Stage, the_lemmas}
+use Rattle.qs_plan_meaning.specs.declared.stage.Stage.TheOpen as level
+use Rattle.qs_plan_meaning.specs.declared.stage.Stage.TheVariants.{Triple, Path, Exists, Names, Name, Filter, Bind, Values, Union, Optional, Minus, Apart, rolls-Triple, rolls-Path, rolls-Exists, rolls-Names, rolls-Name, rolls-Filter, rolls-Bind, rolls-Values, rolls-Union, rolls-Optional, rolls-Minus, rolls-Apart}
+use Rattle.qs_plan_meaning.specs.Scans.{extensions, path_extensions}
+use Rattle.qs_plan_meaning.specs.Stages.{Made, looked, if_named, each_named, kept_if, aside, along, gives_level, group_level, gives, through}
 use Rattle.qs_plan.proofs.Commutes.{flat_flat}
 
 module _ (width : ℕ) (quads : List Statement) (active : Graph) where

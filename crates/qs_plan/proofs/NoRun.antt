@@ -10,10 +10,10 @@ use Rattle.qs_algebra_patterns.specs.Basic.{Graph, basic, with_paths, matches}
 use Rattle.qs_algebra_patterns.proofs.Meaning.{eval_basic}
 use Rattle.qs_algebra_solutions.specs.Solution.{Solution}
 use Rattle.qs_algebra_solutions.specs.Operators.{merges}
-use Rattle.qs_plan.specs.declared.stage.Look.{Look}
-use Rattle.qs_plan.specs.declared.stage.Stage.{Stage}
-use Rattle.qs_plan.specs.declared.stage.Stage.TheVariants as stage
-use Rattle.qs_plan.specs.Stages.{looked}
+use Rattle.qs_plan_meaning.specs.declared.stage.Look.{Look}
+use Rattle.qs_plan_meaning.specs.declared.stage.Stage.{Stage}
+use Rattle.qs_plan_meaning.specs.declared.stage.Stage.TheVariants as stage
+use Rattle.qs_plan_meaning.specs.Stages.{looked}
 use Rattle.qs_plan.specs.inner.Below.{all_below}
 use Rattle.qs_plan.specs.inner.Lays.{After, Lays, joined_with}
 use Rattle.qs_plan.proofs.Laying.{between, stage_lays}

@@ -17,12 +17,12 @@ use Rattle.qs_algebra_patterns.specs.Basic.{Graph, basic}
 use Rattle.qs_algebra_patterns.proofs.Meaning.{eval_basic}
 use Rattle.qs_algebra_solutions.specs.Solution.{Solution, term_at}
 use Rattle.qs_algebra_solutions.specs.Operators.{merges}
-use Rattle.qs_plan.specs.declared.stage.Look.{Look}
-use Rattle.qs_plan.specs.declared.stage.Look.TheVariants as look
-use Rattle.qs_plan.specs.declared.stage.Stage.{Stage}
-use Rattle.qs_plan.specs.declared.stage.Stage.TheVariants as stage
-use Rattle.qs_plan.specs.Scans.{bound_slot, bound_end, then_bound, bound_triple, bound_ends, path_pairs, extensions, path_extensions}
-use Rattle.qs_plan.specs.Stages.{Made, looked, graph_named, along, gives, through}
+use Rattle.qs_plan_meaning.specs.declared.stage.Look.{Look}
+use Rattle.qs_plan_meaning.specs.declared.stage.Look.TheVariants as look
+use Rattle.qs_plan_meaning.specs.declared.stage.Stage.{Stage}
+use Rattle.qs_plan_meaning.specs.declared.stage.Stage.TheVariants as stage
+use Rattle.qs_plan_meaning.specs.Scans.{bound_slot, bound_end, then_bound, bound_triple, bound_ends, path_pairs, extensions, path_extensions}
+use Rattle.qs_plan_meaning.specs.Stages.{Made, looked, graph_named, along, gives, through}
 use Rattle.qs_plan.specs.inner.Below.{all_below}
 use Rattle.qs_plan.specs.inner.Numbers.{past, number, slot_of, triple_of, other_end, path_of, triple_stages, path_stages}
 use Rattle.qs_plan.specs.inner.Lays.{Ready, After, Within, Lays, joined_with}

@@ -18,13 +18,13 @@ use Rattle.qs_algebra_patterns.specs.declared.pattern.Slot.{Slot}
 use Rattle.qs_algebra_patterns.specs.declared.pattern.Slot.TheVariants as slot
 use Rattle.qs_algebra_patterns.specs.declared.pattern.TriplePattern.{TriplePattern}
 use Rattle.qs_algebra_patterns.specs.declared.pattern.PathPattern.{PathPattern}
-use Rattle.qs_plan.specs.declared.stage.Look.{Look}
-use Rattle.qs_plan.specs.declared.stage.Look.TheVariants as look
-use Rattle.qs_plan.specs.declared.stage.Stage.{Stage}
-use Rattle.qs_plan.specs.declared.stage.Stage.TheVariants as stage
-use Rattle.qs_plan.specs.Scans.{bound_slot, bound_end, then_bound, bound_triple, bound_ends, path_pairs, extensions, path_extensions}
-use Rattle.qs_plan.specs.Stages.{Made, looked, graph_named, gives, through}
-use Rattle.qs_plan.specs.inner.Lays.{register_of}
+use Rattle.qs_plan_meaning.specs.declared.stage.Look.{Look}
+use Rattle.qs_plan_meaning.specs.declared.stage.Look.TheVariants as look
+use Rattle.qs_plan_meaning.specs.declared.stage.Stage.{Stage}
+use Rattle.qs_plan_meaning.specs.declared.stage.Stage.TheVariants as stage
+use Rattle.qs_plan_meaning.specs.Scans.{bound_slot, bound_end, then_bound, bound_triple, bound_ends, path_pairs, extensions, path_extensions}
+use Rattle.qs_plan_meaning.specs.Stages.{Made, looked, graph_named, gives, through}
+use Rattle.qs_plan_meaning.specs.Stages.{register_of}
 use Rattle.qs_plan.specs.inner.Sames.{SameStages, held, Stays, IsScan, Misses}
 use Rattle.qs_plan.proofs.Commutes.{SetBy, slot_sets, end_sets, scanned_each, triple_even, path_even, flat_flat, merges_joined}
 use Rattle.qs_plan.proofs.Levels.{gives_triple, gives_path, through_append, flat_ap}

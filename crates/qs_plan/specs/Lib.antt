@@ -1,4 +1,2 @@
-pub mod Scans
-pub mod Stages
 pub mod Plans
 pub mod inner

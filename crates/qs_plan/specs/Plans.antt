@@ -6,9 +6,9 @@ use Rattle.qs_terms.specs.Statement.{Statement, same_statement}
 use Rattle.qs_algebra_solutions.specs.Solution.{Solution, unbound}
 use Rattle.qs_algebra_patterns.specs.Basic.{Graph}
 use Rattle.qs_algebra_patterns.specs.Eval.{eval}
-use Rattle.qs_algebra.specs.declared.pattern.Pattern.{Pattern}
-use Rattle.qs_plan.specs.declared.stage.Plan.{Plan}
-use Rattle.qs_plan.specs.Stages.{through}
+use Rattle.qs_algebra_patterns.specs.declared.named_pattern.Pattern.{Pattern}
+use Rattle.qs_plan.specs.declared.plan_type.Plan.{Plan}
+use Rattle.qs_plan_meaning.specs.Stages.{through}
 
 -- the solutions of a plan over named variables: what its stages make of the row that binds nothing
 abbrev pub plan_list : Plan → List Statement → Graph → List Solution

@@ -1,6 +1,7 @@
 //! Plans as text: a line a stage, indented by nesting. A variable is printed by its number, and an expression with its operator first.
 
-use crate::stage::{Group, Look, Plan, Stage};
+use crate::plan_type::Plan;
+use qs_plan_meaning::{Group, Look, Stage};
 use qs_algebra_patterns::{PathPattern, Slot, Table, TriplePattern};
 use qs_expr_meaning::{Addend, BinaryFunction, Comparison, Expr, Sign, UnaryFunction};
 use qs_syntax_ast::path::{NegatedIri, Path};

@@ -4,13 +4,14 @@
 ghost use Rattle.std.specs.Prelude.{◌≡◌, ◌≢◌, ◌==◌, true, [], ◌∷◌, ◌++◌, reverse, Some, IfOk, OnOk};
 ghost use Rattle.std.specs.List.{AllByRecursion, list_any};
 ghost use Rattle.qs_expr_meaning.specs.declared.expr.Expr as exprs;
-ghost use Rattle.qs_plan.specs.declared.stage.Stage.TheVariants as stage;
+ghost use Rattle.qs_plan_meaning.specs.declared.stage.Stage.TheVariants as stage;
 ghost use Rattle.qs_plan.specs.Plans.{SamePlan};
 ghost use Rattle.qs_plan.specs.inner.Reads.{Grows, LeaveAll, Leaves, Settles};
 ghost use Rattle.qs_plan.specs.inner.Sames.{SameStages};
 
 use crate::order::{copied_path, copied_triple, path_misses, triple_misses};
-use crate::stage::{Group, Plan, Stage};
+use crate::plan_type::Plan;
+use qs_plan_meaning::{Group, Stage};
 use qs_algebra_patterns::Table;
 use qs_base::Shared;
 use qs_expr_meaning::Expr;

@@ -1,12 +1,12 @@
 //! Stages that are laid for a part of a pattern.
 
 ghost use Rattle.std.specs.Prelude.{◌≡◌, [], ◌∷◌, ◌++◌, IfOk};
-ghost use Rattle.qs_plan.specs.declared.stage.Look.TheVariants as look;
-ghost use Rattle.qs_plan.specs.declared.stage.Stage.TheVariants as stage;
-ghost use Rattle.qs_plan.specs.inner.Lays.{register_of};
+ghost use Rattle.qs_plan_meaning.specs.declared.stage.Look.TheVariants as look;
+ghost use Rattle.qs_plan_meaning.specs.declared.stage.Stage.TheVariants as stage;
+ghost use Rattle.qs_plan_meaning.specs.Stages.{register_of};
 
 use crate::copies::{shared_conditions, shared_expr};
-use crate::stage::{Group, Look, Stage};
+use qs_plan_meaning::{Group, Look, Stage};
 use qs_base::{Shared, keep_beside};
 use qs_expr_meaning::Expr;
 use qs_terms::Term;

@@ -3,14 +3,14 @@
 ghost use Rattle.std.specs.Prelude.{◌≡◌, ◌≤◌, true, false, [], ◌∷◌, ◌++◌, map, IfOk};
 ghost use Rattle.std.specs.List.{AllByRecursion};
 ghost use Rattle.qs_algebra_patterns.specs.declared.pattern.PatternNode.TheVariants as pattern;
-ghost use Rattle.qs_plan.specs.declared.stage.Look as places;
-ghost use Rattle.qs_plan.specs.declared.stage.Stage.TheVariants as stage;
+ghost use Rattle.qs_plan_meaning.specs.declared.stage.Look as places;
+ghost use Rattle.qs_plan_meaning.specs.declared.stage.Stage.TheVariants as stage;
 ghost use Rattle.qs_plan.specs.inner.Lays.{Lays, LaysStep, Within, IsJoin, all_kept, all_stepped, joined_with};
 
 use crate::copies::{shared_expr, shared_table};
 use crate::laid::{Laid, alone, apart, bind, if_exists, in_each, look_named, minus, optional};
 use crate::run::{lay_run, room_after};
-use crate::stage::{Group, Look, Stage};
+use qs_plan_meaning::{Group, Look, Stage};
 use qs_algebra_patterns::{PatternNode, Step, Table};
 use qs_expr_meaning::Expr;
 use qs_terms::Term;

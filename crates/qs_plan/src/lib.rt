@@ -10,9 +10,10 @@ mod lay;
 mod order;
 mod planner;
 mod run;
-mod stage;
+mod plan_type;
 
 pub use filters::filter_order;
 pub use order::run_order;
 pub use planner::{plan, text_order};
-pub use stage::{Group, Look, Plan, Stage, drop_plan};
+pub use plan_type::{Plan, drop_plan};
+pub use qs_plan_meaning::{Group, Look, Stage};

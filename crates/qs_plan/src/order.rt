@@ -2,12 +2,13 @@
 
 ghost use Rattle.std.specs.Prelude.{◌≡◌, ◌≢◌, ◌<◌, ◌≤◌, true, [], ◌∷◌, ◌++◌, length, slice_get, remove, Some, IfOk, OnOk, MatchOption};
 ghost use Rattle.std.specs.List.{AllByRecursion};
-ghost use Rattle.qs_plan.specs.declared.stage.Stage.TheVariants as stage;
+ghost use Rattle.qs_plan_meaning.specs.declared.stage.Stage.TheVariants as stage;
 ghost use Rattle.qs_plan.specs.Plans.{SamePlan};
-ghost use Rattle.qs_plan.specs.inner.Lays.{register_of};
+ghost use Rattle.qs_plan_meaning.specs.Stages.{register_of};
 ghost use Rattle.qs_plan.specs.inner.Sames.{IsScan, Misses, SameStages};
 
-use crate::stage::{Group, Look, Plan, Stage};
+use crate::plan_type::Plan;
+use qs_plan_meaning::{Group, Look, Stage};
 use qs_algebra_patterns::{PathPattern, Slot, TriplePattern};
 use sqlite_items::Items;
 use std::alloc::{AllocError, Global};

@@ -10,8 +10,9 @@ use crate::laid::Laid;
 use crate::lay::lay;
 use crate::order::run_order;
 use crate::run::PAST;
-use crate::stage::{Look, Plan};
-use qs_algebra::Pattern;
+use crate::plan_type::Plan;
+use qs_plan_meaning::Look;
+use qs_algebra_patterns::Pattern;
 use qs_terms::QFault;
 use std::alloc::{AllocError, Global};
 

@@ -3,14 +3,14 @@
 ghost use Rattle.std.specs.Prelude.{◌≡◌, ◌≤◌, ◌<◌, ◌+◌, ◌^◌, Bool, nat_lt, [], ◌∷◌, ◌++◌, IfOk};
 ghost use Rattle.qs_algebra_patterns.specs.Basic.{is_repeated};
 ghost use Rattle.qs_algebra_patterns.specs.declared.pattern.PatternNode.TheVariants.{Basic};
-ghost use Rattle.qs_plan.specs.declared.stage.Stage.TheVariants as stage;
+ghost use Rattle.qs_plan_meaning.specs.declared.stage.Stage.TheVariants as stage;
 ghost use Rattle.qs_plan.specs.inner.Below as below;
 ghost use Rattle.qs_plan.specs.inner.Lays.{Lays, Within, joined_with};
 ghost use Rattle.qs_plan.specs.inner.Numbers as spec;
 ghost use Rattle.qs_plan.specs.inner.Numbers.{past};
 
 use crate::laid::{Laid, alone};
-use crate::stage::{Look, Stage};
+use qs_plan_meaning::{Look, Stage};
 use qs_algebra_patterns::{BasicPattern, PathPattern, Slot, TriplePattern};
 use qs_base::keep_beside;
 use sqlite_items::Items;

@@ -15,7 +15,7 @@ use Rattle.qs_algebra_solutions.specs.declared.answer.Answer.{Answer}
 use Rattle.qs_algebra_solutions.specs.declared.answer.Answer.TheVariants.{Solutions}
 use Rattle.qs_syntax_ast.specs.declared.query.Query.{Query}
 use Rattle.qs_syntax_scope.specs.Names.{Name}
-use Rattle.qs_algebra.specs.declared.pattern.Pattern.{Pattern}
+use Rattle.qs_algebra_patterns.specs.declared.named_pattern.Pattern.{Pattern}
 use Rattle.qs_base.specs.Lent.{lent}
 use Rattle.qs_query_order.specs.Order.{IsOrdered}
 use Rattle.qs_query_order.specs.declared.condition.OrderCondition.{OrderCondition}

@@ -10,7 +10,7 @@ use Rattle.qs_algebra_solutions.specs.Solution.{Solution}
 use Rattle.qs_algebra_solutions.specs.declared.answer.Answer.{Answer}
 use Rattle.qs_algebra_solutions.specs.declared.answer.Answer.TheVariants.{Solutions, Truth, Graph}
 use Rattle.qs_syntax_ast.specs.declared.query.Query.{Query}
-use Rattle.qs_algebra.specs.declared.pattern.Pattern.{Pattern}
+use Rattle.qs_algebra_patterns.specs.declared.named_pattern.Pattern.{Pattern}
 use Rattle.qs_query_forms.specs.Request.{request}
 use Rattle.qs_query_forms.specs.Sequence.{whole, sliced, IsSequence, IsPart, count, has_solution}
 use Rattle.qs_query_template.specs.Instances.{made}

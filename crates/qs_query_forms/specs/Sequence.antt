@@ -9,7 +9,7 @@ use Rattle.qs_algebra_solutions.specs.Solution.{Solution, projected, same_soluti
 use Rattle.qs_algebra_patterns.specs.Eval.{eval}
 use Rattle.qs_query_order.specs.Order.{IsOrdered}
 use Rattle.qs_query_order.specs.declared.condition.OrderCondition.{OrderCondition}
-use Rattle.qs_algebra.specs.declared.pattern.Pattern.{Pattern}
+use Rattle.qs_algebra_patterns.specs.declared.named_pattern.Pattern.{Pattern}
 use Rattle.qs_query_forms.specs.declared.selection.Selection.{Selection}
 use Rattle.qs_query_forms.specs.declared.modifiers.Slice.{Slice}
 

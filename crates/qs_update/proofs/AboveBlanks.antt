@@ -30,7 +30,7 @@ use Rattle.qs_query_template.specs.Instances.{instances, next_after}
 use Rattle.qs_query_template.specs.Template.{template_of_blocks, template_in}
 use Rattle.qs_query_template.specs.declared.template.Template.{Template}
 use Rattle.qs_algebra.specs.Translation.{translated_where, translated_blocks}
-use Rattle.qs_algebra.specs.declared.pattern.Pattern.{Pattern}
+use Rattle.qs_algebra_patterns.specs.declared.named_pattern.Pattern.{Pattern}
 use Rattle.qs_update_laws.specs.Below.{is_solution_below, have_iri_predicates}
 use Rattle.qs_update_laws.specs.NoBlank.{has_no_blank}
 use Rattle.qs_update_laws.specs.Written.{values_have_no_blank, operation_values_have_no_blank}

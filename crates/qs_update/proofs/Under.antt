@@ -8,7 +8,7 @@ use Rattle.qs_terms.specs.declared.fault.QFault.TheVariants.{TooManyRows}
 use Rattle.qs_terms.specs.declared.term.Term.{Term}
 use Rattle.qs_algebra_solutions.specs.Solution.{Solution}
 use Rattle.qs_query_template.specs.declared.template.Template.{Template}
-use Rattle.qs_algebra.specs.declared.pattern.Pattern.{Pattern}
+use Rattle.qs_algebra_patterns.specs.declared.named_pattern.Pattern.{Pattern}
 use Rattle.qs_store.specs.declared.default_graph.DefaultGraph.{DefaultGraph}
 use Rattle.qs_update.specs.Effect.{solutions, modified, IsModified}
 use Rattle.qs_update.specs.inner.Rows.{AreAllRows}

@@ -25,7 +25,7 @@ use Rattle.qs_query_template.specs.Instances.{instances, made, next_after}
 use Rattle.qs_query_template.specs.Template.{template_of_blocks, template_in}
 use Rattle.qs_query_template.specs.declared.template.Template.{Template}
 use Rattle.qs_algebra.specs.Translation.{translated_where, translated_blocks}
-use Rattle.qs_algebra.specs.declared.pattern.Pattern.{Pattern}
+use Rattle.qs_algebra_patterns.specs.declared.named_pattern.Pattern.{Pattern}
 use Rattle.qs_query_forms.specs.Sequence.{whole}
 pub use Rattle.qs_store.specs.WholeGraphs.{removed_by}
 use Rattle.qs_store.specs.declared.default_graph.DefaultGraph.{DefaultGraph}

@@ -12,10 +12,10 @@ use Rattle.qs_algebra_patterns.specs.Eval.{eval, step, kept}
 use Rattle.qs_algebra_patterns.specs.declared.pattern.PatternNode.{PatternNode}
 use Rattle.qs_algebra_patterns.specs.declared.pattern.Step.{Step}
 use Rattle.qs_algebra_patterns.specs.declared.pattern.Step.TheVariants.{Join}
-use Rattle.qs_plan.specs.declared.stage.Look.{Look}
-use Rattle.qs_plan.specs.declared.stage.Look.TheVariants as look
-use Rattle.qs_plan.specs.declared.stage.Stage.{Stage}
-use Rattle.qs_plan.specs.Stages.{looked, through}
+use Rattle.qs_plan_meaning.specs.declared.stage.Look.{Look}
+use Rattle.qs_plan_meaning.specs.declared.stage.Look.TheVariants as look
+use Rattle.qs_plan_meaning.specs.declared.stage.Stage.{Stage}
+use Rattle.qs_plan_meaning.specs.Stages.{looked, through}
 use Rattle.qs_plan.specs.inner.Numbers.{past}
 
 -- a row whose hidden cells from `from` on are unbound, and reach to `next` at least; if it is the first, no named variable is bound
@@ -36,12 +36,6 @@ abbrev pub Within : ℕ → ℕ → Look → Type 0
 Within width from look.Active = Unit {0}
 Within width from (look.Named name) = Unit {0}
 Within width from (look.Register r) = (width ≤ r) × (r < from)
-
--- the register in which is looked, if it is one
-abbrev pub register_of : Look → Option ℕ
-register_of look.Active = None
-register_of (look.Named name) = None
-register_of (look.Register r) = Some r
 
 -- what is made of a solution of the named variables in a graph
 abbrev pub Makes : Type 0

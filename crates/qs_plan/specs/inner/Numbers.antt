@@ -6,9 +6,9 @@ use Rattle.qs_algebra_patterns.specs.declared.pattern.Slot.TheVariants as slot
 use Rattle.qs_algebra_patterns.specs.declared.pattern.TriplePattern.{TriplePattern}
 use Rattle.qs_algebra_patterns.specs.declared.pattern.PathPattern.{PathPattern}
 use Rattle.qs_algebra_patterns.specs.Basic.{is_repeated}
-use Rattle.qs_plan.specs.declared.stage.Look.{Look}
-use Rattle.qs_plan.specs.declared.stage.Stage.{Stage}
-use Rattle.qs_plan.specs.declared.stage.Stage.TheVariants as stage
+use Rattle.qs_plan_meaning.specs.declared.stage.Look.{Look}
+use Rattle.qs_plan_meaning.specs.declared.stage.Stage.{Stage}
+use Rattle.qs_plan_meaning.specs.declared.stage.Stage.TheVariants as stage
 
 -- more cells than a row has
 abbrev pub past : ℕ

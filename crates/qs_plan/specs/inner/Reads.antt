@@ -6,8 +6,8 @@ use Rattle.qs_algebra_solutions.specs.Solution.{Solution, term_at}
 use Rattle.qs_algebra_patterns.specs.Basic.{Graph}
 use Rattle.qs_expr_meaning.specs.Meaning.{meaning}
 use Rattle.qs_expr_meaning.specs.declared.expr.Expr.{Expr}
-use Rattle.qs_plan.specs.declared.stage.Stage.{Stage}
-use Rattle.qs_plan.specs.Stages.{gives, through}
+use Rattle.qs_plan_meaning.specs.declared.stage.Stage.{Stage}
+use Rattle.qs_plan_meaning.specs.Stages.{gives, through}
 
 -- both bind these variables alike
 abbrev pub Agree : List ℕ → Solution → Solution → Type 0

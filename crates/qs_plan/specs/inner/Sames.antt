@@ -9,8 +9,8 @@ use Rattle.qs_algebra_solutions.specs.Operators.{merges}
 use Rattle.qs_algebra_patterns.specs.Basic.{Graph}
 use Rattle.qs_algebra_patterns.specs.declared.pattern.Slot.{Slot}
 use Rattle.qs_algebra_patterns.specs.declared.pattern.Slot.TheVariants as slot
-use Rattle.qs_plan.specs.declared.stage.Stage.{Stage}
-use Rattle.qs_plan.specs.Stages.{gives, through}
+use Rattle.qs_plan_meaning.specs.declared.stage.Stage.{Stage}
+use Rattle.qs_plan_meaning.specs.Stages.{gives, through}
 
 -- of each row they make the same
 pub record SameStages (ss ts : List Stage) : Type 0 where

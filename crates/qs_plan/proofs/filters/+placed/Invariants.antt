@@ -1,5 +1,5 @@
 use Rattle.std.proofs.Common.{[], ◌∷◌, take}
-use Rattle.qs_plan.specs.declared.stage.Stage.TheVariants.{Union}
+use Rattle.qs_plan_meaning.specs.declared.stage.Stage.TheVariants.{Union}
 use Rattle.qs_plan.specs.inner.Sames.{SameStages}
 use Rattle.qs_plan.proofs.filters.+placed.Given as goal
 

@@ -1,6 +1,6 @@
 use Rattle.std.proofs.Common.{◌∷◌, ◌++◌, [], length, reverse}
 use Rattle.qs_expr_meaning.specs.declared.expr.Expr.{Expr}
-use Rattle.qs_plan.specs.declared.stage.Stage.TheVariants as stage
+use Rattle.qs_plan_meaning.specs.declared.stage.Stage.TheVariants as stage
 use Rattle.qs_plan.specs.inner.Reads.{Settles}
 use Rattle.qs_plan.specs.inner.Sames.{SameStages}
 use Rattle.qs_plan.proofs.filters.take_tail.Given as goal

@@ -1,5 +1,5 @@
 use Rattle.std.proofs.Common.{◌∷◌, [], take}
-use Rattle.qs_plan.specs.declared.stage.Stage.TheVariants.{Union}
+use Rattle.qs_plan_meaning.specs.declared.stage.Stage.TheVariants.{Union}
 use Rattle.qs_plan.specs.inner.Lays.{Lays, all_stepped, joined_with_all}
 use Rattle.qs_plan.proofs.lay.+lay.Given as goal
 

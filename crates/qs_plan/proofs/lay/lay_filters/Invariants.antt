@@ -1,5 +1,5 @@
 use Rattle.std.proofs.Common.{◌≡◌, ◌++◌, map, take}
-use Rattle.qs_plan.specs.declared.stage.Stage.TheVariants.{Filter}
+use Rattle.qs_plan_meaning.specs.declared.stage.Stage.TheVariants.{Filter}
 use Rattle.qs_plan.proofs.lay.lay_filters.Given as goal
 
 abbrev pub invariant-loop-condition : goal.invariant-loop-condition

@@ -1,6 +1,6 @@
 use Rattle.std.proofs.Common.{[], ◌∷◌, ◌++◌, take}
 use Rattle.std.specs.List.{AllByRecursion}
-use Rattle.qs_plan.specs.declared.stage.Stage.TheVariants.{Union}
+use Rattle.qs_plan_meaning.specs.declared.stage.Stage.TheVariants.{Union}
 use Rattle.qs_plan.specs.inner.Sames.{SameStages, IsScan}
 use Rattle.qs_plan.proofs.order.+ordered.Given as goal
 

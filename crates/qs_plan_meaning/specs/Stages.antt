@@ -12,11 +12,11 @@ use Rattle.qs_algebra_solutions.specs.Operators.{merges, or_alone, excludes}
 use Rattle.qs_expr_meaning.specs.Meaning.{holds}
 use Rattle.qs_algebra_patterns.specs.Basic.{Graph}
 use Rattle.qs_algebra_patterns.specs.Eval.{all_hold, extended, rows_of}
-use Rattle.qs_plan.specs.declared.stage.Look.{Look}
-use Rattle.qs_plan.specs.declared.stage.Look.TheVariants as look
-use Rattle.qs_plan.specs.declared.stage.Stage.{Stage, fold-Stage}
-use Rattle.qs_plan.specs.declared.stage.Stage.TheOpen.{Stage-F, Group-F, Triple, Path, Exists, Names, Name, Filter, Bind, Values, Union, Optional, Minus, Apart}
-use Rattle.qs_plan.specs.Scans.{extensions, path_extensions}
+use Rattle.qs_plan_meaning.specs.declared.stage.Look.{Look}
+use Rattle.qs_plan_meaning.specs.declared.stage.Look.TheVariants as look
+use Rattle.qs_plan_meaning.specs.declared.stage.Stage.{Stage, fold-Stage}
+use Rattle.qs_plan_meaning.specs.declared.stage.Stage.TheOpen.{Stage-F, Group-F, Triple, Path, Exists, Names, Name, Filter, Bind, Values, Union, Optional, Minus, Apart}
+use Rattle.qs_plan_meaning.specs.Scans.{extensions, path_extensions}
 
 -- what a stage, or a group of stages, makes of a row
 abbrev pub Made : Type 0
@@ -34,6 +34,12 @@ abbrev pub looked : List Statement → Graph → Look → Solution → Graph
 looked quads active look.Active m = active
 looked quads active (look.Named name) m = graph_of quads (Some name)
 looked quads active (look.Register r) m = graph_named quads (term_at m r)
+
+-- the register in which is looked, if it is one
+abbrev pub register_of : Look → Option ℕ
+register_of look.Active = None
+register_of (look.Named name) = None
+register_of (look.Register r) = Some r
 
 -- the row, if some quad names this graph
 abbrev pub if_named : List Statement → Term → Solution → List Solution

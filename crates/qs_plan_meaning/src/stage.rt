@@ -1,7 +1,7 @@
-//! Plans as data.
+//! Stages: what a plan is made of.
 
 ghost use Rattle.std.specs.Prelude.{◌≡◌, IfOk};
-ghost use Rattle.qs_plan.specs.inner.Lays.{register_of};
+ghost use Rattle.qs_plan_meaning.specs.Stages.{register_of};
 
 use qs_algebra_patterns::{PathPattern, Table, TriplePattern};
 use qs_base::Shared;
@@ -59,19 +59,9 @@ pub struct Group {
     pub stages: Items<Stage>,
 }
 
-/// A plan: stages for the row that binds nothing.
-#[derive(Drop)]
-pub struct Plan {
-    /// How many variables are named. The others are taken away from the rows at the end.
-    pub width: usize,
-    /// How many cells a row has.
-    pub cells: usize,
-    pub stages: Items<Stage>,
-}
-
 impl Look {
     /// An equal one of its own, which has its term in common with it.
-    pub(crate) fn try_clone(&self) -> Result<Look, AllocError>
+    pub fn try_clone(&self) -> Result<Look, AllocError>
         ensures { IfOk result (λ l. l ≡ self.now) }
     {
         match self {
@@ -82,7 +72,7 @@ impl Look {
     }
 
     /// The register in which is looked, if it is one.
-    pub(crate) fn register(&self) -> Option<usize>
+    pub fn register(&self) -> Option<usize>
         ensures { result ≡ register_of self.now }
     {
         match self {
@@ -90,9 +80,4 @@ impl Look {
             _ => None,
         }
     }
-}
-
-/// Drops the plan. A crate that drops one in place proves the drop of each type in its tree once more.
-pub fn drop_plan(plan: Plan) {
-    drop(plan);
 }
