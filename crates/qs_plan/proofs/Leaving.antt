@@ -223,7 +223,7 @@ module _ (v : ℕ) where
 -- ---- a filter goes before a stage that leaves its variables
 
 -- each row of all variables
-all_agree : (vs : List ℕ) (m : Solution) (xs : List Solution) → AllByRecursion (λ v. AllByRecursion (λ q. term_at q v ≡ term_at m v) xs) vs → AllByRecursion (Agree vs m) xs
+pub all_agree : (vs : List ℕ) (m : Solution) (xs : List Solution) → AllByRecursion (λ v. AllByRecursion (λ q. term_at q v ≡ term_at m v) xs) vs → AllByRecursion (Agree vs m) xs
 all_agree vs m [] h = tt
 all_agree vs m (x ∷ xs) h = (firsts vs h, all_agree vs m xs (rests vs h))
   where
@@ -235,7 +235,7 @@ all_agree vs m (x ∷ xs) h = (firsts vs h, all_agree vs m xs (rests vs h))
     rests [] k = tt
     rests (u ∷ us) k = (k.0.1, rests us k.1)
 
-taken_agree : (width : ℕ) (vs : List ℕ) (m q : Solution) → Agree vs m q → Agree vs (take width m) (take width q)
+pub taken_agree : (width : ℕ) (vs : List ℕ) (m q : Solution) → Agree vs m q → Agree vs (take width m) (take width q)
 taken_agree width [] m q h = tt
 taken_agree width (v ∷ vs) m q h = (at (cases_lt v width), taken_agree width vs m q h.1)
   where
@@ -248,73 +248,3 @@ taken_agree width (v ∷ vs) m q h = (at (cases_lt v width), taken_agree width v
     at : (v < width) ⊎ (width ≤ v) → term_at (take width q) v ≡ term_at (take width m) v
     at (inl lt) = get_or-take width q v None lt ∙ (h.0 ∙ sym (get_or-take width m v None lt))
     at (inr le) = short width q v le ∙ sym (short width m v le)
-
-module _ (vs : List ℕ) (e : Expr) (s : Stage) (settled : Settles vs e) (left : AllByRecursion (λ v. Leaves v s) vs) where
-  agreeing : (width : ℕ) (quads : List Statement) (active : Graph) (m : Solution) → AllByRecursion (Agree vs m) (gives width quads active s m)
-  agreeing width quads active m = all_agree vs m (gives width quads active s m) (each vs left)
-    where
-      each : (us : List ℕ) → AllByRecursion (λ v. Leaves v s) us → AllByRecursion (λ v. AllByRecursion (λ q. term_at q v ≡ term_at m v) (gives width quads active s m)) us
-      each [] h = tt
-      each (u ∷ us) h = (h.0.same width quads active m, each us h.1)
-
-  holds_same : (width : ℕ) (m q : Solution) → Agree vs m q → holds (take width q) e ≡ holds (take width m) e
-  holds_same width m q h = let k : meaning (take width q) e ≡ meaning (take width m) e = settled.same (take width m) (take width q) (taken_agree width vs m q h) in cc
-
-  module _ (width : ℕ) (quads : List Statement) (active : Graph) (m : Solution) where
-    one_row : (rest : List Stage) (x : Solution) → Agree vs m x → (b : Bool) → holds (take width m) e ≡ b → through width quads active (stage.Filter e ∷ rest) x ≡ (if b then through width quads active rest x else [])
-    one_row rest x a true h =
-        ap (flat_map (through width quads active rest)) (gives_filter width quads active x e ∙ ap (λ c. kept_if c x) (holds_same width m x a ∙ h)) ∙ append-nil (through width quads active rest x)
-    one_row rest x a false h =
-        ap (flat_map (through width quads active rest)) (gives_filter width quads active x e ∙ ap (λ c. kept_if c x) (holds_same width m x a ∙ h))
-
-    itself : (us : List ℕ) → Agree us m m
-    itself [] = tt
-    itself (u ∷ us) = (refl, itself us)
-
-    all_rows : (rest : List Stage) (xs : List Solution) → AllByRecursion (Agree vs m) xs → (b : Bool) → holds (take width m) e ≡ b
-        → flat_map (through width quads active (stage.Filter e ∷ rest)) xs ≡ (if b then flat_map (through width quads active rest) xs else [])
-    all_rows rest [] k true h = refl
-    all_rows rest [] k false h = refl
-    all_rows rest (x ∷ xs) k true h =
-        ap (λ l. l ++ flat_map (through width quads active (stage.Filter e ∷ rest)) xs) (one_row rest x k.0 true h) ∙ ap (λ l. through width quads active rest x ++ l) (all_rows rest xs k.1 true h)
-    all_rows rest (x ∷ xs) k false h =
-        ap (λ l. l ++ flat_map (through width quads active (stage.Filter e ∷ rest)) xs) (one_row rest x k.0 false h) ∙ all_rows rest xs k.1 false h
-
-    rows_same : (rest : List Stage) → through width quads active (stage.Filter e ∷ s ∷ rest) m ≡ through width quads active (s ∷ stage.Filter e ∷ rest) m
-    rows_same rest = at (holds (take width m) e) refl
-      where
-        at : (b : Bool) → holds (take width m) e ≡ b → through width quads active (stage.Filter e ∷ s ∷ rest) m ≡ through width quads active (s ∷ stage.Filter e ∷ rest) m
-        at true h = one_row (s ∷ rest) m (itself vs) true h ∙ sym (all_rows rest (gives width quads active s m) (agreeing width quads active m) true h)
-        at false h = one_row (s ∷ rest) m (itself vs) false h ∙ sym (all_rows rest (gives width quads active s m) (agreeing width quads active m) false h)
-
-  filter_before : (rest : List Stage) → SameStages (stage.Filter e ∷ s ∷ rest) (s ∷ stage.Filter e ∷ rest)
-  filter_before rest = record { same = λ width quads active m. same _ _ (rows_same width quads active m rest) }
-
-  -- the stage before the filter goes behind it
-  pub filter_back : (done done' tail tail' before : List Stage) → done ≡ done' ++ s ∷ [] → tail' ≡ tail ++ s ∷ [] → SameStages (done ++ stage.Filter e ∷ reverse tail) before → SameStages (done' ++ stage.Filter e ∷ reverse tail') before
-  filter_back done done' tail tail' before d t h =
-      subst (λ (l : List Stage). SameStages (done' ++ stage.Filter e ∷ l) before) (sym (ap reverse t ∙ reverse-append tail (s ∷ [])))
-      (same_trans (done' ++ stage.Filter e ∷ s ∷ reverse tail) (done' ++ s ∷ stage.Filter e ∷ reverse tail) before
-      (same_append done' done' (stage.Filter e ∷ s ∷ reverse tail) (s ∷ stage.Filter e ∷ reverse tail) (same_refl done') (filter_before (reverse tail)))
-      (subst (λ (l : List Stage). SameStages l before) (append_assoc done' (s ∷ []) (stage.Filter e ∷ reverse tail)) (subst (λ (l : List Stage). SameStages (l ++ stage.Filter e ∷ reverse tail) before) d h)))
-
--- what was put aside comes back
-pub put_back : (done done' tail tail' before : List Stage) (s : Stage) → tail ≡ tail' ++ s ∷ [] → done' ≡ done ++ s ∷ [] → SameStages (done ++ reverse tail) before → SameStages (done' ++ reverse tail') before
-put_back done done' tail tail' before s t d h =
-    subst (λ (l : List Stage). SameStages (l ++ reverse tail') before) (sym d)
-    (subst (λ (l : List Stage). SameStages l before) (sym (append_assoc done (s ∷ []) (reverse tail')))
-    (subst (λ (l : List Stage). SameStages (done ++ l) before) (ap reverse t ∙ reverse-append tail' (s ∷ [])) h))
-
-pub all_back : (done tail before : List Stage) → tail ≡ [] → SameStages (done ++ reverse tail) before → SameStages done before
-all_back done tail before e h = subst (λ (l : List Stage). SameStages l before) (append-nil done) (subst (λ (l : List Stage). SameStages (done ++ reverse l) before) e h)
-
--- the filter stands, and what was put aside comes behind it
-pub filter_put : (e : Expr) (done done' tail before : List Stage) → done' ≡ done ++ stage.Filter e ∷ [] → SameStages (done ++ stage.Filter e ∷ reverse tail) before → SameStages (done' ++ reverse tail) before
-filter_put e done done' tail before d h =
-    subst (λ (l : List Stage). SameStages (l ++ reverse tail) before) (sym d) (subst (λ (l : List Stage). SameStages l before) (sym (append_assoc done (stage.Filter e ∷ []) (reverse tail))) h)
-
--- one stage more, put where it may go
-pub placed_more : (done done' stages : List Stage) (i : ℕ) (s one : Stage) → i < length stages → s ≡ get_or stages i s → SameStages done (take i stages) → SameStages (one ∷ []) (s ∷ []) → SameStages done' (done ++ one ∷ []) → SameStages done' (take (i + 1) stages)
-placed_more done done' stages i s one lt is a b c =
-    subst (λ (l : List Stage). SameStages done' l) (sym (take_more stages i s lt ∙ ap (λ x. take i stages ++ x ∷ []) (sym is)))
-    (same_trans done' (done ++ one ∷ []) (take i stages ++ s ∷ []) c (same_append done (take i stages) (one ∷ []) (s ∷ []) a b))

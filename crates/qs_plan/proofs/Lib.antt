@@ -22,3 +22,8 @@ pub mod Swaps
 pub mod Sames
 pub mod Settled
 pub mod Leaving
+pub mod Onward
+pub mod Keeping
+pub mod Getting
+pub mod Moving
+pub mod Entering

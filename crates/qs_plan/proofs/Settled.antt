@@ -1,19 +1,22 @@
 -- Variables that settle expressions.
-use Rattle.std.proofs.Common.{◌≡◌, ℕ, ◌+◌, ◌<◌, ◌≤◌, List, [], ◌∷◌, ◌++◌, length, map, take, get_or, Bool, Result, Ok, Err, IfOk, OnOk, refl, sym, ◌∙◌, ap, subst}
-use Rattle.std.specs.List.{AllByRecursion}
+use Rattle.std.proofs.Common.{◌≡◌, ℕ, ◌+◌, ◌<◌, ◌≤◌, List, [], ◌∷◌, ◌++◌, length, map, take, get_or, refl, sym, ◌∙◌, ap, subst}
+use Rattle.std.specs.List.{AllByRecursion, fold}
+use Rattle.std.specs.Option.{option_map}
 use Rattle.std.proofs.lemmas.List.{take_all, take_more}
 use Rattle.qs_terms.specs.declared.term.Term.{Term as RdfTerm}
 use Rattle.qs_algebra_solutions.specs.Solution.{Solution, term_at}
 use Rattle.qs_expr_meaning.specs.Truth.{any, every, denied}
-use Rattle.qs_expr_meaning.specs.Meaning.{among, boolean_value, first_value, meaning, truth}
+use Rattle.qs_expr_meaning.specs.Calls.{joined, strings}
+use Rattle.qs_expr_meaning.specs.Meaning.{added, addend_meaning, among, boolean_value, first_value, integer_value, meaning, multiplied, number, truth}
+use Rattle.qs_expr_meaning.specs.declared.expr.Addend.{Addend}
 use Rattle.qs_expr_meaning.specs.declared.expr.Expr.{Expr}
-use Rattle.qs_expr_meaning.specs.declared.expr.Expr.TheVariants.{Variable, Term, Bound, Not, Signed, Unary, Compare, Binary, Or, And, Coalesce, In, NotIn}
+use Rattle.qs_expr_meaning.specs.declared.expr.Expr.TheVariants.{Variable, Term, Bound, Not, Signed, Unary, Compare, Binary, If, Or, And, Coalesce, Concat, In, NotIn, Sum, Product}
 use Rattle.qs_expr_meaning.specs.declared.operator.Comparison.{Comparison}
 use Rattle.qs_expr_meaning.specs.declared.operator.Sign.{Sign}
 use Rattle.qs_expr_meaning.specs.declared.operator.UnaryFunction.{UnaryFunction}
 use Rattle.qs_expr_meaning.specs.declared.operator.BinaryFunction.{BinaryFunction}
-use Rattle.qs_expr_meaning.proofs.Equations.{variable_is, term_is, bound_is, not_is, signed_is, unary_is, compare_is, binary_is, or_is, and_is, coalesce_is, in_is, not_in_is}
-use Rattle.qs_plan.specs.inner.Reads.{Agree, Settles, Grows}
+use Rattle.qs_expr_meaning.proofs.Equations.{variable_is, term_is, bound_is, not_is, signed_is, unary_is, compare_is, binary_is, or_is, and_is, coalesce_is, concat_is, if_is, in_is, not_in_is, product_is, sum_is, addend_is}
+use Rattle.qs_plan.specs.inner.Reads.{Agree, Settles, SettlesOperand, Grows}
 
 pub grows_same : (vs : List ℕ) → Grows vs vs
 grows_same vs = record { agree = λ m x h. h }
@@ -67,6 +70,19 @@ module _ (vs : List ℕ) (e : Expr) (es slice : List Expr) (j : slice ≡ es) (h
         ap (meaning x) is ∙ (coalesce_is x es ∙ (ap first_value (each m x b) ∙ sym (ap (meaning m) is ∙ coalesce_is m es)));
   }
 
+  pub concat_settled : e ≡ Concat es → Settles vs e
+  concat_settled is = record {
+    same = λ m x b.
+        ap (meaning x) is ∙ (concat_is x es ∙ (ap (λ l. option_map joined (strings l)) (each m x b) ∙ sym (ap (meaning m) is ∙ concat_is m es)));
+  }
+
+  pub product_settled : (us : List ℕ) (a d : Expr) → d ≡ a → Grows us vs → Settles us d → e ≡ Product a es → Settles vs e
+  product_settled us a d k g s is = record {
+    same = λ m x b.
+        let t : meaning x a ≡ meaning m a = subst (λ (y : Expr). meaning x y ≡ meaning m y) k (s.same m x (g.agree m x b)) in
+        ap (meaning x) is ∙ (product_is x a es ∙ (ap (λ l. integer_value (fold multiplied (number (meaning x a)) l)) (each m x b) ∙ (ap (λ v. integer_value (fold multiplied (number v) (map (meaning m) es))) t ∙ sym (ap (meaning m) is ∙ product_is m a es))));
+  }
+
   pub in_settled : (us : List ℕ) (a d : Expr) → d ≡ a → Grows us vs → Settles us d → e ≡ In a es → Settles vs e
   in_settled us a d k g s is = record {
     same = λ m x b.
@@ -104,20 +120,6 @@ grows_by_one vs new v e = subst (Grows vs) (sym e) (one_more vs v)
 pub term_settled : (vs : List ℕ) (t : RdfTerm) (e : Expr) → e ≡ Term t → Settles vs e
 term_settled vs t e is = subst (Settles vs) (sym is) (record { same = λ m x h. term_is x t ∙ sym (term_is m t) })
 
--- ---- of results
-
-pub ok_then : {E : Type 0} (r : Result Bool E) (P Q : Bool → Type 0) → ((b : Bool) → P b → Q b) → IfOk r P → IfOk r Q
-ok_then (Ok b) P Q f h = f b h
-ok_then (Err e) P Q f h = tt
-
-pub ok_both : {E : Type 0} (r : Result Bool E) (G : Type 0) (P Q : Bool → Type 0) → (G → (b : Bool) → P b → Q b) → OnOk r G → IfOk r P → IfOk r Q
-ok_both (Ok b) G P Q f g h = f g b h
-ok_both (Err e) G P Q f g h = tt
-
-pub ok_grows : {E : Type 0} (r : Result Bool E) (a b c : List ℕ) → Grows a b → OnOk r (Grows b c) → OnOk r (Grows a c)
-ok_grows (Ok t) a b c h g = grows_more a b c h g
-ok_grows (Err e) a b c h g = tt
-
 -- ---- operators of one and of two
 
 pub not_settled : (vs : List ℕ) (e a d : Expr) → e ≡ Not a → d ≡ a → Settles vs d → Settles vs e
@@ -144,3 +146,46 @@ binary_settled us vs o e a b a' b' is k l s g t = subst (Settles vs) (sym is) (r
       let r : meaning x b ≡ meaning m b = subst (λ (y : Expr). meaning x y ≡ meaning m y) l (t.same m x h) in
       let f = binary_is x o a b in let p = binary_is m o a b in cc;
 })
+
+pub if_settled : (us vs ws : List ℕ) (e c a b c' a' b' : Expr) → e ≡ If c a b → c' ≡ c → a' ≡ a → b' ≡ b → Settles us c' → Grows us vs → Settles vs a' → Grows vs ws → Settles ws b' → Settles ws e
+if_settled us vs ws e c a b c' a' b' is k l n s g t h w = subst (Settles ws) (sym is) (record {
+  same = λ m x i.
+      let p : meaning x c ≡ meaning m c = subst (λ (y : Expr). meaning x y ≡ meaning m y) k (s.same m x (g.agree m x (h.agree m x i))) in
+      let q : meaning x a ≡ meaning m a = subst (λ (y : Expr). meaning x y ≡ meaning m y) l (t.same m x (h.agree m x i)) in
+      let r : meaning x b ≡ meaning m b = subst (λ (y : Expr). meaning x y ≡ meaning m y) n (w.same m x i) in
+      let f = if_is x c a b in let d = if_is m c a b in cc;
+})
+
+-- ---- sums
+
+operands_more : (a b : List ℕ) → Grows a b → (es : List Addend) → AllByRecursion (SettlesOperand a) es → AllByRecursion (SettlesOperand b) es
+operands_more a b h [] k = tt
+operands_more a b h (e ∷ es) k = (settles_more a b e.operand h k.0, operands_more a b h es k.1)
+
+operands_append : (vs : List ℕ) (es ds : List Addend) → AllByRecursion (SettlesOperand vs) es → AllByRecursion (SettlesOperand vs) ds → AllByRecursion (SettlesOperand vs) (es ++ ds)
+operands_append vs [] ds h k = k
+operands_append vs (e ∷ es) ds h k = (h.0, operands_append vs es ds h.1 k)
+
+-- one operand more
+pub addend_settled : (addends : List Addend) (i : ℕ) (d : Addend) (a b : List ℕ) → i < length addends → d ≡ get_or addends i d → AllByRecursion (SettlesOperand a) (take i addends) → Grows a b → Settles b d.operand → AllByRecursion (SettlesOperand b) (take (i + 1) addends)
+addend_settled addends i d a b l is h g k =
+    subst (AllByRecursion (SettlesOperand b)) (sym (take_more addends i d l))
+    (operands_append b (take i addends) (get_or addends i d ∷ []) (operands_more a b g (take i addends) h) (subst (SettlesOperand b) is k, tt))
+
+pub addends_settled : (addends : List Addend) (i : ℕ) (a : List ℕ) → length addends ≤ i → AllByRecursion (SettlesOperand a) (take i addends) → AllByRecursion (SettlesOperand a) addends
+addends_settled addends i a l h = subst (AllByRecursion (SettlesOperand a)) (take_all i addends l) h
+
+same_operands : (vs : List ℕ) (m x : Solution) → Agree vs m x → (es : List Addend) → AllByRecursion (SettlesOperand vs) es → map (addend_meaning x) es ≡ map (addend_meaning m) es
+same_operands vs m x b [] h = refl
+same_operands vs m x b (e ∷ es) h =
+    ap (λ v. v ∷ map (addend_meaning x) es) (addend_is x e ∙ (ap (λ v. (e.sign, v)) (h.0.same m x b) ∙ sym (addend_is m e))) ∙ ap (λ l. addend_meaning m e ∷ l) (same_operands vs m x b es h.1)
+
+pub sum_settled : (us vs : List ℕ) (e a d : Expr) (more slice : List Addend) → slice ≡ more → AllByRecursion (SettlesOperand vs) slice → d ≡ a → Grows us vs → Settles us d → e ≡ Sum a more → Settles vs e
+sum_settled us vs e a d more slice j h k g s is = record {
+  same = λ m x b.
+      let t : meaning x a ≡ meaning m a = subst (λ (y : Expr). meaning x y ≡ meaning m y) k (s.same m x (g.agree m x b)) in
+      ap (meaning x) is
+      ∙ (sum_is x a more
+      ∙ (ap (λ l. integer_value (fold added (number (meaning x a)) l)) (same_operands vs m x b more (subst (AllByRecursion (SettlesOperand vs)) j h))
+      ∙ (ap (λ v. integer_value (fold added (number v) (map (addend_meaning m) more))) t ∙ sym (ap (meaning m) is ∙ sum_is m a more))));
+}

@@ -70,7 +70,7 @@ merge_turned (x ∷ a) (y ∷ b) h =
     ap (λ z. z ∷ merge a b) (first_turned x y k.0) ∙ ap (λ l. first_bound y x ∷ l) (merge_turned a b k.1)
 
 -- the merge of two, where they are compatible
-abbrev pair : Solution → Solution → List Solution
+abbrev pub pair : Solution → Solution → List Solution
 pair a b = cond (compatible a b) (merge a b ∷ []) []
 
 pair_turned : (a b : Solution) → pair a b ≡ pair b a
@@ -80,7 +80,7 @@ pair_turned a b = at (compatible a b) refl
     at true e = let f : compatible b a ≡ true = compatible_turned b a ∙ e in rw (e, f) (ap (λ x. x ∷ []) (merge_turned a b e))
     at false e = let f : compatible b a ≡ false = compatible_turned b a ∙ e in rw (e, f) refl
 
-merges_pairs : (xs : List Solution) (a : Solution) → merges xs a ≡ flat_map (pair a) xs
+pub merges_pairs : (xs : List Solution) (a : Solution) → merges xs a ≡ flat_map (pair a) xs
 merges_pairs [] a = refl
 merges_pairs (x ∷ xs) a = at (compatible a x) refl (merges_pairs xs a)
   where
@@ -128,7 +128,7 @@ both_merged xs ys m =
 
 -- ---- two scans
 
-flat_on : (P : Solution → Type 0) (f g : Made) → ((x : Solution) → P x → f x ≡ g x) → (xs : List Solution) → AllByRecursion P xs → flat_map f xs ≡ flat_map g xs
+pub flat_on : (P : Solution → Type 0) (f g : Made) → ((x : Solution) → P x → f x ≡ g x) → (xs : List Solution) → AllByRecursion P xs → flat_map f xs ≡ flat_map g xs
 flat_on P f g h [] k = refl
 flat_on P f g h (x ∷ xs) k = ap (λ l. l ++ flat_map f xs) (h x k.0) ∙ ap (λ l. g x ++ l) (flat_on P f g h xs k.1)
 

@@ -4,3 +4,4 @@ pub mod Numbers
 pub mod Lays
 pub mod Sames
 pub mod Reads
+pub mod Certain

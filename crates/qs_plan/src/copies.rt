@@ -1,8 +1,9 @@
-//! Copies of what a plan has from its pattern: expressions and tables.
+//! Copies: of what a plan has from its pattern, and of its stages, which share expressions and tables.
 
 ghost use Rattle.std.specs.Prelude.{◌≡◌, IfOk};
 
-use qs_algebra_patterns::Table;
+use qs_plan_meaning::{Group, Stage};
+use qs_algebra_patterns::{PathPattern, Slot, Table, TriplePattern};
 use qs_base::{Shared, keep_beside};
 use qs_expr_meaning::{Addend, Expr};
 use qs_terms::Term;
@@ -190,4 +191,128 @@ fn copied_table(alloc: Global, table: &Table) -> Result<Table, AllocError>
     let variables = copied_numbers(alloc, table.variables.as_slice())?;
     let rows = copied_rows(alloc, table.rows.as_slice())?;
     Ok(Table { variables, rows })
+}
+
+// ---- stages
+
+fn copied_slot(slot: &Slot) -> Result<Slot, AllocError>
+    ensures { IfOk result (λ s. s ≡ slot.now) }
+{
+    match slot {
+        Slot::Term(term) => Ok(Slot::Term(term.share()?)),
+        Slot::Variable(variable) => Ok(Slot::Variable(*variable)),
+    }
+}
+
+fn copied_triple(pattern: &TriplePattern) -> Result<TriplePattern, AllocError>
+    ensures { IfOk result (λ p. p ≡ pattern.now) }
+{
+    let subject = copied_slot(&pattern.subject)?;
+    let predicate = copied_slot(&pattern.predicate)?;
+    let object = copied_slot(&pattern.object)?;
+    Ok(TriplePattern {
+        subject,
+        predicate,
+        object,
+    })
+}
+
+fn copied_path(pattern: &PathPattern) -> Result<PathPattern, AllocError>
+    ensures { IfOk result (λ p. p ≡ pattern.now) }
+{
+    let subject = copied_slot(&pattern.subject)?;
+    let path = pattern.path.share()?;
+    let object = copied_slot(&pattern.object)?;
+    Ok(PathPattern {
+        subject,
+        path,
+        object,
+    })
+}
+
+/// An equal stage, which shares expressions and tables with it.
+#[cycle(stages)]
+pub(crate) fn copied_stage(alloc: Global, stage: &Stage) -> Result<Stage, AllocError>
+    ensures { IfOk result (λ copy. copy ≡ stage.now) }
+{
+    match stage {
+        Stage::Triple(look, pattern) => {
+            let pattern = copied_triple(pattern)?;
+            let look = look.try_clone()?;
+            Ok(Stage::Triple(look, pattern))
+        }
+        Stage::Path(look, pattern) => {
+            let pattern = copied_path(pattern)?;
+            let look = look.try_clone()?;
+            Ok(Stage::Path(look, pattern))
+        }
+        Stage::Exists(name) => {
+            let name = name.share()?;
+            Ok(Stage::Exists(name))
+        }
+        Stage::Names(register) => Ok(Stage::Names(*register)),
+        Stage::Name(variable, register) => Ok(Stage::Name(*variable, *register)),
+        Stage::Filter(condition) => {
+            let condition = condition.share()?;
+            Ok(Stage::Filter(condition))
+        }
+        Stage::Bind(variable, expr) => {
+            let expr = expr.share()?;
+            Ok(Stage::Bind(*variable, expr))
+        }
+        Stage::Values(table) => {
+            let table = table.share()?;
+            Ok(Stage::Values(table))
+        }
+        Stage::Union(branches) => {
+            let branches = copied_branches(alloc, branches.as_slice())?;
+            Ok(Stage::Union(branches))
+        }
+        Stage::Optional(register, group, conditions) => {
+            let conditions = conditions.share()?;
+            let group = copied_group(alloc, group)?;
+            Ok(Stage::Optional(*register, group, conditions))
+        }
+        Stage::Minus(register, group) => {
+            let group = copied_group(alloc, group)?;
+            Ok(Stage::Minus(*register, group))
+        }
+        Stage::Apart(register, group) => {
+            let group = copied_group(alloc, group)?;
+            Ok(Stage::Apart(*register, group))
+        }
+    }
+}
+
+#[cycle(stages)]
+fn copied_group(alloc: Global, group: &Group) -> Result<Group, AllocError>
+    ensures { IfOk result (λ copy. copy ≡ group.now) }
+{
+    let stages = copied_stages(alloc, group.stages.as_slice())?;
+    Ok(Group { stages })
+}
+
+#[cycle(stages)]
+fn copied_branches(alloc: Global, branches: &[Group]) -> Result<Items<Group>, AllocError>
+    ensures { IfOk result (λ copies. copies ≡ branches.now) }
+{
+    let mut copies = Items::new(alloc);
+    for branch in branches {
+        let copy = copied_group(alloc, branch)?;
+        copies.push(copy)?;
+    }
+    Ok(copies)
+}
+
+/// Equal stages, which share expressions and tables with them.
+#[cycle(stages)]
+pub(crate) fn copied_stages(alloc: Global, stages: &[Stage]) -> Result<Items<Stage>, AllocError>
+    ensures { IfOk result (λ copies. copies ≡ stages.now) }
+{
+    let mut copies = Items::new(alloc);
+    for stage in stages {
+        let copy = copied_stage(alloc, stage)?;
+        copies.push(copy)?;
+    }
+    Ok(copies)
 }

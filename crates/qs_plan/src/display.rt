@@ -11,16 +11,35 @@ use std::fmt;
 
 // ---- terms
 
+/// A character of a literal, escaped as N-Quads does it.
+fn put_char<W: fmt::Write>(f: &mut fmt::Formatter<W>, c: char) -> fmt::Result {
+    match c {
+        '"' => write!(f, "\\\""),
+        '\\' => write!(f, "\\\\"),
+        '\n' => write!(f, "\\n"),
+        '\r' => write!(f, "\\r"),
+        _ => write!(f, "{c}"),
+    }
+}
+
+fn put_form<W: fmt::Write>(f: &mut fmt::Formatter<W>, form: &str) -> fmt::Result {
+    write!(f, "\"")?;
+    for c in form.chars() {
+        put_char(f, c)?;
+    }
+    write!(f, "\"")
+}
+
 fn put_literal<W: fmt::Write>(f: &mut fmt::Formatter<W>, literal: &Lit) -> fmt::Result {
-    let form = literal.form();
+    put_form(f, literal.form())?;
     if let Some(tag) = literal.tag() {
-        return write!(f, "\"{form}\"@{tag}");
+        return write!(f, "@{tag}");
     }
     if literal.is_string() {
-        return write!(f, "\"{form}\"");
+        return Ok(());
     }
     let datatype = literal.datatype();
-    write!(f, "\"{form}\"^^<{datatype}>")
+    write!(f, "^^<{datatype}>")
 }
 
 fn put_term<W: fmt::Write>(f: &mut fmt::Formatter<W>, term: &Term) -> fmt::Result {

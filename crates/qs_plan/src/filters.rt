@@ -1,342 +1,329 @@
-//! Where filters stand: each goes to the earliest place of its group after which no stage binds a variable of it. A filter with arithmetic, IF
-//! or CONCAT stays where it is.
+//! Where filters stand: each goes to the earliest place of its group from which on no stage changes what is bound to a variable of it, a
+//! conjunction in its parts. A filter after a UNION goes into each branch, and one after a join into the group that is joined, where the group
+//! is certain to bind each variable of it; none goes into the right side of an OPTIONAL or a MINUS.
 
-ghost use Rattle.std.specs.Prelude.{◌≡◌, ◌≢◌, ◌==◌, true, [], ◌∷◌, ◌++◌, reverse, Some, IfOk, OnOk};
-ghost use Rattle.std.specs.List.{AllByRecursion, list_any};
-ghost use Rattle.qs_expr_meaning.specs.declared.expr.Expr as exprs;
+ghost use Rattle.std.specs.Prelude.{◌≡◌, ◌≤◌, ◌<◌, ◌+◌, true, [], ◌∷◌, ◌++◌, map, length, take, drop, IfOk, OnOk};
+ghost use Rattle.std.specs.List.{AllByRecursion};
 ghost use Rattle.qs_plan_meaning.specs.declared.stage.Stage.TheVariants as stage;
 ghost use Rattle.qs_plan.specs.Plans.{SamePlan};
-ghost use Rattle.qs_plan.specs.inner.Reads.{Grows, LeaveAll, Leaves, Settles};
-ghost use Rattle.qs_plan.specs.inner.Sames.{SameStages};
+ghost use Rattle.qs_plan.specs.inner.Certain.{SameFrom};
+ghost use Rattle.qs_plan.specs.inner.Reads.{Settles};
 
-use crate::order::{copied_path, copied_triple, path_misses, triple_misses};
+use crate::certain::{Size, all_steady_from, are_bound, known_before};
+use crate::copies::{copied_stage, copied_stages, shared_expr};
+use crate::reads::settle;
 use crate::plan_type::Plan;
 use qs_plan_meaning::{Group, Stage};
-use qs_algebra_patterns::Table;
 use qs_base::Shared;
 use qs_expr_meaning::Expr;
 use sqlite_items::Items;
 use std::alloc::{AllocError, Global};
 
-// ---- which variables an expression reads
+// ---- stages with one more among them
 
-/// Puts variables after the others that settle the expression, and answers whether it did. Arithmetic, IF and CONCAT it leaves
-/// unsettled.
-#[cycle(settle)]
-#[tactic(auto, using(crate::proofs::Settled::variable_settled, crate::proofs::Settled::bound_settled, crate::proofs::Settled::term_settled, crate::proofs::Settled::grows_by_one, crate::proofs::Settled::grows_more, crate::proofs::Settled::grows_same))]
-fn settle(alloc: Global, expr: &Expr, variables: &mut Vec<usize>) -> Result<bool, AllocError>
-    ensures grows { OnOk result (Grows variables.old.items variables.new.items) }
-    ensures settles { IfOk result (λ b. b ≡ true → Settles variables.new.items expr.now) }
+/// Copies of the stages, with one more at this place.
+fn inserted(
+    alloc: Global,
+    stages: &[Stage],
+    place: usize,
+    one: Stage,
+) -> Result<Items<Stage>, AllocError>
+    requires { place ≤ length stages.now }
+    ensures { IfOk result (λ ss. ss ≡ take place stages.now ++ one ∷ drop place stages.now) }
 {
-    match expr {
-        Expr::Variable(variable) => {
-            variables.push(*variable)?;
-            Ok(true)
-        }
-        Expr::Bound(variable) => {
-            variables.push(*variable)?;
-            Ok(true)
-        }
-        Expr::Term(_) => Ok(true),
-        Expr::Not(inner) => settle(alloc, inner.get(), variables),
-        Expr::Signed(_, inner) => settle(alloc, inner.get(), variables),
-        Expr::Unary(_, argument) => settle(alloc, argument.get(), variables),
-        Expr::Compare(_, a, b) => {
-            if !settle(alloc, a.get(), variables)? {
-                return Ok(false);
-            }
-            settle(alloc, b.get(), variables)
-        }
-        Expr::Binary(_, a, b) => {
-            if !settle(alloc, a.get(), variables)? {
-                return Ok(false);
-            }
-            settle(alloc, b.get(), variables)
-        }
-        Expr::Or(parts) => {
-            let all = settle_all(alloc, parts.as_slice(), variables)?;
-            Ok(all)
-        }
-        Expr::And(parts) => {
-            let all = settle_all(alloc, parts.as_slice(), variables)?;
-            Ok(all)
-        }
-        Expr::Coalesce(parts) => {
-            let all = settle_all(alloc, parts.as_slice(), variables)?;
-            Ok(all)
-        }
-        Expr::In(inner, parts) => {
-            if !settle(alloc, inner.get(), variables)? {
-                return Ok(false);
-            }
-            let all = settle_all(alloc, parts.as_slice(), variables)?;
-            Ok(all)
-        }
-        Expr::NotIn(inner, parts) => {
-            if !settle(alloc, inner.get(), variables)? {
-                return Ok(false);
-            }
-            let all = settle_all(alloc, parts.as_slice(), variables)?;
-            Ok(all)
-        }
-        _ => Ok(false),
-    }
+    let mut done = copied_stages(alloc, &stages[..place])?;
+    done.push(one)?;
+    let rest = copied_stages(alloc, &stages[place..])?;
+    done.append(rest)?;
+    Ok(done)
 }
 
-/// Puts variables after the others that settle all the expressions, and answers whether it did.
-#[cycle(settle)]
-#[tactic(auto, using(crate::proofs::Settled::part_settled, crate::proofs::Settled::all_settled, crate::proofs::Settled::grows_more, crate::proofs::Settled::grows_same))]
-fn settle_all(alloc: Global, parts: &[Expr], variables: &mut Vec<usize>) -> Result<bool, AllocError>
-    ensures grows { OnOk result (Grows variables.old.items variables.new.items) }
-    ensures settles { IfOk result (λ b. b ≡ true → AllByRecursion (Settles variables.new.items) parts.now) }
+/// Copies of the stages, with this one in place of the one before the place.
+fn replaced(
+    alloc: Global,
+    stages: &[Stage],
+    place: usize,
+    one: Stage,
+) -> Result<Items<Stage>, AllocError>
+    requires { place + 1 ≤ length stages.now }
+    ensures { IfOk result (λ ss. ss ≡ take place stages.now ++ one ∷ drop (place + 1) stages.now) }
 {
-    for part in parts {
-        if !settle(alloc, part, variables)? {
-            return Ok(false);
-        }
-    }
-    Ok(true)
+    let mut done = copied_stages(alloc, &stages[..place])?;
+    done.push(one)?;
+    let rest = copied_stages(alloc, &stages[place + 1..])?;
+    done.append(rest)?;
+    Ok(done)
 }
 
-// ---- which stages leave a variable
-
-fn is_other(register: Option<usize>, variable: usize) -> bool
-    ensures { result ≡ true → register ≢ Some variable }
+/// The place after the filters that stand at this place.
+fn past_filters(stages: &[Stage], place: usize) -> usize
+    requires { place ≤ length stages.now }
+    ensures up { place ≤ result }
+    ensures within { result ≤ length stages.now }
 {
-    match register {
-        None => true,
-        Some(register) => register != variable,
-    }
-}
-
-fn has_column(table: &Table, variable: usize) -> bool
-    ensures { result ≡ list_any (λ w. w == variable) table.now.variables }
-{
-    table
-        .variables
-        .as_slice()
-        .iter()
-        .any(|one| *one == variable)
-}
-
-/// Whether what the stage makes of a row binds the variable as the row does.
-#[cycle(leaves)]
-fn leaves(stage: &Stage, variable: usize) -> bool
-    ensures { result ≡ true → Leaves variable stage.now }
-{
-    match stage {
-        Stage::Triple(_, pattern) => triple_misses(pattern, Some(variable)),
-        Stage::Path(_, pattern) => path_misses(pattern, Some(variable)),
-        Stage::Exists(_) => true,
-        Stage::Names(register) => *register != variable,
-        Stage::Name(other, _) => *other != variable,
-        Stage::Filter(_) => true,
-        Stage::Bind(other, _) => *other != variable,
-        Stage::Values(table) => !has_column(table.get(), variable),
-        Stage::Union(branches) => leave_branches(branches.as_slice(), variable),
-        Stage::Optional(register, group, _) => {
-            is_other(*register, variable) && leave_all(group.stages.as_slice(), variable)
-        }
-        Stage::Minus(_, _) => true,
-        Stage::Apart(register, group) => {
-            is_other(*register, variable) && leave_all(group.stages.as_slice(), variable)
+    for at in place..stages.len() {
+        match &stages[at] {
+            Stage::Filter(_) => {}
+            _ => return at,
         }
     }
-}
-
-#[cycle(leaves)]
-fn leave_all(stages: &[Stage], variable: usize) -> bool
-    ensures { result ≡ true → LeaveAll variable stages.now }
-{
-    for stage in stages {
-        if !leaves(stage, variable) {
-            return false;
-        }
-    }
-    true
-}
-
-#[cycle(leaves)]
-fn leave_branches(branches: &[Group], variable: usize) -> bool
-    ensures { result ≡ true → AllByRecursion (λ g. LeaveAll variable g.stages) branches.now }
-{
-    for branch in branches {
-        if !leave_all(branch.stages.as_slice(), variable) {
-            return false;
-        }
-    }
-    true
-}
-
-/// Whether what the stage makes of a row binds all these variables as the row does.
-fn leaves_each(stage: &Stage, variables: &[usize]) -> bool
-    ensures { result ≡ true → AllByRecursion (λ v. Leaves v stage.now) variables.now }
-{
-    for at in 0..variables.len() {
-        if !leaves(stage, variables[at]) {
-            return false;
-        }
-    }
-    true
+    stages.len()
 }
 
 // ---- where a filter goes
 
-/// Takes the last stages away that leave the variables, and puts them into `tail`, the last first.
-fn take_tail(
+/// The stages with the filter where it goes, for rows that bind the variables that are given.
+#[cycle(filtered)]
+fn filtered(
+    alloc: Global,
+    stages: &[Stage],
+    condition: &Shared<Expr>,
     variables: &[usize],
-    done: &mut Items<Stage>,
-    tail: &mut Items<Stage>,
-) -> Result<(), AllocError>
-    requires { tail.old ≡ [] }
-    ensures { OnOk result ((e : exprs.Expr) → Settles variables.now e → SameStages (done.new ++ stage.Filter e ∷ reverse tail.new) (done.old ++ stage.Filter e ∷ [])) }
+    size: Size,
+    given: &[usize],
+) -> Result<Items<Stage>, AllocError>
+    requires { Settles variables.now condition.now }
+    ensures { IfOk result (λ ss. SameFrom size given.now ss (stages.now ++ stage.Filter condition.now ∷ [])) }
 {
-    'back: while let Some(last) = done.pop() {
-        if !leaves_each(&last, variables) {
-            done.push(last)?;
-            return Ok(());
+    let place = all_steady_from(stages, variables, size, given);
+    if place > 0 {
+        let before = place - 1;
+        if let Stage::Union(branches) = &stages[before] {
+            let known = known_before(alloc, stages, before, variables, size, given)?;
+            let branches = filtered_branches(
+                alloc,
+                branches.as_slice(),
+                condition,
+                variables,
+                size,
+                known.as_slice(),
+            )?;
+            let found = replaced(alloc, stages, before, Stage::Union(branches))?;
+            return Ok(found);
         }
-        tail.push(last)?;
+        if let Stage::Apart(register, group) = &stages[before] {
+            if are_bound(group.stages.as_slice(), variables, size) {
+                let group = filtered_group(alloc, group, condition, variables, size, &[])?;
+                let found = replaced(alloc, stages, before, Stage::Apart(*register, group))?;
+                return Ok(found);
+            }
+        }
     }
-    Ok(())
+    let place = past_filters(stages, place);
+    let condition = condition.share()?;
+    let found = inserted(alloc, stages, place, Stage::Filter(condition))?;
+    Ok(found)
 }
 
-/// Puts the stages of `tail` back, the last of them first.
-fn put_tail(tail: &mut Items<Stage>, done: &mut Items<Stage>) -> Result<(), AllocError>
-    ensures { OnOk result (SameStages done.new (done.old ++ reverse tail.old)) }
+#[cycle(filtered)]
+fn filtered_group(
+    alloc: Global,
+    group: &Group,
+    condition: &Shared<Expr>,
+    variables: &[usize],
+    size: Size,
+    given: &[usize],
+) -> Result<Group, AllocError>
+    requires { Settles variables.now condition.now }
+    ensures { IfOk result (λ g. SameFrom size given.now g.stages (group.now.stages ++ stage.Filter condition.now ∷ [])) }
 {
-    'back: while let Some(last) = tail.pop() {
-        done.push(last)?;
-    }
-    Ok(())
+    let stages = filtered(alloc, group.stages.as_slice(), condition, variables, size, given)?;
+    Ok(Group { stages })
 }
 
-/// Puts the filter to the earliest place.
+/// The branches, each with the filter where it goes in it.
+#[cycle(filtered)]
+fn filtered_branches(
+    alloc: Global,
+    branches: &[Group],
+    condition: &Shared<Expr>,
+    variables: &[usize],
+    size: Size,
+    given: &[usize],
+) -> Result<Items<Group>, AllocError>
+    requires { Settles variables.now condition.now }
+    ensures { IfOk result (λ bs. SameFrom size given.now (stage.Union bs ∷ []) (stage.Union branches.now ∷ stage.Filter condition.now ∷ [])) }
+{
+    let mut done = Items::new(alloc);
+    for branch in branches {
+        let group = filtered_group(alloc, branch, condition, variables, size, given)?;
+        done.push(group)?;
+    }
+    Ok(done)
+}
+
+/// Puts the filter where it goes.
 fn put_filter(
     alloc: Global,
-    condition: Shared<Expr>,
+    condition: &Shared<Expr>,
+    size: Size,
     done: &mut Items<Stage>,
 ) -> Result<(), AllocError>
-    ensures { OnOk result (SameStages done.new (done.old ++ stage.Filter condition ∷ [])) }
+    ensures { OnOk result (SameFrom size [] done.new (done.old ++ stage.Filter condition.now ∷ [])) }
 {
     let mut variables = Vec::new(alloc);
-    if !settle(alloc, condition.get(), &mut variables)? {
-        done.push(Stage::Filter(condition))?;
-        return Ok(());
-    }
-    let mut tail = Items::new(alloc);
-    take_tail(variables.as_slice(), done, &mut tail)?;
-    done.push(Stage::Filter(condition))?;
-    put_tail(&mut tail, done)?;
+    settle(alloc, condition.get(), &mut variables)?;
+    let stages = filtered(
+        alloc,
+        done.as_slice(),
+        condition,
+        variables.as_slice(),
+        size,
+        &[],
+    )?;
+    *done = stages;
     Ok(())
 }
 
-/// Puts the stage after those that are done, or where it may go if it is a filter.
-fn put_placed(alloc: Global, one: Stage, done: &mut Items<Stage>) -> Result<(), AllocError>
-    ensures { OnOk result (SameStages done.new (done.old ++ one ∷ [])) }
+/// Puts a filter for each of the parts of a conjunction where it goes.
+#[cycle(parts)]
+fn put_parts(
+    alloc: Global,
+    parts: &[Expr],
+    size: Size,
+    done: &mut Items<Stage>,
+) -> Result<(), AllocError>
+    ensures { OnOk result (SameFrom size [] done.new (done.old ++ map stage.Filter parts.now)) }
+{
+    for part in parts {
+        put_part(alloc, part, size, done)?;
+    }
+    Ok(())
+}
+
+#[cycle(parts)]
+fn put_part(
+    alloc: Global,
+    part: &Expr,
+    size: Size,
+    done: &mut Items<Stage>,
+) -> Result<(), AllocError>
+    ensures { OnOk result (SameFrom size [] done.new (done.old ++ stage.Filter part.now ∷ [])) }
+{
+    match part {
+        Expr::And(parts) => {
+            put_parts(alloc, parts.as_slice(), size, done)?;
+            Ok(())
+        }
+        part => {
+            let condition = shared_expr(alloc, part)?;
+            put_filter(alloc, &condition, size, done)
+        }
+    }
+}
+
+/// Puts the condition, or each part of it if it is a conjunction, where it goes.
+fn put_condition(
+    alloc: Global,
+    condition: &Shared<Expr>,
+    size: Size,
+    done: &mut Items<Stage>,
+) -> Result<(), AllocError>
+    ensures { OnOk result (SameFrom size [] done.new (done.old ++ stage.Filter condition.now ∷ [])) }
+{
+    match condition.get() {
+        Expr::And(parts) => {
+            put_parts(alloc, parts.as_slice(), size, done)?;
+            Ok(())
+        }
+        _ => put_filter(alloc, condition, size, done),
+    }
+}
+
+// ---- groups
+
+/// Puts the stage after those that are done, or where it goes if it is a filter.
+fn put_placed(
+    alloc: Global,
+    one: Stage,
+    size: Size,
+    done: &mut Items<Stage>,
+) -> Result<(), AllocError>
+    ensures { OnOk result (SameFrom size [] done.new (done.old ++ one ∷ [])) }
 {
     match one {
-        Stage::Filter(condition) => put_filter(alloc, condition, done),
+        Stage::Filter(condition) => put_condition(alloc, &condition, size, done),
         other => done.push(other),
     }
 }
 
 /// The stages, with the filters of each group where they go.
 #[cycle(placed)]
-fn placed_stages(alloc: Global, stages: &[Stage]) -> Result<Items<Stage>, AllocError>
-    ensures { IfOk result (λ ss. SameStages ss stages.now) }
+fn placed_stages(alloc: Global, stages: &[Stage], size: Size) -> Result<Items<Stage>, AllocError>
+    ensures { IfOk result (λ ss. SameFrom size [] ss stages.now) }
 {
     let mut done = Items::new(alloc);
     for stage in stages {
-        let one = placed_stage(alloc, stage)?;
-        put_placed(alloc, one, &mut done)?;
+        let one = placed_stage(alloc, stage, size)?;
+        put_placed(alloc, one, size, &mut done)?;
     }
     Ok(done)
 }
 
 /// The stage, with the filters of its groups where they go.
 #[cycle(placed)]
-fn placed_stage(alloc: Global, stage: &Stage) -> Result<Stage, AllocError>
-    ensures { IfOk result (λ s. SameStages (s ∷ []) (stage.now ∷ [])) }
+fn placed_stage(alloc: Global, stage: &Stage, size: Size) -> Result<Stage, AllocError>
+    ensures { IfOk result (λ s. SameFrom size [] (s ∷ []) (stage.now ∷ [])) }
 {
     match stage {
-        Stage::Triple(look, pattern) => {
-            let pattern = copied_triple(pattern)?;
-            let look = look.try_clone()?;
-            Ok(Stage::Triple(look, pattern))
-        }
-        Stage::Path(look, pattern) => {
-            let pattern = copied_path(pattern)?;
-            let look = look.try_clone()?;
-            Ok(Stage::Path(look, pattern))
-        }
-        Stage::Exists(name) => {
-            let name = name.share()?;
-            Ok(Stage::Exists(name))
-        }
-        Stage::Names(register) => Ok(Stage::Names(*register)),
-        Stage::Name(variable, register) => Ok(Stage::Name(*variable, *register)),
-        Stage::Filter(condition) => {
-            let condition = condition.share()?;
-            Ok(Stage::Filter(condition))
-        }
-        Stage::Bind(variable, expr) => {
-            let expr = expr.share()?;
-            Ok(Stage::Bind(*variable, expr))
-        }
-        Stage::Values(table) => {
-            let table = table.share()?;
-            Ok(Stage::Values(table))
-        }
         Stage::Union(branches) => {
-            let branches = placed_branches(alloc, branches.as_slice())?;
+            let branches = placed_branches(alloc, branches.as_slice(), size)?;
             Ok(Stage::Union(branches))
         }
         Stage::Optional(register, group, conditions) => {
             let conditions = conditions.share()?;
-            let group = placed_group(alloc, group)?;
+            let group = placed_group(alloc, group, size)?;
             Ok(Stage::Optional(*register, group, conditions))
         }
         Stage::Minus(register, group) => {
-            let group = placed_group(alloc, group)?;
+            let group = placed_group(alloc, group, size)?;
             Ok(Stage::Minus(*register, group))
         }
         Stage::Apart(register, group) => {
-            let group = placed_group(alloc, group)?;
+            let group = placed_group(alloc, group, size)?;
             Ok(Stage::Apart(*register, group))
         }
+        other => copied_stage(alloc, other),
     }
 }
 
 #[cycle(placed)]
-fn placed_group(alloc: Global, group: &Group) -> Result<Group, AllocError>
-    ensures { IfOk result (λ g. SameStages g.stages group.now.stages) }
+fn placed_group(alloc: Global, group: &Group, size: Size) -> Result<Group, AllocError>
+    ensures { IfOk result (λ g. SameFrom size [] g.stages group.now.stages) }
 {
-    let stages = placed_stages(alloc, group.stages.as_slice())?;
+    let stages = placed_stages(alloc, group.stages.as_slice(), size)?;
     Ok(Group { stages })
 }
 
 #[cycle(placed)]
-fn placed_branches(alloc: Global, branches: &[Group]) -> Result<Items<Group>, AllocError>
-    ensures { IfOk result (λ bs. SameStages (stage.Union bs ∷ []) (stage.Union branches.now ∷ [])) }
+fn placed_branches(
+    alloc: Global,
+    branches: &[Group],
+    size: Size,
+) -> Result<Items<Group>, AllocError>
+    ensures { IfOk result (λ bs. SameFrom size [] (stage.Union bs ∷ []) (stage.Union branches.now ∷ [])) }
 {
     let mut done = Items::new(alloc);
     for branch in branches {
-        let group = placed_group(alloc, branch)?;
+        let group = placed_group(alloc, branch, size)?;
         done.push(group)?;
     }
     Ok(done)
 }
 
-/// The plan with each filter at the earliest place of its group after which no stage binds a variable of it, and those with arithmetic, IF or
-/// CONCAT where they were. Both plans have the same solutions.
+/// The plan with each filter, and each part of a conjunction, at the earliest place of its group from which on no stage changes what is
+/// bound to a variable of it. Both plans have the same solutions.
 ///
 /// # Errors
 /// `AllocError` where memory runs out.
 pub fn filter_order(alloc: Global, plan: &Plan) -> Result<Plan, AllocError>
     ensures { IfOk result (λ p. SamePlan p plan.now) }
 {
-    let stages = placed_stages(alloc, plan.stages.as_slice())?;
+    let size = Size {
+        width: plan.width,
+        cells: plan.cells,
+    };
+    let stages = placed_stages(alloc, plan.stages.as_slice(), size)?;
     Ok(Plan {
         width: plan.width,
         cells: plan.cells,

@@ -2,13 +2,16 @@
 //! its pattern over each dataset.
 #![tactic(auto)]
 
+mod certain;
 mod copies;
 mod display;
 mod filters;
 mod laid;
 mod lay;
+mod leaves;
 mod order;
 mod planner;
+mod reads;
 mod run;
 mod plan_type;
 

@@ -7,6 +7,7 @@ ghost use Rattle.qs_plan.specs.Plans.{SamePlan};
 ghost use Rattle.qs_plan_meaning.specs.Stages.{register_of};
 ghost use Rattle.qs_plan.specs.inner.Sames.{IsScan, Misses, SameStages};
 
+use crate::copies::copied_stage;
 use crate::plan_type::Plan;
 use qs_plan_meaning::{Group, Look, Stage};
 use qs_algebra_patterns::{PathPattern, Slot, TriplePattern};
@@ -269,41 +270,6 @@ fn put_next(
 
 // ---- groups
 
-fn copied_slot(slot: &Slot) -> Result<Slot, AllocError>
-    ensures { IfOk result (λ s. s ≡ slot.now) }
-{
-    match slot {
-        Slot::Term(term) => Ok(Slot::Term(term.share()?)),
-        Slot::Variable(variable) => Ok(Slot::Variable(*variable)),
-    }
-}
-
-pub(crate) fn copied_triple(pattern: &TriplePattern) -> Result<TriplePattern, AllocError>
-    ensures { IfOk result (λ p. p ≡ pattern.now) }
-{
-    let subject = copied_slot(&pattern.subject)?;
-    let predicate = copied_slot(&pattern.predicate)?;
-    let object = copied_slot(&pattern.object)?;
-    Ok(TriplePattern {
-        subject,
-        predicate,
-        object,
-    })
-}
-
-pub(crate) fn copied_path(pattern: &PathPattern) -> Result<PathPattern, AllocError>
-    ensures { IfOk result (λ p. p ≡ pattern.now) }
-{
-    let subject = copied_slot(&pattern.subject)?;
-    let path = pattern.path.share()?;
-    let object = copied_slot(&pattern.object)?;
-    Ok(PathPattern {
-        subject,
-        path,
-        object,
-    })
-}
-
 /// The stages with the scans of each run in their order. The flags tell which variables are bound before, and afterwards which are bound
 /// after them.
 #[cycle(ordered)]
@@ -332,34 +298,6 @@ fn ordered_stage(alloc: Global, stage: &Stage, known: &mut Vec<bool>) -> Result<
     ensures { IfOk result (λ s. SameStages (s ∷ []) (stage.now ∷ [])) }
 {
     match stage {
-        Stage::Triple(look, pattern) => {
-            let pattern = copied_triple(pattern)?;
-            let look = look.try_clone()?;
-            Ok(Stage::Triple(look, pattern))
-        }
-        Stage::Path(look, pattern) => {
-            let pattern = copied_path(pattern)?;
-            let look = look.try_clone()?;
-            Ok(Stage::Path(look, pattern))
-        }
-        Stage::Exists(name) => {
-            let name = name.share()?;
-            Ok(Stage::Exists(name))
-        }
-        Stage::Names(register) => Ok(Stage::Names(*register)),
-        Stage::Name(variable, register) => Ok(Stage::Name(*variable, *register)),
-        Stage::Filter(condition) => {
-            let condition = condition.share()?;
-            Ok(Stage::Filter(condition))
-        }
-        Stage::Bind(variable, expr) => {
-            let expr = expr.share()?;
-            Ok(Stage::Bind(*variable, expr))
-        }
-        Stage::Values(table) => {
-            let table = table.share()?;
-            Ok(Stage::Values(table))
-        }
         Stage::Union(branches) => {
             let branches = ordered_branches(alloc, branches.as_slice(), known)?;
             Ok(Stage::Union(branches))
@@ -381,6 +319,7 @@ fn ordered_stage(alloc: Global, stage: &Stage, known: &mut Vec<bool>) -> Result<
             add_flags(known, own.as_slice());
             Ok(Stage::Apart(*register, group))
         }
+        other => copied_stage(alloc, other),
     }
 }
 

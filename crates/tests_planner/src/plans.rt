@@ -72,6 +72,91 @@ const PLANS: &[(&str, &str)] = &[
         "SELECT * { VALUES ?a { <u:x> UNDEF } ?a <u:p> ?b BIND(str(?b) AS ?c) FILTER(?c > 'x') }",
         "values ?0, rows: 2\ntriple ?0 <u:p> ?1\nbind ?2 = (str ?1)\nfilter (> ?2 \"x\")\n",
     ),
+    // a conjunction is a filter of each of its parts, whatever brackets stand in it
+    (
+        "SELECT * { ?a <u:p> ?b . ?a <u:q> ?c FILTER(?b = 'x' && ?c = 'y') }",
+        "triple ?0 <u:p> ?1\nfilter (= ?1 \"x\")\ntriple ?0 <u:q> ?2\nfilter (= ?2 \"y\")\n",
+    ),
+    (
+        "SELECT * { ?a <u:p> ?b . ?a <u:q> ?c FILTER((?b = 'x' && ?c = 'y') && isIRI(?a)) }",
+        "triple ?0 <u:p> ?1\nfilter (= ?1 \"x\")\nfilter (isIRI ?0)\ntriple ?0 <u:q> ?2\nfilter (= ?2 \"y\")\n",
+    ),
+    // a disjunction stays whole
+    (
+        "SELECT * { ?a <u:p> ?b . ?a <u:q> ?c FILTER(?b = 'x' || ?c = 'y') }",
+        "triple ?0 <u:p> ?1\ntriple ?0 <u:q> ?2\nfilter (|| (= ?1 \"x\") (= ?2 \"y\"))\n",
+    ),
+    // arithmetic, IF and CONCAT move as all else does
+    (
+        "SELECT * { ?a <u:p> ?b . ?a <u:q> ?c FILTER(?b + 1 > 2 * ?b) FILTER(if(?b, concat(?c), ?a)) }",
+        "triple ?0 <u:p> ?1\nfilter (> (sum ?1 +\"1\"^^<http://www.w3.org/2001/XMLSchema#integer>) (* \"2\"^^<http://www.w3.org/2001/XMLSchema#integer> ?1))\ntriple ?0 <u:q> ?2\nfilter (if ?1 (concat ?2) ?0)\n",
+    ),
+    // what a row binds no OPTIONAL and no MINUS changes, so a filter on it goes before them
+    (
+        "SELECT * { ?a <u:p> ?b OPTIONAL { ?b <u:q> ?c } FILTER(?b = 'x') }",
+        "triple ?0 <u:p> ?1\nfilter (= ?1 \"x\")\noptional\n  triple ?1 <u:q> ?2\n",
+    ),
+    (
+        "SELECT * { ?a <u:p> ?b MINUS { ?a <u:q> ?b } FILTER(?b = 'x') }",
+        "triple ?0 <u:p> ?1\nfilter (= ?1 \"x\")\nminus\n  triple ?0 <u:q> ?1\n",
+    ),
+    // what an OPTIONAL may bind isn't certain after it: the next one may bind it too
+    (
+        "SELECT * { ?a <u:p> ?b OPTIONAL { ?a <u:q> ?c } OPTIONAL { ?a <u:r> ?c } FILTER(?c = 'x') }",
+        "triple ?0 <u:p> ?1\noptional\n  triple ?0 <u:q> ?2\noptional\n  triple ?0 <u:r> ?2\nfilter (= ?2 \"x\")\n",
+    ),
+    (
+        "SELECT * { ?a <u:p> ?b OPTIONAL { ?a <u:q> ?c } OPTIONAL { ?a <u:r> ?d } FILTER(!bound(?c)) }",
+        "triple ?0 <u:p> ?1\noptional\n  triple ?0 <u:q> ?2\nfilter (! (bound ?2))\noptional\n  triple ?0 <u:r> ?3\n",
+    ),
+    // into the branches of a union, to its place in each
+    (
+        "SELECT * { { ?a <u:p> ?b . ?b <u:q> ?c } UNION { ?a <u:r> ?b } FILTER(?b = 'x') }",
+        "union\n  branch\n    triple ?0 <u:p> ?1\n    filter (= ?1 \"x\")\n    triple ?1 <u:q> ?2\n  branch\n    triple ?0 <u:r> ?1\n    filter (= ?1 \"x\")\n",
+    ),
+    // what each branch binds is certain after a union, and what one of them leaves unbound isn't; where no stage of a branch binds it, the
+    // filter comes first
+    (
+        "SELECT * { { ?a <u:p> ?b } UNION { ?b <u:q> ?c } ?b <u:r> ?d FILTER(?b = 'x' && ?c = 'y') }",
+        "union\n  branch\n    filter (= ?2 \"y\")\n    triple ?0 <u:p> ?1\n    filter (= ?1 \"x\")\n  branch\n    triple ?1 <u:q> ?2\n    filter (= ?1 \"x\")\n    filter (= ?2 \"y\")\ntriple ?1 <u:r> ?3\n",
+    ),
+    (
+        "SELECT * { { ?a <u:p> ?b } UNION { ?b <u:q> ?c } ?c <u:r> ?d FILTER(?c = 'x') }",
+        "union\n  branch\n    triple ?0 <u:p> ?1\n  branch\n    triple ?1 <u:q> ?2\ntriple ?2 <u:r> ?3\nfilter (= ?2 \"x\")\n",
+    ),
+    // VALUES binds a variable in each row, unless UNDEF stands in it
+    (
+        "SELECT * { VALUES ?a { <u:x> <u:y> } ?a <u:p> ?b FILTER(?a != <u:x>) }",
+        "values ?0, rows: 2\nfilter (!= ?0 <u:x>)\ntriple ?0 <u:p> ?1\n",
+    ),
+    (
+        "SELECT * { VALUES ?a { <u:x> UNDEF } ?a <u:p> ?b FILTER(?a != <u:x>) }",
+        "values ?0, rows: 2\ntriple ?0 <u:p> ?1\nfilter (!= ?0 <u:x>)\n",
+    ),
+    // into a group that is joined, where the group is certain to bind each variable, and else not
+    (
+        "SELECT * { ?a <u:p> ?b { ?b <u:q> ?c OPTIONAL { ?c <u:r> ?d } } FILTER(?c = 'x') }",
+        "triple ?0 <u:p> ?1\njoin\n  triple ?1 <u:q> ?2\n  filter (= ?2 \"x\")\n  optional\n    triple ?2 <u:r> ?3\n",
+    ),
+    (
+        "SELECT * { ?a <u:p> ?b { ?b <u:q> ?c OPTIONAL { ?c <u:r> ?d } } FILTER(?d = 'x') }",
+        "triple ?0 <u:p> ?1\njoin\n  triple ?1 <u:q> ?2\n  optional\n    triple ?2 <u:r> ?3\nfilter (= ?3 \"x\")\n",
+    ),
+    // the name of a graph is certain where it is joined with the triples in it
+    (
+        "SELECT * { GRAPH ?g { ?a <u:p> ?b } OPTIONAL { GRAPH ?g { ?b <u:q> ?c } } FILTER(?g = <u:g>) }",
+        "names ?4\ntriple ?1 <u:p> ?2 in ?4\nname ?0 = ?4\nfilter (= ?0 <u:g>)\noptional\n  names ?5\n  triple ?2 <u:q> ?3 in ?5\n  name ?0 = ?5\n",
+    ),
+    // BIND may leave its variable unbound
+    (
+        "SELECT * { ?a <u:p> ?b BIND(str(?b) AS ?c) OPTIONAL { ?a <u:q> ?c } FILTER(?c = 'x' && ?b = 'y') }",
+        "triple ?0 <u:p> ?1\nfilter (= ?1 \"y\")\nbind ?2 = (str ?1)\noptional\n  triple ?0 <u:q> ?2\nfilter (= ?2 \"x\")\n",
+    ),
+    // literals are escaped as in N-Quads
+    (
+        "SELECT * { ?a <u:p> 'x\"y\\\\z\\nw\\r' }",
+        "triple ?0 <u:p> \"x\\\"y\\\\z\\nw\\r\"\n",
+    ),
 ];
 
 fn printed(alloc: Global, text: &str) -> Result<String, QFault> {

@@ -5,6 +5,7 @@ use Rattle.qs_terms.specs.Statement.{Statement}
 use Rattle.qs_algebra_solutions.specs.Solution.{Solution, term_at}
 use Rattle.qs_algebra_patterns.specs.Basic.{Graph}
 use Rattle.qs_expr_meaning.specs.Meaning.{meaning}
+use Rattle.qs_expr_meaning.specs.declared.expr.Addend.{Addend}
 use Rattle.qs_expr_meaning.specs.declared.expr.Expr.{Expr}
 use Rattle.qs_plan_meaning.specs.declared.stage.Stage.{Stage}
 use Rattle.qs_plan_meaning.specs.Stages.{gives, through}
@@ -16,6 +17,10 @@ Agree variables m x = AllByRecursion (λ v. term_at x v ≡ term_at m v) variabl
 -- where both bind these variables alike, the expression means the same in both
 pub record Settles (variables : List ℕ) (e : Expr) : Type 0 where
   pub same : (m x : Solution) → Agree variables m x → meaning x e ≡ meaning m e
+
+-- the same of an operand of a sum
+abbrev pub SettlesOperand : List ℕ → Addend → Type 0
+SettlesOperand variables a = Settles variables a.operand
 
 -- where both bind those of the second list alike, they do those of the first
 pub record Grows (old new : List ℕ) : Type 0 where

@@ -1,23 +1,22 @@
-use Rattle.qs_plan.proofs.Leaving.{placed_more}
-use Rattle.qs_plan.proofs.Sames.{branch_more, optional_arm, minus_arm, apart_arm}
+use Rattle.qs_plan.proofs.Entering.{placed_more, branch_placed, optional_placed, minus_placed, apart_placed}
 use Rattle.qs_plan.proofs.filters.+placed.Goals as goal
 
 pub placed_branches-loop-branch-preserved : goal.placed_branches-loop-branch-preserved
 placed_branches-loop-branch-preserved t c =
-    branch_more _ _ c.args.branches.now c.loop-branch.branch-index c.branch-item.result c.in_ok-group.group.stages c.loop-branch-test.true c.branch-item.is c.in_ok-push.ensures.ok c.loop-branch.invariant c.in_ok-group.ensures
+    branch_placed c.args.size _ _ c.args.branches.now c.loop-branch.branch-index c.branch-item.result c.in_ok-group.group c.loop-branch-test.true c.branch-item.is c.in_ok-push.ensures.ok c.loop-branch.invariant c.in_ok-group.ensures
 
 pub placed_stage-returns-in_ok-group-in-Optional : goal.placed_stage-returns-in_ok-group-in-Optional
 placed_stage-returns-in_ok-group-in-Optional t c =
-    optional_arm c.args.stage.now c.in-Optional.register c.in-Optional.group c.in_ok-group-in-Optional.group c.in-Optional.conditions c.in_ok-conditions-in-Optional.conditions c.in-Optional.is c.in_ok-conditions-in-Optional.ensures c.in_ok-group-in-Optional.ensures
+    optional_placed c.args.size c.in-Optional.register c.in_ok-group-in-Optional.group c.in-Optional.group c.in_ok-group-in-Optional.ensures c.args.stage.now c.in-Optional.conditions c.in_ok-conditions-in-Optional.conditions c.in-Optional.is c.in_ok-conditions-in-Optional.ensures
 
 pub placed_stage-returns-in_ok-group-in-Minus : goal.placed_stage-returns-in_ok-group-in-Minus
 placed_stage-returns-in_ok-group-in-Minus t c =
-    minus_arm c.args.stage.now c.in-Minus.register c.in-Minus.group c.in_ok-group-in-Minus.group c.in-Minus.is c.in_ok-group-in-Minus.ensures
+    minus_placed c.args.size c.in-Minus.register c.in_ok-group-in-Minus.group c.in-Minus.group c.in_ok-group-in-Minus.ensures c.args.stage.now c.in-Minus.is
 
 pub placed_stage-returns-in_ok-group-in-Apart : goal.placed_stage-returns-in_ok-group-in-Apart
 placed_stage-returns-in_ok-group-in-Apart t c =
-    apart_arm c.args.stage.now c.in-Apart.register c.in-Apart.group c.in_ok-group-in-Apart.group c.in-Apart.is c.in_ok-group-in-Apart.ensures
+    apart_placed c.args.size c.in-Apart.register c.in_ok-group-in-Apart.group c.in-Apart.group c.in_ok-group-in-Apart.ensures c.args.stage.now c.in-Apart.is
 
 pub placed_stages-loop-stage-preserved : goal.placed_stages-loop-stage-preserved
 placed_stages-loop-stage-preserved t c =
-    placed_more c.loop-stage.done _ c.args.stages.now c.loop-stage.stage-index c.stage-item.result c.in_ok-one.one c.loop-stage-test.true c.stage-item.is c.loop-stage.invariant c.in_ok-one.ensures c.in_ok-put_placed.ensures
+    placed_more c.args.size c.loop-stage.done _ c.args.stages.now c.loop-stage.stage-index c.stage-item.result c.in_ok-one.one c.loop-stage-test.true c.stage-item.is c.loop-stage.invariant c.in_ok-one.ensures c.in_ok-put_placed.ensures

@@ -1,7 +1,10 @@
-use Rattle.std.proofs.Common.{refl, subst}
-use Rattle.qs_plan.specs.inner.Sames.{SameStages}
-use Rattle.qs_plan.proofs.Sames.{same_plan}
+use Rattle.std.proofs.Common.{refl, subst, []}
+use Rattle.qs_plan.specs.declared.certain.Size.{Size}
+use Rattle.qs_plan.specs.inner.Certain.{SameFrom}
+use Rattle.qs_plan.proofs.Entering.{plan_from}
 use Rattle.qs_plan.proofs.filters.filter_order.Goals as goal
 
 pub returns : goal.returns
-returns c = same_plan _ c.args.plan.now refl refl (subst (λ l. SameStages c.in_ok-stages.stages l) c.as_slice.ensures c.in_ok-stages.ensures)
+returns c =
+    let size : Size = record { width = c.args.plan.now.width; cells = c.args.plan.now.cells } in
+    plan_from _ c.args.plan.now size refl refl refl refl (subst (λ l. SameFrom size [] c.in_ok-stages.stages l) c.as_slice.ensures c.in_ok-stages.ensures)

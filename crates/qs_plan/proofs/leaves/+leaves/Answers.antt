@@ -2,7 +2,7 @@ use Rattle.std.proofs.Common.{◌==◌, ap, sym, subst, ◌∙◌}
 use Rattle.std.specs.List.{list_any}
 use Rattle.qs_plan.specs.inner.Reads.{LeaveAll}
 use Rattle.qs_plan.proofs.Leaving.{not_true, differs, triple_leaves, path_leaves, names_leave, name_leaves, filter_leaves, bind_leaves, values_leave, union_leaves, optional_leaves, apart_leaves, more_leave}
-use Rattle.qs_plan.proofs.filters.+leaves.Goals as goal
+use Rattle.qs_plan.proofs.leaves.+leaves.Goals as goal
 
 pub leave_all-loop-stage-preserved : goal.leave_all-loop-stage-preserved
 leave_all-loop-stage-preserved t c =

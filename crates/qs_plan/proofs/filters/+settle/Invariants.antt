@@ -1,7 +1,0 @@
-use Rattle.std.proofs.Common.{take}
-use Rattle.std.specs.List.{AllByRecursion}
-use Rattle.qs_plan.specs.inner.Reads.{Grows, Settles}
-use Rattle.qs_plan.proofs.filters.+settle.Given as goal
-
-abbrev pub invariant-settle_all-loop-part : goal.invariant-settle_all-loop-part
-invariant-settle_all-loop-part l = Grows l.fn.variables.items l.variables.items × AllByRecursion (Settles l.variables.items) (take l.part-index l.parts)

@@ -1,0 +1,126 @@
+//! Which variables an expression reads.
+
+ghost use Rattle.std.specs.Prelude.{OnOk};
+ghost use Rattle.std.specs.List.{AllByRecursion};
+ghost use Rattle.qs_plan.specs.inner.Reads.{Grows, Settles, SettlesOperand};
+
+use qs_expr_meaning::{Addend, Expr};
+use std::alloc::{AllocError, Global};
+
+/// Puts the variables that the expression reads after the others: where two solutions bind all of these alike, it means the same in both.
+#[cycle(settle)]
+#[tactic(auto, using(crate::proofs::Settled::variable_settled, crate::proofs::Settled::bound_settled, crate::proofs::Settled::term_settled, crate::proofs::Settled::grows_by_one, crate::proofs::Settled::grows_more, crate::proofs::Settled::grows_same))]
+pub(crate) fn settle(
+    alloc: Global,
+    expr: &Expr,
+    variables: &mut Vec<usize>,
+) -> Result<(), AllocError>
+    ensures grows { OnOk result (Grows variables.old.items variables.new.items) }
+    ensures settles { OnOk result (Settles variables.new.items expr.now) }
+{
+    match expr {
+        Expr::Variable(variable) => {
+            variables.push(*variable)?;
+            Ok(())
+        }
+        Expr::Bound(variable) => {
+            variables.push(*variable)?;
+            Ok(())
+        }
+        Expr::Term(_) => Ok(()),
+        Expr::Not(inner) => {
+            settle(alloc, inner.get(), variables)?;
+            Ok(())
+        }
+        Expr::Signed(_, inner) => {
+            settle(alloc, inner.get(), variables)?;
+            Ok(())
+        }
+        Expr::Unary(_, inner) => {
+            settle(alloc, inner.get(), variables)?;
+            Ok(())
+        }
+        Expr::Compare(_, left, right) => {
+            settle(alloc, left.get(), variables)?;
+            settle(alloc, right.get(), variables)?;
+            Ok(())
+        }
+        Expr::Binary(_, left, right) => {
+            settle(alloc, left.get(), variables)?;
+            settle(alloc, right.get(), variables)?;
+            Ok(())
+        }
+        Expr::If(test, yes, no) => {
+            settle(alloc, test.get(), variables)?;
+            settle(alloc, yes.get(), variables)?;
+            settle(alloc, no.get(), variables)?;
+            Ok(())
+        }
+        Expr::Or(parts) => {
+            settle_all(alloc, parts.as_slice(), variables)?;
+            Ok(())
+        }
+        Expr::And(parts) => {
+            settle_all(alloc, parts.as_slice(), variables)?;
+            Ok(())
+        }
+        Expr::Coalesce(parts) => {
+            settle_all(alloc, parts.as_slice(), variables)?;
+            Ok(())
+        }
+        Expr::Concat(parts) => {
+            settle_all(alloc, parts.as_slice(), variables)?;
+            Ok(())
+        }
+        Expr::In(inner, parts) => {
+            settle(alloc, inner.get(), variables)?;
+            settle_all(alloc, parts.as_slice(), variables)?;
+            Ok(())
+        }
+        Expr::NotIn(inner, parts) => {
+            settle(alloc, inner.get(), variables)?;
+            settle_all(alloc, parts.as_slice(), variables)?;
+            Ok(())
+        }
+        Expr::Product(inner, parts) => {
+            settle(alloc, inner.get(), variables)?;
+            settle_all(alloc, parts.as_slice(), variables)?;
+            Ok(())
+        }
+        Expr::Sum(inner, addends) => {
+            settle(alloc, inner.get(), variables)?;
+            settle_addends(alloc, addends.as_slice(), variables)?;
+            Ok(())
+        }
+    }
+}
+
+/// Puts the variables that the expressions read after the others.
+#[cycle(settle)]
+#[tactic(auto, using(crate::proofs::Settled::part_settled, crate::proofs::Settled::all_settled, crate::proofs::Settled::grows_more, crate::proofs::Settled::grows_same))]
+fn settle_all(alloc: Global, parts: &[Expr], variables: &mut Vec<usize>) -> Result<(), AllocError>
+    ensures grows { OnOk result (Grows variables.old.items variables.new.items) }
+    ensures settles { OnOk result (AllByRecursion (Settles variables.new.items) parts.now) }
+{
+    for part in parts {
+        settle(alloc, part, variables)?;
+    }
+    Ok(())
+}
+
+/// Puts the variables that the operands read after the others.
+#[cycle(settle)]
+#[tactic(auto, using(crate::proofs::Settled::addend_settled, crate::proofs::Settled::addends_settled, crate::proofs::Settled::grows_more, crate::proofs::Settled::grows_same))]
+fn settle_addends(
+    alloc: Global,
+    addends: &[Addend],
+    variables: &mut Vec<usize>,
+) -> Result<(), AllocError>
+    ensures grows { OnOk result (Grows variables.old.items variables.new.items) }
+    ensures settles { OnOk result (AllByRecursion (SettlesOperand variables.new.items) addends.now) }
+{
+    for addend in addends {
+        settle(alloc, &addend.operand, variables)?;
+    }
+    Ok(())
+}
