@@ -1,9 +1,9 @@
 -- Stages of which the groups are exchanged for others that make the same.
-use Rattle.std.proofs.Common.{◌≡◌, ℕ, ◌+◌, ◌<◌, ◌≤◌, not, List, [], ◌∷◌, ◌++◌, map, take, length, get_or, Option, sym, ◌∙◌, ap, subst, append-nil, append_assoc, zero, suc, None, Some, slice_get, arith}
+use Rattle.std.proofs.Common.{◌≡◌, ℕ, ◌+◌, ◌<◌, ◌≤◌, not, List, [], ◌∷◌, ◌++◌, map, take, length, get_or, reverse, Option, sym, ◌∙◌, ap, subst, append-nil, append_assoc, zero, suc, None, Some, slice_get, arith}
 use Rattle.std.specs.List.{AllByRecursion, flat_map, remove}
 use Rattle.std.proofs.lemmas.List.Edits.{length-remove}
 use Rattle.std.proofs.lemmas.Grind.{flat_map-append}
-use Rattle.std.proofs.lemmas.List.{take_more, take_all}
+use Rattle.std.proofs.lemmas.List.{take_more, take_all, reverse-append}
 use Rattle.std.proofs.lemmas.List.Sorted.{IsPermutation-append, IsPermutation-map, list_any-IsPermutation}
 use Rattle.qs_terms.specs.Bag.{SameBag}
 use Rattle.qs_terms.specs.Statement.{Statement}
@@ -26,7 +26,7 @@ use Rattle.qs_plan.specs.inner.Sames.{SameStages, IsScan, Misses}
 use Rattle.qs_plan.proofs.Laying.{between, same}
 use Rattle.qs_plan.proofs.Levels.{gives_union, gives_optional, gives_minus, gives_apart, through_one}
 use Rattle.qs_plan.proofs.Operators.{filter_same, merges_same, alone_same}
-use Rattle.qs_plan.proofs.Swaps.{same_refl, same_trans, same_append, triple_scan, path_scan, one_brought, scans_left}
+use Rattle.qs_plan.proofs.Swaps.{same_refl, same_trans, same_append, same_turned, scans_turned, triple_scan, path_scan, one_brought, scans_left}
 
 pub same_as : (s t : Stage) → s ≡ t → SameStages (s ∷ []) (t ∷ [])
 same_as s t e = subst (λ (x : Stage). SameStages (s ∷ []) (x ∷ [])) e (same_refl (s ∷ []))
@@ -163,3 +163,15 @@ run_shorter left rest i lt f = subst (λ (l : List Stage). length l < length lef
 -- no run is left
 pub run_over : (done left before : List Stage) → left ≡ [] → SameStages (done ++ left) before → (left ≡ []) × SameStages done before
 run_over done left before e h = (e, subst (λ (l : List Stage). SameStages l before) (append-nil done) (subst (λ (l : List Stage). SameStages (done ++ l) before) e h))
+
+-- a run is put the other way round
+pub run_turned : (r : Option ℕ) (done run left new : List Stage) → AllByRecursion (IsScan r) run → left ≡ reverse run → SameStages new (done ++ left) → SameStages new (done ++ run)
+run_turned r done run left new h e k =
+    same_trans new (done ++ reverse run) (done ++ run) (subst (λ (l : List Stage). SameStages new (done ++ l)) e k) (same_append done done (reverse run) run (same_refl done) (same_turned r run h))
+
+pub left_scans : (r : Option ℕ) (run left : List Stage) → AllByRecursion (IsScan r) run → left ≡ reverse run → AllByRecursion (IsScan r) left
+left_scans r run left h e = subst (AllByRecursion (IsScan r)) (sym e) (scans_turned r run h)
+
+-- one more is turned
+pub turned_more : (rest new run left first : List Stage) (s : Stage) → left ≡ run ++ s ∷ [] → new ≡ rest ++ s ∷ [] → first ≡ rest ++ reverse left → first ≡ new ++ reverse run
+turned_more rest new run left first s l n h = h ∙ (ap (λ xs. rest ++ xs) (ap reverse l ∙ reverse-append run (s ∷ [])) ∙ (sym (append_assoc rest (s ∷ []) (reverse run)) ∙ ap (λ xs. xs ++ reverse run) (sym n)))

@@ -8,8 +8,8 @@ ghost use Rattle.qs_plan.specs.inner.Certain.{Bound, Keeps, Gets, Binds, Steady,
 ghost use Rattle.qs_plan.specs.inner.Reads.{Leaves};
 
 use crate::leaves::{has_column, leaves};
-use qs_plan_meaning::{Group, Stage};
 use qs_algebra_patterns::{PathPattern, Slot, Table, TriplePattern};
+use qs_plan_meaning::{Group, Stage};
 use qs_terms::Term;
 use std::alloc::{AllocError, Global};
 

@@ -2,10 +2,10 @@
 
 ghost use Rattle.std.specs.Prelude.{◌≡◌, IfOk};
 
-use qs_plan_meaning::{Group, Stage};
 use qs_algebra_patterns::{PathPattern, Slot, Table, TriplePattern};
 use qs_base::{Shared, keep_beside};
 use qs_expr_meaning::{Addend, Expr};
+use qs_plan_meaning::{Group, Stage};
 use qs_terms::Term;
 use sqlite_items::{Boxed, Items};
 use std::alloc::{AllocError, Global};

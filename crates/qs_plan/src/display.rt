@@ -1,9 +1,9 @@
 //! Plans as text: a line a stage, indented by nesting. A variable is printed by its number, and an expression with its operator first.
 
 use crate::plan_type::Plan;
-use qs_plan_meaning::{Group, Look, Stage};
 use qs_algebra_patterns::{PathPattern, Slot, Table, TriplePattern};
 use qs_expr_meaning::{Addend, BinaryFunction, Comparison, Expr, Sign, UnaryFunction};
+use qs_plan_meaning::{Group, Look, Stage};
 use qs_syntax_ast::path::{NegatedIri, Path};
 use qs_syntax_tree::path::Repetition;
 use qs_terms::{Lit, Term};

@@ -11,11 +11,11 @@ ghost use Rattle.qs_plan.specs.inner.Reads.{Settles};
 
 use crate::certain::{Size, all_steady_from, are_bound, known_before};
 use crate::copies::{copied_stage, copied_stages, shared_expr};
-use crate::reads::settle;
 use crate::plan_type::Plan;
-use qs_plan_meaning::{Group, Stage};
+use crate::reads::settle;
 use qs_base::Shared;
 use qs_expr_meaning::Expr;
+use qs_plan_meaning::{Group, Stage};
 use sqlite_items::Items;
 use std::alloc::{AllocError, Global};
 
@@ -127,7 +127,14 @@ fn filtered_group(
     requires { Settles variables.now condition.now }
     ensures { IfOk result (λ g. SameFrom size given.now g.stages (group.now.stages ++ stage.Filter condition.now ∷ [])) }
 {
-    let stages = filtered(alloc, group.stages.as_slice(), condition, variables, size, given)?;
+    let stages = filtered(
+        alloc,
+        group.stages.as_slice(),
+        condition,
+        variables,
+        size,
+        given,
+    )?;
     Ok(Group { stages })
 }
 

@@ -6,9 +6,9 @@ ghost use Rattle.qs_plan_meaning.specs.declared.stage.Stage.TheVariants as stage
 ghost use Rattle.qs_plan_meaning.specs.Stages.{register_of};
 
 use crate::copies::{shared_conditions, shared_expr};
-use qs_plan_meaning::{Group, Look, Stage};
 use qs_base::{Shared, keep_beside};
 use qs_expr_meaning::Expr;
+use qs_plan_meaning::{Group, Look, Stage};
 use qs_terms::Term;
 use sqlite_items::Items;
 use std::alloc::{AllocError, Global};

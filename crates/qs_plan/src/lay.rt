@@ -10,9 +10,9 @@ ghost use Rattle.qs_plan.specs.inner.Lays.{Lays, LaysStep, Within, IsJoin, all_k
 use crate::copies::{shared_expr, shared_table};
 use crate::laid::{Laid, alone, apart, bind, if_exists, in_each, look_named, minus, optional};
 use crate::run::{lay_run, room_after};
-use qs_plan_meaning::{Group, Look, Stage};
 use qs_algebra_patterns::{PatternNode, Step, Table};
 use qs_expr_meaning::Expr;
+use qs_plan_meaning::{Group, Look, Stage};
 use qs_terms::Term;
 use sqlite_items::Items;
 use std::alloc::{AllocError, Global};

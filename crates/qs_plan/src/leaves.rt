@@ -5,8 +5,8 @@ ghost use Rattle.std.specs.List.{AllByRecursion, list_any};
 ghost use Rattle.qs_plan.specs.inner.Reads.{LeaveAll, Leaves};
 
 use crate::order::{path_misses, triple_misses};
-use qs_plan_meaning::{Group, Stage};
 use qs_algebra_patterns::Table;
+use qs_plan_meaning::{Group, Stage};
 
 fn is_other(register: Option<usize>, variable: usize) -> bool
     ensures { result ≡ true → register ≢ Some variable }

@@ -10,13 +10,13 @@ mod laid;
 mod lay;
 mod leaves;
 mod order;
+mod plan_type;
 mod planner;
 mod reads;
 mod run;
-mod plan_type;
 
 pub use filters::filter_order;
 pub use order::run_order;
-pub use planner::{plan, text_order};
 pub use plan_type::{Plan, drop_plan};
+pub use planner::{plan, text_order};
 pub use qs_plan_meaning::{Group, Look, Stage};

@@ -1,6 +1,6 @@
 //! The order of runs: which triple or path comes next.
 
-ghost use Rattle.std.specs.Prelude.{◌≡◌, ◌≢◌, ◌<◌, ◌≤◌, true, [], ◌∷◌, ◌++◌, length, slice_get, remove, Some, IfOk, OnOk, MatchOption};
+ghost use Rattle.std.specs.Prelude.{◌≡◌, ◌≢◌, ◌<◌, ◌≤◌, true, [], ◌∷◌, ◌++◌, length, slice_get, remove, reverse, Some, IfOk, OnOk, MatchOption};
 ghost use Rattle.std.specs.List.{AllByRecursion};
 ghost use Rattle.qs_plan_meaning.specs.declared.stage.Stage.TheVariants as stage;
 ghost use Rattle.qs_plan.specs.Plans.{SamePlan};
@@ -9,8 +9,8 @@ ghost use Rattle.qs_plan.specs.inner.Sames.{IsScan, Misses, SameStages};
 
 use crate::copies::copied_stage;
 use crate::plan_type::Plan;
-use qs_plan_meaning::{Group, Look, Stage};
 use qs_algebra_patterns::{PathPattern, Slot, TriplePattern};
+use qs_plan_meaning::{Group, Look, Stage};
 use sqlite_items::Items;
 use std::alloc::{AllocError, Global};
 
@@ -192,17 +192,21 @@ fn register_in(stage: &Stage) -> Option<usize> {
 
 // ---- the order
 
-/// The place of the stage with most places fixed; of several, the first.
+/// The place of the stage with most places fixed; of several, the last.
 fn best_of(stages: &[Stage], known: &[bool]) -> Option<usize>
     ensures { MatchOption result (stages.now ≡ []) (λ best. best < length stages.now) }
 {
     if stages.is_empty() {
         return None;
     }
-    let mut best = 0;
+    let mut best = stages.len() - 1;
     let mut most = 0;
-    for at in 0..stages.len() {
+    for back in 0..stages.len() {
+        let at = stages.len() - 1 - back;
         let places = fixed_places(known, &stages[at]);
+        if places == 3 {
+            return Some(at);
+        }
         if most < places {
             most = places;
             best = at;
@@ -211,8 +215,19 @@ fn best_of(stages: &[Stage], known: &[bool]) -> Option<usize>
     Some(best)
 }
 
-/// Puts the scans after those that are done: next always one with most places fixed.
-fn put_run(
+/// Takes the stages away, the last first.
+fn turned(alloc: Global, run: &mut Items<Stage>) -> Result<Items<Stage>, AllocError>
+    ensures { IfOk result (λ rest. (run.new ≡ []) × (rest ≡ reverse run.old)) }
+{
+    let mut rest = Items::new(alloc);
+    'back: while let Some(last) = run.pop() {
+        rest.push(last)?;
+    }
+    Ok(rest)
+}
+
+/// Puts the scans after those that are done: next always one with most places fixed; of several, the last.
+fn put_scans(
     register: Option<usize>,
     run: &mut Items<Stage>,
     known: &mut Vec<bool>,
@@ -229,8 +244,26 @@ fn put_run(
     Ok(())
 }
 
+/// Puts the scans after those that are done: next always one with most places fixed; of several, the first. They are turned round first, since
+/// one is cheap to take away where few follow it.
+fn put_run(
+    alloc: Global,
+    register: Option<usize>,
+    run: &mut Items<Stage>,
+    known: &mut Vec<bool>,
+    done: &mut Items<Stage>,
+) -> Result<(), AllocError>
+    requires { AllByRecursion (IsScan register) run.old }
+    ensures { OnOk result ((run.new ≡ []) × SameStages done.new (done.old ++ run.old)) }
+{
+    let mut left = turned(alloc, run)?;
+    put_scans(register, &mut left, known, done)?;
+    Ok(())
+}
+
 /// Ends the run where the stage isn't one of it, and tells in which register the next one looks.
 fn begin_run(
+    alloc: Global,
     register: Option<usize>,
     stage: &Stage,
     run: &mut Items<Stage>,
@@ -243,12 +276,13 @@ fn begin_run(
     if is_scan(stage, register) {
         return Ok(register);
     }
-    put_run(register, run, known, done)?;
+    put_run(alloc, register, run, known, done)?;
     Ok(register_in(stage))
 }
 
 /// Puts the stage into the run, or after those that are done.
 fn put_next(
+    alloc: Global,
     register: Option<usize>,
     stage: Stage,
     run: &mut Items<Stage>,
@@ -262,7 +296,7 @@ fn put_next(
         run.push(stage)?;
         return Ok(());
     }
-    put_run(register, run, known, done)?;
+    put_run(alloc, register, run, known, done)?;
     mark_stage(known, &stage);
     done.push(stage)?;
     Ok(())
@@ -284,11 +318,11 @@ fn ordered_stages(
     let mut run = Items::new(alloc);
     let mut register = None;
     for stage in stages {
-        register = begin_run(register, stage, &mut run, known, &mut done)?;
+        register = begin_run(alloc, register, stage, &mut run, known, &mut done)?;
         let one = ordered_stage(alloc, stage, known)?;
-        put_next(register, one, &mut run, known, &mut done)?;
+        put_next(alloc, register, one, &mut run, known, &mut done)?;
     }
-    put_run(register, &mut run, known, &mut done)?;
+    put_run(alloc, register, &mut run, known, &mut done)?;
     Ok(done)
 }
 

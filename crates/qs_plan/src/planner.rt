@@ -9,10 +9,10 @@ use crate::filters::filter_order;
 use crate::laid::Laid;
 use crate::lay::lay;
 use crate::order::run_order;
-use crate::run::PAST;
 use crate::plan_type::Plan;
-use qs_plan_meaning::Look;
+use crate::run::PAST;
 use qs_algebra_patterns::Pattern;
+use qs_plan_meaning::Look;
 use qs_terms::QFault;
 use std::alloc::{AllocError, Global};
 

@@ -10,9 +10,9 @@ ghost use Rattle.qs_plan.specs.inner.Numbers as spec;
 ghost use Rattle.qs_plan.specs.inner.Numbers.{past};
 
 use crate::laid::{Laid, alone};
-use qs_plan_meaning::{Look, Stage};
 use qs_algebra_patterns::{BasicPattern, PathPattern, Slot, TriplePattern};
 use qs_base::keep_beside;
+use qs_plan_meaning::{Look, Stage};
 use sqlite_items::Items;
 use std::alloc::{AllocError, Global};
 

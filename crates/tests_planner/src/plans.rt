@@ -19,6 +19,15 @@ const PLANS: &[(&str, &str)] = &[
         "SELECT * { ?d <u:r> ?e . ?a <u:p> ?b . ?b <u:q> <u:c> }",
         "triple ?3 <u:q> <u:c>\ntriple ?2 <u:p> ?3\ntriple ?0 <u:r> ?1\n",
     ),
+    // of those with as many places fixed the first of the text comes first
+    (
+        "SELECT * { ?a <u:p> ?b . ?c <u:q> ?d . ?e <u:r> ?f }",
+        "triple ?0 <u:p> ?1\ntriple ?2 <u:q> ?3\ntriple ?4 <u:r> ?5\n",
+    ),
+    (
+        "SELECT * { ?a <u:p> ?b . ?b <u:q> ?a . ?a <u:r> ?b }",
+        "triple ?0 <u:p> ?1\ntriple ?1 <u:q> ?0\ntriple ?0 <u:r> ?1\n",
+    ),
     // a path is evaluated with its variables open; its predicate is a place that is fixed
     (
         "SELECT * { ?a <u:p>/<u:q>* ?b . ?b <u:r> 'x' }",

@@ -1,7 +1,7 @@
 use Rattle.std.proofs.Common.{◌++◌, length}
 use Rattle.std.specs.List.{AllByRecursion}
 use Rattle.qs_plan.specs.inner.Sames.{SameStages, IsScan}
-use Rattle.qs_plan.proofs.order.put_run.Given as goal
+use Rattle.qs_plan.proofs.order.put_scans.Given as goal
 
 abbrev pub invariant-put : goal.invariant-put
 invariant-put l = record { scans : AllByRecursion (IsScan l.fn.register) l.run; same : SameStages (l.done ++ l.run) (l.initial.done ++ l.initial.run) }
