@@ -1,12 +1,11 @@
 -- A filter goes into the branches of a union before it and into the group of a join before it, and a conjunction is filters of its parts.
-use Rattle.std.proofs.Common.{not, ◌≡◌, ◌⊎◌, inl, inr, ℕ, zero, suc, ◌+◌, ◌≤◌, ◌<◌, Bool, true, false, ◌&&◌, cond, if◌then◌else◌, List, [], ◌∷◌, ◌++◌, map, take, drop, length, get_or, Option, Some, None, IsSome, slice_set, refl, sym, ◌∙◌, ap, subst, arith, append-nil, append_assoc}
-use Rattle.std.specs.List.{AllByRecursion, filter, flat_map, list_all, list_any}
+use Rattle.std.proofs.Common.{not, ◌≡◌, ℕ, zero, suc, ◌+◌, ◌≤◌, ◌<◌, Bool, true, false, ◌&&◌, cond, if◌then◌else◌, List, [], ◌∷◌, ◌++◌, map, take, drop, length, get_or, Option, Some, None, IsSome, refl, sym, ◌∙◌, ap, subst, arith, append-nil, append_assoc}
+use Rattle.std.specs.List.{AllByRecursion, filter, flat_map, list_all}
 use Rattle.std.proofs.lemmas.Grind.{flat_map-append}
 use Rattle.std.proofs.lemmas.List.{get_or-take, length-set, take_more, take_all, map-append}
 use Rattle.std.proofs.lemmas.List.Sorted.{IsPermutation-append, IsPermutation-map, list_any-IsPermutation}
 use Rattle.qs_terms.specs.Bag.{SameBag}
 use Rattle.qs_terms.specs.Statement.{Statement}
-use Rattle.qs_terms.specs.Term.{same_term}
 use Rattle.qs_terms.specs.declared.term.Term.{Term}
 use Rattle.qs_terms.proofs.SameTerm.{same_term-Decides}
 use Rattle.qs_expr_values.specs.Values.{is_true}
@@ -26,7 +25,7 @@ use Rattle.qs_plan.specs.declared.plan_type.Plan.{Plan}
 use Rattle.qs_plan_meaning.specs.declared.stage.Stage.{Stage}
 use Rattle.qs_plan_meaning.specs.declared.stage.Stage.TheVariants as stage
 use Rattle.qs_plan.specs.Plans.{plan_list, SamePlan}
-use Rattle.qs_plan_meaning.specs.Stages.{Made, kept_if, only, aside, gives, through}
+use Rattle.qs_plan_meaning.specs.Stages.{Made, kept_if, only, aside, through}
 use Rattle.qs_plan.specs.inner.Certain.{Bound, Begun, Binds, Steady, SameFrom}
 use Rattle.qs_plan.specs.inner.Reads.{Agree, Settles}
 use Rattle.qs_plan.specs.inner.Sames.{SameStages}

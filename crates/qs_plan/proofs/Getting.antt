@@ -1,5 +1,5 @@
 -- Which stages bind a variable in each row that they make.
-use Rattle.std.proofs.Common.{◌≡◌, ◌⊎◌, inl, inr, ℕ, zero, suc, ◌+◌, ◌≤◌, ◌<◌, ◌==◌, Bool, true, false, ◌||◌, ◌&&◌, if◌then◌else◌, List, [], ◌∷◌, ◌++◌, map, take, drop, length, get_or, Option, Some, None, IsSome, slice_set, slice_index_or, refl, sym, ◌∙◌, ap, subst, arith}
+use Rattle.std.proofs.Common.{◌≡◌, inl, inr, ℕ, zero, suc, ◌+◌, ◌≤◌, ◌<◌, ◌==◌, Bool, true, false, ◌||◌, if◌then◌else◌, List, [], ◌∷◌, ◌++◌, map, take, drop, length, get_or, Option, Some, None, IsSome, slice_set, refl, sym, ◌∙◌, ap, subst, arith}
 use Rattle.std.specs.List.{AllByRecursion, filter, flat_map, list_any}
 use Rattle.std.proofs.lemmas.Bool.Decides.{eqb_tells}
 use Rattle.std.proofs.lemmas.List.{get_or-set_other, get_or-set_same, get_or-take, length-set, take_more, take_all, take-append-drop}
@@ -23,11 +23,11 @@ use Rattle.qs_plan_meaning.specs.declared.stage.Look.{Look}
 use Rattle.qs_plan_meaning.specs.declared.stage.Stage.{Stage}
 use Rattle.qs_plan_meaning.specs.declared.stage.Stage.TheVariants as stage
 use Rattle.qs_plan_meaning.specs.Scans.{bound_at, bound_slot, bound_end, bound_triple, bound_ends, path_pairs}
-use Rattle.qs_plan_meaning.specs.Stages.{looked, only, aside, gives, through}
+use Rattle.qs_plan_meaning.specs.Stages.{looked, only, aside, through}
 use Rattle.qs_plan.specs.inner.Certain.{Bound, Begun, Gets, Binds, Holds, Ends, Filled}
 use Rattle.qs_plan.proofs.Commutes.{scanned_each}
 use Rattle.qs_plan.proofs.Levels.{gives_triple, gives_path, gives_names, gives_name, gives_values, gives_union, gives_apart, through_append, through_one}
-use Rattle.qs_plan.proofs.Onward.{Onward, no_term, set_bound, triple_way, path_way, slot_onward, end_onward, stages_onward, stage_onward}
+use Rattle.qs_plan.proofs.Onward.{Onward, no_term, set_bound, triple_way, path_way, slot_onward, end_onward, stages_onward}
 use Rattle.qs_plan.proofs.Widths.{all_append, all_filter, all_mapped, all_flat, length_unbound, merge_at}
 
 pub same_number : (w v : ℕ) → (w == v) ≡ true → w ≡ v

@@ -1,9 +1,9 @@
 -- Which stages leave a variable as it is, and how a filter goes before such a stage.
-use Rattle.std.proofs.Common.{◌≡◌, ◌≢◌, ◌⊎◌, inl, inr, ℕ, zero, suc, ◌+◌, ◌≤◌, ◌<◌, ◌==◌, Bool, true, false, not, ◌||◌, if◌then◌else◌, List, [], ◌∷◌, ◌++◌, map, take, drop, length, get_or, reverse, Option, Some, None, slice_set, refl, sym, ◌∙◌, ap, subst, arith, append-nil, append_assoc}
+use Rattle.std.proofs.Common.{◌≡◌, ◌≢◌, ◌⊎◌, inl, inr, ℕ, zero, suc, ◌+◌, ◌≤◌, ◌<◌, ◌==◌, Bool, true, false, not, ◌||◌, if◌then◌else◌, List, [], ◌∷◌, ◌++◌, map, take, drop, length, get_or, Option, Some, None, slice_set, refl, sym, ◌∙◌, ap, subst, arith}
 use Rattle.std.specs.List.{AllByRecursion, filter, flat_map, list_any}
 use Rattle.std.proofs.lemmas.Bool.{cases_lt}
 use Rattle.std.proofs.lemmas.Bool.Decides.{eqb_tells}
-use Rattle.std.proofs.lemmas.List.{get_or-set_other, take-append-drop, get_or-take, take_more, reverse-append}
+use Rattle.std.proofs.lemmas.List.{get_or-set_other, take-append-drop, get_or-take, take_more}
 use Rattle.qs_terms.specs.Dataset.{names_of}
 use Rattle.qs_terms.specs.Statement.{Statement}
 use Rattle.qs_terms.specs.Term.{same_term}
@@ -22,13 +22,13 @@ use Rattle.qs_plan_meaning.specs.declared.stage.Look.{Look}
 use Rattle.qs_plan_meaning.specs.declared.stage.Stage.{Stage}
 use Rattle.qs_plan_meaning.specs.declared.stage.Stage.TheVariants as stage
 use Rattle.qs_plan_meaning.specs.Scans.{bound_triple, bound_ends, path_pairs}
-use Rattle.qs_plan_meaning.specs.Stages.{Made, looked, kept_if, only, aside, gives, through}
-use Rattle.qs_plan.specs.inner.Reads.{Agree, Settles, Leaves, LeaveAll}
-use Rattle.qs_plan.specs.inner.Sames.{SameStages, Misses}
+use Rattle.qs_plan_meaning.specs.Stages.{Made, looked, kept_if, only, aside, through}
+use Rattle.qs_plan.specs.inner.Reads.{Agree, Leaves, LeaveAll}
+use Rattle.qs_plan.specs.inner.Sames.{Misses}
 use Rattle.qs_plan.proofs.Commutes.{all_map, scanned_each}
 use Rattle.qs_plan.proofs.Laying.{same}
 use Rattle.qs_plan.proofs.Levels.{gives_triple, gives_path, gives_exists, gives_names, gives_name, gives_filter, gives_bind, gives_values, gives_union, gives_optional, gives_minus, gives_apart, through_append, through_one}
-use Rattle.qs_plan.proofs.Swaps.{triple_stays, ends_stay, same_refl, same_trans, same_append}
+use Rattle.qs_plan.proofs.Swaps.{triple_stays, ends_stay}
 use Rattle.qs_plan.proofs.Widths.{all_append, all_filter, all_mapped, unbound_at, merge_at}
 
 first_none : (x : Option Term) → first_bound x None ≡ x

@@ -1,8 +1,7 @@
 -- Stages neither shorten a row nor unbind a variable: by induction on the stage.
-use Rattle.std.proofs.Common.{◌≡◌, ◌⊎◌, inl, inr, ℕ, zero, suc, ◌+◌, ◌≤◌, ◌<◌, ◌==◌, Bool, true, false, not, cond, if◌then◌else◌, List, [], ◌∷◌, ◌++◌, map, take, drop, length, Option, Some, None, IsSome, slice_set, refl, sym, ◌∙◌, ap, subst, arith}
+use Rattle.std.proofs.Common.{◌≡◌, inl, inr, ℕ, zero, suc, ◌+◌, ◌≤◌, Bool, true, false, not, if◌then◌else◌, List, [], ◌∷◌, ◌++◌, map, take, drop, length, Option, Some, None, IsSome, slice_set, refl, sym, ◌∙◌, subst, arith}
 use Rattle.std.specs.List.{AllByRecursion, filter, flat_map, list_any}
-use Rattle.std.proofs.lemmas.Bool.Decides.{eqb_tells}
-use Rattle.std.proofs.lemmas.List.{get_or-set_other, length-set, length-append, take-append-drop}
+use Rattle.std.proofs.lemmas.List.{length-set, take-append-drop}
 use Rattle.qs_terms.specs.Dataset.{Triple, names_of}
 use Rattle.qs_terms.specs.Statement.{Statement}
 use Rattle.qs_terms.specs.Term.{same_term}
@@ -21,11 +20,11 @@ use Rattle.qs_algebra_patterns.specs.declared.pattern.TriplePattern.{TriplePatte
 use Rattle.qs_plan_meaning.specs.declared.stage.Group.{Group, map-Group, roll-Group}
 use Rattle.qs_plan_meaning.specs.declared.stage.Stage.{Stage, map-Stage, roll-Stage, ind-Stage}
 use Rattle.qs_plan_meaning.specs.declared.stage.Stage.TheOpen as level
-use Rattle.qs_plan_meaning.specs.declared.stage.Stage.TheVariants.{Triple as TripleStage, rolls-Triple, rolls-Path, rolls-Exists, rolls-Names, rolls-Name, rolls-Filter, rolls-Bind, rolls-Values, rolls-Union, rolls-Optional, rolls-Minus, rolls-Apart}
+use Rattle.qs_plan_meaning.specs.declared.stage.Stage.TheVariants.{rolls-Triple, rolls-Path, rolls-Exists, rolls-Names, rolls-Name, rolls-Filter, rolls-Bind, rolls-Values, rolls-Union, rolls-Optional, rolls-Minus, rolls-Apart}
 use Rattle.qs_plan_meaning.specs.Scans.{bound_slot, bound_end, then_bound, bound_triple, bound_ends, path_pairs}
-use Rattle.qs_plan_meaning.specs.Stages.{Made, looked, kept_if, aside, gives, through}
+use Rattle.qs_plan_meaning.specs.Stages.{looked, kept_if, aside, gives, through}
 use Rattle.qs_plan.specs.inner.Certain.{Bound, Alike}
-use Rattle.qs_plan.proofs.Commutes.{SetBy, slot_sets, slot_width, end_sets, end_width, scanned_each}
+use Rattle.qs_plan.proofs.Commutes.{SetBy, slot_sets, end_sets, scanned_each}
 use Rattle.qs_plan.proofs.Levels.{gives_triple, gives_path, gives_exists, gives_names, gives_name, gives_filter, gives_bind, gives_values, gives_union, gives_optional, gives_minus, gives_apart}
 use Rattle.qs_plan.proofs.Widths.{all_of, all_append, all_filter, all_mapped, all_flat, merge_at}
 

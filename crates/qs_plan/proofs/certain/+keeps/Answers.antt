@@ -1,4 +1,4 @@
-use Rattle.qs_plan.proofs.Keeping.{triple_keeps, path_keeps, exists_keeps, names_keep, name_keeps, filter_keeps, bind_keeps, values_keep, union_keeps, optional_keeps, minus_keeps, apart_keeps, all_more}
+use Rattle.qs_plan.proofs.Keeping.{triple_keeps, path_keeps, names_keep, name_keeps, filter_keeps, bind_keeps, values_keep, union_keeps, optional_keeps, apart_keeps}
 use Rattle.qs_plan.proofs.certain.+keeps.Goals as goal
 
 pub keeps-returns-in-Triple : goal.keeps-returns-in-Triple

@@ -1,4 +1,4 @@
-use Rattle.std.proofs.Common.{[], ◌∷◌, ◌+◌, ◌-◌, arith}
+use Rattle.std.proofs.Common.{[], ◌+◌, ◌-◌, arith}
 use Rattle.qs_plan_meaning.specs.declared.stage.Stage.TheVariants as stage
 use Rattle.qs_plan.proofs.Entering.{apart_entered, branch_filtered, branches_begun, entered, filter_in, union_entered}
 use Rattle.qs_plan.proofs.Moving.{filter_moved}
