@@ -6,10 +6,9 @@ ghost use Rattle.qs_syntax_scope.specs.Firsts as first;
 ghost use Rattle.qs_algebra.specs.Translation as spec;
 
 use crate::basic::basic_pattern;
-use qs_algebra_patterns::Pattern;
 use crate::query::named;
 use crate::translation::{in_graph, unfiltered};
-use qs_algebra_patterns::{PatternNode, Step};
+use qs_algebra_patterns::{Pattern, PatternNode, Step};
 use qs_syntax_ast::term::{VarOrIri, Variable};
 use qs_syntax_ast::update::QuadBlock;
 use qs_syntax_scope::{NameList, numbered};

@@ -8,8 +8,7 @@ ghost use Rattle.qs_algebra.specs.Certain.{certain_in, is_certain, is_certain_st
 use crate::bound_columns::certain_of_table;
 use crate::flags::{alike, both, either, flag};
 use crate::mentioned::mentioned;
-use qs_algebra_patterns::Pattern;
-use qs_algebra_patterns::{PatternNode, Step};
+use qs_algebra_patterns::{Pattern, PatternNode, Step};
 use std::alloc::{AllocError, Global};
 
 /// Which variables each solution of the pattern binds, by their numbers, as far as the pattern alone tells it (SPARQL 1.1 Query, 18.5).

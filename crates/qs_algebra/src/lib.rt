@@ -24,6 +24,6 @@ pub use certain_variables::certain;
 pub use expression::expr_of;
 pub use pattern::drop_pattern;
 pub use possible_variables::possible;
-pub use query::{translate, translate_where, translate_where_with};
 pub use qs_algebra_patterns::Pattern;
+pub use query::{translate, translate_where, translate_where_with};
 pub use translation::group_pattern;

@@ -8,8 +8,7 @@ ghost use Rattle.qs_algebra.specs.Possible.{is_possible, is_possible_step, possi
 use crate::bound_columns::columns;
 use crate::flags::{alike, either, flag};
 use crate::mentioned::mentioned;
-use qs_algebra_patterns::Pattern;
-use qs_algebra_patterns::{PatternNode, Step};
+use qs_algebra_patterns::{Pattern, PatternNode, Step};
 use std::alloc::{AllocError, Global};
 
 /// Which variables some solution of the pattern may bind, by their numbers: those that are in scope of it (SPARQL 1.1 Query, 18.2.1).

@@ -9,10 +9,9 @@ ghost use Rattle.qs_algebra.specs.Translation as spec;
 
 use crate::basic::basic_pattern;
 use crate::expression::expr_of;
-use qs_algebra_patterns::Pattern;
 use crate::table::table_of;
 use crate::translation::{group_pattern, unfiltered};
-use qs_algebra_patterns::{PatternNode, Step};
+use qs_algebra_patterns::{Pattern, PatternNode, Step};
 use qs_base::keep_beside;
 use qs_syntax_ast::pattern::{Group, InlineData};
 use qs_syntax_ast::query::{Construct, Projection, Query, QueryForm, SelectItem};
