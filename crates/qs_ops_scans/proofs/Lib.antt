@@ -1,0 +1,10 @@
+pub mod May
+pub mod Steps
+pub mod Acts
+pub mod Scanned
+pub mod Looks
+pub mod Firsts
+pub mod Named
+pub mod Pairs
+pub mod Collected
+pub mod Spans

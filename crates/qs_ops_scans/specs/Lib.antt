@@ -1,0 +1,4 @@
+pub mod Makes
+pub mod Prepared
+pub mod Paths
+pub mod inner

@@ -1,0 +1,13 @@
+//! What holds of the content of each view.
+
+ghost use Rattle.qs_store.specs.ActiveGraph.{IsSeen};
+
+use qs_store::View;
+
+/// The quads of the view stand once each, and their terms are known.
+pub fn content_is_lawful<V: View>(view: &V)
+    ensures { IsSeen (V.content view.now) }
+{
+    let _count = view.count();
+    let _terms = view.terms();
+}

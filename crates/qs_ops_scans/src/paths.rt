@@ -1,0 +1,112 @@
+//! The rows that the pairs of a path make of a row.
+
+ghost use Rattle.std.specs.Prelude.{◌≡◌, List, take};
+ghost use Rattle.qs_terms.specs.declared.term.Term.{Term};
+ghost use Rattle.qs_algebra_patterns.specs.Basic.{Graph};
+ghost use Rattle.qs_expr.specs.Cell.{FitsRow};
+ghost use Rattle.qs_expr.specs.Scratch.{IsTable};
+ghost use Rattle.qs_plan_meaning.specs.Scans.{path_extensions, path_pairs};
+ghost use Rattle.qs_ops_scans.specs.Makes.{AreMade, GivesFirst};
+ghost use Rattle.qs_ops_scans.specs.Paths.{ArePairs};
+ghost use Rattle.qs_ops_scans.specs.inner.Ends.{IsNextPair};
+
+use crate::ends::{Ends, bind_pair, ends_of, pair_agrees};
+use crate::kept::{PathPairs, span_for};
+use qs_algebra_patterns::PathPattern;
+use qs_base::Shared;
+use qs_expr::{Cell, Row};
+use sqlite_items::at;
+use std::alloc::{AllocError, Global};
+use std::marker::Model;
+
+/// The rows that the pairs of a path make of a row and that are still to come; contracts see their list.
+#[derive(Drop)]
+pub struct PathRows {
+    pairs: Shared<PathPairs>,
+    at: usize,
+    to: usize,
+    ends: Ends,
+    row: Row,
+}
+
+impl Model for PathRows {
+    ghost use Rattle.std.specs.Prelude.{List, Option, drop, take};
+    ghost use Rattle.std.specs.List.{filter_map};
+    ghost use Rattle.qs_expr.specs.declared.cell.Cell.{Cell};
+    ghost use Rattle.qs_ops_scans.specs.inner.Ends.{pair_made};
+
+    ghost Value = { List (List (Option Cell)) };
+
+    ghost view = { λ p. filter_map (pair_made p.ends p.row) (drop p.at (take p.to p.pairs)) };
+}
+
+/// The next pair from a place on, up to another, that agrees with the row, and the place after it.
+#[tactic(auto, using(crate::proofs::Pairs::next_in, crate::proofs::Pairs::passed_in, crate::proofs::Pairs::none_in, crate::proofs::Pairs::past_in))]
+fn next_pair(
+    cells: &[(Cell, Cell)],
+    from: usize,
+    to: usize,
+    ends: &Ends,
+    row: &Row,
+) -> Option<(usize, (Cell, Cell))>
+    ensures { IsNextPair ends.now row.now (take to cells.now) from result }
+{
+    for place in from..to {
+        let Some(pair) = at(cells, place) else {
+            return None;
+        };
+        if pair_agrees(row, ends, pair) {
+            return Some((place + 1, *pair));
+        }
+    }
+    None
+}
+
+impl PathRows {
+    /// The next row, or none where none is left.
+    ///
+    /// # Errors
+    /// Out of memory.
+    pub fn next(&mut self, alloc: Global, spare: &mut Vec<Row>) -> Result<Option<Row>, AllocError>
+        ensures { GivesFirst self.old result self.new }
+    {
+        let pairs = self.pairs.get();
+        let cells = pairs.cells.as_slice();
+        let Some((after, pair)) = next_pair(cells, self.at, self.to, &self.ends, &self.row) else {
+            return Ok(None);
+        };
+        let mut row = self.row.copy(alloc, spare)?;
+        bind_pair(&mut row, &self.ends, &pair);
+        self.at = after;
+        Ok(Some(row))
+    }
+
+    /// The row of which the others were made, for its memory.
+    pub fn into_row(self) -> Row {
+        let PathRows {
+            pairs: _,
+            at: _,
+            to: _,
+            ends: _,
+            row,
+        } = self;
+        row
+    }
+}
+
+/// The rows that the pairs of the path pattern make of the row (SPARQL 1.1 Query, 18.4).
+pub fn path_rows(pairs: Shared<PathPairs>, pattern: &PathPattern, row: Row) -> PathRows
+    ensures { (known table : List Term) (graph : Graph) → IsTable known table → FitsRow known table row
+        → ArePairs known table pairs (path_pairs pattern.now graph)
+        → AreMade known table (path_extensions pattern.now graph) row result }
+{
+    let ends = ends_of(pattern);
+    let span = span_for(pairs.get(), &ends, &row);
+    PathRows {
+        pairs,
+        at: span.from,
+        to: span.to,
+        ends,
+        row,
+    }
+}

@@ -1,0 +1,133 @@
+//! The rows that a triple pattern makes of a row.
+
+ghost use Rattle.std.specs.Prelude.{◌≡◌, List};
+ghost use Rattle.std.specs.Iterator.{YieldsFirst};
+ghost use Rattle.std.specs.List.{filter};
+ghost use Rattle.qs_store.specs.ActiveGraph.{active_graph};
+ghost use Rattle.qs_algebra_patterns.specs.declared.pattern.TriplePattern.{TriplePattern};
+ghost use Rattle.qs_plan_meaning.specs.declared.stage.Look.{Look};
+ghost use Rattle.qs_plan_meaning.specs.Scans.{extensions};
+ghost use Rattle.qs_plan_meaning.specs.Stages.{looked};
+ghost use Rattle.qs_ops_scans.specs.Makes.{GivesFirst, Makes};
+ghost use Rattle.qs_ops_scans.specs.Prepared.{prepared_look, prepared_triple};
+ghost use Rattle.qs_ops_scans.specs.inner.Opened.{IsScanned, passes};
+
+use crate::bind::bind_triple;
+use crate::lawful::content_is_lawful;
+use crate::look::{PreparedLook, graph_of_look};
+use crate::opened::{Acts, acts_of, givens, passes};
+use crate::pattern::PreparedTriple;
+use qs_expr::Row;
+use qs_store::{Active, Triples, View};
+use std::alloc::{AllocError, Global};
+use std::marker::Model;
+
+/// The rows that a triple pattern makes of a row and that are still to come; contracts see their list.
+#[derive(Drop)]
+pub struct TripleRows<'a> {
+    scan: Triples<'a>,
+    acts: Acts,
+    row: Row,
+}
+
+impl<'a> Model for TripleRows<'a> {
+    ghost use Rattle.std.specs.Prelude.{List, Option};
+    ghost use Rattle.std.specs.List.{filter_map};
+    ghost use Rattle.qs_expr.specs.declared.cell.Cell.{Cell};
+    ghost use Rattle.qs_ops_scans.specs.inner.Opened.{row_made};
+
+    ghost Value = { List (List (Option Cell)) };
+
+    ghost view = { λ t. filter_map (row_made t.acts t.row) t.scan };
+}
+
+/// The next triple of the scan that passes.
+#[inline(always)]
+fn next_triple(scan: &mut Triples<'_>, acts: &Acts) -> Option<[u32; 3]>
+    ensures { YieldsFirst (filter (passes acts.now)) scan.old result scan.new }
+{
+    'triples: while let Some(triple) = scan.next() {
+        if passes(acts, &triple) {
+            return Some(triple);
+        }
+    }
+    None
+}
+
+impl<'a> TripleRows<'a> {
+    /// The next row, or none where none is left.
+    ///
+    /// # Errors
+    /// Out of memory.
+    #[tactic(auto, using(crate::proofs::Firsts::none_made, crate::proofs::Firsts::first_made))]
+    pub fn next(&mut self, alloc: Global, spare: &mut Vec<Row>) -> Result<Option<Row>, AllocError>
+        ensures { GivesFirst self.old result self.new }
+    {
+        let Some(triple) = next_triple(&mut self.scan, &self.acts) else {
+            return Ok(None);
+        };
+        let mut row = self.row.copy(alloc, spare)?;
+        bind_triple(&mut row, &self.acts, &triple);
+        Ok(Some(row))
+    }
+
+    /// The row of which the others were made, for its memory.
+    pub fn into_row(self) -> Row {
+        let TripleRows {
+            scan: _,
+            acts: _,
+            row,
+        } = self;
+        row
+    }
+}
+
+/// The triples of the graph that agree with the pattern and the row, as far as their numbers tell.
+fn scan_of<'a, V: View>(
+    view: &'a V,
+    graph: Active,
+    pattern: &PreparedTriple,
+    row: &Row,
+) -> Triples<'a>
+    ensures { IsScanned (V.content view.now) (V.default_seen view.now) graph pattern.now row.now result }
+{
+    match givens(pattern, row) {
+        Some(given) => view.scan(graph, given.subject, given.predicate, given.object),
+        None => view.scan(Active::Empty, None, None, None),
+    }
+}
+
+/// The rows that the pattern makes of the row over the triples of the graph (SPARQL 1.1 Query, 18.3.1).
+pub fn triple_rows<'a, V: View>(
+    view: &'a V,
+    graph: Active,
+    pattern: &PreparedTriple,
+    row: Row,
+) -> TripleRows<'a>
+    ensures { (p : TriplePattern) → pattern.now ≡ prepared_triple (V.content view.now).known p
+        → Makes (V.content view.now).known (extensions p (active_graph (V.content view.now) (V.default_seen view.now) graph)) row result }
+{
+    content_is_lawful(view);
+    let scan = scan_of(view, graph, pattern, &row);
+    TripleRows {
+        scan,
+        acts: acts_of(pattern, &row),
+        row,
+    }
+}
+
+/// The rows that the stage of a triple pattern makes of the row, where `active` is the graph that is active (SPARQL 1.1 Query, 18.5).
+pub fn open_triple<'a, V: View>(
+    view: &'a V,
+    active: Active,
+    look: PreparedLook,
+    pattern: &PreparedTriple,
+    row: Row,
+) -> TripleRows<'a>
+    ensures { (place : Look) (p : TriplePattern) → look ≡ prepared_look (V.content view.now).known place
+        → pattern.now ≡ prepared_triple (V.content view.now).known p
+        → Makes (V.content view.now).known (λ m. extensions p (looked (V.content view.now).quads (active_graph (V.content view.now) (V.default_seen view.now) active) place m) m) row result }
+{
+    let graph = graph_of_look(view, look, &row, active);
+    triple_rows(view, graph, pattern, row)
+}
