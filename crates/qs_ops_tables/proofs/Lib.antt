@@ -1,0 +1,6 @@
+-- The lemmas.
+pub mod Hashes
+pub mod Keyed
+pub mod Excluding
+pub mod Solutions
+pub mod TableRows
