@@ -1,0 +1,19 @@
+//! Rows that were dropped, for their memory.
+
+use qs_expr::Row;
+
+/// How many rows are kept.
+const LIMIT: usize = 64;
+
+/// Keeps the memory of the row for a copy.
+pub(crate) fn keep(spare: &mut Vec<Row>, row: Row) {
+    if spare.len() < LIMIT {
+        let _ = spare.push(row);
+    }
+}
+
+pub(crate) fn keep_if(spare: &mut Vec<Row>, row: Option<Row>) {
+    if let Some(row) = row {
+        keep(spare, row);
+    }
+}

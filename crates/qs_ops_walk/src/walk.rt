@@ -1,0 +1,433 @@
+//! The walk through a program: one loop over a stack of levels.
+
+ghost use Rattle.std.specs.Prelude.{◌≡◌, ◌≤◌, ◌<◌, ◌-◌, true, List, IfOk, OnOk, map, suc, take, get_or, length, vec_len};
+ghost use Rattle.qs_terms.specs.Bag.{SameBag};
+ghost use Rattle.qs_terms.specs.declared.term.Term.{Term as TermValue};
+ghost use Rattle.qs_expr.specs.Cell.{row_solution, FitsRow};
+ghost use Rattle.qs_expr.specs.Scratch.{IsTable, Grows};
+ghost use Rattle.qs_ops_program.specs.inner.Heights.{stages_height};
+ghost use Rattle.qs_ops_tables.specs.Tables.{FitRows, row_solutions};
+ghost use Rattle.qs_ops_walk.specs.inner.Setting.{known_of, through_in};
+ghost use Rattle.qs_ops_walk.specs.inner.Works.{ArePairsFor, AreValues, IfPairs, IfValues, IsReady, IsRight, Serves, code_of, heights_of, only_cells};
+ghost use Rattle.qs_ops_walk.specs.inner.Coming.{coming};
+ghost use Rattle.qs_ops_walk.specs.inner.Cursor.{GivesNamed};
+ghost use Rattle.qs_ops_walk.specs.inner.Moves.{GivesRow, IsOpened, IsStep, IsWalk, Opens, opens, IsAttempt, OpensAt, OpensName, given_unless};
+
+use crate::reader::Reader;
+use crate::settle::settle;
+use crate::source::{Attempt, Fork, Item, Level, Source, drop_source, next_of};
+use crate::spare::keep;
+use crate::work::{
+    Aside, Conditions, KeptPairs, Place, Right, TableRows, Trail, Work, name_at, places_of,
+};
+use qs_base::Shared;
+use qs_expr::{Cell, Row, Scratch};
+use qs_ops_program::compile;
+use qs_ops_scans::{PathPairs, path_rows};
+use qs_ops_tables::{Kept, Probe, table_rows};
+use qs_plan_meaning::Stage;
+use qs_store::View;
+use std::alloc::{AllocError, Global};
+
+/// The places and levels of a walk, and rows that were dropped, for their memory.
+#[derive(Drop)]
+pub(crate) struct Walk<'a> {
+    pub(crate) places: Vec<Place<'a>>,
+    pub(crate) levels: Vec<Level<'a>>,
+    pub(crate) spare: Vec<Row>,
+}
+
+/// What one move of a walk did.
+#[derive(Drop)]
+pub(crate) enum Step {
+    Done,
+    Moved,
+    Gave(Row),
+}
+
+/// The walk of a row through these stages.
+pub(crate) fn start<'a, V: View>(
+    reader: &Reader<'a, V>,
+    stages: &'a [Stage],
+    row: Row,
+) -> Result<Walk<'a>, AllocError>
+    ensures walk { IfOk result (λ w. (table : List TermValue) → FitsRow (known_of reader.now) table row → IsWalk reader.now table w.places.items w.levels.items) }
+    ensures rows { IfOk result (λ w. (table : List TermValue) → coming reader.now (code_of w.places.items) table w.levels.items ≡ through_in reader.now stages.now (row_solution (known_of reader.now) table row)) }
+    ensures low { IfOk result (λ w. heights_of w.places.items ≤ stages_height stages.now) }
+{
+    let program = compile(reader.alloc, stages)?;
+    let next = program.start;
+    let places = places_of(reader, program.code)?;
+    let mut levels = Vec::new(reader.alloc);
+    levels.push(Level {
+        next,
+        source: Source::Given(Some(row)),
+    })?;
+    Ok(Walk {
+        places,
+        levels,
+        spare: Vec::new(reader.alloc),
+    })
+}
+
+/// So many cells, of which none is bound but the register.
+fn only(
+    alloc: Global,
+    register: Option<usize>,
+    name: Option<Cell>,
+    cells: usize,
+) -> Result<Row, AllocError>
+    ensures { IfOk result (λ r. r ≡ only_cells register cells name) }
+{
+    let mut row = Row::unbound(alloc, cells)?;
+    if let Some(register) = register {
+        row.set(register, name);
+    }
+    Ok(row)
+}
+
+/// The solutions of a group for this row, evaluated by itself; the named variables are left of each.
+#[cycle(next)]
+fn rows_of_group<'a, V: View>(
+    reader: &Reader<'a, V>,
+    scratch: &mut Scratch,
+    stages: &'a [Stage],
+    row: Row,
+) -> Result<Vec<Row>, AllocError>
+    requires table { IsTable (known_of reader.now) scratch.old }
+    requires row { FitsRow (known_of reader.now) scratch.old row }
+    ensures grows { Grows (known_of reader.now) scratch.old scratch.new }
+    ensures rows { IfOk result (λ rows. SameBag (row_solutions (known_of reader.now) scratch.new rows.items) (map (take reader.now.width) (through_in reader.now stages.now (row_solution (known_of reader.now) scratch.old row)))) }
+    ensures fit { IfOk result (λ rows. FitRows (known_of reader.now) scratch.new rows.items) }
+{
+    let mut walk = start(reader, stages, row)?;
+    let mut rows = Vec::new(reader.alloc);
+    loop {
+        let Some(row) = next_named(reader, scratch, &mut walk)? else {
+            return Ok(rows);
+        };
+        rows.push(row)?;
+    }
+}
+
+/// The rows of a right side for rows like this one. They are evaluated where none are kept, and kept.
+#[inline(never)]
+#[cycle(next)]
+fn rows_of_right<'a, V: View>(
+    reader: &Reader<'a, V>,
+    scratch: &mut Scratch,
+    right: &mut Right<'a>,
+    row: &Row,
+) -> Result<Shared<Kept>, AllocError>
+    requires table { IsTable (known_of reader.now) scratch.old }
+    requires row { FitsRow (known_of reader.now) scratch.old row.now }
+    requires right { IsRight reader.now scratch.old right.old }
+    ensures grows { Grows (known_of reader.now) scratch.old scratch.new }
+    ensures register { right.new.register ≡ right.old.register }
+    ensures group { right.new.group.now ≡ right.old.group.now }
+    ensures right { IfOk result (λ k. IsRight reader.now scratch.new right.new) }
+    ensures kept { IfOk result (λ k. Serves right.new row.now k) }
+{
+    if let Some(kept) = right.kept_for(row) {
+        let kept = kept.share()?;
+        return Ok(kept);
+    }
+    let name = name_at(right.register, row);
+    let alone = only(reader.alloc, right.register, name, row.width())?;
+    let rows = rows_of_group(reader, scratch, right.group.stages.as_slice(), alone)?;
+    let kept = Kept::new(reader.alloc, rows, row)?;
+    let kept = Shared::new(reader.alloc, kept)?;
+    let own = kept.share()?;
+    right.kept = Some(Aside {
+        cells: row.width(),
+        name,
+        kept,
+    });
+    Ok(own)
+}
+
+/// The rows of VALUES. They are made where none are kept, and kept.
+#[inline(never)]
+fn rows_of_values<V: View>(
+    reader: &Reader<'_, V>,
+    scratch: &mut Scratch,
+    values: &mut TableRows<'_>,
+    row: &Row,
+) -> Result<Shared<Kept>, AllocError>
+    requires table { IsTable (known_of reader.now) scratch.old }
+    requires kept { IfValues reader.now scratch.old values.old.table.now values.old.kept }
+    ensures grows { Grows (known_of reader.now) scratch.old scratch.new }
+    ensures table { values.new.table.now ≡ values.old.table.now }
+    ensures kept { IfOk result (λ k. values.new.kept ≡ Some k) }
+    ensures values { IfOk result (λ k. AreValues reader.now scratch.new values.old.table.now k) }
+{
+    if let Some(kept) = &values.kept {
+        let own = kept.share()?;
+        return Ok(own);
+    }
+    let rows = table_rows(
+        reader.alloc,
+        reader.view,
+        scratch,
+        values.table,
+        reader.width,
+    )?;
+    let made = Kept::new(reader.alloc, rows, row)?;
+    let made = Shared::new(reader.alloc, made)?;
+    let own = made.share()?;
+    values.kept = Some(made);
+    Ok(own)
+}
+
+/// The pairs of a path in the graph in which it looks for the row. They are made where none are kept, and kept.
+#[inline(never)]
+fn pairs_of_trail<V: View>(
+    reader: &Reader<'_, V>,
+    scratch: &mut Scratch,
+    trail: &mut Trail<'_>,
+    row: &Row,
+) -> Result<Shared<PathPairs>, AllocError>
+    requires table { IsTable (known_of reader.now) scratch.old }
+    requires kept { IfPairs reader.now scratch.old trail.old.pattern.now trail.old.kept }
+    ensures grows { Grows (known_of reader.now) scratch.old scratch.new }
+    ensures look { trail.new.look ≡ trail.old.look }
+    ensures pattern { trail.new.pattern.now ≡ trail.old.pattern.now }
+    ensures kept { IfOk result (λ k. IfPairs reader.now scratch.new trail.old.pattern.now trail.new.kept) }
+    ensures pairs { IfOk result (λ k. ArePairsFor reader.now scratch.new trail.old row.now k) }
+{
+    let graph = reader.graph_of_look(trail.look, row);
+    if let Some(kept) = &trail.kept {
+        if kept.graph == graph {
+            let own = kept.pairs.share()?;
+            return Ok(own);
+        }
+    }
+    let pairs = reader.path_pairs(graph, trail.pattern, row, scratch)?;
+    let pairs = Shared::new(reader.alloc, pairs)?;
+    let own = pairs.share()?;
+    trail.kept = Some(KeptPairs { graph, pairs });
+    Ok(own)
+}
+
+fn attempt<'a>(
+    alloc: Global,
+    kept: Shared<Kept>,
+    conditions: &Shared<Conditions<'a>>,
+    row: Row,
+    spare: &mut Vec<Row>,
+) -> Result<Source<'a>, AllocError>
+    ensures { IfOk result (λ s. IsAttempt kept conditions.now row s) }
+{
+    let conditions = conditions.share()?;
+    let alone = row.copy(alloc, spare)?;
+    Ok(Source::Optional(Attempt {
+        probe: Probe::new(kept, row),
+        conditions,
+        alone: Some(alone),
+    }))
+}
+
+fn given_unless<'a>(excluded: bool, row: Row, spare: &mut Vec<Row>) -> Source<'a>
+    ensures { result ≡ given_unless excluded row }
+{
+    if excluded {
+        keep(spare, row);
+        return Source::Given(None);
+    }
+    Source::Given(Some(row))
+}
+
+/// The row merged with the name of a graph, if they are compatible.
+#[inline(never)]
+fn open_name<'a>(
+    alloc: Global,
+    width: usize,
+    variable: usize,
+    register: usize,
+    row: Row,
+) -> Result<Source<'a>, AllocError>
+    ensures { IfOk result (λ s. OpensName width variable register row s) }
+{
+    let mut name = Row::unbound(alloc, width)?;
+    name.set(variable, row.cell(register));
+    if !row.is_compatible(&name) {
+        return Ok(Source::Given(None));
+    }
+    let merged = row.merged(alloc, &name)?;
+    Ok(Source::Given(Some(merged)))
+}
+
+/// What the stage of the place makes of the row, as a source.
+#[cycle(next)]
+fn open<'a, V: View>(
+    reader: &Reader<'a, V>,
+    scratch: &mut Scratch,
+    place: &mut Place<'a>,
+    row: Row,
+    spare: &mut Vec<Row>,
+) -> Result<Source<'a>, AllocError>
+    requires table { IsTable (known_of reader.now) scratch.old }
+    requires row { FitsRow (known_of reader.now) scratch.old row }
+    requires ready { IsReady reader.now scratch.old place.old }
+    requires opens { opens place.old.work ≡ true }
+    ensures grows { Grows (known_of reader.now) scratch.old scratch.new }
+    ensures instr { place.new.instr ≡ place.old.instr }
+    ensures ready { IfOk result (λ s. IsReady reader.now scratch.new place.new) }
+    ensures opens { IfOk result (λ s. Opens reader.now place.old.instr scratch.old row scratch.new s) }
+{
+    match &mut place.work {
+        Work::Triple(look, pattern) => Ok(Source::Triple(reader.open_triple(*look, pattern, row))),
+        Work::Path(trail) => {
+            let pairs = pairs_of_trail(reader, scratch, trail, &row)?;
+            Ok(Source::Path(path_rows(pairs, trail.pattern, row)))
+        }
+        Work::Names(naming) => {
+            let numbers = naming.numbers.share()?;
+            Ok(Source::Names(reader.name_rows(numbers, naming.register, row)))
+        }
+        Work::Name(variable, register) => {
+            let source = open_name(reader.alloc, reader.width, *variable, *register, row)?;
+            Ok(source)
+        }
+        Work::Values(values) => {
+            let kept = rows_of_values(reader, scratch, values, &row)?;
+            Ok(Source::Probe(Probe::new(kept, row)))
+        }
+        Work::Union(starts) => {
+            let starts = starts.share()?;
+            Ok(Source::Fork(Fork { row, starts, at: 0 }))
+        }
+        Work::Optional(choice) => {
+            let kept = rows_of_right(reader, scratch, &mut choice.right, &row)?;
+            let source = attempt(reader.alloc, kept, &choice.conditions, row, spare)?;
+            Ok(source)
+        }
+        Work::Minus(right) => {
+            let kept = rows_of_right(reader, scratch, right, &row)?;
+            let excluded = kept.get().is_excluded(&row, reader.width);
+            Ok(given_unless(excluded, row, spare))
+        }
+        Work::Apart(right) => {
+            let kept = rows_of_right(reader, scratch, right, &row)?;
+            Ok(Source::Probe(Probe::new(kept, row)))
+        }
+        _ => unreachable!(),
+    }
+}
+
+/// Puts a level for what the stage before the position makes of the row. A source is large, and stands in no function that each row goes
+/// through.
+#[inline(never)]
+#[cycle(next)]
+fn open_level<'a, V: View>(
+    reader: &Reader<'a, V>,
+    scratch: &mut Scratch,
+    walk: &mut Walk<'a>,
+    at: usize,
+    row: Row,
+) -> Result<(), AllocError>
+    requires at { at < vec_len walk.old.places }
+    requires table { IsTable (known_of reader.now) scratch.old }
+    requires row { FitsRow (known_of reader.now) scratch.old row }
+    requires walk { IsWalk reader.now scratch.old walk.old.places.items walk.old.levels.items }
+    requires opens { OpensAt walk.old.places.items (Some (suc at)) }
+    ensures grows { Grows (known_of reader.now) scratch.old scratch.new }
+    ensures code { code_of walk.new.places.items ≡ code_of walk.old.places.items }
+    ensures walk { IfOk result (λ _. IsWalk reader.now scratch.new walk.new.places.items walk.new.levels.items) }
+    ensures opened { IfOk result (λ _. IsOpened reader.now (code_of walk.old.places.items) (suc at) scratch.old row walk.old.levels.items scratch.new walk.new.levels.items) }
+{
+    let place = &mut walk.places[at];
+    let next = place.instr.next();
+    let source = open(reader, scratch, place, row, &mut walk.spare)?;
+    walk.levels.push(Level { next, source })?;
+    Ok(())
+}
+
+/// Takes the last level away, and keeps the memory of its rows.
+#[inline(never)]
+fn end_last<'a>(levels: &mut Vec<Level<'a>>, spare: &mut Vec<Row>)
+    ensures { levels.new.items ≡ take (vec_len levels.old - 1) levels.old.items }
+{
+    let Some(level) = levels.pop() else {
+        return;
+    };
+    drop_source(level.source, spare);
+}
+
+/// One move: the last level ends, or it gives a row, which is finished or opens the next level.
+#[cycle(next)]
+fn advance<'a, V: View>(
+    reader: &Reader<'a, V>,
+    scratch: &mut Scratch,
+    walk: &mut Walk<'a>,
+) -> Result<Step, AllocError>
+    requires table { IsTable (known_of reader.now) scratch.old }
+    requires walk { IsWalk reader.now scratch.old walk.old.places.items walk.old.levels.items }
+    ensures grows { Grows (known_of reader.now) scratch.old scratch.new }
+    ensures code { code_of walk.new.places.items ≡ code_of walk.old.places.items }
+    ensures walk { IfOk result (λ _. IsWalk reader.now scratch.new walk.new.places.items walk.new.levels.items) }
+    ensures step { IfOk result (λ step. IsStep reader.now (code_of walk.old.places.items) scratch.old walk.old.levels.items step scratch.new walk.new.levels.items) }
+{
+    let Some(level) = walk.levels.last_mut() else {
+        return Ok(Step::Done);
+    };
+    let Some(item) = next_of(reader, scratch, level, &mut walk.spare)? else {
+        end_last(&mut walk.levels, &mut walk.spare);
+        return Ok(Step::Moved);
+    };
+    let Item { next, mut row } = item;
+    let places = walk.places.as_slice();
+    let Some(at) = settle(reader, scratch, places, next, &mut row, &mut walk.spare)? else {
+        keep(&mut walk.spare, row);
+        return Ok(Step::Moved);
+    };
+    if at == 0 {
+        return Ok(Step::Gave(row));
+    }
+    open_level(reader, scratch, walk, at - 1, row)?;
+    Ok(Step::Moved)
+}
+
+/// The next finished row of the walk, or none where none is left.
+#[cycle(next)]
+fn next_of_walk<'a, V: View>(
+    reader: &Reader<'a, V>,
+    scratch: &mut Scratch,
+    walk: &mut Walk<'a>,
+) -> Result<Option<Row>, AllocError>
+    requires table { IsTable (known_of reader.now) scratch.old }
+    requires walk { IsWalk reader.now scratch.old walk.old.places.items walk.old.levels.items }
+    ensures grows { Grows (known_of reader.now) scratch.old scratch.new }
+    ensures code { code_of walk.new.places.items ≡ code_of walk.old.places.items }
+    ensures walk { IfOk result (λ _. IsWalk reader.now scratch.new walk.new.places.items walk.new.levels.items) }
+    ensures gives { IfOk result (λ o. GivesRow reader.now (code_of walk.old.places.items) scratch.old walk.old.levels.items o scratch.new walk.new.levels.items) }
+{
+    loop {
+        match advance(reader, scratch, walk)? {
+            Step::Done => return Ok(None),
+            Step::Gave(row) => return Ok(Some(row)),
+            Step::Moved => {}
+        }
+    }
+}
+
+/// The next finished row of the walk, with its named variables alone.
+#[cycle(next)]
+pub(crate) fn next_named<'a, V: View>(
+    reader: &Reader<'a, V>,
+    scratch: &mut Scratch,
+    walk: &mut Walk<'a>,
+) -> Result<Option<Row>, AllocError>
+    requires table { IsTable (known_of reader.now) scratch.old }
+    requires walk { IsWalk reader.now scratch.old walk.old.places.items walk.old.levels.items }
+    ensures grows { Grows (known_of reader.now) scratch.old scratch.new }
+    ensures code { code_of walk.new.places.items ≡ code_of walk.old.places.items }
+    ensures walk { IfOk result (λ _. IsWalk reader.now scratch.new walk.new.places.items walk.new.levels.items) }
+    ensures gives { IfOk result (λ o. GivesNamed reader.now (code_of walk.old.places.items) scratch.old walk.old.levels.items o scratch.new walk.new.levels.items) }
+{
+    let Some(mut row) = next_of_walk(reader, scratch, walk)? else {
+        return Ok(None);
+    };
+    row.truncate(reader.width);
+    Ok(Some(row))
+}

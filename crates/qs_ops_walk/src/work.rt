@@ -1,0 +1,241 @@
+//! Places: the instructions of a program, each with what is prepared and kept for it.
+
+ghost use Rattle.std.specs.Prelude.{◌≡◌, ◌↔◌, IsTrue, IfOk, IfSome, List, map, None};
+ghost use Rattle.qs_terms.specs.declared.term.Term.{Term as TermValue};
+ghost use Rattle.std.specs.List.{AllByRecursion};
+ghost use Rattle.qs_expr.specs.Condition.{IsPreparedFor};
+ghost use Rattle.qs_ops_walk.specs.inner.Setting.{known_of};
+ghost use Rattle.qs_ops_walk.specs.inner.Works.{AreReady, IsWork, Serves, code_of, expr_of, name_at};
+
+use crate::reader::Reader;
+use qs_algebra_patterns::{PathPattern, Table};
+use qs_base::Shared;
+use qs_expr::{Cell, Condition, Row, is_same};
+use qs_expr_meaning::Expr;
+use qs_ops_program::Instr;
+use qs_ops_scans::{
+    PathPairs, PreparedLook, PreparedTriple, graph_numbers, is_named_graph, prepare_look,
+    prepare_triple,
+};
+use qs_ops_tables::Kept;
+use qs_plan_meaning::{Group, Stage};
+use qs_store::{Active, View};
+use std::alloc::{AllocError, Global};
+
+/// The rows of a right side that was evaluated by itself: for rows of so many cells, whose register has this cell.
+#[derive(Drop)]
+pub(crate) struct Aside {
+    pub(crate) cells: usize,
+    pub(crate) name: Option<Cell>,
+    pub(crate) kept: Shared<Kept>,
+}
+
+/// A right side that is evaluated by itself.
+#[derive(Drop)]
+pub(crate) struct Right<'a> {
+    pub(crate) register: Option<usize>,
+    pub(crate) group: &'a Group,
+    pub(crate) kept: Option<Aside>,
+}
+
+/// The conditions of an OPTIONAL.
+#[derive(Drop)]
+pub(crate) struct Conditions<'a> {
+    pub(crate) list: Vec<Condition<'a>>,
+}
+
+/// The positions where the branches of a union begin.
+#[derive(Drop)]
+pub(crate) struct Starts {
+    pub(crate) list: Vec<usize>,
+}
+
+/// What is prepared and kept of an OPTIONAL.
+#[derive(Drop)]
+pub(crate) struct Choice<'a> {
+    pub(crate) right: Right<'a>,
+    pub(crate) conditions: Shared<Conditions<'a>>,
+}
+
+/// A VALUES table, and its rows where they are kept.
+#[derive(Drop)]
+pub(crate) struct TableRows<'a> {
+    pub(crate) table: &'a Table,
+    pub(crate) kept: Option<Shared<Kept>>,
+}
+
+/// The pairs of a path in a graph.
+#[derive(Drop)]
+pub(crate) struct KeptPairs {
+    pub(crate) graph: Active,
+    pub(crate) pairs: Shared<PathPairs>,
+}
+
+/// What is prepared and kept of a path.
+#[derive(Drop)]
+pub(crate) struct Trail<'a> {
+    pub(crate) look: PreparedLook,
+    pub(crate) pattern: &'a PathPattern,
+    pub(crate) kept: Option<KeptPairs>,
+}
+
+/// The register that is bound to the names of graphs, and their numbers.
+#[derive(Drop)]
+pub(crate) struct Naming {
+    pub(crate) register: usize,
+    pub(crate) numbers: Shared<Vec<u32>>,
+}
+
+/// What is prepared and kept of a stage.
+#[derive(Drop)]
+pub(crate) enum Work<'a> {
+    Triple(PreparedLook, PreparedTriple),
+    Path(Trail<'a>),
+    Names(Naming),
+    Exists(bool),
+    Name(usize, usize),
+    Filter(Condition<'a>),
+    Bind(usize, &'a Expr),
+    Values(TableRows<'a>),
+    Union(Shared<Starts>),
+    Optional(Choice<'a>),
+    Minus(Right<'a>),
+    Apart(Right<'a>),
+}
+
+/// An instruction, and what is prepared and kept of its stage.
+#[derive(Drop)]
+pub(crate) struct Place<'a> {
+    pub(crate) instr: Instr<'a>,
+    pub(crate) work: Work<'a>,
+}
+
+/// The cell of the register in which a right side looks.
+pub(crate) fn name_at(register: Option<usize>, row: &Row) -> Option<Cell>
+    ensures { result ≡ name_at register row.now }
+{
+    match register {
+        Some(register) => row.cell(register),
+        None => None,
+    }
+}
+
+fn is_same_name(a: Option<Cell>, b: Option<Cell>) -> bool
+    ensures { IsTrue result ↔ (a ≡ b) }
+{
+    match (a, b) {
+        (Some(a), Some(b)) => is_same(a, b),
+        (None, None) => true,
+        _ => false,
+    }
+}
+
+impl<'a> Right<'a> {
+    fn new(register: Option<usize>, group: &'a Group) -> Right<'a>
+        ensures register { result.register ≡ register }
+        ensures group { result.group.now ≡ group.now }
+        ensures kept { result.kept ≡ None }
+    {
+        Right {
+            register,
+            group,
+            kept: None,
+        }
+    }
+
+    /// The kept rows, if there are any for rows like this one.
+    pub(crate) fn kept_for(&self, row: &Row) -> Option<&Shared<Kept>>
+        ensures { IfSome result (λ k. Serves self.now row.now k.now) }
+    {
+        let Some(aside) = &self.kept else {
+            return None;
+        };
+        if aside.cells != row.width() || !is_same_name(aside.name, name_at(self.register, row)) {
+            return None;
+        }
+        Some(&aside.kept)
+    }
+}
+
+fn conditions_of<'a, V: View>(
+    reader: &Reader<'a, V>,
+    exprs: &'a [Expr],
+) -> Result<Shared<Conditions<'a>>, AllocError>
+    ensures exprs { IfOk result (λ c. map expr_of c.list.items ≡ exprs.now) }
+    ensures prepared { IfOk result (λ c. AllByRecursion (IsPreparedFor (known_of reader.now)) c.list.items) }
+{
+    let mut list = Vec::new(reader.alloc);
+    for expr in exprs {
+        list.push(Condition::new(reader.alloc, expr, reader.view)?)?;
+    }
+    Shared::new(reader.alloc, Conditions { list })
+}
+
+fn starts_of(alloc: Global, starts: &[usize]) -> Result<Shared<Starts>, AllocError>
+    ensures { IfOk result (λ s. s.list.items ≡ starts.now) }
+{
+    let list = Vec::from_slice(alloc, starts)?;
+    Shared::new(alloc, Starts { list })
+}
+
+/// What is prepared of the instruction's stage.
+fn work_of<'a, V: View>(reader: &Reader<'a, V>, instr: &Instr<'a>) -> Result<Work<'a>, AllocError>
+    ensures { IfOk result (λ w. (table : List TermValue) → IsWork reader.now table instr.now w) }
+{
+    match instr.stage() {
+        Stage::Triple(look, pattern) => Ok(Work::Triple(
+            prepare_look(reader.view, look),
+            prepare_triple(reader.view, pattern),
+        )),
+        Stage::Path(look, pattern) => Ok(Work::Path(Trail {
+            look: prepare_look(reader.view, look),
+            pattern,
+            kept: None,
+        })),
+        Stage::Exists(name) => Ok(Work::Exists(is_named_graph(reader.view, name.get()))),
+        Stage::Names(register) => {
+            let numbers = graph_numbers(reader.view)?;
+            let numbers = Shared::new(reader.alloc, numbers)?;
+            Ok(Work::Names(Naming {
+                register: *register,
+                numbers,
+            }))
+        }
+        Stage::Name(variable, register) => Ok(Work::Name(*variable, *register)),
+        Stage::Filter(expr) => {
+            let condition = Condition::new(reader.alloc, expr.get(), reader.view)?;
+            Ok(Work::Filter(condition))
+        }
+        Stage::Bind(variable, expr) => Ok(Work::Bind(*variable, expr.get())),
+        Stage::Values(table) => Ok(Work::Values(TableRows {
+            table: table.get(),
+            kept: None,
+        })),
+        Stage::Union(_) => Ok(Work::Union(starts_of(reader.alloc, instr.starts())?)),
+        Stage::Optional(register, group, conditions) => {
+            let conditions = conditions_of(reader, conditions.get().as_slice())?;
+            Ok(Work::Optional(Choice {
+                right: Right::new(*register, group),
+                conditions,
+            }))
+        }
+        Stage::Minus(register, group) => Ok(Work::Minus(Right::new(*register, group))),
+        Stage::Apart(register, group) => Ok(Work::Apart(Right::new(*register, group))),
+    }
+}
+
+/// The places of a program.
+pub(crate) fn places_of<'a, V: View>(
+    reader: &Reader<'a, V>,
+    code: Vec<Instr<'a>>,
+) -> Result<Vec<Place<'a>>, AllocError>
+    ensures code { IfOk result (λ ps. code_of ps.items ≡ code.entry.items) }
+    ensures ready { IfOk result (λ ps. (table : List TermValue) → AreReady reader.now table ps.items) }
+{
+    let mut places = Vec::with_capacity(reader.alloc, code.len())?;
+    for instr in code {
+        let work = work_of(reader, &instr)?;
+        places.push(Place { instr, work })?;
+    }
+    Ok(places)
+}
