@@ -8,7 +8,6 @@ ghost use Rattle.qs_terms.specs.Dataset.{graph_of};
 ghost use Rattle.qs_terms.specs.Outcome.{OneOrOutOfMemory};
 ghost use Rattle.qs_terms.specs.Statement.{same_statement};
 ghost use Rattle.qs_store.specs.Visible.{visible, visible_quads};
-ghost use Rattle.qs_algebra_solutions.specs.Some.{AreSome, AreSomeDistinct};
 ghost use Rattle.qs_query_forms.specs.inner.InOrder as in_order;
 ghost use Rattle.qs_query_forms.specs.Outcome.{IsSelected, IsBuilt, IsConstructed, IsAsked, IsAllSolutions, IsOutcomeOfQuery};
 ghost use Rattle.qs_query_forms.specs.Sequence.{dataset_of, whole};
@@ -21,56 +20,15 @@ use crate::sequence::{
     sliced,
 };
 use crate::unordered::part_of;
-use old_plan::{distinct_solutions_seen, some_solutions_seen};
 use qs_algebra::Pattern;
 use qs_algebra_solutions::{Answer, Row};
+use qs_query_solutions::{distinct_solutions, some_solutions};
 use qs_query_template::{each_once, instances};
 use qs_store::View;
 use qs_syntax_ast::query::Query;
 use qs_terms::{QFault, Quad, Term, Text};
 use sqlite_items::Items;
 use std::alloc::{AllocError, Global};
-
-fn some_solutions<V: View>(
-    alloc: Global,
-    pattern: &Pattern,
-    view: &V,
-    active: Option<&Term>,
-    most: Option<u64>,
-) -> Result<Vec<Row>, AllocError>
-    ensures { IfOk result (λ rows. let set = visible_quads (V.content view.now) (V.default_seen view.now) in AreSome most rows.items (whole pattern.now set (graph_of set (option_copied active.entry)))) }
-{
-    some_solutions_seen(
-        alloc,
-        pattern.names.len(),
-        &pattern.root,
-        view,
-        active,
-        most,
-    )
-}
-
-// the terms of these variables in some of the solutions, each once
-fn some_distinct<V: View>(
-    alloc: Global,
-    pattern: &Pattern,
-    view: &V,
-    active: Option<&Term>,
-    columns: &[usize],
-    most: Option<u64>,
-) -> Result<Vec<Row>, AllocError>
-    ensures { IfOk result (λ rows. let set = visible_quads (V.content view.now) (V.default_seen view.now) in AreSomeDistinct columns.now most rows.items (whole pattern.now set (graph_of set (option_copied active.entry)))) }
-{
-    distinct_solutions_seen(
-        alloc,
-        pattern.names.len(),
-        &pattern.root,
-        view,
-        active,
-        columns,
-        most,
-    )
-}
 
 // the sequence of the solutions in this order
 fn rows_of(
@@ -119,7 +77,7 @@ fn listed<V: View>(
 {
     if asked.is_distinct {
         let columns = asked.columns.as_slice();
-        let rows = some_distinct(alloc, &asked.pattern, view, active, columns, most)?;
+        let rows = distinct_solutions(alloc, &asked.pattern, view, active, columns, most)?;
         return Ok(rows);
     }
     let rows = some_solutions(alloc, &asked.pattern, view, active, most)?;

@@ -1,0 +1,4 @@
+pub mod Collecting
+pub mod SeenQuads
+pub mod Fronts
+pub mod Coming

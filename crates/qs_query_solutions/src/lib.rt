@@ -1,0 +1,12 @@
+//! The solutions of a pattern over what queries see of a view: as many as suffice, or all.
+//!
+//! `active` tells which graph is read, `terms` makes the terms of a row of cells, `collected` keeps them, with or without duplicates, and
+//! `solutions` asks the plan of the pattern for one solution after another, until the caller has enough.
+#![tactic(auto)]
+
+mod active;
+mod collected;
+mod solutions;
+mod terms;
+
+pub use solutions::{distinct_solutions, some_solutions};

@@ -1,0 +1,125 @@
+//! The solutions of a pattern (SPARQL 1.1 Query, 18.5 and 18.6): as many as suffice, or all.
+
+ghost use Rattle.std.specs.Prelude.{◌≡◌, length, List, Some, IfOk, OnOk};
+ghost use Rattle.std.specs.Option.{option_copied};
+ghost use Rattle.qs_terms.specs.Dataset.{graph_of};
+ghost use Rattle.qs_store.specs.ActiveGraph.{active_graph};
+ghost use Rattle.qs_store.specs.Visible.{visible_quads};
+ghost use Rattle.qs_algebra_solutions.specs.Solution.{Solution as Solved};
+ghost use Rattle.qs_algebra_solutions.specs.Some.{AreSome, AreSomeDistinct};
+ghost use Rattle.qs_algebra_patterns.specs.Eval.{eval};
+ghost use Rattle.qs_plan.specs.Plans.{plan_list};
+ghost use Rattle.qs_query_solutions.specs.inner.Collected.{Collects};
+
+use crate::active::active_of;
+use crate::collected::Collected;
+use qs_algebra_patterns::Pattern;
+use qs_algebra_solutions::Row as Solution;
+use qs_base::drop_value;
+use qs_ops::Op;
+use qs_plan::{Plan, drop_plan, plan};
+use qs_store::{Active, View};
+use qs_terms::{QFault, Term};
+use std::alloc::{AllocError, Global};
+
+/// Collects the solutions of the evaluation, one after another, until they suffice or none is left.
+fn collect<V: View>(
+    alloc: Global,
+    op: &mut Op<'_, V>,
+    found: &mut Collected<'_>,
+) -> Result<(), QFault>
+    ensures { OnOk result ((all : List Solved) → op.old.rows ≡ Some all → Collects found.old found.new all) }
+{
+    while !found.is_enough() {
+        let Some(row) = op.next()? else {
+            return Ok(());
+        };
+        found.put(alloc, op, &row)?;
+        op.give_back(row);
+    }
+    Ok(())
+}
+
+/// Collects the solutions of the plan where this graph is active.
+fn collect_planned<V: View>(
+    alloc: Global,
+    plan: &Plan,
+    view: &V,
+    active: Active,
+    found: &mut Collected<'_>,
+) -> Result<(), QFault>
+    ensures { OnOk result (Collects found.old found.new (plan_list plan.now (V.content view.now).quads (active_graph (V.content view.now) (V.default_seen view.now) active))) }
+{
+    let mut op = Op::start_in(alloc, plan, view, active)?;
+    let outcome = collect(alloc, &mut op, found);
+    op.end();
+    outcome
+}
+
+/// Collects the solutions of the pattern where the graph of this name is active, or the default graph where none is given.
+fn collect_all<V: View>(
+    alloc: Global,
+    pattern: &Pattern,
+    view: &V,
+    name: Option<&Term>,
+    found: &mut Collected<'_>,
+) -> Result<(), QFault>
+    ensures { OnOk result (Collects found.old found.new (eval (length pattern.now.names) (visible_quads (V.content view.now) (V.default_seen view.now)) pattern.now.root (graph_of (visible_quads (V.content view.now) (V.default_seen view.now)) (option_copied name.entry)))) }
+{
+    let _count = view.count();
+    let active = active_of(view, name);
+    let plan = plan(alloc, pattern)?;
+    let outcome = collect_planned(alloc, &plan, view, active, found);
+    drop_plan(plan);
+    outcome
+}
+
+/// Running out of memory, which is the one fault of an evaluation.
+fn out_of_memory(fault: QFault) -> AllocError {
+    drop_value(fault);
+    AllocError
+}
+
+/// Some of the solutions of the pattern over what queries see of the view: as many as suffice, or all. The graph of the name is active, or
+/// the default graph where none is given (SPARQL 1.1 Query, 13 and 18.6).
+///
+/// # Errors
+/// `AllocError` where memory runs out.
+pub fn some_solutions<V: View>(
+    alloc: Global,
+    pattern: &Pattern,
+    view: &V,
+    name: Option<&Term>,
+    most: Option<u64>,
+) -> Result<Vec<Solution>, AllocError>
+    ensures { IfOk result (λ rows. AreSome most rows.items (eval (length pattern.now.names) (visible_quads (V.content view.now) (V.default_seen view.now)) pattern.now.root (graph_of (visible_quads (V.content view.now) (V.default_seen view.now)) (option_copied name.entry)))) }
+{
+    let mut found = Collected::new(alloc, None, most);
+    match collect_all(alloc, pattern, view, name, &mut found) {
+        Ok(()) => Ok(found.into_rows()),
+        Err(fault) => Err(out_of_memory(fault)),
+    }
+}
+
+/// The terms of these variables in some of the solutions of the pattern, each once: as many as suffice, or all (SPARQL 1.1 Query, 18.5:
+/// Project and Distinct). No two that are the same are kept, and no solution is asked for beyond those that suffice. The graph of the name
+/// is active, or the default graph where none is given.
+///
+/// # Errors
+/// `AllocError` where memory runs out.
+pub fn distinct_solutions<V: View>(
+    alloc: Global,
+    pattern: &Pattern,
+    view: &V,
+    name: Option<&Term>,
+    columns: &[usize],
+    most: Option<u64>,
+) -> Result<Vec<Solution>, AllocError>
+    ensures { IfOk result (λ rows. AreSomeDistinct columns.now most rows.items (eval (length pattern.now.names) (visible_quads (V.content view.now) (V.default_seen view.now)) pattern.now.root (graph_of (visible_quads (V.content view.now) (V.default_seen view.now)) (option_copied name.entry)))) }
+{
+    let mut found = Collected::new(alloc, Some(columns), most);
+    match collect_all(alloc, pattern, view, name, &mut found) {
+        Ok(()) => Ok(found.into_rows()),
+        Err(fault) => Err(out_of_memory(fault)),
+    }
+}
