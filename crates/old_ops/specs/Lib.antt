@@ -1,5 +1,0 @@
-pub mod Row
-pub mod Place
-pub mod Tests
-pub mod Coming
-pub mod inner

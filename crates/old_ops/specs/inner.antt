@@ -1,3 +1,0 @@
--- What serves proofs alone: no promise of the product is read by it.
-pub mod Steps
-pub mod Levels

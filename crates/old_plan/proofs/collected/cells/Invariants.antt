@@ -1,6 +1,0 @@
-use Rattle.std.proofs.Common.{◌≡◌, take}
-use Rattle.qs_algebra_solutions.specs.Solution.{projected}
-use Rattle.old_plan.proofs.collected.cells.Given as goal
-
-abbrev pub invariant-loop-column : goal.invariant-loop-column
-invariant-loop-column l = l.cells.items ≡ projected (take l.column-index l.columns) l.row

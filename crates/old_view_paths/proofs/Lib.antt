@@ -1,4 +1,0 @@
-mod Lists
-mod Scanned
-mod Nodes
-mod SamePairs
