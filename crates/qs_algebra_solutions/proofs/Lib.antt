@@ -1,5 +1,4 @@
 pub mod Unbound
-pub mod Cells
 pub mod Bindings
 pub mod Same
 pub mod TermOrder

@@ -2,7 +2,7 @@
 
 ghost use Rattle.std.specs.Prelude.{◌≡◌, length, take, IfOk, None, Some, slice_set, option_to_list};
 ghost use Rattle.std.specs.Option.{option_copied};
-ghost use Rattle.qs_algebra_solutions.specs.Solution.{term_at, unbound, binding, compatible, share, both_bound, merge, first_bound, projected};
+ghost use Rattle.qs_algebra_solutions.specs.Solution.{term_at, unbound, binding, projected};
 
 use qs_terms::Term;
 use std::alloc::{AllocError, Global};
@@ -23,24 +23,6 @@ impl Model for Row {
     ghost view = { λ r. r.cells.items };
 }
 
-fn compatible_terms(a: Option<&Term>, b: Option<&Term>) -> bool
-    ensures { result ≡ Rattle.qs_algebra_solutions.specs.Solution.compatible_terms (option_copied a.entry) (option_copied b.entry) }
-{
-    match (a, b) {
-        (Some(x), Some(y)) => x.is_same(y),
-        _ => true,
-    }
-}
-
-fn are_bound(a: Option<&Term>, b: Option<&Term>) -> bool
-    ensures { result ≡ both_bound (option_copied a.entry) (option_copied b.entry) }
-{
-    match (a, b) {
-        (Some(_), Some(_)) => true,
-        _ => false,
-    }
-}
-
 fn copied(cell: Option<&Term>) -> Result<Option<Term>, AllocError>
     ensures { IfOk result (λ c. c ≡ option_copied cell.entry) }
 {
@@ -50,15 +32,6 @@ fn copied(cell: Option<&Term>) -> Result<Option<Term>, AllocError>
             Ok(Some(term))
         }
         None => Ok(None),
-    }
-}
-
-fn first_of<'a>(a: Option<&'a Term>, b: Option<&'a Term>) -> Option<&'a Term>
-    ensures { option_copied result ≡ first_bound (option_copied a.entry) (option_copied b.entry) }
-{
-    match a {
-        Some(term) => Some(term),
-        None => b,
     }
 }
 
@@ -110,18 +83,6 @@ impl Row {
         }
     }
 
-    /// An equal one of its own.
-    pub fn try_clone(&self, alloc: Global) -> Result<Row, AllocError>
-        ensures { IfOk result (λ r. r ≡ self.now) }
-    {
-        let mut cells = Vec::with_capacity(alloc, self.cells.len())?;
-        for cell in self.cells.as_slice() {
-            let cell = copied(cell.as_ref())?;
-            cells.push(cell)?;
-        }
-        Ok(Row { cells })
-    }
-
     /// The terms of these variables alone, in their order (SPARQL 1.1 Query, 18.5: Project).
     pub fn projected(&self, alloc: Global, columns: &[usize]) -> Result<Row, AllocError>
         ensures { IfOk result (λ r. r ≡ projected columns.now self.now) }
@@ -155,45 +116,5 @@ impl Row {
         ensures { self.new ≡ take width self.old }
     {
         self.cells.truncate(width);
-    }
-
-    #[tactic(auto, using(crate::proofs::Cells::compatible_step))]
-    /// Whether each variable that is bound in both has the same term (SPARQL 1.1 Query, 18.3).
-    pub fn is_compatible(&self, other: &Row) -> bool
-        ensures { result ≡ compatible self.now other.now }
-    {
-        for variable in 0..self.cells.len() {
-            if !compatible_terms(self.term(variable), other.term(variable)) {
-                return false;
-            }
-        }
-        true
-    }
-
-    /// Whether some variable is bound in both (SPARQL 1.1 Query, 18.5, Minus).
-    #[tactic(auto, using(crate::proofs::Cells::share_step))]
-    pub fn shares(&self, other: &Row) -> bool
-        ensures { result ≡ share self.now other.now }
-    {
-        for variable in 0..self.cells.len() {
-            if are_bound(self.term(variable), other.term(variable)) {
-                return true;
-            }
-        }
-        false
-    }
-
-    /// The bindings of both (SPARQL 1.1 Query, 18.3).
-    pub fn merged(&self, alloc: Global, other: &Row) -> Result<Row, AllocError>
-        ensures { IfOk result (λ r. r ≡ merge self.now other.now) }
-    {
-        let width = self.len().max(other.len());
-        let mut cells = Vec::with_capacity(alloc, width)?;
-        for variable in 0..width {
-            let term = first_of(self.term(variable), other.term(variable));
-            let cell = copied(term)?;
-            cells.push(cell)?;
-        }
-        Ok(Row { cells })
     }
 }
