@@ -57,10 +57,6 @@ same_as xs ys e = subst (λ l. SameBag xs l) e (IsPermutation-refl xs)
 pub same_at : (rows xs ys zs : List Pair) → rows ≡ xs → SameBag xs ys → zs ≡ ys → SameBag rows zs
 same_at rows xs ys zs e h f = subst (λ (l : List Pair). SameBag l zs) (sym e) (subst (λ (l : List Pair). SameBag xs l) (sym f) h)
 
-pub composed_arm : (firsts fs rows rs out ps : List Pair) → fs ≡ firsts → rs ≡ rows → SameBag firsts ps → out ≡ composed fs rs → SameBag out (composed ps rows)
-composed_arm firsts fs rows rs out ps e f h g =
-    same_at out (composed firsts rows) (composed ps rows) _ (g ∙ (ap (λ l. composed l rs) e ∙ ap (composed firsts) f)) (composed_same firsts ps rows rows h (IsPermutation-refl rows)) refl
-
 -- ---- the variants
 
 module _ (graph : Graph) (p : Path) (left right : Option Term) where

@@ -1,5 +1,5 @@
 -- What stands in a list, and lists in which each element stands once.
-use Rattle.std.proofs.Common.{◌≡◌, ◌+◌, ◌≤◌, Bool, true, false, cond, not, ◌||◌, ◌⊎◌, inl, inr, List, [], ◌∷◌, ◌++◌, append_assoc, length, map, refl, sym, ◌∙◌, ap, subst, arith, length-append}
+use Rattle.std.proofs.Common.{◌≡◌, ◌+◌, Bool, true, false, cond, not, ◌||◌, ◌⊎◌, inl, inr, List, [], ◌∷◌, ◌++◌, append_assoc, map, refl, sym, ◌∙◌, ap, subst, arith}
 use Rattle.std.specs.Bool.{Decides}
 use Rattle.std.specs.List.{filter, flat_map, list_any}
 use Rattle.std.proofs.lemmas.List.{append-nil}
@@ -152,31 +152,6 @@ module _ {X : Type 0} (same : X → X → Bool) (exact : (a b : X) → Decides (
       by true e m = inl (sym ((exact x y).0 e))
       by false e m = inr (mem_filter (λ z. not (same x z)) y (once same xs) (ap not e) m)
 
-  -- a list without repeats is no longer than one that has all its elements
-  abbrev Parted : X → List X → Type 0
-  Parted a ys = (us : List X) × ((vs : List X) × (ys ≡ us ++ (a ∷ vs)))
-
-  parted : (a : X) (ys : List X) → Mem a ys → Parted a ys
-  parted a [] h = elim h [ ]
-  parted a (y ∷ ys) (inl e) = ([], (ys, ap (λ z. z ∷ ys) (sym e)))
-  parted a (y ∷ ys) (inr h) = let w = parted a ys h in (y ∷ w.0, (w.1.0, ap (λ l. y ∷ l) w.1.1))
-
-  other_part : (x a : X) (us vs : List X) → (x ≡ a → ⊥) → Mem x (us ++ (a ∷ vs)) → Mem x (us ++ vs)
-  other_part x a us vs ne h =
-      elim (mem_split x us (a ∷ vs) h) [
-        | inl k ↦ mem_left x us vs k
-        | inr k ↦ elim k [ inl e ↦ absurd (ne e) | inr m ↦ mem_right x us vs m ]
-      ]
-
-  pub no_longer : (xs ys : List X) → Distinct same xs → ((x : X) → Mem x xs → Mem x ys) → length xs ≤ length ys
-  no_longer [] ys d h = omega arith
-  no_longer (x ∷ xs) ys d h =
-      let w = parted x ys (h x (inl refl)) in
-      let rest : length xs ≤ length (w.0 ++ w.1.0) =
-      no_longer xs (w.0 ++ w.1.0) d.1 (λ y m.
-      other_part y x w.0 w.1.0 (λ e. is_out x xs d.0 (mem_at y x xs e m)) (subst (λ (l : List X). Mem y l) w.1.1 (h y (inr m)))) in
-      omega (arith, rest, length-append w.0 w.1.0, length-append w.0 (x ∷ w.1.0), ap length w.1.1)
-
   -- one more element
   pub mem_with_new : (y x : X) (xs : List X) → Mem y (with_new same xs x) → Mem y xs ⊎ (y ≡ x)
   mem_with_new y x xs = by (list_any (same x) xs)
@@ -225,10 +200,6 @@ module _ {X : Type 0} (same : X → X → Bool) (exact : (a b : X) → Decides (
   abbrev pub with_all : List X → List X → List X
   with_all xs [] = xs
   with_all xs (y ∷ ys) = with_all (with_new same xs y) ys
-
-  pub with_all_last : (xs ys : List X) (y : X) → with_all xs (ys ++ y ∷ []) ≡ with_new same (with_all xs ys) y
-  with_all_last xs [] y = refl
-  with_all_last xs (x ∷ ys) y = with_all_last (with_new same xs x) ys y
 
   pub mem_with_all : (y : X) (xs ys : List X) → Mem y (with_all xs ys) → Mem y xs ⊎ Mem y ys
   mem_with_all y xs [] h = inl h

@@ -3,7 +3,7 @@ use Rattle.std.proofs.Common.{◌≡◌, ℕ, zero, suc, ◌+◌, ◌<◌, Bool,
 use Rattle.std.specs.Prelude.{All}
 use Rattle.std.specs.List.{list_any}
 use Rattle.std.proofs.lemmas.Bool.Decides.{Decides-eqb}
-use Rattle.std.proofs.lemmas.List.{append-nil, take_more, length-append, get_or_append_left, get_or_push, get_or_default}
+use Rattle.std.proofs.lemmas.List.{append-nil, take_more, get_or_append_left, get_or_default}
 use Rattle.std.proofs.lemmas.List.Elements.{All-nil, All-cons, All-head, All-tail, All-append, All-set, All-get_or}
 use Rattle.qs_terms.specs.declared.term.Term.{Term}
 use Rattle.qs_terms.specs.Bag.{Distinct, with_new}
@@ -13,20 +13,6 @@ use Rattle.qs_paths_meaning.specs.inner.Found.{with_all}
 use Rattle.qs_paths_meaning.specs.inner.Links.{IsAt, named, AreBelow, same_number, with_numbers, row_of, leads_to, put_at}
 use Rattle.qs_paths_meaning.proofs.Finds.{map-append}
 use Rattle.qs_paths_meaning.proofs.Members.{Mem, mem_in, bool_same, not_both, false_from}
-
--- ---- places
-
-pub at_more : (terms more : List Term) (n : ℕ) (x : Term) → IsAt terms n x → IsAt (terms ++ more) n x
-at_more terms more n x h = (
-  let e : length (terms ++ more) ≡ length terms + length more = length-append terms more in omega (arith, e, h.0),
-  get_or_append_left terms more x n h.0 ∙ h.1,
-)
-
-pub at_end : (terms : List Term) (x : Term) (n : ℕ) → n ≡ length terms → IsAt (terms ++ x ∷ []) n x
-at_end terms x n e = (
-  let l : length (terms ++ x ∷ []) ≡ length terms + 1 = length-append terms (x ∷ []) in omega (arith, l, e),
-  get_or_push terms x x n (sym e),
-)
 
 mem_get : (terms : List Term) (n : ℕ) (x : Term) → IsAt terms n x → Mem x terms
 mem_get [] n x h = let lt : n < 0 = h.0 in absurd (omega (arith, lt))
@@ -107,10 +93,6 @@ numbers_last ns (k ∷ ms) m = numbers_last (with_new same_number ns k) ms m
 
 pub numbers_more : (ns ms : List ℕ) (i d : ℕ) → i < length ms → with_numbers ns (take (i + 1) ms) ≡ with_new same_number (with_numbers ns (take i ms)) (get_or ms i d)
 numbers_more ns ms i d lt = ap (with_numbers ns) (take_more ms i d lt) ∙ numbers_last ns (take i ms) (get_or ms i d)
-
--- a pair more
-pub named_last : (d : Term) (terms : List Term) (ms : List ℕ) (i e : ℕ) → i < length ms → named d terms (take (i + 1) ms) ≡ named d terms (take i ms) ++ get_or terms (get_or ms i e) d ∷ []
-named_last d terms ms i e lt = ap (named d terms) (take_more ms i e lt) ∙ map-append (λ (k : ℕ). get_or terms k d) (take i ms) (get_or ms i e ∷ [])
 
 -- ---- rows
 

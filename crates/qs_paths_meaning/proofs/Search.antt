@@ -1,22 +1,22 @@
 -- The breadth-first search finds the ends of a closure.
-use Rattle.std.proofs.Common.{◌≡◌, ◌≢◌, ℕ, ◌+◌, ◌-◌, ◌<◌, ◌≤◌, Bool, true, false, ◌||◌, ◌⊎◌, inl, inr, List, [], ◌∷◌, ◌++◌, length, take, drop, get_or, Option, Some, None, refl, sym, ◌∙◌, ap, subst, arith, length-append}
-use Rattle.std.specs.List.{flat_map, list_any}
+use Rattle.std.proofs.Common.{◌≡◌, ◌≢◌, ℕ, ◌+◌, ◌-◌, ◌<◌, ◌≤◌, Bool, true, false, ◌||◌, ◌⊎◌, inl, inr, List, [], ◌∷◌, ◌++◌, length, take, drop, get_or, Some, None, refl, sym, ◌∙◌, ap, subst, arith, length-append}
+use Rattle.std.specs.List.{list_any}
 use Rattle.std.proofs.lemmas.List.{take_more, take_all, take-append-le, take-append-drop}
 use Rattle.std.proofs.lemmas.List.Sorted.{list_any-IsPermutation}
 use Rattle.qs_terms.specs.declared.term.Term.{Term}
 use Rattle.qs_terms.specs.Bag.{SameBag, Distinct, with_new}
 use Rattle.qs_terms.specs.Term.{same_term}
-use Rattle.qs_terms.specs.Dataset.{nodes_of, ends_of}
+use Rattle.qs_terms.specs.Dataset.{nodes_of}
 use Rattle.qs_terms.proofs.SameTerm.{same_term-Decides}
 use Rattle.qs_syntax_tree.specs.declared.path.Repetition.{Repetition}
 use Rattle.qs_syntax_tree.specs.declared.path.Repetition.TheVariants.{ZeroOrOne, ZeroOrMore, OneOrMore}
 use Rattle.qs_paths_meaning.specs.Pair.{Pair}
 use Rattle.qs_paths_meaning.specs.Steps.{Graph}
-use Rattle.qs_paths_meaning.specs.Closure.{candidates, leads, repeats, ends, starts}
+use Rattle.qs_paths_meaning.specs.Closure.{candidates, leads, repeats, ends}
 use Rattle.qs_paths_meaning.specs.inner.Found.{with_all, rights, begins, Holds}
 use Rattle.qs_paths_meaning.specs.Pairs.{AtEnds, is_step}
 use Rattle.qs_paths_meaning.specs.Walk.{IsWalk}
-use Rattle.qs_paths_meaning.proofs.Members.{Mem, mem_at, mem_left, mem_right, mem_split, mem_filter, mem_of_filter, mem_map, mem_of_map, in_mem, mem_in, or_cases, or_left, or_right, bool_same, distinct_filter, distinct_once, mem_once, mem_of_once, no_longer, same_bag, mem_with_new, with_new_has, distinct_with_new, extends_with_new, Extends}
+use Rattle.qs_paths_meaning.proofs.Members.{Mem, mem_at, mem_left, mem_right, mem_split, mem_filter, mem_of_filter, in_mem, mem_in, or_cases, or_left, or_right, bool_same, distinct_filter, distinct_once, same_bag}
 use Rattle.qs_paths_meaning.proofs.Members as members
 use Rattle.qs_paths_meaning.proofs.Near.{Tied, start_candidate, candidates_closed}
 use Rattle.qs_paths_meaning.proofs.WalkLaws.{leads_one, leads_on, leads_walk, leads_inside}
@@ -49,24 +49,6 @@ in_right y (e ∷ es) h =
       | inl s ↦ inl ((same_term-Decides y e.right).0 s)
       | inr k ↦ inr (in_right y es k)
     ]
-
--- the nodes and the right end
-pub right_start : (graph : Graph) (left right : Option Term) (y : Term) (ns ts : List Term) → left ≡ None → right ≡ Some y → ns ≡ nodes_of graph → ts ≡ with_new same_term ns y → SameBag ts (starts graph left right)
-right_start graph left right y ns ts l r n e =
-    subst (λ (k : Option Term). SameBag ts (starts graph k right)) (sym l)
-    (subst (λ (k : Option Term). SameBag ts (starts graph None k)) (sym r)
-    (subst (λ (k : List Term). SameBag k (candidates graph y)) (sym (e ∙ ap (λ k. with_new same_term k y) n)) bag))
-  where
-    bag : SameBag (with_new same_term (nodes_of graph) y) (candidates graph y)
-    bag =
-        same_bag same_term same_term-Decides _ _ (distinct_with_new same_term same_term-Decides y (nodes_of graph) (distinct_once same_term same_term-Decides (flat_map ends_of graph)))
-        (distinct_once same_term same_term-Decides (y ∷ nodes_of graph))
-        (λ z m.
-        mem_once same_term same_term-Decides z (y ∷ nodes_of graph)
-        (elim (mem_with_new same_term same_term-Decides z y (nodes_of graph) m) [ inl k ↦ inr k | inr i ↦ inl i ]))
-        (λ z m.
-        with_new_has same_term same_term-Decides z y (nodes_of graph)
-        (elim (mem_of_once same_term same_term-Decides z (y ∷ nodes_of graph) m) [ inl i ↦ inr i | inr k ↦ inl k ]))
 
 module _ (graph : Graph) (f : AtEnds) (tied : Tied graph f) (x : Term) where
   abbrev step : Term → Term → Bool
@@ -181,11 +163,6 @@ module _ (graph : Graph) (f : AtEnds) (tied : Tied graph f) (x : Term) where
             ]);
       }
 
-  -- each pass goes on from a candidate, of which there are finitely many
-  pub search_room : (repetition : Repetition) (terms : List Term) (at : ℕ) → Searching repetition terms at → length terms ≤ length (candidates graph x)
-  search_room repetition terms at was =
-      no_longer same_term same_term-Decides terms cs was.distinct (λ y m. inside repetition y (was.sound y m))
-
   pub search_ends : (repetition : Repetition) (terms : List Term) (at : ℕ) → repetition ≢ ZeroOrOne → Searching repetition terms at → length terms ≤ at → SameBag terms (ends repetition (is_step f) graph x)
   search_ends repetition terms at ne was le = ends_bag repetition terms was.distinct was.sound (complete repetition ne was.first)
     where
@@ -251,9 +228,6 @@ module _ (graph : Graph) (f : AtEnds) (tied : Tied graph f) (x : Term) where
       subst (λ (r : Repetition). SameBag ts (ends r step graph x)) (sym is)
       (subst (λ (l : List Term). SameBag l (ends ZeroOrOne step graph x)) (sym e)
       (optional_ends terms (subst (λ (r : Repetition). Holds terms (begins r step x)) is h)))
-
-  pub search_falls : (repetition : Repetition) (terms : List Term) (at : ℕ) → Searching repetition terms at → at < length terms → length (candidates graph x) - (at + 1) < length (candidates graph x) - at
-  search_falls repetition terms at was lt = let room = search_room repetition terms at was in omega arith
 
   pub search_result : (repetition : Repetition) (terms ts : List Term) (at : ℕ) → repetition ≢ ZeroOrOne → Searching repetition terms at → length terms ≤ at → ts ≡ terms → SameBag ts (ends repetition (is_step f) graph x)
   search_result repetition terms ts at ne was le e = subst (λ (l : List Term). SameBag l (ends repetition step graph x)) (sym e) (search_ends repetition terms at ne was le)

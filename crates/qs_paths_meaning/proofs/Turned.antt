@@ -1,10 +1,8 @@
 -- The walks of a closure, followed backwards.
-use Rattle.std.proofs.Common.{◌≡◌, ℕ, ◌+◌, ◌<◌, ◌≤◌, Bool, true, false, inl, inr, List, [], ◌∷◌, ◌++◌, length, take, get_or, map, Option, Some, None, refl, sym, ◌∙◌, ap, subst, arith}
-use Rattle.std.specs.Borrow.{Bor}
-use Rattle.std.specs.List.{filter, flat_map}
-use Rattle.std.proofs.lemmas.List.{take_more, take_all, append-nil}
-use Rattle.std.proofs.lemmas.List.Sorted.{IsPermutation-append, IsPermutation-map, IsPermutation-trans}
-use Rattle.std.proofs.lemmas.Grind.{flat_map-append}
+use Rattle.std.proofs.Common.{◌≡◌, ◌+◌, Bool, true, false, inl, inr, List, [], ◌∷◌, ◌++◌, length, map, Option, Some, None, refl, sym, ◌∙◌, ap, subst, arith}
+use Rattle.std.specs.List.{filter}
+use Rattle.std.proofs.lemmas.List.{append-nil}
+use Rattle.std.proofs.lemmas.List.Sorted.{IsPermutation-map, IsPermutation-trans}
 use Rattle.qs_terms.specs.declared.term.Term.{Term}
 use Rattle.qs_terms.specs.Bag.{SameBag, Distinct}
 use Rattle.qs_terms.specs.Term.{same_term}
@@ -15,7 +13,6 @@ use Rattle.qs_syntax_ast.specs.declared.path.Path.{Path}
 use Rattle.qs_paths_meaning.specs.Pair.{Pair, pair, swapped, same_pair}
 use Rattle.qs_paths_meaning.specs.Steps.{Graph, agrees}
 use Rattle.qs_paths_meaning.specs.Closure.{candidates, repeats, ends, starts, from_start, closure}
-use Rattle.qs_paths_meaning.specs.Edges.{lent}
 use Rattle.qs_paths_meaning.specs.inner.Found.{turned}
 use Rattle.qs_paths_meaning.specs.Pairs.{AtEnds, is_step, pairs}
 use Rattle.qs_paths_meaning.specs.Walk.{IsWalk, IsCount, Leads}
@@ -59,10 +56,6 @@ distinct_swapped (e ∷ es) d = (
       is_out same_pair same_pair-Decides e es d.0 (mem_at w.0 e es (sym (ap swapped w.1.1)) w.1.0)),
   distinct_swapped es d.1,
 )
-
-pub agrees_open : (es : List Term) → filter (agrees None) es ≡ es
-agrees_open [] = refl
-agrees_open (e ∷ es) = ap (λ l. e ∷ l) (agrees_open es)
 
 module _ (graph : Graph) (f : AtEnds) (tf : Tied graph f) (s : Steady graph f) where
   abbrev back : AtEnds
@@ -129,31 +122,11 @@ module _ (graph : Graph) (p : Path) (repetition : Repetition) where
       (subst (λ (k : List Pair). SameBag k (closure repetition (is_step (pairs graph p)) graph None (Some y))) (sym e)
       (IsPermutation-trans (map swapped inverse) _ _ (IsPermutation-map swapped _ _ h) (backwards graph (pairs graph p) (tied graph p) (steady graph p) repetition y))))
 
-  pub open_arm : (left right : Option Term) (rows : List Pair) → left ≡ None → right ≡ None → SameBag rows (closure repetition (is_step (pairs graph p)) graph None None) → SameBag rows (closure repetition (is_step (pairs graph p)) graph left right)
-  open_arm left right rows l r h =
-      subst (λ (o : Option Term). SameBag rows (closure repetition (is_step (pairs graph p)) graph o right)) (sym l)
-      (subst (λ (o : Option Term). SameBag rows (closure repetition (is_step (pairs graph p)) graph None o)) (sym r) h)
-
 -- the ends that are found from one start
 pub found_from : (repetition : Repetition) (step : Term → Term → Bool) (graph : Graph) (right : Option Term) (x : Term) (es fs : List Term) (rows rows' : List Pair) → rows ≡ [] → fs ≡ es → SameBag es (ends repetition step graph x) → rows' ≡ rows ++ map (pair x) (filter (agrees right) fs) → SameBag rows' (from_start repetition step graph right x)
 found_from repetition step graph right x es fs rows rows' n e h k =
     subst (λ (l : List Pair). SameBag l (from_start repetition step graph right x)) (sym (k ∙ (ap (λ l. l ++ map (pair x) (filter (agrees right) fs)) n ∙ ap (λ l. map (pair x) (filter (agrees right) l)) e)))
     (IsPermutation-map (pair x) _ _ (filter_same_by same_term same_term-Decides (agrees right) es (ends repetition step graph x) h))
-
--- one start more
-pub from_more : (g : Term → List Pair) (ts : List (Bor Term)) (i : ℕ) (x : Bor Term) (rows more rows' : List Pair) → i < length ts → x ≡ get_or ts i x → SameBag rows (flat_map g (lent (take i ts))) → SameBag more (g x.now) → rows' ≡ rows ++ more → SameBag rows' (flat_map g (lent (take (i + 1) ts)))
-from_more g ts i x rows more rows' lt is h m e =
-    same_at _ _ _ _ e (IsPermutation-append _ _ _ _ h m)
-    (ap (λ l. flat_map g (lent l)) (take_more ts i x lt ∙ ap (λ z. take i ts ++ z ∷ []) (sym is))
-    ∙ (ap (flat_map g) (lent-append (take i ts) (x ∷ [])) ∙ (flat_map-append g (lent (take i ts)) (x.now ∷ []) ∙ ap (λ l. flat_map g (lent (take i ts)) ++ l) (append-nil (g x.now)))))
-  where
-    lent-append : (xs ys : List (Bor Term)) → lent (xs ++ ys) ≡ lent xs ++ lent ys
-    lent-append [] ys = refl
-    lent-append (x ∷ xs) ys = ap (λ l. x.now ∷ l) (lent-append xs ys)
-
--- from all of them
-pub from_all : (g : Term → List Pair) (ts us : List (Bor Term)) (i : ℕ) (all rows : List Pair) → length ts ≤ i → ts ≡ us → SameBag (flat_map g (lent us)) all → SameBag rows (flat_map g (lent (take i ts))) → SameBag rows all
-from_all g ts us i all rows le e h k = IsPermutation-trans rows _ _ (subst (λ l. SameBag rows (flat_map g (lent l))) (take_all i ts le ∙ e) k) h
 
 -- one pass backwards
 pub turned_arm : (f : AtEnds) (b : Bool) (x : Term) (inverse rows : List Pair) → b ≡ true → SameBag inverse (f None (Some x)) → rows ≡ map swapped inverse → SameBag rows (turned b f (Some x) None)

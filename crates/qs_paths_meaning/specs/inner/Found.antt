@@ -11,10 +11,6 @@ use Rattle.qs_paths_meaning.specs.Pair.{Pair, pair, swapped}
 use Rattle.qs_paths_meaning.specs.Steps.{is_between}
 use Rattle.qs_paths_meaning.specs.Pairs.{AtEnds}
 
--- the keys of the set are the terms of the list
-abbrev pub Knows : List Term → List Term → Type 0
-Knows keys terms = (x : Term) → list_any (same_term x) keys ≡ list_any (same_term x) terms
-
 -- the list with these terms at its end, each where it is new
 abbrev pub with_all : List Term → List Term → List Term
 with_all xs [] = xs

@@ -1,10 +1,8 @@
 -- The terms that steps lead to, kept at those that they lead from, by numbers.
-use Rattle.std.specs.Prelude.{◌≡◌, ℕ, ◌<◌, ◌≤◌, ◌==◌, Bool, true, false, List, [], ◌∷◌, ◌++◌, length, map, Option, Some, None, Vec, All, slice_index_or, slice_set, if◌then◌else◌}
-use Rattle.std.specs.Borrow.{Bor}
+use Rattle.std.specs.Prelude.{◌≡◌, ℕ, ◌<◌, ◌≤◌, ◌==◌, Bool, true, List, [], ◌∷◌, ◌++◌, length, map, None, Vec, All, slice_index_or, slice_set, if◌then◌else◌}
 use Rattle.std.specs.List.{filter, flat_map, list_any}
-use Rattle.std.specs.Map.{lookup}
 use Rattle.qs_terms.specs.declared.term.Term.{Term}
-use Rattle.qs_terms.specs.Bag.{Distinct, SameBag, with_new}
+use Rattle.qs_terms.specs.Bag.{SameBag, with_new}
 use Rattle.qs_terms.specs.Dataset.{nodes_of}
 use Rattle.qs_terms.specs.Term.{same_term}
 use Rattle.qs_syntax_tree.specs.declared.path.Repetition.{Repetition}
@@ -30,11 +28,6 @@ AreBelow count ns = All (λ n. n < count) ns
 abbrev pub same_number : ℕ → ℕ → Bool
 same_number n m = n == m
 
--- what a map answers for the term: its number, or none where it isn't in the list
-abbrev pub Finds : List Term → Term → Option ℕ → Type 0
-Finds terms x None = list_any (same_term x) terms ≡ false
-Finds terms x (Some n) = IsAt terms n x
-
 -- the list with these numbers at its end, each where it is new
 abbrev pub with_numbers : List ℕ → List ℕ → List ℕ
 with_numbers ns [] = ns
@@ -54,13 +47,6 @@ row_of (t ∷ ts) (r ∷ rows) x = if same_term x t then r else row_of ts rows x
 -- the terms that links lead to from this one
 abbrev pub leads_to : List Term → List (List ℕ) → Term → List Term
 leads_to terms rows x = named x terms (row_of terms rows x)
-
--- each term has one number, and a row of numbers of terms
-pub record IsWeb (entries : List (Bor Term × ℕ)) (terms : List Term) (rows : List (List ℕ)) : Type 0 where
-  pub finds : (x : Term) → Finds terms x (lookup (λ k. same_term x k.now) entries)
-  pub distinct : Distinct same_term terms
-  pub long : length rows ≡ length terms
-  pub below : All (AreBelow (length terms)) rows
 
 -- the number goes to the end of the row at this place
 abbrev pub put_at : List (List ℕ) → ℕ → ℕ → List (List ℕ)
