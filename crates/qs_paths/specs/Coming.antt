@@ -1,12 +1,12 @@
 -- The pairs of cells that `pairs` hands out (SPARQL 1.1 Query, 9 and 18.4).
-use Rattle.std.specs.Prelude.{◌≡◌, ℕ, List, [], ◌∷◌, Option, None, Some, Result, Ok, Err}
+use Rattle.std.specs.Prelude.{◌≡◌, ℕ, List, [], ◌∷◌, map, Option, None, Some, Result, Ok, Err}
 use Rattle.qs_terms.specs.declared.fault.QFault.{QFault}
 use Rattle.qs_terms.specs.declared.fault.QFault.TheVariants.{Memory}
 use Rattle.qs_terms.specs.declared.term.Term.{Term}
 use Rattle.qs_terms.specs.Bag.{SameBag}
 use Rattle.qs_store.specs.Content.{Content}
 use Rattle.qs_store.specs.declared.default_graph.DefaultGraph.{DefaultGraph}
-use Rattle.qs_paths_meaning.specs.Pair.{Pair}
+use Rattle.qs_paths_meaning.specs.Pair.{Pair, pair}
 use Rattle.qs_paths_meaning.specs.Walk.{IsIn}
 use Rattle.qs_expr.specs.declared.cell.Cell.{Cell}
 use Rattle.qs_expr.specs.Cell.{denoted}
@@ -61,3 +61,16 @@ pub record GivesPair {V : Type 0} (content : V → Content) (default : V → Def
   pub answers : Answers content default old answer new
   pub again : HasFailed old → answer ≡ Some (Err Memory)
   pub known : known_in content new.edges ≡ known_in content old.edges
+
+-- the pair of terms that two cells denote
+abbrev pub pair_if : Option Term → Option Term → Option Pair
+pair_if None right = None
+pair_if (Some x) None = None
+pair_if (Some x) (Some y) = Some (pair x y)
+
+abbrev pub denoted_pair : List Term → List Term → Cell × Cell → Option Pair
+denoted_pair known table cells = pair_if (denoted known table cells.0) (denoted known table cells.1)
+
+-- by each scratch table the cells denote the pairs still to come, in any order
+abbrev pub AreAll : {V : Type 0} → (V → Content) → (V → DefaultGraph) → Pairs V → List (Cell × Cell) → Type 0
+AreAll content default pairs cells = (table : List Term) (ps : List Pair) → IsToCome content default table pairs ps → SameBag (map (denoted_pair (known_in content pairs.edges) table) cells) (map Some ps)

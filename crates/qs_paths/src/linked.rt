@@ -1,12 +1,13 @@
 //! Closures with both ends open: the path's pairs are found once, and walks followed along them; under `+` from their left ends, else from
-//! each node.
+//! each node. From a node that leads to just what the last walk found no walk is followed.
 
-ghost use Rattle.std.specs.Prelude.{◌≡◌, ◌≢◌, [], length, None, IfOk, OnOk};
+ghost use Rattle.std.specs.Prelude.{◌≡◌, ◌≢◌, [], length, None, true, slice_index_or, IfOk, IfSome, OnOk};
+ghost use Rattle.std.specs.List.{list_any};
 ghost use Rattle.qs_paths_meaning.specs.Closure.{closure};
-ghost use Rattle.qs_paths_meaning.specs.inner.Links.{IsMarked, rows_of};
+ghost use Rattle.qs_paths_meaning.specs.inner.Links.{IsMarked, rows_of, same_number};
 ghost use Rattle.qs_paths_meaning.specs.Pairs.{is_step, pairs};
 ghost use Rattle.qs_syntax_tree.specs.declared.path.Repetition.TheVariants.{ZeroOrOne};
-ghost use Rattle.qs_paths.specs.inner.Links.{IsWeb, LinkSteps, StandsAt, nodes_at};
+ghost use Rattle.qs_paths.specs.inner.Links.{AreAlike, IsWeb, LinkSteps, StandsAt, nodes_at};
 ghost use Rattle.qs_paths.specs.inner.Nodes.{AreBegun, AreEnds, ArePairs, AreStarts, NamesNode};
 
 use crate::found::{Found, left_ends, nodes};
@@ -58,10 +59,14 @@ pub fn linked_from_all<E: Source>(
     let ends = starts_of(alloc, edges, path, repetition, steps)?;
     let mut starts = links.placed(alloc, ends.nodes.as_slice())?;
     put_in_order(alloc, &links, &mut starts)?;
-    let mut found = Reached::new(alloc, links.nodes.as_slice().len())?;
+    let count = links.nodes.as_slice().len();
+    let mut found = Reached::new(alloc, count)?;
+    let mut alike = Reached::new(alloc, count)?;
     let mut rows = Vec::new(alloc);
     for start in starts.as_slice() {
-        walk(edges, path, repetition, &links, *start, &mut found)?;
+        reach(
+            edges, path, repetition, &links, *start, &mut found, &mut alike,
+        )?;
         put_reached(
             &mut rows,
             links.nodes.as_slice(),
@@ -72,7 +77,103 @@ pub fn linked_from_all<E: Source>(
     Ok(rows)
 }
 
-/// Finds what the closure leads to from a node, each once.
+/// A place that leads to what was found, and that a link leads to from the start, which was found too: then the start leads to just that.
+fn place_alike(
+    repetition: Repetition,
+    links: &Links,
+    start: Placed,
+    found: &Reached,
+    alike: &Reached,
+) -> Option<usize>
+    requires web { IsWeb links.now.nodes.keys (rows_of links.now.next.items) }
+    requires at { StandsAt links.now.nodes.keys start.place start.node }
+    requires long { length found.now.rounds.items ≡ length links.now.nodes.keys }
+    requires marked { IsMarked found.now.round found.now.rounds.items found.now.numbers.items }
+    requires long_alike { length alike.now.rounds.items ≡ length links.now.nodes.keys }
+    requires marked_alike { IsMarked alike.now.round alike.now.rounds.items alike.now.numbers.items }
+    ensures closing { IfSome result (λ n. repetition ≢ ZeroOrOne) }
+    ensures found { IfSome result (λ n. list_any (same_number start.place) found.now.numbers.items ≡ true) }
+    ensures row { IfSome result (λ n. list_any (same_number n) (slice_index_or (rows_of links.now.next.items) start.place []) ≡ true) }
+    ensures alike { IfSome result (λ n. list_any (same_number n) alike.now.numbers.items ≡ true) }
+{
+    match repetition {
+        Repetition::ZeroOrOne => None,
+        _ => {
+            if found.has(start.place) {
+                links.reached_from(start.place, alike)
+            } else {
+                None
+            }
+        }
+    }
+}
+
+/// Finds what the closure leads to from a node, each once, by a walk, unless it is what was found before.
+fn walk_unless_alike<E: Source>(
+    edges: &E,
+    path: &Path,
+    repetition: Repetition,
+    links: &Links,
+    start: Placed,
+    found: &mut Reached,
+    alike: &mut Reached,
+) -> Result<(), AllocError>
+    requires web { IsWeb links.now.nodes.keys (rows_of links.now.next.items) }
+    requires links { LinkSteps (E.known edges.now) links.now.nodes.keys (rows_of links.now.next.items) (pairs (E.graph edges.now) path.now) }
+    requires at { StandsAt links.now.nodes.keys start.place start.node }
+    requires node { NamesNode (E.known edges.now) (E.graph edges.now) start.node }
+    requires long { length found.old.rounds.items ≡ length links.now.nodes.keys }
+    requires marked { IsMarked found.old.round found.old.rounds.items found.old.numbers.items }
+    requires long_alike { length alike.old.rounds.items ≡ length links.now.nodes.keys }
+    requires marked_alike { IsMarked alike.old.round alike.old.rounds.items alike.old.numbers.items }
+    requires alike { AreAlike (E.known edges.now) repetition (pairs (E.graph edges.now) path.now) (E.graph edges.now) links.now.nodes.keys found.old.numbers.items alike.old.numbers.items }
+    ensures ends { OnOk result (AreEnds (E.known edges.now) repetition (pairs (E.graph edges.now) path.now) (E.graph edges.now) start.node (nodes_at start.node links.now.nodes.keys found.new.numbers.items)) }
+    ensures long { OnOk result (length found.new.rounds.items ≡ length links.now.nodes.keys) }
+    ensures marked { OnOk result (IsMarked found.new.round found.new.rounds.items found.new.numbers.items) }
+    ensures long_alike { OnOk result (length alike.new.rounds.items ≡ length links.now.nodes.keys) }
+    ensures marked_alike { OnOk result (IsMarked alike.new.round alike.new.rounds.items alike.new.numbers.items) }
+    ensures alike { OnOk result (AreAlike (E.known edges.now) repetition (pairs (E.graph edges.now) path.now) (E.graph edges.now) links.now.nodes.keys found.new.numbers.items alike.new.numbers.items) }
+{
+    if place_alike(repetition, links, start, found, alike).is_some() {
+        return Ok(());
+    }
+    walk(edges, path, repetition, links, start, found)?;
+    alike.clear()?;
+    Ok(())
+}
+
+/// Finds what the closure leads to from a node, each once, and keeps the node's place among those that lead to it.
+fn reach<E: Source>(
+    edges: &E,
+    path: &Path,
+    repetition: Repetition,
+    links: &Links,
+    start: Placed,
+    found: &mut Reached,
+    alike: &mut Reached,
+) -> Result<(), AllocError>
+    requires web { IsWeb links.now.nodes.keys (rows_of links.now.next.items) }
+    requires links { LinkSteps (E.known edges.now) links.now.nodes.keys (rows_of links.now.next.items) (pairs (E.graph edges.now) path.now) }
+    requires at { StandsAt links.now.nodes.keys start.place start.node }
+    requires node { NamesNode (E.known edges.now) (E.graph edges.now) start.node }
+    requires long { length found.old.rounds.items ≡ length links.now.nodes.keys }
+    requires marked { IsMarked found.old.round found.old.rounds.items found.old.numbers.items }
+    requires long_alike { length alike.old.rounds.items ≡ length links.now.nodes.keys }
+    requires marked_alike { IsMarked alike.old.round alike.old.rounds.items alike.old.numbers.items }
+    requires alike { AreAlike (E.known edges.now) repetition (pairs (E.graph edges.now) path.now) (E.graph edges.now) links.now.nodes.keys found.old.numbers.items alike.old.numbers.items }
+    ensures ends { OnOk result (AreEnds (E.known edges.now) repetition (pairs (E.graph edges.now) path.now) (E.graph edges.now) start.node (nodes_at start.node links.now.nodes.keys found.new.numbers.items)) }
+    ensures long { OnOk result (length found.new.rounds.items ≡ length links.now.nodes.keys) }
+    ensures marked { OnOk result (IsMarked found.new.round found.new.rounds.items found.new.numbers.items) }
+    ensures long_alike { OnOk result (length alike.new.rounds.items ≡ length links.now.nodes.keys) }
+    ensures marked_alike { OnOk result (IsMarked alike.new.round alike.new.rounds.items alike.new.numbers.items) }
+    ensures alike { OnOk result (AreAlike (E.known edges.now) repetition (pairs (E.graph edges.now) path.now) (E.graph edges.now) links.now.nodes.keys found.new.numbers.items alike.new.numbers.items) }
+{
+    walk_unless_alike(edges, path, repetition, links, start, found, alike)?;
+    alike.add(start.place)?;
+    Ok(())
+}
+
+/// Finds what the closure leads to from a node, each once, by a walk.
 fn walk<E: Source>(
     edges: &E,
     path: &Path,

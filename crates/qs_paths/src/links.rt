@@ -1,6 +1,6 @@
 //! The pairs of a path as links between nodes that have places.
 
-ghost use Rattle.std.specs.Prelude.{◌≡◌, ℕ, ◌<◌, ◌++◌, [], ◌∷◌, false, length, map, All, slice_index_or, if◌then◌else◌, IfOk, OnOk};
+ghost use Rattle.std.specs.Prelude.{◌≡◌, ℕ, ◌<◌, ◌++◌, [], ◌∷◌, false, true, length, map, All, slice_index_or, if◌then◌else◌, IfOk, IfSome, OnOk};
 ghost use Rattle.std.specs.List.{list_any};
 ghost use Rattle.qs_terms.specs.Term.{same_term};
 ghost use Rattle.qs_terms.specs.declared.term.Term.{Term};
@@ -90,6 +90,17 @@ impl Links {
             all.push(Placed { place, node: *node })?;
         }
         Ok(all)
+    }
+
+    /// A place that stands at this one and was reached, if any was.
+    pub fn reached_from(&self, place: usize, reached: &Reached) -> Option<usize>
+        requires place { place < length self.now.next.items }
+        requires below { All (AreBelow (length reached.now.rounds.items)) (rows_of self.now.next.items) }
+        requires marked { IsMarked reached.now.round reached.now.rounds.items reached.now.numbers.items }
+        ensures row { IfSome result (λ n. list_any (same_number n) (slice_index_or (rows_of self.now.next.items) place []) ≡ true) }
+        ensures reached { IfSome result (λ n. list_any (same_number n) reached.now.numbers.items ≡ true) }
+    {
+        reached.any_of(self.next[place].as_slice())
     }
 
     /// Puts the places that stand at this one at the end of what was reached, each if it isn't there yet.

@@ -1,6 +1,7 @@
 //! Numbers that a walk along links reached, each once.
 
-ghost use Rattle.std.specs.Prelude.{◌≡◌, ◌<◌, ◌++◌, [], length, map, slice_index_or, IfOk, OnOk};
+ghost use Rattle.std.specs.Prelude.{◌≡◌, ◌<◌, ◌++◌, [], true, length, map, slice_index_or, IfOk, IfSome, OnOk};
+ghost use Rattle.std.specs.List.{list_any};
 ghost use Rattle.qs_terms.specs.Bag.{with_new};
 ghost use Rattle.qs_paths_meaning.specs.inner.Links.{AreBelow, IsMarked, same_number, with_numbers};
 ghost use Rattle.qs_paths.specs.inner.Nodes.{node_pair};
@@ -21,6 +22,7 @@ pub struct Reached {
 impl Reached {
     /// None of so many numbers.
     pub fn new(alloc: Global, count: usize) -> Result<Reached, AllocError>
+        ensures none { IfOk result (λ r. r.numbers.items ≡ []) }
         ensures long { IfOk result (λ r. length r.rounds.items ≡ count) }
         ensures marked { IfOk result (λ r. IsMarked r.round r.rounds.items r.numbers.items) }
     {
@@ -56,6 +58,30 @@ impl Reached {
         ensures { result ≡ slice_index_or self.now.numbers.items at result }
     {
         self.numbers[at]
+    }
+
+    /// Whether the number was reached.
+    pub fn has(&self, number: usize) -> bool
+        requires below { number < length self.now.rounds.items }
+        requires marked { IsMarked self.now.round self.now.rounds.items self.now.numbers.items }
+        ensures { result ≡ list_any (same_number number) self.now.numbers.items }
+    {
+        self.rounds[number] == self.round
+    }
+
+    /// One of the numbers that was reached, if any was.
+    pub fn any_of(&self, numbers: &[usize]) -> Option<usize>
+        requires below { AreBelow (length self.now.rounds.items) numbers.now }
+        requires marked { IsMarked self.now.round self.now.rounds.items self.now.numbers.items }
+        ensures one { IfSome result (λ n. list_any (same_number n) numbers.now ≡ true) }
+        ensures reached { IfSome result (λ n. list_any (same_number n) self.now.numbers.items ≡ true) }
+    {
+        for number in numbers {
+            if self.has(*number) {
+                return Some(*number);
+            }
+        }
+        None
     }
 
     /// Puts the number at the end, if it isn't there yet.
@@ -101,11 +127,12 @@ pub fn put_reached(
     requires { AreBelow (length nodes.now) numbers.now }
     ensures { OnOk result (pairs.new.items ≡ pairs.old.items ++ map (node_pair start) (nodes_at start nodes.now numbers.now)) }
 {
+    pairs.reserve(numbers.len())?;
     for number in numbers {
-        pairs.push(NodePair {
+        pairs.push_reserved(NodePair {
             left: start,
             right: nodes[*number],
-        })?;
+        });
     }
     Ok(())
 }

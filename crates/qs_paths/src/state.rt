@@ -1,6 +1,6 @@
 //! The ways in which pairs come: found whole, as a scan finds them, or as a walk does.
 
-ghost use Rattle.std.specs.Prelude.{◌≡◌, ◌≢◌, List, None, Some, IfNone, IfOk, IfSome, IsErr};
+ghost use Rattle.std.specs.Prelude.{◌≡◌, ◌≢◌, List, None, Some, drop, IfNone, IfOk, IfSome, IsErr};
 ghost use Rattle.qs_terms.specs.declared.term.Term.{Term};
 ghost use Rattle.qs_paths_meaning.specs.Steps.{Graph};
 ghost use Rattle.qs_syntax_ast.specs.declared.path.Path.TheVariants as path_is;
@@ -160,6 +160,16 @@ fn whole<'a, V: View>(
 {
     let rows = pairs_of_nodes(alloc, edges, path, left, right)?;
     Ok(State::Whole(Rows { rows, at: 0 }))
+}
+
+/// Those of the pairs that weren't handed out yet.
+pub fn rest_of(rows: &Rows) -> &[NodePair]
+    ensures { result.now ≡ drop rows.now.at rows.now.rows.items }
+{
+    match rows.rows.as_slice().get(rows.at..) {
+        Some(rest) => rest,
+        None => &[],
+    }
 }
 
 /// The next of the pairs that were found whole.

@@ -66,11 +66,21 @@ pub fn put_ends(
     Ok(())
 }
 
-/// The pairs with their ends exchanged.
-pub fn swapped(alloc: Global, pairs: &[NodePair]) -> Result<Vec<NodePair>, AllocError>
-    ensures { IfOk result (λ ps. ps.items ≡ map swapped_nodes pairs.now) }
+fn swap_all(pairs: &mut [NodePair])
+    ensures { pairs.new ≡ map swapped_nodes pairs.old }
 {
-    pairs.iter().map(|pair| pair.swapped()).collect(alloc)
+    for pair in pairs.iter_mut() {
+        *pair = pair.swapped();
+    }
+}
+
+/// The pairs with their ends exchanged.
+pub fn swapped(pairs: Vec<NodePair>) -> Vec<NodePair>
+    ensures { result.items ≡ map swapped_nodes pairs.items }
+{
+    let mut swapped = pairs;
+    swap_all(swapped.as_mut_slice());
+    swapped
 }
 
 pub(crate) fn is_of(member: &NegatedIri, inverse: bool) -> bool
@@ -124,7 +134,7 @@ fn inverse_part<E: Source>(
 {
     if has_any_of(members, true) {
         let pairs = edges.outside(alloc, members, true, right, left)?;
-        let turned = swapped(alloc, pairs.as_slice())?;
+        let turned = swapped(pairs);
         return Ok(turned);
     }
     Ok(Vec::new(alloc))

@@ -1,14 +1,14 @@
 //! The pairs of a path over a view, one by one.
 
-ghost use Rattle.std.specs.Prelude.{◌≡◌, IfOk, IsErr};
-ghost use Rattle.qs_paths.specs.Coming.{GivesPair};
-ghost use Rattle.qs_paths.specs.inner.Nodes.{cell_of};
+ghost use Rattle.std.specs.Prelude.{◌≡◌, map, IfOk, IfSome, IsErr};
+ghost use Rattle.qs_paths.specs.Coming.{AreAll, GivesPair};
+ghost use Rattle.qs_paths.specs.inner.Nodes.{cell_of, node_cells};
 ghost use Rattle.qs_paths.specs.inner.Seen.{graph_in, known_in};
-ghost use Rattle.qs_paths.specs.inner.State.{GivesStep, HasFailedIn};
+ghost use Rattle.qs_paths.specs.inner.State.{GivesStep, HasFailedIn, turned_cells};
 
 use crate::node::{NodePair, cell_of};
 use crate::seen::Seen;
-use crate::state::{Request, State, next_found, next_of_state, start_of};
+use crate::state::{Request, State, next_found, next_of_state, rest_of, start_of};
 use crate::stretch::turned;
 use qs_expr::Cell;
 use qs_store::View;
@@ -45,16 +45,47 @@ fn step<'a, V: View>(
     next_of_state(alloc, edges, state)
 }
 
+/// The cells of pairs that were found, which are turned where the answer is to be.
+fn all_cells(
+    alloc: Global,
+    pairs: &[NodePair],
+    is_turned: bool,
+) -> Result<Vec<(Cell, Cell)>, AllocError>
+    ensures { IfOk result (λ cells. cells.items ≡ map (turned_cells is_turned) pairs.now) }
+{
+    pairs
+        .iter()
+        .map(|pair| cells_of(turned(*pair, is_turned)))
+        .collect(alloc)
+}
+
 /// The cells of a pair.
 #[inline(always)]
 fn cells_of(pair: NodePair) -> (Cell, Cell)
     ensures left { result.0 ≡ cell_of pair.left }
     ensures right { result.1 ≡ cell_of pair.right }
+    ensures both { result ≡ node_cells pair }
 {
     (cell_of(pair.left), cell_of(pair.right))
 }
 
 impl<'a, V: View> Pairs<'a, V> {
+    /// All pairs that are still to come, where they were found whole; none where they are found one by one, or nothing was asked yet.
+    ///
+    /// # Errors
+    /// Out of memory.
+    pub fn rest_found(&self) -> Result<Option<Vec<(Cell, Cell)>>, AllocError>
+        ensures { IfOk result (λ o. IfSome o (λ cells. AreAll V.content V.default_seen self.now cells.items)) }
+    {
+        match (&self.request, &self.state) {
+            (None, State::Whole(rows)) => {
+                let rest = all_cells(self.alloc, rest_of(rows), self.turned)?;
+                Ok(Some(rest))
+            }
+            _ => Ok(None),
+        }
+    }
+
     /// The next pair, wherever it comes from. It stands apart from what each pair that was found before goes through.
     #[inline(never)]
     fn find_next(&mut self) -> Option<Result<(Cell, Cell), QFault>>

@@ -116,6 +116,54 @@ fn handed_out(
     Ok(None)
 }
 
+/// The first pair and those that were found with it, if they were found whole.
+fn found_whole(
+    alloc: Global,
+    store: &Store,
+    active: Active,
+    path: &Path,
+    left: Option<Cell>,
+    right: Option<Cell>,
+) -> Result<Option<Vec<(Cell, Cell)>>, TermFault> {
+    let mut found = Vec::new(alloc);
+    let mut pairs = pairs(alloc, store, active, path, left, right);
+    if !takes_next(&mut pairs, &mut found)? {
+        return Ok(Some(found));
+    }
+    match pairs.rest_found()? {
+        Some(mut rest) => {
+            found.append(&mut rest)?;
+            Ok(Some(found))
+        }
+        None => Ok(None),
+    }
+}
+
+/// Whether the pairs that are asked for are found whole: those between open ends, but not those of one IRI or of a negated set.
+fn comes_whole(question: &Question) -> bool {
+    let is_scanned = matches!(
+        question.form,
+        Form::P | Form::InverseP | Form::NotQ | Form::NotInverseQ
+    );
+    question.left == b'?' && question.right == b'?' && !is_scanned
+}
+
+fn is_found_whole(
+    alloc: Global,
+    store: &Store,
+    active: Active,
+    path: &Path,
+    question: &Question,
+    due: &[(Cell, Cell)],
+) -> Result<bool, TermFault> {
+    let left = end_of(alloc, store, question.left)?;
+    let right = end_of(alloc, store, question.right)?;
+    match found_whole(alloc, store, active, path, left, right)? {
+        Some(found) => Ok(are_same(found.as_slice(), due)),
+        None => Ok(!comes_whole(question)),
+    }
+}
+
 fn is_answered(
     alloc: Global,
     store: &Store,
@@ -127,8 +175,10 @@ fn is_answered(
     let right = end_of(alloc, store, question.right)?;
     let due = cells_due(alloc, store, question.due)?;
     match handed_out(alloc, store, active, path, left, right)? {
-        Some(found) => Ok(are_same(found.as_slice(), due.as_slice())),
-        None => Ok(false),
+        Some(found) if are_same(found.as_slice(), due.as_slice()) => {
+            is_found_whole(alloc, store, active, path, question, due.as_slice())
+        }
+        _ => Ok(false),
     }
 }
 

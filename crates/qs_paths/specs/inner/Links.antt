@@ -1,11 +1,14 @@
 -- The nodes that steps lead to, kept at those that they lead from, by places.
-use Rattle.std.specs.Prelude.{◌≡◌, ℕ, ◌<◌, List, length, map, All, slice_index_or}
+use Rattle.std.specs.Prelude.{◌≡◌, ℕ, ◌<◌, true, List, length, map, All, slice_index_or}
+use Rattle.std.specs.List.{list_any}
 use Rattle.qs_terms.specs.declared.term.Term.{Term}
 use Rattle.qs_terms.specs.Bag.{Distinct}
+use Rattle.qs_syntax_tree.specs.declared.path.Repetition.{Repetition}
 use Rattle.qs_paths_meaning.specs.Pairs.{AtEnds}
+use Rattle.qs_paths_meaning.specs.Steps.{Graph}
 use Rattle.qs_paths_meaning.specs.inner.Links.{AreBelow, AreLinks, HasSteps, leads_to, same_number}
 use Rattle.qs_paths.specs.declared.node.NodePair.{NodePair}
-use Rattle.qs_paths.specs.inner.Nodes.{AreApart, IsNaming, named_pairs, names}
+use Rattle.qs_paths.specs.inner.Nodes.{AreApart, AreEnds, IsNaming, named_pairs, names}
 
 -- the number stands at this place of the list
 abbrev pub StandsAt : List ℕ → ℕ → ℕ → Type 0
@@ -32,3 +35,7 @@ LinkPairs nodes rows es = (name : ℕ → Term) → AreApart name → AreLinks (
 -- these are the links of a path
 abbrev pub LinkSteps : List Term → List ℕ → List (List ℕ) → AtEnds → Type 0
 LinkSteps known nodes rows f = (name : ℕ → Term) → IsNaming known name → HasSteps (names name nodes) rows f
+
+-- from the nodes at these places a closure leads to the nodes at those places, each once
+abbrev pub AreAlike : List Term → Repetition → AtEnds → Graph → List ℕ → List ℕ → List ℕ → Type 0
+AreAlike known repetition f graph nodes found alike = (at n : ℕ) → StandsAt nodes at n → list_any (same_number at) alike ≡ true → AreEnds known repetition f graph n (nodes_at n nodes found)

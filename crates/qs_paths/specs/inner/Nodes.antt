@@ -57,6 +57,9 @@ named_pair name e = pair (name e.left) (name e.right)
 abbrev pub named_pairs : (ℕ → Term) → List NodePair → List Pair
 named_pairs name es = map (named_pair name) es
 
+abbrev pub node_cells : NodePair → Cell × Cell
+node_cells e = (cell_of e.left, cell_of e.right)
+
 abbrev pub both_ends : NodePair → List ℕ
 both_ends e = e.left ∷ e.right ∷ []
 

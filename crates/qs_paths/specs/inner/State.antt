@@ -23,7 +23,8 @@ use Rattle.qs_paths.specs.declared.state.Request.{Request}
 use Rattle.qs_paths.specs.declared.state.Rows.{Rows}
 use Rattle.qs_paths.specs.declared.state.State.{State}
 use Rattle.qs_paths.specs.declared.state.State.TheVariants as state
-use Rattle.qs_paths.specs.inner.Nodes.{IsNaming, named_end, named_pair, named_pairs, names, node_pair, swapped_nodes}
+use Rattle.qs_expr.specs.declared.cell.Cell.{Cell}
+use Rattle.qs_paths.specs.inner.Nodes.{IsNaming, named_end, named_pair, named_pairs, names, node_cells, node_pair, swapped_nodes}
 use Rattle.qs_paths.specs.inner.Scans.{edges_in}
 
 -- ---- one pair after another
@@ -135,6 +136,9 @@ GivesLeft known graph old o new = (name : ℕ → Term) → IsNaming known name 
 abbrev pub turn : Bool → NodePair → NodePair
 turn false e = e
 turn true e = swapped_nodes e
+
+abbrev pub turned_cells : Bool → NodePair → Cell × Cell
+turned_cells b e = node_cells (turn b e)
 
 -- one step of all: the pair that is answered is turned as the state says afterwards
 abbrev pub GivesStep : List Term → Graph → Option Request → Bool → State → Option NodePair → Option Request → Bool → State → Type 0

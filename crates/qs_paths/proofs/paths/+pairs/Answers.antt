@@ -14,9 +14,9 @@ pub pairs_of_nodes-returns-in_ok-rows-in-Alternative : goal.pairs_of_nodes-retur
 pairs_of_nodes-returns-in_ok-rows-in-Alternative g t c =
     any_named (g.E.Source.known c.args.edges.now) (g.E.Source.graph c.args.edges.now) c.args.path.now c.args.left c.args.right c.in_ok-rows-in-Alternative.rows.items c.in-Alternative.parts c.as_slice-in-Alternative.result.now c.in-Alternative.is c.as_slice-in-Alternative.ensures c.in_ok-rows-in-Alternative.ensures
 
-pub pairs_of_nodes-returns-in_ok-rows-in-Inverse : goal.pairs_of_nodes-returns-in_ok-rows-in-Inverse
-pairs_of_nodes-returns-in_ok-rows-in-Inverse g t c =
-    inverse_named (g.E.Source.known c.args.edges.now) (g.E.Source.graph c.args.edges.now) c.args.path.now c.args.left c.args.right c.in_ok-rows-in-Inverse.rows.items c.in-Inverse.inner c.get.result.now c.in_ok-inverse-in-Inverse.inverse.items c.as_slice-in-Inverse.result.now c.in-Inverse.is c.get.ensures c.in_ok-inverse-in-Inverse.ensures c.as_slice-in-Inverse.ensures.value c.in_ok-rows-in-Inverse.ensures
+pub pairs_of_nodes-returns-in_ok-inverse-in-Inverse : goal.pairs_of_nodes-returns-in_ok-inverse-in-Inverse
+pairs_of_nodes-returns-in_ok-inverse-in-Inverse g t c =
+    inverse_named (g.E.Source.known c.args.edges.now) (g.E.Source.graph c.args.edges.now) c.args.path.now c.args.left c.args.right c.swapped-rows.result.items c.in-Inverse.inner c.get.result.now c.in_ok-inverse-in-Inverse.inverse.items c.in_ok-inverse-in-Inverse.inverse.items c.in-Inverse.is c.get.ensures c.in_ok-inverse-in-Inverse.ensures refl c.swapped-rows.ensures
 
 pub pairs_of_any-pairs_of_nodes-requires : goal.pairs_of_any-pairs_of_nodes-requires
 pairs_of_any-pairs_of_nodes-requires g t c = search (rules, the_lemmas)
@@ -49,9 +49,9 @@ begin-returns-in_ok-add_rights-in-OneOrMore g t c =
     begun_next (g.E.Source.known c.args.edges.now) (g.E.Source.graph c.args.edges.now) c.args.path.now c.args.repetition c.args.backward c.args.start c.args.found.now.nodes.keys c.add_rights-in-OneOrMore.new.self.nodes.keys c.in_ok-first-in-OneOrMore.first.items c.as_slice-in-OneOrMore.result.now
     c.in-OneOrMore.is c.requires c.in_ok-first-in-OneOrMore.ensures c.as_slice-in-OneOrMore.ensures.value c.in_ok-add_rights-in-OneOrMore.ensures
 
-pub closure-returns-in_ok-rows-in-None-Some : goal.closure-returns-in_ok-rows-in-None-Some
-closure-returns-in_ok-rows-in-None-Some g t c =
-    closure_right (g.E.Source.known c.args.edges.now) (g.E.Source.graph c.args.edges.now) c.args.path.now c.args.repetition c.args.left c.args.right c.in-None-Some.right c.in_ok-inverse-in-None-Some.inverse.items c.as_slice.result.now c.in_ok-rows-in-None-Some.rows.items c.in-None-Some.is-0 c.in-None-Some.is-1 c.in_ok-inverse-in-None-Some.ensures c.as_slice.ensures.value c.in_ok-rows-in-None-Some.ensures
+pub closure-returns-in_ok-inverse-in-None-Some : goal.closure-returns-in_ok-inverse-in-None-Some
+closure-returns-in_ok-inverse-in-None-Some g t c =
+    closure_right (g.E.Source.known c.args.edges.now) (g.E.Source.graph c.args.edges.now) c.args.path.now c.args.repetition c.args.left c.args.right c.in-None-Some.right c.in_ok-inverse-in-None-Some.inverse.items c.in_ok-inverse-in-None-Some.inverse.items c.swapped-rows.result.items c.in-None-Some.is-0 c.in-None-Some.is-1 c.in_ok-inverse-in-None-Some.ensures refl c.swapped-rows.ensures
 
 pub from_the_left-loop-at-preserved : goal.from_the_left-loop-at-preserved
 from_the_left-loop-at-preserved g t c = record {
@@ -99,6 +99,6 @@ searched-returns g t c =
     searched_all (g.E.Source.known c.args.edges.now) (g.E.Source.graph c.args.edges.now) c.args.path.now c.args.repetition c.args.backward c.args.start c.loop-at.found.nodes.keys c.loop-at.at c.requires.closing c.loop-at.invariant.searching
     (let k : length c.loop-at.found.nodes.keys ≤ c.loop-at.at = omega (arith, c.len.ensures, c.loop-at-test.false) in k)
 
-pub stepped-returns-in_ok-rows : goal.stepped-returns-in_ok-rows
-stepped-returns-in_ok-rows g t c =
-    stepped_back (g.E.Source.known c.args.edges.now) (g.E.Source.graph c.args.edges.now) c.args.path.now c.args.backward c.args.node c.in_ok-inverse.inverse.items c.as_slice.result.now c.in_ok-rows.rows.items c.if-backward.true c.in_ok-inverse.ensures c.as_slice.ensures.value c.in_ok-rows.ensures
+pub stepped-returns-in_ok-inverse : goal.stepped-returns-in_ok-inverse
+stepped-returns-in_ok-inverse g t c =
+    stepped_back (g.E.Source.known c.args.edges.now) (g.E.Source.graph c.args.edges.now) c.args.path.now c.args.backward c.args.node c.in_ok-inverse.inverse.items c.in_ok-inverse.inverse.items c.swapped-rows.result.items c.if-backward.true c.in_ok-inverse.ensures refl c.swapped-rows.ensures
