@@ -23,11 +23,11 @@ same_self x = (same_term-Decides x x).1 refl
 
 -- ---- one cell
 
-abbrev consed : Option Term → Option Solution → Option Solution
+abbrev pub consed : Option Term → Option Solution → Option Solution
 consed x None = None
 consed x (Some m) = Some (x ∷ m)
 
-abbrev put : ℕ → Term → Solution → Option Solution
+abbrev pub put : ℕ → Term → Solution → Option Solution
 put zero t [] = Some []
 put (suc v) t [] = Some []
 put zero t (None ∷ m) = Some (Some t ∷ m)
@@ -42,7 +42,7 @@ consed_at x (Some y) v t m = at (same_term y t) refl
     at true e = rw e refl
     at false e = rw e refl
 
-put_is : (v : ℕ) (t : Term) (m : Solution) → bound_at (term_at m v) v t m ≡ put v t m
+pub put_is : (v : ℕ) (t : Term) (m : Solution) → bound_at (term_at m v) v t m ≡ put v t m
 put_is zero t [] = refl
 put_is (suc v) t [] = refl
 put_is zero t (None ∷ m) = refl

@@ -22,10 +22,10 @@ use Rattle.qs_plan_meaning.specs.declared.stage.Stage.TheVariants as stage
 use Rattle.qs_plan_meaning.specs.Stages.{Made, looked, graph_named, through}
 use Rattle.qs_plan.specs.inner.Lays.{Ready, After, Lays, joined_with}
 use Rattle.qs_plan.proofs.Commutes.{all_map, merges_append, merges_joined}
-use Rattle.qs_plan.proofs.Levels.{gives_names, gives_name, through_append, through_one}
+use Rattle.qs_plan.proofs.Levels.{gives_names, gives_name, through_append, through_one, map_flat}
 use Rattle.qs_plan.proofs.Operators.{flat_map_same}
 use Rattle.qs_plan.proofs.Widths.{all_append, all_flat, binding_width, short_merges}
-use Rattle.qs_plan.proofs.Laying.{between, map_flat, merges_after}
+use Rattle.qs_plan.proofs.Laying.{between, merges_after}
 
 -- ---- of each name
 

@@ -31,7 +31,7 @@ use Rattle.qs_plan_meaning.specs.Stages.{Made, looked, graph_named, kept_if, onl
 use Rattle.qs_plan.specs.inner.Lays.{Ready, After, Within, Makes, Lays, joined_with, joined_with_all, stepped, all_stepped, all_kept, IsLinear, LaysStep, IsJoin}
 use Rattle.qs_plan_meaning.specs.Stages.{register_of}
 use Rattle.qs_plan.proofs.Commutes.{all_map, merges_append, merges_joined}
-use Rattle.qs_plan.proofs.Levels.{gives_exists, gives_filter, gives_bind, gives_values, gives_union, gives_optional, gives_minus, gives_apart, through_append, through_one, flat_ap}
+use Rattle.qs_plan.proofs.Levels.{gives_exists, gives_filter, gives_bind, gives_values, gives_union, gives_optional, gives_minus, gives_apart, through_append, through_one, flat_ap, map_flat}
 use Rattle.qs_plan.proofs.Operators.{filter_same, flat_map_same, merges_same, alone_same}
 use Rattle.qs_plan.proofs.RunStages.{looked_same, after_refl}
 use Rattle.qs_plan.proofs.Widths.{IsWide, all_append, all_filter, all_mapped, all_flat, length_unbound, unbound_at, unbound_compatible, unbound_merge, merge_width, merge_past, short_merges, taken_short, table_width, extended_width, eval_merges}
@@ -44,10 +44,6 @@ same xs ys e = subst (SameBag xs) e (IsPermutation-refl xs)
 -- equal before, and equal after
 pub between : (xs xs' ys ys' : List Solution) → xs ≡ xs' → SameBag xs' ys' → ys' ≡ ys → SameBag xs ys
 between xs xs' ys ys' e h f = subst (SameBag xs) f (subst (λ (l : List Solution). SameBag l ys') (sym e) h)
-
-pub map_flat : (f : Solution → Solution) (g : Made) (xs : List Solution) → map f (flat_map g xs) ≡ flat_map (λ x. map f (g x)) xs
-map_flat f g [] = refl
-map_flat f g (x ∷ xs) = map-append f (g x) (flat_map g xs) ∙ ap (λ l. map f (g x) ++ l) (map_flat f g xs)
 
 -- the same bag of each of them
 pub flat_each : (P : Solution → Type 0) (f g : Made) → ((x : Solution) → P x → SameBag (f x) (g x)) → (xs : List Solution) → AllByRecursion P xs → SameBag (flat_map f xs) (flat_map g xs)

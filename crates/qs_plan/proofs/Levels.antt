@@ -1,6 +1,7 @@
 -- What stages make of a row, by their variants.
 use Rattle.std.proofs.Common.{rules, ◌≡◌, ℕ, not, List, [], ◌∷◌, ◌++◌, map, take, drop, Option, refl, sym, ◌∙◌, ap, append-nil}
 use Rattle.std.specs.List.{filter, flat_map, list_any}
+use Rattle.std.proofs.lemmas.List.{map-append}
 use Rattle.std.proofs.lemmas.List.Folds.{flat_map-map}
 use Rattle.qs_terms.specs.Statement.{Statement}
 use Rattle.qs_terms.specs.declared.term.Term.{Term}
@@ -95,6 +96,10 @@ one_each (x ∷ xs) = ap (λ l. x ∷ l) (one_each xs)
 pub flat_ap : {X Y : Type 0} (f g : X → List Y) → ((x : X) → f x ≡ g x) → (xs : List X) → flat_map f xs ≡ flat_map g xs
 flat_ap f g h [] = refl
 flat_ap f g h (x ∷ xs) = ap (λ l. l ++ flat_map f xs) (h x) ∙ ap (λ l. g x ++ l) (flat_ap f g h xs)
+
+pub map_flat : (f : Solution → Solution) (g : Made) (xs : List Solution) → map f (flat_map g xs) ≡ flat_map (λ x. map f (g x)) xs
+map_flat f g [] = refl
+map_flat f g (x ∷ xs) = map-append f (g x) (flat_map g xs) ∙ ap (λ l. map f (g x) ++ l) (map_flat f g xs)
 
 pub along_append : (fs gs : List Made) (m : Solution) → along (fs ++ gs) m ≡ flat_map (along gs) (along fs m)
 along_append [] gs m = sym (append-nil (along gs m))

@@ -27,3 +27,5 @@ pub mod Keeping
 pub mod Getting
 pub mod Moving
 pub mod Entering
+pub mod Pairing
+pub mod Joining

@@ -5,3 +5,4 @@ pub mod Lays
 pub mod Sames
 pub mod Reads
 pub mod Certain
+pub mod Joins

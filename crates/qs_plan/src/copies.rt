@@ -6,6 +6,7 @@ use qs_algebra_patterns::{PathPattern, Slot, Table, TriplePattern};
 use qs_base::{Shared, keep_beside};
 use qs_expr_meaning::{Addend, Expr};
 use qs_plan_meaning::{Group, Stage};
+use qs_syntax_ast::path::{NegatedIri, Path};
 use qs_terms::Term;
 use sqlite_items::{Boxed, Items};
 use std::alloc::{AllocError, Global};
@@ -193,9 +194,83 @@ fn copied_table(alloc: Global, table: &Table) -> Result<Table, AllocError>
     Ok(Table { variables, rows })
 }
 
+// ---- paths
+
+fn copied_members(alloc: Global, members: &[NegatedIri]) -> Result<Items<NegatedIri>, AllocError>
+    ensures { IfOk result (λ copies. copies ≡ members.now) }
+{
+    let mut copies = Items::new(alloc);
+    for member in members {
+        let iri = member.iri.try_clone()?;
+        copies.push(NegatedIri {
+            inverse: member.inverse,
+            iri,
+        })?;
+    }
+    Ok(copies)
+}
+
+/// An equal path of its own.
+#[cycle(path)]
+fn path_copy(alloc: Global, path: &Path) -> Result<Path, AllocError>
+    ensures { IfOk result (λ copy. copy ≡ path.now) }
+{
+    match path {
+        Path::Iri(iri) => Ok(Path::Iri(iri.try_clone()?)),
+        Path::NegatedSet(members) => {
+            let members = copied_members(alloc, members.as_slice())?;
+            Ok(Path::NegatedSet(members))
+        }
+        Path::Alternative(parts) => {
+            let parts = path_copies(alloc, parts.as_slice())?;
+            Ok(Path::Alternative(parts))
+        }
+        Path::Sequence(parts) => {
+            let parts = path_copies(alloc, parts.as_slice())?;
+            Ok(Path::Sequence(parts))
+        }
+        Path::Inverse(inner) => {
+            let inner = path_box(alloc, inner.get())?;
+            Ok(Path::Inverse(inner))
+        }
+        Path::Repeated(inner, repetition) => {
+            let inner = path_box(alloc, inner.get())?;
+            Ok(Path::Repeated(inner, *repetition))
+        }
+    }
+}
+
+#[cycle(path)]
+fn path_box(alloc: Global, path: &Path) -> Result<Boxed<Path>, AllocError>
+    ensures { IfOk result (λ copy. copy ≡ path.now) }
+{
+    let copy = path_copy(alloc, path)?;
+    Boxed::new(alloc, copy)
+}
+
+#[cycle(path)]
+fn path_copies(alloc: Global, parts: &[Path]) -> Result<Items<Path>, AllocError>
+    ensures { IfOk result (λ copies. copies ≡ parts.now) }
+{
+    let mut copies = Items::new(alloc);
+    for part in parts {
+        let copy = path_copy(alloc, part)?;
+        copies.push(copy)?;
+    }
+    Ok(copies)
+}
+
+/// An equal path, to be shared.
+pub(crate) fn shared_path(alloc: Global, path: &Path) -> Result<Shared<Path>, AllocError>
+    ensures { IfOk result (λ copy. copy ≡ path.now) }
+{
+    let copy = path_copy(alloc, path)?;
+    Shared::new(alloc, copy)
+}
+
 // ---- stages
 
-fn copied_slot(slot: &Slot) -> Result<Slot, AllocError>
+pub(crate) fn copied_slot(slot: &Slot) -> Result<Slot, AllocError>
     ensures { IfOk result (λ s. s ≡ slot.now) }
 {
     match slot {

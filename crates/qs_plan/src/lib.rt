@@ -6,6 +6,7 @@ mod certain;
 mod copies;
 mod display;
 mod filters;
+mod joins;
 mod laid;
 mod lay;
 mod leaves;

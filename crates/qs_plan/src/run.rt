@@ -5,10 +5,12 @@ ghost use Rattle.qs_algebra_patterns.specs.Basic.{is_repeated};
 ghost use Rattle.qs_algebra_patterns.specs.declared.pattern.PatternNode.TheVariants.{Basic};
 ghost use Rattle.qs_plan_meaning.specs.declared.stage.Stage.TheVariants as stage;
 ghost use Rattle.qs_plan.specs.inner.Below as below;
+ghost use Rattle.qs_plan.specs.inner.Joins.{IsRun};
 ghost use Rattle.qs_plan.specs.inner.Lays.{Lays, Within, joined_with};
 ghost use Rattle.qs_plan.specs.inner.Numbers as spec;
 ghost use Rattle.qs_plan.specs.inner.Numbers.{past};
 
+use crate::joins::join_paths;
 use crate::laid::{Laid, alone};
 use qs_algebra_patterns::{BasicPattern, PathPattern, Slot, TriplePattern};
 use qs_base::keep_beside;
@@ -137,7 +139,7 @@ fn other_end(one: &Slot, other: &Slot) -> usize
     }
 }
 
-fn path_of(
+pub(crate) fn path_of(
     width: usize,
     hidden: usize,
     from: usize,
@@ -191,40 +193,6 @@ fn triple_stages(
     Ok(stages)
 }
 
-fn path_stage(
-    width: usize,
-    hidden: usize,
-    from: usize,
-    look: &Look,
-    pattern: &PathPattern,
-) -> Result<Stage, AllocError>
-    requires { from + hidden < 2 ^ 64 }
-    ensures { IfOk result (λ s. s ≡ stage.Path look.now (spec.path_of width hidden from pattern.now)) }
-{
-    let pattern = path_of(width, hidden, from, pattern)?;
-    let look = look.try_clone()?;
-    Ok(Stage::Path(look, pattern))
-}
-
-fn path_stages(
-    alloc: Global,
-    width: usize,
-    hidden: usize,
-    from: usize,
-    look: &Look,
-    paths: &[PathPattern],
-) -> Result<Items<Stage>, AllocError>
-    requires { from + hidden < 2 ^ 64 }
-    ensures { IfOk result (λ ss. ss ≡ spec.path_stages width hidden from look.now paths.now) }
-{
-    let mut stages = Items::new(alloc);
-    for path in paths {
-        let stage = path_stage(width, hidden, from, look, path)?;
-        stages.push(stage)?;
-    }
-    Ok(stages)
-}
-
 /// The triples of a basic graph pattern, and after them its paths.
 fn run_stages(
     alloc: Global,
@@ -232,18 +200,24 @@ fn run_stages(
     pattern: &BasicPattern,
     look: &Look,
     from: usize,
-) -> Result<Items<Stage>, AllocError>
-    requires { from + pattern.now.hidden < 2 ^ 64 }
-    ensures { IfOk result (λ ss. ss ≡ spec.triple_stages width pattern.now.hidden from look.now pattern.now.triples ++ spec.path_stages width pattern.now.hidden from look.now pattern.now.paths) }
+) -> Result<Laid, AllocError>
+    requires named { width ≤ from }
+    requires room { from + pattern.now.hidden < 2 ^ 64 }
+    requires within { Within width from look.now }
+    ensures { IfOk result (λ l. IsRun width from l.next look.now pattern.now l.stages) }
 {
     let hidden = pattern.hidden;
-    let paths = path_stages(alloc, width, hidden, from, look, pattern.paths.as_slice())?;
+    let paths = join_paths(alloc, width, hidden, from, look, pattern.paths.as_slice())?;
+    let Laid {
+        stages: paths,
+        next,
+    } = paths;
     let (paths, mut stages) = keep_beside(
         paths,
         triple_stages(alloc, width, hidden, from, look, pattern.triples.as_slice()),
     )?;
     stages.append(paths)?;
-    Ok(stages)
+    Ok(Laid { stages, next })
 }
 
 /// The number of the first cell after `count` from this one on. A row of more cells than there are numbers finds no memory.
@@ -268,8 +242,8 @@ pub fn lay_run(
 {
     let next = room_after(from, pattern.hidden)?;
     if has_all_below(pattern, width) {
-        let stages = run_stages(alloc, width, pattern, look, from)?;
-        return Ok(Laid { stages, next });
+        let laid = run_stages(alloc, width, pattern, look, from)?;
+        return Ok(laid);
     }
     let laid = never(alloc, next)?;
     Ok(laid)

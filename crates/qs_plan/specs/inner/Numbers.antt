@@ -41,6 +41,3 @@ path_of width hidden from p = record {
 
 abbrev pub triple_stages : ℕ → ℕ → ℕ → Look → List TriplePattern → List Stage
 triple_stages width hidden from place triples = map (λ p. stage.Triple place (triple_of width hidden from p)) triples
-
-abbrev pub path_stages : ℕ → ℕ → ℕ → Look → List PathPattern → List Stage
-path_stages width hidden from place paths = map (λ p. stage.Path place (path_of width hidden from p)) paths
