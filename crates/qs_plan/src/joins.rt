@@ -309,7 +309,8 @@ fn join_path(
     Ok(laid)
 }
 
-/// The stages of the path patterns of a basic graph pattern whose cells stand from `start` on, one after another.
+/// The stages of the path patterns of a basic graph pattern whose cells stand from `start` on, one after another. Further hidden variables are
+/// numbered from `from` on.
 pub(crate) fn join_paths(
     alloc: Global,
     width: usize,
@@ -317,14 +318,15 @@ pub(crate) fn join_paths(
     start: usize,
     look: &Look,
     paths: &[PathPattern],
+    from: usize,
 ) -> Result<Laid, AllocError>
     requires named { width ≤ start }
-    requires room { start + hidden < 2 ^ 64 }
+    requires room { from ≡ start + hidden }
     requires within { Within width start look.now }
     ensures { IfOk result (λ l. JoinedAll look.now (start + hidden) l.next l.stages (map (spec.path_of width hidden start) paths.now)) }
 {
     let mut stages = Items::new(alloc);
-    let mut next = start + hidden;
+    let mut next = from;
     for path in paths {
         let pattern = path_of(width, hidden, start, path)?;
         let laid = join_path(alloc, look, pattern, next)?;

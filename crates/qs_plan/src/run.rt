@@ -193,21 +193,23 @@ fn triple_stages(
     Ok(stages)
 }
 
-/// The triples of a basic graph pattern, and after them its paths.
+/// The triples of a basic graph pattern, and after them its paths. The number `next` is that of the first cell after its hidden variables.
 fn run_stages(
     alloc: Global,
     width: usize,
     pattern: &BasicPattern,
     look: &Look,
     from: usize,
+    next: usize,
 ) -> Result<Laid, AllocError>
     requires named { width ≤ from }
-    requires room { from + pattern.now.hidden < 2 ^ 64 }
+    requires room { next ≡ from + pattern.now.hidden }
     requires within { Within width from look.now }
     ensures { IfOk result (λ l. IsRun width from l.next look.now pattern.now l.stages) }
 {
     let hidden = pattern.hidden;
-    let paths = join_paths(alloc, width, hidden, from, look, pattern.paths.as_slice())?;
+    let paths = pattern.paths.as_slice();
+    let paths = join_paths(alloc, width, hidden, from, look, paths, next)?;
     let Laid {
         stages: paths,
         next,
@@ -242,7 +244,7 @@ pub fn lay_run(
 {
     let next = room_after(from, pattern.hidden)?;
     if has_all_below(pattern, width) {
-        let laid = run_stages(alloc, width, pattern, look, from)?;
+        let laid = run_stages(alloc, width, pattern, look, from, next)?;
         return Ok(laid);
     }
     let laid = never(alloc, next)?;

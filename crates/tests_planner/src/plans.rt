@@ -28,10 +28,64 @@ const PLANS: &[(&str, &str)] = &[
         "SELECT * { ?a <u:p> ?b . ?b <u:q> ?a . ?a <u:r> ?b }",
         "triple ?0 <u:p> ?1\ntriple ?1 <u:q> ?0\ntriple ?0 <u:r> ?1\n",
     ),
-    // a path is evaluated with its variables open; its predicate is a place that is fixed
+    // a path that isn't joined is evaluated with its variables open; its predicate is a place that is fixed
     (
         "SELECT * { ?a <u:p>/<u:q>* ?b . ?b <u:r> 'x' }",
         "triple ?1 <u:r> \"x\"\npath ?0 (/ <u:p> <u:q>*) ?1\n",
+    ),
+    // a sequence is the triples of its parts, with a hidden variable between two of them, and an end that repeats a variable stays one
+    (
+        "SELECT * { ?a <u:p>/<u:q>/<u:r> ?b }",
+        "triple ?0 <u:p> ?2\ntriple ?2 <u:q> ?3\ntriple ?3 <u:r> ?1\n",
+    ),
+    (
+        "SELECT * { ?a <u:p>/<u:q> ?a }",
+        "triple ?0 <u:p> ?1\ntriple ?1 <u:q> ?0\n",
+    ),
+    // the part next to an end that is given comes first
+    (
+        "SELECT * { ?a <u:p>/<u:q> <u:c> }",
+        "triple ?1 <u:q> <u:c>\ntriple ?0 <u:p> ?1\n",
+    ),
+    // the hidden variables of sequences come after those of blank nodes
+    (
+        "SELECT * { ?a <u:p>/<u:q> _:x . _:x <u:r> ?b }",
+        "triple ?2 <u:r> ?1\ntriple ?3 <u:q> ?2\ntriple ?0 <u:p> ?3\n",
+    ),
+    // an alternative is a union, whose branches may have their hidden variables in common, and an inverse exchanges the ends
+    (
+        "SELECT * { ?a <u:p>|^<u:q> ?b }",
+        "union\n  branch\n    triple ?0 <u:p> ?1\n  branch\n    triple ?1 <u:q> ?0\n",
+    ),
+    (
+        "SELECT * { ?a (<u:p>/<u:q>)|(<u:r>/<u:s>) ?b }",
+        "union\n  branch\n    triple ?0 <u:p> ?2\n    triple ?2 <u:q> ?1\n  branch\n    triple ?0 <u:r> ?2\n    triple ?2 <u:s> ?1\n",
+    ),
+    (
+        "SELECT * { ?a ^(<u:p>/<u:q>) ?b }",
+        "triple ?1 <u:p> ?2\ntriple ?2 <u:q> ?0\n",
+    ),
+    // closures and negated sets stay paths, which are joined with the other parts where one of their ends is given
+    (
+        "SELECT * { <u:a> <u:p>+/<u:q> ?b }",
+        "path <u:a> <u:p>+ ?1\ntriple ?1 <u:q> ?0\n",
+    ),
+    (
+        "SELECT * { ?a <u:p>/<u:q>* <u:c> }",
+        "path ?1 <u:q>* <u:c>\ntriple ?0 <u:p> ?1\n",
+    ),
+    (
+        "SELECT * { ?a !<u:p>|<u:q> ?b }",
+        "union\n  branch\n    path ?0 !(<u:p>|) ?1\n  branch\n    triple ?0 <u:q> ?1\n",
+    ),
+    // the parts look where the path does
+    (
+        "SELECT * { GRAPH ?g { ?a <u:p>/<u:q> ?b } }",
+        "names ?3\ntriple ?1 <u:p> ?4 in ?3\ntriple ?4 <u:q> ?2 in ?3\nname ?0 = ?3\n",
+    ),
+    (
+        "SELECT * { GRAPH <u:g> { ?a <u:p>|<u:q> ?b } }",
+        "exists <u:g>\nunion\n  branch\n    triple ?0 <u:p> ?1 in <u:g>\n  branch\n    triple ?0 <u:q> ?1 in <u:g>\n",
     ),
     // what is optional is evaluated by itself, under its own conditions
     (
