@@ -1,8 +1,9 @@
 -- The pairs of a path, kept one after another.
 use Rattle.std.proofs.Common.{◌≡◌, ℕ, zero, suc, Bool, true, false, cond, not, ◌||◌, Option, Some, None, if◌then◌else◌, List, [], ◌∷◌, ◌++◌, map, slice_get, Ok, refl, sym, ◌∙◌, ap, subst}
+use Rattle.std.specs.Prelude.{IfSome, Vec}
 use Rattle.std.specs.List.{filter, Contains}
 use Rattle.std.proofs.lemmas.List.{append_assoc, append-nil, map-append}
-use Rattle.std.proofs.lemmas.List.Sorted.{Contains-permutation, IsPermutation-append_right, IsPermutation-map, IsPermutation-refl, IsPermutation-sym, IsPermutation-trans}
+use Rattle.std.proofs.lemmas.List.Sorted.{Contains-permutation, IsPermutation-append_comm, IsPermutation-append_right, IsPermutation-map, IsPermutation-refl, IsPermutation-sym, IsPermutation-trans}
 use Rattle.std.proofs.lemmas.Option.{none-some}
 use Rattle.qs_terms.specs.Bag.{SameBag}
 use Rattle.qs_terms.specs.declared.term.Term.{Term}
@@ -20,7 +21,7 @@ use Rattle.qs_expr.specs.Cell.{denoted, denoted_if, same_cell, FitsIf}
 use Rattle.qs_expr.specs.Scratch.{Grows, IsTable}
 use Rattle.qs_expr.proofs.Finding.{same_cells, some_of, term_there}
 use Rattle.qs_paths.proofs.Lists.{map_has, member_of_map}
-use Rattle.qs_paths.specs.Coming.{GivesPair, IsToCome}
+use Rattle.qs_paths.specs.Coming.{AreAll, GivesPair, IsToCome}
 use Rattle.qs_paths.specs.declared.stream.Pairs.{Pairs}
 use Rattle.qs_paths.specs.inner.Seen.{known_in}
 use Rattle.qs_plan_meaning.specs.Scans.{path_pairs}
@@ -126,6 +127,28 @@ module _ {V : Type 0} (content : V → Content) (default : V → DefaultGraph) (
       subst (λ (k : List Term). ArePairs k table kept' (filter (keeps repeated) ps)) u.known
       (subst (λ (k : List (Cell × Cell)). ArePairs (known_in content old.edges) table k (filter (keeps repeated) ps)) (sym w.is)
       (ended content default table repeated old new kept ps w.gives (u.each table ps is_table h)))
+
+  all_kept : (b : Bool) (es : List Pair) → b ≡ false → filter (keeps b) es ≡ es
+  all_kept true es e = absurd (let f : true ≡ false = e in cc)
+  all_kept false [] e = refl
+  all_kept false (x ∷ es) e = ap (λ l. x ∷ l) (all_kept false es e)
+
+  -- the others were found whole
+  ends_all : (first pairs : Pairs V) (kept rest both : List (Cell × Cell)) → IsUnderWay first pairs kept → repeated ≡ false → AreAll content default pairs rest → both ≡ rest ++ kept → AreCollected content default first repeated both
+  ends_all first pairs kept rest both u n all e table ps is_table h =
+      let w = u.each table ps is_table h in
+      let known = known_in content pairs.edges in
+      let denote = denoted_pair known table in
+      let r : SameBag (map denote rest) (map Some (filter (keeps repeated) w.left)) = subst (λ (l : List Pair). SameBag (map denote rest) (map Some l)) (sym (all_kept repeated w.left n)) (all table w.left w.to_come) in
+      subst (λ (k : List Term). ArePairs k table both (filter (keeps repeated) ps)) u.known
+      (subst (λ (l : List (Option Pair)). SameBag l (map Some (filter (keeps repeated) ps))) (sym (ap (map denote) e ∙ map-append denote rest kept))
+      (IsPermutation-trans _ _ _ (IsPermutation-append_comm (map denote rest) (map denote kept))
+      (IsPermutation-trans _ _ _ (IsPermutation-append_right (map denote kept) _ _ r) (IsPermutation-sym _ _ w.bag))))
+
+  pub ends_whole : {Z : Type 0} (first pairs : Pairs V) (kept : List (Cell × Cell)) (o : Option (Vec (Cell × Cell) Z)) (rest : Vec (Cell × Cell) Z) (both : List (Cell × Cell)) → IsUnderWay first pairs kept → o ≡ Some rest
+      → IfSome o (λ r. repeated ≡ false) → IfSome o (λ r. AreAll content default pairs r.items) → both ≡ rest.items ++ kept → AreCollected content default first repeated both
+  ends_whole first pairs kept o rest both u is n all e =
+      ends_all first pairs kept rest.items both u (subst (λ (q : Option (Vec (Cell × Cell) _)). IfSome q (λ r. repeated ≡ false)) is n) (subst (λ (q : Option (Vec (Cell × Cell) _)). IfSome q (λ r. AreAll content default pairs r.items)) is all) e
 
 -- ---- the pairs of a pattern
 

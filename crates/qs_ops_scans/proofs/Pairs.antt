@@ -24,7 +24,9 @@ use Rattle.qs_plan_meaning.specs.Scans.{bound_end, bound_ends, path_extensions, 
 use Rattle.qs_ops_scans.specs.Makes.{AreMade}
 use Rattle.qs_ops_scans.specs.Paths.{denoted_pair, pair_if, ArePairs}
 use Rattle.qs_ops_scans.specs.declared.ends.Ends.{Ends}
-use Rattle.qs_ops_scans.specs.inner.Ends.{agrees_cell, binds_end, cell_after, end_bound, ends_of, object_agrees, pair_agrees, pair_bound, pair_made, set_open, subject_agrees, variable_of}
+use Rattle.qs_ops_scans.specs.declared.ends.EndAct.TheVariants.{Bind}
+use Rattle.qs_ops_scans.specs.declared.ends.EndActs.{EndActs}
+use Rattle.qs_ops_scans.specs.inner.Ends.{act_agrees, act_bound, act_for, act_made, acts_agree, acts_bound, agrees_cell, binds_end, cell_after, end_acts, end_bound, ends_of, object_act, object_agrees, open_act, pair_bound, pair_made, set_open, subject_act, subject_agrees, variable_of}
 use Rattle.qs_ops_scans.proofs.Scanned.{flat_map_same}
 use Rattle.qs_ops_scans.proofs.Steps.{cell_bound, then_at, then_cells, this_bound, variable_bound, Bound}
 
@@ -41,16 +43,16 @@ first_in f (x ∷ xs) (suc to) zero e l h = let k : x ≡ e = cc in ap (λ y. co
 first_in f (x ∷ xs) (suc to) (suc i) e l h = first_in f xs to i e (omega arith) h
 
 -- the pair at the place makes a row
-pub next_in : (ends : Ends) (m : Cells) (xs : List (Cell × Cell)) (to i : ℕ) (e : Cell × Cell) → i < to → slice_get xs i ≡ Some e → pair_agrees ends m e ≡ true
-    → filter_map (pair_made ends m) (drop i (take to xs)) ≡ pair_bound ends m e ∷ filter_map (pair_made ends m) (drop (i + 1) (take to xs))
-next_in ends m xs to i e l h a =
-    rw add-one (first_in (pair_made ends m) xs to i e l h ∙ ap (λ b. cons_option (if b then Some (pair_bound ends m e) else None) (filter_map (pair_made ends m) (drop (suc i) (take to xs)))) a)
+pub next_in : (acts : EndActs) (m : Cells) (xs : List (Cell × Cell)) (to i : ℕ) (e : Cell × Cell) → i < to → slice_get xs i ≡ Some e → acts_agree acts e ≡ true
+    → filter_map (act_made acts m) (drop i (take to xs)) ≡ acts_bound acts e m ∷ filter_map (act_made acts m) (drop (i + 1) (take to xs))
+next_in acts m xs to i e l h a =
+    rw add-one (first_in (act_made acts m) xs to i e l h ∙ ap (λ b. cons_option (if b then Some (acts_bound acts e m) else None) (filter_map (act_made acts m) (drop (suc i) (take to xs)))) a)
 
 -- the pair at the place makes none
-pub passed_in : (ends : Ends) (m : Cells) (xs : List (Cell × Cell)) (to i : ℕ) (e : Cell × Cell) → i < to → slice_get xs i ≡ Some e → pair_agrees ends m e ≡ false
-    → filter_map (pair_made ends m) (drop i (take to xs)) ≡ filter_map (pair_made ends m) (drop (i + 1) (take to xs))
-passed_in ends m xs to i e l h a =
-    rw add-one (first_in (pair_made ends m) xs to i e l h ∙ ap (λ b. cons_option (if b then Some (pair_bound ends m e) else None) (filter_map (pair_made ends m) (drop (suc i) (take to xs)))) a)
+pub passed_in : (acts : EndActs) (m : Cells) (xs : List (Cell × Cell)) (to i : ℕ) (e : Cell × Cell) → i < to → slice_get xs i ≡ Some e → acts_agree acts e ≡ false
+    → filter_map (act_made acts m) (drop i (take to xs)) ≡ filter_map (act_made acts m) (drop (i + 1) (take to xs))
+passed_in acts m xs to i e l h a =
+    rw add-one (first_in (act_made acts m) xs to i e l h ∙ ap (λ b. cons_option (if b then Some (acts_bound acts e m) else None) (filter_map (act_made acts m) (drop (suc i) (take to xs)))) a)
 
 none_left : (f : Cell × Cell → Option Cells) (xs : List (Cell × Cell)) (to i : ℕ) → slice_get xs i ≡ None → filter_map f (drop i (take to xs)) ≡ []
 none_left f [] zero i h = ap (filter_map f) (nil_drop i)
@@ -59,8 +61,8 @@ none_left f (x ∷ xs) zero i h = ap (filter_map f) (nil_drop i)
 none_left f (x ∷ xs) (suc to) zero h = absurd (none-some x (sym h))
 none_left f (x ∷ xs) (suc to) (suc i) h = none_left f xs to i h
 
-pub none_in : (ends : Ends) (m : Cells) (xs : List (Cell × Cell)) (to i : ℕ) → slice_get xs i ≡ None → filter_map (pair_made ends m) (drop i (take to xs)) ≡ []
-none_in ends m xs to i h = none_left (pair_made ends m) xs to i h
+pub none_in : (acts : EndActs) (m : Cells) (xs : List (Cell × Cell)) (to i : ℕ) → slice_get xs i ≡ None → filter_map (act_made acts m) (drop i (take to xs)) ≡ []
+none_in acts m xs to i h = none_left (act_made acts m) xs to i h
 
 past_left : (f : Cell × Cell → Option Cells) (xs : List (Cell × Cell)) (to i : ℕ) → to ≤ i → filter_map f (drop i (take to xs)) ≡ []
 past_left f xs zero i h = ap (filter_map f) (nil_drop i)
@@ -68,8 +70,8 @@ past_left f [] (suc to) i h = ap (filter_map f) (nil_drop i)
 past_left f (x ∷ xs) (suc to) zero h = absurd (omega arith)
 past_left f (x ∷ xs) (suc to) (suc i) h = past_left f xs to i (omega arith)
 
-pub past_in : (ends : Ends) (m : Cells) (xs : List (Cell × Cell)) (to i : ℕ) → to ≤ i → filter_map (pair_made ends m) (drop i (take to xs)) ≡ []
-past_in ends m xs to i h = past_left (pair_made ends m) xs to i h
+pub past_in : (acts : EndActs) (m : Cells) (xs : List (Cell × Cell)) (to i : ℕ) → to ≤ i → filter_map (act_made acts m) (drop i (take to xs)) ≡ []
+past_in acts m xs to i h = past_left (act_made acts m) xs to i h
 
 -- ---- one end after the other
 
@@ -129,6 +131,54 @@ pair_steps : (ends : Ends) (m : Cells) (cells : Cell × Cell) → then_cells (en
 pair_steps ends m cells =
     two (subject_agrees ends.subject cells.0 m) (object_agrees ends.subject ends.object cells m) (end_bound ends.subject cells.0 m) (pair_bound ends m cells) (end_step ends.object cells.1)
     (ap (λ b. if b then Some (pair_bound ends m cells) else None) (sym (object_is ends m cells)))
+
+-- ---- by acts
+
+subject_agrees_is : (m : Cells) (end : Option ℕ) (s c : Cell) → act_agrees (subject_act m end) s c ≡ subject_agrees end c m
+subject_agrees_is m None s c = refl
+subject_agrees_is m (Some v) s c = at (cell_at m v)
+  where
+    at : (o : Option Cell) → act_agrees (act_for o (Bind v)) s c ≡ agrees_cell o c
+    at None = refl
+    at (Some d) = refl
+
+object_agrees_is : (m : Cells) (subject end : Option ℕ) (cells : Cell × Cell) → act_agrees (object_act m subject end) cells.0 cells.1 ≡ object_agrees subject end cells m
+object_agrees_is m subject None cells = refl
+object_agrees_is m subject (Some v) cells = at (cell_at m v) (binds_end m subject v)
+  where
+    at : (o : Option Cell) (b : Bool) → act_agrees (act_for o (open_act b v)) cells.0 cells.1 ≡ agrees_cell (cell_after o b cells.0) cells.1
+    at None true = refl
+    at None false = refl
+    at (Some d) b = refl
+
+subject_bound_is : (m : Cells) (end : Option ℕ) (c : Cell) → act_bound (subject_act m end) c m ≡ end_bound end c m
+subject_bound_is m None c = refl
+subject_bound_is m (Some v) c = at (cell_at m v)
+  where
+    at : (o : Option Cell) → act_bound (act_for o (Bind v)) c m ≡ set_open o v c m
+    at None = refl
+    at (Some d) = refl
+
+object_bound_is : (m : Cells) (subject end : Option ℕ) (cells : Cell × Cell) → act_bound (object_act m subject end) cells.1 (end_bound subject cells.0 m) ≡ end_bound end cells.1 (end_bound subject cells.0 m)
+object_bound_is m subject None cells = refl
+object_bound_is m subject (Some v) cells = at (cell_at m v) (binds_end m subject v) ∙ ap (λ o. set_open o v cells.1 (end_bound subject cells.0 m)) (sym (end_after subject m v cells.0))
+  where
+    at : (o : Option Cell) (b : Bool) → act_bound (act_for o (open_act b v)) cells.1 (end_bound subject cells.0 m) ≡ set_open (cell_after o b cells.0) v cells.1 (end_bound subject cells.0 m)
+    at None true = refl
+    at None false = refl
+    at (Some d) b = refl
+
+made_is : (ends : Ends) (m : Cells) (cells : Cell × Cell) → act_made (end_acts m ends) m cells ≡ pair_made ends m cells
+made_is ends m cells =
+    ap (λ r. if acts_agree (end_acts m ends) cells then Some r else None) (ap (act_bound (object_act m ends.subject ends.object) cells.1) (subject_bound_is m ends.subject cells.0) ∙ object_bound_is m ends.subject ends.object cells)
+    ∙ (ap (λ b. if b && act_agrees (object_act m ends.subject ends.object) cells.0 cells.1 then Some (pair_bound ends m cells) else None) (subject_agrees_is m ends.subject cells.0 cells.0)
+    ∙ ap (λ b. if subject_agrees ends.subject cells.0 m && b then Some (pair_bound ends m cells) else None) (object_agrees_is m ends.subject ends.object cells))
+
+-- the acts for the row make of it what the pairs do
+pub all_made_are : (ends : Ends) (m : Cells) (xs : List (Cell × Cell)) → filter_map (act_made (end_acts m ends) m) xs ≡ filter_map (pair_made ends m) xs
+all_made_are ends m [] = refl
+all_made_are ends m (x ∷ xs) =
+    ap (λ o. cons_option o (filter_map (act_made (end_acts m ends) m) xs)) (made_is ends m x) ∙ ap (cons_option (pair_made ends m x)) (all_made_are ends m xs)
 
 -- ---- by terms
 

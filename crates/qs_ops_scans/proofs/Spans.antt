@@ -20,10 +20,11 @@ use Rattle.qs_ops_scans.specs.declared.ends.Ends.{Ends}
 use Rattle.qs_ops_scans.specs.declared.kept.Side.{Side}
 use Rattle.qs_ops_scans.specs.declared.kept.Side.TheVariants.{Subject, Object}
 use Rattle.qs_ops_scans.specs.declared.kept.Span.{Span}
-use Rattle.qs_ops_scans.specs.inner.Ends.{agrees_cell, binds_end, bound_cell, cell_after, ends_of, object_agrees, pair_bound, pair_made, subject_agrees}
+use Rattle.qs_ops_scans.specs.declared.ends.EndActs.{EndActs}
+use Rattle.qs_ops_scans.specs.inner.Ends.{act_made, agrees_cell, binds_end, bound_cell, cell_after, end_acts, ends_of, object_agrees, pair_bound, pair_made, subject_agrees}
 use Rattle.qs_ops_scans.specs.inner.Sides.{cell_key, end_at, side_key, IsSpan, IsSpanOf}
 use Rattle.qs_ops_scans.proofs.May.{first_false, second_false}
-use Rattle.qs_ops_scans.proofs.Pairs.{pairs_made}
+use Rattle.qs_ops_scans.proofs.Pairs.{all_made_are, pairs_made}
 
 -- ---- numbers
 
@@ -87,10 +88,10 @@ span_makes ends m cells side c span e h =
 
 -- ---- rows
 
-pub span_rows : (known table : List Term) → IsTable known table → (p : PathPattern) (m : Cells) → FitsRow known table m → (cells : List (Cell × Cell)) (graph : Graph) (ends : Ends) (span : Span) → ends ≡ ends_of p → IsSpan ends m cells span
-    → ArePairs known table cells (path_pairs p graph) → AreMade known table (path_extensions p graph) m (filter_map (pair_made ends m) (drop span.from (take span.to cells)))
-span_rows known table is_table p m f cells graph ends span e h k =
-    subst (λ (rows : List Cells). AreMade known table (path_extensions p graph) m rows) (sym h)
+pub span_rows : (known table : List Term) → IsTable known table → (p : PathPattern) (m : Cells) → FitsRow known table m → (cells : List (Cell × Cell)) (graph : Graph) (ends : Ends) (acts : EndActs) (span : Span) → ends ≡ ends_of p → acts ≡ end_acts m ends → IsSpan ends m cells span
+    → ArePairs known table cells (path_pairs p graph) → AreMade known table (path_extensions p graph) m (filter_map (act_made acts m) (drop span.from (take span.to cells)))
+span_rows known table is_table p m f cells graph ends acts span e a h k =
+    subst (λ (rows : List Cells). AreMade known table (path_extensions p graph) m rows) (sym (ap (λ z. filter_map (act_made z m) (drop span.from (take span.to cells))) a ∙ (all_made_are ends m (drop span.from (take span.to cells)) ∙ h)))
     (subst (λ (z : Ends). AreMade known table (path_extensions p graph) m (filter_map (pair_made z m) cells)) (sym e) (pairs_made known table is_table p m f cells graph k))
 
 -- in another order they denote the same pairs

@@ -2,7 +2,7 @@
 
 ghost use Rattle.std.specs.Prelude.{◌≡◌};
 ghost use Rattle.qs_algebra_patterns.specs.Basic.{is_repeated};
-ghost use Rattle.qs_ops_scans.specs.inner.Ends.{agrees_cell, binds_end, bound_cell, cell_after, end_bound, ends_of, object_agrees, pair_agrees, pair_bound, subject_agrees, variable_of};
+ghost use Rattle.qs_ops_scans.specs.inner.Ends.{act_agrees, act_bound, acts_agree, acts_bound, binds_end, bound_cell, end_acts, ends_of, object_act, open_act, subject_act, variable_of};
 
 use crate::bind::bind_cell;
 use qs_algebra_patterns::{PathPattern, Slot};
@@ -54,27 +54,39 @@ pub(crate) fn bound_cell(row: &Row, end: Option<usize>) -> Option<Cell>
     }
 }
 
-#[inline(always)]
-fn agrees_cell(bound: Option<Cell>, cell: Cell) -> bool
-    ensures { result ≡ agrees_cell bound cell }
+/// What is left to do for one end of a pair.
+#[derive(Clone, Copy)]
+pub enum EndAct {
+    /// Nothing: all pairs end at the term.
+    Pass,
+    /// Bind the variable.
+    Bind(usize),
+    /// Test that it is the cell of the row.
+    Test(Cell),
+    /// Test that it is the subject's cell.
+    AsSubject,
+}
+
+/// What is left to do for the ends of a pair.
+#[derive(Clone, Copy)]
+pub struct EndActs {
+    pub subject: EndAct,
+    pub object: EndAct,
+}
+
+fn subject_act(row: &Row, subject: Option<usize>) -> EndAct
+    ensures { result ≡ subject_act row.now subject }
 {
-    match bound {
-        None => true,
-        Some(bound) => is_same(bound, cell),
+    let Some(variable) = subject else {
+        return EndAct::Pass;
+    };
+    match row.cell(variable) {
+        None => EndAct::Bind(variable),
+        Some(cell) => EndAct::Test(cell),
     }
 }
 
-#[inline(always)]
-fn subject_agrees(row: &Row, subject: Option<usize>, cell: Cell) -> bool
-    ensures { result ≡ subject_agrees subject cell row.now }
-{
-    match subject {
-        None => true,
-        Some(variable) => agrees_cell(row.cell(variable), cell),
-    }
-}
-
-#[inline(always)]
+/// Whether the end has this variable, and the row a cell for it.
 fn binds_end(row: &Row, end: Option<usize>, variable: usize) -> bool
     ensures { result ≡ binds_end row.now end variable }
 {
@@ -84,54 +96,71 @@ fn binds_end(row: &Row, end: Option<usize>, variable: usize) -> bool
     }
 }
 
-#[inline(always)]
-fn cell_after(bound: Option<Cell>, binds: bool, cell: Cell) -> Option<Cell>
-    ensures { result ≡ cell_after bound binds cell }
+fn open_act(binds: bool, variable: usize) -> EndAct
+    ensures { result ≡ open_act binds variable }
 {
-    match bound {
-        Some(bound) => Some(bound),
-        None => if binds { Some(cell) } else { None },
+    if binds {
+        EndAct::AsSubject
+    } else {
+        EndAct::Bind(variable)
+    }
+}
+
+fn object_act(row: &Row, subject: Option<usize>, object: Option<usize>) -> EndAct
+    ensures { result ≡ object_act row.now subject object }
+{
+    let Some(variable) = object else {
+        return EndAct::Pass;
+    };
+    match row.cell(variable) {
+        None => open_act(binds_end(row, subject, variable), variable),
+        Some(cell) => EndAct::Test(cell),
+    }
+}
+
+/// What is left to do for each pair, for this row.
+pub(crate) fn end_acts(row: &Row, ends: &Ends) -> EndActs
+    ensures { result ≡ end_acts row.now ends.now }
+{
+    EndActs {
+        subject: subject_act(row, ends.subject),
+        object: object_act(row, ends.subject, ends.object),
     }
 }
 
 #[inline(always)]
-fn object_agrees(row: &Row, ends: &Ends, cells: &(Cell, Cell)) -> bool
-    ensures { result ≡ object_agrees ends.now.subject ends.now.object cells.now row.now }
+fn act_agrees(act: EndAct, subject: Cell, cell: Cell) -> bool
+    ensures { result ≡ act_agrees act subject cell }
 {
-    match ends.object {
-        None => true,
-        Some(variable) => {
-            let binds = binds_end(row, ends.subject, variable);
-            agrees_cell(cell_after(row.cell(variable), binds, cells.0), cells.1)
-        }
+    match act {
+        EndAct::Test(bound) => is_same(bound, cell),
+        EndAct::AsSubject => is_same(subject, cell),
+        _ => true,
     }
 }
 
 /// Whether the cells agree with the row.
 #[inline(always)]
-pub(crate) fn pair_agrees(row: &Row, ends: &Ends, cells: &(Cell, Cell)) -> bool
-    ensures { result ≡ pair_agrees ends.now row.now cells.now }
+pub(crate) fn pair_agrees(acts: &EndActs, cells: &(Cell, Cell)) -> bool
+    ensures { result ≡ acts_agree acts.now cells.now }
 {
-    subject_agrees(row, ends.subject, cells.0) && object_agrees(row, ends, cells)
+    act_agrees(acts.subject, cells.0, cells.0) && act_agrees(acts.object, cells.0, cells.1)
 }
 
 #[inline(always)]
-fn bind_end(row: &mut Row, end: Option<usize>, cell: Cell)
-    ensures { row.new ≡ end_bound end cell row.old }
+fn bind_end(row: &mut Row, act: EndAct, cell: Cell)
+    ensures { row.new ≡ act_bound act cell row.old }
 {
-    let Some(variable) = end else {
-        return;
-    };
-    if row.cell(variable).is_none() {
+    if let EndAct::Bind(variable) = act {
         bind_cell(row, variable, cell);
     }
 }
 
 /// Binds the variables of the ends that are not bound.
 #[inline(always)]
-pub(crate) fn bind_pair(row: &mut Row, ends: &Ends, cells: &(Cell, Cell))
-    ensures { row.new ≡ pair_bound ends.now row.old cells.now }
+pub(crate) fn bind_pair(row: &mut Row, acts: &EndActs, cells: &(Cell, Cell))
+    ensures { row.new ≡ acts_bound acts.now cells.now row.old }
 {
-    bind_end(row, ends.subject, cells.0);
-    bind_end(row, ends.object, cells.1);
+    bind_end(row, acts.subject, cells.0);
+    bind_end(row, acts.object, cells.1);
 }

@@ -1,12 +1,13 @@
 //! The pairs of a path pattern, kept.
 
-ghost use Rattle.std.specs.Prelude.{◌≡◌, IfOk};
+ghost use Rattle.std.specs.Prelude.{◌≡◌, ◌++◌, false, IfOk, IfSome};
 ghost use Rattle.std.specs.List.Sorted.{IsNonDecreasingBy};
 ghost use Rattle.qs_terms.specs.Bag.{SameBag};
 ghost use Rattle.qs_store.specs.ActiveGraph.{active_graph};
 ghost use Rattle.qs_algebra_patterns.specs.Basic.{end_of};
 ghost use Rattle.qs_expr.specs.Cell.{FitsIf, denoted_if};
 ghost use Rattle.qs_expr.specs.Scratch.{Grows, IsTable};
+ghost use Rattle.qs_paths.specs.Coming.{AreAll};
 ghost use Rattle.qs_plan_meaning.specs.Scans.{path_pairs};
 ghost use Rattle.qs_ops_scans.specs.Paths.{ArePairs};
 ghost use Rattle.qs_ops_scans.specs.inner.Kept.{AreCollected, IsTaken, kept_with};
@@ -75,6 +76,32 @@ fn take_next<V: View>(
     Ok(true)
 }
 
+/// All pairs that are still to come, where they were found whole, and both ends needn't be one term.
+fn rest_if<V: View>(
+    pairs: &Pairs<'_, V>,
+    repeated: bool,
+) -> Result<Option<Vec<(Cell, Cell)>>, AllocError>
+    ensures any { IfOk result (λ o. IfSome o (λ rest. repeated ≡ false)) }
+    ensures all { IfOk result (λ o. IfSome o (λ rest. AreAll V.content V.default_seen pairs.now rest.items)) }
+{
+    if repeated {
+        return Ok(None);
+    }
+    pairs.rest_found()
+}
+
+fn joined(
+    first: Vec<(Cell, Cell)>,
+    second: Vec<(Cell, Cell)>,
+) -> Result<Vec<(Cell, Cell)>, AllocError>
+    ensures { IfOk result (λ both. both.items ≡ first.items ++ second.items) }
+{
+    let mut both = first;
+    let mut second = second;
+    both.append(&mut second)?;
+    Ok(both)
+}
+
 /// The pairs that are still to come, of which those are kept whose ends are one term, where they are to be. So many pairs as there are
 /// steps of the loop fit no memory.
 fn collected<V: View>(
@@ -88,6 +115,9 @@ fn collected<V: View>(
     'pairs: for _at in 0..u64::MAX {
         if !take_next(pairs, &mut kept, repeated)? {
             return Ok(kept);
+        }
+        if let Some(rest) = rest_if(pairs, repeated)? {
+            return joined(rest, kept);
         }
     }
     Err(AllocError)

@@ -3,14 +3,14 @@
 ghost use Rattle.std.specs.Prelude.{◌≡◌, List, take};
 ghost use Rattle.qs_terms.specs.declared.term.Term.{Term};
 ghost use Rattle.qs_algebra_patterns.specs.Basic.{Graph};
-ghost use Rattle.qs_expr.specs.Cell.{FitsRow};
+ghost use Rattle.qs_expr.specs.Cell.{Cells, FitsRow};
 ghost use Rattle.qs_expr.specs.Scratch.{IsTable};
 ghost use Rattle.qs_plan_meaning.specs.Scans.{path_extensions, path_pairs};
 ghost use Rattle.qs_ops_scans.specs.Makes.{AreMade, GivesFirst};
 ghost use Rattle.qs_ops_scans.specs.Paths.{ArePairs};
 ghost use Rattle.qs_ops_scans.specs.inner.Ends.{IsNextPair};
 
-use crate::ends::{Ends, bind_pair, ends_of, pair_agrees};
+use crate::ends::{EndActs, bind_pair, end_acts, ends_of, pair_agrees};
 use crate::kept::{PathPairs, span_for};
 use qs_algebra_patterns::PathPattern;
 use qs_base::Shared;
@@ -25,7 +25,7 @@ pub struct PathRows {
     pairs: Shared<PathPairs>,
     at: usize,
     to: usize,
-    ends: Ends,
+    acts: EndActs,
     row: Row,
 }
 
@@ -33,29 +33,28 @@ impl Model for PathRows {
     ghost use Rattle.std.specs.Prelude.{List, Option, drop, take};
     ghost use Rattle.std.specs.List.{filter_map};
     ghost use Rattle.qs_expr.specs.declared.cell.Cell.{Cell};
-    ghost use Rattle.qs_ops_scans.specs.inner.Ends.{pair_made};
+    ghost use Rattle.qs_ops_scans.specs.inner.Ends.{act_made};
 
     ghost Value = { List (List (Option Cell)) };
 
-    ghost view = { λ p. filter_map (pair_made p.ends p.row) (drop p.at (take p.to p.pairs)) };
+    ghost view = { λ p. filter_map (act_made p.acts p.row) (drop p.at (take p.to p.pairs)) };
 }
 
-/// The next pair from a place on, up to another, that agrees with the row, and the place after it.
+/// The next pair from a place on, up to another, that agrees with a row, and the place after it.
 #[tactic(auto, using(crate::proofs::Pairs::next_in, crate::proofs::Pairs::passed_in, crate::proofs::Pairs::none_in, crate::proofs::Pairs::past_in))]
 fn next_pair(
     cells: &[(Cell, Cell)],
     from: usize,
     to: usize,
-    ends: &Ends,
-    row: &Row,
+    acts: &EndActs,
 ) -> Option<(usize, (Cell, Cell))>
-    ensures { IsNextPair ends.now row.now (take to cells.now) from result }
+    ensures { (m : Cells) → IsNextPair acts.now m (take to cells.now) from result }
 {
     for place in from..to {
         let Some(pair) = at(cells, place) else {
             return None;
         };
-        if pair_agrees(row, ends, pair) {
+        if pair_agrees(acts, pair) {
             return Some((place + 1, *pair));
         }
     }
@@ -72,11 +71,11 @@ impl PathRows {
     {
         let pairs = self.pairs.get();
         let cells = pairs.cells.as_slice();
-        let Some((after, pair)) = next_pair(cells, self.at, self.to, &self.ends, &self.row) else {
+        let Some((after, pair)) = next_pair(cells, self.at, self.to, &self.acts) else {
             return Ok(None);
         };
         let mut row = self.row.copy(alloc, spare)?;
-        bind_pair(&mut row, &self.ends, &pair);
+        bind_pair(&mut row, &self.acts, &pair);
         self.at = after;
         Ok(Some(row))
     }
@@ -87,7 +86,7 @@ impl PathRows {
             pairs: _,
             at: _,
             to: _,
-            ends: _,
+            acts: _,
             row,
         } = self;
         row
@@ -106,7 +105,7 @@ pub fn path_rows(pairs: Shared<PathPairs>, pattern: &PathPattern, row: Row) -> P
         pairs,
         at: span.from,
         to: span.to,
-        ends,
+        acts: end_acts(&row, &ends),
         row,
     }
 }

@@ -7,6 +7,9 @@ use Rattle.qs_algebra_patterns.specs.declared.pattern.PathPattern.{PathPattern}
 use Rattle.qs_expr.specs.declared.cell.Cell.{Cell}
 use Rattle.qs_expr.specs.Cell.{Cells, cell_at, same_cell}
 use Rattle.qs_ops_scans.specs.declared.ends.Ends.{Ends}
+use Rattle.qs_ops_scans.specs.declared.ends.EndAct.{EndAct}
+use Rattle.qs_ops_scans.specs.declared.ends.EndAct.TheVariants.{Pass, Bind, Test, AsSubject}
+use Rattle.qs_ops_scans.specs.declared.ends.EndActs.{EndActs}
 
 -- the variable of an end, if it is one
 abbrev pub variable_of : Slot → Option ℕ
@@ -66,8 +69,51 @@ pair_bound ends m cells = end_bound ends.object cells.1 (end_bound ends.subject 
 abbrev pub pair_made : Ends → Cells → Cell × Cell → Option Cells
 pair_made ends m cells = if pair_agrees ends m cells then Some (pair_bound ends m cells) else None
 
+-- ---- what is left to do for an end, once the row is known
+
+abbrev pub open_act : Bool → ℕ → EndAct
+open_act true v = AsSubject
+open_act false v = Bind v
+
+abbrev pub act_for : Option Cell → EndAct → EndAct
+act_for None act = act
+act_for (Some c) act = Test c
+
+abbrev pub subject_act : Cells → Option ℕ → EndAct
+subject_act m None = Pass
+subject_act m (Some v) = act_for (cell_at m v) (Bind v)
+
+abbrev pub object_act : Cells → Option ℕ → Option ℕ → EndAct
+object_act m subject None = Pass
+object_act m subject (Some v) = act_for (cell_at m v) (open_act (binds_end m subject v) v)
+
+abbrev pub end_acts : Cells → Ends → EndActs
+end_acts m ends = record { subject = subject_act m ends.subject; object = object_act m ends.subject ends.object }
+
+abbrev pub act_agrees : EndAct → Cell → Cell → Bool
+act_agrees Pass s c = true
+act_agrees (Bind v) s c = true
+act_agrees (Test d) s c = same_cell d c
+act_agrees AsSubject s c = same_cell s c
+
+abbrev pub acts_agree : EndActs → Cell × Cell → Bool
+acts_agree acts cells = act_agrees acts.subject cells.0 cells.0 && act_agrees acts.object cells.0 cells.1
+
+abbrev pub act_bound : EndAct → Cell → Cells → Cells
+act_bound Pass c m = m
+act_bound (Bind v) c m = slice_set m v (Some c)
+act_bound (Test d) c m = m
+act_bound AsSubject c m = m
+
+abbrev pub acts_bound : EndActs → Cell × Cell → Cells → Cells
+acts_bound acts cells m = act_bound acts.object cells.1 (act_bound acts.subject cells.0 m)
+
+-- the row that the pair makes of the row
+abbrev pub act_made : EndActs → Cells → Cell × Cell → Option Cells
+act_made acts m cells = if acts_agree acts cells then Some (acts_bound acts cells m) else None
+
 -- the first pair from a place on that makes a row, and the place after it; none where none does
-abbrev pub IsNextPair : Ends → Cells → List (Cell × Cell) → ℕ → Option (ℕ × (Cell × Cell)) → Type 0
-IsNextPair ends m cells from None = filter_map (pair_made ends m) (drop from cells) ≡ []
-IsNextPair ends m cells from (Some next) =
-    filter_map (pair_made ends m) (drop from cells) ≡ pair_bound ends m next.1 ∷ filter_map (pair_made ends m) (drop next.0 cells)
+abbrev pub IsNextPair : EndActs → Cells → List (Cell × Cell) → ℕ → Option (ℕ × (Cell × Cell)) → Type 0
+IsNextPair acts m cells from None = filter_map (act_made acts m) (drop from cells) ≡ []
+IsNextPair acts m cells from (Some next) =
+    filter_map (act_made acts m) (drop from cells) ≡ acts_bound acts next.1 m ∷ filter_map (act_made acts m) (drop next.0 cells)
