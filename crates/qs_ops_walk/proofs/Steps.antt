@@ -1,20 +1,25 @@
 -- The moves of a walk, with what it keeps.
-use Rattle.std.proofs.Common.{◌≡◌, ℕ, zero, suc, ◌-◌, ◌<◌, List, [], ◌∷◌, ◌++◌, length, get_or, take, refl, sym, ap, subst, arith}
+use Rattle.std.proofs.Common.{◌≡◌, ℕ, zero, suc, ◌-◌, ◌<◌, List, [], ◌∷◌, ◌++◌, length, get_or, take, refl, sym, ◌∙◌, ap, subst, arith}
 use Rattle.std.proofs.Math.ListN.{set}
 use Rattle.qs_terms.specs.declared.term.Term.{Term}
-use Rattle.qs_expr.specs.Cell.{Cells}
-use Rattle.qs_expr.specs.Scratch.{Grows}
+use Rattle.qs_expr.specs.Cell.{Cells, FitsRow}
+use Rattle.qs_expr.specs.Scratch.{IsTable, Grows}
+use Rattle.qs_expr.proofs.Growth.{stays}
+use Rattle.qs_ops_scans.specs.declared.look.PreparedLook.{PreparedLook}
+use Rattle.qs_ops_scans.specs.declared.pattern.PreparedTriple.{PreparedTriple}
 use Rattle.qs_ops_program.specs.inner.Flow.{Instruction, IsForward}
 use Rattle.qs_ops_walk.specs.declared.source.Level.{Level}
 use Rattle.qs_ops_walk.specs.declared.source.Source.{Source}
+use Rattle.qs_ops_walk.specs.declared.source.Source.TheVariants as source
 use Rattle.qs_ops_walk.specs.declared.work.Place.{Place}
+use Rattle.qs_ops_walk.specs.declared.work.Work.TheVariants as work
 use Rattle.qs_ops_walk.specs.inner.Setting.{Setting, known_of}
 use Rattle.qs_ops_walk.specs.inner.Works.{IsReady, code_of}
 use Rattle.qs_ops_walk.specs.inner.Coming.{FitsLevel, FitLevels}
-use Rattle.qs_ops_walk.specs.inner.Moves.{Opens, OpensTo, IsOpened, IsWalk}
+use Rattle.qs_ops_walk.specs.inner.Moves.{Opens, OpensTo, IsOpened, IsTripleOpened, IsWalk}
 use Rattle.qs_ops_walk.proofs.Still.{levels_still, ready_still}
-use Rattle.qs_ops_walk.proofs.Placing.{set_code, set_ready, instr_at, code_length}
-use Rattle.qs_ops_walk.proofs.Opens.{opens_to}
+use Rattle.qs_ops_walk.proofs.Placing.{set_code, set_ready, instr_at, ready_at, code_length}
+use Rattle.qs_ops_walk.proofs.Opens.{opens_to, opens_triple}
 use Rattle.qs_ops_walk.proofs.Walks.{fits_last, fit_others, fit_pushed}
 
 -- ---- the last of a list
@@ -75,4 +80,26 @@ module _ (s : Setting) (t0 t1 : List Term) (ps : List Place) (ls now : List Leve
     forward = subst (λ (c : List Instruction). IsForward c) (sym opened_code) w.forward;
     ready = set_ready s t1 ps at q (ready_still s t0 t1 g ps w.ready) ready;
     fit = fit_pushed s (code_of ps) t1 now ls (record { next = p.instr.next; source = src }) z (levels_still s t0 t1 g ls w.fit) level_opens.fits;
+  }
+
+-- ---- a level is opened for a triple pattern
+module _ (s : Setting) (t0 : List Term) (ps : List Place) (ls now : List Level) (at : ℕ) (p : Place) (m : Cells) (next : ℕ) (look : PreparedLook) (pattern : PreparedTriple) (w : IsWalk s t0 ps ls) (l : at < length ps) (e : p ≡ get_or ps at p)
+    (n : next ≡ p.instr.next) (is : p.work ≡ work.Triple look pattern) (o : IsTripleOpened s next look pattern m ls now) (t : IsTable (known_of s) t0) (h : FitsRow (known_of s) t0 m) where
+  triple_ready : IsReady s t0 p
+  triple_ready = ready_at s t0 ps at p w.ready l e
+
+  source_opens : Opens s p.instr t0 m t0 (source.Triple o.rows)
+  source_opens = opens_triple s p.instr t0 t0 m o.rows look pattern (rw is at triple_ready) o.makes refl t h
+
+  pushed : now ≡ ls ++ (record { next = p.instr.next; source = source.Triple o.rows }) ∷ []
+  pushed = o.items ∙ ap (λ (x : ℕ). let v : Level = record { next = x; source = source.Triple o.rows } in ls ++ v ∷ []) n
+
+  pub triple_opened : IsOpened s (code_of ps) (suc at) t0 m ls t0 now
+  triple_opened = opened s t0 t0 ps ls now at p p m (source.Triple o.rows) w l e (stays (known_of s) t0 t) refl triple_ready source_opens pushed
+
+  pub triple_walk : IsWalk s t0 ps now
+  triple_walk = record {
+    forward = w.forward;
+    ready = w.ready;
+    fit = fit_pushed s (code_of ps) t0 now ls (record { next = p.instr.next; source = source.Triple o.rows }) pushed w.fit source_opens.fits;
   }

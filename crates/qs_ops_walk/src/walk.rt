@@ -1,6 +1,6 @@
 //! The walk through a program: one loop over a stack of levels.
 
-ghost use Rattle.std.specs.Prelude.{◌≡◌, ◌≤◌, ◌<◌, ◌-◌, true, List, IfOk, OnOk, map, suc, take, get_or, length, vec_len};
+ghost use Rattle.std.specs.Prelude.{◌≡◌, ◌≤◌, ◌<◌, ◌-◌, true, List, IfOk, IfNone, IfSome, OnOk, false, map, suc, take, get_or, length, vec_len};
 ghost use Rattle.qs_terms.specs.Bag.{SameBag};
 ghost use Rattle.qs_terms.specs.declared.term.Term.{Term as TermValue};
 ghost use Rattle.qs_expr.specs.Cell.{row_solution, FitsRow};
@@ -11,7 +11,9 @@ ghost use Rattle.qs_ops_walk.specs.inner.Setting.{known_of, through_in};
 ghost use Rattle.qs_ops_walk.specs.inner.Works.{ArePairsFor, AreValues, IfPairs, IfValues, IsReady, IsRight, Serves, code_of, heights_of, only_cells};
 ghost use Rattle.qs_ops_walk.specs.inner.Coming.{coming};
 ghost use Rattle.qs_ops_walk.specs.inner.Cursor.{GivesNamed};
-ghost use Rattle.qs_ops_walk.specs.inner.Moves.{GivesRow, IsOpened, IsStep, IsWalk, Opens, opens, IsAttempt, OpensAt, OpensName, given_unless};
+ghost use Rattle.qs_ops_walk.specs.inner.Moves.{GivesRow, IsOpened, IsStep, IsWalk, IsTripleOpened, Opens, opens, is_triple, IsAttempt, OpensAt, OpensName, given_unless};
+ghost use Rattle.qs_ops_walk.specs.declared.work.Place.{Place as PlaceValue};
+ghost use Rattle.qs_ops_walk.specs.declared.work.Work.TheVariants as variant;
 
 use crate::reader::Reader;
 use crate::settle::settle;
@@ -23,7 +25,7 @@ use crate::work::{
 use qs_base::Shared;
 use qs_expr::{Cell, Row, Scratch};
 use qs_ops_program::compile;
-use qs_ops_scans::{PathPairs, path_rows};
+use qs_ops_scans::{PathPairs, PreparedLook, PreparedTriple, path_rows};
 use qs_ops_tables::{Kept, Probe, table_rows};
 use qs_plan_meaning::Stage;
 use qs_store::View;
@@ -257,7 +259,7 @@ fn open_name<'a>(
     Ok(Source::Given(Some(merged)))
 }
 
-/// What the stage of the place makes of the row, as a source.
+/// What the stage of the place makes of the row, as a source, where it is no triple pattern.
 #[cycle(next)]
 fn open<'a, V: View>(
     reader: &Reader<'a, V>,
@@ -270,13 +272,13 @@ fn open<'a, V: View>(
     requires row { FitsRow (known_of reader.now) scratch.old row }
     requires ready { IsReady reader.now scratch.old place.old }
     requires opens { opens place.old.work ≡ true }
+    requires other { is_triple place.old.work ≡ false }
     ensures grows { Grows (known_of reader.now) scratch.old scratch.new }
     ensures instr { place.new.instr ≡ place.old.instr }
     ensures ready { IfOk result (λ s. IsReady reader.now scratch.new place.new) }
     ensures opens { IfOk result (λ s. Opens reader.now place.old.instr scratch.old row scratch.new s) }
 {
     match &mut place.work {
-        Work::Triple(look, pattern) => Ok(Source::Triple(reader.open_triple(*look, pattern, row))),
         Work::Path(trail) => {
             let pairs = pairs_of_trail(reader, scratch, trail, &row)?;
             Ok(Source::Path(path_rows(pairs, trail.pattern, row)))
@@ -315,9 +317,67 @@ fn open<'a, V: View>(
     }
 }
 
-/// Puts a level for what the stage before the position makes of the row. A source is large, and stands in no function that each row goes
-/// through.
+/// The triple pattern that is prepared, and where it looks, if the work is one.
+fn triple_of<'w>(work: &'w Work<'_>) -> Option<(PreparedLook, &'w PreparedTriple)>
+    ensures some { IfSome result (λ t. work.now ≡ variant.Triple t.0 t.1.now) }
+    ensures none { IfNone result (is_triple work.now ≡ false) }
+{
+    match work {
+        Work::Triple(look, pattern) => Some((*look, pattern)),
+        _ => None,
+    }
+}
+
+/// Puts a level for the rows that a triple pattern makes of the row.
 #[inline(never)]
+fn open_triple_level<'a, V: View>(
+    reader: &Reader<'a, V>,
+    levels: &mut Vec<Level<'a>>,
+    next: usize,
+    look: PreparedLook,
+    pattern: &PreparedTriple,
+    row: Row,
+) -> Result<(), AllocError>
+    ensures { IfOk result (λ _. IsTripleOpened reader.now next look pattern.now row levels.old.items levels.new.items) }
+{
+    levels.reserve(1)?;
+    levels.push_reserved(Level {
+        next,
+        source: Source::Triple(reader.open_triple(look, pattern, row)),
+    });
+    Ok(())
+}
+
+/// Puts a level for what the stage before the position makes of the row, where it is no triple pattern.
+#[inline(never)]
+#[cycle(next)]
+fn open_other_level<'a, V: View>(
+    reader: &Reader<'a, V>,
+    scratch: &mut Scratch,
+    walk: &mut Walk<'a>,
+    at: usize,
+    row: Row,
+) -> Result<(), AllocError>
+    requires at { at < vec_len walk.old.places }
+    requires table { IsTable (known_of reader.now) scratch.old }
+    requires row { FitsRow (known_of reader.now) scratch.old row }
+    requires walk { IsWalk reader.now scratch.old walk.old.places.items walk.old.levels.items }
+    requires opens { OpensAt walk.old.places.items (Some (suc at)) }
+    requires other { (p : PlaceValue) → p ≡ get_or walk.old.places.items at p → is_triple p.work ≡ false }
+    ensures grows { Grows (known_of reader.now) scratch.old scratch.new }
+    ensures code { code_of walk.new.places.items ≡ code_of walk.old.places.items }
+    ensures walk { IfOk result (λ _. IsWalk reader.now scratch.new walk.new.places.items walk.new.levels.items) }
+    ensures opened { IfOk result (λ _. IsOpened reader.now (code_of walk.old.places.items) (suc at) scratch.old row walk.old.levels.items scratch.new walk.new.levels.items) }
+{
+    let place = &mut walk.places[at];
+    let next = place.instr.next();
+    let source = open(reader, scratch, place, row, &mut walk.spare)?;
+    walk.levels.push(Level { next, source })?;
+    Ok(())
+}
+
+/// Puts a level for what the stage before the position makes of the row. A source is large: each kind of level is put by a function of its
+/// own, so that no memory is cleared for the others.
 #[cycle(next)]
 fn open_level<'a, V: View>(
     reader: &Reader<'a, V>,
@@ -336,10 +396,12 @@ fn open_level<'a, V: View>(
     ensures walk { IfOk result (λ _. IsWalk reader.now scratch.new walk.new.places.items walk.new.levels.items) }
     ensures opened { IfOk result (λ _. IsOpened reader.now (code_of walk.old.places.items) (suc at) scratch.old row walk.old.levels.items scratch.new walk.new.levels.items) }
 {
-    let place = &mut walk.places[at];
+    let place = &walk.places[at];
+    let Some((look, pattern)) = triple_of(&place.work) else {
+        return open_other_level(reader, scratch, walk, at, row);
+    };
     let next = place.instr.next();
-    let source = open(reader, scratch, place, row, &mut walk.spare)?;
-    walk.levels.push(Level { next, source })?;
+    open_triple_level(reader, &mut walk.levels, next, look, pattern, row)?;
     Ok(())
 }
 

@@ -24,7 +24,15 @@ use Rattle.qs_ops_walk.specs.declared.work.Work.TheVariants as work
 use Rattle.qs_ops_walk.specs.declared.work.Right.{Right}
 use Rattle.qs_ops_walk.specs.declared.walk.Step.{Step}
 use Rattle.qs_ops_walk.specs.declared.walk.Step.TheVariants.{Done, Moved, Gave}
-use Rattle.qs_ops_walk.specs.inner.Setting.{Setting, known_of, gives_in}
+use Rattle.qs_algebra_patterns.specs.declared.pattern.TriplePattern.{TriplePattern}
+use Rattle.qs_plan_meaning.specs.declared.stage.Look.{Look}
+use Rattle.qs_plan_meaning.specs.Scans.{extensions}
+use Rattle.qs_plan_meaning.specs.Stages.{looked}
+use Rattle.qs_ops_scans.specs.Makes.{Makes}
+use Rattle.qs_ops_scans.specs.Prepared.{prepared_look, prepared_triple}
+use Rattle.qs_ops_scans.specs.declared.look.PreparedLook.{PreparedLook}
+use Rattle.qs_ops_scans.specs.declared.pattern.PreparedTriple.{PreparedTriple}
+use Rattle.qs_ops_walk.specs.inner.Setting.{Setting, known_of, gives_in, graph_in}
 use Rattle.qs_ops_walk.specs.inner.Works.{AreReady, IsRight, code_of}
 use Rattle.qs_ops_walk.specs.inner.Coming.{Going, going, coming, flows, source_items, level_items, FitLevels, FitsLevel, FitsSource}
 
@@ -78,6 +86,20 @@ opens (work.Union starts) = true
 opens (work.Optional c) = true
 opens (work.Minus right) = true
 opens (work.Apart right) = true
+
+abbrev pub is_triple : Work → Bool
+is_triple (work.Triple look pattern) = true
+is_triple (work.Path t) = false
+is_triple (work.Names n) = false
+is_triple (work.Exists found) = false
+is_triple (work.Name v r) = false
+is_triple (work.Filter c) = false
+is_triple (work.Bind v e) = false
+is_triple (work.Values v) = false
+is_triple (work.Union starts) = false
+is_triple (work.Optional c) = false
+is_triple (work.Minus right) = false
+is_triple (work.Apart right) = false
 
 -- so may that of the place before the position
 abbrev pub OpensAt : List Place → Option ℕ → Type 0
@@ -164,6 +186,13 @@ pub record IsOpened (s : Setting) (code : List Instruction) (at : ℕ) (old : Li
   pub level : Level
   pub items : now ≡ levels ++ level ∷ []
   pub opens : OpensTo s code at old m new level
+
+-- a level for what the pattern makes of m, in the graph where it looks, stands after the others
+pub record IsTripleOpened (s : Setting) (next : ℕ) (look : PreparedLook) (pattern : PreparedTriple) (m : Cells) (levels now : List Level) : Type 0 where
+  pub rows : List Cells
+  pub items : now ≡ levels ++ (record { next = next; source = source.Triple rows }) ∷ []
+  pub makes : (place : Look) (p : TriplePattern) → look ≡ prepared_look (known_of s) place → pattern ≡ prepared_triple (known_of s) p
+      → Makes (known_of s) (λ n. extensions p (looked s.content.quads (graph_in s) place n) n) m rows
 
 -- one move
 abbrev pub IsStep : Setting → List Instruction → List Term → List Level → Step → List Term → List Level → Type 0

@@ -15,8 +15,8 @@ use Rattle.qs_ops_walk.specs.inner.Moves.{Goes, OpensAt}
 use Rattle.qs_ops_walk.proofs.Bags.{chain, none_left, same}
 use Rattle.qs_ops_walk.proofs.Placing.{height_at, ready_at, same_heights, set_code}
 use Rattle.qs_ops_walk.proofs.Walks.{spent, ended, gave, hit}
-use Rattle.qs_ops_walk.proofs.Steps.{whole, changed, mid_fit, settled_walk, opened, opened_walk}
-use Rattle.qs_ops_walk.proofs.Opens.{opens_triple, opens_path, opens_names, opens_values, opens_union, opens_apart}
+use Rattle.qs_ops_walk.proofs.Steps.{whole, changed, mid_fit, settled_walk, opened, opened_walk, triple_opened, triple_walk}
+use Rattle.qs_ops_walk.proofs.Opens.{opens_path, opens_names, opens_values, opens_union, opens_apart}
 use Rattle.qs_ops_walk.proofs.Asides.{name_fits, only_fits, aside_made, opens_attempt, opens_unless}
 use Rattle.qs_ops_walk.proofs.Gathering.{named_some, gathers_more, gathers_fewer, gathers_all, gathers_fit}
 use Rattle.qs_ops_walk.proofs.walk.+next.Goals as goal
@@ -150,10 +150,6 @@ next_of_walk-loop-row-preserved g t c =
       rows = chain _ _ _ c.loop-row.invariant.rows d.0;
     }
 
-pub open-returns-in-Triple-clause-opens : goal.open-returns-in-Triple-clause-opens
-open-returns-in-Triple-clause-opens g t c =
-    opens_triple c.args.reader.now c.args.place.now.instr c.args.scratch.now c.args.scratch.now c.args.row c.open_triple.result c.in-Triple.look c.in-Triple.pattern (rw c.in-Triple.is at c.requires.ready) c.open_triple.ensures refl c.requires.table c.requires.row
-
 pub open-returns-in_ok-pairs-in-Path-clause-opens : goal.open-returns-in_ok-pairs-in-Path-clause-opens
 open-returns-in_ok-pairs-in-Path-clause-opens g t c =
     let r = rw c.in-Path.is at c.requires.ready in
@@ -197,28 +193,28 @@ open-returns-in_ok-kept-in-Apart-clause-opens g t c =
     opens_apart c.args.reader.now c.args.place.now.instr c.args.scratch.now c.rows_of_right-in-Apart.new.scratch c.args.row c.rows_of_right-in-Apart.ensures.grows.table c.rows_of_right-in-Apart.ensures.grows c.requires.row c.rows_of_right-in-Apart.new.right c.in_ok-kept-in-Apart.kept c.in_ok-kept-in-Apart.ensures.kept c.in_ok-kept-in-Apart.ensures.right
     c.new-in-Apart.result (rw (c.rows_of_right-in-Apart.ensures.register, c.rows_of_right-in-Apart.ensures.group) r.is) c.new-in-Apart.ensures.terms c.new-in-Apart.ensures.fits
 
-pub open_level-open-requires : goal.open_level-open-requires
-open_level-open-requires g t c =
+pub open_other_level-open-requires : goal.open_other_level-open-requires
+open_other_level-open-requires g t c =
     let ps = c.args.walk.now.places.items in
     let p = c.index_mut-place.result.now in
     let l : c.args.at < length ps = omega (arith, c.requires.at, c.args.walk.now.places.ok.0) in
     let h = height_at ps c.args.at p l c.index_mut-place.ensures.value in
-    λ κs q. (omega (arith, h), (q, (c.requires.table, (c.requires.row, (ready_at c.args.reader.now c.args.scratch.now ps c.args.at p c.requires.walk.ready l c.index_mut-place.ensures.value, (c.requires.opens c.args.at refl).1 p c.index_mut-place.ensures.value)))))
+    λ κs q. (omega (arith, h), (q, (c.requires.table, (c.requires.row, (ready_at c.args.reader.now c.args.scratch.now ps c.args.at p c.requires.walk.ready l c.index_mut-place.ensures.value, ((c.requires.opens c.args.at refl).1 p c.index_mut-place.ensures.value, c.requires.other p c.index_mut-place.ensures.value))))))
 
-pub open_level-returns-in_err-source-clause-code : goal.open_level-returns-in_err-source-clause-code
-open_level-returns-in_err-source-clause-code g t c =
+pub open_other_level-returns-in_err-source-clause-code : goal.open_other_level-returns-in_err-source-clause-code
+open_other_level-returns-in_err-source-clause-code g t c =
     set_code c.args.walk.now.places.items c.args.at c.index_mut-place.result.now c.open.new.place c.index_mut-place.ensures.value c.open.ensures.instr
 
-pub open_level-returns-in_err-push-clause-code : goal.open_level-returns-in_err-push-clause-code
-open_level-returns-in_err-push-clause-code g t c =
+pub open_other_level-returns-in_err-push-clause-code : goal.open_other_level-returns-in_err-push-clause-code
+open_other_level-returns-in_err-push-clause-code g t c =
     set_code c.args.walk.now.places.items c.args.at c.index_mut-place.result.now c.open.new.place c.index_mut-place.ensures.value c.open.ensures.instr
 
-pub open_level-returns-clause-code : goal.open_level-returns-clause-code
-open_level-returns-clause-code g t c =
+pub open_other_level-returns-clause-code : goal.open_other_level-returns-clause-code
+open_other_level-returns-clause-code g t c =
     set_code c.args.walk.now.places.items c.args.at c.index_mut-place.result.now c.open.new.place c.index_mut-place.ensures.value c.open.ensures.instr
 
-pub open_level-returns-clause-walk : goal.open_level-returns-clause-walk
-open_level-returns-clause-walk g t c =
+pub open_other_level-returns-clause-walk : goal.open_other_level-returns-clause-walk
+open_other_level-returns-clause-walk g t c =
     let ps = c.args.walk.now.places.items in
     let p = c.index_mut-place.result.now in
     let l : c.args.at < length ps = omega (arith, c.requires.at, c.args.walk.now.places.ok.0) in
@@ -226,8 +222,8 @@ open_level-returns-clause-walk g t c =
     c.in_ok-push.ensures.items ∙ ap (λ (x : ℕ). let v : Level = record { next = x; source = c.in_ok-source.source } in c.args.walk.now.levels.items ++ v ∷ []) c.next-next.ensures in
     opened_walk c.args.reader.now c.args.scratch.now c.open.new.scratch ps c.args.walk.now.levels.items c.push.new.self.items c.args.at p c.open.new.place c.args.row c.in_ok-source.source c.requires.walk l c.index_mut-place.ensures.value c.open.ensures.grows c.open.ensures.instr c.in_ok-source.ensures.ready c.in_ok-source.ensures.opens z
 
-pub open_level-returns-clause-opened : goal.open_level-returns-clause-opened
-open_level-returns-clause-opened g t c =
+pub open_other_level-returns-clause-opened : goal.open_other_level-returns-clause-opened
+open_other_level-returns-clause-opened g t c =
     let ps = c.args.walk.now.places.items in
     let p = c.index_mut-place.result.now in
     let l : c.args.at < length ps = omega (arith, c.requires.at, c.args.walk.now.places.ok.0) in
@@ -278,3 +274,15 @@ rows_of_right-returns-clause-right g t c =
     let f = name_fits known c.args.scratch.now c.args.right.now.register c.args.row.now c.requires.row in
     aside_made c.args.reader.now c.args.scratch.now c.rows_of_group.new.scratch c.rows_of_group.ensures.grows c.args.right.now.register c.args.right.now.group.now.stages c.name_at-name.result c.width-2.result c.in_ok-alone.alone c.in_ok-rows.rows.items c.in_ok-kept-3.kept
     (rw c.name_at-name.ensures f) (search rules) (search rules) (rw c.as_slice.ensures at c.in_ok-rows.ensures.rows) c.in_ok-rows.ensures.fit
+
+pub open_level-returns-clause-walk : goal.open_level-returns-clause-walk
+open_level-returns-clause-walk g t c =
+    let ps = c.args.walk.now.places.items in
+    let l : c.args.at < length ps = omega (arith, c.requires.at, c.args.walk.now.places.ok.0) in
+    triple_walk c.args.reader.now c.args.scratch.now ps c.args.walk.now.levels.items c.open_triple_level.new.levels.items c.args.at c.index-place.result.now c.args.row c.next-next.result c.in-Some.look c.in-Some.pattern.now c.requires.walk l c.index-place.ensures c.next-next.ensures c.in-Some.ensures.some c.in_ok-open_triple_level.ensures c.requires.table c.requires.row
+
+pub open_level-returns-clause-opened : goal.open_level-returns-clause-opened
+open_level-returns-clause-opened g t c =
+    let ps = c.args.walk.now.places.items in
+    let l : c.args.at < length ps = omega (arith, c.requires.at, c.args.walk.now.places.ok.0) in
+    triple_opened c.args.reader.now c.args.scratch.now ps c.args.walk.now.levels.items c.open_triple_level.new.levels.items c.args.at c.index-place.result.now c.args.row c.next-next.result c.in-Some.look c.in-Some.pattern.now c.requires.walk l c.index-place.ensures c.next-next.ensures c.in-Some.ensures.some c.in_ok-open_triple_level.ensures c.requires.table c.requires.row

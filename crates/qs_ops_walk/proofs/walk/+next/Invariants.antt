@@ -34,7 +34,7 @@ abbrev pub decreases-rows_of_group-loop-rows : goal.decreases-rows_of_group-loop
 decreases-rows_of_group-loop-rows g l = length (named_coming l.reader (code_of l.walk.places.items) l.scratch l.walk.levels.items)
 
 abbrev pub decreases-rows_of_group : goal.decreases-rows_of_group
-decreases-rows_of_group g l = 10 * stages_height l.stages.now + 8
+decreases-rows_of_group g l = 10 * stages_height l.stages.now + 9
 
 abbrev pub decreases-rows_of_right : goal.decreases-rows_of_right
 decreases-rows_of_right g l = 10 * (1 + stages_height l.right.now.group.now.stages) + 2
@@ -42,14 +42,17 @@ decreases-rows_of_right g l = 10 * (1 + stages_height l.right.now.group.now.stag
 abbrev pub decreases-open : goal.decreases-open
 decreases-open g l = 10 * height_of l.place.now + 3
 
+abbrev pub decreases-open_other_level : goal.decreases-open_other_level
+decreases-open_other_level g l = 10 * heights_of l.walk.now.places.items + 4
+
 abbrev pub decreases-open_level : goal.decreases-open_level
-decreases-open_level g l = 10 * heights_of l.walk.now.places.items + 4
+decreases-open_level g l = 10 * heights_of l.walk.now.places.items + 5
 
 abbrev pub decreases-advance : goal.decreases-advance
-decreases-advance g l = 10 * heights_of l.walk.now.places.items + 5
+decreases-advance g l = 10 * heights_of l.walk.now.places.items + 6
 
 abbrev pub decreases-next_of_walk : goal.decreases-next_of_walk
-decreases-next_of_walk g l = 10 * heights_of l.walk.now.places.items + 6
+decreases-next_of_walk g l = 10 * heights_of l.walk.now.places.items + 7
 
 abbrev pub decreases-next_named : goal.decreases-next_named
-decreases-next_named g l = 10 * heights_of l.walk.now.places.items + 7
+decreases-next_named g l = 10 * heights_of l.walk.now.places.items + 8
