@@ -96,7 +96,7 @@ def breaks_quads(operations):
     """Returns whether a form of an update has words that it may not have: a blank node in what is deleted, a variable in DATA, or a label in two
     INSERT DATA (19.6; 19.8, its notes)."""
     forms = [it for it in operations if isinstance(it, Modify)]
-    data = [it.insert or it.delete for it in forms if it.form.endswith("DATA")]
+    data = [it.insert or it.delete or () for it in forms if it.form.endswith("DATA")]
     made = Counter(label for it in forms if it.form == "INSERT DATA" for label in labels(it.insert))
     return (
         any(labels(it.delete or ()) for it in forms)

@@ -1,5 +1,6 @@
 """Smaller trees and datasets, by which a mismatch is made smaller."""
 import itertools
+import re
 import time
 from dataclasses import replace
 
@@ -105,3 +106,22 @@ def smallest(quads, tree, is_wrong, seconds):
             break
         quads, tree = found
     return quads, tree
+
+
+# ---- texts
+
+
+def smallest_text(text, is_wrong, seconds):
+    """Returns bytes that are wrong, of which no run of words can be left out, as far as can be found in so many seconds."""
+    end, words = time.monotonic() + seconds, re.findall(rb"\w+|\s+|.", text, re.S)
+    size = max(1, len(words) // 2)
+    while size and time.monotonic() < end:
+        at, is_less = 0, False
+        while at < len(words) and time.monotonic() < end:
+            less = words[:at] + words[at + size :]
+            if is_wrong(b"".join(less)):
+                words, is_less = less, True
+            else:
+                at += size
+        size = size if is_less and size == 1 else size // 2
+    return b"".join(words)

@@ -1,0 +1,212 @@
+"""Texts for tests/fuzz: those of all cases, random sentences of the grammar, and random changes of both."""
+import glob
+import importlib.util
+import os
+import re
+import sys
+from collections import defaultdict
+from importlib.machinery import SourceFileLoader
+
+from generated import Generator, numbered, random_quads
+from messages import random_connection
+from model import Dataset
+from texts import random_query, random_update
+from trees import lines_of, text_of, update_text
+
+TOP = os.path.dirname(os.path.dirname(os.path.abspath(__file__)))
+LONGEST = 3000
+"""The most bytes of a case's text that is used."""
+PIECE = re.compile(r'"(?:[^"\\\n]|\\.)*"|<[^<>\s]*>|_:\w+|[?$@]?\w+|\s+|&&|\|\||.', re.S)
+"""What a change takes for a token: a little more or less than the grammar's."""
+WORDS = (
+    "SELECT CONSTRUCT ASK WHERE PREFIX DISTINCT REDUCED ORDER BY ASC DESC LIMIT OFFSET VALUES UNDEF OPTIONAL MINUS UNION GRAPH FILTER BIND AS a IN NOT"
+    " true FALSE BOUND IF COALESCE sameTerm isIRI isNumeric STR LANG DATATYPE LANGMATCHES STRLEN CONTAINS CONCAT INSERT DELETE DATA WITH CLEAR DROP"
+    " CREATE SILENT ADD COPY MOVE TO DEFAULT NAMED ALL COUNT EXISTS BASE FROM REGEX { } ( ) [ ] . , ; * / + - | || ^ ^^ ? ! != = < > <= >= && ?x ?y $z"
+    " _:b0 _:n [] : :a :p x:y <> <a> <http://e/a> <http://e/p> <http://e/\\u0041> 0 1 -1 +1 01 1.5 1e3 .5 1. 9223372036854775808 'a' \"a\"@en"
+    " \"a\"^^:t '''a''' \"\"\"a\n\"b\"\"\" '\\u0041' \"\\x\" # @en @ \\ ` $ 170141183460469231731687303715884105728 ^:p !(:p|^:p) (:p/:q)* :p+ :p? "
+    "!:p _: ?? é 源 \u00b7 \U0001d11e \ufeff \u2028 join piece end 1 2 00 ff"
+).split(" ")
+BYTES = [b"\xff", b"\xc0\x80", b"\xed\xa0\x80", b"\xf4\x90\x80\x80", b"\xe2\x82", b"\x00", b"\xef\xbb\xbf", b"\r", b"\n", b"\\", b"'", b'"', b" ", b"#", b"\x7f", b"<"]
+"""Bytes that are put in, of which some are no UTF-8."""
+PAIRS = [("{", "}"), ("(", ")"), ("[", "]"), ("[ :p ", "]"), ("{ OPTIONAL ", "}"), ("!", ""), ("- ", ""), ("^", ""), ("(:p/", ")"), ("IF(", ",1,2)"), ("<", ">")]
+
+
+def load(name):
+    """Returns a script of this folder as a module."""
+    loader = SourceFileLoader(name.replace("-", "_"), f"{TOP}/tests/{name}")
+    module = importlib.util.module_from_spec(importlib.util.spec_from_loader(loader.name, loader))
+    sys.modules[loader.name] = module
+    loader.exec_module(module)
+    return module
+
+
+class Corpus:
+    """The texts of all cases, by their kind: `query`, `update`, `data`, `script` and `request`."""
+
+    def __init__(self):
+        cases, self.texts = load("run-cases"), defaultdict(list)
+        for path in sorted(glob.glob(f"{TOP}/tests/cases/*.cases")):
+            for case in cases.cases_of(path):
+                if not isinstance(case, str):
+                    self.put(case)
+        self.texts = {kind: [*dict.fromkeys(it)] for kind, it in self.texts.items()}
+
+    def put(self, case):
+        for kind in ("query", "update", "data", "script"):
+            text = case.file(kind)
+            if kind in case.sections and len(text) <= (LONGEST if kind != "script" else 10 * LONGEST):
+                self.texts[kind].append(text)
+        if "script" in case.sections:
+            sent = defaultdict(bytes)
+            for id, piece in re.findall(rb"^piece (\d+) ((?:[0-9a-fA-F]{2})*)$", case.file("script"), re.M):
+                sent[id] += bytes.fromhex(piece.decode())
+            self.texts["request"] += [it for it in sent.values() if it and len(it) <= 10 * LONGEST]
+
+    def some(self, rng, kind):
+        return rng.choice(self.texts[kind])
+
+
+# ---- sentences of the grammar
+
+
+def sentence(rng, kind, quads, is_union):
+    """Returns the bytes of a random text that is lawful, mostly."""
+    if kind == "data":
+        return lines_of(random_quads(rng)).encode()
+    if kind == "request":
+        return random_connection(rng).sent
+    if kind == "script":
+        return script(rng, [random_connection(rng).sent for _ in range(rng.choice((1, 1, 2, 3)))])
+    if rng.random() < 0.4:
+        return (random_query if kind == "query" else random_update)(rng)[0].encode()
+    generator = Generator(rng, Dataset(quads, is_union))
+    return (text_of(generator.query()) if kind == "query" else update_text(generator.update())).encode()
+
+
+def script(rng, sent):
+    """Returns the bytes of a script in which connections send these bytes, each cut into pieces, which alternate."""
+    lines = []
+    for at, it in enumerate(sent):
+        it = it[:4000]
+        cuts = sorted({0, len(it), *(rng.randrange(len(it) + 1) for _ in range(rng.choice((0, 0, 1, 4))))})
+        parts = [f"piece {at} {it[a:b].hex()}" for a, b in zip(cuts, cuts[1:])]
+        lines.append([f"join {at}", *parts, *[f"end {at}"] * (rng.random() < 0.5)])
+    mixed = []
+    while lines:
+        one = rng.choice(lines)
+        mixed.append(one.pop(0))
+        lines = [it for it in lines if it]
+    return "\n".join(mixed).encode() + b"\n" * (rng.random() < 0.8)
+
+
+def quads_for(rng):
+    """Returns up to three quads, over which a text is evaluated."""
+    return numbered(random_quads(rng)[: rng.choice((0, 1, 2, 3, 3, 3))])
+
+
+# ---- changes
+
+
+def changed(rng, text, other):
+    """Returns the bytes of a text after one random change, which may take something of another text."""
+    change, is_of_bytes = rng.choices(*zip(*CHANGES))[0]
+    if is_of_bytes:
+        return change(rng, text)
+    words = PIECE.findall(text.decode("utf-8", "surrogateescape"))
+    change(rng, words, PIECE.findall(other.decode("utf-8", "surrogateescape")) or [" "])
+    return "".join(words).encode("utf-8", "surrogateescape")
+
+
+def span(rng, words, most=6):
+    """Returns the ends of a short run of words."""
+    begin = rng.randrange(len(words) + 1)
+    return begin, min(len(words), begin + rng.choice((1, 1, 1, 2, 3, most)))
+
+
+def drop(rng, words, _):
+    begin, end = span(rng, words)
+    del words[begin:end]
+
+
+def double(rng, words, _):
+    begin, end = span(rng, words)
+    words[end:end] = words[begin:end]
+
+
+def exchange(rng, words, _):
+    if words:
+        one, other = rng.randrange(len(words)), rng.randrange(len(words))
+        words[one], words[other] = words[other], words[one]
+
+
+def replace(rng, words, others):
+    begin, end = span(rng, words, 2)
+    words[begin:end] = [rng.choice(others)]
+
+
+def put(rng, words, _):
+    begin, _ = span(rng, words)
+    words[begin:begin] = [" ", rng.choice(WORDS), " "]
+
+
+def splice(rng, words, others):
+    begin, end = span(rng, words, rng.choice((0, 6, 40)))
+    first, last = span(rng, others, rng.choice((6, 40)))
+    words[begin:end] = others[first:last]
+
+
+def nest(rng, words, _):
+    begin, end = span(rng, words, 20)
+    depth = rng.choice((1, 2, 5, 63, 64, 65, 66, rng.choice((255, 256, 257, 1000))))
+    opening, closing = rng.choice(PAIRS)
+    words[end:end] = [closing * (depth if rng.random() < 0.9 else depth - 1)]
+    words[begin:begin] = [opening * depth]
+
+
+def repeat(rng, words, _):
+    begin, end = span(rng, words, 8)
+    words[end:end] = words[begin:end] * rng.choice((1, 2, 3, 10, 127, 254, 255, 256, 257))
+
+
+def lengthen(rng, words, _):
+    begin, _ = span(rng, words)
+    letter, many = rng.choice(("a", "1", "é", "\\u0041", ".", "-", "'", "源", " ", "#", "\n", ":", "_", "%41")), rng.choice((10, 100, 300, 1500))
+    words[begin:begin] = [letter * many]
+
+
+def flip(rng, text):
+    if not text:
+        return b"\x00"
+    it, at = bytearray(text), rng.randrange(len(text))
+    it[at] = it[at] ^ 1 << rng.randrange(8) if rng.random() < 0.6 else rng.randrange(256)
+    return bytes(it)
+
+
+def insert(rng, text):
+    at = rng.randrange(len(text) + 1)
+    return text[:at] + rng.choice(BYTES) + text[at:]
+
+
+def cut(rng, text):
+    at = rng.randrange(len(text) + 1)
+    return text[:at] if rng.random() < 0.8 else text[at:]
+
+
+CHANGES = [
+    ((drop, False), 12), ((double, False), 8), ((exchange, False), 8), ((replace, False), 12), ((put, False), 12), ((splice, False), 10),
+    ((nest, False), 3), ((repeat, False), 2), ((lengthen, False), 2), ((flip, True), 8), ((insert, True), 6), ((cut, True), 5),
+]  # fmt: skip
+"""The changes, whether each is of bytes, and how often it is made."""
+
+
+def random_text(rng, corpus, kind, quads, is_union):
+    """Returns the bytes of a random text."""
+    is_case = rng.random() < 0.5
+    text = corpus.some(rng, kind) if is_case else sentence(rng, kind, quads, is_union)
+    if rng.random() < (0.12 if is_case else 0.35):
+        return text
+    for _ in range(rng.choice((1, 1, 1, 2, 2, 3, 5, 9))):
+        if len(text) > 100_000:
+            break
+        text = changed(rng, text, corpus.some(rng, kind))
+    return text
