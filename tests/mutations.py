@@ -77,10 +77,20 @@ def sentence(rng, kind, quads, is_union):
         return random_connection(rng).sent
     if kind == "script":
         return script(rng, [random_connection(rng).sent for _ in range(rng.choice((1, 1, 2, 3)))])
+    if kind == "query" and rng.random() < 0.01:
+        return wide(rng)
     if rng.random() < 0.4:
         return (random_query if kind == "query" else random_update)(rng)[0].encode()
     generator = Generator(rng, Dataset(quads, is_union))
     return (text_of(generator.query()) if kind == "query" else update_text(generator.update())).encode()
+
+
+def wide(rng):
+    """Returns a query with up to 3 ** 14 solutions over three quads, which takes much time or memory."""
+    count, where = rng.choice((4, 6, 7, 8, 9, 10, 11, 12, 14)), rng.choice(("{ %s }", "{ { %s } }", "{ OPTIONAL { %s } }", "{ %s FILTER(?s0 != ?o1) }", "{ { %s } UNION { ?x ?y ?z } }"))
+    triples = where % " . ".join(f"?s{it} ?p{it} ?o{it}" for it in range(count))
+    head = rng.choice(("SELECT * ", "SELECT DISTINCT ?s1 ", "ASK ", "CONSTRUCT { ?s0 ?p0 ?o1 } WHERE ", "SELECT (CONCAT(STR(?s0), STR(?o1)) AS ?c) "))
+    return (head + triples + rng.choice(("", "", " LIMIT 10", " ORDER BY ?o1", " OFFSET 100000"))).encode()
 
 
 def script(rng, sent):
@@ -199,6 +209,18 @@ CHANGES = [
 """The changes, whether each is of bytes, and how often it is made."""
 
 
+def large(rng, text):
+    """Returns a text in which a run of words stands very often, or one word is very long."""
+    words = PIECE.findall(text.decode("utf-8", "surrogateescape")) or ["a"]
+    begin, end = span(rng, words, 30)
+    more = words[begin:end] or ["("]
+    if rng.random() < 0.3:
+        more = [rng.choice(("a", "1", "é", "\\u0041", "%41", "-", "_:", "#", "\n", "\\"))]
+    most = rng.choice((20_000, 60_000, 300_000))
+    words[end:end] = more * (most // len("".join(more)) + 1)
+    return "".join(words).encode("utf-8", "surrogateescape")
+
+
 def random_text(rng, corpus, kind, quads, is_union):
     """Returns the bytes of a random text."""
     is_case = rng.random() < 0.5
@@ -209,4 +231,4 @@ def random_text(rng, corpus, kind, quads, is_union):
         if len(text) > 100_000:
             break
         text = changed(rng, text, corpus.some(rng, kind))
-    return text
+    return large(rng, text) if rng.random() < 0.004 else text
