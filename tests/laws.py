@@ -9,8 +9,8 @@ No pattern here has a blank node, so that a basic graph pattern is the join of i
 import itertools
 
 from scope import in_scope
-from trees import INTEGER, Alternative, Bind, Call, Closure, Filter, Graph, Group, Inverse, Minus, Negated, Optional, Sequence, Term, Triples, Union
-from trees import Values, iri, var
+from trees import BOOLEAN, INTEGER, Alternative, Bind, Call, Closure, Filter, Graph, Group, Inverse, Minus, Negated, Optional, Sequence, Term
+from trees import Triples, Union, Values, iri, var
 
 GRAPHS = [iri(f"g{it}") for it in range(4)]
 CLASSES, DEEP = 10, 20
@@ -32,7 +32,8 @@ def data_lines(rng, count):
 
     p0 is a class; p1 and p2 another subject; p3 the next one in a chain; p4 none, one or two subjects; p5 an integer, missing for three in ten; p6 an
     integer below 20, in one of two forms; p7 one of few strings, some tagged; p8 a term of any kind; p9 the subject's number. One subject in ten is
-    a blank node. The quads of three subjects in five are in the default graph, the others in a named one, and one triple in ten is in another graph too."""
+    a blank node. The quads of half of the subjects are in the default graph, the others in a named one, and one triple in ten is in another graph
+    too."""
     names = [f"_:n{it}" if rng.random() < 0.1 else f"<http://e/s{it}>" for it in range(count)]
     number = lambda it: f'"{it}"^^<{INTEGER}>'
     for at, name in enumerate(names):
@@ -43,7 +44,8 @@ def data_lines(rng, count):
         pairs += [(5, number(rng.randrange(100)))] if rng.random() < 0.7 else []
         pairs += [(6, number(rng.choice(("", "", "0")) + str(rng.randrange(20))))]
         pairs += [(7, f'"{rng.choice("abcdé")}"' + rng.choice(("", "", "@en", "@en-gb")))]
-        pairs += [(8, rng.choice((number(rng.randrange(10)), '"x"', f'"{rng.choice(("true", "0"))}"^^<http://www.w3.org/2001/XMLSchema#boolean>', '"5"^^<http://e/t>', some(), f'"y"^^<{INTEGER}>')))]
+        mixed = f'"{rng.choice(("true", "0"))}"^^<{BOOLEAN}>', '"x"', '"5"^^<http://e/t>', f'"y"^^<{INTEGER}>'
+        pairs += [(8, rng.choice((number(rng.randrange(10)), some(), *mixed)))]
         home = rng.choice(("", "", "", *(f" <http://e/g{it}>" for it in (0, 1)))) if rng.random() < 0.9 else f" <http://e/g{rng.randrange(4)}>"
         for verb, object in pairs:
             yield f"{name} <http://e/p{verb}> {object}{home} .\n"
@@ -177,9 +179,10 @@ class Laws:
             return Call(rng.choice(("IN", "NOT IN")), (name, *(self.constant() for _ in range(rng.randint(1, 4)))))
         if kind < 0.85:
             return Call(rng.choice(("isIRI", "isBlank", "isLiteral", "isNumeric", "BOUND")), (name,))
+        text = Call("STR", (name,))
         return rng.choice((
-            Call("STRSTARTS", (Call("STR", (name,)), Term("literal", f"http://e/s{rng.randrange(10)}"))), Call("CONTAINS", (name, Term("literal", "b"))),
-            Call("=", (Call("LANG", (name,)), Term("literal", "en"))), Call(">", (Call("STRLEN", (Call("STR", (name,)),)), integer(rng.randrange(14)))),
+            Call("STRSTARTS", (text, Term("literal", f"http://e/s{rng.randrange(10)}"))), Call("CONTAINS", (name, Term("literal", "b"))),
+            Call("=", (Call("LANG", (name,)), Term("literal", "en"))), Call(">", (Call("STRLEN", (text,)), integer(rng.randrange(14)))),
             Call("=", (Call("+", (name, integer(1))), integer(rng.randrange(20)))),
         ))  # fmt: skip
 
@@ -193,9 +196,10 @@ class Laws:
     def value(self, names):
         """Returns an expression that is an error on some solutions."""
         name = var(self.rng.choice([*names]))
+        text = Call("STR", (name,))
         return self.rng.choice((
-            Call("+", (name, integer(1))), Call("STR", (name,)), Call("IF", (self.condition(names, 1), name, integer(0))), name, self.condition(names, 1),
-            Call("COALESCE", (Call("*", (name, integer(2))), Call("STR", (name,)))), Call("CONCAT", (Call("STR", (name,)), Term("literal", "!"))),
+            Call("+", (name, integer(1))), Call("IF", (self.condition(names, 1), name, integer(0))), name, self.condition(names, 1), text,
+            Call("COALESCE", (Call("*", (name, integer(2))), text)), Call("CONCAT", (text, Term("literal", "!"))),
         ))  # fmt: skip
 
     def moved(self, kept, other):
@@ -340,8 +344,8 @@ class Laws:
     # ---- OPTIONAL and MINUS (18.5, LeftJoin and Minus)
 
     def optional_by_union(self):
-        """LeftJoin(A, B, true) is the sum of Join(A, B) and of the solutions of A that no solution of B is compatible with. The latter are Minus(A, B)
-        where a variable is bound in each solution of both."""
+        """LeftJoin(A, B, true) is the sum of Join(A, B) and of the solutions of A that no solution of B is compatible with. The latter are
+        Minus(A, B) where a variable is bound in each solution of both."""
         one, other = self.pair()
         return group(one, Optional(group(group(other)))), Union((group(one, group(other)), group(one, Minus(group(other)))))
 
@@ -456,7 +460,8 @@ class Laws:
         """A row of VALUES is the one solution of BINDs of its terms, and the rows are a union."""
         name, one = self.first()
         names = (name, self.fresh()) if self.often(0.5) else (name,)
-        rows = tuple(tuple(None if self.often(0.15) else self.subject() if it == name else self.constant() for it in names) for _ in range(self.rng.randint(2, 30)))
+        cell = lambda it: None if self.often(0.15) else self.subject() if it == name else self.constant()
+        rows = tuple(tuple(map(cell, names)) for _ in range(self.rng.randint(2, 30)))
         binds = lambda row: Group(tuple(Bind(term, it) for it, term in zip(names, row) if term))
         return group(one, Values(names, rows)), group(one, Union(tuple(map(binds, rows))))
 

@@ -26,7 +26,7 @@ WORDS = (
     " \"a\"^^:t '''a''' \"\"\"a\n\"b\"\"\" '\\u0041' \"\\x\" # @en @ \\ ` $ 170141183460469231731687303715884105728 ^:p !(:p|^:p) (:p/:q)* :p+ :p? "
     "!:p _: ?? é 源 \u00b7 \U0001d11e \ufeff \u2028 join piece end 1 2 00 ff"
 ).split(" ")
-BYTES = [b"\xff", b"\xc0\x80", b"\xed\xa0\x80", b"\xf4\x90\x80\x80", b"\xe2\x82", b"\x00", b"\xef\xbb\xbf", b"\r", b"\n", b"\\", b"'", b'"', b" ", b"#", b"\x7f", b"<"]
+BYTES = [b"\xff", b"\xc0\x80", b"\xed\xa0\x80", b"\xf4\x90\x80\x80", b"\xe2\x82", b"\x00", b"\xef\xbb\xbf", b"\x7f", *map(bytes, zip(b"\r\n\\'\" #<"))]
 """Bytes that are put in, of which some are no UTF-8."""
 PAIRS = [("{", "}"), ("(", ")"), ("[", "]"), ("[ :p ", "]"), ("{ OPTIONAL ", "}"), ("!", ""), ("- ", ""), ("^", ""), ("(:p/", ")"), ("IF(", ",1,2)"), ("<", ">")]
 
@@ -87,7 +87,8 @@ def sentence(rng, kind, quads, is_union):
 
 def wide(rng):
     """Returns a query with up to 3 ** 14 solutions over three quads, which takes much time or memory."""
-    count, where = rng.choice((4, 6, 7, 8, 9, 10, 11, 12, 14)), rng.choice(("{ %s }", "{ { %s } }", "{ OPTIONAL { %s } }", "{ %s FILTER(?s0 != ?o1) }", "{ { %s } UNION { ?x ?y ?z } }"))
+    count = rng.choice((4, 6, 7, 8, 9, 10, 11, 12, 14))
+    where = rng.choice(("{ %s }", "{ { %s } }", "{ OPTIONAL { %s } }", "{ %s FILTER(?s0 != ?o1) }", "{ { %s } UNION { ?x ?y ?z } }"))
     triples = where % " . ".join(f"?s{it} ?p{it} ?o{it}" for it in range(count))
     head = rng.choice(("SELECT * ", "SELECT DISTINCT ?s1 ", "ASK ", "CONSTRUCT { ?s0 ?p0 ?o1 } WHERE ", "SELECT (CONCAT(STR(?s0), STR(?o1)) AS ?c) "))
     return (head + triples + rng.choice(("", "", " LIMIT 10", " ORDER BY ?o1", " OFFSET 100000"))).encode()
