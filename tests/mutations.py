@@ -26,7 +26,9 @@ WORDS = (
     " \"a\"^^:t '''a''' \"\"\"a\n\"b\"\"\" '\\u0041' \"\\x\" # @en @ \\ ` $ 170141183460469231731687303715884105728 ^:p !(:p|^:p) (:p/:q)* :p+ :p? "
     "!:p _: ?? é 源 \u00b7 \U0001d11e \ufeff \u2028 join piece end 1 2 00 ff"
 ).split(" ")
-BYTES = [b"\xff", b"\xc0\x80", b"\xed\xa0\x80", b"\xf4\x90\x80\x80", b"\xe2\x82", b"\x00", b"\xef\xbb\xbf", b"\x7f", *map(bytes, zip(b"\r\n\\'\" #<"))]
+BYTES = [
+    b"\xff", b"\xc0\x80", b"\xed\xa0\x80", b"\xf4\x90\x80\x80", b"\xe2\x82", b"\x00", b"\xef\xbb\xbf", b"\x7f", *map(bytes, zip(b"\r\n\\'\" #<"))
+]  # fmt: skip
 """Bytes that are put in, of which some are no UTF-8."""
 PAIRS = [("{", "}"), ("(", ")"), ("[", "]"), ("[ :p ", "]"), ("{ OPTIONAL ", "}"), ("!", ""), ("- ", ""), ("^", ""), ("(:p/", ")"), ("IF(", ",1,2)"), ("<", ">")]
 
@@ -41,10 +43,11 @@ def load(name):
 
 
 class Corpus:
-    """The texts of all cases, by their kind: `query`, `update`, `data`, `script` and `request`."""
+    """The texts of all cases, by their kind: `query`, `update`, `data`, `script` and `request`. `due` has, of queries, updates and N-Quads, the
+    kind, the text and the line of the fault that is due, or none."""
 
     def __init__(self):
-        cases, self.texts = load("run-cases"), defaultdict(list)
+        cases, self.texts, self.due = load("run-cases"), defaultdict(list), []
         for path in sorted(glob.glob(f"{TOP}/tests/cases/*.cases")):
             for case in cases.cases_of(path):
                 if not isinstance(case, str):
@@ -56,6 +59,11 @@ class Corpus:
             text = case.file(kind)
             if kind in case.sections and len(text) <= (LONGEST if kind != "script" else 10 * LONGEST):
                 self.texts[kind].append(text)
+        kind = next((it for it in ("query", "update", "check") if it in case.sections), None)
+        is_of_text = case.due != "fault" or re.match("F[1-6] " if kind != "check" else "N", case.words)
+        if kind and case.due != "fronts" and "args" not in case.sections and is_of_text:
+            text = case.file("data" if kind == "check" else kind)
+            self.due += [(kind, text, case.words if case.due == "fault" else None)] * (len(text) <= LONGEST)
         if "script" in case.sections:
             sent = defaultdict(bytes)
             for id, piece in re.findall(rb"^piece (\d+) ((?:[0-9a-fA-F]{2})*)$", case.file("script"), re.M):
