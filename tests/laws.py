@@ -331,7 +331,9 @@ class Laws:
 
     def union_of_optionals(self):
         """LeftJoin looks at each solution of its left side by itself."""
-        (one, other), more = self.pair(), self.first()[1]
+        name, one = self.first()
+        # (what shares no variable with the optional part would be joined with all of it)
+        other, more = self.next(name), self.anchored(name)
         sides = [group(it, Optional(group(other))) for it in (one, more)]
         return group(Union((group(one), group(more))), Optional(group(other))), Union(tuple(sides))
 
