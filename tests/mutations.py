@@ -10,8 +10,9 @@ from importlib.machinery import SourceFileLoader
 from generated import Generator, numbered, random_quads
 from messages import random_connection
 from model import Dataset
+from reader import Fault, read_quads
 from texts import random_query, random_update
-from trees import lines_of, text_of, update_text
+from trees import iri, lines_of, text_of, update_text
 
 TOP = os.path.dirname(os.path.dirname(os.path.abspath(__file__)))
 LONGEST = 3000
@@ -43,8 +44,8 @@ def load(name):
 
 
 class Corpus:
-    """The texts of all cases, by their kind: `query`, `update`, `data`, `script` and `request`. `due` has, of queries, updates and N-Quads, the
-    kind, the text and the line of the fault that is due, or none."""
+    """The texts of all cases, by their kind: `query`, `update`, `data`, `script` and `request`; each with up to three of its case's quads. `due` has,
+    of queries, updates and N-Quads, the kind, the text and the line of the fault that is due, or none."""
 
     def __init__(self):
         cases, self.texts, self.due = load("run-cases"), defaultdict(list), []
@@ -58,7 +59,7 @@ class Corpus:
         for kind in ("query", "update", "data", "script"):
             text = case.file(kind)
             if kind in case.sections and len(text) <= (LONGEST if kind != "script" else 10 * LONGEST):
-                self.texts[kind].append(text)
+                self.texts[kind].append((text, first_quads(case)))
         kind = next((it for it in ("query", "update", "check") if it in case.sections), None)
         is_of_text = case.due != "fault" or re.match("F[1-6] " if kind != "check" else "N", case.words)
         if kind and case.due != "fronts" and "args" not in case.sections and is_of_text:
@@ -68,10 +69,24 @@ class Corpus:
             sent = defaultdict(bytes)
             for id, piece in re.findall(rb"^piece (\d+) ((?:[0-9a-fA-F]{2})*)$", case.file("script"), re.M):
                 sent[id] += bytes.fromhex(piece.decode())
-            self.texts["request"] += [it for it in sent.values() if it and len(it) <= 10 * LONGEST]
+            self.texts["request"] += [(it, first_quads(case)) for it in sent.values() if it and len(it) <= 10 * LONGEST]
 
     def some(self, rng, kind):
         return rng.choice(self.texts[kind])
+
+
+def first_quads(case):
+    """Returns the first three quads of a case's data, which an update can store."""
+    data = b"".join(case.file("data").splitlines(True)[:10])
+    try:
+        return storable(read_quads(data)[:3])
+    except Fault:
+        return ()
+
+
+def storable(quads):
+    """Returns quads that an update can store: no graph's name is a blank node (SPARQL 1.1 Query, 19.8, rule 52)."""
+    return tuple(numbered([(graph and (graph if graph.kind == "uri" else iri("g")), *triple) for graph, *triple in quads]))
 
 
 # ---- sentences of the grammar
@@ -120,7 +135,7 @@ def script(rng, sent):
 
 def quads_for(rng):
     """Returns up to three quads, over which a text is evaluated."""
-    return numbered(random_quads(rng)[: rng.choice((0, 1, 2, 3, 3, 3))])
+    return storable(random_quads(rng)[: rng.choice((0, 1, 2, 3, 3, 3, 3, 3))])
 
 
 # ---- changes
@@ -230,14 +245,18 @@ def large(rng, text):
     return "".join(words).encode("utf-8", "surrogateescape")
 
 
-def random_text(rng, corpus, kind, quads, is_union):
-    """Returns the bytes of a random text."""
+def random_text(rng, corpus, kind, is_union):
+    """Returns the bytes of a random text, and up to three quads, over which it is evaluated."""
     is_case = rng.random() < 0.5
-    text = corpus.some(rng, kind) if is_case else sentence(rng, kind, quads, is_union)
-    if rng.random() < (0.12 if is_case else 0.35):
-        return text
+    if is_case:
+        text, quads = corpus.some(rng, kind)
+    else:
+        quads = quads_for(rng)
+        text = sentence(rng, kind, quads, is_union)
+    if rng.random() < (0.2 if is_case else 0.45):
+        return text, quads
     for _ in range(rng.choice((1, 1, 1, 2, 2, 3, 5, 9))):
         if len(text) > 100_000:
             break
-        text = changed(rng, text, corpus.some(rng, kind))
-    return large(rng, text) if rng.random() < 0.004 else text
+        text = changed(rng, text, corpus.some(rng, kind)[0])
+    return large(rng, text) if rng.random() < 0.004 else text, quads
