@@ -406,15 +406,11 @@ class Laws:
             return Inverse(self.path(depth - 1))
         return (Alternative if kind < 0.8 else Sequence)(self.path(depth - 1), self.path(depth - 1))
 
-    def by_path(self, left, path, right):
-        """Returns a pattern for a path between two variables, of which few solutions are left, by the pattern beside it."""
-        return group(self.anchored(left), Triples(((left, path, right),)))
-
-    def path_rewritten(self, make, rewritten):
-        """Returns the pair in which a path is rewritten to a group, beside one that leaves few solutions."""
+    def path_rewritten(self, path, rewritten):
+        """Returns the pair in which a path is rewritten to other elements, beside triples that leave few solutions."""
         left, right = self.fresh(), self.fresh()
         anchor = self.anchored(left)
-        return group(anchor, Triples(((left, make, right),))), group(anchor, *rewritten(left, right))
+        return group(anchor, Triples(((left, path, right),))), group(anchor, *rewritten(left, right))
 
     def path_sequence(self):
         """A sequence is a join by a variable that isn't shown."""

@@ -3,7 +3,6 @@
 This reads texts as the profile's grammar says, by descent over a list of tokens, and shares nothing with the program. Sections are those of SPARQL
 1.1 Query, where no other standard is named; "(own)" marks what this store's profile narrows.
 """
-import bisect
 import itertools
 import re
 
