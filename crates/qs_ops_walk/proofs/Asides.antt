@@ -13,13 +13,13 @@ use Rattle.qs_plan_meaning.specs.declared.stage.Stage.{Stage}
 use Rattle.qs_plan_meaning.specs.declared.stage.Stage.TheVariants as stage
 use Rattle.qs_ops_program.specs.inner.Flow.{Instruction}
 use Rattle.qs_ops_tables.specs.Tables.{KeptRows, FitRows, TellsExcluded, row_solutions}
-use Rattle.qs_ops_walk.specs.declared.source.Source.{Source}
 use Rattle.qs_ops_walk.specs.declared.source.Source.TheVariants as source
 use Rattle.qs_ops_walk.specs.declared.work.Conditions.{Conditions}
 use Rattle.qs_ops_walk.specs.declared.work.Right.{Right}
+use Rattle.qs_ops_walk.specs.declared.source.Attempt.{Attempt}
 use Rattle.qs_ops_walk.specs.inner.Setting.{Setting, known_of, through_in}
 use Rattle.qs_ops_walk.specs.inner.Works.{name_at, only_at, only_cells, IsAside, IsOptional, IsRight, Serves}
-use Rattle.qs_ops_walk.specs.inner.Moves.{IsAttempt, Opens, given_unless}
+use Rattle.qs_ops_walk.specs.inner.Moves.{Attempts, Opens, given_unless}
 use Rattle.qs_ops_walk.proofs.Opens.{opens_optional, opens_minus}
 
 module _ (known table : List Term) where
@@ -57,16 +57,10 @@ aside_made s t0 t1 g register stages x n alone rows k h e f bag fit =
 
 module _ (s : Setting) (i : Instruction) (old new : List Term) (m : Cells) (t : IsTable (known_of s) new) (g : Grows (known_of s) old new) (h : FitsRow (known_of s) old m) (right : Right) (k : KeptRows) (z : Serves right m k) (r : IsRight s new right) where
   pub opens_attempt : (before : Right) (conditions : Conditions) → right.register ≡ before.register → right.group.now ≡ before.group.now → IsOptional s old i.stage before conditions.list.items
-      → (src : Source) → IsAttempt k conditions m src → Opens s i old m new src
-  opens_attempt before conditions e f is (source.Given o) a = absurd a
-  opens_attempt before conditions e f is (source.Triple rows) a = absurd a
-  opens_attempt before conditions e f is (source.Names rows) a = absurd a
-  opens_attempt before conditions e f is (source.Path rows) a = absurd a
-  opens_attempt before conditions e f is (source.Probe rows) a = absurd a
-  opens_attempt before conditions e f is (source.Optional b) a =
+      → (b : Attempt) → Attempts k conditions m b → Opens s i old m new (source.Optional b)
+  opens_attempt before conditions e f is b a =
       let o : IsOptional s new i.stage right conditions.list.items = record { is = rw (e, f) is.is; prepared = is.prepared; kept = r } in
       opens_optional s i old new m t g h right k z r b (rw a.tests o) a.alone a.gives a.fits
-  opens_attempt before conditions e f is (source.Fork b) a = absurd a
 
   pub opens_unless : (before : Right) → right.register ≡ before.register → right.group.now ≡ before.group.now → i.stage ≡ stage.Minus before.register before.group.now
       → (b : Bool) → TellsExcluded k.rows s.width m b → Opens s i old m new (given_unless b m)

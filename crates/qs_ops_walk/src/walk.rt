@@ -11,9 +11,10 @@ ghost use Rattle.qs_ops_walk.specs.inner.Setting.{known_of, through_in};
 ghost use Rattle.qs_ops_walk.specs.inner.Works.{ArePairsFor, AreValues, IfPairs, IfValues, IsReady, IsRight, Serves, code_of, heights_of, only_cells};
 ghost use Rattle.qs_ops_walk.specs.inner.Coming.{coming};
 ghost use Rattle.qs_ops_walk.specs.inner.Cursor.{GivesNamed};
-ghost use Rattle.qs_ops_walk.specs.inner.Moves.{GivesRow, IsOpened, IsStep, IsWalk, IsTripleOpened, Opens, opens, is_triple, IsAttempt, OpensAt, OpensName, given_unless};
+ghost use Rattle.qs_ops_walk.specs.inner.Moves.{GivesRow, IsOpened, IsStep, IsWalk, IsTripleOpened, Opens, opens, is_triple, is_optional, Attempts, OpensAt, OpensName, given_unless};
 ghost use Rattle.qs_ops_walk.specs.declared.work.Place.{Place as PlaceValue};
 ghost use Rattle.qs_ops_walk.specs.declared.work.Work.TheVariants as variant;
+ghost use Rattle.qs_ops_walk.specs.declared.source.Source.TheVariants as origin;
 
 use crate::reader::Reader;
 use crate::settle::settle;
@@ -217,16 +218,16 @@ fn attempt<'a>(
     conditions: &Shared<Conditions<'a>>,
     row: Row,
     spare: &mut Vec<Row>,
-) -> Result<Source<'a>, AllocError>
-    ensures { IfOk result (λ s. IsAttempt kept conditions.now row s) }
+) -> Result<Attempt<'a>, AllocError>
+    ensures { IfOk result (λ a. Attempts kept conditions.now row a) }
 {
     let conditions = conditions.share()?;
     let alone = row.copy(alloc, spare)?;
-    Ok(Source::Optional(Attempt {
+    Ok(Attempt {
         probe: Probe::new(kept, row),
         conditions,
         alone: Some(alone),
-    }))
+    })
 }
 
 fn given_unless<'a>(excluded: bool, row: Row, spare: &mut Vec<Row>) -> Source<'a>
@@ -259,7 +260,35 @@ fn open_name<'a>(
     Ok(Source::Given(Some(merged)))
 }
 
-/// What the stage of the place makes of the row, as a source, where it is no triple pattern.
+/// What the OPTIONAL of the place makes of the row.
+#[cycle(next)]
+fn open_optional<'a, V: View>(
+    reader: &Reader<'a, V>,
+    scratch: &mut Scratch,
+    place: &mut Place<'a>,
+    row: Row,
+    spare: &mut Vec<Row>,
+) -> Result<Attempt<'a>, AllocError>
+    requires table { IsTable (known_of reader.now) scratch.old }
+    requires row { FitsRow (known_of reader.now) scratch.old row }
+    requires ready { IsReady reader.now scratch.old place.old }
+    requires optional { is_optional place.old.work ≡ true }
+    ensures grows { Grows (known_of reader.now) scratch.old scratch.new }
+    ensures instr { place.new.instr ≡ place.old.instr }
+    ensures ready { IfOk result (λ a. IsReady reader.now scratch.new place.new) }
+    ensures opens { IfOk result (λ a. Opens reader.now place.old.instr scratch.old row scratch.new (origin.Optional a)) }
+{
+    match &mut place.work {
+        Work::Optional(choice) => {
+            let kept = rows_of_right(reader, scratch, &mut choice.right, &row)?;
+            let found = attempt(reader.alloc, kept, &choice.conditions, row, spare)?;
+            Ok(found)
+        }
+        _ => unreachable!(),
+    }
+}
+
+/// What the stage of the place makes of the row, as a source, where it is neither a triple pattern nor an OPTIONAL.
 #[cycle(next)]
 fn open<'a, V: View>(
     reader: &Reader<'a, V>,
@@ -273,6 +302,7 @@ fn open<'a, V: View>(
     requires ready { IsReady reader.now scratch.old place.old }
     requires opens { opens place.old.work ≡ true }
     requires other { is_triple place.old.work ≡ false }
+    requires choice { is_optional place.old.work ≡ false }
     ensures grows { Grows (known_of reader.now) scratch.old scratch.new }
     ensures instr { place.new.instr ≡ place.old.instr }
     ensures ready { IfOk result (λ s. IsReady reader.now scratch.new place.new) }
@@ -299,11 +329,6 @@ fn open<'a, V: View>(
             let starts = starts.share()?;
             Ok(Source::Fork(Fork { row, starts, at: 0 }))
         }
-        Work::Optional(choice) => {
-            let kept = rows_of_right(reader, scratch, &mut choice.right, &row)?;
-            let source = attempt(reader.alloc, kept, &choice.conditions, row, spare)?;
-            Ok(source)
-        }
         Work::Minus(right) => {
             let kept = rows_of_right(reader, scratch, right, &row)?;
             let excluded = kept.get().is_excluded(&row, reader.width);
@@ -328,6 +353,12 @@ fn triple_of<'w>(work: &'w Work<'_>) -> Option<(PreparedLook, &'w PreparedTriple
     }
 }
 
+fn is_optional(work: &Work<'_>) -> bool
+    ensures { result ≡ is_optional work.now }
+{
+    matches!(work, Work::Optional(_))
+}
+
 /// Puts a level for the rows that a triple pattern makes of the row.
 #[inline(never)]
 fn open_triple_level<'a, V: View>(
@@ -348,7 +379,40 @@ fn open_triple_level<'a, V: View>(
     Ok(())
 }
 
-/// Puts a level for what the stage before the position makes of the row, where it is no triple pattern.
+/// Puts a level for what the stage before the position makes of the row, where it is an OPTIONAL.
+#[inline(never)]
+#[cycle(next)]
+fn open_optional_level<'a, V: View>(
+    reader: &Reader<'a, V>,
+    scratch: &mut Scratch,
+    walk: &mut Walk<'a>,
+    at: usize,
+    row: Row,
+) -> Result<(), AllocError>
+    requires at { at < vec_len walk.old.places }
+    requires table { IsTable (known_of reader.now) scratch.old }
+    requires row { FitsRow (known_of reader.now) scratch.old row }
+    requires walk { IsWalk reader.now scratch.old walk.old.places.items walk.old.levels.items }
+    requires opens { OpensAt walk.old.places.items (Some (suc at)) }
+    requires optional { (p : PlaceValue) → p ≡ get_or walk.old.places.items at p → is_optional p.work ≡ true }
+    ensures grows { Grows (known_of reader.now) scratch.old scratch.new }
+    ensures code { code_of walk.new.places.items ≡ code_of walk.old.places.items }
+    ensures walk { IfOk result (λ _. IsWalk reader.now scratch.new walk.new.places.items walk.new.levels.items) }
+    ensures opened { IfOk result (λ _. IsOpened reader.now (code_of walk.old.places.items) (suc at) scratch.old row walk.old.levels.items scratch.new walk.new.levels.items) }
+{
+    let place = &mut walk.places[at];
+    let next = place.instr.next();
+    let attempt = open_optional(reader, scratch, place, row, &mut walk.spare)?;
+    walk.levels.reserve(1)?;
+    walk.levels.push_reserved(Level {
+        next,
+        source: Source::Optional(attempt),
+    });
+    Ok(())
+}
+
+/// Puts a level for what the stage before the position makes of the row, where it is neither a triple pattern nor an
+/// OPTIONAL.
 #[inline(never)]
 #[cycle(next)]
 fn open_other_level<'a, V: View>(
@@ -364,6 +428,7 @@ fn open_other_level<'a, V: View>(
     requires walk { IsWalk reader.now scratch.old walk.old.places.items walk.old.levels.items }
     requires opens { OpensAt walk.old.places.items (Some (suc at)) }
     requires other { (p : PlaceValue) → p ≡ get_or walk.old.places.items at p → is_triple p.work ≡ false }
+    requires choice { (p : PlaceValue) → p ≡ get_or walk.old.places.items at p → is_optional p.work ≡ false }
     ensures grows { Grows (known_of reader.now) scratch.old scratch.new }
     ensures code { code_of walk.new.places.items ≡ code_of walk.old.places.items }
     ensures walk { IfOk result (λ _. IsWalk reader.now scratch.new walk.new.places.items walk.new.levels.items) }
@@ -398,6 +463,9 @@ fn open_level<'a, V: View>(
 {
     let place = &walk.places[at];
     let Some((look, pattern)) = triple_of(&place.work) else {
+        if is_optional(&place.work) {
+            return open_optional_level(reader, scratch, walk, at, row);
+        }
         return open_other_level(reader, scratch, walk, at, row);
     };
     let next = place.instr.next();

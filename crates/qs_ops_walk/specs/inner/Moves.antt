@@ -101,6 +101,20 @@ is_triple (work.Optional c) = false
 is_triple (work.Minus right) = false
 is_triple (work.Apart right) = false
 
+abbrev pub is_optional : Work → Bool
+is_optional (work.Triple look pattern) = false
+is_optional (work.Path t) = false
+is_optional (work.Names n) = false
+is_optional (work.Exists found) = false
+is_optional (work.Name v r) = false
+is_optional (work.Filter c) = false
+is_optional (work.Bind v e) = false
+is_optional (work.Values v) = false
+is_optional (work.Union starts) = false
+is_optional (work.Optional c) = true
+is_optional (work.Minus right) = false
+is_optional (work.Apart right) = false
+
 -- so may that of the place before the position
 abbrev pub OpensAt : List Place → Option ℕ → Type 0
 OpensAt ps o = (k : ℕ) → o ≡ Some (suc k) → (k < length ps) × ((p : Place) → p ≡ get_or ps k p → opens p.work ≡ true)
@@ -155,15 +169,6 @@ pub record Attempts (k : KeptRows) (conditions : Conditions) (m : Cells) (a : At
   pub fits : FitsMerges k.rows m a.probe
   pub tests : a.conditions ≡ conditions
   pub alone : a.alone ≡ Some m
-
-abbrev pub IsAttempt : KeptRows → Conditions → Cells → Source → Type 0
-IsAttempt k conditions m (source.Given o) = ⊥
-IsAttempt k conditions m (source.Triple rows) = ⊥
-IsAttempt k conditions m (source.Names rows) = ⊥
-IsAttempt k conditions m (source.Path rows) = ⊥
-IsAttempt k conditions m (source.Probe rows) = ⊥
-IsAttempt k conditions m (source.Optional a) = Attempts k conditions m a
-IsAttempt k conditions m (source.Fork f) = ⊥
 
 abbrev pub given_unless : Bool → Cells → Source
 given_unless true m = source.Given None

@@ -8,6 +8,7 @@ use Rattle.qs_ops_program.specs.inner.Heights.{stages_height}
 use Rattle.qs_ops_tables.specs.Tables.{TellsExcluded}
 use Rattle.qs_ops_walk.specs.declared.source.Fork.{Fork as Branching}
 use Rattle.qs_ops_walk.specs.declared.source.Level.{Level}
+use Rattle.qs_ops_walk.specs.declared.source.Source.TheVariants as source
 use Rattle.qs_ops_walk.specs.inner.Setting.{Setting, known_of}
 use Rattle.qs_ops_walk.specs.inner.Works.{code_of}
 use Rattle.qs_ops_walk.specs.inner.Coming.{coming}
@@ -174,17 +175,17 @@ open-returns-in_ok-starts-in-Union-clause-opens g t c =
     let f : Branching = record { row = c.args.row; starts = c.in_ok-starts-in-Union.starts; at = 0 } in
     opens_union c.args.reader.now c.args.place.now.instr c.args.scratch.now c.args.scratch.now c.args.row f (rw c.in_ok-starts-in-Union.ensures (rw c.in-Union.is at c.requires.ready)) refl refl refl c.requires.row
 
-pub open-returns-in_ok-source-in-Optional-clause-opens : goal.open-returns-in_ok-source-in-Optional-clause-opens
-open-returns-in_ok-source-in-Optional-clause-opens g t c =
+pub open_optional-returns-clause-opens : goal.open_optional-returns-clause-opens
+open_optional-returns-clause-opens g t c =
     opens_attempt c.args.reader.now c.args.place.now.instr c.args.scratch.now c.rows_of_right.new.scratch c.args.row c.rows_of_right.ensures.grows.table c.rows_of_right.ensures.grows c.requires.row c.rows_of_right.new.right c.in_ok-kept-in-Optional.kept c.in_ok-kept-in-Optional.ensures.kept c.in_ok-kept-in-Optional.ensures.right
-    c.in-Optional.choice.right c.in-Optional.choice.conditions c.rows_of_right.ensures.register c.rows_of_right.ensures.group (rw c.in-Optional.is at c.requires.ready) c.in_ok-source-in-Optional.source c.in_ok-source-in-Optional.ensures
+    c.in-Optional.choice.right c.in-Optional.choice.conditions c.rows_of_right.ensures.register c.rows_of_right.ensures.group (rw c.in-Optional.is at c.requires.ready) c.in_ok-found-in-Optional.found c.in_ok-found-in-Optional.ensures
 
 pub open-returns-in_ok-kept-in-Minus-clause-opens : goal.open-returns-in_ok-kept-in-Minus-clause-opens
 open-returns-in_ok-kept-in-Minus-clause-opens g t c =
     let r = rw c.in-Minus.is at c.requires.ready in
     rw c.given_unless.ensures
-    (opens_unless c.args.reader.now c.args.place.now.instr c.args.scratch.now c.rows_of_right-in-Minus.new.scratch c.args.row c.rows_of_right-in-Minus.ensures.grows.table c.rows_of_right-in-Minus.ensures.grows c.requires.row c.rows_of_right-in-Minus.new.right c.in_ok-kept-in-Minus.kept c.in_ok-kept-in-Minus.ensures.kept c.in_ok-kept-in-Minus.ensures.right
-    c.in-Minus.right c.rows_of_right-in-Minus.ensures.register c.rows_of_right-in-Minus.ensures.group r.is c.is_excluded-excluded.result
+    (opens_unless c.args.reader.now c.args.place.now.instr c.args.scratch.now c.rows_of_right.new.scratch c.args.row c.rows_of_right.ensures.grows.table c.rows_of_right.ensures.grows c.requires.row c.rows_of_right.new.right c.in_ok-kept-in-Minus.kept c.in_ok-kept-in-Minus.ensures.kept c.in_ok-kept-in-Minus.ensures.right
+    c.in-Minus.right c.rows_of_right.ensures.register c.rows_of_right.ensures.group r.is c.is_excluded-excluded.result
     (subst (λ (x : Setting). TellsExcluded c.in_ok-kept-in-Minus.kept.rows x.width c.args.row c.is_excluded-excluded.result) c.reader.view_is (rw c.get.ensures at c.is_excluded-excluded.ensures.terms)))
 
 pub open-returns-in_ok-kept-in-Apart-clause-opens : goal.open-returns-in_ok-kept-in-Apart-clause-opens
@@ -193,13 +194,51 @@ open-returns-in_ok-kept-in-Apart-clause-opens g t c =
     opens_apart c.args.reader.now c.args.place.now.instr c.args.scratch.now c.rows_of_right-in-Apart.new.scratch c.args.row c.rows_of_right-in-Apart.ensures.grows.table c.rows_of_right-in-Apart.ensures.grows c.requires.row c.rows_of_right-in-Apart.new.right c.in_ok-kept-in-Apart.kept c.in_ok-kept-in-Apart.ensures.kept c.in_ok-kept-in-Apart.ensures.right
     c.new-in-Apart.result (rw (c.rows_of_right-in-Apart.ensures.register, c.rows_of_right-in-Apart.ensures.group) r.is) c.new-in-Apart.ensures.terms c.new-in-Apart.ensures.fits
 
+pub open_optional_level-open_optional-requires : goal.open_optional_level-open_optional-requires
+open_optional_level-open_optional-requires g t c =
+    let ps = c.args.walk.now.places.items in
+    let p = c.index_mut-place.result.now in
+    let l : c.args.at < length ps = omega (arith, c.requires.at, c.args.walk.now.places.ok.0) in
+    let h = height_at ps c.args.at p l c.index_mut-place.ensures.value in
+    λ κs q. (omega (arith, h), (q, (c.requires.table, (c.requires.row, (ready_at c.args.reader.now c.args.scratch.now ps c.args.at p c.requires.walk.ready l c.index_mut-place.ensures.value, (c.requires.optional p c.index_mut-place.ensures.value))))))
+
+pub open_optional_level-returns-in_err-attempt-clause-code : goal.open_optional_level-returns-in_err-attempt-clause-code
+open_optional_level-returns-in_err-attempt-clause-code g t c =
+    set_code c.args.walk.now.places.items c.args.at c.index_mut-place.result.now c.open_optional.new.place c.index_mut-place.ensures.value c.open_optional.ensures.instr
+
+pub open_optional_level-returns-in_err-reserve-clause-code : goal.open_optional_level-returns-in_err-reserve-clause-code
+open_optional_level-returns-in_err-reserve-clause-code g t c =
+    set_code c.args.walk.now.places.items c.args.at c.index_mut-place.result.now c.open_optional.new.place c.index_mut-place.ensures.value c.open_optional.ensures.instr
+
+pub open_optional_level-returns-clause-code : goal.open_optional_level-returns-clause-code
+open_optional_level-returns-clause-code g t c =
+    set_code c.args.walk.now.places.items c.args.at c.index_mut-place.result.now c.open_optional.new.place c.index_mut-place.ensures.value c.open_optional.ensures.instr
+
+pub open_optional_level-returns-clause-walk : goal.open_optional_level-returns-clause-walk
+open_optional_level-returns-clause-walk g t c =
+    let ps = c.args.walk.now.places.items in
+    let p = c.index_mut-place.result.now in
+    let l : c.args.at < length ps = omega (arith, c.requires.at, c.args.walk.now.places.ok.0) in
+    let z : c.push_reserved.new.self.items ≡ c.args.walk.now.levels.items ++ (record { next = p.instr.next; source = (source.Optional c.in_ok-attempt.attempt) }) ∷ [] =
+    c.push_reserved.ensures.items ∙ (ap (λ (xs : List Level). xs ++ (record { next = c.next-next.result; source = source.Optional c.in_ok-attempt.attempt }) ∷ []) c.reserve.ensures.items ∙ ap (λ (x : ℕ). let v : Level = record { next = x; source = (source.Optional c.in_ok-attempt.attempt) } in c.args.walk.now.levels.items ++ v ∷ []) c.next-next.ensures) in
+    opened_walk c.args.reader.now c.args.scratch.now c.open_optional.new.scratch ps c.args.walk.now.levels.items c.push_reserved.new.self.items c.args.at p c.open_optional.new.place c.args.row (source.Optional c.in_ok-attempt.attempt) c.requires.walk l c.index_mut-place.ensures.value c.open_optional.ensures.grows c.open_optional.ensures.instr c.in_ok-attempt.ensures.ready c.in_ok-attempt.ensures.opens z
+
+pub open_optional_level-returns-clause-opened : goal.open_optional_level-returns-clause-opened
+open_optional_level-returns-clause-opened g t c =
+    let ps = c.args.walk.now.places.items in
+    let p = c.index_mut-place.result.now in
+    let l : c.args.at < length ps = omega (arith, c.requires.at, c.args.walk.now.places.ok.0) in
+    let z : c.push_reserved.new.self.items ≡ c.args.walk.now.levels.items ++ (record { next = p.instr.next; source = (source.Optional c.in_ok-attempt.attempt) }) ∷ [] =
+    c.push_reserved.ensures.items ∙ (ap (λ (xs : List Level). xs ++ (record { next = c.next-next.result; source = source.Optional c.in_ok-attempt.attempt }) ∷ []) c.reserve.ensures.items ∙ ap (λ (x : ℕ). let v : Level = record { next = x; source = (source.Optional c.in_ok-attempt.attempt) } in c.args.walk.now.levels.items ++ v ∷ []) c.next-next.ensures) in
+    opened c.args.reader.now c.args.scratch.now c.open_optional.new.scratch ps c.args.walk.now.levels.items c.push_reserved.new.self.items c.args.at p c.open_optional.new.place c.args.row (source.Optional c.in_ok-attempt.attempt) c.requires.walk l c.index_mut-place.ensures.value c.open_optional.ensures.grows c.open_optional.ensures.instr c.in_ok-attempt.ensures.ready c.in_ok-attempt.ensures.opens z
+
 pub open_other_level-open-requires : goal.open_other_level-open-requires
 open_other_level-open-requires g t c =
     let ps = c.args.walk.now.places.items in
     let p = c.index_mut-place.result.now in
     let l : c.args.at < length ps = omega (arith, c.requires.at, c.args.walk.now.places.ok.0) in
     let h = height_at ps c.args.at p l c.index_mut-place.ensures.value in
-    λ κs q. (omega (arith, h), (q, (c.requires.table, (c.requires.row, (ready_at c.args.reader.now c.args.scratch.now ps c.args.at p c.requires.walk.ready l c.index_mut-place.ensures.value, ((c.requires.opens c.args.at refl).1 p c.index_mut-place.ensures.value, c.requires.other p c.index_mut-place.ensures.value))))))
+    λ κs q. (omega (arith, h), (q, (c.requires.table, (c.requires.row, (ready_at c.args.reader.now c.args.scratch.now ps c.args.at p c.requires.walk.ready l c.index_mut-place.ensures.value, ((c.requires.opens c.args.at refl).1 p c.index_mut-place.ensures.value, (c.requires.other p c.index_mut-place.ensures.value, c.requires.choice p c.index_mut-place.ensures.value)))))))
 
 pub open_other_level-returns-in_err-source-clause-code : goal.open_other_level-returns-in_err-source-clause-code
 open_other_level-returns-in_err-source-clause-code g t c =

@@ -42,6 +42,12 @@ decreases-rows_of_right g l = 10 * (1 + stages_height l.right.now.group.now.stag
 abbrev pub decreases-open : goal.decreases-open
 decreases-open g l = 10 * height_of l.place.now + 3
 
+abbrev pub decreases-open_optional : goal.decreases-open_optional
+decreases-open_optional g l = 10 * height_of l.place.now + 3
+
+abbrev pub decreases-open_optional_level : goal.decreases-open_optional_level
+decreases-open_optional_level g l = 10 * heights_of l.walk.now.places.items + 4
+
 abbrev pub decreases-open_other_level : goal.decreases-open_other_level
 decreases-open_other_level g l = 10 * heights_of l.walk.now.places.items + 4
 
