@@ -27,7 +27,7 @@ use Rattle.qs_algebra_patterns.specs.declared.pattern.PatternNode.TheVariants as
 use Rattle.qs_algebra_patterns.specs.declared.pattern.PatternNode.TheOpen as level
 use Rattle.qs_algebra_patterns.specs.declared.pattern.Step.{Step, out-Step}
 use Rattle.qs_algebra_patterns.specs.declared.pattern.Step.TheVariants as step
-use Rattle.qs_algebra_patterns.specs.declared.pattern.Table.{Table}
+use Rattle.qs_algebra_patterns.specs.declared.table.Table.{Table}
 use Rattle.qs_expr_meaning.specs.declared.expr.Expr.{Expr}
 use Rattle.qs_algebra.specs.Basic.{basic_pattern}
 use Rattle.qs_algebra.specs.Expressions.{expr_of}

@@ -1,76 +1,11 @@
-//! Copies of property paths.
+//! Property paths that triple patterns have in common.
 
 ghost use Rattle.std.specs.Prelude.{◌≡◌, ◌↔◌, IfOk, IsTrue};
 
 use qs_base::Shared;
 use qs_syntax_ast::path::{NegatedIri, Path};
 use qs_syntax_tree::path::Repetition;
-use sqlite_items::{Boxed, Items};
 use std::alloc::{AllocError, Global};
-
-fn copied_members(alloc: Global, members: &[NegatedIri]) -> Result<Items<NegatedIri>, AllocError>
-    ensures { IfOk result (λ copies. copies ≡ members.now) }
-{
-    let mut copies = Items::new(alloc);
-    for member in members {
-        let iri = member.iri.try_clone()?;
-        copies.push(NegatedIri {
-            inverse: member.inverse,
-            iri,
-        })?;
-    }
-    Ok(copies)
-}
-
-/// An equal path of its own.
-#[cycle(path)]
-fn copied(alloc: Global, path: &Path) -> Result<Path, AllocError>
-    ensures { IfOk result (λ copy. copy ≡ path.now) }
-{
-    match path {
-        Path::Iri(iri) => Ok(Path::Iri(iri.try_clone()?)),
-        Path::NegatedSet(members) => {
-            let members = copied_members(alloc, members.as_slice())?;
-            Ok(Path::NegatedSet(members))
-        }
-        Path::Alternative(parts) => {
-            let parts = copied_parts(alloc, parts.as_slice())?;
-            Ok(Path::Alternative(parts))
-        }
-        Path::Sequence(parts) => {
-            let parts = copied_parts(alloc, parts.as_slice())?;
-            Ok(Path::Sequence(parts))
-        }
-        Path::Inverse(inner) => {
-            let inner = boxed(alloc, inner.get())?;
-            Ok(Path::Inverse(inner))
-        }
-        Path::Repeated(inner, repetition) => {
-            let inner = boxed(alloc, inner.get())?;
-            Ok(Path::Repeated(inner, *repetition))
-        }
-    }
-}
-
-#[cycle(path)]
-fn boxed(alloc: Global, path: &Path) -> Result<Boxed<Path>, AllocError>
-    ensures { IfOk result (λ copy. copy ≡ path.now) }
-{
-    let copy = copied(alloc, path)?;
-    Boxed::new(alloc, copy)
-}
-
-#[cycle(path)]
-fn copied_parts(alloc: Global, parts: &[Path]) -> Result<Items<Path>, AllocError>
-    ensures { IfOk result (λ copies. copies ≡ parts.now) }
-{
-    let mut copies = Items::new(alloc);
-    for part in parts {
-        let copy = copied(alloc, part)?;
-        copies.push(copy)?;
-    }
-    Ok(copies)
-}
 
 fn is_same_member(a: &NegatedIri, b: &NegatedIri) -> bool
     ensures { IsTrue result ↔ (a.now ≡ b.now) }
@@ -161,6 +96,6 @@ pub fn shared(
             return known.share();
         }
     }
-    let copy = copied(alloc, path)?;
+    let copy = path.copy(alloc)?;
     Shared::new(alloc, copy)
 }

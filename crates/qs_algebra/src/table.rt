@@ -3,11 +3,10 @@
 ghost use Rattle.std.specs.Prelude.{◌≡◌, map, IfOk};
 ghost use Rattle.qs_algebra.specs.Translation as spec;
 
-use qs_algebra_patterns::Table;
+use qs_algebra_patterns::{Table, rows_copy};
 use qs_syntax_ast::pattern::InlineData;
 use qs_syntax_ast::term::Variable;
 use qs_syntax_scope::NameList;
-use qs_terms::Term;
 use sqlite_items::Items;
 use std::alloc::{AllocError, Global};
 
@@ -26,40 +25,6 @@ fn numbers<'a>(
     Ok(numbers)
 }
 
-fn copied(term: &Option<Term>) -> Result<Option<Term>, AllocError>
-    ensures { IfOk result (λ copy. copy ≡ term.now) }
-{
-    match term {
-        None => Ok(None),
-        Some(term) => Ok(Some(term.try_clone()?)),
-    }
-}
-
-fn copied_row(alloc: Global, row: &[Option<Term>]) -> Result<Items<Option<Term>>, AllocError>
-    ensures { IfOk result (λ copy. copy ≡ row.now) }
-{
-    let mut copy = Items::new(alloc);
-    for term in row {
-        let term = copied(term)?;
-        copy.push(term)?;
-    }
-    Ok(copy)
-}
-
-fn copied_rows(
-    alloc: Global,
-    rows: &[Items<Option<Term>>],
-) -> Result<Items<Items<Option<Term>>>, AllocError>
-    ensures { IfOk result (λ copies. copies ≡ rows.now) }
-{
-    let mut copies = Items::new(alloc);
-    for row in rows {
-        let row = copied_row(alloc, row.as_slice())?;
-        copies.push(row)?;
-    }
-    Ok(copies)
-}
-
 /// The table, its variables by their numbers.
 pub fn table_of<'a>(
     alloc: Global,
@@ -69,6 +34,6 @@ pub fn table_of<'a>(
     ensures { IfOk result (λ t. t ≡ spec.table_of names.now table.now) }
 {
     let variables = numbers(alloc, names, table.variables.as_slice())?;
-    let rows = copied_rows(alloc, table.rows.as_slice())?;
+    let rows = rows_copy(alloc, table.rows.as_slice())?;
     Ok(Table { variables, rows })
 }

@@ -11,7 +11,7 @@ use Rattle.qs_algebra_solutions.specs.Operators as of
 use Rattle.qs_expr_meaning.specs.Meaning.{meaning, holds}
 use Rattle.qs_expr_meaning.specs.declared.expr.Expr.{Expr}
 use Rattle.qs_algebra_patterns.specs.Basic.{Graph as Triples, basic}
-use Rattle.qs_algebra_patterns.specs.declared.pattern.Table.{Table}
+use Rattle.qs_algebra_patterns.specs.declared.table.Table.{Table}
 use Rattle.qs_algebra_patterns.specs.declared.pattern.PatternNode.{PatternNode, fold-PatternNode}
 use Rattle.qs_algebra_patterns.specs.declared.pattern.Step.{Step, fold-Step}
 use Rattle.qs_algebra_patterns.specs.declared.pattern.PatternNode.TheOpen.{PatternNode-F, Step-F, Basic, Group, Union, Graph, EachGraph, Values, Join, LeftJoin, Minus, Extend}

@@ -3,6 +3,8 @@
 
 mod named_pattern;
 mod pattern;
+mod table;
 
 pub use named_pattern::Pattern;
-pub use pattern::{BasicPattern, PathPattern, PatternNode, Slot, Step, Table, TriplePattern};
+pub use pattern::{BasicPattern, PathPattern, PatternNode, Slot, Step, TriplePattern};
+pub use table::{Table, rows_copy};

@@ -1,6 +1,7 @@
 //! Patterns of the algebra (SPARQL 1.1 Query, 18.2). Variables have numbers: those with a name come first, and after them the
 //! hidden ones of each basic graph pattern, which its blank nodes are.
 
+use crate::table::Table;
 use qs_base::Shared;
 use qs_expr_meaning::Expr;
 use qs_syntax_ast::path::Path;
@@ -39,13 +40,6 @@ pub struct BasicPattern {
     pub paths: Items<PathPattern>,
     /// How many numbers after those of the named variables are for hidden ones, which triples and paths have in common.
     pub hidden: usize,
-}
-
-/// The table of VALUES (SPARQL 1.1 Query, 18.2.2.7): its variables, of which none stands twice, and its rows. None is UNDEF.
-#[derive(Drop)]
-pub struct Table {
-    pub variables: Items<usize>,
-    pub rows: Items<Items<Option<Term>>>,
 }
 
 /// A pattern (SPARQL 1.1 Query, 18.2).

@@ -12,7 +12,7 @@ use Rattle.qs_algebra_solutions.specs.Solution.{Solution, term_at, unbound, bind
 use Rattle.qs_algebra_solutions.specs.Operators.{join}
 use Rattle.qs_expr_meaning.specs.declared.expr.Expr.{Expr}
 use Rattle.qs_algebra_patterns.specs.declared.pattern.BasicPattern.{BasicPattern}
-use Rattle.qs_algebra_patterns.specs.declared.pattern.Table.{Table}
+use Rattle.qs_algebra_patterns.specs.declared.table.Table.{Table}
 use Rattle.qs_algebra_patterns.specs.declared.pattern.Step.{Step, map-Step, roll-Step}
 use Rattle.qs_algebra_patterns.specs.declared.pattern.Step.TheVariants.{Join, LeftJoin, Minus, Extend, rolls-Join, rolls-LeftJoin, rolls-Minus, rolls-Extend}
 use Rattle.qs_algebra_patterns.specs.declared.pattern.PatternNode.{PatternNode, map-PatternNode, roll-PatternNode, ind-PatternNode}

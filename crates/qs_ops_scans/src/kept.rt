@@ -90,6 +90,7 @@ fn rest_if<V: View>(
     pairs.rest_found()
 }
 
+/// The pairs of both lists.
 fn joined(
     first: Vec<(Cell, Cell)>,
     second: Vec<(Cell, Cell)>,

@@ -4,7 +4,7 @@ use Rattle.std.specs.List.{filter}
 use Rattle.qs_terms.specs.declared.term.Term.{Term}
 use Rattle.qs_algebra_solutions.specs.Solution.{Solution}
 use Rattle.qs_algebra_patterns.specs.Eval.{all_hold}
-use Rattle.qs_algebra_patterns.specs.declared.pattern.Table.{Table}
+use Rattle.qs_algebra_patterns.specs.declared.table.Table.{Table}
 use Rattle.qs_expr.specs.Cell.{Cells, denoted_if, row_solution, FitsIf}
 use Rattle.qs_expr.specs.Scratch.{Grows}
 use Rattle.qs_expr.specs.declared.cell.Cell.{Cell}

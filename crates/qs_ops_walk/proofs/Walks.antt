@@ -97,7 +97,7 @@ module _ (s : Setting) (code : List Instruction) where
             (same (coming s code t0 old) (coming s code t1 mid) (a ∙ sym b), omega (arith, moves_was))
 
         -- it is finished
-        pub gave : Goes s code i.next t0 i.row 0 t1 n → IsStep s code t0 old (Gave n) t1 mid
+        pub gave : Goes s code i.next t0 (i.row) 0 t1 n → IsStep s code t0 old (Gave n) t1 mid
         gave z =
             let b : coming s code t1 mid ≡ coming s code t0 mid = coming_same s t0 t1 g code mid fit in (
               same (coming s code t0 old) (row_solution known t1 n ∷ coming s code t1 mid)

@@ -15,7 +15,7 @@ use Rattle.qs_algebra_patterns.specs.Basic.{Graph}
 use Rattle.qs_algebra_patterns.specs.Eval.{all_hold, rows_of}
 use Rattle.qs_algebra_patterns.specs.declared.pattern.Slot.{Slot}
 use Rattle.qs_algebra_patterns.specs.declared.pattern.Slot.TheVariants as slot
-use Rattle.qs_algebra_patterns.specs.declared.pattern.Table.{Table}
+use Rattle.qs_algebra_patterns.specs.declared.table.Table.{Table}
 use Rattle.qs_algebra_patterns.specs.declared.pattern.PathPattern.{PathPattern}
 use Rattle.qs_algebra_patterns.specs.declared.pattern.TriplePattern.{TriplePattern}
 use Rattle.qs_plan_meaning.specs.declared.stage.Group.{Group}

@@ -16,7 +16,7 @@ use Rattle.qs_algebra_solutions.specs.Solution.{Solution, term_at, unbound, merg
 use Rattle.qs_algebra_solutions.specs.Operators.{merges, join, or_alone, excludes, minus}
 use Rattle.qs_algebra_patterns.specs.Basic.{Graph as Triples}
 use Rattle.qs_algebra_patterns.specs.Eval.{eval, step, all_hold, kept, extended, rows_of}
-use Rattle.qs_algebra_patterns.specs.declared.pattern.Table.{Table}
+use Rattle.qs_algebra_patterns.specs.declared.table.Table.{Table}
 use Rattle.qs_algebra_patterns.specs.declared.pattern.PatternNode.{PatternNode}
 use Rattle.qs_algebra_patterns.specs.declared.pattern.PatternNode.TheVariants as pattern
 use Rattle.qs_algebra_patterns.specs.declared.pattern.Step.{Step}

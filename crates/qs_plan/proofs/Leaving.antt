@@ -14,7 +14,7 @@ use Rattle.qs_algebra_solutions.specs.Solution.{Solution, term_at, unbound, bind
 use Rattle.qs_algebra_solutions.specs.Operators.{merges, or_alone, excludes}
 use Rattle.qs_algebra_patterns.specs.Basic.{Graph}
 use Rattle.qs_algebra_patterns.specs.Eval.{all_hold, bound_to, rows_of}
-use Rattle.qs_algebra_patterns.specs.declared.pattern.Table.{Table}
+use Rattle.qs_algebra_patterns.specs.declared.table.Table.{Table}
 use Rattle.qs_algebra_patterns.specs.declared.pattern.TriplePattern.{TriplePattern}
 use Rattle.qs_algebra_patterns.specs.declared.pattern.PathPattern.{PathPattern}
 use Rattle.qs_plan_meaning.specs.declared.stage.Group.{Group}

@@ -6,8 +6,7 @@ use qs_algebra_patterns::{PathPattern, Slot, Table, TriplePattern};
 use qs_base::{Shared, keep_beside};
 use qs_expr_meaning::{Addend, Expr};
 use qs_plan_meaning::{Group, Stage};
-use qs_syntax_ast::path::{NegatedIri, Path};
-use qs_terms::Term;
+use qs_syntax_ast::path::Path;
 use sqlite_items::{Boxed, Items};
 use std::alloc::{AllocError, Global};
 
@@ -138,133 +137,21 @@ pub(crate) fn shared_conditions(
     Shared::new(alloc, copies)
 }
 
-fn copied_numbers(alloc: Global, numbers: &[usize]) -> Result<Items<usize>, AllocError>
-    ensures { IfOk result (λ copies. copies ≡ numbers.now) }
-{
-    Items::from_slice(alloc, numbers)
-}
-
-fn copied_cell(term: &Option<Term>) -> Result<Option<Term>, AllocError>
-    ensures { IfOk result (λ copy. copy ≡ term.now) }
-{
-    match term {
-        None => Ok(None),
-        Some(term) => Ok(Some(term.try_clone()?)),
-    }
-}
-
-fn copied_row(alloc: Global, row: &[Option<Term>]) -> Result<Items<Option<Term>>, AllocError>
-    ensures { IfOk result (λ copy. copy ≡ row.now) }
-{
-    let mut copy = Items::new(alloc);
-    for term in row {
-        let term = copied_cell(term)?;
-        copy.push(term)?;
-    }
-    Ok(copy)
-}
-
-fn copied_rows(
-    alloc: Global,
-    rows: &[Items<Option<Term>>],
-) -> Result<Items<Items<Option<Term>>>, AllocError>
-    ensures { IfOk result (λ copies. copies ≡ rows.now) }
-{
-    let mut copies = Items::new(alloc);
-    for row in rows {
-        let row = copied_row(alloc, row.as_slice())?;
-        copies.push(row)?;
-    }
-    Ok(copies)
-}
-
 /// An equal table, to be shared.
 pub(crate) fn shared_table(alloc: Global, table: &Table) -> Result<Shared<Table>, AllocError>
     ensures { IfOk result (λ copy. copy ≡ table.now) }
 {
-    let copy = copied_table(alloc, table)?;
+    let copy = table.copy(alloc)?;
     Shared::new(alloc, copy)
 }
 
-fn copied_table(alloc: Global, table: &Table) -> Result<Table, AllocError>
-    ensures { IfOk result (λ copy. copy ≡ table.now) }
-{
-    let variables = copied_numbers(alloc, table.variables.as_slice())?;
-    let rows = copied_rows(alloc, table.rows.as_slice())?;
-    Ok(Table { variables, rows })
-}
-
 // ---- paths
-
-fn copied_members(alloc: Global, members: &[NegatedIri]) -> Result<Items<NegatedIri>, AllocError>
-    ensures { IfOk result (λ copies. copies ≡ members.now) }
-{
-    let mut copies = Items::new(alloc);
-    for member in members {
-        let iri = member.iri.try_clone()?;
-        copies.push(NegatedIri {
-            inverse: member.inverse,
-            iri,
-        })?;
-    }
-    Ok(copies)
-}
-
-/// An equal path of its own.
-#[cycle(path)]
-fn path_copy(alloc: Global, path: &Path) -> Result<Path, AllocError>
-    ensures { IfOk result (λ copy. copy ≡ path.now) }
-{
-    match path {
-        Path::Iri(iri) => Ok(Path::Iri(iri.try_clone()?)),
-        Path::NegatedSet(members) => {
-            let members = copied_members(alloc, members.as_slice())?;
-            Ok(Path::NegatedSet(members))
-        }
-        Path::Alternative(parts) => {
-            let parts = path_copies(alloc, parts.as_slice())?;
-            Ok(Path::Alternative(parts))
-        }
-        Path::Sequence(parts) => {
-            let parts = path_copies(alloc, parts.as_slice())?;
-            Ok(Path::Sequence(parts))
-        }
-        Path::Inverse(inner) => {
-            let inner = path_box(alloc, inner.get())?;
-            Ok(Path::Inverse(inner))
-        }
-        Path::Repeated(inner, repetition) => {
-            let inner = path_box(alloc, inner.get())?;
-            Ok(Path::Repeated(inner, *repetition))
-        }
-    }
-}
-
-#[cycle(path)]
-fn path_box(alloc: Global, path: &Path) -> Result<Boxed<Path>, AllocError>
-    ensures { IfOk result (λ copy. copy ≡ path.now) }
-{
-    let copy = path_copy(alloc, path)?;
-    Boxed::new(alloc, copy)
-}
-
-#[cycle(path)]
-fn path_copies(alloc: Global, parts: &[Path]) -> Result<Items<Path>, AllocError>
-    ensures { IfOk result (λ copies. copies ≡ parts.now) }
-{
-    let mut copies = Items::new(alloc);
-    for part in parts {
-        let copy = path_copy(alloc, part)?;
-        copies.push(copy)?;
-    }
-    Ok(copies)
-}
 
 /// An equal path, to be shared.
 pub(crate) fn shared_path(alloc: Global, path: &Path) -> Result<Shared<Path>, AllocError>
     ensures { IfOk result (λ copy. copy ≡ path.now) }
 {
-    let copy = path_copy(alloc, path)?;
+    let copy = path.copy(alloc)?;
     Shared::new(alloc, copy)
 }
 

@@ -90,6 +90,7 @@ fn is_split_between(parts: &[Path], left: End, right: End) -> bool {
     true
 }
 
+/// Whether it is a term, or a variable whose number is below `from`.
 fn is_lower(slot: &Slot, from: usize) -> bool
     ensures { result ≡ true → Lower from slot.now }
 {
@@ -195,7 +196,7 @@ fn join(
     }
 }
 
-/// The union of the paths. No two branches have a row in common, so that their hidden variables may be the same.
+/// The union of the paths. A row goes through each branch by itself, so the branches have their hidden variables in common.
 #[cycle(join)]
 fn join_either(
     alloc: Global,

@@ -45,7 +45,7 @@ cell_after None false c = None
 cell_after None true c = Some c
 cell_after (Some d) b c = Some d
 
--- the same for the other end, after the subject was bound
+-- the object's variable, if it is one, has this cell in the row or none, after the subject was bound
 abbrev pub object_agrees : Option ℕ → Option ℕ → Cell × Cell → Cells → Bool
 object_agrees subject None cells m = true
 object_agrees subject (Some v) cells m = agrees_cell (cell_after (cell_at m v) (binds_end m subject v) cells.0) cells.1

@@ -37,7 +37,7 @@ abbrev pub Lower : ℕ → Slot → Type 0
 Lower n (slot.Term t) = Unit {0}
 Lower n (slot.Variable v) = v < n
 
--- the same, or a variable past all rows
+-- a term, a variable below the number, or one past all rows
 abbrev pub Stands : ℕ → Slot → Type 0
 Stands n (slot.Term t) = Unit {0}
 Stands n (slot.Variable v) = (v < n) ⊎ (past ≤ v)

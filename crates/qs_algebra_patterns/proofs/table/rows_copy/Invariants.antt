@@ -1,5 +1,5 @@
 use Rattle.std.proofs.Common.{◌≡◌, take}
-use Rattle.qs_algebra.proofs.table.copied_rows.Given as goal
+use Rattle.qs_algebra_patterns.proofs.table.rows_copy.Given as goal
 
 abbrev pub invariant-loop-row : goal.invariant-loop-row
 invariant-loop-row l = l.copies ≡ take l.row-index l.rows
