@@ -10,6 +10,9 @@ from concurrent.futures import FIRST_COMPLETED, ThreadPoolExecutor, wait
 EACH = 3_000_000_000
 """The memory that the check of one crate may take, in bytes."""
 
+LONG = 180
+"""From how many seconds on two jobs share the proof of a crate that the whole build waits for."""
+
 PROGRAM = "quads_main"
 """The crate of the program."""
 
@@ -171,8 +174,8 @@ def build(root, crates, folder, words_of, tell):
     """Builds the crates, each after those that it names, and first those with the longest chain of others above them. A crate's
     command is words_of(crate), its log stands in the folder. Returns the first crate that was not built, or None.
 
-    Each crate gets one job, also one that runs alone: each further job loads all that is below once more, so that a crate high in the
-    chain took 300 seconds with four jobs, and 190 with one."""
+    A long crate that the whole build waits for gets two jobs, where there are four processors; each other crate gets one. A further job
+    loads all that is below once more: of a short crate high in the chain it takes longer than it saves."""
     effort = {it: seconds(root, it) for it in crates}
     behind = dict.fromkeys(crates, 0)
     for crate in reversed([*crates]):
@@ -181,10 +184,14 @@ def build(root, crates, folder, words_of, tell):
             behind[it] = max(behind[it], behind[crate])
     left, running, done, most = sorted(crates, key=lambda it: -behind[it]), {}, set(), lanes()
 
-    def prove(crate):
+    def jobs_of(crate):
+        unfinished = [behind[it] for it in crates if it not in done]
+        return 2 if most >= 4 and effort[crate] >= LONG and behind[crate] == max(unfinished) else 1
+
+    def prove(crate, jobs):
         with open(f"{folder}/{crate}.log", "wb") as log:
             at = f"{apart(root, crate)}/crates/{crate}"
-            words = [*words_of(crate)[:2], "--jobs", "1", *words_of(crate)[2:]]
+            words = [*words_of(crate)[:2], "--jobs", str(jobs), *words_of(crate)[2:]]
             status = subprocess.run(words, cwd=at, stdin=subprocess.DEVNULL, stdout=log, stderr=log).returncode
         if not status:
             hand_over(root, crate)
@@ -196,7 +203,7 @@ def build(root, crates, folder, words_of, tell):
             for crate in ready[: most - len(running)]:
                 left.remove(crate)
                 tell(crate, len(left))
-                running[pool.submit(prove, crate)] = crate
+                running[pool.submit(prove, crate, jobs_of(crate))] = crate
             for it in wait(running, return_when=FIRST_COMPLETED).done:
                 crate = running.pop(it)
                 if it.result():
