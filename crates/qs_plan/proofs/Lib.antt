@@ -20,6 +20,7 @@ pub mod Planned
 pub mod Arms
 pub mod Swaps
 pub mod Sames
+pub mod Taking
 pub mod Settled
 pub mod Leaving
 pub mod Onward

@@ -1,7 +1,6 @@
 -- Stages of which the groups are exchanged for others that make the same.
-use Rattle.std.proofs.Common.{◌≡◌, ℕ, ◌+◌, ◌<◌, ◌≤◌, not, List, [], ◌∷◌, ◌++◌, map, take, length, get_or, reverse, Option, sym, ◌∙◌, ap, subst, append-nil, append_assoc, zero, suc, None, Some, slice_get, arith}
+use Rattle.std.proofs.Common.{◌≡◌, ℕ, ◌+◌, ◌<◌, ◌≤◌, not, List, [], ◌∷◌, ◌++◌, map, take, length, get_or, reverse, Option, sym, ◌∙◌, ap, subst, append-nil, append_assoc, zero, suc, None, Some, slice_get}
 use Rattle.std.specs.List.{AllByRecursion, flat_map, remove}
-use Rattle.std.proofs.lemmas.List.Edits.{length-remove}
 use Rattle.std.proofs.lemmas.Grind.{flat_map-append}
 use Rattle.std.proofs.lemmas.List.{take_more, take_all, reverse-append}
 use Rattle.std.proofs.lemmas.List.Sorted.{IsPermutation-append, IsPermutation-map, list_any-IsPermutation}
@@ -156,13 +155,6 @@ run_more r done new before left rest i s lt is h e f a = one_brought r done new 
 
 pub run_less : (r : Option ℕ) (left rest : List Stage) (i : ℕ) → AllByRecursion (IsScan r) left → rest ≡ remove left i → AllByRecursion (IsScan r) rest
 run_less r left rest i h f = subst (AllByRecursion (IsScan r)) (sym f) (scans_left r left i h)
-
-pub run_shorter : (left rest : List Stage) (i : ℕ) → i < length left → rest ≡ remove left i → length rest < length left
-run_shorter left rest i lt f = subst (λ (l : List Stage). length l < length left) (sym f) (let e : length (remove left i) + 1 ≡ length left = length-remove left i lt in omega (arith, e))
-
--- no run is left
-pub run_over : (done left before : List Stage) → left ≡ [] → SameStages (done ++ left) before → (left ≡ []) × SameStages done before
-run_over done left before e h = (e, subst (λ (l : List Stage). SameStages l before) (append-nil done) (subst (λ (l : List Stage). SameStages (done ++ l) before) e h))
 
 -- a run is put the other way round
 pub run_turned : (r : Option ℕ) (done run left new : List Stage) → AllByRecursion (IsScan r) run → left ≡ reverse run → SameStages new (done ++ left) → SameStages new (done ++ run)

@@ -3,6 +3,7 @@ pub mod Below
 pub mod Numbers
 pub mod Lays
 pub mod Sames
+pub mod Slots
 pub mod Reads
 pub mod Certain
 pub mod Joins

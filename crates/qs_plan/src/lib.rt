@@ -4,20 +4,24 @@
 
 mod certain;
 mod copies;
+mod counts;
 mod display;
 mod filters;
 mod joins;
+mod known;
 mod laid;
 mod lay;
 mod leaves;
 mod order;
 mod plan_type;
 mod planner;
+mod ranks;
 mod reads;
 mod run;
 
+pub use counts::Counts;
 pub use filters::filter_order;
 pub use order::run_order;
 pub use plan_type::{Plan, drop_plan};
-pub use planner::{plan, text_order};
+pub use planner::{plan, plan_for, text_order};
 pub use qs_plan_meaning::{Group, Look, Stage};

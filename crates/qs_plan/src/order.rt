@@ -1,132 +1,23 @@
 //! The order of runs: which triple or path comes next.
 
-ghost use Rattle.std.specs.Prelude.{◌≡◌, ◌≢◌, ◌<◌, ◌≤◌, true, [], ◌∷◌, ◌++◌, length, slice_get, remove, reverse, Some, IfOk, OnOk, MatchOption};
+ghost use Rattle.std.specs.Prelude.{◌≡◌, ◌≢◌, true, [], ◌∷◌, ◌++◌, reverse, IfOk, OnOk};
 ghost use Rattle.std.specs.List.{AllByRecursion};
+ghost use Rattle.std.specs.Option.{option_to_list};
 ghost use Rattle.qs_plan_meaning.specs.declared.stage.Stage.TheVariants as stage;
 ghost use Rattle.qs_plan.specs.Plans.{SamePlan};
 ghost use Rattle.qs_plan_meaning.specs.Stages.{register_of};
 ghost use Rattle.qs_plan.specs.inner.Sames.{IsScan, Misses, SameStages};
+ghost use Rattle.qs_plan.specs.inner.Slots.{Puts, Takes, stages_left};
 
 use crate::copies::copied_stage;
+use crate::counts::{Counts, NoCounts};
+use crate::known::{add_flags, all_flags, keep_flags, mark_stage, no_flags};
 use crate::plan_type::Plan;
+use crate::ranks::order_of;
 use qs_algebra_patterns::{PathPattern, Slot, TriplePattern};
 use qs_plan_meaning::{Group, Look, Stage};
 use sqlite_items::Items;
 use std::alloc::{AllocError, Global};
-
-// ---- which variables are bound
-
-/// Whether the variable is flagged.
-fn is_known(known: &[bool], variable: usize) -> bool {
-    match known.get(variable) {
-        Some(flag) => *flag,
-        None => false,
-    }
-}
-
-/// Flags the variable, if it is one of them.
-fn mark(known: &mut Vec<bool>, variable: usize) {
-    if let Some(flag) = known.get_mut(variable) {
-        *flag = true;
-    }
-}
-
-fn mark_slot(known: &mut Vec<bool>, slot: &Slot) {
-    match slot {
-        Slot::Term(_) => {}
-        Slot::Variable(variable) => mark(known, *variable),
-    }
-}
-
-fn mark_all(known: &mut Vec<bool>, variables: &[usize]) {
-    for at in 0..variables.len() {
-        mark(known, variables[at]);
-    }
-}
-
-/// Flags the variables that the stage binds, if it holds no groups.
-fn mark_stage(known: &mut Vec<bool>, stage: &Stage) {
-    match stage {
-        Stage::Triple(_, pattern) => {
-            mark_slot(known, &pattern.subject);
-            mark_slot(known, &pattern.predicate);
-            mark_slot(known, &pattern.object);
-        }
-        Stage::Path(_, pattern) => {
-            mark_slot(known, &pattern.subject);
-            mark_slot(known, &pattern.object);
-        }
-        Stage::Name(variable, _) => mark(known, *variable),
-        Stage::Bind(variable, _) => mark(known, *variable),
-        Stage::Values(table) => mark_all(known, table.get().variables.as_slice()),
-        _ => {}
-    }
-}
-
-/// As many flags, none set.
-fn no_flags(alloc: Global, count: usize) -> Result<Vec<bool>, AllocError> {
-    let mut flags = Vec::new(alloc);
-    for _ in 0..count {
-        flags.push(false)?;
-    }
-    Ok(flags)
-}
-
-/// As many flags, all set.
-fn all_flags(alloc: Global, count: usize) -> Result<Vec<bool>, AllocError> {
-    let mut flags = Vec::new(alloc);
-    for _ in 0..count {
-        flags.push(true)?;
-    }
-    Ok(flags)
-}
-
-/// Flags those that the others flag too.
-fn add_flags(known: &mut Vec<bool>, others: &[bool]) {
-    for at in 0..others.len() {
-        if others[at] {
-            mark(known, at);
-        }
-    }
-}
-
-/// Leaves those that the others flag too.
-fn keep_flags(known: &mut Vec<bool>, others: &[bool]) {
-    for at in 0..known.len() {
-        if !is_known(others, at) {
-            known[at] = false;
-        }
-    }
-}
-
-/// One, where the slot's term is fixed or its variable bound before.
-fn fixed_slot(known: &[bool], slot: &Slot) -> usize
-    ensures { result ≤ 1 }
-{
-    let is_fixed = match slot {
-        Slot::Term(_) => true,
-        Slot::Variable(variable) => is_known(known, *variable),
-    };
-    if is_fixed { 1 } else { 0 }
-}
-
-/// How many places of a triple or a path are fixed by terms or by variables bound before. The predicate of a path is.
-fn fixed_places(known: &[bool], stage: &Stage) -> usize {
-    match stage {
-        Stage::Triple(_, pattern) => {
-            let subject = fixed_slot(known, &pattern.subject);
-            let predicate = fixed_slot(known, &pattern.predicate);
-            let object = fixed_slot(known, &pattern.object);
-            subject + predicate + object
-        }
-        Stage::Path(_, pattern) => {
-            let subject = fixed_slot(known, &pattern.subject);
-            let object = fixed_slot(known, &pattern.object);
-            subject + 1 + object
-        }
-        _ => 0,
-    }
-}
 
 // ---- which stages may be exchanged
 
@@ -192,62 +83,97 @@ fn register_in(stage: &Stage) -> Option<usize> {
 
 // ---- the order
 
-/// The place of the stage with most places fixed; of several, the last.
-fn best_of(stages: &[Stage], known: &[bool]) -> Option<usize>
-    ensures { MatchOption result (stages.now ≡ []) (λ best. best < length stages.now) }
+fn push<T: Drop>(items: &mut Vec<T>, item: T) -> Result<(), AllocError>
+    ensures { OnOk result (items.new.items ≡ items.old.items ++ item ∷ []) }
 {
-    if stages.is_empty() {
-        return None;
-    }
-    let mut best = stages.len() - 1;
-    let mut most = 0;
-    for back in 0..stages.len() {
-        let at = stages.len() - 1 - back;
-        let places = fixed_places(known, &stages[at]);
-        if places == 3 {
-            return Some(at);
-        }
-        if most < places {
-            most = places;
-            best = at;
-        }
-    }
-    Some(best)
+    items.push(item)?;
+    Ok(())
 }
 
 /// Takes the stages away, the last first.
-fn turned(alloc: Global, run: &mut Items<Stage>) -> Result<Items<Stage>, AllocError>
-    ensures { IfOk result (λ rest. (run.new ≡ []) × (rest ≡ reverse run.old)) }
+fn slots_of(alloc: Global, run: &mut Items<Stage>) -> Result<Vec<Option<Stage>>, AllocError>
+    ensures { IfOk result (λ slots. (run.new ≡ []) × (stages_left slots.items ≡ reverse run.old)) }
 {
-    let mut rest = Items::new(alloc);
+    let mut slots = Vec::new(alloc);
     'back: while let Some(last) = run.pop() {
-        rest.push(last)?;
+        push(&mut slots, Some(last))?;
     }
-    Ok(rest)
+    Ok(slots)
 }
 
-/// Puts the scans after those that are done: next always one with most places fixed; of several, the last.
-fn put_scans(
+/// Takes the stage at the place, if one is there.
+fn take_at(slots: &mut Vec<Option<Stage>>, at: usize) -> Option<Stage>
+    ensures { Takes result (stages_left slots.old.items) (stages_left slots.new.items) }
+{
+    if slots.len() <= at {
+        return None;
+    }
+    slots[at].take()
+}
+
+/// Puts the scan at the place after those that are done, if it is still there.
+fn put_at(
     register: Option<usize>,
-    run: &mut Items<Stage>,
-    known: &mut Vec<bool>,
+    slots: &mut Vec<Option<Stage>>,
+    at: usize,
     done: &mut Items<Stage>,
 ) -> Result<(), AllocError>
-    requires { AllByRecursion (IsScan register) run.old }
-    ensures { OnOk result ((run.new ≡ []) × SameStages done.new (done.old ++ run.old)) }
+    requires { AllByRecursion (IsScan register) (stages_left slots.old.items) }
+    ensures { OnOk result (Puts register done.old (stages_left slots.old.items) done.new (stages_left slots.new.items)) }
 {
-    'put: while let Some(best) = best_of(run.as_slice(), known.as_slice()) {
-        let stage = run.remove(best);
-        mark_stage(known, &stage);
+    if let Some(stage) = take_at(slots, at) {
         done.push(stage)?;
     }
     Ok(())
 }
 
-/// Puts the scans after those that are done: next always one with most places fixed; of several, the first. They are turned round first, since
-/// one is cheap to take away where few follow it.
-fn put_run(
+/// Puts the scans at these places of the run after those that are done. The last of the run comes first in the slots.
+fn put_chosen(
+    register: Option<usize>,
+    order: &[usize],
+    slots: &mut Vec<Option<Stage>>,
+    done: &mut Items<Stage>,
+) -> Result<(), AllocError>
+    requires { AllByRecursion (IsScan register) (stages_left slots.old.items) }
+    ensures { OnOk result (Puts register done.old (stages_left slots.old.items) done.new (stages_left slots.new.items)) }
+{
+    let count = slots.len();
+    for at in order {
+        let slot = count.saturating_sub(*at).saturating_sub(1);
+        put_at(register, slots, slot, done)?;
+    }
+    Ok(())
+}
+
+/// Puts the scan after those that are done, if there is one.
+fn put_slot(slot: Option<Stage>, done: &mut Items<Stage>) -> Result<(), AllocError>
+    ensures { OnOk result (done.new ≡ done.old ++ option_to_list slot) }
+{
+    if let Some(stage) = slot {
+        done.push(stage)?;
+    }
+    Ok(())
+}
+
+/// Puts all scans that are left after those that are done.
+fn put_left(
+    register: Option<usize>,
+    mut slots: Vec<Option<Stage>>,
+    done: &mut Items<Stage>,
+) -> Result<(), AllocError>
+    requires { AllByRecursion (IsScan register) (stages_left slots.items) }
+    ensures { OnOk result (SameStages done.new (done.old ++ stages_left slots.items)) }
+{
+    'left: while let Some(slot) = slots.pop() {
+        put_slot(slot, done)?;
+    }
+    Ok(())
+}
+
+/// Puts the scans of the run after those that are done, in the order of `order_of`.
+fn put_run<C: Counts>(
     alloc: Global,
+    counts: &C,
     register: Option<usize>,
     run: &mut Items<Stage>,
     known: &mut Vec<bool>,
@@ -256,14 +182,17 @@ fn put_run(
     requires { AllByRecursion (IsScan register) run.old }
     ensures { OnOk result ((run.new ≡ []) × SameStages done.new (done.old ++ run.old)) }
 {
-    let mut left = turned(alloc, run)?;
-    put_scans(register, &mut left, known, done)?;
+    let order = order_of(alloc, counts, run.as_slice(), known)?;
+    let mut slots = slots_of(alloc, run)?;
+    put_chosen(register, order.as_slice(), &mut slots, done)?;
+    put_left(register, slots, done)?;
     Ok(())
 }
 
 /// Ends the run where the stage isn't one of it, and tells in which register the next one looks.
-fn begin_run(
+fn begin_run<C: Counts>(
     alloc: Global,
+    counts: &C,
     register: Option<usize>,
     stage: &Stage,
     run: &mut Items<Stage>,
@@ -276,13 +205,14 @@ fn begin_run(
     if is_scan(stage, register) {
         return Ok(register);
     }
-    put_run(alloc, register, run, known, done)?;
+    put_run(alloc, counts, register, run, known, done)?;
     Ok(register_in(stage))
 }
 
 /// Puts the stage into the run, or after those that are done.
-fn put_next(
+fn put_next<C: Counts>(
     alloc: Global,
+    counts: &C,
     register: Option<usize>,
     stage: Stage,
     run: &mut Items<Stage>,
@@ -296,7 +226,7 @@ fn put_next(
         run.push(stage)?;
         return Ok(());
     }
-    put_run(alloc, register, run, known, done)?;
+    put_run(alloc, counts, register, run, known, done)?;
     mark_stage(known, &stage);
     done.push(stage)?;
     Ok(())
@@ -307,8 +237,9 @@ fn put_next(
 /// The stages with the scans of each run in their order. The flags tell which variables are bound before, and afterwards which are bound
 /// after them.
 #[cycle(ordered)]
-fn ordered_stages(
+fn ordered_stages<C: Counts>(
     alloc: Global,
+    counts: &C,
     stages: &[Stage],
     known: &mut Vec<bool>,
 ) -> Result<Items<Stage>, AllocError>
@@ -318,38 +249,43 @@ fn ordered_stages(
     let mut run = Items::new(alloc);
     let mut register = None;
     for stage in stages {
-        register = begin_run(alloc, register, stage, &mut run, known, &mut done)?;
-        let one = ordered_stage(alloc, stage, known)?;
-        put_next(alloc, register, one, &mut run, known, &mut done)?;
+        register = begin_run(alloc, counts, register, stage, &mut run, known, &mut done)?;
+        let one = ordered_stage(alloc, counts, stage, known)?;
+        put_next(alloc, counts, register, one, &mut run, known, &mut done)?;
     }
-    put_run(alloc, register, &mut run, known, &mut done)?;
+    put_run(alloc, counts, register, &mut run, known, &mut done)?;
     Ok(done)
 }
 
 /// The stage, with its groups in their order.
 #[cycle(ordered)]
-fn ordered_stage(alloc: Global, stage: &Stage, known: &mut Vec<bool>) -> Result<Stage, AllocError>
+fn ordered_stage<C: Counts>(
+    alloc: Global,
+    counts: &C,
+    stage: &Stage,
+    known: &mut Vec<bool>,
+) -> Result<Stage, AllocError>
     ensures { IfOk result (λ s. SameStages (s ∷ []) (stage.now ∷ [])) }
 {
     match stage {
         Stage::Union(branches) => {
-            let branches = ordered_branches(alloc, branches.as_slice(), known)?;
+            let branches = ordered_branches(alloc, counts, branches.as_slice(), known)?;
             Ok(Stage::Union(branches))
         }
         Stage::Optional(register, group, conditions) => {
             let conditions = conditions.share()?;
             let mut own = no_flags(alloc, known.len())?;
-            let group = ordered_group(alloc, group, &mut own)?;
+            let group = ordered_group(alloc, counts, group, &mut own)?;
             Ok(Stage::Optional(*register, group, conditions))
         }
         Stage::Minus(register, group) => {
             let mut own = no_flags(alloc, known.len())?;
-            let group = ordered_group(alloc, group, &mut own)?;
+            let group = ordered_group(alloc, counts, group, &mut own)?;
             Ok(Stage::Minus(*register, group))
         }
         Stage::Apart(register, group) => {
             let mut own = no_flags(alloc, known.len())?;
-            let group = ordered_group(alloc, group, &mut own)?;
+            let group = ordered_group(alloc, counts, group, &mut own)?;
             add_flags(known, own.as_slice());
             Ok(Stage::Apart(*register, group))
         }
@@ -358,17 +294,23 @@ fn ordered_stage(alloc: Global, stage: &Stage, known: &mut Vec<bool>) -> Result<
 }
 
 #[cycle(ordered)]
-fn ordered_group(alloc: Global, group: &Group, known: &mut Vec<bool>) -> Result<Group, AllocError>
+fn ordered_group<C: Counts>(
+    alloc: Global,
+    counts: &C,
+    group: &Group,
+    known: &mut Vec<bool>,
+) -> Result<Group, AllocError>
     ensures { IfOk result (λ g. SameStages g.stages group.now.stages) }
 {
-    let stages = ordered_stages(alloc, group.stages.as_slice(), known)?;
+    let stages = ordered_stages(alloc, counts, group.stages.as_slice(), known)?;
     Ok(Group { stages })
 }
 
 /// The branches, each in its order. What each of them binds is bound after them.
 #[cycle(ordered)]
-fn ordered_branches(
+fn ordered_branches<C: Counts>(
     alloc: Global,
+    counts: &C,
     branches: &[Group],
     known: &mut Vec<bool>,
 ) -> Result<Items<Group>, AllocError>
@@ -379,7 +321,7 @@ fn ordered_branches(
     for branch in branches {
         let mut own = no_flags(alloc, known.len())?;
         add_flags(&mut own, known.as_slice());
-        let group = ordered_group(alloc, branch, &mut own)?;
+        let group = ordered_group(alloc, counts, branch, &mut own)?;
         done.push(group)?;
         keep_flags(&mut all, own.as_slice());
     }
@@ -387,19 +329,31 @@ fn ordered_branches(
     Ok(done)
 }
 
-/// The plan with the triples and paths of each run in their order: next comes the one with most places fixed by terms or by variables bound
-/// before; of several, the first of the text. Both plans have the same solutions.
+/// The plan with the triples and paths of each run in their order, by these counts (`order_of`). Both plans have the same solutions.
+pub(crate) fn counted_order<C: Counts>(
+    alloc: Global,
+    counts: &C,
+    plan: &Plan,
+) -> Result<Plan, AllocError>
+    ensures { IfOk result (λ p. SamePlan p plan.now) }
+{
+    let mut known = no_flags(alloc, plan.cells)?;
+    let stages = ordered_stages(alloc, counts, plan.stages.as_slice(), &mut known)?;
+    Ok(Plan {
+        width: plan.width,
+        cells: plan.cells,
+        stages,
+    })
+}
+
+/// The plan with the triples and paths of each run in their order: next comes one that shares a variable with those before, or has none, if
+/// there is one; of several, one with the fewest places that are neither terms nor variables bound before, and then the first of the text.
+/// Both plans have the same solutions.
 ///
 /// # Errors
 /// `AllocError` where memory runs out.
 pub fn run_order(alloc: Global, plan: &Plan) -> Result<Plan, AllocError>
     ensures { IfOk result (λ p. SamePlan p plan.now) }
 {
-    let mut known = no_flags(alloc, plan.cells)?;
-    let stages = ordered_stages(alloc, plan.stages.as_slice(), &mut known)?;
-    Ok(Plan {
-        width: plan.width,
-        cells: plan.cells,
-        stages,
-    })
+    counted_order(alloc, &NoCounts, plan)
 }

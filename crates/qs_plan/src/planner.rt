@@ -5,10 +5,11 @@ ghost use Rattle.qs_terms.specs.declared.fault.QFault.TheVariants.{Memory};
 ghost use Rattle.qs_plan.specs.Plans.{IsPlanOf};
 ghost use Rattle.qs_plan.specs.inner.Numbers.{past};
 
+use crate::counts::{Counts, NoCounts};
 use crate::filters::filter_order;
 use crate::laid::Laid;
 use crate::lay::lay;
-use crate::order::run_order;
+use crate::order::counted_order;
 use crate::plan_type::Plan;
 use crate::run::PAST;
 use qs_algebra_patterns::Pattern;
@@ -44,7 +45,8 @@ pub fn text_order(alloc: Global, pattern: &Pattern) -> Result<Plan, AllocError>
     })
 }
 
-/// The plan of a pattern: it has the solutions of the pattern over each dataset and in each graph (SPARQL 1.1 Query, 18.5 and 18.6).
+/// The plan of a pattern: it has the solutions of the pattern over each dataset and in each graph (SPARQL 1.1 Query, 18.5 and 18.6). It knows
+/// no store (`run_order`).
 ///
 /// # Errors
 /// `Memory` where memory runs out.
@@ -52,8 +54,27 @@ pub fn plan(alloc: Global, pattern: &Pattern) -> Result<Plan, QFault>
     ensures plan { IfOk result (λ p. IsPlanOf p pattern.now) }
     ensures fault { IfErr result (λ f. f ≡ Memory) }
 {
+    plan_for(alloc, pattern, &NoCounts)
+}
+
+/// The plan of a pattern for a store: it has the solutions of the pattern over each dataset and in each graph, whatever the counts are (SPARQL
+/// 1.1 Query, 18.5 and 18.6). The counts decide the order of the triples and paths between two other stages.
+///
+/// Next comes a triple or a path that has a variable bound before, or no variable, or one triple at most in the store. Of several, it is one
+/// with the fewest places free, then one with the fewest triples in the store, then the first of the text. Where there is none, as at the
+/// beginning, it is one with the fewest triples in the store, then with the fewest places free, then the first of the text.
+///
+/// A place is free if it holds neither a term nor a variable bound before. What has no triple in the store comes before all others. Up to 16
+/// triples are counted for each pattern, and where none has fewer, up to 4,096 for all of them. Paths aren't counted.
+///
+/// # Errors
+/// `Memory` where memory runs out.
+pub fn plan_for<C: Counts>(alloc: Global, pattern: &Pattern, counts: &C) -> Result<Plan, QFault>
+    ensures plan { IfOk result (λ p. IsPlanOf p pattern.now) }
+    ensures fault { IfErr result (λ f. f ≡ Memory) }
+{
     let plan = text_order(alloc, pattern)?;
-    let plan = run_order(alloc, &plan)?;
+    let plan = counted_order(alloc, counts, &plan)?;
     let plan = filter_order(alloc, &plan)?;
     Ok(plan)
 }

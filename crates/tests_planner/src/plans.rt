@@ -28,6 +28,11 @@ const PLANS: &[(&str, &str)] = &[
         "SELECT * { ?a <u:p> ?b . ?b <u:q> ?a . ?a <u:r> ?b }",
         "triple ?0 <u:p> ?1\ntriple ?1 <u:q> ?0\ntriple ?0 <u:r> ?1\n",
     ),
+    // one that shares a variable with those before comes before one that shares none
+    (
+        "SELECT * { ?a <u:p> 'x' . ?b <u:p> 'y' . ?a <u:q> ?b }",
+        "triple ?0 <u:p> \"x\"\ntriple ?0 <u:q> ?1\ntriple ?1 <u:p> \"y\"\n",
+    ),
     // a path that isn't joined is evaluated with its variables open; its predicate is a place that is fixed
     (
         "SELECT * { ?a <u:p>/<u:q>* ?b . ?b <u:r> 'x' }",
