@@ -1,11 +1,12 @@
 //! The solutions of a pattern over what queries see of a view: as many as suffice, or all.
 //!
-//! `active` tells which graph is read, `terms` makes the terms of a row of cells, `collected` keeps them, with or without duplicates, and
-//! `solutions` asks the plan of the pattern for one solution after another, until the caller has enough.
+//! `active` tells which graph is read, `counts` what a plan is ordered by, `terms` makes the terms of a row of cells, `collected` keeps them,
+//! with or without duplicates, and `solutions` asks the plan of the pattern for one solution after another, until the caller has enough.
 #![tactic(auto)]
 
 mod active;
 mod collected;
+mod counts;
 mod solutions;
 mod terms;
 

@@ -13,11 +13,12 @@ ghost use Rattle.qs_query_solutions.specs.inner.Collected.{Collects};
 
 use crate::active::active_of;
 use crate::collected::Collected;
+use crate::counts::ViewCounts;
 use qs_algebra_patterns::Pattern;
 use qs_algebra_solutions::Row as Solution;
 use qs_base::drop_value;
 use qs_ops::Op;
-use qs_plan::{Plan, drop_plan, plan};
+use qs_plan::{Plan, drop_plan, plan_for};
 use qs_store::{Active, View};
 use qs_terms::{QFault, Term};
 use std::alloc::{AllocError, Global};
@@ -68,7 +69,8 @@ fn collect_all<V: View>(
 {
     let _count = view.count();
     let active = active_of(view, name);
-    let plan = plan(alloc, pattern)?;
+    let counts = ViewCounts { view, active };
+    let plan = plan_for(alloc, pattern, &counts)?;
     let outcome = collect_planned(alloc, &plan, view, active, found);
     drop_plan(plan);
     outcome

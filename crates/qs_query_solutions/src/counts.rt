@@ -1,0 +1,75 @@
+//! About how many triples of a view agree with a triple pattern, by which a plan is ordered.
+
+use qs_algebra_patterns::{Slot, TriplePattern};
+use qs_plan::{Counts, Look};
+use qs_store::{Active, Triples, View};
+use qs_terms::Term;
+
+/// What is counted: the triples of a view, where this graph is active.
+#[derive(Drop)]
+pub(crate) struct ViewCounts<'v, V: View> {
+    pub view: &'v V,
+    pub active: Active,
+}
+
+/// The number that a triple must have in this place, if it must have one; none where the term isn't known.
+fn number_of<V: View>(view: &V, slot: &Slot) -> Option<Option<u32>> {
+    match slot {
+        Slot::Term(term) => {
+            let number = view.find(term.get())?;
+            Some(Some(number))
+        }
+        Slot::Variable(_) => Some(None),
+    }
+}
+
+/// The triples of the graph that agree with the terms of the pattern; none where a term isn't known.
+fn agreeing<'v, V: View>(
+    view: &'v V,
+    graph: Active,
+    pattern: &TriplePattern,
+) -> Option<Triples<'v>> {
+    let subject = number_of(view, &pattern.subject)?;
+    let predicate = number_of(view, &pattern.predicate)?;
+    let object = number_of(view, &pattern.object)?;
+    Some(view.scan(graph, subject, predicate, object))
+}
+
+/// How many triples there are, up to the limit.
+fn count(mut triples: Triples<'_>, limit: u64) -> u64 {
+    for count in 0..limit {
+        if triples.next().is_none() {
+            return count;
+        }
+    }
+    limit
+}
+
+fn count_in<V: View>(view: &V, graph: Active, pattern: &TriplePattern, limit: u64) -> u64 {
+    match agreeing(view, graph, pattern) {
+        Some(triples) => count(triples, limit),
+        None => 0,
+    }
+}
+
+/// The graph of this name.
+fn graph_of<V: View>(view: &V, name: &Term) -> Active {
+    match view.find(name) {
+        Some(number) => Active::Graph(number),
+        None => Active::Empty,
+    }
+}
+
+impl<'v, V: View> Counts for ViewCounts<'v, V> {
+    /// Triples in each named graph aren't counted.
+    fn about(&self, look: &Look, pattern: &TriplePattern, limit: u64) -> u64 {
+        match look {
+            Look::Active => count_in(self.view, self.active, pattern, limit),
+            Look::Named(name) => {
+                let graph = graph_of(self.view, name.get());
+                count_in(self.view, graph, pattern, limit)
+            }
+            Look::Register(_) => limit,
+        }
+    }
+}
