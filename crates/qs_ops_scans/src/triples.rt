@@ -1,6 +1,6 @@
 //! The rows that a triple pattern makes of a row.
 
-ghost use Rattle.std.specs.Prelude.{◌≡◌, List};
+ghost use Rattle.std.specs.Prelude.{◌≡◌, ℕ, List};
 ghost use Rattle.std.specs.Iterator.{YieldsFirst};
 ghost use Rattle.std.specs.List.{filter};
 ghost use Rattle.qs_store.specs.ActiveGraph.{active_graph};
@@ -10,17 +10,25 @@ ghost use Rattle.qs_plan_meaning.specs.Scans.{extensions};
 ghost use Rattle.qs_plan_meaning.specs.Stages.{looked};
 ghost use Rattle.qs_ops_scans.specs.Makes.{GivesFirst, Makes};
 ghost use Rattle.qs_ops_scans.specs.Prepared.{prepared_look, prepared_triple};
-ghost use Rattle.qs_ops_scans.specs.inner.Opened.{IsScanned, passes};
+ghost use Rattle.qs_store.specs.Content.{Content};
+ghost use Rattle.qs_store.specs.declared.default_graph.DefaultGraph.{DefaultGraph};
+ghost use Rattle.qs_ops_scans.specs.inner.Opened.{IsAsked, IsScanned, IsScannedBy, passes};
 
 use crate::bind::bind_triple;
 use crate::lawful::content_is_lawful;
 use crate::look::{PreparedLook, graph_of_look};
-use crate::opened::{Acts, acts_of, givens, passes};
+use crate::opened::{Acts, Given, acts_of, givens, passes};
 use crate::pattern::PreparedTriple;
 use qs_expr::Row;
 use qs_store::{Active, Triples, View};
 use std::alloc::{AllocError, Global};
 use std::marker::Model;
+
+const NOTHING_GIVEN: Given = Given {
+    subject: None,
+    predicate: None,
+    object: None,
+};
 
 /// The rows that a triple pattern makes of a row and that are still to come; contracts see their list.
 #[derive(Drop)]
@@ -59,6 +67,7 @@ impl<'a> TripleRows<'a> {
     ///
     /// # Errors
     /// Out of memory.
+    #[inline(always)]
     #[tactic(auto, using(crate::proofs::Firsts::none_made, crate::proofs::Firsts::first_made))]
     pub fn next(&mut self, alloc: Global, spare: &mut Vec<Row>) -> Result<Option<Row>, AllocError>
         ensures { GivesFirst self.old result self.new }
@@ -82,6 +91,16 @@ impl<'a> TripleRows<'a> {
     }
 }
 
+/// The graph that a scan reads, and the numbers that are given to it; an empty graph where a place has a term that the dictionary lacks.
+fn asked(graph: Active, given: Option<Given>) -> (Active, Given)
+    ensures { (c : Content) (d : DefaultGraph) (triples : List (List ℕ)) → IsAsked c d result.0 result.1 triples → IsScannedBy c d graph given triples }
+{
+    match given {
+        Some(given) => (graph, given),
+        None => (Active::Empty, NOTHING_GIVEN),
+    }
+}
+
 /// The triples of the graph that agree with the pattern and the row, as far as their numbers tell.
 fn scan_of<'a, V: View>(
     view: &'a V,
@@ -91,10 +110,9 @@ fn scan_of<'a, V: View>(
 ) -> Triples<'a>
     ensures { IsScanned (V.content view.now) (V.default_seen view.now) graph pattern.now row.now result }
 {
-    match givens(pattern, row) {
-        Some(given) => view.scan(graph, given.subject, given.predicate, given.object),
-        None => view.scan(Active::Empty, None, None, None),
-    }
+    // One call, so that a scan, which is large, isn't moved where two branches meet.
+    let (graph, given) = asked(graph, givens(pattern, row));
+    view.scan(graph, given.subject, given.predicate, given.object)
 }
 
 /// The rows that the pattern makes of the row over the triples of the graph (SPARQL 1.1 Query, 18.3.1).
@@ -108,12 +126,9 @@ pub fn triple_rows<'a, V: View>(
         → Makes (V.content view.now).known (extensions p (active_graph (V.content view.now) (V.default_seen view.now) graph)) row result }
 {
     content_is_lawful(view);
+    let acts = acts_of(pattern, &row);
     let scan = scan_of(view, graph, pattern, &row);
-    TripleRows {
-        scan,
-        acts: acts_of(pattern, &row),
-        row,
-    }
+    TripleRows { scan, acts, row }
 }
 
 /// The rows that the stage of a triple pattern makes of the row, where `active` is the graph that is active (SPARQL 1.1 Query, 18.5).

@@ -98,10 +98,14 @@ row_made acts m x = if passes acts x then Some (bound acts x m) else None
 
 -- ---- the scan
 
--- the triples of the graph with the numbers that are given, or none
+-- the triples of the graph with the numbers that are given
+abbrev pub IsAsked : Content → DefaultGraph → Active → Given → List (List ℕ) → Type 0
+IsAsked c default graph g triples = AreTriples c default graph g.subject g.predicate g.object triples
+
+-- the same, or none
 abbrev pub IsScannedBy : Content → DefaultGraph → Active → Option Given → List (List ℕ) → Type 0
 IsScannedBy c default graph None triples = triples ≡ []
-IsScannedBy c default graph (Some g) triples = AreTriples c default graph g.subject g.predicate g.object triples
+IsScannedBy c default graph (Some g) triples = IsAsked c default graph g triples
 
 abbrev pub IsScanned : Content → DefaultGraph → Active → PreparedTriple → Cells → List (List ℕ) → Type 0
 IsScanned c default graph k m triples = IsScannedBy c default graph (givens k m) triples
