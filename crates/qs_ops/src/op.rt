@@ -73,6 +73,7 @@ impl<'a, V: View> Op<'a, V> {
     ///
     /// # Errors
     /// `QFault::Memory` where memory runs out; each further call answers the same.
+    #[inline(always)]
     pub fn next(&mut self) -> Result<Option<Row>, QFault>
         ensures rows { IfOk result (λ o. GivesOne self.old.rows (solution_if self.new.known self.new.table o) self.new.rows) }
         ensures fits { IfOk result (λ o. IfSome o (λ m. FitsRow self.new.known self.new.table m)) }
@@ -116,6 +117,7 @@ impl<'a, V: View> Op<'a, V> {
     }
 
     /// Takes back a row, for its memory.
+    #[inline(always)]
     pub fn give_back(&mut self, row: Row)
         ensures { self.new ≡ self.old }
     {

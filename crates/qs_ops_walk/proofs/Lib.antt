@@ -11,6 +11,7 @@ mod Still
 mod Walks
 mod Conditions
 mod Steps
+mod Finished
 mod Asides
 mod Readings
 mod OpensName

@@ -6,6 +6,7 @@ use qs_expr::Row;
 const LIMIT: usize = 64;
 
 /// Keeps the memory of the row for a copy.
+#[inline(always)]
 pub(crate) fn keep(spare: &mut Vec<Row>, row: Row) {
     if spare.len() < LIMIT {
         let _ = spare.push(row);

@@ -11,7 +11,7 @@ ghost use Rattle.qs_ops_walk.specs.inner.Setting.{known_of, through_in};
 ghost use Rattle.qs_ops_walk.specs.inner.Works.{ArePairsFor, AreValues, IfPairs, IfValues, IsReady, IsRight, Serves, code_of, heights_of, only_cells};
 ghost use Rattle.qs_ops_walk.specs.inner.Coming.{coming};
 ghost use Rattle.qs_ops_walk.specs.inner.Cursor.{GivesNamed};
-ghost use Rattle.qs_ops_walk.specs.inner.Moves.{GivesRow, IsOpened, IsStep, IsWalk, IsTripleOpened, Opens, opens, is_triple, is_optional, Attempts, OpensAt, OpensName, given_unless};
+ghost use Rattle.qs_ops_walk.specs.inner.Moves.{Finishes, GivesRow, IsOpened, IsStep, IsWalk, IsTripleOpened, Opens, opens, is_triple, is_optional, Attempts, OpensAt, OpensName, given_unless};
 ghost use Rattle.qs_ops_walk.specs.declared.work.Place.{Place as PlaceValue};
 ghost use Rattle.qs_ops_walk.specs.declared.work.Work.TheVariants as variant;
 ghost use Rattle.qs_ops_walk.specs.declared.source.Source.TheVariants as origin;
@@ -519,6 +519,7 @@ fn advance<'a, V: View>(
 }
 
 /// The next finished row of the walk, or none where none is left.
+#[inline(never)]
 #[cycle(next)]
 fn next_of_walk<'a, V: View>(
     reader: &Reader<'a, V>,
@@ -541,7 +542,54 @@ fn next_of_walk<'a, V: View>(
     }
 }
 
+/// The next row of the last level, where that is of a triple pattern and its rows are finished; none where it isn't, or has no more.
+#[inline(always)]
+fn next_finished(
+    alloc: Global,
+    levels: &mut Vec<Level<'_>>,
+    spare: &mut Vec<Row>,
+) -> Result<Option<Row>, AllocError>
+    ensures { IfOk result (λ o. Finishes levels.old.items o levels.new.items) }
+{
+    let Some(level) = levels.last_mut() else {
+        return Ok(None);
+    };
+    if level.next != 0 {
+        return Ok(None);
+    }
+    match &mut level.source {
+        Source::Triple(rows) => {
+            let row = rows.next(alloc, spare)?;
+            Ok(row)
+        }
+        _ => Ok(None),
+    }
+}
+
+/// The next finished row of the walk, or none where none is left. Most rows are finished as the last level gives them.
+#[inline(always)]
+#[cycle(next)]
+fn next_row<'a, V: View>(
+    reader: &Reader<'a, V>,
+    scratch: &mut Scratch,
+    walk: &mut Walk<'a>,
+) -> Result<Option<Row>, AllocError>
+    requires table { IsTable (known_of reader.now) scratch.old }
+    requires walk { IsWalk reader.now scratch.old walk.old.places.items walk.old.levels.items }
+    ensures grows { Grows (known_of reader.now) scratch.old scratch.new }
+    ensures code { code_of walk.new.places.items ≡ code_of walk.old.places.items }
+    ensures walk { IfOk result (λ _. IsWalk reader.now scratch.new walk.new.places.items walk.new.levels.items) }
+    ensures gives { IfOk result (λ o. GivesRow reader.now (code_of walk.old.places.items) scratch.old walk.old.levels.items o scratch.new walk.new.levels.items) }
+{
+    if let Some(row) = next_finished(reader.alloc, &mut walk.levels, &mut walk.spare)? {
+        return Ok(Some(row));
+    }
+    let row = next_of_walk(reader, scratch, walk)?;
+    Ok(row)
+}
+
 /// The next finished row of the walk, with its named variables alone.
+#[inline(always)]
 #[cycle(next)]
 pub(crate) fn next_named<'a, V: View>(
     reader: &Reader<'a, V>,
@@ -555,7 +603,7 @@ pub(crate) fn next_named<'a, V: View>(
     ensures walk { IfOk result (λ _. IsWalk reader.now scratch.new walk.new.places.items walk.new.levels.items) }
     ensures gives { IfOk result (λ o. GivesNamed reader.now (code_of walk.old.places.items) scratch.old walk.old.levels.items o scratch.new walk.new.levels.items) }
 {
-    let Some(mut row) = next_of_walk(reader, scratch, walk)? else {
+    let Some(mut row) = next_row(reader, scratch, walk)? else {
         return Ok(None);
     };
     row.truncate(reader.width);

@@ -205,6 +205,18 @@ IsStep s code old levels Done new now = (coming s code old levels ≡ []) × (co
 IsStep s code old levels Moved new now = SameBag (coming s code old levels) (coming s code new now) × (moves s code new now < moves s code old levels)
 IsStep s code old levels (Gave row) new now = SameBag (coming s code old levels) (row_solution (known_of s) new row ∷ coming s code new now) × FitsRow (known_of s) new row
 
+-- the last level is of a triple pattern, its rows are finished, and m was the first of them
+pub record TakesFinished (old : List Level) (m : Cells) (now : List Level) : Type 0 where
+  pub levels : List Level
+  pub rows : List Cells
+  pub before : old ≡ levels ++ (record { next = 0; source = source.Triple (m ∷ rows) }) ∷ []
+  pub after : now ≡ levels ++ (record { next = 0; source = source.Triple rows }) ∷ []
+
+-- the row was such a one, or the levels stay as they were
+abbrev pub Finishes : List Level → Option Cells → List Level → Type 0
+Finishes old None now = now ≡ old
+Finishes old (Some m) now = TakesFinished old m now
+
 -- the answer is one of the solutions to come, and the others are left
 abbrev pub GivesRow : Setting → List Instruction → List Term → List Level → Option Cells → List Term → List Level → Type 0
 GivesRow s code old levels None new now = (coming s code old levels ≡ []) × (coming s code new now ≡ [])

@@ -16,6 +16,7 @@ use Rattle.qs_ops_walk.specs.inner.Moves.{Goes, OpensAt}
 use Rattle.qs_ops_walk.proofs.Bags.{chain, none_left, same}
 use Rattle.qs_ops_walk.proofs.Placing.{height_at, ready_at, same_heights, set_code}
 use Rattle.qs_ops_walk.proofs.Walks.{spent, ended, gave, hit}
+use Rattle.qs_ops_walk.proofs.Finished.{finished_walk, finished_gives}
 use Rattle.qs_ops_walk.proofs.Steps.{whole, changed, mid_fit, settled_walk, opened, opened_walk, triple_opened, triple_walk}
 use Rattle.qs_ops_walk.proofs.Opens.{opens_path, opens_names, opens_values, opens_union, opens_apart}
 use Rattle.qs_ops_walk.proofs.Asides.{name_fits, only_fits, aside_made, opens_attempt, opens_unless}
@@ -124,8 +125,12 @@ advance-returns-clause-step g t c =
 
 pub next_named-returns-clause-gives : goal.next_named-returns-clause-gives
 next_named-returns-clause-gives g t c =
-    named_some c.args.reader.now (code_of c.args.walk.now.places.items) c.args.scratch.now c.next_of_walk.new.scratch c.args.walk.now.levels.items c.next_of_walk.new.walk.levels.items c.in-Some.row c.truncate.new.self
+    named_some c.args.reader.now (code_of c.args.walk.now.places.items) c.args.scratch.now c.next_row.new.scratch c.args.walk.now.levels.items c.next_row.new.walk.levels.items c.in-Some.row c.truncate.new.self
     (c.truncate.ensures.cells ∙ ap (λ (x : Setting). take x.width c.in-Some.row) c.reader.view_is) (rw c.in-Some.is at c.in_ok-row.ensures.gives)
+
+pub next_row-returns-in-Some-clause-gives : goal.next_row-returns-in-Some-clause-gives
+next_row-returns-in-Some-clause-gives g t c =
+    finished_gives c.args.reader.now c.args.scratch.now c.requires.table c.args.walk.now.places.items c.args.walk.now.levels.items c.next_finished.new.levels.items c.in-Some.row c.requires.walk (rw c.in-Some.is at c.in_ok-row.ensures)
 
 pub next_of_walk-advance-requires : goal.next_of_walk-advance-requires
 next_of_walk-advance-requires g t c =

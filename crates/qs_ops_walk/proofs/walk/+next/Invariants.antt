@@ -34,7 +34,7 @@ abbrev pub decreases-rows_of_group-loop-rows : goal.decreases-rows_of_group-loop
 decreases-rows_of_group-loop-rows g l = length (named_coming l.reader (code_of l.walk.places.items) l.scratch l.walk.levels.items)
 
 abbrev pub decreases-rows_of_group : goal.decreases-rows_of_group
-decreases-rows_of_group g l = 10 * stages_height l.stages.now + 9
+decreases-rows_of_group g l = 10 * stages_height l.stages.now + 10
 
 abbrev pub decreases-rows_of_right : goal.decreases-rows_of_right
 decreases-rows_of_right g l = 10 * (1 + stages_height l.right.now.group.now.stages) + 2
@@ -60,5 +60,8 @@ decreases-advance g l = 10 * heights_of l.walk.now.places.items + 6
 abbrev pub decreases-next_of_walk : goal.decreases-next_of_walk
 decreases-next_of_walk g l = 10 * heights_of l.walk.now.places.items + 7
 
+abbrev pub decreases-next_row : goal.decreases-next_row
+decreases-next_row g l = 10 * heights_of l.walk.now.places.items + 8
+
 abbrev pub decreases-next_named : goal.decreases-next_named
-decreases-next_named g l = 10 * heights_of l.walk.now.places.items + 8
+decreases-next_named g l = 10 * heights_of l.walk.now.places.items + 9
