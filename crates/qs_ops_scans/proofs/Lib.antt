@@ -8,3 +8,7 @@ pub mod Named
 pub mod Pairs
 pub mod Collected
 pub mod Spans
+pub mod GraphNodes
+pub mod Feeding
+pub mod FedPairs
+pub mod Served

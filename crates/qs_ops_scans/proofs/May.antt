@@ -22,7 +22,7 @@ agrees m s t = compatible_terms (value m s) (Some t)
 abbrev pub may_match : Solution → TriplePattern → Triple → Bool
 may_match m p t = agrees m p.subject t.subject && (agrees m p.predicate t.predicate && agrees m p.object t.object)
 
-at_none : (c : Option Term) (v : ℕ) (t : Term) (m : Solution) → compatible_terms c (Some t) ≡ false → bound_at c v t m ≡ None
+pub at_none : (c : Option Term) (v : ℕ) (t : Term) (m : Solution) → compatible_terms c (Some t) ≡ false → bound_at c v t m ≡ None
 at_none None v t m h = let f : true ≡ false = h in cc
 at_none (Some x) v t m h = rw h refl
 
@@ -34,7 +34,7 @@ test_same : (b : Bool) (m a : Solution) → (if b then Some m else None) ≡ Som
 test_same true m a h = cc
 test_same false m a h = let f : None ≡ Some a = h in cc
 
-kept_at : (c : Option Term) (v : ℕ) (t : Term) (m a : Solution) (w : ℕ) (x : Term) → term_at m v ≡ c → bound_at c v t m ≡ Some a → term_at m w ≡ Some x → term_at a w ≡ Some x
+pub kept_at : (c : Option Term) (v : ℕ) (t : Term) (m a : Solution) (w : ℕ) (x : Term) → term_at m v ≡ c → bound_at c v t m ≡ Some a → term_at m w ≡ Some x → term_at a w ≡ Some x
 kept_at None v t m a w x e h is =
     let f : set m v (Some t) ≡ a = cc in
     let ne : w ≢ v = λ k. (let g : term_at m w ≡ term_at m v = ap (term_at m) k in let n : None ≡ Some x = sym e ∙ (sym g ∙ is) in cc) in

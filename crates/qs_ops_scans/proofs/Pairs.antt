@@ -250,12 +250,16 @@ module _ (known table : List Term) (is_table : IsTable known table) where
         let w = member_of_map Some (denoted_pair known table x) ps (Contains-permutation _ _ (denoted_pair known table x) h (map_has (denoted_pair known table) x cells k)) in
         (w.of, sym w.is)
 
-    pub pairs_made : (cells : List (Cell × Cell)) (graph : Graph) → ArePairs known table cells (path_pairs p graph) → AreMade known table (path_extensions p graph) m (filter_map (pair_made (ends_of p) m) cells)
-    pairs_made cells graph h =
-        let w = all_made cells (there_is cells (path_pairs p graph) h) in
+    -- the rows of the cells are what their pairs make
+    pub list_made : (cells : List (Cell × Cell)) (ps : List Pair) → ArePairs known table cells ps → AreMade known table (λ n. flat_map (λ e. option_to_list (bound_ends p e n)) ps) m (filter_map (pair_made (ends_of p) m) cells)
+    list_made cells ps h =
+        let w = all_made cells (there_is cells ps h) in
         record {
-          same = subst (λ (xs : List Solution). SameBag xs (path_extensions p graph (row_solution known table m))) (sym w.is)
-              (subst (SameBag (flat_map (λ q. option_to_list (bound_of p (row_solution known table m) q)) (map (denoted_pair known table) cells))) (made_of_some p (row_solution known table m) (path_pairs p graph))
+          same = subst (λ (xs : List Solution). SameBag xs (flat_map (λ e. option_to_list (bound_ends p e (row_solution known table m))) ps)) (sym w.is)
+              (subst (SameBag (flat_map (λ q. option_to_list (bound_of p (row_solution known table m) q)) (map (denoted_pair known table) cells))) (made_of_some p (row_solution known table m) ps)
               (flat_map_same (λ q. option_to_list (bound_of p (row_solution known table m) q)) (λ q. option_to_list (bound_of p (row_solution known table m) q)) _ _ h (λ q. IsPermutation-refl _)));
           fit = w.fit;
         }
+
+    pub pairs_made : (cells : List (Cell × Cell)) (graph : Graph) → ArePairs known table cells (path_pairs p graph) → AreMade known table (path_extensions p graph) m (filter_map (pair_made (ends_of p) m) cells)
+    pairs_made cells graph h = let w = list_made cells (path_pairs p graph) h in record { same = w.same; fit = w.fit }

@@ -4,3 +4,4 @@ pub mod Names
 pub mod Ends
 pub mod Kept
 pub mod Sides
+pub mod Given

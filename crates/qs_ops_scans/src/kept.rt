@@ -125,7 +125,7 @@ fn collected<V: View>(
 }
 
 /// The pairs that are still to come, as `collected` keeps them.
-fn all_collected<V: View>(
+pub(crate) fn all_collected<V: View>(
     alloc: Global,
     pairs: Pairs<'_, V>,
     repeated: bool,
@@ -139,7 +139,7 @@ fn all_collected<V: View>(
 }
 
 /// The cell of an end that is a term; none where it is a variable, which is open.
-fn end_cell<V: View>(
+pub(crate) fn end_cell<V: View>(
     view: &V,
     slot: &Slot,
     scratch: &mut Scratch,
@@ -192,6 +192,13 @@ fn in_order(mut cells: Vec<(Cell, Cell)>, order: Option<Side>) -> PathPairs
         sort_by(cells.as_mut_slice(), side);
     }
     PathPairs { cells, order }
+}
+
+/// The pairs, as they are.
+pub(crate) fn unordered(cells: Vec<(Cell, Cell)>) -> PathPairs
+    ensures { result ≡ cells.items }
+{
+    PathPairs { cells, order: None }
 }
 
 fn end_at(ends: &Ends, side: Side) -> Option<usize>

@@ -6,16 +6,21 @@
 #![tactic(auto)]
 
 mod bind;
+mod bound;
 mod ends;
+mod fed;
 mod kept;
 mod lawful;
 mod look;
 mod names;
+mod nodes;
 mod opened;
 mod paths;
 mod pattern;
 mod triples;
 
+pub use bound::{RowEnds, row_ends};
+pub use fed::fed_pairs;
 pub use kept::{PathPairs, path_pairs};
 pub use lawful::content_is_lawful;
 pub use look::{PreparedLook, graph_of_look, prepare_look};

@@ -7,7 +7,7 @@ ghost use Rattle.qs_expr.specs.Cell.{Cells, FitsRow};
 ghost use Rattle.qs_expr.specs.Scratch.{IsTable};
 ghost use Rattle.qs_plan_meaning.specs.Scans.{path_extensions, path_pairs};
 ghost use Rattle.qs_ops_scans.specs.Makes.{AreMade, GivesFirst};
-ghost use Rattle.qs_ops_scans.specs.Paths.{ArePairs};
+ghost use Rattle.qs_ops_scans.specs.Paths.{ArePairs, Serve, row_ends};
 ghost use Rattle.qs_ops_scans.specs.inner.Ends.{IsNextPair};
 
 use crate::ends::{EndActs, bind_pair, end_acts, ends_of, pair_agrees};
@@ -93,10 +93,14 @@ impl PathRows {
     }
 }
 
-/// The rows that the pairs of the path pattern make of the row (SPARQL 1.1 Query, 18.4).
+/// The rows that the pairs of the path pattern make of the row (SPARQL 1.1 Query, 18.4). Pairs that serve rows with its cells at the ends
+/// make the same rows as all pairs.
 pub fn path_rows(pairs: Shared<PathPairs>, pattern: &PathPattern, row: Row) -> PathRows
-    ensures { (known table : List Term) (graph : Graph) → IsTable known table → FitsRow known table row
+    ensures pairs { (known table : List Term) (graph : Graph) → IsTable known table → FitsRow known table row
         → ArePairs known table pairs (path_pairs pattern.now graph)
+        → AreMade known table (path_extensions pattern.now graph) row result }
+    ensures serve { (known table : List Term) (graph : Graph) → IsTable known table → FitsRow known table row
+        → Serve known table pattern.now graph (row_ends pattern.now row) pairs
         → AreMade known table (path_extensions pattern.now graph) row result }
 {
     let ends = ends_of(pattern);
