@@ -12,7 +12,7 @@ use Rattle.qs_expr.specs.Cell.{Cells, row_solution, FitsRow}
 use Rattle.qs_plan_meaning.specs.declared.stage.Stage.{Stage}
 use Rattle.qs_plan_meaning.specs.declared.stage.Stage.TheVariants as stage
 use Rattle.qs_plan_meaning.specs.Stages.{aside, each_named, looked, kept_if}
-use Rattle.qs_plan_meaning.specs.Scans.{extensions, path_extensions, path_pairs}
+use Rattle.qs_plan_meaning.specs.Scans.{extensions, path_extensions}
 use Rattle.qs_ops_program.proofs.Levels.{gives_names, gives_path, gives_triple, gives_values, gives_optional, gives_minus, gives_apart}
 use Rattle.qs_ops_program.specs.inner.Flow.{Instruction, IsForward, flow, is_union, instr_made, meanings}
 use Rattle.qs_ops_program.specs.inner.Toil.{summed, toil, instr_moves, all_moves}
@@ -34,7 +34,7 @@ use Rattle.qs_expr.specs.Scratch.{IsTable, Grows}
 use Rattle.qs_expr.proofs.Growth.{same_row, still_row}
 use Rattle.qs_plan_meaning.specs.declared.stage.Look.{Look}
 use Rattle.qs_ops_scans.specs.Makes.{AreMade, Makes}
-use Rattle.qs_ops_scans.specs.Paths.{ArePairs}
+use Rattle.qs_ops_scans.specs.Paths.{row_ends, Serve}
 use Rattle.qs_store.specs.ActiveGraph.{active_graph}
 use Rattle.qs_algebra_patterns.specs.Basic.{Graph}
 use Rattle.qs_expr.specs.declared.cell.Cell.{Cell}
@@ -197,12 +197,12 @@ module _ (s : Setting) (i : Instruction) (old new : List Term) (m : Cells) where
 
   pub opens_path : (rows : List Cells) (t : Trail) (pairs : List (Cell × Cell)) (place : Look) → i.stage ≡ stage.Path place t.pattern.now → t.look ≡ prepared_look (known_of s) place
       → ArePairsFor s new t m pairs
-      → ((known table : List Term) (graph : Graph) → IsTable known table → FitsRow known table m → ArePairs known table pairs (path_pairs t.pattern.now graph) → AreMade known table (path_extensions t.pattern.now graph) m rows)
+      → ((known table : List Term) (graph : Graph) → IsTable known table → FitsRow known table m → Serve known table t.pattern.now graph (row_ends t.pattern.now m) pairs → AreMade known table (path_extensions t.pattern.now graph) m rows)
       → IsTable (known_of s) new → IsTable (known_of s) old → Grows (known_of s) old new → FitsRow (known_of s) old m → Opens s i old m new (source.Path rows)
   opens_path rows t pairs place is looks p makes tn to g h =
       let n : FitsRow (known_of s) new m = still_row (known_of s) old new g m h in
       let y : row_solution (known_of s) new m ≡ x = same_row (known_of s) old new g m h in
-      let a : AreMade (known_of s) new (path_extensions t.pattern.now (active_graph s.content s.default p.graph)) m rows = makes (known_of s) new (active_graph s.content s.default p.graph) tn n p.are in
+      let a : AreMade (known_of s) new (path_extensions t.pattern.now (active_graph s.content s.default p.graph)) m rows = makes (known_of s) new (active_graph s.content s.default p.graph) tn n p.serve in
       let b : active_graph s.content s.default p.graph ≡ looked s.content.quads (graph_in s) place x = p.looks place old looks to h in
       opens_rows (source.Path rows) (row_solutions (known_of s) new rows) (path_is_not i.stage place t.pattern.now is) refl
       (chain _ _ _ a.same (same _ _

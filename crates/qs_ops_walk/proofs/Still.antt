@@ -1,5 +1,5 @@
 -- What a walk keeps, and what it is still to give, stays as it is while the scratch table grows.
-use Rattle.std.proofs.Common.{◌≡◌, ℕ, List, [], ◌∷◌, ◌++◌, map, drop, take, Option, Some, None, refl, ◌∙◌, ap, arith}
+use Rattle.std.proofs.Common.{◌≡◌, ℕ, List, [], ◌∷◌, ◌++◌, map, drop, take, Option, Some, None, refl, sym, ◌∙◌, ap, subst, arith}
 use Rattle.std.specs.List.{filter}
 use Rattle.qs_terms.specs.declared.term.Term.{Term}
 use Rattle.qs_algebra_solutions.specs.Solution.{Solution}
@@ -13,7 +13,12 @@ use Rattle.qs_plan_meaning.specs.declared.stage.Stage.{Stage}
 use Rattle.qs_plan_meaning.specs.Scans.{path_pairs}
 use Rattle.qs_algebra_patterns.specs.declared.pattern.PathPattern.{PathPattern}
 use Rattle.qs_store.specs.ActiveGraph.{active_graph}
+use Rattle.qs_store.specs.declared.active.Active.{Active}
+use Rattle.qs_ops_scans.specs.Paths.{Serve}
+use Rattle.qs_ops_scans.specs.declared.bound.RowEnds.{RowEnds}
 use Rattle.qs_ops_scans.proofs.Collected.{pairs_stay}
+use Rattle.qs_ops_scans.proofs.FedPairs.{serve_stays}
+use Rattle.qs_ops_walk.specs.declared.work.EndPairs.{EndPairs}
 use Rattle.qs_ops_walk.specs.declared.work.KeptPairs.{KeptPairs}
 use Rattle.qs_ops_program.specs.inner.Flow.{Instruction}
 use Rattle.qs_ops_program.specs.inner.Toil.{summed}
@@ -28,7 +33,7 @@ use Rattle.qs_ops_walk.specs.declared.work.Work.{Work}
 use Rattle.qs_ops_walk.specs.declared.work.Work.TheVariants as work
 use Rattle.qs_ops_walk.specs.declared.work.Place.{Place}
 use Rattle.qs_ops_walk.specs.inner.Setting.{Setting, known_of}
-use Rattle.qs_ops_walk.specs.inner.Works.{IfPairs, expr_of, IsAside, IfAside, IsRight, IfValues, IsWork, AreReady}
+use Rattle.qs_ops_walk.specs.inner.Works.{AreEndPairs, IfEndPairs, IfPairs, expr_of, IsAside, IfAside, IsRight, IfValues, IsWork, AreReady}
 use Rattle.qs_ops_walk.specs.inner.Coming.{going, row_if, or_else, attempted, source_items, level_items, flows, coming, FitsOption, FitsAttempt, FitsSource, FitLevels}
 use Rattle.qs_ops_walk.specs.inner.Moves.{item_moves, moves}
 
@@ -132,13 +137,30 @@ module _ (s : Setting) (old new : List Term) (g : Grows (known_of s) old new) wh
   values_still values None h = tt
   values_still values (Some k) h = record { rows = rows_same k.rows h.fit ∙ h.rows; fit = rows_still k.rows h.fit }
 
-  pairs_still : (pattern : PathPattern) (o : Option KeptPairs) → IfPairs s old pattern o → IfPairs s new pattern o
+  pub pairs_still : (pattern : PathPattern) (o : Option KeptPairs) → IfPairs s old pattern o → IfPairs s new pattern o
   pairs_still pattern None h = tt
   pairs_still pattern (Some k) h = pairs_stay known old new k.pairs (path_pairs pattern (active_graph s.content s.default k.graph)) g h
 
+  pub end_pairs_still : (pattern : PathPattern) (o : Option EndPairs) → IfEndPairs s old pattern o → IfEndPairs s new pattern o
+  end_pairs_still pattern None h = tt
+  end_pairs_still pattern (Some k) h = record {
+    subject = name_still k.ends.subject h.subject;
+    object = name_still k.ends.object h.object;
+    serve = serve_stays known old new pattern (active_graph s.content s.default k.graph) k.ends k.pairs g h.subject h.object h.serve;
+  }
+
+  -- those that were found by the larger table
+  pub end_pairs_made : (pattern : PathPattern) (graph : Active) (ends : RowEnds) (pairs own : List (Cell × Cell)) → own ≡ pairs → FitsIf known old ends.subject → FitsIf known old ends.object
+      → Serve known new pattern (active_graph s.content s.default graph) ends pairs → AreEndPairs s new pattern (record { graph = graph; ends = ends; pairs = own })
+  end_pairs_made pattern graph ends pairs own e fs fo h = record {
+    subject = name_still ends.subject fs;
+    object = name_still ends.object fo;
+    serve = subst (Serve known new pattern (active_graph s.content s.default graph) ends) (sym e) h;
+  }
+
   pub work_still : (i : Instruction) (w : Work) → IsWork s old i w → IsWork s new i w
   work_still i (work.Triple look pattern) h = h
-  work_still i (work.Path t) h = record { place = h.place; is = h.is; looks = h.looks; pairs = pairs_still t.pattern.now t.kept h.pairs }
+  work_still i (work.Path t) h = record { place = h.place; is = h.is; looks = h.looks; pairs = pairs_still t.pattern.now t.kept h.pairs; last = end_pairs_still t.pattern.now t.last h.last }
   work_still i (work.Names n) h = h
   work_still i (work.Exists found) h = h
   work_still i (work.Name v r) h = h

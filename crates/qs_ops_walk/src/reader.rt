@@ -14,7 +14,7 @@ ghost use Rattle.qs_plan_meaning.specs.Scans.{extensions, path_pairs};
 ghost use Rattle.qs_plan_meaning.specs.Stages.{each_named, looked};
 ghost use Rattle.qs_store.specs.ActiveGraph.{active_graph};
 ghost use Rattle.qs_store.specs.Graphs.{AreGraphs};
-ghost use Rattle.qs_ops_scans.specs.Paths.{ArePairs};
+ghost use Rattle.qs_ops_scans.specs.Paths.{ArePairs, Serve};
 ghost use Rattle.qs_ops_scans.specs.Makes.{Makes};
 ghost use Rattle.qs_ops_scans.specs.Prepared.{IsGraphOf, prepared_look, prepared_triple};
 ghost use Rattle.qs_ops_walk.specs.inner.Setting.{graph_in, known_of};
@@ -25,8 +25,8 @@ use qs_base::Shared;
 use qs_expr::{Cell, Condition, Row, Scratch, eval};
 use qs_expr_meaning::{Expr, ExprFault};
 use qs_ops_scans::{
-    NameRows, PathPairs, PreparedLook, PreparedTriple, TripleRows, graph_of_look, name_rows,
-    open_triple, path_pairs,
+    NameRows, PathPairs, PreparedLook, PreparedTriple, RowEnds, TripleRows, fed_pairs,
+    graph_of_look, name_rows, open_triple, path_pairs,
 };
 use qs_store::{Active, View};
 use std::alloc::{AllocError, Global};
@@ -90,6 +90,23 @@ impl<'a, V: View> Reader<'a, V> {
         ensures pairs { IfOk result (λ k. ArePairs (known_of self.now) scratch.new k (path_pairs pattern.now (active_graph self.now.content self.now.default graph))) }
     {
         path_pairs(self.alloc, self.view, graph, pattern, row, scratch)
+    }
+
+    /// Pairs that serve the rows with these cells at the ends of a path pattern, in a graph.
+    pub(crate) fn fed_pairs(
+        &self,
+        graph: Active,
+        pattern: &PathPattern,
+        ends: RowEnds,
+        scratch: &mut Scratch,
+    ) -> Result<PathPairs, AllocError>
+        requires table { IsTable (known_of self.now) scratch.old }
+        requires subject { FitsIf (known_of self.now) scratch.old ends.subject }
+        requires object { FitsIf (known_of self.now) scratch.old ends.object }
+        ensures grows { Grows (known_of self.now) scratch.old scratch.new }
+        ensures serve { IfOk result (λ k. Serve (known_of self.now) scratch.new pattern.now (active_graph self.now.content self.now.default graph) ends k) }
+    {
+        fed_pairs(self.alloc, self.view, graph, pattern, ends, scratch)
     }
 
     /// Whether the condition is true of the row's named variables.

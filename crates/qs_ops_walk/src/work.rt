@@ -14,7 +14,7 @@ use qs_expr::{Cell, Condition, Row, is_same};
 use qs_expr_meaning::Expr;
 use qs_ops_program::Instr;
 use qs_ops_scans::{
-    PathPairs, PreparedLook, PreparedTriple, graph_numbers, is_named_graph, prepare_look,
+    PathPairs, PreparedLook, PreparedTriple, RowEnds, graph_numbers, is_named_graph, prepare_look,
     prepare_triple,
 };
 use qs_ops_tables::Kept;
@@ -71,12 +71,21 @@ pub(crate) struct KeptPairs {
     pub(crate) pairs: Shared<PathPairs>,
 }
 
-/// What is prepared and kept of a path.
+/// The pairs of a path in a graph that serve the rows with these cells at its ends.
+#[derive(Drop)]
+pub(crate) struct EndPairs {
+    pub(crate) graph: Active,
+    pub(crate) ends: RowEnds,
+    pub(crate) pairs: Shared<PathPairs>,
+}
+
+/// What is prepared and kept of a path: all its pairs, and those for the last row that binds an end.
 #[derive(Drop)]
 pub(crate) struct Trail<'a> {
     pub(crate) look: PreparedLook,
     pub(crate) pattern: &'a PathPattern,
     pub(crate) kept: Option<KeptPairs>,
+    pub(crate) last: Option<EndPairs>,
 }
 
 /// The register that is bound to the names of graphs, and their numbers.
@@ -191,6 +200,7 @@ fn work_of<'a, V: View>(reader: &Reader<'a, V>, instr: &Instr<'a>) -> Result<Wor
             look: prepare_look(reader.view, look),
             pattern,
             kept: None,
+            last: None,
         })),
         Stage::Exists(name) => Ok(Work::Exists(is_named_graph(reader.view, name.get()))),
         Stage::Names(register) => {

@@ -14,7 +14,8 @@ use Rattle.qs_store.specs.ActiveGraph.{active_graph}
 use Rattle.qs_store.specs.Graphs.{AreGraphs}
 use Rattle.qs_store.specs.declared.active.Active.{Active}
 use Rattle.qs_plan_meaning.specs.Scans.{path_pairs}
-use Rattle.qs_ops_scans.specs.Paths.{ArePairs}
+use Rattle.qs_ops_scans.specs.Paths.{row_ends, ArePairs, Serve}
+use Rattle.qs_ops_walk.specs.declared.work.EndPairs.{EndPairs}
 use Rattle.qs_ops_walk.specs.declared.work.KeptPairs.{KeptPairs}
 use Rattle.qs_ops_walk.specs.declared.work.Trail.{Trail}
 use Rattle.qs_ops_walk.specs.declared.work.Naming.{Naming}
@@ -89,17 +90,32 @@ abbrev pub IfPairs : Setting → List Term → PathPattern → Option KeptPairs 
 IfPairs s table pattern None = Unit {0}
 IfPairs s table pattern (Some k) = ArePairs (known_of s) table k.pairs (path_pairs pattern (active_graph s.content s.default k.graph))
 
+-- the pairs serve the rows with these cells at the ends
+pub record AreEndPairs
+    (s : Setting) (table : List Term) (pattern : PathPattern) (k : EndPairs) : Type 0 where
+  pub subject : FitsIf (known_of s) table k.ends.subject
+  pub object : FitsIf (known_of s) table k.ends.object
+  pub serve :
+      Serve (known_of s) table pattern (active_graph s.content s.default k.graph) k.ends k.pairs
+
+abbrev pub IfEndPairs : Setting → List Term → PathPattern → Option EndPairs → Type 0
+IfEndPairs s table pattern None = Unit {0}
+IfEndPairs s table pattern (Some k) = AreEndPairs s table pattern k
+
 pub record IsPath (s : Setting) (table : List Term) (i : Stage) (t : Trail) : Type 0 where
   pub place : Look
   pub is : i ≡ stage.Path place t.pattern.now
   pub looks : t.look ≡ prepared_look (known_of s) place
   pub pairs : IfPairs s table t.pattern.now t.kept
+  pub last : IfEndPairs s table t.pattern.now t.last
 
--- the pairs of the path in the graph in which it looks for m
+-- the pairs serve m, in the graph in which the path looks for it
 pub record ArePairsFor (s : Setting) (table : List Term) (t : Trail) (m : Cells) (pairs : List (Cell × Cell)) : Type 0 where
   pub graph : Active
   pub looks : IsGraphOf s.content s.default t.look m s.active graph
-  pub are : ArePairs (known_of s) table pairs (path_pairs t.pattern.now (active_graph s.content s.default graph))
+  pub serve :
+      Serve (known_of s) table t.pattern.now (active_graph s.content s.default graph)
+      (row_ends t.pattern.now m) pairs
 
 pub record IsNaming (s : Setting) (i : Stage) (n : Naming) : Type 0 where
   pub is : i ≡ stage.Names n.register

@@ -159,7 +159,7 @@ next_of_walk-loop-row-preserved g t c =
 pub open-returns-in_ok-pairs-in-Path-clause-opens : goal.open-returns-in_ok-pairs-in-Path-clause-opens
 open-returns-in_ok-pairs-in-Path-clause-opens g t c =
     let r = rw c.in-Path.is at c.requires.ready in
-    opens_path c.args.reader.now c.args.place.now.instr c.args.scratch.now c.pairs_of_trail.new.scratch c.args.row c.path_rows.result c.in-Path.trail c.in_ok-pairs-in-Path.pairs r.place r.is r.looks c.in_ok-pairs-in-Path.ensures.pairs (rw c.pairs_of_trail.ensures.pattern at c.path_rows.ensures.pairs) c.pairs_of_trail.ensures.grows.table c.requires.table c.pairs_of_trail.ensures.grows c.requires.row
+    opens_path c.args.reader.now c.args.place.now.instr c.args.scratch.now c.pairs_of_trail.new.scratch c.args.row c.path_rows.result c.in-Path.trail c.in_ok-pairs-in-Path.pairs r.place r.is r.looks c.in_ok-pairs-in-Path.ensures.pairs (rw c.pairs_of_trail.ensures.pattern at c.path_rows.ensures.serve) c.pairs_of_trail.ensures.grows.table c.requires.table c.pairs_of_trail.ensures.grows c.requires.row
 
 pub open-returns-in_ok-numbers-in-Names-clause-opens : goal.open-returns-in_ok-numbers-in-Names-clause-opens
 open-returns-in_ok-numbers-in-Names-clause-opens g t c =
