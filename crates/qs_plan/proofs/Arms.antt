@@ -1,7 +1,7 @@
 -- The arms of the functions that lay stages.
-use Rattle.std.proofs.Common.{◌≡◌, ℕ, ◌+◌, ◌≤◌, ◌<◌, Bool, true, false, List, [], ◌∷◌, ◌++◌, map, take, length, get_or, refl, sym, ◌∙◌, ap, subst, arith, append-nil, append_assoc}
+use Rattle.std.proofs.Common.{◌≡◌, ℕ, ◌+◌, ◌≤◌, ◌<◌, Bool, true, false, List, [], ◌∷◌, ◌++◌, map, take, drop, length, get_or, refl, sym, ◌∙◌, ap, subst, arith, append-nil, append_assoc}
 use Rattle.std.specs.List.{AllByRecursion}
-use Rattle.std.proofs.lemmas.List.{take_more, take_all}
+use Rattle.std.proofs.lemmas.List.{take_more, take_all, drop_all, drop-append-le, length-take-le}
 use Rattle.qs_terms.specs.declared.term.Term.{Term}
 use Rattle.qs_expr_meaning.specs.declared.expr.Expr.{Expr}
 use Rattle.qs_algebra_patterns.specs.declared.table.Table.{Table}
@@ -17,7 +17,7 @@ use Rattle.qs_plan_meaning.specs.declared.stage.Stage.TheVariants as stage
 use Rattle.qs_plan.specs.inner.Lays.{Within, Makes, Lays, LaysStep, IsJoin, joined_with, joined_with_all, all_stepped, all_kept}
 use Rattle.qs_plan_meaning.specs.Stages.{register_of}
 use Rattle.qs_plan.proofs.EachGraph.{each_lays}
-use Rattle.qs_plan.proofs.Laying.{Begins, nothing_lays, values_lays, apart_lays, join_step, left_join_step, minus_step, extend_step, step_more, filter_more, none_kept, group_lays, joins_lay, none_united, union_lays, graph_lays}
+use Rattle.qs_plan.proofs.Laying.{Begins, nothing_lays, values_lays, apart_lays, join_step, left_join_step, minus_step, extend_step, step_more, filter_more, none_kept, joins_lay, none_united, union_lays, graph_lays}
 
 module _ (first : Bool) (width : ℕ) (place : Look) (from next : ℕ) (ss : List Stage) where
   -- by equations between what is laid
@@ -95,12 +95,31 @@ register_within width from mid h e = (h, omega (arith, e))
 
 -- ---- steps and conditions
 
-begins_of : (first second : Bool) (ss : List Stage) → (second ≡ true → (first ≡ true) × (ss ≡ [])) → Begins first second ss
+pub begins_of : (first second : Bool) (ss : List Stage) → (second ≡ true → (first ≡ true) × (ss ≡ [])) → Begins first second ss
 begins_of first second ss h = record { whole = λ e. (h e).0; none = λ e. (h e).1 }
 
-pub one_step_more : (first second : Bool) (width : ℕ) (place : Look) (from mid next : ℕ) (ss ts new : List Stage) (steps : List Step) (i : ℕ) (s : Step) → Within width from place → i < length steps → s ≡ get_or steps i s → new ≡ ss ++ ts
-    → (second ≡ true → (first ≡ true) × (ss ≡ [])) → Lays first width place from mid ss (all_stepped width (take i steps)) → LaysStep second width place mid next ts s → Lays first width place from next new (all_stepped width (take (i + 1) steps))
-one_step_more first second width place from mid next ss ts new steps i s within lt is e b l k = step_more first second width place from mid next ss ts new steps i s within lt is e (begins_of first second ss b) l k
+-- the steps from one place up to another, and the next one
+range_more : (start i : ℕ) (steps : List Step) (s : Step) → start ≤ i → i < length steps → s ≡ get_or steps i s → drop start (take i steps) ++ s ∷ [] ≡ drop start (take (i + 1) steps)
+range_more start i steps s le lt is =
+    sym (drop-append-le start (take i steps) (s ∷ []) (omega (arith, length-take-le i steps (omega (arith, lt)), le)))
+    ∙ ap (drop start) (sym (take_more steps i s lt ∙ ap (λ x. take i steps ++ x ∷ []) (sym is)))
+
+pub one_step_more : (first second : Bool) (width : ℕ) (place : Look) (from mid next : ℕ) (ss ts new : List Stage) (steps : List Step) (start i : ℕ) (s : Step) → Within width from place → start ≤ i → i < length steps → s ≡ get_or steps i s → new ≡ ss ++ ts
+    → (second ≡ true → (first ≡ true) × (ss ≡ [])) → Lays first width place from mid ss (all_stepped width (drop start (take i steps))) → LaysStep second width place mid next ts s → Lays first width place from next new (all_stepped width (drop start (take (i + 1) steps)))
+one_step_more first second width place from mid next ss ts new steps start i s within le lt is e b l k =
+    subst (λ (done : List Step). Lays first width place from next new (all_stepped width done)) (range_more start i steps s le lt is)
+    (step_more first second width place from mid next ss ts new (drop start (take i steps)) s within e (begins_of first second ss b) l k)
+
+pub steps_init : (first : Bool) (width : ℕ) (place : Look) (from : ℕ) (stages : List Stage) (steps : List Step) (start : ℕ) → width ≤ from → start ≤ length steps → stages ≡ [] → Lays first width place from from stages (all_stepped width (drop start (take start steps)))
+steps_init first width place from stages steps start named le e =
+    subst (λ (done : List Step). Lays first width place from from stages (all_stepped width done)) (sym (drop_all start (take start steps) (omega (arith, length-take-le start steps le))))
+    (subst (λ (ss : List Stage). Lays first width place from from ss (all_stepped width [])) (sym e) (nothing_lays first width place from named))
+
+pub steps_end : (first : Bool) (width : ℕ) (place : Look) (from next : ℕ) (ss : List Stage) (steps : List Step) (start i end : ℕ) → i ≡ end → Lays first width place from next ss (all_stepped width (drop start (take i steps))) → Lays first width place from next ss (all_stepped width (drop start (take end steps)))
+steps_end first width place from next ss steps start i end e l = subst (λ (n : ℕ). Lays first width place from next ss (all_stepped width (drop start (take n steps)))) e l
+
+pub steps_all : (first : Bool) (width : ℕ) (place : Look) (from next : ℕ) (ss : List Stage) (steps : List Step) (start n : ℕ) → length steps ≤ n → Lays first width place from next ss (all_stepped width (drop start (take n steps))) → Lays first width place from next ss (all_stepped width (drop start steps))
+steps_all first width place from next ss steps start n h l = subst (λ (xs : List Step). Lays first width place from next ss (all_stepped width (drop start xs))) (take_all n steps h) l
 
 -- all filters, one after another
 filters_lay : (first : Bool) (width : ℕ) (place : Look) (from next : ℕ) (ss : List Stage) (f : Makes) (done conditions : List Expr) → Within width from place → Lays first width place from next ss (all_kept done f) → Lays first width place from next (ss ++ map stage.Filter conditions) (all_kept (done ++ conditions) f)
@@ -134,23 +153,11 @@ pub group_joins : (first : Bool) (width : ℕ) (place : Look) (from next : ℕ) 
 group_joins first width place from next ss steps conditions e j none l =
     at_flag first false width place from next ss (joined_with width (pattern.Group steps conditions)) e (joins_lay width place from next ss steps conditions j none l)
 
-pub group_first : (width : ℕ) (place : Look) (from inner next : ℕ) (ts ss : List Stage) (steps : List Step) (conditions : List Expr) → Within width from place → Lays true width place from inner ts (all_stepped width steps) → (ss ≡ ts ++ map stage.Filter conditions) × (next ≡ inner)
-    → Lays true width place from next ss (joined_with width (pattern.Group steps conditions))
-group_first width place from inner next ts ss steps conditions within l e =
-    group_lays width place from next ss steps conditions (filters_arm true width place from inner next ts ss (all_stepped width steps) conditions within l e)
-
 -- ---- loops
 
 pub union_init : (first : Bool) (width : ℕ) (place : Look) (from : ℕ) (branches : List Group) (parts : List PatternNode) → width ≤ from → branches ≡ [] → Lays first width place from from (stage.Union branches ∷ []) (joined_with_all width (take 0 parts))
 union_init first width place from branches parts named e =
     subst (λ (bs : List Group). Lays first width place from from (stage.Union bs ∷ []) (joined_with_all width (take 0 parts))) (sym e) (none_united first width place from named)
 
-pub steps_init : (first : Bool) (width : ℕ) (place : Look) (from : ℕ) (stages : List Stage) (steps : List Step) → width ≤ from → stages ≡ [] → Lays first width place from from stages (all_stepped width (take 0 steps))
-steps_init first width place from stages steps named e =
-    subst (λ (ss : List Stage). Lays first width place from from ss (all_stepped width (take 0 steps))) (sym e) (nothing_lays first width place from named)
-
 pub union_end : (first : Bool) (width : ℕ) (place : Look) (from next : ℕ) (ss : List Stage) (parts : List PatternNode) (i : ℕ) → length parts ≤ i → Lays first width place from next ss (joined_with_all width (take i parts)) → Lays first width place from next ss (joined_with_all width parts)
 union_end first width place from next ss parts i h l = subst (λ (ps : List PatternNode). Lays first width place from next ss (joined_with_all width ps)) (take_all i parts h) l
-
-pub steps_end : (first : Bool) (width : ℕ) (place : Look) (from next : ℕ) (ss : List Stage) (steps : List Step) (i : ℕ) → length steps ≤ i → Lays first width place from next ss (all_stepped width (take i steps)) → Lays first width place from next ss (all_stepped width steps)
-steps_end first width place from next ss steps i h l = subst (λ (xs : List Step). Lays first width place from next ss (all_stepped width xs)) (take_all i steps h) l

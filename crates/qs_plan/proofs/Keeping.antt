@@ -74,14 +74,14 @@ module _ (v : ℕ) where
       let e = end_alike p.subject x.left m w.x w.first b in
       alike_trans m w.x q e (end_alike p.object x.right w.x q w.second (still_bound m w.x e b))
 
-  merges_alike : (xs : List Solution) (m : Solution) → Bound v m → AllByRecursion (Alike v m) (merges xs m)
+  pub merges_alike : (xs : List Solution) (m : Solution) → Bound v m → AllByRecursion (Alike v m) (merges xs m)
   merges_alike xs m b = all_mapped (λ x. Unit {0}) (Alike v m) (merge m) (λ x u. merge_alike m x v b) (filter (compatible m) xs) (all_of (λ x. Unit {0}) (λ x. tt) (filter (compatible m) xs))
 
   kept_alike : (b : Bool) (m : Solution) → AllByRecursion (Alike v m) (kept_if b m)
   kept_alike true m = (refl, tt)
   kept_alike false m = tt
 
-  alone_alike : (m : Solution) (xs : List Solution) → AllByRecursion (Alike v m) xs → AllByRecursion (Alike v m) (or_alone m xs)
+  pub alone_alike : (m : Solution) (xs : List Solution) → AllByRecursion (Alike v m) xs → AllByRecursion (Alike v m) (or_alone m xs)
   alone_alike m [] k = (refl, tt)
   alone_alike m (x ∷ xs) k = k
 

@@ -265,12 +265,12 @@ module _ (width : ℕ) (place : Look) (from next : ℕ) (named : width ≤ from)
   only_free (look.Named name) w m v h = unbound_at (length m) v
   only_free (look.Register r) w m v h = get_or-set_other (unbound (length m)) r v (term_at m r) None (λ e. absurd (omega (arith, e, w.1, h))) ∙ unbound_at (length m) v
 
-  only_looked : (p : Look) → Within width from p → (quads : List Statement) (active : Triples) (m : Solution) → from ≤ length m → looked quads active p (only (register_of p) m) ≡ looked quads active p m
+  pub only_looked : (p : Look) → Within width from p → (quads : List Statement) (active : Triples) (m : Solution) → from ≤ length m → looked quads active p (only (register_of p) m) ≡ looked quads active p m
   only_looked look.Active w quads active m h = refl
   only_looked (look.Named name) w quads active m h = refl
   only_looked (look.Register r) w quads active m h = ap (graph_named quads) (get_or-set_same (unbound (length m)) r (term_at m r) None (omega (arith, w.1, h, length_unbound (length m))))
 
-  only_ready : (m : Solution) → Ready width first from next m → from ≤ next → Ready width true from next (only (register_of place) m)
+  pub only_ready : (m : Solution) → Ready width first from next m → from ≤ next → Ready width true from next (only (register_of place) m)
   only_ready m r up = record {
     wide = omega (arith, length_only (register_of place) m, r.wide);
     short = omega (arith, length_only (register_of place) m, r.short);
@@ -428,16 +428,14 @@ within_more width from mid (look.Named name) h w = tt
 within_more width from mid (look.Register r) h w = (w.0, omega (arith, w.1, h))
 
 -- one step more
-pub step_more : (first second : Bool) (width : ℕ) (place : Look) (from mid next : ℕ) (ss ts new : List Stage) (steps : List Step) (i : ℕ) (s : Step) → Within width from place → i < length steps → s ≡ get_or steps i s → new ≡ ss ++ ts → Begins first second ss
-    → Lays first width place from mid ss (all_stepped width (take i steps)) → LaysStep second width place mid next ts s → Lays first width place from next new (all_stepped width (take (i + 1) steps))
-step_more first second width place from mid next ss ts new steps i s within lt is e b l k =
-    subst (λ (all : List Stage). Lays first width place from next all (all_stepped width (take (i + 1) steps))) (sym e)
-    (lays_as first width place from next (ss ++ ts) (then_made (all_stepped width (take i steps)) (stepped width s)) (all_stepped width (take (i + 1) steps))
+pub step_more : (first second : Bool) (width : ℕ) (place : Look) (from mid next : ℕ) (ss ts new : List Stage) (done : List Step) (s : Step) → Within width from place → new ≡ ss ++ ts → Begins first second ss
+    → Lays first width place from mid ss (all_stepped width done) → LaysStep second width place mid next ts s → Lays first width place from next new (all_stepped width (done ++ s ∷ []))
+step_more first second width place from mid next ss ts new done s within e b l k =
+    subst (λ (all : List Stage). Lays first width place from next all (all_stepped width (done ++ s ∷ []))) (sym e)
+    (lays_as first width place from next (ss ++ ts) (then_made (all_stepped width done) (stepped width s)) (all_stepped width (done ++ s ∷ []))
     (λ quads graph a h w.
-    sym (k.linear.each quads graph (all_stepped width (take i steps) quads graph a))
-    ∙ (sym (fold_last (λ left one. step width quads one graph left) (a ∷ []) (take i steps) s)
-    ∙ ap (fold (λ left one. step width quads one graph left) (a ∷ [])) (sym (take_more steps i s lt ∙ ap (λ x. take i steps ++ x ∷ []) (sym is)))))
-    (then_lays width place first second from mid next ss ts (all_stepped width (take i steps)) (stepped width s) within l k.lays b))
+    sym (k.linear.each quads graph (all_stepped width done quads graph a)) ∙ sym (fold_last (λ left one. step width quads one graph left) (a ∷ []) done s))
+    (then_lays width place first second from mid next ss ts (all_stepped width done) (stepped width s) within l k.lays b))
 
 -- ---- groups
 
@@ -478,17 +476,6 @@ none_kept first width place from next ss f l =
     all_stay : (xs : List Solution) → kept [] xs ≡ xs
     all_stay [] = refl
     all_stay (x ∷ xs) = ap (λ l. x ∷ l) (all_stay xs)
-
--- a group that comes first
-pub group_lays : (width : ℕ) (place : Look) (from next : ℕ) (ss : List Stage) (steps : List Step) (conditions : List Expr) → Lays true width place from next ss (all_kept conditions (all_stepped width steps))
-    → Lays true width place from next ss (joined_with width (pattern.Group steps conditions))
-group_lays width place from next ss steps conditions l =
-    lays_as true width place from next ss (all_kept conditions (all_stepped width steps)) (joined_with width (pattern.Group steps conditions))
-    (λ quads graph a h w.
-    ap (λ b. kept conditions (fold (λ left one. step width quads one graph left) (b ∷ []) steps)) (h refl)
-    ∙ (sym (eval_group width quads graph steps conditions)
-    ∙ (sym (eval_merges width quads (pattern.Group steps conditions) graph) ∙ ap (merges (eval width quads (pattern.Group steps conditions) graph)) (sym (h refl)))))
-    l
 
 join_all : (width : ℕ) (quads : List Statement) (graph : Triples) (steps : List Step) → AllByRecursion IsJoin steps → (a : Solution) (xs : List Solution)
     → fold (λ left one. step width quads one graph left) (merges xs a) steps ≡ merges (fold (λ left one. step width quads one graph left) xs steps) a

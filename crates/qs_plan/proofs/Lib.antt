@@ -30,3 +30,5 @@ pub mod Moving
 pub mod Entering
 pub mod Pairing
 pub mod Joining
+pub mod Fixing
+pub mod Fixed

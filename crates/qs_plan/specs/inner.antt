@@ -7,3 +7,4 @@ pub mod Slots
 pub mod Reads
 pub mod Certain
 pub mod Joins
+pub mod Fixes

@@ -189,7 +189,7 @@ fn is_bound_after(stages: &[Stage], at: usize, variable: usize, size: Size) -> b
 
 /// Whether the rows after the stages bind the variable, whatever the first row binds.
 #[cycle(binds)]
-fn is_bound(stages: &[Stage], variable: usize, size: Size) -> bool
+pub(crate) fn is_bound(stages: &[Stage], variable: usize, size: Size) -> bool
     ensures { result ≡ true → Binds size [] variable stages.now }
 {
     for at in 0..stages.len() {

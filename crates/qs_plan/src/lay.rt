@@ -1,14 +1,18 @@
 //! The text's order: the stages of a pattern (SPARQL 1.1 Query, 18.5), as they stand in its text.
 
-ghost use Rattle.std.specs.Prelude.{◌≡◌, ◌≤◌, true, false, [], ◌∷◌, ◌++◌, map, IfOk};
+ghost use Rattle.std.specs.Prelude.{◌≡◌, ◌≤◌, true, false, [], ◌∷◌, ◌++◌, map, take, drop, length, IfOk};
 ghost use Rattle.std.specs.List.{AllByRecursion};
 ghost use Rattle.qs_algebra_patterns.specs.declared.pattern.PatternNode.TheVariants as pattern;
 ghost use Rattle.qs_plan_meaning.specs.declared.stage.Look as places;
 ghost use Rattle.qs_plan_meaning.specs.declared.stage.Stage.TheVariants as stage;
 ghost use Rattle.qs_plan.specs.inner.Lays.{Lays, LaysStep, Within, IsJoin, all_kept, all_stepped, joined_with};
 
+use crate::certain::Size;
 use crate::copies::{shared_expr, shared_table};
-use crate::laid::{Laid, alone, apart, bind, if_exists, in_each, look_named, minus, optional};
+use crate::fixes::put_tables;
+use crate::laid::{
+    Laid, alone, apart, behind_all, bind, if_exists, in_each, look_named, minus, optional,
+};
 use crate::run::{lay_run, room_after};
 use qs_algebra_patterns::{PatternNode, Step, Table};
 use qs_expr_meaning::Expr;
@@ -80,6 +84,19 @@ fn are_joins(steps: &[Step]) -> bool
         }
     }
     true
+}
+
+/// How many of the first steps join a pattern that is plain.
+fn plain_front(steps: &[Step]) -> usize
+    ensures within { result ≤ length steps.now }
+    ensures joins { AllByRecursion IsJoin (take result steps.now) }
+{
+    for at in 0..steps.len() {
+        if !is_join(&steps[at]) || !is_plain_step(&steps[at]) {
+            return at;
+        }
+    }
+    steps.len()
 }
 
 /// Whether there are no conditions.
@@ -184,11 +201,10 @@ fn lay_group(
     ensures { IfOk result (λ l. Lays first width look.now from l.next l.stages (joined_with width (pattern.Group steps.now conditions.now))) }
 {
     if !first && are_none(conditions) && are_joins(steps) {
-        let laid = lay_steps(alloc, width, steps, look, from, false)?;
+        let laid = lay_steps(alloc, width, steps, 0, steps.len(), look, from, false)?;
         return Ok(laid);
     }
-    let laid = lay_steps(alloc, width, steps, look, from, true)?;
-    let laid = lay_filters(alloc, conditions, laid)?;
+    let laid = lay_whole(alloc, width, steps, conditions, look, from)?;
     if first {
         return Ok(laid);
     }
@@ -196,31 +212,62 @@ fn lay_group(
     Ok(laid)
 }
 
-/// The stages of the steps of a group.
+/// The stages of a group that comes first. Its first steps that are plain have the same stages whatever a row binds, so that tables may come
+/// before them: of the terms to which conditions fix variables.
+#[cycle(lay)]
+fn lay_whole(
+    alloc: Global,
+    width: usize,
+    steps: &[Step],
+    conditions: &[Expr],
+    look: &Look,
+    from: usize,
+) -> Result<Laid, AllocError>
+    requires named { width ≤ from }
+    requires within { Within width from look.now }
+    ensures { IfOk result (λ l. Lays true width look.now from l.next l.stages (joined_with width (pattern.Group steps.now conditions.now))) }
+{
+    let count = plain_front(steps);
+    let laid = lay_steps(alloc, width, steps, 0, count, look, from, false)?;
+    let Laid { mut stages, next } = laid;
+    let size = Size { width, cells: next };
+    put_tables(alloc, conditions, &steps[count..], size, &mut stages)?;
+    let second = is_start(true, &stages);
+    let laid = lay_steps(alloc, width, steps, count, steps.len(), look, next, second)?;
+    let laid = behind_all(stages, laid)?;
+    let laid = lay_filters(alloc, conditions, laid)?;
+    Ok(laid)
+}
+
+/// The stages of the steps of a group from one place up to another.
 #[cycle(lay)]
 fn lay_steps(
     alloc: Global,
     width: usize,
     steps: &[Step],
+    start: usize,
+    end: usize,
     look: &Look,
     from: usize,
     first: bool,
 ) -> Result<Laid, AllocError>
     requires named { width ≤ from }
     requires within { Within width from look.now }
-    ensures { IfOk result (λ l. Lays first width look.now from l.next l.stages (all_stepped width steps.now)) }
+    requires ordered { start ≤ end }
+    requires inside { end ≤ length steps.now }
+    ensures { IfOk result (λ l. Lays first width look.now from l.next l.stages (all_stepped width (drop start (take end steps.now)))) }
 {
     let mut stages = Items::new(alloc);
     let mut next = from;
-    for one in steps {
+    for at in start..end {
         let second = is_start(first, &stages);
-        let laid = lay_step(alloc, width, one, look, next, second)?;
+        let laid = lay_step(alloc, width, &steps[at], look, next, second)?;
         let Laid {
             stages: more,
-            next: end,
+            next: past,
         } = laid;
         stages.append(more)?;
-        next = end;
+        next = past;
     }
     Ok(Laid { stages, next })
 }

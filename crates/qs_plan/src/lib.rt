@@ -7,6 +7,7 @@ mod copies;
 mod counts;
 mod display;
 mod filters;
+mod fixes;
 mod joins;
 mod known;
 mod laid;

@@ -212,13 +212,86 @@ const PLANS: &[(&str, &str)] = &[
     ),
     // the name of a graph is certain where it is joined with the triples in it
     (
-        "SELECT * { GRAPH ?g { ?a <u:p> ?b } OPTIONAL { GRAPH ?g { ?b <u:q> ?c } } FILTER(?g = <u:g>) }",
-        "names ?4\ntriple ?1 <u:p> ?2 in ?4\nname ?0 = ?4\nfilter (= ?0 <u:g>)\noptional\n  names ?5\n  triple ?2 <u:q> ?3 in ?5\n  name ?0 = ?5\n",
+        "SELECT * { GRAPH ?g { ?a <u:p> ?b } OPTIONAL { GRAPH ?g { ?b <u:q> ?c } } FILTER(?g != <u:g>) }",
+        "names ?4\ntriple ?1 <u:p> ?2 in ?4\nname ?0 = ?4\nfilter (!= ?0 <u:g>)\noptional\n  names ?5\n  triple ?2 <u:q> ?3 in ?5\n  name ?0 = ?5\n",
     ),
     // BIND may leave its variable unbound
     (
         "SELECT * { ?a <u:p> ?b BIND(str(?b) AS ?c) OPTIONAL { ?a <u:q> ?c } FILTER(?c = 'x' && ?b = 'y') }",
         "triple ?0 <u:p> ?1\nfilter (= ?1 \"y\")\nbind ?2 = (str ?1)\noptional\n  triple ?0 <u:q> ?2\nfilter (= ?2 \"x\")\n",
+    ),
+    // a table of the terms that a condition leaves to a variable comes first, and the triples that bind the variable are looked up by it
+    (
+        "SELECT * { ?a ?b ?c FILTER(?a = <u:x>) }",
+        "values ?0, rows: 1\nfilter (= ?0 <u:x>)\ntriple ?0 ?1 ?2\n",
+    ),
+    (
+        "SELECT * { ?a ?b ?c FILTER(<u:x> = ?a) }",
+        "values ?0, rows: 1\nfilter (= <u:x> ?0)\ntriple ?0 ?1 ?2\n",
+    ),
+    (
+        "SELECT * { ?a <u:p> ?b . ?b <u:q> ?c FILTER(?c = <u:x>) }",
+        "values ?2, rows: 1\nfilter (= ?2 <u:x>)\ntriple ?1 <u:q> ?2\ntriple ?0 <u:p> ?1\n",
+    ),
+    (
+        "SELECT * { ?a ?b ?c FILTER(sameTerm(?c, 'x')) }",
+        "values ?2, rows: 1\nfilter (sameTerm ?2 \"x\")\ntriple ?0 ?1 ?2\n",
+    ),
+    // each member of a list once
+    (
+        "SELECT * { ?a ?b ?c FILTER(?b IN (<u:x>, <u:y>, <u:x>)) }",
+        "values ?1, rows: 2\nfilter (in ?1 <u:x> <u:y> <u:x>)\ntriple ?0 ?1 ?2\n",
+    ),
+    // one for each part of a conjunction
+    (
+        "SELECT * { ?a ?b ?c FILTER(?a = <u:x> && ?c = <u:y>) }",
+        "values ?2, rows: 1\nfilter (= ?2 <u:y>)\nvalues ?0, rows: 1\nfilter (= ?0 <u:x>)\ntriple ?0 ?1 ?2\n",
+    ),
+    // an equal literal may be another term
+    (
+        "SELECT * { ?a ?b ?c FILTER(?c = 'x') }",
+        "triple ?0 ?1 ?2\nfilter (= ?2 \"x\")\n",
+    ),
+    (
+        "SELECT * { ?a ?b ?c FILTER(?c IN (<u:x>, 'x')) }",
+        "triple ?0 ?1 ?2\nfilter (in ?2 <u:x> \"x\")\n",
+    ),
+    // what an OPTIONAL or a BIND binds may be unbound
+    (
+        "SELECT * { ?a <u:p> ?b OPTIONAL { ?b <u:q> ?c } FILTER(?c = <u:x>) }",
+        "triple ?0 <u:p> ?1\noptional\n  triple ?1 <u:q> ?2\nfilter (= ?2 <u:x>)\n",
+    ),
+    (
+        "SELECT * { ?a <u:p> ?b BIND(?b AS ?c) FILTER(?c = <u:x>) }",
+        "triple ?0 <u:p> ?1\nbind ?2 = ?1\nfilter (= ?2 <u:x>)\n",
+    ),
+    // the table comes before what follows the triples
+    (
+        "SELECT * { ?a <u:p> ?b OPTIONAL { ?b <u:q> ?c } MINUS { ?a <u:r> ?d } FILTER(?a = <u:x>) }",
+        "values ?0, rows: 1\nfilter (= ?0 <u:x>)\ntriple ?0 <u:p> ?1\noptional\n  triple ?1 <u:q> ?2\nminus\n  triple ?0 <u:r> ?3\n",
+    ),
+    // before a union whose branches bind the variable, and in its branches
+    (
+        "SELECT * { { ?a <u:p> ?b } UNION { ?a <u:q> ?b } FILTER(?a = <u:x>) }",
+        "values ?0, rows: 1\nfilter (= ?0 <u:x>)\nunion\n  branch\n    triple ?0 <u:p> ?1\n  branch\n    triple ?0 <u:q> ?1\n",
+    ),
+    (
+        "SELECT * { { ?a <u:p> ?b FILTER(?a = <u:x>) } UNION { ?a <u:q> ?b } }",
+        "union\n  branch\n    values ?0, rows: 1\n    filter (= ?0 <u:x>)\n    triple ?0 <u:p> ?1\n  branch\n    triple ?0 <u:q> ?1\n",
+    ),
+    // in graphs
+    (
+        "SELECT * { GRAPH <u:g> { ?a <u:p> ?b FILTER(?a = <u:x>) } }",
+        "exists <u:g>\nvalues ?0, rows: 1\nfilter (= ?0 <u:x>)\ntriple ?0 <u:p> ?1 in <u:g>\n",
+    ),
+    (
+        "SELECT * { GRAPH ?g { ?a <u:p> ?b FILTER(?a = <u:x>) } }",
+        "names ?3\nvalues ?1, rows: 1\nfilter (= ?1 <u:x>)\ntriple ?1 <u:p> ?2 in ?3\nname ?0 = ?3\n",
+    ),
+    // a first group that isn't joined alone stays in line, and has its filter where it went
+    (
+        "SELECT * { { ?a <u:p> ?b OPTIONAL { ?b <u:q> ?c } } FILTER(?a = <u:x>) }",
+        "triple ?0 <u:p> ?1\nfilter (= ?0 <u:x>)\noptional\n  triple ?1 <u:q> ?2\n",
     ),
     // literals are escaped as in N-Quads
     (

@@ -1,6 +1,9 @@
-use Rattle.std.proofs.Common.{rules, true, false, sym, ap, ◌∙◌}
+use Rattle.std.proofs.Common.{rules, arith, true, false, refl, sym, ap, ◌∙◌, List, ◌++◌, map}
 use Rattle.qs_algebra_patterns.specs.declared.pattern.PatternNode.TheVariants as pattern
-use Rattle.qs_plan.proofs.Arms.{as_part, values_arm, left_join_arm, minus_arm, extend_arm, apart_arm, union_arm, graph_arm, each_arm, at_flag, group_joins, group_first, one_step_more, union_init, union_end}
+use Rattle.qs_plan_meaning.specs.declared.stage.Stage.{Stage}
+use Rattle.qs_plan_meaning.specs.declared.stage.Stage.TheVariants.{Filter}
+use Rattle.qs_plan.proofs.Arms.{lays_at, as_part, values_arm, left_join_arm, minus_arm, extend_arm, apart_arm, union_arm, graph_arm, each_arm, at_flag, group_joins, steps_init, one_step_more, steps_end, steps_all, union_init, union_end}
+use Rattle.qs_plan.proofs.Fixing.{rest_of, whole_lays}
 use Rattle.qs_plan.proofs.Laying.{union_more}
 use Rattle.qs_plan.proofs.lay.+lay.Goals as goal
 
@@ -38,18 +41,20 @@ lay_graph-returns t c place =
 
 pub lay_group-returns-then-are_joins : goal.lay_group-returns-then-are_joins
 lay_group-returns-then-are_joins t c =
-    group_joins c.args.first c.args.width c.args.look.now c.args.from _ _ c.args.steps.now c.args.conditions.now (search rules) (c.are_joins.ensures c.if-are_joins.true) (c.are_none.ensures c.if-are_none.true) c.in_ok-laid.ensures
-
-pub lay_group-returns-then-first : goal.lay_group-returns-then-first
-lay_group-returns-then-first t c =
-    at_flag c.args.first true c.args.width c.args.look.now c.args.from _ _ _ c.if-first.true
-    (group_first c.args.width c.args.look.now c.args.from _ _ _ _ c.args.steps.now c.args.conditions.now c.requires.within c.in_ok-laid-2.ensures c.in_ok-laid-3.ensures)
+    group_joins c.args.first c.args.width c.args.look.now c.args.from _ _ c.args.steps.now c.args.conditions.now (search rules) (c.are_joins.ensures c.if-are_joins.true) (c.are_none.ensures c.if-are_none.true)
+    (steps_all false c.args.width c.args.look.now c.args.from _ _ c.args.steps.now 0 _ (omega arith) c.in_ok-laid.ensures)
 
 pub lay_group-returns : goal.lay_group-returns
 lay_group-returns t c =
-    apart_arm c.args.first c.args.width c.args.look.now c.args.from _ _ (pattern.Group c.args.steps.now c.args.conditions.now) _ _ c.requires.named c.requires.within
-    (group_first c.args.width c.args.look.now c.args.from _ _ _ _ c.args.steps.now c.args.conditions.now c.requires.within c.in_ok-laid-2.ensures c.in_ok-laid-3.ensures)
-    c.in_ok-laid-4.ensures
+    apart_arm c.args.first c.args.width c.args.look.now c.args.from _ _ (pattern.Group c.args.steps.now c.args.conditions.now) _ _ c.requires.named c.requires.within c.in_ok-laid-2.ensures c.in_ok-laid-3.ensures
+
+pub lay_whole-returns : goal.lay_whole-returns
+lay_whole-returns t c =
+    lays_at true c.args.width c.args.look.now c.args.from _ c.in_ok-laid-4.laid.stages _ c.in_ok-laid-2.laid.next c.in_ok-laid-4.laid.stages (c.in_ok-laid-4.ensures.1 ∙ c.in_ok-laid-3.ensures.1) refl
+    (whole_lays c.args.width c.args.look.now c.args.from c.in_ok-laid.laid.next c.in_ok-laid-2.laid.next c.plain_front-count.result c.args.steps.now c.args.conditions.now c.in_ok-laid.laid.stages c.put_tables.new.stages c.in_ok-laid-2.laid.stages c.in_ok-laid-4.laid.stages c.is_start-second.result _
+    c.requires.within c.plain_front-count.ensures.joins c.in_ok-laid.ensures (rest_of c.plain_front-count.result c.args.steps.now) c.in_ok-put_tables.ensures c.is_start-second.ensures
+    (steps_all c.is_start-second.result c.args.width c.args.look.now c.in_ok-laid.laid.next c.in_ok-laid-2.laid.next c.in_ok-laid-2.laid.stages c.args.steps.now c.plain_front-count.result _ (omega arith) c.in_ok-laid-2.ensures)
+    (c.in_ok-laid-4.ensures.0 ∙ ap (λ (l : List Stage). l ++ map Filter c.args.conditions.now) c.in_ok-laid-3.ensures.0))
 
 pub lay_step-returns-in_ok-laid-in-LeftJoin-2 : goal.lay_step-returns-in_ok-laid-in-LeftJoin-2
 lay_step-returns-in_ok-laid-in-LeftJoin-2 t c =
@@ -63,9 +68,16 @@ pub lay_step-returns-in_ok-laid-in-Extend : goal.lay_step-returns-in_ok-laid-in-
 lay_step-returns-in_ok-laid-in-Extend t c =
     extend_arm c.args.first c.args.width c.args.look.now c.args.from _ _ c.args.one.now c.in-Extend.variable c.in-Extend.expr c.requires.named c.in-Extend.is c.in_ok-laid-in-Extend.ensures
 
-pub lay_steps-loop-one-preserved : goal.lay_steps-loop-one-preserved
-lay_steps-loop-one-preserved t c =
-    one_step_more c.args.first _ c.args.width c.args.look.now c.args.from _ _ _ _ _ c.args.steps.now c.loop-one.one-index c.one-item.result c.requires.within c.loop-one-test.true c.one-item.is c.in_ok-append.ensures c.is_start-second.ensures c.loop-one.invariant c.in_ok-laid.ensures
+pub lay_steps-loop-at-init : goal.lay_steps-loop-at-init
+lay_steps-loop-at-init t c = steps_init c.args.first c.args.width c.args.look.now c.args.from _ c.args.steps.now c.args.start c.requires.named (omega (arith, c.requires.ordered, c.requires.inside)) c.new-stages.ensures
+
+pub lay_steps-loop-at-preserved : goal.lay_steps-loop-at-preserved
+lay_steps-loop-at-preserved t c =
+    one_step_more c.args.first _ c.args.width c.args.look.now c.args.from _ _ _ _ _ c.args.steps.now c.args.start c.loop-at.at c.index-steps-at.result c.requires.within (omega (arith, c.loop-at.auto.at)) (omega (arith, c.loop-at-test.true, c.requires.inside)) c.index-steps-at.is c.in_ok-append.ensures c.is_start-second.ensures c.loop-at.invariant c.in_ok-laid.ensures
+
+pub lay_steps-returns : goal.lay_steps-returns
+lay_steps-returns t c =
+    steps_end c.args.first c.args.width c.args.look.now c.args.from _ _ c.args.steps.now c.args.start c.loop-at.at c.args.end (omega (arith, c.loop-at.auto.at-end, c.loop-at-test.false, c.requires.ordered)) c.loop-at.invariant
 
 pub lay_union-loop-part-init : goal.lay_union-loop-part-init
 lay_union-loop-part-init t c = union_init c.args.first c.args.width c.args.look.now c.args.from _ c.args.parts.now c.requires.named c.new-branches.ensures
