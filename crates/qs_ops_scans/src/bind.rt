@@ -25,11 +25,21 @@ fn bind_act(row: &mut Row, act: Act, number: u32)
     }
 }
 
-/// Binds the variables of a triple that are not bound.
+/// Binds the variables of a triple that are not bound. Most patterns bind all three: their acts are tested once.
 #[inline(always)]
 pub(crate) fn bind_triple(row: &mut Row, acts: &Acts, triple: &[u32; 3])
     ensures { row.new ≡ bound acts.now triple.now row.old }
 {
+    if let (Act::Bind(subject), Act::Bind(predicate), Act::Bind(object)) = (
+        acts.subject,
+        acts.predicate,
+        acts.object,
+    ) {
+        bind_cell(row, subject, Cell::Known(triple[0]));
+        bind_cell(row, predicate, Cell::Known(triple[1]));
+        bind_cell(row, object, Cell::Known(triple[2]));
+        return;
+    }
     bind_act(row, acts.subject, triple[0]);
     bind_act(row, acts.predicate, triple[1]);
     bind_act(row, acts.object, triple[2]);
