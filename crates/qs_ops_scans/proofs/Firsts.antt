@@ -1,5 +1,5 @@
 -- The first of the rows that a scan still makes.
-use Rattle.std.proofs.Common.{◌≡◌, ℕ, Bool, true, false, cond, List, [], ◌∷◌, map, refl, sym, ◌∙◌, ap}
+use Rattle.std.proofs.Common.{◌≡◌, ℕ, Bool, true, false, cond, List, [], ◌∷◌, map, drop, refl, sym, ◌∙◌, ap}
 use Rattle.std.specs.List.{filter, filter_map}
 use Rattle.qs_expr.specs.Cell.{Cells}
 use Rattle.qs_ops_scans.specs.declared.opened.Acts.{Acts}
@@ -19,3 +19,6 @@ none_made acts m xs h = rows_are acts m xs ∙ ap (map (λ x. bound acts x m)) h
 
 pub first_made : (acts : Acts) (m : Cells) (xs ys : List (List ℕ)) (x : List ℕ) → filter (passes acts) xs ≡ x ∷ filter (passes acts) ys → filter_map (row_made acts m) xs ≡ bound acts x m ∷ filter_map (row_made acts m) ys
 first_made acts m xs ys x h = rows_are acts m xs ∙ (ap (map (λ y. bound acts y m)) h ∙ ap (λ l. bound acts x m ∷ l) (sym (rows_are acts m ys)))
+
+pub rest_made : (acts : Acts) (m : Cells) (xs ys : List (List ℕ)) (x : List ℕ) → filter (passes acts) xs ≡ x ∷ filter (passes acts) ys → filter_map (row_made acts m) ys ≡ drop 1 (filter_map (row_made acts m) xs)
+rest_made acts m xs ys x h = sym (ap (drop 1) (first_made acts m xs ys x h))

@@ -1,6 +1,6 @@
 //! The names of graphs.
 
-ghost use Rattle.std.specs.Prelude.{◌≡◌, IfOk};
+ghost use Rattle.std.specs.Prelude.{◌≡◌, IfOk, OnErr};
 ghost use Rattle.std.specs.List.{list_any};
 ghost use Rattle.qs_terms.specs.Dataset.{names_of};
 ghost use Rattle.qs_terms.specs.Term.{same_term};
@@ -74,10 +74,11 @@ impl NameRows {
     /// The next row, or none where none is left.
     ///
     /// # Errors
-    /// Out of memory.
+    /// Out of memory, which takes no row away.
     #[tactic(auto, using(crate::proofs::Named::none_named, crate::proofs::Named::first_named))]
     pub fn next(&mut self, alloc: Global, spare: &mut Vec<Row>) -> Result<Option<Row>, AllocError>
-        ensures { GivesFirst self.old result self.new }
+        ensures gives { GivesFirst self.old result self.new }
+        ensures refused { OnErr result (self.new ≡ self.old) }
     {
         let Some(number) = at(self.numbers.get().as_slice(), self.at) else {
             return Ok(None);

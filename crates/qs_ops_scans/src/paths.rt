@@ -1,6 +1,6 @@
 //! The rows that the pairs of a path make of a row.
 
-ghost use Rattle.std.specs.Prelude.{◌≡◌, List, take};
+ghost use Rattle.std.specs.Prelude.{◌≡◌, List, take, OnErr};
 ghost use Rattle.qs_terms.specs.declared.term.Term.{Term};
 ghost use Rattle.qs_algebra_patterns.specs.Basic.{Graph};
 ghost use Rattle.qs_expr.specs.Cell.{Cells, FitsRow};
@@ -65,9 +65,10 @@ impl PathRows {
     /// The next row, or none where none is left.
     ///
     /// # Errors
-    /// Out of memory.
+    /// Out of memory, which takes no row away.
     pub fn next(&mut self, alloc: Global, spare: &mut Vec<Row>) -> Result<Option<Row>, AllocError>
-        ensures { GivesFirst self.old result self.new }
+        ensures gives { GivesFirst self.old result self.new }
+        ensures refused { OnErr result (self.new ≡ self.old) }
     {
         let pairs = self.pairs.get();
         let cells = pairs.cells.as_slice();

@@ -1,6 +1,6 @@
 //! The rows that a triple pattern makes of a row.
 
-ghost use Rattle.std.specs.Prelude.{◌≡◌, ℕ, List};
+ghost use Rattle.std.specs.Prelude.{◌≡◌, ℕ, List, drop, OnErr};
 ghost use Rattle.std.specs.Iterator.{YieldsFirst};
 ghost use Rattle.std.specs.List.{filter};
 ghost use Rattle.qs_store.specs.ActiveGraph.{active_graph};
@@ -66,11 +66,12 @@ impl<'a> TripleRows<'a> {
     /// The next row, or none where none is left.
     ///
     /// # Errors
-    /// Out of memory.
+    /// Out of memory, which takes one row away.
     #[inline(always)]
-    #[tactic(auto, using(crate::proofs::Firsts::none_made, crate::proofs::Firsts::first_made))]
+    #[tactic(auto, using(crate::proofs::Firsts::none_made, crate::proofs::Firsts::first_made, crate::proofs::Firsts::rest_made))]
     pub fn next(&mut self, alloc: Global, spare: &mut Vec<Row>) -> Result<Option<Row>, AllocError>
-        ensures { GivesFirst self.old result self.new }
+        ensures gives { GivesFirst self.old result self.new }
+        ensures refused { OnErr result (self.new ≡ drop 1 self.old) }
     {
         let Some(triple) = next_triple(&mut self.scan, &self.acts) else {
             return Ok(None);
