@@ -161,7 +161,7 @@ module _ (size : Size) where
   first_same (Some x) (Some y) h s = ap Some ((same_term-Decides x y).0 h)
 
   -- what a row binds that is merged stays
-  merged_alike : (m x : Solution) (v : ℕ) → compatible m x ≡ true → Bound v x → term_at (merge m x) v ≡ term_at x v
+  pub merged_alike : (m x : Solution) (v : ℕ) → compatible m x ≡ true → Bound v x → term_at (merge m x) v ≡ term_at x v
   merged_alike m x v c b = merge_at m x v ∙ first_same (term_at m v) (term_at x v) (compatible_at m x v c) b
 
   module _ (vs : List ℕ) (e : Expr) (settled : Settles vs e) (quads : List Statement) (active : Graph) (m : Solution) where

@@ -12,7 +12,7 @@ use Rattle.qs_terms.specs.Term.{same_term}
 use Rattle.qs_terms.specs.declared.term.Term.{Term}
 use Rattle.qs_terms.proofs.Counts.{times-append, times-filter}
 use Rattle.qs_terms.proofs.SameTerm.{same_term-Decides}
-use Rattle.qs_expr_meaning.specs.Meaning.{holds}
+use Rattle.qs_expr_meaning.specs.Meaning.{meaning, holds}
 use Rattle.qs_expr_meaning.specs.declared.expr.Expr.{Expr}
 use Rattle.qs_expr_meaning.specs.declared.expr.Expr.TheVariants.{And}
 use Rattle.qs_algebra_solutions.specs.Solution.{Solution, term_at, unbound, binding, compatible_terms, compatible, merge, same_solution}
@@ -33,17 +33,18 @@ use Rattle.qs_plan_meaning.specs.declared.stage.Stage.{Stage}
 use Rattle.qs_plan_meaning.specs.declared.stage.Stage.TheVariants as stage
 use Rattle.qs_plan_meaning.specs.Stages.{looked, only, register_of, through}
 use Rattle.qs_plan.specs.inner.Certain.{Bound, Alike, Binds}
-use Rattle.qs_plan.specs.inner.Fixes.{is_one_of, Fixes, StepKeeps, Found, joined_to, AreWide, kept_after, StandsFor, Instead}
+use Rattle.qs_plan.specs.inner.Fixes.{is_one_of, Fixes, SettledBy, StepKeeps, Found, joined_to, AreWide, kept_after, StandsFor, Instead}
+use Rattle.qs_plan.specs.inner.Reads.{Agree, Settles}
 use Rattle.qs_plan.specs.inner.Lays.{Ready, Within, Makes, Lays, IsLinear, IsJoin, joined_with, all_stepped, all_kept}
 use Rattle.qs_plan.proofs.Arms.{begins_of, filters_arm}
 use Rattle.qs_plan.proofs.Commutes.{all_map, flat_flat, merges_joined}
-use Rattle.qs_plan.proofs.Entering.{holds_each}
-use Rattle.qs_plan.proofs.Keeping.{still_bound}
+use Rattle.qs_plan.proofs.Entering.{holds_each, merged_alike}
+use Rattle.qs_plan.proofs.Keeping.{all_more, still_bound}
 use Rattle.qs_plan.proofs.Laying.{between, same, then_made, then_lays, lays_as, values_lays, only_ready, only_looked, join_linear, left_join_linear, minus_linear, extend_linear, joins_lay}
 use Rattle.qs_plan.proofs.Levels.{flat_ap}
 use Rattle.qs_plan.proofs.Onward.{no_term}
 use Rattle.qs_plan.proofs.Operators.{by_times, filter_ap, merges_same}
-use Rattle.qs_plan.proofs.Widths.{all_filter, all_flat, all_mapped, compatible_unbound, merge_unbound, merges_unbound, eval_wide, eval_merges}
+use Rattle.qs_plan.proofs.Widths.{all_of, all_filter, all_flat, all_mapped, compatible_unbound, merge_unbound, merges_unbound, eval_wide, eval_merges}
 
 -- ---- the row of one term
 
@@ -451,3 +452,114 @@ module _ (width : ℕ) (place : Look) (from mid next : ℕ) (count : ℕ) (steps
       (filters_arm true width place from next next (new ++ more) ss (then_made (joined_to x.fewer) (all_stepped width (drop count steps))) conditions within
       (then_lays width place true second from mid next new more (joined_to x.fewer) (all_stepped width (drop count steps)) within (lays_any width place from mid new (joined_to x.fewer) x.lays) k (begins_of true second new begins))
       (is, refl))
+
+-- ---- conditions in line
+
+pub settled_more : (conditions : List Expr) (size : Size) (ss : List Stage) (i : ℕ) (c : Expr) → i < length conditions → c ≡ get_or conditions i c → AllByRecursion (SettledBy size ss) (take i conditions) → SettledBy size ss c → AllByRecursion (SettledBy size ss) (take (i + 1) conditions)
+settled_more conditions size ss i c lt is h k = all_more (SettledBy size ss) conditions i c c lt is h k
+
+-- what is certain to be bound stays when a row is merged with it
+module _ (width : ℕ) (conditions : List Expr) (a : Solution) where
+  abbrev Settled : Solution → Expr → Type 0
+  Settled x e = (vs : List ℕ) × Settles vs e × AllByRecursion (λ v. Bound v x) vs
+
+  holds_merged : (x : Solution) → compatible a x ≡ true → (e : Expr) → Settled x e → holds (merge a x) e ≡ holds x e
+  holds_merged x c e s =
+      let k : meaning (merge a x) e ≡ meaning x e = s.1.same x (merge a x) (agree s.0 s.2) in cc
+    where
+      agree : (vs : List ℕ) → AllByRecursion (λ v. Bound v x) vs → Agree vs x (merge a x)
+      agree [] h = tt
+      agree (v ∷ vs) h = (merged_alike (record { width = width; cells = width }) a x v c h.0, agree vs h.1)
+
+  all_merged : (x : Solution) → compatible a x ≡ true → (es : List Expr) → AllByRecursion (Settled x) es → all_hold es (merge a x) ≡ all_hold es x
+  all_merged x c [] h = refl
+  all_merged x c (e ∷ es) h = ap (λ b. b && all_hold es (merge a x)) (holds_merged x c e h.0) ∙ ap (λ b. holds x e && b) (all_merged x c es h.1)
+
+  pub kept_merges : (xs : List Solution) → AllByRecursion (λ x. AllByRecursion (Settled x) conditions) xs → kept conditions (merges xs a) ≡ merges (kept conditions xs) a
+  kept_merges [] h = refl
+  kept_merges (x ∷ xs) h = at (compatible a x) (all_hold conditions x) refl refl (kept_merges xs h.1)
+    where
+      at : (b d : Bool) → compatible a x ≡ b → all_hold conditions x ≡ d → kept conditions (merges xs a) ≡ merges (kept conditions xs) a
+          → kept conditions (map (merge a) (cond b (x ∷ filter (compatible a) xs) (filter (compatible a) xs))) ≡ merges (cond d (x ∷ kept conditions xs) (kept conditions xs)) a
+      at true true e f i =
+          let g : all_hold conditions (merge a x) ≡ true = all_merged x e conditions h.0 ∙ f in
+          ap (λ b. cond b (merge a x ∷ kept conditions (merges xs a)) (kept conditions (merges xs a))) g
+          ∙ (ap (λ l. merge a x ∷ l) i ∙ sym (ap (λ b. map (merge a) (cond b (x ∷ filter (compatible a) (kept conditions xs)) (filter (compatible a) (kept conditions xs)))) e))
+      at true false e f i =
+          let g : all_hold conditions (merge a x) ≡ false = all_merged x e conditions h.0 ∙ f in
+          ap (λ b. cond b (merge a x ∷ kept conditions (merges xs a)) (kept conditions (merges xs a))) g ∙ i
+      at false true e f i = i ∙ sym (ap (λ b. map (merge a) (cond b (x ∷ filter (compatible a) (kept conditions xs)) (filter (compatible a) (kept conditions xs)))) e)
+      at false false e f i = i
+
+module _ (width : ℕ) (place : Look) (from mid : ℕ) (steps : List Step) (conditions : List Expr) (front new ss : List Stage) (within : Within width from place) (joins : AllByRecursion IsJoin steps) (l : Lays false width place from mid front (all_stepped width steps)) (instead : Instead (record { width = width; cells = mid }) [] conditions front new) (is : ss ≡ new ++ map stage.Filter conditions) where
+  abbrev room : Size
+  room = record { width = width; cells = mid }
+
+  abbrev whole : Found
+  whole quads graph = eval width quads (pattern.Group steps []) graph
+
+  found_new : StandsFor width [] conditions place from mid new whole
+  found_new = instead.stands place from mid whole within (omega arith) (λ quads graph. eval_wide width quads (pattern.Group steps []) graph) (joins_lay width place from mid front steps [] joins refl l)
+
+  one_by_one : (xs : List Solution) → flat_map (λ (a : Solution). a ∷ []) xs ≡ xs
+  one_by_one [] = refl
+  one_by_one (x ∷ xs) = ap (λ l. x ∷ l) (one_by_one xs)
+
+  stay : (xs : List Solution) → kept [] xs ≡ xs
+  stay [] = refl
+  stay (x ∷ xs) = ap (λ l. x ∷ l) (stay xs)
+
+  group_is : (quads : List Statement) (graph : Graph) → kept conditions (found_new.fewer quads graph) ≡ eval width quads (pattern.Group steps conditions) graph
+  group_is quads graph =
+      ap (kept conditions) (sym (one_by_one (found_new.fewer quads graph)))
+      ∙ (found_new.same quads graph
+      ∙ (ap (kept conditions) (one_by_one (whole quads graph) ∙ (eval_group width quads graph steps [] ∙ stay (on width quads graph steps (unbound width ∷ []))))
+      ∙ sym (eval_group width quads graph steps conditions)))
+
+  filtered_lays : (first : Bool) → Lays first width place from mid new (joined_to found_new.fewer) → Lays first width place from mid ss (all_kept conditions (joined_to found_new.fewer))
+  filtered_lays first k = filters_arm first width place from mid mid new ss (joined_to found_new.fewer) conditions within k (is, refl)
+
+  pub plain_first : Lays true width place from mid ss (joined_with width (pattern.Group steps conditions))
+  plain_first =
+      lays_as true width place from mid ss (all_kept conditions (joined_to found_new.fewer)) (joined_with width (pattern.Group steps conditions))
+      (λ quads graph a h w.
+      ap (λ b. kept conditions (merges (found_new.fewer quads graph) b)) (h refl)
+      ∙ (ap (kept conditions) (merges_unbound width (found_new.fewer quads graph) (found_new.wide quads graph))
+      ∙ (group_is quads graph
+      ∙ (sym (eval_merges width quads (pattern.Group steps conditions) graph) ∙ ap (merges (eval width quads (pattern.Group steps conditions) graph)) (sym (h refl))))))
+      (filtered_lays true (lays_any width place from mid new (joined_to found_new.fewer) found_new.lays))
+
+  module _ (settled : AllByRecursion (SettledBy room new) conditions) where
+    bound_all : (quads : List Statement) (active : Graph) → Distinct same_statement quads → Distinct same_triple active → (m : Solution) → Ready width false from mid m → (vs : List ℕ) → AllByRecursion (λ v. (v < width) × Binds room [] v new) vs
+        → AllByRecursion (λ x. AllByRecursion (λ v. Bound v x) vs) (found_new.fewer quads (looked quads active place m))
+    bound_all quads active d e m r [] h = all_of (λ x. Unit {0}) (λ x. tt) (found_new.fewer quads (looked quads active place m))
+    bound_all quads active d e m r (v ∷ vs) h =
+        zip (found_new.fewer quads (looked quads active place m))
+        (found_bound room place from mid within (omega arith) new found_new.fewer found_new.wide found_new.lays quads active d e m r v h.0.0 h.0.1) (bound_all quads active d e m r vs h.1)
+      where
+        zip : (xs : List Solution) → AllByRecursion (Bound v) xs → AllByRecursion (λ x. AllByRecursion (λ v. Bound v x) vs) xs → AllByRecursion (λ x. AllByRecursion (λ v. Bound v x) (v ∷ vs)) xs
+        zip [] p q = tt
+        zip (x ∷ xs) p q = ((p.0, q.0), zip xs p.1 q.1)
+
+    settled_all : (quads : List Statement) (active : Graph) → Distinct same_statement quads → Distinct same_triple active → (m : Solution) → Ready width false from mid m → (es : List Expr) → AllByRecursion (SettledBy room new) es → (a : Solution)
+        → AllByRecursion (λ x. AllByRecursion (Settled width conditions a x) es) (found_new.fewer quads (looked quads active place m))
+    settled_all quads active d e m r [] h a = all_of (λ x. Unit {0}) (λ x. tt) (found_new.fewer quads (looked quads active place m))
+    settled_all quads active d e m r (c ∷ es) h a =
+        zip (found_new.fewer quads (looked quads active place m)) (bound_all quads active d e m r h.0.variables h.0.bound) (settled_all quads active d e m r es h.1 a)
+      where
+        zip : (xs : List Solution) → AllByRecursion (λ x. AllByRecursion (λ v. Bound v x) h.0.variables) xs → AllByRecursion (λ x. AllByRecursion (Settled width conditions a x) es) xs → AllByRecursion (λ x. AllByRecursion (Settled width conditions a x) (c ∷ es)) xs
+        zip [] p q = tt
+        zip (x ∷ xs) p q = (((h.0.variables, h.0.settles, p.0), q.0), zip xs p.1 q.1)
+
+    pub plain_in_line : Lays false width place from mid ss (joined_with width (pattern.Group steps conditions))
+    plain_in_line =
+        let k : Lays false width place from mid ss (all_kept conditions (joined_to found_new.fewer)) = filtered_lays false found_new.lays in
+        record {
+          named = k.named;
+          up = k.up;
+          bag = λ quads active d e m r.
+              between _ _ _ _ refl (k.bag quads active d e m r)
+              (kept_merges width conditions (take width m) (found_new.fewer quads (looked quads active place m)) (settled_all quads active d e m r conditions settled (take width m))
+              ∙ ap (λ xs. merges xs (take width m)) (group_is quads (looked quads active place m)));
+          after = k.after;
+        }

@@ -11,9 +11,10 @@ ghost use Rattle.qs_expr_meaning.specs.declared.expr.Expr.TheVariants as exprs;
 ghost use Rattle.qs_expr_meaning.specs.declared.operator.Comparison.TheVariants.{Equal};
 ghost use Rattle.qs_expr_meaning.specs.declared.operator.BinaryFunction.TheVariants.{SameTerm};
 ghost use Rattle.qs_plan_meaning.specs.declared.stage.Stage.TheVariants as stage;
-ghost use Rattle.qs_plan.specs.inner.Fixes.{Admits, Fixes, HasNew, Instead, IsIri, IsOnly, StepKeeps};
+ghost use Rattle.qs_plan.specs.inner.Fixes.{Admits, Fixes, HasNew, Instead, IsIri, IsOnly, SettledBy, StepKeeps};
 
-use crate::certain::{Size, is_bound};
+use crate::certain::{Size, are_bound, is_bound};
+use crate::reads::settle;
 use qs_algebra_patterns::{Step, Table};
 use qs_base::Shared;
 use qs_expr_meaning::{BinaryFunction, Comparison, Expr};
@@ -353,4 +354,37 @@ fn put_tables_of(
             Ok(())
         }
     }
+}
+
+// ---- conditions in line
+
+/// Whether the stages are certain to bind all variables that the condition reads.
+fn is_settled(
+    alloc: Global,
+    condition: &Expr,
+    stages: &[Stage],
+    size: Size,
+) -> Result<bool, AllocError>
+    ensures { IfOk result (λ is_so. is_so ≡ true → SettledBy size stages.now condition.now) }
+{
+    let mut variables = Vec::new(alloc);
+    settle(alloc, condition, &mut variables)?;
+    Ok(are_bound(stages, variables.as_slice(), size))
+}
+
+/// Whether the stages are certain to bind all variables that the conditions read.
+pub(crate) fn are_settled(
+    alloc: Global,
+    conditions: &[Expr],
+    stages: &[Stage],
+    size: Size,
+) -> Result<bool, AllocError>
+    ensures { IfOk result (λ are_so. are_so ≡ true → AllByRecursion (SettledBy size stages.now) conditions.now) }
+{
+    for condition in conditions {
+        if !is_settled(alloc, condition, stages, size)? {
+            return Ok(false);
+        }
+    }
+    Ok(true)
 }

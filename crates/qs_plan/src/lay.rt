@@ -9,7 +9,7 @@ ghost use Rattle.qs_plan.specs.inner.Lays.{Lays, LaysStep, Within, IsJoin, all_k
 
 use crate::certain::Size;
 use crate::copies::{shared_expr, shared_table};
-use crate::fixes::put_tables;
+use crate::fixes::{are_settled, put_tables};
 use crate::laid::{
     Laid, alone, apart, behind_all, bind, if_exists, in_each, look_named, minus, optional,
 };
@@ -185,7 +185,7 @@ pub fn lay(
     }
 }
 
-/// The stages of a group: in line where it comes first, or where it only joins.
+/// The stages of a group: in line where it comes first, or where it only joins and its conditions read no variable that it may leave unbound.
 #[cycle(lay)]
 fn lay_group(
     alloc: Global,
@@ -204,8 +204,41 @@ fn lay_group(
         let laid = lay_steps(alloc, width, steps, 0, steps.len(), look, from, false)?;
         return Ok(laid);
     }
+    if !first && are_joins(steps) && are_plain_steps(steps) {
+        let laid = lay_plain(alloc, width, steps, conditions, look, from)?;
+        return Ok(laid);
+    }
     let laid = lay_whole(alloc, width, steps, conditions, look, from)?;
     if first {
+        return Ok(laid);
+    }
+    let laid = apart(alloc, look, laid)?;
+    Ok(laid)
+}
+
+/// The stages of a group of plain parts that doesn't come first. What its stages are certain to bind stays when they are fed with a row, so
+/// conditions on it may be asked in line; with others the group is evaluated by itself.
+#[cycle(lay)]
+fn lay_plain(
+    alloc: Global,
+    width: usize,
+    steps: &[Step],
+    conditions: &[Expr],
+    look: &Look,
+    from: usize,
+) -> Result<Laid, AllocError>
+    requires named { width ≤ from }
+    requires within { Within width from look.now }
+    requires joins { AllByRecursion IsJoin steps.now }
+    ensures { IfOk result (λ l. Lays false width look.now from l.next l.stages (joined_with width (pattern.Group steps.now conditions.now))) }
+{
+    let laid = lay_steps(alloc, width, steps, 0, steps.len(), look, from, false)?;
+    let Laid { mut stages, next } = laid;
+    let size = Size { width, cells: next };
+    put_tables(alloc, conditions, &[], size, &mut stages)?;
+    let is_in_line = are_settled(alloc, conditions, stages.as_slice(), size)?;
+    let laid = lay_filters(alloc, conditions, Laid { stages, next })?;
+    if is_in_line {
         return Ok(laid);
     }
     let laid = apart(alloc, look, laid)?;

@@ -293,6 +293,24 @@ const PLANS: &[(&str, &str)] = &[
         "SELECT * { { ?a <u:p> ?b OPTIONAL { ?b <u:q> ?c } } FILTER(?a = <u:x>) }",
         "triple ?0 <u:p> ?1\nfilter (= ?0 <u:x>)\noptional\n  triple ?1 <u:q> ?2\n",
     ),
+    // a group that doesn't come first has its filters in line, if it is certain to bind what they read
+    (
+        "SELECT * { ?a <u:p> ?b { ?b <u:q> ?c FILTER(?c > 'x') } }",
+        "triple ?0 <u:p> ?1\ntriple ?1 <u:q> ?2\nfilter (> ?2 \"x\")\n",
+    ),
+    (
+        "SELECT * { ?a <u:p> ?b { ?b <u:q> ?c FILTER(?c = <u:x>) } }",
+        "triple ?0 <u:p> ?1\nvalues ?2, rows: 1\nfilter (= ?2 <u:x>)\ntriple ?1 <u:q> ?2\n",
+    ),
+    (
+        "SELECT * { ?a <u:p> ?b { { ?b <u:q> ?c FILTER(?c > 'x') } UNION { ?b <u:r> ?c } } }",
+        "triple ?0 <u:p> ?1\nunion\n  branch\n    triple ?1 <u:q> ?2\n    filter (> ?2 \"x\")\n  branch\n    triple ?1 <u:r> ?2\n",
+    ),
+    // a filter on what the row before binds alone sees nothing of it
+    (
+        "SELECT * { ?a <u:p> ?b { ?b <u:q> ?c FILTER(?a = ?c) } }",
+        "triple ?0 <u:p> ?1\njoin\n  triple ?1 <u:q> ?2\n  filter (= ?0 ?2)\n",
+    ),
     // literals are escaped as in N-Quads
     (
         "SELECT * { ?a <u:p> 'x\"y\\\\z\\nw\\r' }",

@@ -1,6 +1,6 @@
 -- Conditions that fix a variable: they hold only where it is one of some terms (SPARQL 1.1 Query,
 -- 17.4.1.7 to 17.4.1.9). Stages may then begin with a table of these terms.
-use Rattle.std.specs.Prelude.{◌≡◌, ℕ, ◌≤◌, Bool, true, false, List, [], ◌∷◌, length}
+use Rattle.std.specs.Prelude.{◌≡◌, ℕ, ◌≤◌, ◌<◌, Bool, true, false, List, [], ◌∷◌, length}
 use Rattle.std.specs.Prelude.{Option, Some, None}
 use Rattle.std.specs.List.{AllByRecursion, flat_map, list_any}
 use Rattle.qs_terms.specs.Bag.{Distinct}
@@ -20,7 +20,8 @@ use Rattle.qs_algebra_patterns.specs.declared.pattern.Step.{Step}
 use Rattle.qs_plan.specs.declared.certain.Size.{Size}
 use Rattle.qs_plan_meaning.specs.declared.stage.Look.{Look}
 use Rattle.qs_plan_meaning.specs.declared.stage.Stage.{Stage}
-use Rattle.qs_plan.specs.inner.Certain.{Bound, Alike}
+use Rattle.qs_plan.specs.inner.Certain.{Bound, Alike, Binds}
+use Rattle.qs_plan.specs.inner.Reads.{Settles}
 use Rattle.qs_plan.specs.inner.Lays.{Within, Makes, Lays, all_stepped}
 
 -- ---- conditions
@@ -57,6 +58,12 @@ pub record HasNew (old : List Term) (e : Expr) (new : List Term) : Type 0 where
   pub distinct : Distinct same_term old → Distinct same_term new
   pub more : (x : Term) → list_any (same_term x) old ≡ true → list_any (same_term x) new ≡ true
   pub admits : Admits new e
+
+-- variables that the stages are certain to bind settle the expression
+pub record SettledBy (size : Size) (ss : List Stage) (e : Expr) : Type 0 where
+  pub variables : List ℕ
+  pub settles : Settles variables e
+  pub bound : AllByRecursion (λ v. (v < size.width) × Binds size [] v ss) variables
 
 -- ---- steps
 

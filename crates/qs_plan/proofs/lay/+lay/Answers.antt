@@ -1,9 +1,11 @@
-use Rattle.std.proofs.Common.{rules, arith, true, false, refl, sym, ap, ◌∙◌, List, ◌++◌, map}
+use Rattle.std.proofs.Common.{rules, arith, true, false, refl, sym, ap, ◌∙◌, List, ◌++◌, map, subst}
+use Rattle.std.specs.List.{AllByRecursion}
+use Rattle.qs_plan.specs.inner.Fixes.{SettledBy}
 use Rattle.qs_algebra_patterns.specs.declared.pattern.PatternNode.TheVariants as pattern
 use Rattle.qs_plan_meaning.specs.declared.stage.Stage.{Stage}
 use Rattle.qs_plan_meaning.specs.declared.stage.Stage.TheVariants.{Filter}
 use Rattle.qs_plan.proofs.Arms.{lays_at, as_part, values_arm, left_join_arm, minus_arm, extend_arm, apart_arm, union_arm, graph_arm, each_arm, at_flag, group_joins, steps_init, one_step_more, steps_end, steps_all, union_init, union_end}
-use Rattle.qs_plan.proofs.Fixing.{rest_of, whole_lays}
+use Rattle.qs_plan.proofs.Fixing.{plain_first, plain_in_line, rest_of, whole_lays}
 use Rattle.qs_plan.proofs.Laying.{union_more}
 use Rattle.qs_plan.proofs.lay.+lay.Goals as goal
 
@@ -46,7 +48,21 @@ lay_group-returns-then-are_joins t c =
 
 pub lay_group-returns : goal.lay_group-returns
 lay_group-returns t c =
-    apart_arm c.args.first c.args.width c.args.look.now c.args.from _ _ (pattern.Group c.args.steps.now c.args.conditions.now) _ _ c.requires.named c.requires.within c.in_ok-laid-2.ensures c.in_ok-laid-3.ensures
+    apart_arm c.args.first c.args.width c.args.look.now c.args.from _ _ (pattern.Group c.args.steps.now c.args.conditions.now) _ _ c.requires.named c.requires.within c.in_ok-laid-3.ensures c.in_ok-laid-4.ensures
+
+pub lay_plain-returns-then-is_in_line : goal.lay_plain-returns-then-is_in_line
+lay_plain-returns-then-is_in_line t c =
+    lays_at false c.args.width c.args.look.now c.args.from _ c.in_ok-laid-2.laid.stages _ c.in_ok-laid.laid.next c.in_ok-laid-2.laid.stages c.in_ok-laid-2.ensures.1 refl
+    (plain_in_line c.args.width c.args.look.now c.args.from c.in_ok-laid.laid.next c.args.steps.now c.args.conditions.now c.in_ok-laid.laid.stages c.put_tables.new.stages c.in_ok-laid-2.laid.stages c.requires.within c.requires.joins
+    (steps_all false c.args.width c.args.look.now c.args.from c.in_ok-laid.laid.next c.in_ok-laid.laid.stages c.args.steps.now 0 _ (omega arith) c.in_ok-laid.ensures) c.in_ok-put_tables.ensures c.in_ok-laid-2.ensures.0
+    (subst (λ (ss : List Stage). AllByRecursion (SettledBy (record { width = c.args.width; cells = c.in_ok-laid.laid.next }) ss) c.args.conditions.now) c.as_slice.ensures (c.in_ok-is_in_line.ensures c.if-is_in_line.true)))
+
+pub lay_plain-returns : goal.lay_plain-returns
+lay_plain-returns t c =
+    apart_arm false c.args.width c.args.look.now c.args.from _ _ (pattern.Group c.args.steps.now c.args.conditions.now) c.in_ok-laid.laid.next c.in_ok-laid-2.laid.stages c.requires.named c.requires.within
+    (plain_first c.args.width c.args.look.now c.args.from c.in_ok-laid.laid.next c.args.steps.now c.args.conditions.now c.in_ok-laid.laid.stages c.put_tables.new.stages c.in_ok-laid-2.laid.stages c.requires.within c.requires.joins
+    (steps_all false c.args.width c.args.look.now c.args.from c.in_ok-laid.laid.next c.in_ok-laid.laid.stages c.args.steps.now 0 _ (omega arith) c.in_ok-laid.ensures) c.in_ok-put_tables.ensures c.in_ok-laid-2.ensures.0)
+    (c.in_ok-laid-3.ensures.0, c.in_ok-laid-3.ensures.1 ∙ c.in_ok-laid-2.ensures.1)
 
 pub lay_whole-returns : goal.lay_whole-returns
 lay_whole-returns t c =
