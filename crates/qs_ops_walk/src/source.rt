@@ -1,6 +1,6 @@
 //! Sources of rows.
 
-ghost use Rattle.std.specs.Prelude.{◌≡◌, false, IfOk, IfSome, map, take};
+ghost use Rattle.std.specs.Prelude.{◌≡◌, IfOk, IfSome, map, take};
 ghost use Rattle.std.specs.List.{AllByRecursion};
 ghost use Rattle.qs_algebra_patterns.specs.Eval.{all_hold};
 ghost use Rattle.qs_expr.specs.Cell.{row_solution, FitsRow};
@@ -8,7 +8,7 @@ ghost use Rattle.qs_expr.specs.Condition.{IsPreparedFor};
 ghost use Rattle.qs_expr.specs.Scratch.{IsTable};
 ghost use Rattle.qs_ops_walk.specs.inner.Setting.{known_of};
 ghost use Rattle.qs_ops_walk.specs.inner.Works.{expr_of};
-ghost use Rattle.qs_ops_walk.specs.inner.Coming.{GivesBranch, GivesItem, GivesSolution, attempted, is_scan, item_if, level_items, FitsAttempt, FitsLevel};
+ghost use Rattle.qs_ops_walk.specs.inner.Coming.{GivesBranch, GivesItem, GivesSolution, attempted, item_if, level_items, FitsAttempt, FitsLevel};
 
 use crate::reader::Reader;
 use crate::spare::{keep, keep_if};
@@ -135,37 +135,7 @@ fn going(next: usize, row: Option<Row>) -> Option<Item>
     }
 }
 
-/// The next row of a level that isn't of a triple pattern. It stands apart, so that nothing is cleared for it where a triple pattern gives rows.
-#[inline(never)]
-fn next_of_other<V: View>(
-    reader: &Reader<'_, V>,
-    scratch: &Scratch,
-    level: &mut Level<'_>,
-    spare: &mut Vec<Row>,
-) -> Result<Option<Item>, AllocError>
-    requires table { IsTable (known_of reader.now) scratch.now }
-    requires fits { FitsLevel (known_of reader.now) scratch.now level.old }
-    requires other { is_scan level.old.source ≡ false }
-    ensures gives { IfOk result (λ o. GivesItem reader.now scratch.now (level_items reader.now scratch.now level.old) o (level_items reader.now scratch.now level.new)) }
-    ensures fits { IfOk result (λ o. FitsLevel (known_of reader.now) scratch.now level.new) }
-{
-    let row = match &mut level.source {
-        Source::Given(row) => row.take(),
-        Source::Names(rows) => rows.next(reader.alloc, spare)?,
-        Source::Path(rows) => rows.next(reader.alloc, spare)?,
-        Source::Probe(rows) => rows.next(reader.alloc, spare)?,
-        Source::Optional(attempt) => next_of_attempt(reader, scratch, attempt, spare)?,
-        Source::Fork(fork) => {
-            let item = next_of_fork(reader, fork, spare)?;
-            return Ok(item);
-        }
-        Source::Triple(_) => unreachable!(),
-    };
-    Ok(going(level.next, row))
-}
-
 /// The next row of the level.
-#[inline(always)]
 pub(crate) fn next_of<V: View>(
     reader: &Reader<'_, V>,
     scratch: &Scratch,
@@ -177,16 +147,19 @@ pub(crate) fn next_of<V: View>(
     ensures gives { IfOk result (λ o. GivesItem reader.now scratch.now (level_items reader.now scratch.now level.old) o (level_items reader.now scratch.now level.new)) }
     ensures fits { IfOk result (λ o. FitsLevel (known_of reader.now) scratch.now level.new) }
 {
-    match &mut level.source {
-        Source::Triple(rows) => {
-            let row = rows.next(reader.alloc, spare)?;
-            Ok(going(level.next, row))
+    let row = match &mut level.source {
+        Source::Given(row) => row.take(),
+        Source::Triple(rows) => rows.next(reader.alloc, spare)?,
+        Source::Names(rows) => rows.next(reader.alloc, spare)?,
+        Source::Path(rows) => rows.next(reader.alloc, spare)?,
+        Source::Probe(rows) => rows.next(reader.alloc, spare)?,
+        Source::Optional(attempt) => next_of_attempt(reader, scratch, attempt, spare)?,
+        Source::Fork(fork) => {
+            let item = next_of_fork(reader, fork, spare)?;
+            return Ok(item);
         }
-        _ => {
-            let item = next_of_other(reader, scratch, level, spare)?;
-            Ok(item)
-        }
-    }
+    };
+    Ok(going(level.next, row))
 }
 
 /// Keeps the memory of the rows of a source.

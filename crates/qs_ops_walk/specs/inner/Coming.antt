@@ -1,5 +1,5 @@
 -- What the levels of a walk are still to give, by the scratch table as it is.
-use Rattle.std.specs.Prelude.{◌≡◌, ℕ, Bool, true, false, List, [], ◌∷◌, ◌++◌, map, drop, take, Option, Some, None}
+use Rattle.std.specs.Prelude.{◌≡◌, ℕ, List, [], ◌∷◌, ◌++◌, map, drop, take, Option, Some, None}
 use Rattle.std.specs.List.{AllByRecursion, filter, flat_map}
 use Rattle.qs_terms.specs.declared.term.Term.{Term}
 use Rattle.qs_algebra_solutions.specs.Solution.{Solution}
@@ -43,16 +43,6 @@ source_rows s table (Path rows) = row_solutions (known_of s) table rows
 source_rows s table (Probe rows) = row_solutions (known_of s) table rows
 source_rows s table (Optional a) = attempted s table a
 source_rows s table (Fork f) = []
-
--- the rows are those that a triple pattern makes
-abbrev pub is_scan : Source → Bool
-is_scan (Given m) = false
-is_scan (Triple rows) = true
-is_scan (Names rows) = false
-is_scan (Path rows) = false
-is_scan (Probe rows) = false
-is_scan (Optional a) = false
-is_scan (Fork f) = false
 
 -- ---- levels
 
