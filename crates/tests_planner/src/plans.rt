@@ -101,6 +101,41 @@ const PLANS: &[(&str, &str)] = &[
         "SELECT * { ?a <u:p> ?b MINUS { ?a <u:q> ?b } }",
         "triple ?0 <u:p> ?1\nminus\n  triple ?0 <u:q> ?1\n",
     ),
+    // after few rows it is fed each of them, and its triples are ordered by what the row binds
+    (
+        "SELECT * { <u:a> <u:p> ?b OPTIONAL { ?b <u:q> ?c FILTER(?c > ?b) } }",
+        "triple <u:a> <u:p> ?0\noptional, fed if (> ?1 ?0)\n  triple ?0 <u:q> ?1\n",
+    ),
+    (
+        "SELECT * { ?a <u:p> 'x' OPTIONAL { ?c <u:q> ?d . ?a <u:r> ?c } }",
+        "triple ?0 <u:p> \"x\"\noptional, fed\n  triple ?0 <u:r> ?1\n  triple ?1 <u:q> ?2\n",
+    ),
+    (
+        "SELECT * { VALUES ?a { <u:x> UNDEF } OPTIONAL { ?a <u:p> ?b } }",
+        "values ?0, rows: 2\noptional, fed\n  triple ?0 <u:p> ?1\n",
+    ),
+    (
+        "SELECT * { BIND(<u:x> AS ?a) OPTIONAL { ?a <u:p> ?b } }",
+        "bind ?0 = <u:x>\noptional, fed\n  triple ?0 <u:p> ?1\n",
+    ),
+    (
+        "SELECT * { GRAPH ?g { ?a <u:p> <u:x> OPTIONAL { ?a <u:q> ?b } } }",
+        "names ?3\ntriple ?1 <u:p> <u:x> in ?3\noptional, fed\n  triple ?1 <u:q> ?2 in ?3\nname ?0 = ?3\n",
+    ),
+    // many subjects have a type in common
+    (
+        "SELECT * { ?a a <u:x> OPTIONAL { ?a <u:p> ?b } }",
+        "triple ?0 <http://www.w3.org/1999/02/22-rdf-syntax-ns#type> <u:x>\noptional\n  triple ?0 <u:p> ?1\n",
+    ),
+    // a group that may see what stands inside it alone isn't fed, and neither is a closure
+    (
+        "SELECT * { <u:a> <u:p> ?b OPTIONAL { ?c <u:q> ?d OPTIONAL { ?b <u:r> ?c } } }",
+        "triple <u:a> <u:p> ?0\noptional\n  triple ?1 <u:q> ?2\n  optional\n    triple ?0 <u:r> ?1\n",
+    ),
+    (
+        "SELECT * { <u:a> <u:p> ?b OPTIONAL { ?b <u:q>* ?c } }",
+        "triple <u:a> <u:p> ?0\noptional\n  path ?0 <u:q>* ?1\n",
+    ),
     // a union that comes first is in line
     (
         "SELECT * { { ?a <u:p> ?b } UNION { ?b <u:q> ?c } }",
