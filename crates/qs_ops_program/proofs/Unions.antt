@@ -4,7 +4,7 @@ use Rattle.qs_expr_meaning.specs.declared.expr.Expr.{Expr}
 use Rattle.qs_plan_meaning.specs.declared.stage.Group.{Group, fold-Group, the_lemmas as group_lemmas}
 use Rattle.qs_plan_meaning.specs.declared.stage.Stage.{fold-roll-Stage, the_lemmas}
 use Rattle.qs_plan_meaning.specs.declared.stage.Stage.TheOpen as level
-use Rattle.qs_plan_meaning.specs.declared.stage.Stage.TheVariants.{Union, Optional, Minus, Apart, rolls-Union, rolls-Optional, rolls-Minus, rolls-Apart}
+use Rattle.qs_plan_meaning.specs.declared.stage.Stage.TheVariants.{Union, Optional, Fed, Minus, Apart, rolls-Union, rolls-Optional, rolls-Fed, rolls-Minus, rolls-Apart}
 use Rattle.qs_ops_program.specs.inner.Flow.{is_union_level, is_union_group, is_union}
 use Rattle.qs_ops_program.specs.inner.Heights.{most, height_level, group_height_level, stage_height, stages_height}
 
@@ -27,6 +27,11 @@ pub optional_height : (r : Option ℕ) (group : Group) (conditions : List Expr) 
 optional_height r group conditions =
     ap stage_height (sym (rolls-Optional r group conditions))
     ∙ (fold-roll-Stage ℕ ℕ height_level group_height_level (level.Optional r group conditions) ∙ ap (λ n. 1 + n) (group_height group))
+
+pub fed_height : (group : Group) (conditions : List Expr) → stage_height (Fed group conditions) ≡ 1 + stages_height group.stages
+fed_height group conditions =
+    ap stage_height (sym (rolls-Fed group conditions))
+    ∙ (fold-roll-Stage ℕ ℕ height_level group_height_level (level.Fed group conditions) ∙ ap (λ n. 1 + n) (group_height group))
 
 pub minus_height : (r : Option ℕ) (group : Group) → stage_height (Minus r group) ≡ 1 + stages_height group.stages
 minus_height r group =

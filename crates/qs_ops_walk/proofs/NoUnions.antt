@@ -9,7 +9,7 @@ use Rattle.qs_plan_meaning.specs.declared.stage.Look.{Look}
 use Rattle.qs_plan_meaning.specs.declared.stage.Group.{Group}
 use Rattle.qs_plan_meaning.specs.declared.stage.Stage.{Stage, fold-roll-Stage}
 use Rattle.qs_plan_meaning.specs.declared.stage.Stage.TheOpen as level
-use Rattle.qs_plan_meaning.specs.declared.stage.Stage.TheVariants.{Triple, Path, Exists, Names, Name, Filter, Bind, Values, Optional, Minus, Apart, rolls-Triple, rolls-Path, rolls-Exists, rolls-Names, rolls-Name, rolls-Filter, rolls-Bind, rolls-Values, rolls-Optional, rolls-Minus, rolls-Apart}
+use Rattle.qs_plan_meaning.specs.declared.stage.Stage.TheVariants.{Triple, Path, Exists, Names, Name, Filter, Bind, Values, Optional, Fed, Minus, Apart, rolls-Triple, rolls-Path, rolls-Exists, rolls-Names, rolls-Name, rolls-Filter, rolls-Bind, rolls-Values, rolls-Optional, rolls-Fed, rolls-Minus, rolls-Apart}
 use Rattle.qs_ops_program.specs.inner.Flow.{is_union, is_union_level, is_union_group}
 
 module _ (i : Stage) where
@@ -39,6 +39,9 @@ module _ (i : Stage) where
 
   pub optional_is_not : (r : Option ℕ) (group : Group) (conditions : List Expr) → i ≡ Optional r group conditions → is_union i ≡ false
   optional_is_not r group conditions e = ap is_union e ∙ (ap is_union (sym (rolls-Optional r group conditions)) ∙ fold-roll-Stage Bool Bool is_union_level is_union_group (level.Optional r group conditions))
+
+  pub fed_is_not : (group : Group) (conditions : List Expr) → i ≡ Fed group conditions → is_union i ≡ false
+  fed_is_not group conditions e = ap is_union e ∙ (ap is_union (sym (rolls-Fed group conditions)) ∙ fold-roll-Stage Bool Bool is_union_level is_union_group (level.Fed group conditions))
 
   pub minus_is_not : (r : Option ℕ) (group : Group) → i ≡ Minus r group → is_union i ≡ false
   minus_is_not r group e = ap is_union e ∙ (ap is_union (sym (rolls-Minus r group)) ∙ fold-roll-Stage Bool Bool is_union_level is_union_group (level.Minus r group))

@@ -1,7 +1,7 @@
 -- What sources give of a row at the stage that they are opened for.
 use Rattle.std.proofs.Common.{◌≡◌, ℕ, suc, ◌+◌, ◌<◌, Bool, true, false, not, if◌then◌else◌, List, [], ◌∷◌, ◌++◌, length, get_or, map, take, drop, Option, Some, None, refl, sym, ◌∙◌, ap, subst}
 use Rattle.std.proofs.lemmas.List.Sorted.{IsPermutation-map, list_any-IsPermutation}
-use Rattle.std.specs.List.{filter, flat_map, list_any}
+use Rattle.std.specs.List.{AllByRecursion, filter, flat_map, list_any}
 use Rattle.qs_terms.specs.Bag.{SameBag}
 use Rattle.qs_terms.specs.declared.term.Term.{Term}
 use Rattle.qs_algebra_solutions.specs.Solution.{Solution}
@@ -11,9 +11,9 @@ use Rattle.qs_algebra_patterns.specs.declared.table.Table.{Table}
 use Rattle.qs_expr.specs.Cell.{Cells, row_solution, FitsRow}
 use Rattle.qs_plan_meaning.specs.declared.stage.Stage.{Stage}
 use Rattle.qs_plan_meaning.specs.declared.stage.Stage.TheVariants as stage
-use Rattle.qs_plan_meaning.specs.Stages.{aside, each_named, looked, kept_if}
+use Rattle.qs_plan_meaning.specs.Stages.{aside, each_named, fed_rows, looked, kept_if}
 use Rattle.qs_plan_meaning.specs.Scans.{extensions, path_extensions}
-use Rattle.qs_ops_program.proofs.Levels.{gives_names, gives_path, gives_triple, gives_values, gives_optional, gives_minus, gives_apart}
+use Rattle.qs_ops_program.proofs.Levels.{gives_names, gives_path, gives_triple, gives_values, gives_optional, gives_fed, gives_minus, gives_apart}
 use Rattle.qs_ops_program.specs.inner.Flow.{Instruction, IsForward, flow, is_union, instr_made, meanings}
 use Rattle.qs_ops_program.specs.inner.Toil.{summed, toil, instr_moves, all_moves}
 use Rattle.qs_ops_program.proofs.Flows.{flow_at}
@@ -23,13 +23,15 @@ use Rattle.qs_ops_walk.specs.declared.source.Attempt.{Attempt}
 use Rattle.qs_ops_walk.specs.declared.source.Fork.{Fork as Branching}
 use Rattle.qs_ops_walk.specs.declared.source.Source.{Source}
 use Rattle.qs_ops_walk.specs.declared.source.Source.TheVariants as source
+use Rattle.qs_ops_walk.specs.declared.work.Feed.{Feed}
 use Rattle.qs_ops_walk.specs.declared.work.Right.{Right}
 use Rattle.qs_ops_walk.specs.inner.Setting.{Setting, known_of, gives_in, graph_in, through_in}
-use Rattle.qs_ops_walk.specs.inner.Works.{ArePairsFor, expr_of, IsTriple, AreValues, IsFork, IsOptional, IsRight, Serves}
+use Rattle.qs_ops_walk.specs.inner.Works.{ArePairsFor, expr_of, IsTriple, AreValues, IsFed, IsFork, IsOptional, IsRight, Serves}
 use Rattle.qs_ops_walk.specs.inner.Coming.{Going, going, row_if, or_else, attempted, source_items, flows, FitsOption, FitsSource}
-use Rattle.qs_ops_walk.specs.inner.Moves.{item_moves, instr_items, Opens, OpensTo}
+use Rattle.qs_ops_walk.specs.inner.Moves.{item_moves, instr_items, Attempts, Opens, OpensTo}
 use Rattle.qs_expr_meaning.specs.declared.expr.Expr.{Expr}
 use Rattle.qs_algebra_patterns.specs.declared.pattern.TriplePattern.{TriplePattern}
+use Rattle.qs_expr.specs.Condition.{IsPreparedFor}
 use Rattle.qs_expr.specs.Scratch.{IsTable, Grows}
 use Rattle.qs_expr.proofs.Growth.{same_row, still_row}
 use Rattle.qs_plan_meaning.specs.declared.stage.Look.{Look}
@@ -43,7 +45,7 @@ use Rattle.qs_ops_scans.specs.Prepared.{prepared_look, prepared_triple}
 use Rattle.qs_ops_scans.specs.declared.look.PreparedLook.{PreparedLook}
 use Rattle.qs_ops_scans.specs.declared.pattern.PreparedTriple.{PreparedTriple}
 use Rattle.qs_ops_walk.proofs.Bags.{same, chain, filter_same, flat_map_same, merges_same, alone_same}
-use Rattle.qs_ops_walk.proofs.NoUnions.{names_is_not, path_is_not, triple_is_not, values_is_not, optional_is_not, minus_is_not, apart_is_not}
+use Rattle.qs_ops_walk.proofs.NoUnions.{names_is_not, path_is_not, triple_is_not, values_is_not, optional_is_not, fed_is_not, minus_is_not, apart_is_not}
 use Rattle.qs_ops_walk.proofs.Passes.{serves, serves_fit}
 
 -- ---- what comes of an instruction's items
@@ -120,10 +122,38 @@ module _ (s : Setting) (i : Instruction) (old new : List Term) (m : Cells) where
         (same _ _ (gives (known_of s) new t kept.fit n ∙ (ap (λ right. merges right (row_solution (known_of s) new m)) kept.rows ∙ (ap (merges (rows_of s.width values)) x_same ∙ sym (ap (λ (q : Stage). gives_in s q x) is ∙ gives_values s.width s.content.quads (graph_in s) x values)))))
         (fits (known_of s) new kept.fit n)
 
-    module _ (right : Right) (k : KeptRows) (z : Serves right m k) (r : IsRight s new right) where
-      n_fits : FitsRow (known_of s) new m
-      n_fits = still_row (known_of s) old new g m h
+    n_fits : FitsRow (known_of s) new m
+    n_fits = still_row (known_of s) old new g m h
 
+    else_alone : (xs : List Solution) → or_else (known_of s) new (Some m) xs ≡ or_alone x xs
+    else_alone [] = ap (λ y. y ∷ []) x_same
+    else_alone (y ∷ xs) = refl
+
+    -- the row with those of the rows that it is compatible with where the conditions hold, or alone
+    opens_attempted : (k : KeptRows) (side : List Solution) → SameBag (row_solutions (known_of s) new k.rows) side → FitRows (known_of s) new k.rows
+        → (a : Attempt) → AllByRecursion (IsPreparedFor (known_of s)) a.conditions.list.items → is_union i.stage ≡ false
+        → gives_in s i.stage x ≡ or_alone x (filter (λ n. all_hold (map expr_of a.conditions.list.items) (take s.width n)) (merges side x))
+        → a.alone ≡ Some m → GivesMerges k.rows m a.probe → FitsMerges k.rows m a.probe → Opens s i old m new (source.Optional a)
+    opens_attempted k side bag fit a prepared u makes e gives fits =
+        let p : Solution → Bool = λ (n : Solution). all_hold (map expr_of a.conditions.list.items) (take s.width n) in
+        let merged : SameBag (row_solutions (known_of s) new a.probe) (merges side x) =
+        chain _ _ _ (same _ _ (gives (known_of s) new t fit n_fits ∙ ap (merges (row_solutions (known_of s) new k.rows)) x_same)) (merges_same _ _ x bag) in
+        opens_rows (source.Optional a) (attempted s new a) u refl
+        (chain _ _ _
+        (same _ _ (ap (λ (o : Option Cells). or_else (known_of s) new o (filter p (row_solutions (known_of s) new a.probe))) e ∙ else_alone (filter p (row_solutions (known_of s) new a.probe))))
+        (chain _ _ _ (alone_same x _ _ (filter_same p _ _ merged)) (same _ _ (sym makes))))
+        (record { rows = fits (known_of s) new fit n_fits; alone = subst (λ (o : Option Cells). FitsOption (known_of s) new o) (sym e) n_fits; prepared = prepared })
+
+    pub opens_fed : (feed : Feed) (k : KeptRows) → IsFed s i.stage feed → SameBag (row_solutions (known_of s) new k.rows) (fed_rows s.width (through_in s feed.group.now.stages) x) → FitRows (known_of s) new k.rows
+        → (a : Attempt) → Attempts k feed.conditions m a → Opens s i old m new (source.Optional a)
+    opens_fed feed k is bag fit a tries =
+        let e : i.stage ≡ stage.Fed feed.group.now (map expr_of a.conditions.list.items) = rw tries.tests is.is in
+        let p : AllByRecursion (IsPreparedFor (known_of s)) a.conditions.list.items = rw tries.tests is.prepared in
+        opens_attempted k (fed_rows s.width (through_in s feed.group.now.stages) x) bag fit a p (fed_is_not i.stage feed.group.now (map expr_of a.conditions.list.items) e)
+        (ap (λ (q : Stage). gives_in s q x) e ∙ gives_fed s.width s.content.quads (graph_in s) x feed.group.now (map expr_of a.conditions.list.items))
+        tries.alone tries.gives tries.fits
+
+    module _ (right : Right) (k : KeptRows) (z : Serves right m k) (r : IsRight s new right) where
       abbrev side : List Solution
       side = aside s.width right.register (through_in s right.group.now.stages) x
 
@@ -143,21 +173,12 @@ module _ (s : Setting) (i : Instruction) (old new : List Term) (m : Cells) where
           (chain _ _ _ (merged_same merged gives) (same _ _ (sym (ap (λ (q : Stage). gives_in s q x) is ∙ gives_apart s.width s.content.quads (graph_in s) x right.register right.group.now))))
           (fits (known_of s) new served_fit n_fits)
 
-      else_alone : (xs : List Solution) → or_else (known_of s) new (Some m) xs ≡ or_alone x xs
-      else_alone [] = ap (λ y. y ∷ []) x_same
-      else_alone (y ∷ xs) = refl
-
       pub opens_optional : (a : Attempt) → IsOptional s new i.stage right a.conditions.list.items → a.alone ≡ Some m → GivesMerges k.rows m a.probe → FitsMerges k.rows m a.probe → Opens s i old m new (source.Optional a)
       opens_optional a is e gives fits =
           let conditions : List Expr = map expr_of a.conditions.list.items in
-          let p : Solution → Bool = λ (n : Solution). all_hold conditions (take s.width n) in
-          opens_rows (source.Optional a) (attempted s new a) (optional_is_not i.stage right.register right.group.now conditions is.is) refl
-          (chain _ _ _
-          (same _ _ (ap (λ (o : Option Cells). or_else (known_of s) new o (filter p (row_solutions (known_of s) new a.probe))) e ∙ else_alone (filter p (row_solutions (known_of s) new a.probe))))
-          (chain _ _ _
-          (alone_same x _ _ (filter_same p _ _ (merged_same a.probe gives)))
-          (same _ _ (sym (ap (λ (q : Stage). gives_in s q x) is.is ∙ gives_optional s.width s.content.quads (graph_in s) x right.register right.group.now conditions)))))
-          (record { rows = fits (known_of s) new served_fit n_fits; alone = subst (λ (o : Option Cells). FitsOption (known_of s) new o) (sym e) n_fits; prepared = is.prepared })
+          opens_attempted k side served served_fit a is.prepared (optional_is_not i.stage right.register right.group.now conditions is.is)
+          (ap (λ (q : Stage). gives_in s q x) is.is ∙ gives_optional s.width s.content.quads (graph_in s) x right.register right.group.now conditions)
+          e gives fits
 
       given_if : (b : Bool) (o : Option Cells) → o ≡ (if b then Some m else None) → row_if (known_of s) new o ≡ kept_if b x
       given_if true o e = ap (row_if (known_of s) new) e ∙ ap (λ y. y ∷ []) x_same

@@ -169,6 +169,7 @@ module _ (s : Setting) (old new : List Term) (g : Grows (known_of s) old new) wh
   work_still i (work.Values v) h = record { is = h.is; rows = values_still v.table.now v.kept h.rows }
   work_still i (work.Union starts) h = h
   work_still i (work.Optional c) h = record { is = h.is; prepared = h.prepared; kept = right_still c.right h.kept }
+  work_still i (work.Fed feed) h = h
   work_still i (work.Minus right) h = record { is = h.is; kept = right_still right h.kept }
   work_still i (work.Apart right) h = record { is = h.is; kept = right_still right h.kept }
 

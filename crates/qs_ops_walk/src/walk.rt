@@ -10,6 +10,7 @@ ghost use Rattle.qs_plan_meaning.specs.Scans.{path_pairs};
 ghost use Rattle.qs_ops_program.specs.inner.Heights.{stages_height};
 ghost use Rattle.qs_ops_scans.specs.Paths.{ArePairs, Serve};
 ghost use Rattle.qs_ops_tables.specs.Tables.{FitRows, row_solutions};
+ghost use Rattle.qs_plan_meaning.specs.Stages.{fed_rows};
 ghost use Rattle.qs_ops_walk.specs.inner.Setting.{known_of, through_in};
 ghost use Rattle.qs_ops_walk.specs.inner.Works.{ArePairsFor, AreValues, IfEndPairs, IfPairs, IfValues, IsReady, IsRight, Serves, code_of, heights_of, only_cells};
 ghost use Rattle.qs_ops_walk.specs.inner.Coming.{coming};
@@ -33,7 +34,7 @@ use qs_expr::{Cell, Row, Scratch};
 use qs_ops_program::compile;
 use qs_ops_scans::{PathPairs, PreparedLook, PreparedTriple, RowEnds, path_rows, row_ends};
 use qs_ops_tables::{Kept, Probe, table_rows};
-use qs_plan_meaning::Stage;
+use qs_plan_meaning::{Group, Stage};
 use qs_store::{Active, View};
 use std::alloc::{AllocError, Global};
 
@@ -152,6 +153,29 @@ fn rows_of_right<'a, V: View>(
         kept,
     });
     Ok(own)
+}
+
+/// The solutions of a group that is fed the row, for this row alone.
+#[inline(never)]
+#[cycle(next)]
+fn rows_of_feed<'a, V: View>(
+    reader: &Reader<'a, V>,
+    scratch: &mut Scratch,
+    group: &'a Group,
+    row: &Row,
+    spare: &mut Vec<Row>,
+) -> Result<Shared<Kept>, AllocError>
+    requires table { IsTable (known_of reader.now) scratch.old }
+    requires row { FitsRow (known_of reader.now) scratch.old row.now }
+    ensures grows { Grows (known_of reader.now) scratch.old scratch.new }
+    ensures rows { IfOk result (λ k. SameBag (row_solutions (known_of reader.now) scratch.new k.rows) (fed_rows reader.now.width (through_in reader.now group.now.stages) (row_solution (known_of reader.now) scratch.old row.now))) }
+    ensures fit { IfOk result (λ k. FitRows (known_of reader.now) scratch.new k.rows) }
+{
+    let own = row.copy(reader.alloc, spare)?;
+    let rows = rows_of_group(reader, scratch, group.stages.as_slice(), own)?;
+    let kept = Kept::new(reader.alloc, rows, row)?;
+    let kept = Shared::new(reader.alloc, kept)?;
+    Ok(kept)
 }
 
 /// The rows of VALUES. They are made where none are kept, and kept.
@@ -348,6 +372,11 @@ fn open_optional<'a, V: View>(
             let found = attempt(reader.alloc, kept, &choice.conditions, row, spare)?;
             Ok(found)
         }
+        Work::Fed(feed) => {
+            let kept = rows_of_feed(reader, scratch, feed.group, &row, spare)?;
+            let found = attempt(reader.alloc, kept, &feed.conditions, row, spare)?;
+            Ok(found)
+        }
         _ => unreachable!(),
     }
 }
@@ -420,7 +449,7 @@ fn triple_of<'w>(work: &'w Work<'_>) -> Option<(PreparedLook, &'w PreparedTriple
 fn is_optional(work: &Work<'_>) -> bool
     ensures { result ≡ is_optional work.now }
 {
-    matches!(work, Work::Optional(_))
+    matches!(work, Work::Optional(_) | Work::Fed(_))
 }
 
 /// Puts a level for the rows that a triple pattern makes of the row.

@@ -57,6 +57,13 @@ pub(crate) struct Choice<'a> {
     pub(crate) conditions: Shared<Conditions<'a>>,
 }
 
+/// A group that is fed each row, and the conditions on what it makes of it.
+#[derive(Drop)]
+pub(crate) struct Feed<'a> {
+    pub(crate) group: &'a Group,
+    pub(crate) conditions: Shared<Conditions<'a>>,
+}
+
 /// A VALUES table, and its rows where they are kept.
 #[derive(Drop)]
 pub(crate) struct TableRows<'a> {
@@ -108,6 +115,7 @@ pub(crate) enum Work<'a> {
     Values(TableRows<'a>),
     Union(Shared<Starts>),
     Optional(Choice<'a>),
+    Fed(Feed<'a>),
     Minus(Right<'a>),
     Apart(Right<'a>),
 }
@@ -228,6 +236,10 @@ fn work_of<'a, V: View>(reader: &Reader<'a, V>, instr: &Instr<'a>) -> Result<Wor
                 right: Right::new(*register, group),
                 conditions,
             }))
+        }
+        Stage::Fed(group, conditions) => {
+            let conditions = conditions_of(reader, conditions.get().as_slice())?;
+            Ok(Work::Fed(Feed { group, conditions }))
         }
         Stage::Minus(register, group) => Ok(Work::Minus(Right::new(*register, group))),
         Stage::Apart(register, group) => Ok(Work::Apart(Right::new(*register, group))),

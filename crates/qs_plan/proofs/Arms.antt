@@ -17,6 +17,7 @@ use Rattle.qs_plan_meaning.specs.declared.stage.Stage.TheVariants as stage
 use Rattle.qs_plan.specs.inner.Lays.{Within, Makes, Lays, LaysStep, IsJoin, joined_with, joined_with_all, all_stepped, all_kept}
 use Rattle.qs_plan_meaning.specs.Stages.{register_of}
 use Rattle.qs_plan.proofs.EachGraph.{each_lays}
+use Rattle.qs_plan.proofs.Feeding.{fed_step}
 use Rattle.qs_plan.proofs.Laying.{Begins, nothing_lays, values_lays, apart_lays, join_step, left_join_step, minus_step, extend_step, step_more, filter_more, none_kept, joins_lay, none_united, union_lays, graph_lays}
 
 module _ (first : Bool) (width : ℕ) (place : Look) (from next : ℕ) (ss : List Stage) where
@@ -43,12 +44,21 @@ module _ (first : Bool) (width : ℕ) (place : Look) (from next : ℕ) (ss : Lis
   pub join_arm : (s : Step) (part : PatternNode) → s ≡ one.Join part → Lays first width place from next ss (joined_with width part) → LaysStep first width place from next ss s
   join_arm s part is l = as_step s (one.Join part) is (join_step first width place from next ss part l)
 
-  pub left_join_arm : (s : Step) (part : PatternNode) (conditions cs : List Expr) (inner : ℕ) (ts : List Stage) → width ≤ from → Within width from place → s ≡ one.LeftJoin part conditions → cs ≡ conditions → Lays true width place from inner ts (joined_with width part)
-      → (ss ≡ stage.Optional (register_of place) (record { stages = ts }) cs ∷ []) × (next ≡ inner) → LaysStep first width place from next ss s
-  left_join_arm s part conditions cs inner ts named within is same l e =
-      as_step s (one.LeftJoin part conditions) is
-      (step_at (one.LeftJoin part conditions) inner (stage.Optional (register_of place) (record { stages = ts }) conditions ∷ []) e.1 (e.0 ∙ ap (λ xs. stage.Optional (register_of place) (record { stages = ts }) xs ∷ []) same)
-      (left_join_step first width place from inner ts part conditions named within l))
+  pub left_join_arm : (s : Step) (part : PatternNode) (conditions cs : List Expr) → s ≡ one.LeftJoin part conditions → cs ≡ conditions → LaysStep first width place from next ss (one.LeftJoin part cs) → LaysStep first width place from next ss s
+  left_join_arm s part conditions cs is same l =
+      as_step s (one.LeftJoin part conditions) is (subst (λ (xs : List Expr). LaysStep first width place from next ss (one.LeftJoin part xs)) same l)
+
+  -- evaluated by itself
+  pub optional_apart : (part : PatternNode) (conditions : List Expr) (inner : ℕ) (ts : List Stage) → width ≤ from → Within width from place → Lays true width place from inner ts (joined_with width part)
+      → (ss ≡ stage.Optional (register_of place) (record { stages = ts }) conditions ∷ []) × (next ≡ inner) → LaysStep first width place from next ss (one.LeftJoin part conditions)
+  optional_apart part conditions inner ts named within l e =
+      step_at (one.LeftJoin part conditions) inner (stage.Optional (register_of place) (record { stages = ts }) conditions ∷ []) e.1 e.0 (left_join_step first width place from inner ts part conditions named within l)
+
+  -- fed each row
+  pub optional_fed : (part : PatternNode) (conditions : List Expr) (inner : ℕ) (ts : List Stage) → Lays false width place from inner ts (joined_with width part)
+      → (ss ≡ stage.Fed (record { stages = ts }) conditions ∷ []) × (next ≡ inner) → LaysStep first width place from next ss (one.LeftJoin part conditions)
+  optional_fed part conditions inner ts l e =
+      step_at (one.LeftJoin part conditions) inner (stage.Fed (record { stages = ts }) conditions ∷ []) e.1 e.0 (fed_step width place from inner ts part l first conditions)
 
   pub minus_arm : (s : Step) (part : PatternNode) (inner : ℕ) (ts : List Stage) → width ≤ from → Within width from place → s ≡ one.Minus part → Lays true width place from inner ts (joined_with width part)
       → (ss ≡ stage.Minus (register_of place) (record { stages = ts }) ∷ []) × (next ≡ inner) → LaysStep first width place from next ss s

@@ -25,13 +25,13 @@ use Rattle.qs_plan.specs.declared.plan_type.Plan.{Plan}
 use Rattle.qs_plan_meaning.specs.declared.stage.Stage.{Stage}
 use Rattle.qs_plan_meaning.specs.declared.stage.Stage.TheVariants as stage
 use Rattle.qs_plan.specs.Plans.{plan_list, SamePlan}
-use Rattle.qs_plan_meaning.specs.Stages.{Made, kept_if, only, aside, through}
+use Rattle.qs_plan_meaning.specs.Stages.{Made, kept_if, only, aside, fed_rows, through}
 use Rattle.qs_plan.specs.inner.Certain.{Bound, Begun, Binds, Steady, SameFrom}
 use Rattle.qs_plan.specs.inner.Reads.{Agree, Settles}
 use Rattle.qs_plan.specs.inner.Sames.{SameStages}
 use Rattle.qs_plan.proofs.Laying.{between, same}
 use Rattle.qs_plan.proofs.Commutes.{all_map}
-use Rattle.qs_plan.proofs.Levels.{gives_filter, gives_union, gives_optional, gives_minus, gives_apart, through_append, through_one, flat_ap}
+use Rattle.qs_plan.proofs.Levels.{gives_filter, gives_union, gives_optional, gives_fed, gives_minus, gives_apart, through_append, through_one, flat_ap}
 use Rattle.qs_plan.proofs.Moving.{from_trans, from_before, from_after, from_append, from_same, begun_after, filter_moved}
 use Rattle.qs_plan.proofs.Swaps.{pair, merges_pairs}
 use Rattle.qs_plan.proofs.Operators.{filter_same, merges_same, alone_same}
@@ -334,6 +334,19 @@ module _ (size : Size) where
           (merges_same (aside size.width r (through size.width quads active own.stages) m) (aside size.width r (through size.width quads active g.stages) m) m (aside_from quads active m b.wide))
           (sym (through_one size.width quads active (stage.Apart r g) m ∙ gives_apart size.width quads active m r g));
     })
+
+-- a group that is fed the row
+pub fed_placed : (size : Size) (own g : Group) → SameFrom size [] own.stages g.stages → (s : Stage) (conditions cs : List Expr) → s ≡ stage.Fed g conditions → cs ≡ conditions → SameFrom size [] (stage.Fed own cs ∷ []) (s ∷ [])
+fed_placed size own g h s conditions cs is e =
+    subst (λ (x : Stage). SameFrom size [] (stage.Fed own cs ∷ []) (x ∷ [])) (sym is)
+    (subst (λ (l : List Expr). SameFrom size [] (stage.Fed own l ∷ []) (stage.Fed g conditions ∷ [])) (sym e) (record {
+      same = λ quads active m b.
+          between _ _ _ _
+          (through_one size.width quads active (stage.Fed own conditions) m ∙ gives_fed size.width quads active m own conditions)
+          (alone_same m _ _ (filter_same (λ n. all_hold conditions (take size.width n)) _ _ (merges_same (fed_rows size.width (through size.width quads active own.stages) m) (fed_rows size.width (through size.width quads active g.stages) m) m
+          (IsPermutation-map (take size.width) (through size.width quads active own.stages m) (through size.width quads active g.stages m) (h.same quads active m b)))))
+          (sym (through_one size.width quads active (stage.Fed g conditions) m ∙ gives_fed size.width quads active m g conditions));
+    }))
 
 -- ---- plans
 

@@ -23,12 +23,12 @@ use Rattle.qs_plan_meaning.specs.declared.stage.Look.{Look}
 use Rattle.qs_plan_meaning.specs.declared.stage.Stage.{Stage}
 use Rattle.qs_plan_meaning.specs.declared.stage.Stage.TheVariants as stage
 use Rattle.qs_plan_meaning.specs.Scans.{bound_at, bound_slot, bound_end, bound_triple, bound_ends, path_pairs}
-use Rattle.qs_plan_meaning.specs.Stages.{looked, kept_if, aside, gives, through}
+use Rattle.qs_plan_meaning.specs.Stages.{looked, kept_if, aside, fed_rows, gives, through}
 use Rattle.qs_plan.specs.inner.Certain.{Bound, Alike, Keeps}
 use Rattle.qs_plan.specs.inner.Reads.{Leaves}
 use Rattle.qs_plan.proofs.Commutes.{slot_sets, scanned_each}
 use Rattle.qs_plan.proofs.Leaving.{names_leave, bind_leaves, differs}
-use Rattle.qs_plan.proofs.Levels.{gives_triple, gives_path, gives_exists, gives_name, gives_filter, gives_values, gives_union, gives_optional, gives_minus, gives_apart}
+use Rattle.qs_plan.proofs.Levels.{gives_triple, gives_path, gives_exists, gives_name, gives_filter, gives_values, gives_union, gives_optional, gives_fed, gives_minus, gives_apart}
 use Rattle.qs_plan.proofs.Onward.{no_term, triple_way, path_way, merge_alike}
 use Rattle.qs_plan.proofs.Widths.{all_of, all_append, all_filter, all_mapped, all_flat}
 
@@ -159,6 +159,13 @@ module _ (v : ℕ) where
     alike = λ width quads active m b.
         subst (AllByRecursion (Alike v m)) (sym (gives_optional width quads active m r g conditions))
         (alone_alike m _ (all_filter (Alike v m) (λ q. all_hold conditions (take width q)) _ (merges_alike (aside width r (through width quads active g.stages) m) m b)));
+  })
+
+  pub fed_keeps : (s : Stage) (g : Group) (conditions : List Expr) → s ≡ stage.Fed g conditions → Keeps v s
+  fed_keeps s g conditions is = subst (Keeps v) (sym is) (record {
+    alike = λ width quads active m b.
+        subst (AllByRecursion (Alike v m)) (sym (gives_fed width quads active m g conditions))
+        (alone_alike m _ (all_filter (Alike v m) (λ q. all_hold conditions (take width q)) _ (merges_alike (fed_rows width (through width quads active g.stages) m) m b)));
   })
 
   pub minus_keeps : (s : Stage) (r : Option ℕ) (g : Group) → s ≡ stage.Minus r g → Keeps v s

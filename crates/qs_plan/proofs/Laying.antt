@@ -243,6 +243,24 @@ values_lays first width place from table named =
     short : AllByRecursion (λ x. length x ≤ width) (rows_of width table)
     short = wide_short width (rows_of width table) (table_width width table)
 
+-- ---- the rows of an OPTIONAL, without their hidden cells
+
+pub alone_take : (width : ℕ) (a : Solution) (xs : List Solution) → map (take width) (or_alone a xs) ≡ or_alone (take width a) (map (take width) xs)
+alone_take width a [] = refl
+alone_take width a (x ∷ xs) = refl
+
+pub filter_take : (width : ℕ) (p : Solution → Bool) (xs : List Solution) → map (take width) (filter (λ n. p (take width n)) xs) ≡ filter p (map (take width) xs)
+filter_take width p [] = refl
+filter_take width p (x ∷ xs) = at (p (take width x)) (filter_take width p xs)
+  where
+    at : (b : Bool) → map (take width) (filter (λ n. p (take width n)) xs) ≡ filter p (map (take width) xs) → map (take width) (cond b (x ∷ filter (λ n. p (take width n)) xs) (filter (λ n. p (take width n)) xs)) ≡ cond b (take width x ∷ filter p (map (take width) xs)) (filter p (map (take width) xs))
+    at true h = ap (λ l. take width x ∷ l) h
+    at false h = h
+
+pub alone_after : (P : Solution → Type 0) (m : Solution) (xs : List Solution) → P m → AllByRecursion P xs → AllByRecursion P (or_alone m xs)
+alone_after P m [] h k = (h, tt)
+alone_after P m (x ∷ xs) h k = k
+
 -- ---- a group that is evaluated by itself
 
 length_only : (r : Option ℕ) (m : Solution) → length (only r m) ≡ length m
@@ -332,22 +350,6 @@ module _ (width : ℕ) (place : Look) (from next : ℕ) (named : width ≤ from)
         ∙ (sym (minus_one graph quads a) ∙ sym (step_minus width quads graph part (a ∷ []))))))))
 
     -- OPTIONAL
-    alone_take : (a : Solution) (xs : List Solution) → map (take width) (or_alone a xs) ≡ or_alone (take width a) (map (take width) xs)
-    alone_take a [] = refl
-    alone_take a (x ∷ xs) = refl
-
-    filter_take : (p : Solution → Bool) (xs : List Solution) → map (take width) (filter (λ n. p (take width n)) xs) ≡ filter p (map (take width) xs)
-    filter_take p [] = refl
-    filter_take p (x ∷ xs) = at (p (take width x)) (filter_take p xs)
-      where
-        at : (b : Bool) → map (take width) (filter (λ n. p (take width n)) xs) ≡ filter p (map (take width) xs) → map (take width) (cond b (x ∷ filter (λ n. p (take width n)) xs) (filter (λ n. p (take width n)) xs)) ≡ cond b (take width x ∷ filter p (map (take width) xs)) (filter p (map (take width) xs))
-        at true h = ap (λ l. take width x ∷ l) h
-        at false h = h
-
-    alone_after : (P : Solution → Type 0) (m : Solution) (xs : List Solution) → P m → AllByRecursion P xs → AllByRecursion P (or_alone m xs)
-    alone_after P m [] h k = (h, tt)
-    alone_after P m (x ∷ xs) h k = k
-
     pub optional_lays : (conditions : List Expr) → Lays first width place from next (stage.Optional (register_of place) (record { stages = ss }) conditions ∷ []) (stepped width (one.LeftJoin part conditions))
     optional_lays conditions =
         stage_lays first width place from next named l.up (stage.Optional (register_of place) (record { stages = ss }) conditions) (stepped width (one.LeftJoin part conditions))
@@ -360,8 +362,8 @@ module _ (width : ℕ) (place : Look) (from next : ℕ) (named : width ≤ from)
         let xs = aside width (register_of place) (through width quads active ss) m in
         between _ (or_alone a (filter (all_hold conditions) (merges xs a))) _ (or_alone a (filter (all_hold conditions) (merges (eval width quads part graph) a)))
         (ap (map (take width)) (gives_optional width quads active m (register_of place) (record { stages = ss }) conditions)
-        ∙ (alone_take m (filter (λ n. all_hold conditions (take width n)) (merges xs m))
-        ∙ (ap (or_alone a) (filter_take (all_hold conditions) (merges xs m)) ∙ ap (λ ys. or_alone a (filter (all_hold conditions) ys)) (short_merges width xs m (aside_short quads active m)))))
+        ∙ (alone_take width m (filter (λ n. all_hold conditions (take width n)) (merges xs m))
+        ∙ (ap (or_alone a) (filter_take width (all_hold conditions) (merges xs m)) ∙ ap (λ ys. or_alone a (filter (all_hold conditions) ys)) (short_merges width xs m (aside_short quads active m)))))
         (alone_same a _ _ (filter_same (all_hold conditions) _ _ (merges_same xs (eval width quads part graph) a (aside_same quads active d e m r))))
         (sym (step_left_join width quads graph part conditions (a ∷ []) ∙ append-nil (or_alone a (filter (all_hold conditions) (merges (eval width quads part graph) a)))))))
 

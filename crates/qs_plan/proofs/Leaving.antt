@@ -27,7 +27,7 @@ use Rattle.qs_plan.specs.inner.Reads.{Agree, Leaves, LeaveAll}
 use Rattle.qs_plan.specs.inner.Sames.{Misses}
 use Rattle.qs_plan.proofs.Commutes.{all_map, scanned_each}
 use Rattle.qs_plan.proofs.Laying.{same}
-use Rattle.qs_plan.proofs.Levels.{gives_triple, gives_path, gives_exists, gives_names, gives_name, gives_filter, gives_bind, gives_values, gives_union, gives_optional, gives_minus, gives_apart, through_append, through_one}
+use Rattle.qs_plan.proofs.Levels.{gives_triple, gives_path, gives_exists, gives_names, gives_name, gives_filter, gives_bind, gives_values, gives_union, gives_optional, gives_fed, gives_minus, gives_apart, through_append, through_one}
 use Rattle.qs_plan.proofs.Swaps.{triple_stays, ends_stay}
 use Rattle.qs_plan.proofs.Widths.{all_append, all_filter, all_mapped, unbound_at, merge_at}
 
@@ -42,6 +42,16 @@ not_true false h = refl
 pub differs : (w v : ℕ) → not (w == v) ≡ true → w ≢ v
 differs w v h e = elim (eqb_tells w v) as (λ x. ⊥) [ inl p ↦ (let g : true ≡ false = sym p.0 ∙ not_true (w == v) h in cc) | inr p ↦ p.1 e ]
 
+short : (n : ℕ) (m : Solution) (w : ℕ) → n ≤ w → term_at (take n m) w ≡ None
+short zero m w h = refl
+short (suc n) [] w h = refl
+short (suc n) (x ∷ m) zero h = absurd (omega arith)
+short (suc n) (x ∷ m) (suc w) h = short n m w (omega arith)
+
+first_self : (x : Option Term) → first_bound x x ≡ x
+first_self None = refl
+first_self (Some x) = refl
+
 module _ (v : ℕ) where
   abbrev Still : Solution → Solution → Type 0
   Still m q = term_at q v ≡ term_at m v
@@ -54,6 +64,21 @@ module _ (v : ℕ) where
   merges_leave : (m : Solution) (xs : List Solution) → AllByRecursion Gone xs → AllByRecursion (Still m) (merges xs m)
   merges_leave m xs h =
       all_mapped Gone (Still m) (merge m) (λ x e. merge_at m x v ∙ (ap (first_bound (term_at m v)) e ∙ first_none (term_at m v))) (filter (compatible m) xs) (all_filter Gone (compatible m) xs h)
+
+  -- ---- merges with rows that bind it as the row does, without their hidden cells
+
+  abbrev As : Solution → Solution → Type 0
+  As m x = first_bound (term_at m v) (term_at x v) ≡ term_at m v
+
+  taken_as : (width : ℕ) (m q : Solution) → Still m q → As m (take width q)
+  taken_as width m q e = at (cases_lt v width)
+    where
+      at : (v < width) ⊎ (width ≤ v) → As m (take width q)
+      at (inl lt) = ap (first_bound (term_at m v)) (get_or-take width q v None lt ∙ e) ∙ first_self (term_at m v)
+      at (inr le) = ap (first_bound (term_at m v)) (short width q v le) ∙ first_none (term_at m v)
+
+  merges_as : (m : Solution) (xs : List Solution) → AllByRecursion (As m) xs → AllByRecursion (Still m) (merges xs m)
+  merges_as m xs h = all_mapped (As m) (Still m) (merge m) (λ x e. merge_at m x v ∙ e) (filter (compatible m) xs) (all_filter (As m) (compatible m) xs h)
 
   bind_other : (a : Solution) (vs : List ℕ) (terms : List (Option Term)) → list_any (λ w. w == v) vs ≡ false → term_at (bind_all a vs terms) v ≡ term_at a v
   bind_other a [] terms h = refl
@@ -82,12 +107,6 @@ module _ (v : ℕ) where
   take_gone : (n : ℕ) (m : Solution) → Gone m → Gone (take n m)
   take_gone n m h = at (cases_lt v n)
     where
-      short : (n : ℕ) (m : Solution) (w : ℕ) → n ≤ w → term_at (take n m) w ≡ None
-      short zero m w h = refl
-      short (suc n) [] w h = refl
-      short (suc n) (x ∷ m) zero h = absurd (omega arith)
-      short (suc n) (x ∷ m) (suc w) h = short n m w (omega arith)
-
       at : (v < n) ⊎ (n ≤ v) → Gone (take n m)
       at (inl lt) = get_or-take n m v None lt ∙ h
       at (inr le) = short n m v le
@@ -194,6 +213,17 @@ module _ (v : ℕ) where
       alone m [] k = (refl, tt)
       alone m (x ∷ xs) k = k
 
+  pub fed_leaves : (s : Stage) (g : Group) (conditions : List Expr) → s ≡ stage.Fed g conditions → LeaveAll v g.stages → Leaves v s
+  fed_leaves s g conditions is h = subst (Leaves v) (sym is) (record {
+    same = λ width quads active m.
+        subst (AllByRecursion (Still m)) (sym (gives_fed width quads active m g conditions))
+        (alone m _ (all_filter (Still m) (λ q. all_hold conditions (take width q)) _ (merges_as m _ (all_mapped (Still m) (As m) (take width) (taken_as width m) (through width quads active g.stages m) (h.same width quads active m)))));
+  })
+    where
+      alone : (m : Solution) (xs : List Solution) → AllByRecursion (Still m) xs → AllByRecursion (Still m) (or_alone m xs)
+      alone m [] k = (refl, tt)
+      alone m (x ∷ xs) k = k
+
   pub minus_leaves : (s : Stage) (r : Option ℕ) (g : Group) → s ≡ stage.Minus r g → Leaves v s
   minus_leaves s r g is = subst (Leaves v) (sym is) (record {
     same = λ width quads active m. subst (AllByRecursion (Still m)) (sym (gives_minus width quads active m r g)) (kept_still (not (list_any (excludes (take width m)) (aside width r (through width quads active g.stages) m))) m);
@@ -239,12 +269,6 @@ pub taken_agree : (width : ℕ) (vs : List ℕ) (m q : Solution) → Agree vs m 
 taken_agree width [] m q h = tt
 taken_agree width (v ∷ vs) m q h = (at (cases_lt v width), taken_agree width vs m q h.1)
   where
-    short : (n : ℕ) (m : Solution) (w : ℕ) → n ≤ w → term_at (take n m) w ≡ None
-    short zero m w h = refl
-    short (suc n) [] w h = refl
-    short (suc n) (x ∷ m) zero h = absurd (omega arith)
-    short (suc n) (x ∷ m) (suc w) h = short n m w (omega arith)
-
     at : (v < width) ⊎ (width ≤ v) → term_at (take width q) v ≡ term_at (take width m) v
     at (inl lt) = get_or-take width q v None lt ∙ (h.0 ∙ sym (get_or-take width m v None lt))
     at (inr le) = short width q v le ∙ sym (short width m v le)

@@ -18,9 +18,9 @@ use Rattle.qs_plan_meaning.specs.declared.stage.Look.{Look}
 use Rattle.qs_plan_meaning.specs.declared.stage.Group.{Group, fold-Group, the_lemmas as group_lemmas}
 use Rattle.qs_plan_meaning.specs.declared.stage.Stage.{Stage, fold-roll-Stage, the_lemmas}
 use Rattle.qs_plan_meaning.specs.declared.stage.Stage.TheOpen as level
-use Rattle.qs_plan_meaning.specs.declared.stage.Stage.TheVariants.{Triple, Path, Exists, Names, Name, Filter, Bind, Values, Union, Optional, Minus, Apart, rolls-Triple, rolls-Path, rolls-Exists, rolls-Names, rolls-Name, rolls-Filter, rolls-Bind, rolls-Values, rolls-Union, rolls-Optional, rolls-Minus, rolls-Apart}
+use Rattle.qs_plan_meaning.specs.declared.stage.Stage.TheVariants.{Triple, Path, Exists, Names, Name, Filter, Bind, Values, Union, Optional, Fed, Minus, Apart, rolls-Triple, rolls-Path, rolls-Exists, rolls-Names, rolls-Name, rolls-Filter, rolls-Bind, rolls-Values, rolls-Union, rolls-Optional, rolls-Fed, rolls-Minus, rolls-Apart}
 use Rattle.qs_plan_meaning.specs.Scans.{extensions, path_extensions}
-use Rattle.qs_plan_meaning.specs.Stages.{Made, looked, if_named, each_named, kept_if, aside, along, gives_level, group_level, gives, through}
+use Rattle.qs_plan_meaning.specs.Stages.{Made, looked, if_named, each_named, kept_if, aside, fed_rows, along, gives_level, group_level, gives, through}
 use Rattle.qs_plan.proofs.Commutes.{flat_flat}
 
 module _ (width : ℕ) (quads : List Statement) (active : Graph) where
@@ -73,6 +73,13 @@ module _ (width : ℕ) (quads : List Statement) (active : Graph) where
         ap (λ s. gives width quads active s m) (sym (rolls-Optional r group conditions))
         ∙ (ap (λ (f : Made). f m) (fold-roll-Stage Made Made level_of group_level (level.Optional r group conditions))
         ∙ ap (λ (f : Made). or_alone m (filter (λ n. all_hold conditions (take width n)) (merges (aside width r f m) m))) (group_makes group))
+
+    pub gives_fed : (group : Group) (conditions : List Expr) → gives width quads active (Fed group conditions) m
+        ≡ or_alone m (filter (λ n. all_hold conditions (take width n)) (merges (fed_rows width (through width quads active group.stages) m) m))
+    gives_fed group conditions =
+        ap (λ s. gives width quads active s m) (sym (rolls-Fed group conditions))
+        ∙ (ap (λ (f : Made). f m) (fold-roll-Stage Made Made level_of group_level (level.Fed group conditions))
+        ∙ ap (λ (f : Made). or_alone m (filter (λ n. all_hold conditions (take width n)) (merges (fed_rows width f m) m))) (group_makes group))
 
     pub gives_minus : (r : Option ℕ) (group : Group) → gives width quads active (Minus r group) m
         ≡ kept_if (not (list_any (excludes (take width m)) (aside width r (through width quads active group.stages) m))) m

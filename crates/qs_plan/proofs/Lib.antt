@@ -15,6 +15,7 @@ pub mod Runs
 pub mod RunStages
 pub mod Laying
 pub mod EachGraph
+pub mod Feeding
 pub mod NoRun
 pub mod Planned
 pub mod Arms

@@ -20,12 +20,12 @@ use Rattle.qs_algebra_patterns.specs.declared.pattern.TriplePattern.{TriplePatte
 use Rattle.qs_plan_meaning.specs.declared.stage.Group.{Group, map-Group, roll-Group}
 use Rattle.qs_plan_meaning.specs.declared.stage.Stage.{Stage, map-Stage, roll-Stage, ind-Stage}
 use Rattle.qs_plan_meaning.specs.declared.stage.Stage.TheOpen as level
-use Rattle.qs_plan_meaning.specs.declared.stage.Stage.TheVariants.{rolls-Triple, rolls-Path, rolls-Exists, rolls-Names, rolls-Name, rolls-Filter, rolls-Bind, rolls-Values, rolls-Union, rolls-Optional, rolls-Minus, rolls-Apart}
+use Rattle.qs_plan_meaning.specs.declared.stage.Stage.TheVariants.{rolls-Triple, rolls-Path, rolls-Exists, rolls-Names, rolls-Name, rolls-Filter, rolls-Bind, rolls-Values, rolls-Union, rolls-Optional, rolls-Fed, rolls-Minus, rolls-Apart}
 use Rattle.qs_plan_meaning.specs.Scans.{bound_slot, bound_end, then_bound, bound_triple, bound_ends, path_pairs}
-use Rattle.qs_plan_meaning.specs.Stages.{looked, kept_if, aside, gives, through}
+use Rattle.qs_plan_meaning.specs.Stages.{looked, kept_if, aside, fed_rows, gives, through}
 use Rattle.qs_plan.specs.inner.Certain.{Bound, Alike}
 use Rattle.qs_plan.proofs.Commutes.{SetBy, slot_sets, end_sets, scanned_each}
-use Rattle.qs_plan.proofs.Levels.{gives_triple, gives_path, gives_exists, gives_names, gives_name, gives_filter, gives_bind, gives_values, gives_union, gives_optional, gives_minus, gives_apart}
+use Rattle.qs_plan.proofs.Levels.{gives_triple, gives_path, gives_exists, gives_names, gives_name, gives_filter, gives_bind, gives_values, gives_union, gives_optional, gives_fed, gives_minus, gives_apart}
 use Rattle.qs_plan.proofs.Widths.{all_of, all_append, all_filter, all_mapped, all_flat, merge_at}
 
 -- none is no term
@@ -202,6 +202,9 @@ module _ (width : ℕ) (quads : List Statement) (active : Graph) where
   onward_level (level.Optional r g conditions) = subst OnwardStage (sym (rolls-Optional r g.0 conditions)) (λ m.
       subst (AllByRecursion (Onward m)) (sym (gives_optional width quads active m r g.0 conditions))
       (alone_onward m _ (all_filter (Onward m) (λ n. all_hold conditions (take width n)) _ (merges_onward (aside width r (through width quads active g.0.stages) m) m))))
+  onward_level (level.Fed g conditions) = subst OnwardStage (sym (rolls-Fed g.0 conditions)) (λ m.
+      subst (AllByRecursion (Onward m)) (sym (gives_fed width quads active m g.0 conditions))
+      (alone_onward m _ (all_filter (Onward m) (λ n. all_hold conditions (take width n)) _ (merges_onward (fed_rows width (through width quads active g.0.stages) m) m))))
   onward_level (level.Minus r g) = subst OnwardStage (sym (rolls-Minus r g.0)) (λ m.
       subst (AllByRecursion (Onward m)) (sym (gives_minus width quads active m r g.0)) (kept_onward (not (list_any (excludes (take width m)) (aside width r (through width quads active g.0.stages) m))) m))
   onward_level (level.Apart r g) = subst OnwardStage (sym (rolls-Apart r g.0)) (λ m. subst (AllByRecursion (Onward m)) (sym (gives_apart width quads active m r g.0)) (merges_onward (aside width r (through width quads active g.0.stages) m) m))

@@ -20,10 +20,10 @@ use Rattle.qs_plan.specs.declared.plan_type.Plan.{Plan}
 use Rattle.qs_plan_meaning.specs.declared.stage.Stage.{Stage}
 use Rattle.qs_plan_meaning.specs.declared.stage.Stage.TheVariants as stage
 use Rattle.qs_plan.specs.Plans.{plan_list, SamePlan}
-use Rattle.qs_plan_meaning.specs.Stages.{kept_if, only, aside, through}
+use Rattle.qs_plan_meaning.specs.Stages.{kept_if, only, aside, fed_rows, through}
 use Rattle.qs_plan.specs.inner.Sames.{SameStages, IsScan, Misses}
 use Rattle.qs_plan.proofs.Laying.{between, same}
-use Rattle.qs_plan.proofs.Levels.{gives_union, gives_optional, gives_minus, gives_apart, through_one}
+use Rattle.qs_plan.proofs.Levels.{gives_union, gives_optional, gives_fed, gives_minus, gives_apart, through_one}
 use Rattle.qs_plan.proofs.Operators.{filter_same, merges_same, alone_same}
 use Rattle.qs_plan.proofs.Swaps.{same_refl, same_trans, same_append, same_turned, scans_turned, triple_scan, path_scan, one_brought, scans_left}
 
@@ -62,6 +62,16 @@ module _ (ss ts : List Stage) (h : SameStages ss ts) (r : Option ℕ) where
         (sym (through_one width quads active (stage.Apart r (record { stages = ts })) m ∙ gives_apart width quads active m r (record { stages = ts })));
   }
 
+pub fed_same : (ss ts : List Stage) → SameStages ss ts → (conditions cs : List Expr) → cs ≡ conditions → SameStages (stage.Fed (record { stages = ss }) cs ∷ []) (stage.Fed (record { stages = ts }) conditions ∷ [])
+fed_same ss ts h conditions cs e = subst (λ (l : List Expr). SameStages (stage.Fed (record { stages = ss }) l ∷ []) (stage.Fed (record { stages = ts }) conditions ∷ [])) (sym e) (record {
+  same = λ width quads active m.
+      between _ _ _ _
+      (through_one width quads active (stage.Fed (record { stages = ss }) conditions) m ∙ gives_fed width quads active m (record { stages = ss }) conditions)
+      (alone_same m _ _ (filter_same (λ n. all_hold conditions (take width n)) _ _ (merges_same (fed_rows width (through width quads active ss) m) (fed_rows width (through width quads active ts) m) m
+      (IsPermutation-map (take width) (through width quads active ss m) (through width quads active ts m) (h.same width quads active m)))))
+      (sym (through_one width quads active (stage.Fed (record { stages = ts }) conditions) m ∙ gives_fed width quads active m (record { stages = ts }) conditions));
+})
+
 -- one branch more
 pub branch_more : (done new branches : List Group) (i : ℕ) (b : Group) (ss : List Stage) → i < length branches → b ≡ get_or branches i b → new ≡ done ++ record { stages = ss } ∷ [] → SameStages (stage.Union done ∷ []) (stage.Union (take i branches) ∷ []) → SameStages ss b.stages
     → SameStages (stage.Union new ∷ []) (stage.Union (take (i + 1) branches) ∷ [])
@@ -94,6 +104,9 @@ same_plan plan other w c h = record {
 
 pub optional_arm : (s : Stage) (r : Option ℕ) (g own : Group) (conditions cs : List Expr) → s ≡ stage.Optional r g conditions → cs ≡ conditions → SameStages own.stages g.stages → SameStages (stage.Optional r own cs ∷ []) (s ∷ [])
 optional_arm s r g own conditions cs is e h = subst (λ (x : Stage). SameStages (stage.Optional r own cs ∷ []) (x ∷ [])) (sym is) (optional_same own.stages g.stages h r conditions cs e)
+
+pub fed_arm : (s : Stage) (g own : Group) (conditions cs : List Expr) → s ≡ stage.Fed g conditions → cs ≡ conditions → SameStages own.stages g.stages → SameStages (stage.Fed own cs ∷ []) (s ∷ [])
+fed_arm s g own conditions cs is e h = subst (λ (x : Stage). SameStages (stage.Fed own cs ∷ []) (x ∷ [])) (sym is) (fed_same own.stages g.stages h conditions cs e)
 
 pub minus_arm : (s : Stage) (r : Option ℕ) (g own : Group) → s ≡ stage.Minus r g → SameStages own.stages g.stages → SameStages (stage.Minus r own ∷ []) (s ∷ [])
 minus_arm s r g own is h = subst (λ (x : Stage). SameStages (stage.Minus r own ∷ []) (x ∷ [])) (sym is) (minus_same own.stages g.stages h r)

@@ -38,6 +38,7 @@ fn keeps(stage: &Stage, variable: usize) -> bool
         Stage::Values(_) => true,
         Stage::Union(branches) => keep_branches(branches.as_slice(), variable),
         Stage::Optional(_, _, _) => true,
+        Stage::Fed(_, _) => true,
         Stage::Minus(_, _) => true,
         Stage::Apart(_, _) => true,
     }

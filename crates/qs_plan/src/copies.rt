@@ -235,6 +235,11 @@ pub(crate) fn copied_stage(alloc: Global, stage: &Stage) -> Result<Stage, AllocE
             let group = copied_group(alloc, group)?;
             Ok(Stage::Optional(*register, group, conditions))
         }
+        Stage::Fed(group, conditions) => {
+            let conditions = conditions.share()?;
+            let group = copied_group(alloc, group)?;
+            Ok(Stage::Fed(group, conditions))
+        }
         Stage::Minus(register, group) => {
             let group = copied_group(alloc, group)?;
             Ok(Stage::Minus(*register, group))

@@ -423,6 +423,12 @@ fn put_stage<W: fmt::Write>(f: &mut fmt::Formatter<W>, stage: &Stage, depth: usi
             writeln!(f)?;
             put_group(f, group, inner)
         }
+        Stage::Fed(group, conditions) => {
+            write!(f, "optional, fed")?;
+            put_conditions(f, conditions.get().as_slice())?;
+            writeln!(f)?;
+            put_group(f, group, inner)
+        }
         Stage::Minus(register, group) => {
             put_register(f, "minus", *register)?;
             writeln!(f)?;

@@ -282,6 +282,11 @@ fn placed_stage(alloc: Global, stage: &Stage, size: Size) -> Result<Stage, Alloc
             let group = placed_group(alloc, group, size)?;
             Ok(Stage::Optional(*register, group, conditions))
         }
+        Stage::Fed(group, conditions) => {
+            let conditions = conditions.share()?;
+            let group = placed_group(alloc, group, size)?;
+            Ok(Stage::Fed(group, conditions))
+        }
         Stage::Minus(register, group) => {
             let group = placed_group(alloc, group, size)?;
             Ok(Stage::Minus(*register, group))

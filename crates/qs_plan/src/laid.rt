@@ -52,6 +52,15 @@ pub fn optional(
     alone(alloc, stage, next)
 }
 
+/// The stages as the group of an OPTIONAL with these conditions, which is fed each row.
+pub fn fed(alloc: Global, conditions: &[Expr], laid: Laid) -> Result<Laid, AllocError>
+    ensures { IfOk result (λ l. (l.stages ≡ stage.Fed (record { stages = laid.stages }) conditions.now ∷ []) × (l.next ≡ laid.next)) }
+{
+    let Laid { stages, next } = laid;
+    let (stages, conditions) = keep_beside(stages, shared_conditions(alloc, conditions))?;
+    alone(alloc, Stage::Fed(Group { stages }, conditions), next)
+}
+
 /// The stages as the group of a MINUS.
 pub fn minus(alloc: Global, look: &Look, laid: Laid) -> Result<Laid, AllocError>
     ensures { IfOk result (λ l. (l.stages ≡ stage.Minus (register_of look.now) (record { stages = laid.stages }) ∷ []) × (l.next ≡ laid.next)) }

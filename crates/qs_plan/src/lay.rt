@@ -1,17 +1,20 @@
 //! The text's order: the stages of a pattern (SPARQL 1.1 Query, 18.5), as they stand in its text.
 
-ghost use Rattle.std.specs.Prelude.{◌≡◌, ◌≤◌, true, false, [], ◌∷◌, ◌++◌, map, take, drop, length, IfOk};
+ghost use Rattle.std.specs.Prelude.{◌≡◌, ◌≤◌, Bool, true, false, [], ◌∷◌, ◌++◌, map, take, drop, length, IfOk};
 ghost use Rattle.std.specs.List.{AllByRecursion};
 ghost use Rattle.qs_algebra_patterns.specs.declared.pattern.PatternNode.TheVariants as pattern;
+ghost use Rattle.qs_algebra_patterns.specs.declared.pattern.Step.TheVariants as a_step;
 ghost use Rattle.qs_plan_meaning.specs.declared.stage.Look as places;
 ghost use Rattle.qs_plan_meaning.specs.declared.stage.Stage.TheVariants as stage;
 ghost use Rattle.qs_plan.specs.inner.Lays.{Lays, LaysStep, Within, IsJoin, all_kept, all_stepped, joined_with};
 
 use crate::certain::Size;
 use crate::copies::{shared_expr, shared_table};
+use crate::feedable::is_feedable;
+use crate::few::are_few;
 use crate::fixes::{are_settled, put_tables};
 use crate::laid::{
-    Laid, alone, apart, behind_all, bind, if_exists, in_each, look_named, minus, optional,
+    Laid, alone, apart, behind_all, bind, fed, if_exists, in_each, look_named, minus, optional,
 };
 use crate::run::{lay_run, room_after};
 use qs_algebra_patterns::{PatternNode, Step, Table};
@@ -201,7 +204,17 @@ fn lay_group(
     ensures { IfOk result (λ l. Lays first width look.now from l.next l.stages (joined_with width (pattern.Group steps.now conditions.now))) }
 {
     if !first && are_none(conditions) && are_joins(steps) {
-        let laid = lay_steps(alloc, width, steps, 0, steps.len(), look, from, false)?;
+        let laid = lay_steps(
+            alloc,
+            width,
+            steps,
+            0,
+            steps.len(),
+            look,
+            from,
+            false,
+            false,
+        )?;
         return Ok(laid);
     }
     if !first && are_joins(steps) && are_plain_steps(steps) {
@@ -232,7 +245,17 @@ fn lay_plain(
     requires joins { AllByRecursion IsJoin steps.now }
     ensures { IfOk result (λ l. Lays false width look.now from l.next l.stages (joined_with width (pattern.Group steps.now conditions.now))) }
 {
-    let laid = lay_steps(alloc, width, steps, 0, steps.len(), look, from, false)?;
+    let laid = lay_steps(
+        alloc,
+        width,
+        steps,
+        0,
+        steps.len(),
+        look,
+        from,
+        false,
+        false,
+    )?;
     let Laid { mut stages, next } = laid;
     let size = Size { width, cells: next };
     put_tables(alloc, conditions, &[], size, &mut stages)?;
@@ -261,18 +284,31 @@ fn lay_whole(
     ensures { IfOk result (λ l. Lays true width look.now from l.next l.stages (joined_with width (pattern.Group steps.now conditions.now))) }
 {
     let count = plain_front(steps);
-    let laid = lay_steps(alloc, width, steps, 0, count, look, from, false)?;
+    let laid = lay_steps(
+        alloc, width, steps, 0, count, look, from, false, false,
+    )?;
     let Laid { mut stages, next } = laid;
     let size = Size { width, cells: next };
     put_tables(alloc, conditions, &steps[count..], size, &mut stages)?;
     let second = is_start(true, &stages);
-    let laid = lay_steps(alloc, width, steps, count, steps.len(), look, next, second)?;
+    let few = are_few(true, stages.as_slice());
+    let laid = lay_steps(
+        alloc,
+        width,
+        steps,
+        count,
+        steps.len(),
+        look,
+        next,
+        second,
+        few,
+    )?;
     let laid = behind_all(stages, laid)?;
     let laid = lay_filters(alloc, conditions, laid)?;
     Ok(laid)
 }
 
-/// The stages of the steps of a group from one place up to another.
+/// The stages of the steps of a group from one place up to another, before which few rows stand or not.
 #[cycle(lay)]
 fn lay_steps(
     alloc: Global,
@@ -283,6 +319,7 @@ fn lay_steps(
     look: &Look,
     from: usize,
     first: bool,
+    few: bool,
 ) -> Result<Laid, AllocError>
     requires named { width ≤ from }
     requires within { Within width from look.now }
@@ -294,7 +331,8 @@ fn lay_steps(
     let mut next = from;
     for at in start..end {
         let second = is_start(first, &stages);
-        let laid = lay_step(alloc, width, &steps[at], look, next, second)?;
+        let few = few || are_few(first, stages.as_slice());
+        let laid = lay_step(alloc, width, &steps[at], look, next, second, few)?;
         let Laid {
             stages: more,
             next: past,
@@ -305,7 +343,7 @@ fn lay_steps(
     Ok(Laid { stages, next })
 }
 
-/// The stages of a step of a group. What is optional, or taken away, is evaluated by itself.
+/// The stages of a step of a group. What is taken away is evaluated by itself, and what is optional too, unless few rows stand before it.
 #[cycle(lay)]
 fn lay_step(
     alloc: Global,
@@ -314,6 +352,7 @@ fn lay_step(
     look: &Look,
     from: usize,
     first: bool,
+    few: bool,
 ) -> Result<Laid, AllocError>
     requires named { width ≤ from }
     requires within { Within width from look.now }
@@ -325,8 +364,7 @@ fn lay_step(
             Ok(laid)
         }
         Step::LeftJoin(part, conditions) => {
-            let laid = lay(alloc, width, part, look, from, true)?;
-            let laid = optional(alloc, look, conditions.as_slice(), laid)?;
+            let laid = lay_optional(alloc, width, part, conditions.as_slice(), look, from, few)?;
             Ok(laid)
         }
         Step::Minus(part) => {
@@ -339,6 +377,31 @@ fn lay_step(
             Ok(laid)
         }
     }
+}
+
+/// The stage of an OPTIONAL. Its group is fed each row where few stand before it, and evaluating it again costs little.
+#[cycle(lay)]
+fn lay_optional(
+    alloc: Global,
+    width: usize,
+    part: &PatternNode,
+    conditions: &[Expr],
+    look: &Look,
+    from: usize,
+    few: bool,
+) -> Result<Laid, AllocError>
+    requires named { width ≤ from }
+    requires within { Within width from look.now }
+    ensures { IfOk result (λ l. (first : Bool) → LaysStep first width look.now from l.next l.stages (a_step.LeftJoin part.now conditions.now)) }
+{
+    if few && is_feedable(part) {
+        let laid = lay(alloc, width, part, look, from, false)?;
+        let laid = fed(alloc, conditions, laid)?;
+        return Ok(laid);
+    }
+    let laid = lay(alloc, width, part, look, from, true)?;
+    let laid = optional(alloc, look, conditions, laid)?;
+    Ok(laid)
 }
 
 /// The stage of a union, whose branches begin with the same row.

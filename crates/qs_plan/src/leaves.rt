@@ -45,6 +45,7 @@ pub(crate) fn leaves(stage: &Stage, variable: usize) -> bool
         Stage::Optional(register, group, _) => {
             is_other(*register, variable) && leave_all(group.stages.as_slice(), variable)
         }
+        Stage::Fed(group, _) => leave_all(group.stages.as_slice(), variable),
         Stage::Minus(_, _) => true,
         Stage::Apart(register, group) => {
             is_other(*register, variable) && leave_all(group.stages.as_slice(), variable)

@@ -6,6 +6,8 @@ mod certain;
 mod copies;
 mod counts;
 mod display;
+mod feedable;
+mod few;
 mod filters;
 mod fixes;
 mod joins;

@@ -278,6 +278,13 @@ fn ordered_stage<C: Counts>(
             let group = ordered_group(alloc, counts, group, &mut own)?;
             Ok(Stage::Optional(*register, group, conditions))
         }
+        Stage::Fed(group, conditions) => {
+            let conditions = conditions.share()?;
+            let mut own = no_flags(alloc, known.len())?;
+            add_flags(&mut own, known.as_slice());
+            let group = ordered_group(alloc, group, &mut own)?;
+            Ok(Stage::Fed(group, conditions))
+        }
         Stage::Minus(register, group) => {
             let mut own = no_flags(alloc, known.len())?;
             let group = ordered_group(alloc, counts, group, &mut own)?;

@@ -15,7 +15,7 @@ use Rattle.qs_algebra_patterns.specs.Eval.{all_hold, extended, rows_of}
 use Rattle.qs_plan_meaning.specs.declared.stage.Look.{Look}
 use Rattle.qs_plan_meaning.specs.declared.stage.Look.TheVariants as look
 use Rattle.qs_plan_meaning.specs.declared.stage.Stage.{Stage, fold-Stage}
-use Rattle.qs_plan_meaning.specs.declared.stage.Stage.TheOpen.{Stage-F, Group-F, Triple, Path, Exists, Names, Name, Filter, Bind, Values, Union, Optional, Minus, Apart}
+use Rattle.qs_plan_meaning.specs.declared.stage.Stage.TheOpen.{Stage-F, Group-F, Triple, Path, Exists, Names, Name, Filter, Bind, Values, Union, Optional, Fed, Minus, Apart}
 use Rattle.qs_plan_meaning.specs.Scans.{extensions, path_extensions}
 
 -- what a stage, or a group of stages, makes of a row
@@ -66,6 +66,10 @@ only (Some r) m = slice_set (unbound (length m)) r (term_at m r)
 abbrev pub aside : ℕ → Option ℕ → Made → Solution → List Solution
 aside width r group m = map (take width) (group (only r m))
 
+-- the solutions of a group that is fed the row: of its rows the named variables are left
+abbrev pub fed_rows : ℕ → Made → Made
+fed_rows width group m = map (take width) (group m)
+
 -- ---- stages
 
 -- one after another
@@ -86,6 +90,8 @@ gives_level width quads active (Values table) m = merges (rows_of width table) m
 gives_level width quads active (Union branches) m = flat_map (λ (branch : Made). branch m) branches
 gives_level width quads active (Optional r group conditions) m =
     or_alone m (filter (λ n. all_hold conditions (take width n)) (merges (aside width r group m) m))
+gives_level width quads active (Fed group conditions) m =
+    or_alone m (filter (λ n. all_hold conditions (take width n)) (merges (fed_rows width group m) m))
 gives_level width quads active (Minus r group) m = kept_if (not (list_any (excludes (take width m)) (aside width r group m))) m
 gives_level width quads active (Apart r group) m = merges (aside width r group m) m
 

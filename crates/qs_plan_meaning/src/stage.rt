@@ -46,13 +46,16 @@ pub enum Stage {
     Union(Items<Group>),
     /// The row with each solution of the group that agrees with it where the conditions hold, or alone where there is none.
     Optional(Option<usize>, Group, Shared<Items<Expr>>),
+    /// The row with each row that the group makes of it where the conditions hold, or alone where there is none.
+    Fed(Group, Shared<Items<Expr>>),
     /// The row, unless a solution of the group agrees with it and binds a named variable that it binds.
     Minus(Option<usize>, Group),
     /// The row with each solution of the group that agrees with it.
     Apart(Option<usize>, Group),
 }
 
-/// Stages, one after another. Where a group is evaluated by itself it sees of the row nothing but the register beside it.
+/// Stages, one after another. Where a group is evaluated by itself it sees of the row nothing but the register beside it. A group that is
+/// fed sees the whole row.
 #[cycle(stages)]
 #[derive(Drop)]
 pub struct Group {

@@ -3,7 +3,7 @@
 use Rattle.std.specs.Prelude.{◌≡◌, ℕ, zero, suc, ◌<◌, ◌≤◌, Bool, true, false, if◌then◌else◌, List, [], ◌∷◌, ◌++◌, length, get_or}
 use Rattle.std.specs.List.{AllByRecursion, flat_map, fold}
 use Rattle.qs_plan_meaning.specs.declared.stage.Stage.{Stage, fold-Stage}
-use Rattle.qs_plan_meaning.specs.declared.stage.Stage.TheOpen.{Stage-F, Group-F, Triple, Path, Exists, Names, Name, Filter, Bind, Values, Union, Optional, Minus, Apart}
+use Rattle.qs_plan_meaning.specs.declared.stage.Stage.TheOpen.{Stage-F, Group-F, Triple, Path, Exists, Names, Name, Filter, Bind, Values, Union, Optional, Fed, Minus, Apart}
 use Rattle.qs_plan_meaning.specs.Stages.{Made}
 
 -- a stage, the position where its rows go on, and for a union the positions where its branches begin
@@ -23,6 +23,7 @@ is_union_level (Bind v e) = false
 is_union_level (Values table) = false
 is_union_level (Union branches) = true
 is_union_level (Optional r group conditions) = false
+is_union_level (Fed group conditions) = false
 is_union_level (Minus r group) = false
 is_union_level (Apart r group) = false
 

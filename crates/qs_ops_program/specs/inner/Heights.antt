@@ -1,7 +1,7 @@
--- How deep the groups that are evaluated by themselves are nested, those of OPTIONAL, MINUS and of Apart.
+-- How deep the groups are nested that walks of their own evaluate, those of OPTIONAL, MINUS and of Apart.
 use Rattle.std.specs.Prelude.{ℕ, ◌+◌, ◌≤◌, max, List, [], ◌∷◌, map}
 use Rattle.qs_plan_meaning.specs.declared.stage.Stage.{Stage, fold-Stage}
-use Rattle.qs_plan_meaning.specs.declared.stage.Stage.TheOpen.{Stage-F, Group-F, Triple, Path, Exists, Names, Name, Filter, Bind, Values, Union, Optional, Minus, Apart}
+use Rattle.qs_plan_meaning.specs.declared.stage.Stage.TheOpen.{Stage-F, Group-F, Triple, Path, Exists, Names, Name, Filter, Bind, Values, Union, Optional, Fed, Minus, Apart}
 use Rattle.qs_ops_program.specs.inner.Flow.{Instruction}
 
 -- the greatest of them
@@ -20,6 +20,7 @@ height_level (Bind v e) = 0
 height_level (Values table) = 0
 height_level (Union branches) = most branches
 height_level (Optional r group conditions) = 1 + group
+height_level (Fed group conditions) = 1 + group
 height_level (Minus r group) = 1 + group
 height_level (Apart r group) = 1 + group
 

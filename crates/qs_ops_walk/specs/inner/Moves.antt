@@ -84,6 +84,7 @@ opens (work.Bind v e) = false
 opens (work.Values v) = true
 opens (work.Union starts) = true
 opens (work.Optional c) = true
+opens (work.Fed feed) = true
 opens (work.Minus right) = true
 opens (work.Apart right) = true
 
@@ -98,6 +99,7 @@ is_triple (work.Bind v e) = false
 is_triple (work.Values v) = false
 is_triple (work.Union starts) = false
 is_triple (work.Optional c) = false
+is_triple (work.Fed feed) = false
 is_triple (work.Minus right) = false
 is_triple (work.Apart right) = false
 
@@ -112,6 +114,7 @@ is_optional (work.Bind v e) = false
 is_optional (work.Values v) = false
 is_optional (work.Union starts) = false
 is_optional (work.Optional c) = true
+is_optional (work.Fed feed) = true
 is_optional (work.Minus right) = false
 is_optional (work.Apart right) = false
 

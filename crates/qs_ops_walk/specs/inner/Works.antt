@@ -34,9 +34,10 @@ use Rattle.qs_ops_scans.specs.declared.look.PreparedLook.{PreparedLook}
 use Rattle.qs_ops_scans.specs.declared.pattern.PreparedTriple.{PreparedTriple}
 use Rattle.qs_ops_tables.specs.Tables.{KeptRows, FitRows, row_solutions}
 use Rattle.qs_ops_walk.specs.declared.work.Aside.{Aside}
+use Rattle.qs_ops_walk.specs.declared.work.Feed.{Feed}
 use Rattle.qs_ops_walk.specs.declared.work.Right.{Right}
 use Rattle.qs_ops_walk.specs.declared.work.Work.{Work}
-use Rattle.qs_ops_walk.specs.declared.work.Work.TheVariants.{Triple, Path, Names, Exists, Name, Filter, Bind, Values, Union, Optional, Minus, Apart}
+use Rattle.qs_ops_walk.specs.declared.work.Work.TheVariants.{Triple, Path, Names, Exists, Name, Filter, Bind, Values, Union, Optional, Fed, Minus, Apart}
 use Rattle.qs_ops_walk.specs.declared.work.Place.{Place}
 use Rattle.qs_ops_walk.specs.inner.Setting.{Setting, known_of, through_in}
 
@@ -155,6 +156,10 @@ pub record IsOptional (s : Setting) (table : List Term) (i : Stage) (right : Rig
   pub prepared : AllByRecursion (IsPreparedFor (known_of s)) conditions
   pub kept : IsRight s table right
 
+pub record IsFed (s : Setting) (i : Stage) (feed : Feed) : Type 0 where
+  pub is : i ≡ stage.Fed feed.group.now (map expr_of feed.conditions.list.items)
+  pub prepared : AllByRecursion (IsPreparedFor (known_of s)) feed.conditions.list.items
+
 pub record IsMinus (s : Setting) (table : List Term) (i : Stage) (right : Right) : Type 0 where
   pub is : i ≡ stage.Minus right.register right.group.now
   pub kept : IsRight s table right
@@ -175,6 +180,7 @@ IsWork s table i (Bind v e) = i.stage ≡ stage.Bind v e.now
 IsWork s table i (Values v) = IsValues s table i.stage v.table.now v.kept
 IsWork s table i (Union starts) = IsFork i starts.list.items
 IsWork s table i (Optional c) = IsOptional s table i.stage c.right c.conditions.list.items
+IsWork s table i (Fed feed) = IsFed s i.stage feed
 IsWork s table i (Minus right) = IsMinus s table i.stage right
 IsWork s table i (Apart right) = IsApart s table i.stage right
 

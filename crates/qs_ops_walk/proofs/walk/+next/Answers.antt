@@ -18,7 +18,7 @@ use Rattle.qs_ops_walk.proofs.Placing.{height_at, ready_at, same_heights, set_co
 use Rattle.qs_ops_walk.proofs.Walks.{spent, ended, gave, hit}
 use Rattle.qs_ops_walk.proofs.Finished.{finished_walk, finished_gives}
 use Rattle.qs_ops_walk.proofs.Steps.{whole, changed, mid_fit, settled_walk, opened, opened_walk, triple_opened, triple_walk}
-use Rattle.qs_ops_walk.proofs.Opens.{opens_path, opens_names, opens_values, opens_union, opens_apart}
+use Rattle.qs_ops_walk.proofs.Opens.{opens_fed, opens_path, opens_names, opens_values, opens_union, opens_apart}
 use Rattle.qs_ops_walk.proofs.Asides.{name_fits, only_fits, aside_made, opens_attempt, opens_unless}
 use Rattle.qs_ops_walk.proofs.Gathering.{named_some, gathers_more, gathers_fewer, gathers_all, gathers_fit}
 use Rattle.qs_ops_walk.proofs.walk.+next.Goals as goal
@@ -180,10 +180,16 @@ open-returns-in_ok-starts-in-Union-clause-opens g t c =
     let f : Branching = record { row = c.args.row; starts = c.in_ok-starts-in-Union.starts; at = 0 } in
     opens_union c.args.reader.now c.args.place.now.instr c.args.scratch.now c.args.scratch.now c.args.row f (rw c.in_ok-starts-in-Union.ensures (rw c.in-Union.is at c.requires.ready)) refl refl refl c.requires.row
 
-pub open_optional-returns-clause-opens : goal.open_optional-returns-clause-opens
-open_optional-returns-clause-opens g t c =
+pub open_optional-returns-in_ok-found-in-Optional-clause-opens : goal.open_optional-returns-in_ok-found-in-Optional-clause-opens
+open_optional-returns-in_ok-found-in-Optional-clause-opens g t c =
     opens_attempt c.args.reader.now c.args.place.now.instr c.args.scratch.now c.rows_of_right.new.scratch c.args.row c.rows_of_right.ensures.grows.table c.rows_of_right.ensures.grows c.requires.row c.rows_of_right.new.right c.in_ok-kept-in-Optional.kept c.in_ok-kept-in-Optional.ensures.kept c.in_ok-kept-in-Optional.ensures.right
     c.in-Optional.choice.right c.in-Optional.choice.conditions c.rows_of_right.ensures.register c.rows_of_right.ensures.group (rw c.in-Optional.is at c.requires.ready) c.in_ok-found-in-Optional.found c.in_ok-found-in-Optional.ensures
+
+pub open_optional-returns-in_ok-found-in-Fed-clause-opens : goal.open_optional-returns-in_ok-found-in-Fed-clause-opens
+open_optional-returns-in_ok-found-in-Fed-clause-opens g t c =
+    let r = rw c.in-Fed.is at c.requires.ready in
+    opens_fed c.args.reader.now c.args.place.now.instr c.args.scratch.now c.rows_of_feed.new.scratch c.args.row c.rows_of_feed.ensures.grows.table c.rows_of_feed.ensures.grows c.requires.row c.in-Fed.feed c.in_ok-kept-in-Fed.kept r
+    c.in_ok-kept-in-Fed.ensures.rows c.in_ok-kept-in-Fed.ensures.fit c.in_ok-found-in-Fed.found c.in_ok-found-in-Fed.ensures
 
 pub open-returns-in_ok-kept-in-Minus-clause-opens : goal.open-returns-in_ok-kept-in-Minus-clause-opens
 open-returns-in_ok-kept-in-Minus-clause-opens g t c =

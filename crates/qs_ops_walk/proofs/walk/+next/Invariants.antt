@@ -39,6 +39,9 @@ decreases-rows_of_group g l = 10 * stages_height l.stages.now + 10
 abbrev pub decreases-rows_of_right : goal.decreases-rows_of_right
 decreases-rows_of_right g l = 10 * (1 + stages_height l.right.now.group.now.stages) + 2
 
+abbrev pub decreases-rows_of_feed : goal.decreases-rows_of_feed
+decreases-rows_of_feed g l = 10 * (1 + stages_height l.group.now.stages) + 2
+
 abbrev pub decreases-open : goal.decreases-open
 decreases-open g l = 10 * height_of l.place.now + 3
 

@@ -1,4 +1,4 @@
-use Rattle.qs_plan.proofs.Keeping.{triple_keeps, path_keeps, names_keep, name_keeps, filter_keeps, bind_keeps, values_keep, union_keeps, optional_keeps, apart_keeps}
+use Rattle.qs_plan.proofs.Keeping.{triple_keeps, path_keeps, names_keep, name_keeps, filter_keeps, bind_keeps, values_keep, union_keeps, optional_keeps, fed_keeps, apart_keeps}
 use Rattle.qs_plan.proofs.certain.+keeps.Goals as goal
 
 pub keeps-returns-in-Triple : goal.keeps-returns-in-Triple
@@ -24,6 +24,9 @@ keeps-returns-in-Union t c h = union_keeps c.args.variable c.args.stage.now c.in
 
 pub keeps-returns-in-Optional : goal.keeps-returns-in-Optional
 keeps-returns-in-Optional t c h = optional_keeps c.args.variable c.args.stage.now c.in-Optional.field-0 c.in-Optional.field-1 c.in-Optional.field-2 c.in-Optional.is
+
+pub keeps-returns-in-Fed : goal.keeps-returns-in-Fed
+keeps-returns-in-Fed t c h = fed_keeps c.args.variable c.args.stage.now c.in-Fed.field-0 c.in-Fed.field-1 c.in-Fed.is
 
 pub keeps-returns-in-Apart : goal.keeps-returns-in-Apart
 keeps-returns-in-Apart t c h = apart_keeps c.args.variable c.args.stage.now c.in-Apart.field-0 c.in-Apart.field-1 c.in-Apart.is

@@ -1,4 +1,4 @@
-use Rattle.qs_plan.proofs.Entering.{placed_more, branch_placed, optional_placed, minus_placed, apart_placed}
+use Rattle.qs_plan.proofs.Entering.{placed_more, branch_placed, optional_placed, fed_placed, minus_placed, apart_placed}
 use Rattle.qs_plan.proofs.filters.+placed.Goals as goal
 
 pub placed_branches-loop-branch-preserved : goal.placed_branches-loop-branch-preserved
@@ -8,6 +8,10 @@ placed_branches-loop-branch-preserved t c =
 pub placed_stage-returns-in_ok-group-in-Optional : goal.placed_stage-returns-in_ok-group-in-Optional
 placed_stage-returns-in_ok-group-in-Optional t c =
     optional_placed c.args.size c.in-Optional.register c.in_ok-group-in-Optional.group c.in-Optional.group c.in_ok-group-in-Optional.ensures c.args.stage.now c.in-Optional.conditions c.in_ok-conditions-in-Optional.conditions c.in-Optional.is c.in_ok-conditions-in-Optional.ensures
+
+pub placed_stage-returns-in_ok-group-in-Fed : goal.placed_stage-returns-in_ok-group-in-Fed
+placed_stage-returns-in_ok-group-in-Fed t c =
+    fed_placed c.args.size c.in_ok-group-in-Fed.group c.in-Fed.group c.in_ok-group-in-Fed.ensures c.args.stage.now c.in-Fed.conditions c.in_ok-conditions-in-Fed.conditions c.in-Fed.is c.in_ok-conditions-in-Fed.ensures
 
 pub placed_stage-returns-in_ok-group-in-Minus : goal.placed_stage-returns-in_ok-group-in-Minus
 placed_stage-returns-in_ok-group-in-Minus t c =

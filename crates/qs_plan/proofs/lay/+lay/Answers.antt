@@ -4,7 +4,7 @@ use Rattle.qs_plan.specs.inner.Fixes.{SettledBy}
 use Rattle.qs_algebra_patterns.specs.declared.pattern.PatternNode.TheVariants as pattern
 use Rattle.qs_plan_meaning.specs.declared.stage.Stage.{Stage}
 use Rattle.qs_plan_meaning.specs.declared.stage.Stage.TheVariants.{Filter}
-use Rattle.qs_plan.proofs.Arms.{lays_at, as_part, values_arm, left_join_arm, minus_arm, extend_arm, apart_arm, union_arm, graph_arm, each_arm, at_flag, group_joins, steps_init, one_step_more, steps_end, steps_all, union_init, union_end}
+use Rattle.qs_plan.proofs.Arms.{lays_at, as_part, values_arm, left_join_arm, optional_apart, optional_fed, minus_arm, extend_arm, apart_arm, union_arm, graph_arm, each_arm, at_flag, group_joins, steps_init, one_step_more, steps_end, steps_all, union_init, union_end}
 use Rattle.qs_plan.proofs.Fixing.{plain_first, plain_in_line, rest_of, whole_lays}
 use Rattle.qs_plan.proofs.Laying.{union_more}
 use Rattle.qs_plan.proofs.lay.+lay.Goals as goal
@@ -72,9 +72,17 @@ lay_whole-returns t c =
     (steps_all c.is_start-second.result c.args.width c.args.look.now c.in_ok-laid.laid.next c.in_ok-laid-2.laid.next c.in_ok-laid-2.laid.stages c.args.steps.now c.plain_front-count.result _ (omega arith) c.in_ok-laid-2.ensures)
     (c.in_ok-laid-4.ensures.0 ∙ ap (λ (l : List Stage). l ++ map Filter c.args.conditions.now) c.in_ok-laid-3.ensures.0))
 
-pub lay_step-returns-in_ok-laid-in-LeftJoin-2 : goal.lay_step-returns-in_ok-laid-in-LeftJoin-2
-lay_step-returns-in_ok-laid-in-LeftJoin-2 t c =
-    left_join_arm c.args.first c.args.width c.args.look.now c.args.from _ _ c.args.one.now c.in-LeftJoin.part c.in-LeftJoin.conditions _ _ _ c.requires.named c.requires.within c.in-LeftJoin.is c.as_slice.ensures c.in_ok-laid-in-LeftJoin.ensures c.in_ok-laid-in-LeftJoin-2.ensures
+pub lay_step-returns-in_ok-laid-in-LeftJoin : goal.lay_step-returns-in_ok-laid-in-LeftJoin
+lay_step-returns-in_ok-laid-in-LeftJoin t c =
+    left_join_arm c.args.first c.args.width c.args.look.now c.args.from _ _ c.args.one.now c.in-LeftJoin.part c.in-LeftJoin.conditions _ c.in-LeftJoin.is c.as_slice.ensures (c.in_ok-laid-in-LeftJoin.ensures c.args.first)
+
+pub lay_optional-returns-then-is_feedable : goal.lay_optional-returns-then-is_feedable
+lay_optional-returns-then-is_feedable t c first =
+    optional_fed first c.args.width c.args.look.now c.args.from _ _ c.args.part.now c.args.conditions.now _ _ c.in_ok-laid.ensures c.in_ok-laid-2.ensures
+
+pub lay_optional-returns : goal.lay_optional-returns
+lay_optional-returns t c first =
+    optional_apart first c.args.width c.args.look.now c.args.from _ _ c.args.part.now c.args.conditions.now _ _ c.requires.named c.requires.within c.in_ok-laid-3.ensures c.in_ok-laid-4.ensures
 
 pub lay_step-returns-in_ok-laid-in-Minus-2 : goal.lay_step-returns-in_ok-laid-in-Minus-2
 lay_step-returns-in_ok-laid-in-Minus-2 t c =

@@ -1,7 +1,7 @@
 use Rattle.std.proofs.Common.{◌==◌, ap, sym, subst, ◌∙◌}
 use Rattle.std.specs.List.{list_any}
 use Rattle.qs_plan.specs.inner.Reads.{LeaveAll}
-use Rattle.qs_plan.proofs.Leaving.{not_true, differs, triple_leaves, path_leaves, names_leave, name_leaves, filter_leaves, bind_leaves, values_leave, union_leaves, optional_leaves, apart_leaves, more_leave}
+use Rattle.qs_plan.proofs.Leaving.{not_true, differs, triple_leaves, path_leaves, names_leave, name_leaves, filter_leaves, bind_leaves, values_leave, union_leaves, optional_leaves, fed_leaves, apart_leaves, more_leave}
 use Rattle.qs_plan.proofs.leaves.+leaves.Goals as goal
 
 pub leave_all-loop-stage-preserved : goal.leave_all-loop-stage-preserved
@@ -38,6 +38,11 @@ pub leaves-returns-then-is_other : goal.leaves-returns-then-is_other
 leaves-returns-then-is_other t c h =
     optional_leaves c.args.variable c.args.stage.now c.in-Optional.register c.in-Optional.group c.in-Optional.field-2 c.in-Optional.is
     (subst (LeaveAll c.args.variable) c.as_slice-then-is_other.ensures (c.leave_all.ensures h)) (c.is_other.ensures c.if-is_other.true)
+
+pub leaves-returns-in-Fed : goal.leaves-returns-in-Fed
+leaves-returns-in-Fed t c h =
+    fed_leaves c.args.variable c.args.stage.now c.in-Fed.group c.in-Fed.field-1 c.in-Fed.is
+    (subst (LeaveAll c.args.variable) c.as_slice-in-Fed.ensures (c.leave_all-in-Fed.ensures h))
 
 pub leaves-returns-then-is_other-2 : goal.leaves-returns-then-is_other-2
 leaves-returns-then-is_other-2 t c h =

@@ -1,4 +1,4 @@
-use Rattle.qs_plan.proofs.Sames.{branch_more, optional_arm, minus_arm, apart_arm, stage_more, stages_end}
+use Rattle.qs_plan.proofs.Sames.{branch_more, optional_arm, fed_arm, minus_arm, apart_arm, stage_more, stages_end}
 use Rattle.qs_plan.proofs.order.+ordered.Goals as goal
 
 pub ordered_branches-loop-branch-preserved : goal.ordered_branches-loop-branch-preserved
@@ -8,6 +8,10 @@ ordered_branches-loop-branch-preserved g t c =
 pub ordered_stage-returns-in_ok-group-in-Optional : goal.ordered_stage-returns-in_ok-group-in-Optional
 ordered_stage-returns-in_ok-group-in-Optional g t c =
     optional_arm c.args.stage.now c.in-Optional.register c.in-Optional.group c.in_ok-group-in-Optional.group c.in-Optional.conditions c.in_ok-conditions-in-Optional.conditions c.in-Optional.is c.in_ok-conditions-in-Optional.ensures c.in_ok-group-in-Optional.ensures
+
+pub ordered_stage-returns-in_ok-group-in-Fed : goal.ordered_stage-returns-in_ok-group-in-Fed
+ordered_stage-returns-in_ok-group-in-Fed t c =
+    fed_arm c.args.stage.now c.in-Fed.group c.in_ok-group-in-Fed.group c.in-Fed.conditions c.in_ok-conditions-in-Fed.conditions c.in-Fed.is c.in_ok-conditions-in-Fed.ensures c.in_ok-group-in-Fed.ensures
 
 pub ordered_stage-returns-in_ok-group-in-Minus : goal.ordered_stage-returns-in_ok-group-in-Minus
 ordered_stage-returns-in_ok-group-in-Minus g t c =

@@ -1,0 +1,81 @@
+//! Which patterns may be evaluated again for each row at a small cost: triples, short tables, and groups, unions and named graphs of them.
+//! A closure of a path is no such pattern, since it is read with its ends open.
+
+use crate::few::is_short;
+use qs_algebra_patterns::{BasicPattern, PatternNode, Step};
+use qs_syntax_ast::path::Path;
+
+/// Whether the path becomes triples alone.
+#[cycle(joined)]
+fn is_joined(path: &Path) -> bool {
+    match path {
+        Path::Iri(_) => true,
+        Path::NegatedSet(_) => false,
+        Path::Repeated(_, _) => false,
+        Path::Inverse(inner) => is_joined(inner.get()),
+        Path::Alternative(parts) => are_joined(parts.as_slice()),
+        Path::Sequence(parts) => are_joined(parts.as_slice()),
+    }
+}
+
+#[cycle(joined)]
+fn are_joined(parts: &[Path]) -> bool {
+    for part in parts {
+        if !is_joined(part) {
+            return false;
+        }
+    }
+    true
+}
+
+fn becomes_triples(basic: &BasicPattern) -> bool {
+    for pattern in basic.paths.as_slice() {
+        if !is_joined(pattern.path.get()) {
+            return false;
+        }
+    }
+    true
+}
+
+/// Whether the pattern costs little for each row that it is fed.
+#[cycle(feedable)]
+pub(crate) fn is_feedable(part: &PatternNode) -> bool {
+    match part {
+        PatternNode::Basic(basic) => becomes_triples(basic),
+        PatternNode::Values(table) => is_short(table),
+        PatternNode::Group(steps, conditions) => {
+            conditions.is_empty() && are_feedable_steps(steps.as_slice())
+        }
+        PatternNode::Union(parts) => are_feedable(parts.as_slice()),
+        PatternNode::Graph(_, part) => is_feedable(part.get()),
+        PatternNode::EachGraph(_, _) => false,
+    }
+}
+
+#[cycle(feedable)]
+fn are_feedable(parts: &[PatternNode]) -> bool {
+    for part in parts {
+        if !is_feedable(part) {
+            return false;
+        }
+    }
+    true
+}
+
+#[cycle(feedable)]
+fn are_feedable_steps(steps: &[Step]) -> bool {
+    for one in steps {
+        if !is_feedable_step(one) {
+            return false;
+        }
+    }
+    true
+}
+
+#[cycle(feedable)]
+fn is_feedable_step(one: &Step) -> bool {
+    match one {
+        Step::Join(part) => is_feedable(part),
+        _ => false,
+    }
+}
