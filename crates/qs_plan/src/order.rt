@@ -282,7 +282,7 @@ fn ordered_stage<C: Counts>(
             let conditions = conditions.share()?;
             let mut own = no_flags(alloc, known.len())?;
             add_flags(&mut own, known.as_slice());
-            let group = ordered_group(alloc, group, &mut own)?;
+            let group = ordered_group(alloc, counts, group, &mut own)?;
             Ok(Stage::Fed(group, conditions))
         }
         Stage::Minus(register, group) => {

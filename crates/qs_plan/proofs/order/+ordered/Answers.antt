@@ -10,7 +10,7 @@ ordered_stage-returns-in_ok-group-in-Optional g t c =
     optional_arm c.args.stage.now c.in-Optional.register c.in-Optional.group c.in_ok-group-in-Optional.group c.in-Optional.conditions c.in_ok-conditions-in-Optional.conditions c.in-Optional.is c.in_ok-conditions-in-Optional.ensures c.in_ok-group-in-Optional.ensures
 
 pub ordered_stage-returns-in_ok-group-in-Fed : goal.ordered_stage-returns-in_ok-group-in-Fed
-ordered_stage-returns-in_ok-group-in-Fed t c =
+ordered_stage-returns-in_ok-group-in-Fed g t c =
     fed_arm c.args.stage.now c.in-Fed.group c.in_ok-group-in-Fed.group c.in-Fed.conditions c.in_ok-conditions-in-Fed.conditions c.in-Fed.is c.in_ok-conditions-in-Fed.ensures c.in_ok-group-in-Fed.ensures
 
 pub ordered_stage-returns-in_ok-group-in-Minus : goal.ordered_stage-returns-in_ok-group-in-Minus
