@@ -31,6 +31,7 @@ impl Model for Row {
 }
 
 /// Equal cells, in the memory of a spare row where there is any.
+#[inline(always)]
 fn in_spare(
     alloc: Global,
     spare: &mut Vec<Row>,
