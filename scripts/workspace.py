@@ -11,7 +11,7 @@ EACH = 3_000_000_000
 """The memory that the check of one crate may take, in bytes."""
 
 LONG = 180
-"""From how many seconds on two jobs share the proof of a crate that the whole build waits for."""
+"""From how many seconds on two jobs may share the proof of a crate."""
 
 PROGRAM = "quads_main"
 """The crate of the program."""
@@ -174,8 +174,8 @@ def build(root, crates, folder, words_of, tell):
     """Builds the crates, each after those that it names, and first those with the longest chain of others above them. A crate's
     command is words_of(crate), its log stands in the folder. Returns the first crate that was not built, or None.
 
-    A long crate that the whole build waits for gets two jobs, where there are four processors; each other crate gets one. A further job
-    loads all that is below once more: of a short crate high in the chain it takes longer than it saves."""
+    A long crate gets two jobs where there are four processors and no crate that is left has a longer chain above it; each other crate gets
+    one. A further job loads all that is below once more: of a short crate high in the chain it takes longer than it saves."""
     effort = {it: seconds(root, it) for it in crates}
     behind = dict.fromkeys(crates, 0)
     for crate in reversed([*crates]):
@@ -185,8 +185,8 @@ def build(root, crates, folder, words_of, tell):
     left, running, done, most = sorted(crates, key=lambda it: -behind[it]), {}, set(), lanes()
 
     def jobs_of(crate):
-        unfinished = [behind[it] for it in crates if it not in done]
-        return 2 if most >= 4 and effort[crate] >= LONG and behind[crate] == max(unfinished) else 1
+        others = [behind[it] for it in left]
+        return 2 if most >= 4 and effort[crate] >= LONG and behind[crate] >= max(others, default=0) else 1
 
     def prove(crate, jobs):
         with open(f"{folder}/{crate}.log", "wb") as log:
