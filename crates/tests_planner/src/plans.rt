@@ -303,7 +303,7 @@ const PLANS: &[(&str, &str)] = &[
     // the table comes before what follows the triples
     (
         "SELECT * { ?a <u:p> ?b OPTIONAL { ?b <u:q> ?c } MINUS { ?a <u:r> ?d } FILTER(?a = <u:x>) }",
-        "values ?0, rows: 1\nfilter (= ?0 <u:x>)\ntriple ?0 <u:p> ?1\noptional\n  triple ?1 <u:q> ?2\nminus\n  triple ?0 <u:r> ?3\n",
+        "values ?0, rows: 1\nfilter (= ?0 <u:x>)\ntriple ?0 <u:p> ?1\noptional, fed\n  triple ?1 <u:q> ?2\nminus\n  triple ?0 <u:r> ?3\n",
     ),
     // before a union whose branches bind the variable, and in its branches
     (
