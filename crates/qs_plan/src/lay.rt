@@ -284,9 +284,7 @@ fn lay_whole(
     ensures { IfOk result (λ l. Lays true width look.now from l.next l.stages (joined_with width (pattern.Group steps.now conditions.now))) }
 {
     let count = plain_front(steps);
-    let laid = lay_steps(
-        alloc, width, steps, 0, count, look, from, false, false,
-    )?;
+    let laid = lay_steps(alloc, width, steps, 0, count, look, from, false, false)?;
     let Laid { mut stages, next } = laid;
     let size = Size { width, cells: next };
     put_tables(alloc, conditions, &steps[count..], size, &mut stages)?;
