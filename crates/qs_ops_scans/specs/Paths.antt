@@ -38,7 +38,7 @@ pub record ServeBetween
       SameBag (filter (is_between left right) pairs)
       (filter (is_between left right) (path_pairs p graph))
 
--- the same where the ends are the terms of cells
+-- the pairs serve between the terms of the cells at the ends; an end without a cell is open
 abbrev pub Serve :
     List Term → List Term → PathPattern → Graph → RowEnds → List (Cell × Cell) → Type 0
 Serve known table p graph ends cells =

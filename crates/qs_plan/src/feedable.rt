@@ -1,5 +1,5 @@
 //! Which patterns may be evaluated again for each row at a small cost: triples, short tables, and groups, unions and named graphs of them.
-//! A closure of a path is no such pattern, since it is read with its ends open.
+//! A closure or a negated set is left out: where the row binds none of its ends, all its pairs would be found anew for each row.
 
 use crate::few::is_short;
 use qs_algebra_patterns::{BasicPattern, PatternNode, Step};

@@ -70,7 +70,7 @@ fn is_bind(stage: &Stage) -> bool {
     }
 }
 
-/// Whether few rows come of the stages, which a group begins with that comes first or not.
+/// Whether few rows come of the stages with which a group begins. `first` tells whether the group itself comes first.
 pub(crate) fn are_few(first: bool, stages: &[Stage]) -> bool {
     if !first || stages.is_empty() {
         return false;

@@ -333,7 +333,7 @@ pub(crate) fn put_tables(
     Ok(())
 }
 
-/// The same for one condition, or for each part of it if it is a conjunction.
+/// Puts the tables of one condition before the stages; of a conjunction those of each part.
 #[cycle(fixed)]
 fn put_tables_of(
     alloc: Global,

@@ -102,7 +102,7 @@ row_made acts m x = if passes acts x then Some (bound acts x m) else None
 abbrev pub IsAsked : Content → DefaultGraph → Active → Given → List (List ℕ) → Type 0
 IsAsked c default graph g triples = AreTriples c default graph g.subject g.predicate g.object triples
 
--- the same, or none
+-- the triples of the graph with the numbers that are given; none where a term isn't known
 abbrev pub IsScannedBy : Content → DefaultGraph → Active → Option Given → List (List ℕ) → Type 0
 IsScannedBy c default graph None triples = triples ≡ []
 IsScannedBy c default graph (Some g) triples = IsAsked c default graph g triples
