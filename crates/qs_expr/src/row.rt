@@ -125,6 +125,7 @@ impl Row {
     ///
     /// # Errors
     /// Out of memory.
+    #[inline(always)]
     pub fn copy(&self, alloc: Global, spare: &mut Vec<Row>) -> Result<Row, AllocError>
         ensures { IfOk result (λ r. r ≡ self.now) }
     {
