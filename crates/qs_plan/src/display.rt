@@ -1,4 +1,5 @@
-//! Plans as text: a line a stage, indented by nesting. A variable is printed by its number, and an expression with its operator first.
+//! Plans as text: a line a stage, indented by nesting. An expression is printed with its operator first, and a variable by its number, or
+//! by its name where names are given.
 
 use crate::plan_type::Plan;
 use qs_algebra_patterns::{PathPattern, Slot, Table, TriplePattern};
@@ -6,10 +7,39 @@ use qs_expr_meaning::{Addend, BinaryFunction, Comparison, Expr, Sign, UnaryFunct
 use qs_plan_meaning::{Group, Look, Stage};
 use qs_syntax_ast::path::{NegatedIri, Path};
 use qs_syntax_tree::path::Repetition;
-use qs_terms::{Lit, Term};
+use qs_terms::{Lit, Term, Text};
 use std::fmt;
 
-// ---- terms
+// ---- variables and terms
+
+/// A variable as text: its name after `?`. One that has no name, as a register, is its number after `??`, or after `?` where none has one.
+pub struct VariableWord<'a> {
+    pub names: &'a [Text],
+    pub variable: usize,
+}
+
+impl fmt::Display for VariableWord<'_> {
+    fn fmt<W: fmt::Write>(&self, f: &mut fmt::Formatter<W>) -> fmt::Result {
+        put_variable(f, self.names, self.variable)
+    }
+}
+
+fn put_variable<W: fmt::Write>(
+    f: &mut fmt::Formatter<W>,
+    names: &[Text],
+    variable: usize,
+) -> fmt::Result {
+    if names.is_empty() {
+        return write!(f, "?{variable}");
+    }
+    match names.get(variable) {
+        Some(name) => {
+            let name = name.as_str();
+            write!(f, "?{name}")
+        }
+        None => write!(f, "??{variable}"),
+    }
+}
 
 /// A character of a literal, escaped as N-Quads does it.
 fn put_char<W: fmt::Write>(f: &mut fmt::Formatter<W>, c: char) -> fmt::Result {
@@ -56,17 +86,14 @@ fn put_term<W: fmt::Write>(f: &mut fmt::Formatter<W>, term: &Term) -> fmt::Resul
     }
 }
 
-fn put_slot<W: fmt::Write>(f: &mut fmt::Formatter<W>, slot: &Slot) -> fmt::Result {
+fn put_slot<W: fmt::Write>(f: &mut fmt::Formatter<W>, names: &[Text], slot: &Slot) -> fmt::Result {
     match slot {
         Slot::Term(term) => put_term(f, term.get()),
-        Slot::Variable(variable) => {
-            let variable = *variable;
-            write!(f, "?{variable}")
-        }
+        Slot::Variable(variable) => put_variable(f, names, *variable),
     }
 }
 
-fn put_look<W: fmt::Write>(f: &mut fmt::Formatter<W>, look: &Look) -> fmt::Result {
+fn put_look<W: fmt::Write>(f: &mut fmt::Formatter<W>, names: &[Text], look: &Look) -> fmt::Result {
     match look {
         Look::Active => Ok(()),
         Look::Named(name) => {
@@ -74,8 +101,8 @@ fn put_look<W: fmt::Write>(f: &mut fmt::Formatter<W>, look: &Look) -> fmt::Resul
             put_term(f, name.get())
         }
         Look::Register(register) => {
-            let register = *register;
-            write!(f, " in ?{register}")
+            write!(f, " in ")?;
+            put_variable(f, names, *register)
         }
     }
 }
@@ -183,92 +210,90 @@ fn open<W: fmt::Write>(f: &mut fmt::Formatter<W>, word: &str) -> fmt::Result {
 }
 
 #[cycle(expr)]
-fn put_expr<W: fmt::Write>(f: &mut fmt::Formatter<W>, expr: &Expr) -> fmt::Result {
+fn put_expr<W: fmt::Write>(f: &mut fmt::Formatter<W>, names: &[Text], expr: &Expr) -> fmt::Result {
     match expr {
-        Expr::Variable(variable) => {
-            let variable = *variable;
-            write!(f, "?{variable}")
-        }
+        Expr::Variable(variable) => put_variable(f, names, *variable),
         Expr::Term(term) => put_term(f, term),
         Expr::Or(parts) => {
             open(f, "||")?;
-            put_rest(f, parts.as_slice())
+            put_rest(f, names, parts.as_slice())
         }
         Expr::And(parts) => {
             open(f, "&&")?;
-            put_rest(f, parts.as_slice())
+            put_rest(f, names, parts.as_slice())
         }
         Expr::Compare(comparison, left, right) => {
             open(f, comparison_word(*comparison))?;
-            put_expr(f, left.get())?;
+            put_expr(f, names, left.get())?;
             write!(f, " ")?;
-            put_expr(f, right.get())?;
+            put_expr(f, names, right.get())?;
             write!(f, ")")
         }
         Expr::In(one, parts) => {
             open(f, "in")?;
-            put_expr(f, one.get())?;
+            put_expr(f, names, one.get())?;
             write!(f, " ")?;
-            put_rest(f, parts.as_slice())
+            put_rest(f, names, parts.as_slice())
         }
         Expr::NotIn(one, parts) => {
             open(f, "not in")?;
-            put_expr(f, one.get())?;
+            put_expr(f, names, one.get())?;
             write!(f, " ")?;
-            put_rest(f, parts.as_slice())
+            put_rest(f, names, parts.as_slice())
         }
         Expr::Sum(first, addends) => {
             open(f, "sum")?;
-            put_expr(f, first.get())?;
-            put_addends(f, addends.as_slice())
+            put_expr(f, names, first.get())?;
+            put_addends(f, names, addends.as_slice())
         }
         Expr::Product(first, factors) => {
             open(f, "*")?;
-            put_expr(f, first.get())?;
+            put_expr(f, names, first.get())?;
             write!(f, " ")?;
-            put_rest(f, factors.as_slice())
+            put_rest(f, names, factors.as_slice())
         }
         Expr::Not(part) => {
             open(f, "!")?;
-            put_expr(f, part.get())?;
+            put_expr(f, names, part.get())?;
             write!(f, ")")
         }
         Expr::Signed(sign, part) => {
             open(f, sign_word(*sign))?;
-            put_expr(f, part.get())?;
+            put_expr(f, names, part.get())?;
             write!(f, ")")
         }
         Expr::Bound(variable) => {
-            let variable = *variable;
-            write!(f, "(bound ?{variable})")
+            open(f, "bound")?;
+            put_variable(f, names, *variable)?;
+            write!(f, ")")
         }
         Expr::If(test, yes, no) => {
             open(f, "if")?;
-            put_expr(f, test.get())?;
+            put_expr(f, names, test.get())?;
             write!(f, " ")?;
-            put_expr(f, yes.get())?;
+            put_expr(f, names, yes.get())?;
             write!(f, " ")?;
-            put_expr(f, no.get())?;
+            put_expr(f, names, no.get())?;
             write!(f, ")")
         }
         Expr::Coalesce(parts) => {
             open(f, "coalesce")?;
-            put_rest(f, parts.as_slice())
+            put_rest(f, names, parts.as_slice())
         }
         Expr::Concat(parts) => {
             open(f, "concat")?;
-            put_rest(f, parts.as_slice())
+            put_rest(f, names, parts.as_slice())
         }
         Expr::Unary(function, part) => {
             open(f, unary_word(*function))?;
-            put_expr(f, part.get())?;
+            put_expr(f, names, part.get())?;
             write!(f, ")")
         }
         Expr::Binary(function, left, right) => {
             open(f, binary_word(*function))?;
-            put_expr(f, left.get())?;
+            put_expr(f, names, left.get())?;
             write!(f, " ")?;
-            put_expr(f, right.get())?;
+            put_expr(f, names, right.get())?;
             write!(f, ")")
         }
     }
@@ -276,64 +301,86 @@ fn put_expr<W: fmt::Write>(f: &mut fmt::Formatter<W>, expr: &Expr) -> fmt::Resul
 
 /// Operands with blanks between them, and the end of their expression.
 #[cycle(expr)]
-fn put_rest<W: fmt::Write>(f: &mut fmt::Formatter<W>, parts: &[Expr]) -> fmt::Result {
+fn put_rest<W: fmt::Write>(
+    f: &mut fmt::Formatter<W>,
+    names: &[Text],
+    parts: &[Expr],
+) -> fmt::Result {
     let mut is_first = true;
     for part in parts {
         if !is_first {
             write!(f, " ")?;
         }
-        put_expr(f, part)?;
+        put_expr(f, names, part)?;
         is_first = false;
     }
     write!(f, ")")
 }
 
 #[cycle(expr)]
-fn put_addends<W: fmt::Write>(f: &mut fmt::Formatter<W>, addends: &[Addend]) -> fmt::Result {
+fn put_addends<W: fmt::Write>(
+    f: &mut fmt::Formatter<W>,
+    names: &[Text],
+    addends: &[Addend],
+) -> fmt::Result {
     for addend in addends {
         let sign = sign_word(addend.sign);
         write!(f, " {sign}")?;
-        put_expr(f, &addend.operand)?;
+        put_expr(f, names, &addend.operand)?;
     }
     write!(f, ")")
 }
 
-fn put_conditions<W: fmt::Write>(f: &mut fmt::Formatter<W>, conditions: &[Expr]) -> fmt::Result {
+fn put_conditions<W: fmt::Write>(
+    f: &mut fmt::Formatter<W>,
+    names: &[Text],
+    conditions: &[Expr],
+) -> fmt::Result {
     for condition in conditions {
         write!(f, " if ")?;
-        put_expr(f, condition)?;
+        put_expr(f, names, condition)?;
     }
     Ok(())
 }
 
 // ---- stages
 
-fn put_triple<W: fmt::Write>(f: &mut fmt::Formatter<W>, pattern: &TriplePattern) -> fmt::Result {
+fn put_triple<W: fmt::Write>(
+    f: &mut fmt::Formatter<W>,
+    names: &[Text],
+    pattern: &TriplePattern,
+) -> fmt::Result {
     write!(f, "triple ")?;
-    put_slot(f, &pattern.subject)?;
+    put_slot(f, names, &pattern.subject)?;
     write!(f, " ")?;
-    put_slot(f, &pattern.predicate)?;
+    put_slot(f, names, &pattern.predicate)?;
     write!(f, " ")?;
-    put_slot(f, &pattern.object)
+    put_slot(f, names, &pattern.object)
 }
 
 fn put_path_pattern<W: fmt::Write>(
     f: &mut fmt::Formatter<W>,
+    names: &[Text],
     pattern: &PathPattern,
 ) -> fmt::Result {
     write!(f, "path ")?;
-    put_slot(f, &pattern.subject)?;
+    put_slot(f, names, &pattern.subject)?;
     write!(f, " ")?;
     put_path(f, pattern.path.get())?;
     write!(f, " ")?;
-    put_slot(f, &pattern.object)
+    put_slot(f, names, &pattern.object)
 }
 
-fn put_table<W: fmt::Write>(f: &mut fmt::Formatter<W>, table: &Table) -> fmt::Result {
+fn put_table<W: fmt::Write>(
+    f: &mut fmt::Formatter<W>,
+    names: &[Text],
+    table: &Table,
+) -> fmt::Result {
     write!(f, "values")?;
     for at in 0..table.variables.len() {
         let variable = table.variables.as_slice()[at];
-        write!(f, " ?{variable}")?;
+        write!(f, " ")?;
+        put_variable(f, names, variable)?;
     }
     let rows = table.rows.len();
     write!(f, ", rows: {rows}")
@@ -341,12 +388,16 @@ fn put_table<W: fmt::Write>(f: &mut fmt::Formatter<W>, table: &Table) -> fmt::Re
 
 fn put_register<W: fmt::Write>(
     f: &mut fmt::Formatter<W>,
+    names: &[Text],
     word: &str,
     register: Option<usize>,
 ) -> fmt::Result {
     match register {
         None => write!(f, "{word}"),
-        Some(register) => write!(f, "{word} of ?{register}"),
+        Some(register) => {
+            write!(f, "{word} of ")?;
+            put_variable(f, names, register)
+        }
     }
 }
 
@@ -357,6 +408,75 @@ fn put_indent<W: fmt::Write>(f: &mut fmt::Formatter<W>, depth: usize) -> fmt::Re
     Ok(())
 }
 
+/// The stage as a line, without the stages of its groups and the end of the line.
+fn put_line<W: fmt::Write>(
+    f: &mut fmt::Formatter<W>,
+    names: &[Text],
+    stage: &Stage,
+) -> fmt::Result {
+    match stage {
+        Stage::Triple(look, pattern) => {
+            put_triple(f, names, pattern)?;
+            put_look(f, names, look)
+        }
+        Stage::Path(look, pattern) => {
+            put_path_pattern(f, names, pattern)?;
+            put_look(f, names, look)
+        }
+        Stage::Exists(name) => {
+            write!(f, "exists ")?;
+            put_term(f, name.get())
+        }
+        Stage::Names(register) => {
+            write!(f, "names ")?;
+            put_variable(f, names, *register)
+        }
+        Stage::Name(variable, register) => {
+            write!(f, "name ")?;
+            put_variable(f, names, *variable)?;
+            write!(f, " = ")?;
+            put_variable(f, names, *register)
+        }
+        Stage::Filter(condition) => {
+            write!(f, "filter ")?;
+            put_expr(f, names, condition.get())
+        }
+        Stage::Bind(variable, expr) => {
+            write!(f, "bind ")?;
+            put_variable(f, names, *variable)?;
+            write!(f, " = ")?;
+            put_expr(f, names, expr.get())
+        }
+        Stage::Values(table) => put_table(f, names, table.get()),
+        Stage::Union(_) => write!(f, "union"),
+        Stage::Optional(register, _, conditions) => {
+            put_register(f, names, "optional", *register)?;
+            put_conditions(f, names, conditions.get().as_slice())
+        }
+        Stage::Fed(_, conditions) => {
+            write!(f, "optional, fed")?;
+            put_conditions(f, names, conditions.get().as_slice())
+        }
+        Stage::Minus(register, _) => put_register(f, names, "minus", *register),
+        Stage::Apart(register, _) => put_register(f, names, "join", *register),
+    }
+}
+
+/// A stage as a line, without the stages of its groups and the end of the line. Variables are printed as `VariableWord` does it.
+pub struct StageLine<'a> {
+    pub names: &'a [Text],
+    pub stage: &'a Stage,
+}
+
+impl fmt::Display for StageLine<'_> {
+    fn fmt<W: fmt::Write>(&self, f: &mut fmt::Formatter<W>) -> fmt::Result {
+        put_line(f, self.names, self.stage)
+    }
+}
+
+// ---- plans
+
+/// The stages with those of their groups, a line each.
 #[cycle(stages)]
 fn put_stages<W: fmt::Write>(
     f: &mut fmt::Formatter<W>,
@@ -365,80 +485,27 @@ fn put_stages<W: fmt::Write>(
 ) -> fmt::Result {
     for stage in stages {
         put_indent(f, depth)?;
-        put_stage(f, stage, depth)?;
+        put_line(f, &[], stage)?;
+        writeln!(f)?;
+        put_groups(f, stage, depth.saturating_add(1))?;
     }
     Ok(())
 }
 
+/// The stages of the groups of a stage.
 #[cycle(stages)]
-fn put_stage<W: fmt::Write>(f: &mut fmt::Formatter<W>, stage: &Stage, depth: usize) -> fmt::Result {
-    let inner = depth.saturating_add(1);
+fn put_groups<W: fmt::Write>(
+    f: &mut fmt::Formatter<W>,
+    stage: &Stage,
+    depth: usize,
+) -> fmt::Result {
     match stage {
-        Stage::Triple(look, pattern) => {
-            put_triple(f, pattern)?;
-            put_look(f, look)?;
-            writeln!(f)
-        }
-        Stage::Path(look, pattern) => {
-            put_path_pattern(f, pattern)?;
-            put_look(f, look)?;
-            writeln!(f)
-        }
-        Stage::Exists(name) => {
-            write!(f, "exists ")?;
-            put_term(f, name.get())?;
-            writeln!(f)
-        }
-        Stage::Names(register) => {
-            let register = *register;
-            writeln!(f, "names ?{register}")
-        }
-        Stage::Name(variable, register) => {
-            let variable = *variable;
-            let register = *register;
-            writeln!(f, "name ?{variable} = ?{register}")
-        }
-        Stage::Filter(condition) => {
-            write!(f, "filter ")?;
-            put_expr(f, condition.get())?;
-            writeln!(f)
-        }
-        Stage::Bind(variable, expr) => {
-            let variable = *variable;
-            write!(f, "bind ?{variable} = ")?;
-            put_expr(f, expr.get())?;
-            writeln!(f)
-        }
-        Stage::Values(table) => {
-            put_table(f, table.get())?;
-            writeln!(f)
-        }
-        Stage::Union(branches) => {
-            writeln!(f, "union")?;
-            put_branches(f, branches.as_slice(), inner)
-        }
-        Stage::Optional(register, group, conditions) => {
-            put_register(f, "optional", *register)?;
-            put_conditions(f, conditions.get().as_slice())?;
-            writeln!(f)?;
-            put_group(f, group, inner)
-        }
-        Stage::Fed(group, conditions) => {
-            write!(f, "optional, fed")?;
-            put_conditions(f, conditions.get().as_slice())?;
-            writeln!(f)?;
-            put_group(f, group, inner)
-        }
-        Stage::Minus(register, group) => {
-            put_register(f, "minus", *register)?;
-            writeln!(f)?;
-            put_group(f, group, inner)
-        }
-        Stage::Apart(register, group) => {
-            put_register(f, "join", *register)?;
-            writeln!(f)?;
-            put_group(f, group, inner)
-        }
+        Stage::Union(branches) => put_branches(f, branches.as_slice(), depth),
+        Stage::Optional(_, group, _) => put_group(f, group, depth),
+        Stage::Fed(group, _) => put_group(f, group, depth),
+        Stage::Minus(_, group) => put_group(f, group, depth),
+        Stage::Apart(_, group) => put_group(f, group, depth),
+        _ => Ok(()),
     }
 }
 

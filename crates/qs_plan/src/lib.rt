@@ -23,8 +23,10 @@ mod reads;
 mod run;
 
 pub use counts::Counts;
+pub use display::{StageLine, VariableWord};
 pub use filters::filter_order;
 pub use order::run_order;
 pub use plan_type::{Plan, drop_plan};
 pub use planner::{plan, plan_for, text_order};
 pub use qs_plan_meaning::{Group, Look, Stage};
+pub use reads::settle;

@@ -8,13 +8,12 @@ use qs_expr_meaning::{Addend, Expr};
 use std::alloc::{AllocError, Global};
 
 /// Puts the variables that the expression reads after the others: where two solutions bind all of these alike, it means the same in both.
+///
+/// # Errors
+/// `AllocError` where memory runs out.
 #[cycle(settle)]
 #[tactic(auto, using(crate::proofs::Settled::variable_settled, crate::proofs::Settled::bound_settled, crate::proofs::Settled::term_settled, crate::proofs::Settled::grows_by_one, crate::proofs::Settled::grows_more, crate::proofs::Settled::grows_same))]
-pub(crate) fn settle(
-    alloc: Global,
-    expr: &Expr,
-    variables: &mut Vec<usize>,
-) -> Result<(), AllocError>
+pub fn settle(alloc: Global, expr: &Expr, variables: &mut Vec<usize>) -> Result<(), AllocError>
     ensures grows { OnOk result (Grows variables.old.items variables.new.items) }
     ensures settles { OnOk result (Settles variables.new.items expr.now) }
 {
