@@ -1,5 +1,8 @@
 //! Whether somebody may be waiting to be accepted.
 
+ghost use Rattle.std.specs.Prelude.{◌≡◌, ◌↔◌, Ok, IsTrue};
+ghost use Rattle.qs_service_reactor.specs.inner.Shortage.{IsShortage};
+
 use std::io;
 use std::io::ErrorKind;
 
@@ -17,18 +20,24 @@ pub enum Arrivals {
 /// The arrivals after an accept failed.
 ///
 /// # Errors
-/// The fault itself, if it won't pass. Want of descriptors or memory may pass while a connection is open.
-pub fn arrivals_after(fault: io::Error, is_any_open: bool) -> io::Result<Arrivals> {
+/// The fault itself, if it won't pass. A lack of descriptors or memory may pass.
+pub fn arrivals_after(fault: io::Error) -> io::Result<Arrivals>
+    ensures { IsShortage fault → result ≡ Ok Arrivals.Short }
+{
+    if is_shortage(&fault) {
+        return Ok(Arrivals::Short);
+    }
     match fault.kind() {
         ErrorKind::WouldBlock => Ok(Arrivals::None),
         ErrorKind::Interrupted | ErrorKind::ConnectionAborted => Ok(Arrivals::Pending),
-        _ if is_any_open && is_shortage(&fault) => Ok(Arrivals::Short),
         _ => Err(fault),
     }
 }
 
 /// Whether the system had no descriptor or no memory left: ENOMEM, ENFILE, EMFILE or ENOBUFS.
-fn is_shortage(fault: &io::Error) -> bool {
+fn is_shortage(fault: &io::Error) -> bool
+    ensures { IsTrue result ↔ IsShortage fault.now }
+{
     match fault.raw_os_error() {
         Some(code) => matches!(code, 12 | 23 | 24 | 105),
         None => fault.kind() == ErrorKind::OutOfMemory,

@@ -1,7 +1,8 @@
 //! The places of the connections.
 
-ghost use Rattle.std.specs.Prelude.{◌≡◌, ◌≤◌, ◌<◌, ◌-◌, ◌+◌, ◌^◌, vec_len, IfOk, IsTrue};
+ghost use Rattle.std.specs.Prelude.{◌≡◌, ◌≤◌, ◌<◌, ◌-◌, ◌+◌, ◌^◌, vec_len, IfOk, IsSome, IsTrue};
 ghost use Rattle.std.specs.List.{list_all};
+ghost use Rattle.qs_service_reactor.specs.inner.Shortage.{is_short};
 ghost use Rattle.qs_service_reactor.specs.inner.Turn.{AllFree, Moves, is_free};
 
 use crate::arrivals::{Arrivals, arrivals_after};
@@ -91,14 +92,27 @@ impl Table {
         self.is_empty() && self.accepted >= most
     }
 
-    /// How long to wait: not at all where something can go on at once, and for ever where no connection is open.
-    pub fn timeout(&self, most: u64) -> Option<Duration> {
+    /// Whether somebody may be waiting for whom the system had no descriptor or no memory left.
+    fn is_short(&self) -> bool
+        ensures { result ≡ is_short self.now.arrivals }
+    {
+        match self.arrivals {
+            Arrivals::Short => true,
+            Arrivals::None | Arrivals::Pending => false,
+        }
+    }
+
+    /// How long to wait: not at all where something can go on at once, and for ever where no connection is open and nobody is to be accepted
+    /// again.
+    pub fn timeout(&self, most: u64) -> Option<Duration>
+        ensures { IsTrue (is_short self.now.arrivals) → IsSome result }
+    {
         let is_wanted = self.is_wanted(most);
         if self.ready.contains(&true) || (is_wanted && !self.is_full()) {
             Some(Duration::ZERO)
         } else if is_wanted {
             Some(Duration::from_millis(FULL_TICK))
-        } else if self.is_empty() {
+        } else if self.is_empty() && !self.is_short() {
             None
         } else {
             Some(Duration::from_millis(TICK))
@@ -219,7 +233,7 @@ impl Table {
                 Ok(0)
             }
             Err(fault) => {
-                self.arrivals = arrivals_after(fault, true)?;
+                self.arrivals = arrivals_after(fault)?;
                 Ok(0)
             }
         }
@@ -294,7 +308,7 @@ impl Table {
                 Ok(())
             }
             Err(fault) => {
-                self.arrivals = arrivals_after(fault, !self.is_empty())?;
+                self.arrivals = arrivals_after(fault)?;
                 Ok(())
             }
         }

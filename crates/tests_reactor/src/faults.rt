@@ -6,6 +6,7 @@ use crate::script::Fault;
 use std::alloc::{AllocError, Global};
 use std::io::ErrorKind;
 use std::test::Fail;
+use std::time::Duration;
 
 /// The request of each client.
 const REQUEST: &[u8; 8] = b"a line\n\n";
@@ -81,7 +82,7 @@ fn fault_at_each_call(rt: HostRuntime) -> Result<(), Fail> {
 fn accept_that_fails_first(rt: HostRuntime) -> Result<(), Fail> {
     for (kind, is_served) in [
         (ErrorKind::Other, false),
-        (ErrorKind::OutOfMemory, false),
+        (ErrorKind::OutOfMemory, true),
         (ErrorKind::Interrupted, true),
         (ErrorKind::ConnectionAborted, true),
     ] {
@@ -90,5 +91,29 @@ fn accept_that_fails_first(rt: HostRuntime) -> Result<(), Fail> {
         assert_eq!(rt; outcome.result.is_ok(), is_served);
         assert_eq!(rt; outcome.echo.joined, if is_served { 3 } else { 0 });
     }
+    Ok(())
+}
+
+/// Serves a client alone, which is there from the beginning. The first accept, before which only a wait is called, runs out of memory.
+fn serve_alone(alloc: Global) -> Result<Outcome, AllocError> {
+    let mut peer = Peer::new(alloc, 0, 100);
+    peer.send(alloc, 0, REQUEST)?;
+    peer.send(alloc, 0, b"")?;
+    let mut peers = Peers::new(alloc)?;
+    peers.peers.push(peer)?;
+    let kind = ErrorKind::OutOfMemory;
+    run_with(alloc, peers, Fault { call: 2, kind }, 2, 1)
+}
+
+#[test]
+fn accept_out_of_memory_is_tried_again_after_a_second(rt: HostRuntime) -> Result<(), Fail> {
+    let outcome = serve_alone(rt.alloc())?;
+    assert!(rt; outcome.result.is_ok());
+    assert_eq!(rt; (whole_count(&outcome), outcome.echo.ended), (1, 1));
+    let accepted = match outcome.script.peers.peers.get(0) {
+        Some(peer) => peer.accepted,
+        None => None,
+    };
+    assert_eq!(rt; accepted, Some(Duration::from_secs(1)));
     Ok(())
 }
