@@ -10,7 +10,7 @@ use qs_store::{Active, View};
 use qs_terms::Term;
 
 /// The graph of this name, or the default graph where none is given (SPARQL 1.1 Query, 13.3). The graph of an unknown name is empty.
-pub(crate) fn active_of<V: View>(view: &V, name: Option<&Term>) -> Active
+pub fn active_of<V: View>(view: &V, name: Option<&Term>) -> Active
     ensures { active_graph (V.content view.now) (V.default_seen view.now) result ≡ graph_of (visible_quads (V.content view.now) (V.default_seen view.now)) (option_copied name.entry) }
 {
     let _count = view.count();

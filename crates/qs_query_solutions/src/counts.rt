@@ -7,7 +7,7 @@ use qs_terms::Term;
 
 /// What is counted: the triples of a view, where this graph is active.
 #[derive(Drop)]
-pub(crate) struct ViewCounts<'v, V: View> {
+pub struct ViewCounts<'v, V: View> {
     pub view: &'v V,
     pub active: Active,
 }

@@ -1,13 +1,18 @@
 //! The solutions of a pattern over what queries see of a view: as many as suffice, or all.
 //!
-//! `active` tells which graph is read, `counts` what a plan is ordered by, `terms` makes the terms of a row of cells, `collected` keeps them,
-//! with or without duplicates, and `solutions` asks the plan of the pattern for one solution after another, until the caller has enough.
+//! `active` tells which graph is read, `counts` what a plan is ordered by, and `planned` makes the plan that is run. `terms` makes the terms
+//! of a row of cells, `collected` keeps them, with or without duplicates, and `solutions` asks the plan of the pattern for one solution after
+//! another, until the caller has enough.
 #![tactic(auto)]
 
 mod active;
 mod collected;
 mod counts;
+mod planned;
 mod solutions;
 mod terms;
 
+pub use active::active_of;
+pub use counts::ViewCounts;
+pub use planned::plan_over;
 pub use solutions::{distinct_solutions, some_solutions};

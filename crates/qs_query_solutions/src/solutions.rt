@@ -13,12 +13,12 @@ ghost use Rattle.qs_query_solutions.specs.inner.Collected.{Collects};
 
 use crate::active::active_of;
 use crate::collected::Collected;
-use crate::counts::ViewCounts;
+use crate::planned::plan_over;
 use qs_algebra_patterns::Pattern;
 use qs_algebra_solutions::Row as Solution;
 use qs_base::drop_value;
 use qs_ops::Op;
-use qs_plan::{Plan, drop_plan, plan_for};
+use qs_plan::{Plan, drop_plan};
 use qs_store::{Active, View};
 use qs_terms::{QFault, Term};
 use std::alloc::{AllocError, Global};
@@ -69,8 +69,7 @@ fn collect_all<V: View>(
 {
     let _count = view.count();
     let active = active_of(view, name);
-    let counts = ViewCounts { view, active };
-    let plan = plan_for(alloc, pattern, &counts)?;
+    let plan = plan_over(alloc, pattern, view, active)?;
     let outcome = collect_planned(alloc, &plan, view, active, found);
     drop_plan(plan);
     outcome
