@@ -1,0 +1,174 @@
+//! What is told of a triple or a path: the order of the index that its scan uses, which of its variables are bound before it, and how many
+//! triples agree with its terms.
+
+use crate::bound::{Bound, bound_at, is_given};
+use crate::words::put_variable;
+use qs_algebra_patterns::{PathPattern, Slot, TriplePattern};
+use qs_index::permutation::{Lookup, Permutation};
+use qs_plan::{Counts, Look};
+use qs_query_solutions::ViewCounts;
+use qs_store::{Active, DefaultGraph, View};
+use qs_terms::Text;
+use std::alloc::AllocError;
+
+/// How many triples are counted at most for a pattern.
+const MOST: u64 = 4096;
+
+// ---- the order
+
+fn order_word(order: Permutation) -> &'static str {
+    match order {
+        Permutation::Gspo => "GSPO",
+        Permutation::Gpos => "GPOS",
+        Permutation::Gosp => "GOSP",
+        Permutation::Spog => "SPOG",
+        Permutation::Posg => "POSG",
+        Permutation::Ospg => "OSPG",
+    }
+}
+
+/// Whether the scan reads the union of all named graphs.
+fn is_of_union<V: View>(counts: &ViewCounts<'_, V>, look: &Look) -> bool {
+    matches!(look, Look::Active)
+        && matches!(counts.active, Active::Default)
+        && matches!(counts.view.default_graph(), DefaultGraph::Union)
+}
+
+/// Some number where the place is given: which one it is makes no difference to the order.
+fn given(known: &[Bound], slot: &Slot) -> Option<u32> {
+    if is_given(known, slot) { Some(0) } else { None }
+}
+
+/// The order of the index in which the scan of the pattern finds its triples.
+fn order_used<V: View>(
+    counts: &ViewCounts<'_, V>,
+    look: &Look,
+    pattern: &TriplePattern,
+    known: &[Bound],
+) -> Permutation {
+    let subject = given(known, &pattern.subject);
+    let predicate = given(known, &pattern.predicate);
+    let object = given(known, &pattern.object);
+    if is_of_union(counts, look) {
+        return Lookup::of_named(subject, predicate, object).permutation;
+    }
+    Lookup::new(0, subject, predicate, object).permutation
+}
+
+// ---- what is bound
+
+/// The variable in the place, unless it is one of these.
+fn other_variable(slot: &Slot, first: Option<usize>, second: Option<usize>) -> Option<usize> {
+    match slot {
+        Slot::Term(_) => None,
+        Slot::Variable(variable) => {
+            let variable = Some(*variable);
+            if variable == first || variable == second {
+                return None;
+            }
+            variable
+        }
+    }
+}
+
+/// How the variable is bound; never, where there is none.
+fn bound_of(known: &[Bound], variable: Option<usize>) -> Bound {
+    match variable {
+        Some(variable) => bound_at(known, variable),
+        None => Bound::Never,
+    }
+}
+
+/// Writes the variables of these that are bound so, each after the word.
+fn put_bound_so(
+    names: &[Text],
+    bindings: &[(Option<usize>, Bound)],
+    is_always: bool,
+    word: &str,
+    text: &mut String,
+) -> Result<(), AllocError> {
+    for at in 0..bindings.len() {
+        let (variable, bound) = bindings[at];
+        if let Some(variable) = variable {
+            if !bound.is_never() && bound.is_always() == is_always {
+                text.push_str(word)?;
+                put_variable(names, variable, text)?;
+            }
+        }
+    }
+    Ok(())
+}
+
+/// Which of the variables each row binds before the stage, and which some may.
+fn put_bindings(
+    names: &[Text],
+    known: &[Bound],
+    variables: [Option<usize>; 3],
+    text: &mut String,
+) -> Result<(), AllocError> {
+    let [first, second, third] = variables;
+    let bindings = [
+        (first, bound_of(known, first)),
+        (second, bound_of(known, second)),
+        (third, bound_of(known, third)),
+    ];
+    text.push_str(", bound:")?;
+    if bindings.iter().all(|binding| binding.1.is_never()) {
+        return text.push_str(" none");
+    }
+    put_bound_so(names, &bindings, true, " ", text)?;
+    put_bound_so(names, &bindings, false, " maybe ", text)
+}
+
+// ---- the count
+
+/// How many triples agree with the terms of the pattern, unless they aren't counted.
+fn put_count<V: View>(
+    counts: &ViewCounts<'_, V>,
+    look: &Look,
+    pattern: &TriplePattern,
+    text: &mut String,
+) -> Result<(), AllocError> {
+    if look.register().is_some() {
+        return text.push_str(", not counted");
+    }
+    let count = counts.about(look, pattern, MOST);
+    write!(text, ", count: {count}")?;
+    if count >= MOST {
+        return text.push_str(" or more");
+    }
+    Ok(())
+}
+
+// ---- the facts
+
+/// Writes what is told of a triple after what is known to be bound.
+pub(crate) fn put_triple_facts<V: View>(
+    names: &[Text],
+    counts: &ViewCounts<'_, V>,
+    look: &Look,
+    pattern: &TriplePattern,
+    known: &[Bound],
+    text: &mut String,
+) -> Result<(), AllocError> {
+    let order = order_word(order_used(counts, look, pattern, known));
+    write!(text, ", order: {order}")?;
+    let subject = other_variable(&pattern.subject, None, None);
+    let predicate = other_variable(&pattern.predicate, subject, None);
+    let object = other_variable(&pattern.object, subject, predicate);
+    put_bindings(names, known, [subject, predicate, object], text)?;
+    put_count(counts, look, pattern, text)
+}
+
+/// Writes what is told of a path after what is known to be bound. Paths aren't counted.
+pub(crate) fn put_path_facts(
+    names: &[Text],
+    pattern: &PathPattern,
+    known: &[Bound],
+    text: &mut String,
+) -> Result<(), AllocError> {
+    let subject = other_variable(&pattern.subject, None, None);
+    let object = other_variable(&pattern.object, subject, None);
+    put_bindings(names, known, [subject, None, object], text)?;
+    text.push_str(", not counted")
+}

@@ -1,0 +1,170 @@
+//! Why a group is evaluated by itself. Its stages tell it: a planner feeds a group the rows before it only where each row that it makes stays
+//! the same, and an OPTIONAL only where its group costs little for each of few rows.
+
+use crate::bound::{Bound, bound_at, mark_stage, none_bound};
+use crate::words::put_variable;
+use qs_algebra_patterns::Table;
+use qs_expr_meaning::Expr;
+use qs_plan::{Group, Stage, settle};
+use qs_terms::Text;
+use std::alloc::{AllocError, Global};
+
+/// Why a group is evaluated by itself.
+#[derive(Clone, Copy)]
+pub(crate) enum Reason {
+    /// A filter in it reads a variable that it isn't certain to bind.
+    NotCertain(usize),
+    /// This stands in it.
+    Inside(&'static str),
+    /// It is optional, and many rows may stand before it.
+    ManyRows,
+}
+
+/// What the group stands in: some parts may be fed in a group that is joined, and not in an OPTIONAL.
+#[derive(Clone, Copy)]
+enum Side {
+    Joined,
+    Optional,
+}
+
+impl Side {
+    fn only_if_optional(self, reason: Reason) -> Option<Reason> {
+        match self {
+            Side::Joined => None,
+            Side::Optional => Some(reason),
+        }
+    }
+}
+
+/// The most rows of a table that are few.
+const FEW: usize = 64;
+
+fn table_reason(side: Side, table: &Table) -> Option<Reason> {
+    if table.rows.len() <= FEW {
+        return None;
+    }
+    side.only_if_optional(Reason::Inside("a long table"))
+}
+
+/// The first of the variables that isn't bound in each row.
+fn not_certain(known: &[Bound], variables: &[usize]) -> Option<usize> {
+    for at in 0..variables.len() {
+        if !bound_at(known, variables[at]).is_always() {
+            return Some(variables[at]);
+        }
+    }
+    None
+}
+
+fn filter_reason(
+    alloc: Global,
+    side: Side,
+    condition: &Expr,
+    known: &[Bound],
+) -> Result<Option<Reason>, AllocError> {
+    let mut variables = Vec::new(alloc);
+    settle(alloc, condition, &mut variables)?;
+    match not_certain(known, variables.as_slice()) {
+        Some(variable) => Ok(Some(Reason::NotCertain(variable))),
+        None => Ok(side.only_if_optional(Reason::Inside("FILTER"))),
+    }
+}
+
+/// Why a group with this stage isn't fed, if the stage is the cause.
+#[cycle(reason)]
+fn stage_reason(
+    alloc: Global,
+    side: Side,
+    stage: &Stage,
+    known: &[Bound],
+) -> Result<Option<Reason>, AllocError> {
+    match stage {
+        Stage::Filter(condition) => filter_reason(alloc, side, condition.get(), known),
+        Stage::Path(_, _) => Ok(side.only_if_optional(Reason::Inside("a path"))),
+        Stage::Names(_) => Ok(side.only_if_optional(Reason::Inside("GRAPH of a variable"))),
+        Stage::Values(table) => Ok(table_reason(side, table.get())),
+        Stage::Bind(_, _) => Ok(Some(Reason::Inside("BIND"))),
+        Stage::Optional(_, _, _) => Ok(Some(Reason::Inside("OPTIONAL"))),
+        Stage::Fed(_, _) => Ok(Some(Reason::Inside("OPTIONAL"))),
+        Stage::Minus(_, _) => Ok(Some(Reason::Inside("MINUS"))),
+        Stage::Apart(_, _) => Ok(Some(Reason::Inside("a group apart"))),
+        Stage::Union(branches) => branches_reason(alloc, side, branches.as_slice(), known.len()),
+        _ => Ok(None),
+    }
+}
+
+#[cycle(reason)]
+fn branches_reason(
+    alloc: Global,
+    side: Side,
+    branches: &[Group],
+    count: usize,
+) -> Result<Option<Reason>, AllocError> {
+    for branch in branches {
+        let reason = group_reason(alloc, side, branch, count)?;
+        if reason.is_some() {
+            return Ok(reason);
+        }
+    }
+    Ok(None)
+}
+
+/// Why the group, with so many variables, isn't fed, if a stage of it is the cause.
+#[cycle(reason)]
+fn group_reason(
+    alloc: Global,
+    side: Side,
+    group: &Group,
+    count: usize,
+) -> Result<Option<Reason>, AllocError> {
+    let mut known = none_bound(alloc, count, None)?;
+    for stage in group.stages.as_slice() {
+        let reason = stage_reason(alloc, side, stage, known.as_slice())?;
+        if reason.is_some() {
+            return Ok(reason);
+        }
+        mark_stage(alloc, &mut known, stage)?;
+    }
+    Ok(None)
+}
+
+/// Why the group of an OPTIONAL is evaluated by itself.
+pub(crate) fn optional_reason(
+    alloc: Global,
+    group: &Group,
+    count: usize,
+) -> Result<Reason, AllocError> {
+    match group_reason(alloc, Side::Optional, group, count)? {
+        Some(reason) => Ok(reason),
+        None => Ok(Reason::ManyRows),
+    }
+}
+
+/// Why a group that is joined is evaluated by itself. Where no stage is the cause, it is a condition on a part of it.
+pub(crate) fn join_reason(
+    alloc: Global,
+    group: &Group,
+    count: usize,
+) -> Result<Reason, AllocError> {
+    match group_reason(alloc, Side::Joined, group, count)? {
+        Some(reason) => Ok(reason),
+        None => Ok(Reason::Inside("FILTER")),
+    }
+}
+
+/// Writes the reason.
+pub(crate) fn put_reason(
+    names: &[Text],
+    reason: Reason,
+    text: &mut String,
+) -> Result<(), AllocError> {
+    match reason {
+        Reason::NotCertain(variable) => {
+            text.push_str(", apart: ")?;
+            put_variable(names, variable, text)?;
+            text.push_str(" isn't certain")
+        }
+        Reason::Inside(part) => write!(text, ", apart: {part} inside"),
+        Reason::ManyRows => text.push_str(", apart: many rows before it"),
+    }
+}
