@@ -16,6 +16,9 @@ pub const QUERY: &str = "QUERYFILE";
 /// The argument that names the file of an update.
 pub const UPDATE: &str = "UPDATEFILE";
 
+/// The argument that names the file of a query or an update.
+pub const TEXT: &str = "TEXTFILE";
+
 /// The argument that names a script of connection events.
 pub const SCRIPT: &str = "SCRIPT";
 
@@ -33,6 +36,9 @@ pub const IDLE: &str = "IDLE";
 
 /// The argument of the seconds that a request may take.
 pub const REQUEST: &str = "REQUEST";
+
+/// The flag of an update whose plans are printed.
+pub const IS_UPDATE: &str = "update";
 
 /// The flag of a union default graph.
 pub const UNION_DEFAULT: &str = "union-default";
@@ -73,6 +79,22 @@ fn update_command<'a>(alloc: Global) -> Result<Command<'a>, AllocError> {
         )
         .arg(file_argument(alloc, DATA, "the data, as N-Quads"))?
         .arg(file_argument(alloc, UPDATE, "the text of the update"))?
+        .arg(union_default(alloc))
+}
+
+fn explain_command<'a>(alloc: Global) -> Result<Command<'a>, AllocError> {
+    Command::new(alloc, "explain")
+        .about(
+            "Prints the plan that a query would run over the data of a file, a line a stage; nothing is carried out",
+        )
+        .arg(file_argument(alloc, DATA, "the data, as N-Quads"))?
+        .arg(file_argument(alloc, TEXT, "the text of the query, or of the update"))?
+        .arg(
+            Arg::new(alloc, IS_UPDATE)
+                .long(IS_UPDATE)
+                .action(ArgAction::SetTrue)
+                .help("the text is an update; the plan of each operation's WHERE is printed"),
+        )?
         .arg(union_default(alloc))
 }
 
@@ -160,6 +182,7 @@ pub fn command<'a>(alloc: Global) -> Result<Command<'a>, AllocError> {
     let command = add_command(command, check_command(alloc))?;
     let command = add_command(command, query_command(alloc))?;
     let command = add_command(command, update_command(alloc))?;
+    let command = add_command(command, explain_command(alloc))?;
     let command = add_command(command, replay_command(alloc))?;
     add_command(command, serve_command(alloc))
 }

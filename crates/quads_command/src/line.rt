@@ -1,7 +1,8 @@
 //! What a command line asks for.
 
 use crate::command::{
-    AT_ONCE, DATA, IDLE, PORT, QUERY, REQUEST, REQUESTS, SCRIPT, UNION_DEFAULT, UPDATE,
+    AT_ONCE, DATA, IDLE, IS_UPDATE, PORT, QUERY, REQUEST, REQUESTS, SCRIPT, TEXT, UNION_DEFAULT,
+    UPDATE,
 };
 use clap::ArgMatches;
 
@@ -38,6 +39,13 @@ pub enum CommandLine<'a> {
         update: &'a str,
         union_default: bool,
     },
+    /// `explain FILE TEXTFILE`: the plans of a query over the data are printed, or those of an update.
+    Explain {
+        data: &'a str,
+        text: &'a str,
+        is_update: bool,
+        union_default: bool,
+    },
     /// `replay FILE SCRIPT`: the connection events of a script are carried out over the data.
     Replay {
         data: &'a str,
@@ -65,6 +73,15 @@ fn update_line<'a>(matches: &ArgMatches<'a>) -> Option<CommandLine<'a>> {
     Some(CommandLine::Update {
         data: matches.get_str(DATA)?,
         update: matches.get_str(UPDATE)?,
+        union_default: matches.get_flag(UNION_DEFAULT),
+    })
+}
+
+fn explain_line<'a>(matches: &ArgMatches<'a>) -> Option<CommandLine<'a>> {
+    Some(CommandLine::Explain {
+        data: matches.get_str(DATA)?,
+        text: matches.get_str(TEXT)?,
+        is_update: matches.get_flag(IS_UPDATE),
         union_default: matches.get_flag(UNION_DEFAULT),
     })
 }
@@ -104,6 +121,7 @@ pub fn line_of<'a>(matches: &ArgMatches<'a>) -> Option<CommandLine<'a>> {
         }),
         ("query", matches) => query_line(matches),
         ("update", matches) => update_line(matches),
+        ("explain", matches) => explain_line(matches),
         ("replay", matches) => replay_line(matches),
         ("serve", matches) => serve_line(matches),
         _ => None,
