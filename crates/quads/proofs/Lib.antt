@@ -1,3 +1,4 @@
+pub mod Explained
 pub mod Loads
 pub mod Replays
 pub mod Results

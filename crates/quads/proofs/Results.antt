@@ -12,8 +12,9 @@ use Rattle.qs_service.specs.Language.{sparql}
 use Rattle.qs_store.specs.Content.{Held, Content}
 use Rattle.qs_store.specs.Same.{SameSet}
 use Rattle.qs_store.specs.declared.default_graph.DefaultGraph.{DefaultGraph}
-use Rattle.quads.specs.Due.{max_rows, IsTextOf, IsQueryOutcome, IsQueryOfData, IsUpdateOutcome, IsUpdateOfData}
-use Rattle.quads.specs.inner.JobResult.{IsQueryResult, IsUpdateResult, load_refusal}
+use Rattle.quads.specs.Due.{max_rows, IsTextOf, IsQueryOutcome, IsQueryOfData, IsUpdateOutcome, IsUpdateOfData, IsExplained, IsExplanationOutcome, IsExplanationOfData}
+use Rattle.quads.specs.declared.job.TextKind.{TextKind}
+use Rattle.quads.specs.inner.JobResult.{IsQueryResult, IsUpdateResult, IsExplanationResult, load_refusal}
 use Rattle.quads.specs.inner.Load.{BecomesStored}
 use Rattle.quads.proofs.Loads.{over_data}
 use Rattle.quads.specs.Refusal.{refusal_of}
@@ -33,6 +34,15 @@ module _ (held : Held) (bytes text : List ℕ) (same : SameSet held.base.quads h
   of_text (Ok answer) due = over (Ok answer) due
   of_text (Err f) due = λ other. over (Err f) (due other)
 
+-- the same of an explanation
+pub no_explained_text : (kind : TextKind) (bytes : List ℕ) (c : Content) (f : QFault) → IsTextOf bytes (Err f) → OneOrOutOfMemory (IsExplanationOutcome kind bytes c) (Err f)
+no_explained_text kind bytes c f is = λ _. (Err f, is, refl)
+
+module _ (kind : TextKind) (bytes text : List ℕ) (c : Content) (is : IsTextOf bytes (Ok text)) where
+  pub of_explained_text : (r : Outcome (List ℕ)) → OneOrOutOfMemory (IsExplained kind text) r → OneOrOutOfMemory (IsExplanationOutcome kind bytes c) r
+  of_explained_text (Ok explanation) due = (Ok text, is, due)
+  of_explained_text (Err f) due = λ other. (Ok text, is, due other)
+
 -- data that aren't put into a store
 pub query_refusal : (choice : DefaultGraph) (file text : List ℕ) (f : LoadFault) → IsRefusalOf file (refusal_of f) → IsQueryResult choice file text (load_refusal f)
 query_refusal choice file text (Text f) h = h
@@ -41,6 +51,10 @@ query_refusal choice file text (Store f) h = λ n. (Err _, h n, refl)
 pub update_refusal : (choice : DefaultGraph) (file text : List ℕ) (f : LoadFault) → IsRefusalOf file (refusal_of f) → IsUpdateResult choice file text (load_refusal f)
 update_refusal choice file text (Text f) h = h
 update_refusal choice file text (Store f) h = λ n. (Err _, h n, refl)
+
+pub explanation_refusal : (kind : TextKind) (file text : List ℕ) (f : LoadFault) → IsRefusalOf file (refusal_of f) → IsExplanationResult kind file text (load_refusal f)
+explanation_refusal kind file text (Text f) h = h
+explanation_refusal kind file text (Store f) h = λ n. (Err _, h n, refl)
 
 module _ (choice : DefaultGraph) (file text : List ℕ) (loaded : Result Held LoadFault) (became : BecomesStored choice file loaded) where
   module _ (held : Held) (is : loaded ≡ Ok held) where
@@ -56,6 +70,10 @@ module _ (choice : DefaultGraph) (file text : List ℕ) (loaded : Result Held Lo
     pub update_over : (r : Outcome Content) → IsUpdateOutcome held.default_graph text held.base r → IsUpdateOfData choice file text r
     update_over r due = (Ok held.base, stored.0, subst (λ (d : DefaultGraph). IsUpdateOutcome d text held.base r) stored.2 due)
 
+    -- the explanation of a text over the store is that over the data
+    pub explanation_over : (kind : TextKind) (r s : Outcome (List ℕ)) → r ≡ s → OneOrOutOfMemory (IsExplanationOutcome kind text held.base) r → OneOrOutOfMemory (IsExplanationOfData kind file text) s
+    explanation_over kind r s same due = over_data (IsExplanationOutcome kind text) file held.base stored.0 r s same due
+
   module _ (f : LoadFault) (is : loaded ≡ Err f) where
     refused : BecomesStored choice file (Err f)
     refused = subst (λ (r : Result Held LoadFault). BecomesStored choice file r) is became
@@ -65,3 +83,6 @@ module _ (choice : DefaultGraph) (file text : List ℕ) (loaded : Result Held Lo
 
     pub update_refused : IsUpdateResult choice file text (load_refusal f)
     update_refused = update_refusal choice file text f refused
+
+    pub explanation_refused : (kind : TextKind) → IsExplanationResult kind file text (load_refusal f)
+    explanation_refused kind = explanation_refusal kind file text f refused

@@ -7,36 +7,46 @@ use Rattle.qs_terms.specs.declared.fault.QFault.TheVariants as fault
 use Rattle.qs_results.specs.Lines.{fault_line}
 use Rattle.qs_store.specs.declared.default_graph.DefaultGraph.{DefaultGraph}
 use Rattle.quads.specs.Due.{line, IsDue, IsBegun}
-use Rattle.quads.specs.inner.JobResult.{IsCheckResult, IsQueryResult, IsUpdateResult, IsJobResult, printed, status}
+use Rattle.quads.specs.inner.JobResult.{IsCheckResult, IsQueryResult, IsUpdateResult, IsExplanationResult, IsJobResult, printed, status}
 use Rattle.quads.specs.inner.Replay.{IsReplayDue, IsReplayBegun}
 use Rattle.quads.specs.Run.{Prints, IsRun, Runs}
 use Rattle.quads.specs.declared.result.JobResult.{JobResult}
-use Rattle.quads.specs.declared.result.JobResult.TheVariants.{Answered, Quads, DataRefused, Refused}
+use Rattle.quads.specs.declared.result.JobResult.TheVariants.{Answered, Quads, Explained, DataRefused, Refused}
 use Rattle.quads.specs.declared.job.Job.{Job}
-use Rattle.quads.specs.declared.job.Job.TheVariants.{Check, Query, Update, Replay}
+use Rattle.quads.specs.declared.job.Job.TheVariants.{Check, Query, Update, Replay, Explain}
+use Rattle.quads.specs.declared.job.TextKind.{TextKind}
 use Rattle.quads.specs.declared.job.Ran.{Ran}
 
 -- what is printed of a job's result is due
 due_of : (job : Job) (end : JobResult) → IsJobResult job end → IsDue job (printed end) (status end)
 due_of (Check file) (Answered answer) is = absurd is
 due_of (Check file) (Quads quads) is = inl (quads.items, is.0, is.1, is.2, refl, refl)
+due_of (Check file) (Explained explanation) is = absurd is
 due_of (Check file) (DataRefused f) is = inr (inr (f, is, refl, refl))
 due_of (Check file) (Refused f) is = absurd is
 due_of (Query file text choice) (Answered answer) is = inl (Ok answer, is, refl, refl)
 due_of (Query file text choice) (Quads quads) is = absurd is
+due_of (Query file text choice) (Explained explanation) is = absurd is
 due_of (Query file text choice) (DataRefused f) is = inr (f, is, refl, refl)
 due_of (Query file text choice) (Refused f) is = inl (Err f, is, refl, refl)
 due_of (Update file text choice) (Answered answer) is = absurd is
 due_of (Update file text choice) (Quads quads) is = inl (Ok is.0, is.1, (quads.items, is.2, refl), refl)
+due_of (Update file text choice) (Explained explanation) is = absurd is
 due_of (Update file text choice) (DataRefused f) is = inr (f, is, refl, refl)
 due_of (Update file text choice) (Refused f) is = inl (Err f, is, refl, refl)
 due_of (Replay file script choice) end is = absurd is
+due_of (Explain file text kind choice) (Answered answer) is = absurd is
+due_of (Explain file text kind choice) (Quads quads) is = absurd is
+due_of (Explain file text kind choice) (Explained explanation) is = inl (Ok explanation, is, refl, refl)
+due_of (Explain file text kind choice) (DataRefused f) is = inr (f, is, refl, refl)
+due_of (Explain file text kind choice) (Refused f) is = inl (Err f, is, refl, refl)
 
 begun : (job : Job) (bytes : List ℕ) (s : ℕ) → IsDue job bytes s → IsBegun job bytes
 begun (Check file) bytes s due = (s, due)
 begun (Query file text choice) bytes s due = (s, due)
 begun (Update file text choice) bytes s due = (s, due)
 begun (Replay file script choice) bytes s due = inl (s, due)
+begun (Explain file text kind choice) bytes s due = (s, due)
 
 -- out of memory is due of each job
 memory : (job : Job) → IsDue job (line (fault_line fault.Memory)) 1
@@ -44,6 +54,7 @@ memory (Check file) = inr (inl (refl, refl))
 memory (Query file text choice) = inl (Err fault.Memory, (λ other. absurd (other refl)), refl, refl)
 memory (Update file text choice) = inl (Err fault.Memory, (λ other. absurd (other refl)), refl, refl)
 memory (Replay file script choice) = inr (inl (refl, refl))
+memory (Explain file text kind choice) = inl (Err fault.Memory, (λ other. absurd (other refl)), refl, refl)
 
 whole : (n : ℕ) (bytes : List ℕ) → n ≡ length bytes → take n bytes ≡ bytes
 whole n bytes is = take_all n bytes (omega (arith, is))
@@ -74,6 +85,10 @@ module _ (job : Job) (end : JobResult) (bytes : List ℕ) (file : Vec ℕ Global
     pub update_of_job : job ≡ Update file text choice → bytes ≡ file.items → lent ≡ text.items → IsUpdateResult choice bytes lent end → IsJobResult job end
     update_of_job is same also e =
         subst (λ (j : Job). IsJobResult j end) (sym is) (subst (λ (l : List ℕ). IsUpdateResult choice file.items l end) also (subst (λ (l : List ℕ). IsUpdateResult choice l lent end) same e))
+
+    pub explanation_of_job : (kind : TextKind) → job ≡ Explain file text kind choice → bytes ≡ file.items → lent ≡ text.items → IsExplanationResult kind bytes lent end → IsJobResult job end
+    explanation_of_job kind is same also e =
+        subst (λ (j : Job). IsJobResult j end) (sym is) (subst (λ (l : List ℕ). IsExplanationResult kind file.items l end) also (subst (λ (l : List ℕ). IsExplanationResult kind l lent end) same e))
 
 -- the run of a replay of the job's bytes is that of the job
 module _ (job : Job) (bytes lent : List ℕ) (taken taken2 : Option (List ℕ)) (faults faults2 : ℕ) (r : Ran) (file script : Vec ℕ Global) (choice : DefaultGraph) where

@@ -1,6 +1,7 @@
 -- What is due of a job: the bytes that are printed, and the exit status. The data of a check are printed again as N-Quads, or refused. Those
 -- of the other jobs are put into a new store before, with the default graph that the job chooses: a query over it is answered, of an update the dataset after it is printed as N-Quads,
--- and of a replay the lines of a run of its events; or the first fault is told, of the data before that of the text or the script.
+-- of a replay the lines of a run of its events, and of an explanation some text, where the query or the update has no fault of its text; or the first fault is
+-- told, of the data before that of the text or the script.
 use Rattle.std.specs.Prelude.{◌≡◌, ◌⊎◌, ◌∷◌, ◌++◌, [], ℕ, List, Ok, Err, codes, decimal}
 use Rattle.std.specs.Str.{IsUtf8, IsValidUpTo}
 use Rattle.serde_json.specs.Written.{compact_text}
@@ -29,8 +30,11 @@ use Rattle.qs_service_connections.specs.Step.{Event}
 use Rattle.qs_service_replay.specs.Replay.{Replays}
 use Rattle.qs_service_replay.specs.Replayed.{StopsAt}
 use Rattle.qs_service_replay.specs.Script.{IsScript, IsOtherLine}
+use Rattle.qs_explain.specs.Explained.{IsExplainedQuery, IsExplainedUpdate}
 use Rattle.quads.specs.declared.job.Job.{Job}
-use Rattle.quads.specs.declared.job.Job.TheVariants.{Check, Query, Update, Replay}
+use Rattle.quads.specs.declared.job.Job.TheVariants.{Check, Query, Update, Replay, Explain}
+use Rattle.quads.specs.declared.job.TextKind.{TextKind}
+use Rattle.quads.specs.declared.job.TextKind.TheVariants as kind
 
 -- ---- what the data result in in a store
 
@@ -101,6 +105,25 @@ IsUpdateOutcome choice bytes old outcome = (text : Outcome (List ℕ)) × IsText
 abbrev pub IsUpdateOfData : DefaultGraph → List ℕ → List ℕ → Outcome Content → Type 0
 IsUpdateOfData choice file text outcome = IsOverData (IsUpdateOutcome choice text) file outcome
 
+-- ---- what an explanation results in
+
+-- the explanation of a text that is a query's, or an update's
+abbrev pub IsExplained : TextKind → List ℕ → Outcome (List ℕ) → Type 0
+IsExplained kind.Query text outcome = IsExplainedQuery text outcome
+IsExplained kind.Update text outcome = IsExplainedUpdate text outcome
+
+abbrev pub IsExplanationOfRead : TextKind → Outcome (List ℕ) → Outcome (List ℕ) → Type 0
+IsExplanationOfRead k (Ok text) outcome = IsExplained k text outcome
+IsExplanationOfRead k (Err f) outcome = outcome ≡ Err f
+
+-- what the bytes of such a file result in, whatever a store holds
+abbrev pub IsExplanationOutcome : TextKind → List ℕ → Content → Outcome (List ℕ) → Type 0
+IsExplanationOutcome k bytes c outcome = (text : Outcome (List ℕ)) × IsTextOf bytes text × IsExplanationOfRead k text outcome
+
+-- the same over the data
+abbrev pub IsExplanationOfData : TextKind → List ℕ → List ℕ → Outcome (List ℕ) → Type 0
+IsExplanationOfData k file text outcome = IsOverData (IsExplanationOutcome k text) file outcome
+
 -- ---- what is printed of it
 
 -- the text with LF
@@ -140,6 +163,20 @@ IsDueOfQuery choice file text bytes status =
 abbrev pub IsDueOfUpdate : DefaultGraph → List ℕ → List ℕ → List ℕ → ℕ → Type 0
 IsDueOfUpdate choice file text bytes status =
     (outcome : Outcome Content) × OneOrOutOfMemory (IsUpdateOfData choice file text) outcome × IsContentText outcome bytes × (status ≡ content_status outcome)
+
+-- an explanation, or the line of the fault
+abbrev pub explanation_line : Outcome (List ℕ) → List ℕ
+explanation_line (Ok text) = text
+explanation_line (Err f) = line (fault_line f)
+
+abbrev pub explanation_status : Outcome (List ℕ) → ℕ
+explanation_status (Ok text) = 0
+explanation_status (Err f) = 1
+
+-- the data are quads, and this is printed of the explanation of the text over them, or of running out of memory
+abbrev pub IsDueOfExplanation : TextKind → List ℕ → List ℕ → List ℕ → ℕ → Type 0
+IsDueOfExplanation k file text bytes status =
+    (outcome : Outcome (List ℕ)) × OneOrOutOfMemory (IsExplanationOfData k file text) outcome × (bytes ≡ explanation_line outcome) × (status ≡ explanation_status outcome)
 
 -- the data are none, and this is the line of their fault
 abbrev pub IsDueOfData : List ℕ → List ℕ → ℕ → Type 0
@@ -200,6 +237,7 @@ IsDue (Check file) bytes status = IsDueOfDataset file.items bytes status ⊎ (Is
 IsDue (Query file text choice) bytes status = IsDueOfQuery choice file.items text.items bytes status ⊎ IsDueOfData file.items bytes status
 IsDue (Update file text choice) bytes status = IsDueOfUpdate choice file.items text.items bytes status ⊎ IsDueOfData file.items bytes status
 IsDue (Replay file script choice) bytes status = IsDueOfReplay choice file.items script.items bytes status ⊎ (IsDueOfMemory bytes status ⊎ IsDueOfData file.items bytes status)
+IsDue (Explain file text k choice) bytes status = IsDueOfExplanation k file.items text.items bytes status ⊎ IsDueOfData file.items bytes status
 
 -- the job may have begun to print these bytes: those that are due; of a replay, what some of its events write
 abbrev pub IsBegun : Job → List ℕ → Type 0
@@ -207,3 +245,4 @@ IsBegun (Check file) bytes = (status : ℕ) × IsDue (Check file) bytes status
 IsBegun (Query file text choice) bytes = (status : ℕ) × IsDue (Query file text choice) bytes status
 IsBegun (Update file text choice) bytes = (status : ℕ) × IsDue (Update file text choice) bytes status
 IsBegun (Replay file script choice) bytes = ((status : ℕ) × IsDue (Replay file script choice) bytes status) ⊎ IsBegunOfReplay choice file.items script.items bytes
+IsBegun (Explain file text k choice) bytes = (status : ℕ) × IsDue (Explain file text k choice) bytes status

@@ -2,6 +2,13 @@
 
 use qs_store::DefaultGraph;
 
+/// What a text is.
+#[derive(Clone, Copy)]
+pub enum TextKind {
+    Query,
+    Update,
+}
+
 /// A job, with the bytes of its files. The data are put into a store; its queries, and the WHERE of its updates, see this default graph.
 #[derive(Drop)]
 pub enum Job {
@@ -25,6 +32,13 @@ pub enum Job {
     Replay {
         data: Vec<u8>,
         script: Vec<u8>,
+        default_graph: DefaultGraph,
+    },
+    /// The plans of the query or the update of `text` over the N-Quads of `data`. Nothing is carried out.
+    Explain {
+        data: Vec<u8>,
+        text: Vec<u8>,
+        kind: TextKind,
         default_graph: DefaultGraph,
     },
 }

@@ -9,7 +9,9 @@
 #![tactic(auto)]
 
 mod events;
+mod explain;
 mod job;
+pub mod laws;
 mod load;
 mod owned;
 mod perform;
@@ -22,7 +24,7 @@ mod result;
 mod update;
 
 pub use events::{ServiceEndpoint, serve_events};
-pub use job::{Job, Ran};
+pub use job::{Job, Ran, TextKind};
 pub use load::load_owned_service;
 pub use owned::run_owned;
 pub use perform::run;

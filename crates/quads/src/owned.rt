@@ -2,6 +2,7 @@
 
 ghost use Rattle.quads.specs.Run.{IsRun};
 
+use crate::explain::explanation_result;
 use crate::job::{Job, Ran};
 use crate::load::{load_owned_service, load_owned_store};
 use crate::print::put_result;
@@ -48,6 +49,16 @@ pub fn run_owned<S: Sink>(alloc: Global, job: Job, hasher: RandomState, out: &mu
         } => {
             let loaded = load_owned_service(alloc, hasher, default_graph, data);
             replay_script(alloc, loaded, script.as_slice(), out)
+        }
+        Job::Explain {
+            data,
+            text,
+            kind,
+            default_graph,
+        } => {
+            let loaded = load_owned_store(alloc, hasher, default_graph, data);
+            let end = explanation_result(alloc, loaded, kind, text.as_slice());
+            put_result(alloc, end, out)
         }
     }
 }

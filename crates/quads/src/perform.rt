@@ -2,6 +2,7 @@
 
 ghost use Rattle.quads.specs.Run.{IsRun};
 
+use crate::explain::explanation_result;
 use crate::job::{Job, Ran};
 use crate::load::{load_service, load_store};
 use crate::print::put_result;
@@ -14,8 +15,8 @@ use std::alloc::Global;
 use std::hash::RandomState;
 
 /// Returns the exit status of the job, and how many bytes the sink took of what is printed: the data as N-Quads, the answer as a line of
-/// JSON, a graph as N-Triples, the data after an update as N-Quads, a line for each reply and each refused event of a script, or the line of
-/// the fault that is due. The labels of the data and the terms of a store are hashed by `hasher`.
+/// JSON, a graph as N-Triples, the data after an update as N-Quads, a line for each reply and each refused event of a script, the plans of a
+/// text, or the line of the fault that is due. The labels of the data and the terms of a store are hashed by `hasher`.
 ///
 /// # Errors
 ///
@@ -52,6 +53,16 @@ pub fn run<S: Sink>(alloc: Global, job: &Job, hasher: RandomState, out: &mut S) 
         } => {
             let loaded = load_service(alloc, hasher, *default_graph, data.as_slice());
             replay_script(alloc, loaded, script.as_slice(), out)
+        }
+        Job::Explain {
+            data,
+            text,
+            kind,
+            default_graph,
+        } => {
+            let loaded = load_store(alloc, hasher, *default_graph, data.as_slice());
+            let end = explanation_result(alloc, loaded, *kind, text.as_slice());
+            put_result(alloc, end, out)
         }
     }
 }

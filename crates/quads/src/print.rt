@@ -16,7 +16,7 @@ use crate::result::JobResult;
 use qs_algebra_solutions::Answer;
 use qs_nquads::{NqFault, text};
 use qs_results::{data_fault_line, fault_line, json, ntriples, out_of_memory_line};
-use qs_terms::{QFault, Sink};
+use qs_terms::{QFault, Sink, Text};
 use std::alloc::{AllocError, Global};
 
 /// The line of a fault of the data.
@@ -56,6 +56,12 @@ fn answer_text(alloc: Global, answer: &Answer) -> Result<String, AllocError>
     }
 }
 
+fn explanation_text(alloc: Global, explanation: &Text) -> Result<String, AllocError>
+    ensures { IfOk result (λ s. string_bytes s ≡ explanation.now) }
+{
+    String::from_str(alloc, explanation.as_str())
+}
+
 /// Returns the text that is printed of the result.
 ///
 /// # Errors
@@ -67,6 +73,7 @@ pub fn result_text(alloc: Global, end: &JobResult) -> Result<String, AllocError>
     match end {
         JobResult::Answered(answer) => answer_text(alloc, answer),
         JobResult::Quads(quads) => text(alloc, quads.as_slice()),
+        JobResult::Explained(explanation) => explanation_text(alloc, explanation),
         JobResult::DataRefused(fault) => data_fault_text(alloc, fault),
         JobResult::Refused(fault) => fault_text(alloc, fault),
     }
@@ -79,6 +86,7 @@ pub fn status(end: &JobResult) -> u8
     match end {
         JobResult::Answered(_) => 0,
         JobResult::Quads(_) => 0,
+        JobResult::Explained(_) => 0,
         JobResult::DataRefused(_) => 1,
         JobResult::Refused(_) => 1,
     }

@@ -11,7 +11,7 @@ use qs_nquads::laws::next_number_is_fresh;
 use qs_nquads::{NqFault, read_hashed};
 use qs_query_forms::laws::quads_are_a_dataset;
 use qs_store_load::LoadFault;
-use qs_terms::{QFault, Quad};
+use qs_terms::{QFault, Quad, Text};
 use std::alloc::Global;
 use std::hash::RandomState;
 
@@ -25,6 +25,8 @@ pub enum JobResult {
     Answered(Answer),
     /// The data are these quads, or these are what an update makes of them.
     Quads(Vec<Quad>),
+    /// The plans of the text are these.
+    Explained(Text),
     /// The data are no N-Quads.
     DataRefused(NqFault),
     /// The text is refused, or out of memory.

@@ -1,5 +1,5 @@
 use Rattle.std.proofs.Common.{refl}
-use Rattle.quads.proofs.Runs.{ran, check_of_job, query_of_job, update_of_job, replay_ran}
+use Rattle.quads.proofs.Runs.{ran, check_of_job, query_of_job, update_of_job, explanation_of_job, replay_ran}
 use Rattle.quads.proofs.owned.run_owned.Goals as goal
 
 pub returns-in-Check : goal.returns-in-Check
@@ -24,3 +24,10 @@ pub returns-in-Replay : goal.returns-in-Replay
 returns-in-Replay g c =
     replay_ran c.args.job c.in-Replay.data.items c.as_slice-in-Replay.result.now _ _ _ _ c.replay_script.result c.in-Replay.data c.in-Replay.script c.in-Replay.default_graph c.in-Replay.is refl c.as_slice-in-Replay.ensures.value
     (c.replay_script.ensures c.in-Replay.default_graph c.in-Replay.data.items c.load_owned_service-loaded.ensures)
+
+pub returns-in-Explain : goal.returns-in-Explain
+returns-in-Explain g c =
+    ran c.args.job _ _ _ _ c.put_result-in-Explain.result c.explanation_result-end.result
+    (explanation_of_job c.args.job c.explanation_result-end.result c.in-Explain.data.items c.in-Explain.data c.as_slice-in-Explain.result.now c.in-Explain.text c.in-Explain.default_graph c.in-Explain.kind c.in-Explain.is refl c.as_slice-in-Explain.ensures.value
+    (c.explanation_result-end.ensures c.in-Explain.default_graph c.in-Explain.data.items c.load_owned_store-loaded-in-Explain.ensures.becomes))
+    c.put_result-in-Explain.ensures
