@@ -5,7 +5,7 @@ use crate::listen::serve_data;
 use qs_base::drop_value;
 use qs_store::DefaultGraph;
 use qs_terms::Sink;
-use quads::{Job, run_owned};
+use quads::{Job, TextKind, run_owned};
 use quads_command::CommandLine;
 
 /// Returns the default graph that queries see.
@@ -64,6 +64,27 @@ fn replay_job<S: Sink>(
     })
 }
 
+fn explain_job<S: Sink>(
+    rt: &HostRuntime,
+    out: &mut S,
+    (data, text): (&str, &str),
+    is_update: bool,
+    default_graph: DefaultGraph,
+) -> Result<Job, u8> {
+    let (data, text) = two_files(rt, out, data, text)?;
+    let kind = if is_update {
+        TextKind::Update
+    } else {
+        TextKind::Query
+    };
+    Ok(Job::Explain {
+        data,
+        text,
+        kind,
+        default_graph,
+    })
+}
+
 // Does the job, where its files can be read: its exit status, or that of the refusal.
 fn do_job<S: Sink>(rt: &HostRuntime, out: &mut S, job: Result<Job, u8>) -> u8 {
     match job {
@@ -97,6 +118,15 @@ pub fn do_line<S: Sink>(rt: &HostRuntime, out: &mut S, line: CommandLine<'_>) ->
             script,
             union_default,
         } => replay_job(rt, out, (data, script), default_graph(union_default)),
+        CommandLine::Explain {
+            data,
+            text,
+            is_update,
+            union_default,
+        } => {
+            let default_graph = default_graph(union_default);
+            explain_job(rt, out, (data, text), is_update, default_graph)
+        }
         CommandLine::Serve {
             port,
             data,

@@ -1,5 +1,5 @@
 //! The program: checks the quads of a file, answers the query of a file over the quads of another, carries the update of a file out over
-//! them, or the connection events of a script, and serves them to clients.
+//! them, prints the plans of either, carries out the connection events of a script, and serves the quads to clients.
 //!
 //! What a job's bytes result in is proved of `quads::run`. The words of the command line are read by `quads_command`. Here the files are read,
 //! and the port is bound.
