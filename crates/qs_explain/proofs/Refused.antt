@@ -11,6 +11,7 @@ module _ {A : Type 0} (Due : Outcome A → Type 0) (f : QFault) where
   told (Err g) = Err g
 
   at : (parsed : Outcome A) → Due parsed → IsExplanationOf parsed (Err f) → Due (Err f)
+  unfolding told
   at (Ok a) due is = absurd is
   at (Err g) due is = subst Due (sym (ap told is)) due
 
