@@ -20,7 +20,7 @@ told f (Err g) = Err g
 module _ (choice : DefaultGraph) (file bytes : List ℕ) (f : QFault) where
   module _ (same : (a : List Statement) → SameSet a a) (alike : (text : List ℕ) → IsExplainedQuery text (Err f) → syntax.IsQueryOutcome text (Err f)) where
     of_query : (first : Outcome Content) → IsOver (IsExplanationOutcome kind.Query bytes) first (Err f) → IsOver (IsQueryOutcome choice bytes) first (Err f)
-    unfolding sparql
+    unfolding sparql told
     of_query (Ok c) (Ok text, is, due) = (Ok text, is, (c.quads, same c.quads, (Err f, alike text due, refl)))
     of_query (Ok c) (Err g, is, due) = (Err g, is, ap (told f) due)
     of_query (Err g) due = ap (told f) due
@@ -30,7 +30,7 @@ module _ (choice : DefaultGraph) (file bytes : List ℕ) (f : QFault) where
 
   module _ (alike : (text : List ℕ) → IsExplainedUpdate text (Err f) → syntax.IsUpdateOutcome text (Err f)) where
     of_update : (first : Outcome Content) → IsOver (IsExplanationOutcome kind.Update bytes) first (Err f) → IsOver (IsUpdateOutcome choice bytes) first (Err f)
-    unfolding sparql
+    unfolding sparql told
     of_update (Ok c) (Ok text, is, due) = (Ok text, is, (Err f, alike text due, refl))
     of_update (Ok c) (Err g, is, due) = (Err g, is, ap (told f) due)
     of_update (Err g) due = ap (told f) due
