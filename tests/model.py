@@ -487,13 +487,13 @@ class Lists(namedtuple("Lists", "classes offset limit")):
 
 
 def rank(it, solution):
-    """15.1: the place of an expression's value in an order. Blank nodes by number, and literals by kind and value (own)."""
+    """15.1: the place of an expression's value in an order. Blank nodes by number, if they have one, and literals by kind and value (own)."""
     try:
         term = value(it, solution)
     except ExpressionError:
         return (0,)
     if term.kind == "bnode":
-        return 1, int(term.text[1:])
+        return (1, int(term.text[1:])) if re.fullmatch(r"b\d+", term.text) else (1,)
     if term.kind == "uri":
         return 2, term.text
     for place, kind in enumerate((boolean, integer, string), 3):
@@ -503,11 +503,20 @@ def rank(it, solution):
 
 
 def ordered(solutions, order):
-    """15.1: the classes of solutions with equal keys, in the order of the keys."""
-    keyed = [([rank(it, solution) for it, _ in order], solution) for solution in solutions]
-    for place in reversed(range(len(order))):
-        keyed.sort(key=lambda it: it[0][place], reverse=order[place][1])
-    return [[it for _, it in tied] for _, tied in itertools.groupby(keyed, key=lambda it: it[0])]
+    """15.1: the classes of solutions of which any may come first, in the order of the keys: those with equal keys, and those whose keys are blank
+    nodes of which one has no number."""
+    if not order:
+        return [solutions] if solutions else []
+    (key, is_down), *rest = order
+    ranks = [rank(key, it) for it in solutions]
+    known = [it[:1] if it[0] == 1 and (1,) in ranks else it for it in ranks]
+    keyed = sorted(zip(known, solutions), key=lambda it: it[0], reverse=is_down)
+    found = []
+    for place, tied in itertools.groupby(keyed, key=lambda it: it[0]):
+        tied = [it for _, it in tied]
+        is_open = place == (1,) and len({value(key, it) for it in tied}) > 1
+        found += [tied] if is_open else ordered(tied, rest)
+    return found
 
 
 def where_solutions(query, data):
@@ -550,9 +559,10 @@ def construct(query, data):
 
 def instances(template, solutions, name=""):
     """16.2, 16.2.1; Update 3.1.3: the triples or quads (graph first) that a template gives, each once, without those with an unbound variable or a
-    term at an unlawful place. A blank node of the template is another one for each solution, named for both."""
+    term at an unlawful place. A blank node of the template is another one for each solution, named for both; solutions are numbered in some order of
+    their own, so that the names are the same each time."""
     found = set()
-    for at, solution in enumerate(solutions):
+    for at, solution in enumerate(sorted(solutions, key=lambda it: sorted(it.items()))):
         fresh = {it: Term("bnode", f"{name}n{at}{it[2:]}") for it in labels(template)}
         for words in template:
             terms = tuple({**solution, **fresh}.get(it.text) if it and it.kind == "var" else it for it in words)

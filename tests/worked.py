@@ -6,7 +6,8 @@ _:b0 (in data a blank node, in patterns one with a label) and ?x. A row is `x=:a
 import re
 from itertools import permutations
 
-from model import Dataset, ask, construct, select, updated
+from answers import allows, are_same
+from model import Dataset, Lists, ask, construct, ordered, select, updated
 from scope import breaks_scope
 from trees import BOOLEAN, INTEGER, XSD, Alternative, Bind, Call, Clear, Closure, Create, Filter, Graph, Group, Inverse, Minus, Modify, Negated
 from trees import Optional, Sequence, Term, Transfer, Triples, Union, Values, iri, lines_of, query, var
@@ -224,6 +225,54 @@ SCOPE = [
 """Queries and updates, and whether they break a rule of scope."""
 
 
+SAME = [
+    ("other names", "_:a :p _:b . _:b :p :c", "_:y :p :c . _:x :p _:y", True),
+    ("one node for two", "_:a :p :c . _:b :p :d", "_:x :p :c . _:x :p :d", False),
+    ("two nodes for one", "_:a :p _:a", "_:x :p _:y", False),
+    ("a ring of four, and two of two", "_:a :p _:b . _:b :p _:c . _:c :p _:d . _:d :p _:a", "_:a :p _:b . _:b :p _:a . _:c :p _:d . _:d :p _:c", False),
+    ("a ring of four, begun elsewhere", "_:a :p _:b . _:b :p _:c . _:c :p _:d . _:d :p _:a", "_:z :p _:w . _:w :p _:y . _:y :p _:x . _:x :p _:z", True),
+    ("an IRI in the place of a node", "_:a :p :b", ":a :p :b", False),
+    ("a row more", "_:a :p :b . _:c :p :b", "_:a :p :b", False),
+    ("a row twice", "_:a :p :b . _:a :p :b . _:c :p :b", "_:a :p :b . _:c :p :b . _:c :p :b", True),
+    ("a row twice, of the other node", "_:a :p :b . _:a :p :b . _:c :p :d", "_:a :p :b . _:c :p :d . _:c :p :d", False),
+    ("nodes told apart by their neighbours", "_:a :p _:b . _:b :p :c . _:d :p _:a", "_:b :p _:d . _:d :p :c . _:a :p _:b", True),
+]
+"""Bags of triples, and whether they are the same up to the names of blank nodes (RDF 1.1 Concepts, 3.6)."""
+SLICES = [
+    ("a slice", ["x=_:a y=:c", "x=_:b y=:d"], 0, 1, ["x=_:z y=:d"], True),
+    ("a slice with a row that isn't one", ["x=_:a y=:c", "x=_:b y=:d"], 0, 1, ["x=_:z y=:e"], False),
+    ("a slice in which a node is another one", ["x=_:a y=_:a", "x=_:b y=_:b"], 0, 1, ["x=_:z y=_:w"], False),
+    ("all rows, whose nodes belong together", ["x=_:a y=:c", "x=_:a y=:d"], 0, None, ["x=_:z y=:d", "x=_:w y=:c"], False),
+    ("all rows", ["x=_:a y=:c", "x=_:a y=:d"], 0, None, ["x=_:z y=:d", "x=_:z y=:c"], True),
+]
+"""Solutions in any order, OFFSET and LIMIT, a list of solutions, and whether it is due, up to the names of blank nodes."""
+CLASSES = [
+    ("nodes without numbers", ["x=_:n y=2", "x=_:m y=1", "x=:a y=0"], [["x=_:n y=2", "x=_:m y=1"], ["x=:a y=0"]]),
+    ("one node without a number", ["x=_:n y=2", "x=_:n y=1"], [["x=_:n y=1"], ["x=_:n y=2"]]),
+    ("nodes with numbers", ["x=_:b2 y=1", "x=_:b10 y=0"], [["x=_:b2 y=1"], ["x=_:b10 y=0"]]),
+]
+"""Solutions, and their classes by ORDER BY ?x ?y (15.1)."""
+
+
+def term_rows(texts):
+    """Returns rows in which a word with a label is a blank node."""
+    node = lambda it: Term("bnode", it.text[2:]) if it.text[:2] == "_:" else it
+    return [frozenset((name, node(term)) for name, term in row) for row in rows_of(texts)]
+
+
+def unlike():
+    """Returns the names of the cases in which answers are compared wrongly, and how many cases there are."""
+    triples = lambda text: [it[1:] for it in quads(text)]
+    wrong = [name for name, one, other, due in SAME if are_same(triples(one), triples(other)) != due]
+    for name, rows, offset, limit, found, due in SLICES:
+        wrong += [name] * (allows(Lists([term_rows(rows)], offset, limit), term_rows(found)) != due)
+    order = (var("x"), False), (var("y"), False)
+    for name, rows, due in CLASSES:
+        found = [[*map(frozenset, map(dict.items, tied))] for tied in ordered([*map(dict, term_rows(rows))], order)]
+        wrong += [name] * ([*map(set, found)] != [{*term_rows(tied)} for tied in due])
+    return wrong, len(SAME) + len(SLICES) + len(CLASSES)
+
+
 def rows_of(texts):
     return [frozenset((name, word(it)) for name, it in (pair.split("=", 1) for pair in text.split())) for text in texts]
 
@@ -245,7 +294,8 @@ def failed():
     wrong += [name for name, data, it, due in UPDATES if lines_of(updated(it, Dataset(quads(data)))) != lines_of(quads(due))]
     wrong += [name for name, it, due in SCOPE if breaks_scope(it) != due]
     wrong += [] if ask(query("ASK", None, g(t("?x :p ?y"))), Dataset(quads(NODES))) else ["ASK (16.3)"]
-    return wrong, sum(map(len, (rows, UNIONS, ORDERED, CONSTRUCTS, UPDATES, SCOPE))) + 1
+    more, count = unlike()
+    return wrong + more, sum(map(len, (rows, UNIONS, ORDERED, CONSTRUCTS, UPDATES, SCOPE))) + 1 + count
 
 
 def asked():

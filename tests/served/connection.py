@@ -1,13 +1,15 @@
 """A connection of the storm: what its client sends and how it goes on, and whether what it met is due."""
+from answers import Wrong
 from crowd import Read
-from due import Wrong, shown
+from due import shown
+from model import TooLarge
 from orders import NEVER, Asked
 
 PATIENCE = 3
 """The seconds after which a request is carried out at the latest, if its client left without the reply."""
-FIRST_GAP, GAP = 0.025, 1.5
-"""Where somebody waits for a place, a connection may be dropped if it was silent for longer, in seconds, before its first byte or later. These
-are half of what the program allows, or a little more, since the program's clock isn't the client's."""
+FIRST_GAP, GAP, LAST_GAP = 0.025, 1.5, 0.5
+"""Where somebody waits for a place, a connection may be dropped if it was silent for longer, in seconds, before its first byte or later; and where
+nobody does, after its reply. These are half of what the program allows, or a little more, since the program's clock isn't the client's."""
 
 
 class Connection:
@@ -64,9 +66,13 @@ class Connection:
             "silent": [("look", None), leave],
         }[self.how]
 
-    def may_be_dropped(self, client):
-        """Returns whether the program may have dropped its client where somebody waited for a place."""
-        is_odd = self.how == "silent" or self.meaning.always is not None
+    def may_be_dropped(self, client, is_crowded):
+        """Returns whether the program may have dropped its client. One that still sends after its request may lose the reply then, since bytes
+        that nobody reads reset a connection."""
+        is_after = client.sent >= self.length and self.length < len(self.sent)
+        if not is_crowded:
+            return is_after and client.gap > LAST_GAP
+        is_odd = self.how == "silent" or self.meaning.always is not None or is_after
         return not client.sent or client.first_gap > FIRST_GAP or client.gap > (FIRST_GAP if is_odd else GAP)
 
     def asked(self, client, is_crowded):
@@ -77,7 +83,7 @@ class Connection:
         Wrong where its client met what isn't due over any dataset."""
         if client.end == "late":
             raise Wrong("no end of the reply in time")
-        if self.is_dropped(client) and is_crowded and self.may_be_dropped(client):
+        if self.is_dropped(client) and self.may_be_dropped(client, is_crowded):
             return self.unanswered(client, True) if client.sent >= self.length else None
         if client.end in ("broken", "refused"):
             raise Wrong(f"the connection is {client.end} after {client.sent} bytes were sent")
@@ -107,7 +113,12 @@ class Connection:
             return None
 
         def fits(quads):
-            due, after = self.meaning.due(quads)
+            try:
+                due, after = self.meaning.due(quads)
+            except TooLarge:
+                if self.meaning.writes:
+                    raise
+                return {quads}
             return set() if self.wrong_with(due, client, is_front) else {after}
 
         return Asked(client.asked, client.heard or NEVER, self.meaning.writes, fits)

@@ -1,17 +1,15 @@
 """The replies that are due: what requests mean for a set of quads, by the model of SPARQL in `model.py`."""
+import functools
 import json
 import re
 from collections import Counter
 
+from answers import Wrong, allows, are_same, blanks, row_text, solutions_of, statements
 from model import Dataset, group_solutions, updated
-from trees import XSD, Graph, Group, Modify, Term, Triples, compact, iri
+from trees import XSD, Graph, Group, Modify, Term, Triples, compact, iri, lines_of
 
 UNION = False
 """Whether queries see the union of the named graphs as the default graph. `see_union` sets it."""
-
-
-class Wrong(Exception):
-    """What isn't as it is due."""
 
 
 def see_union(is_union):
@@ -37,13 +35,19 @@ GRAPHS = [iri(it) for it in "gh"] + [iri("a")]
 # ---- what patterns, templates and updates give over a set of quads (graph, subject, predicate, object), whose graph is None for the default graph
 
 
-def carried(operations, quads):
-    """Returns the quads after an update.
+def dataset_of(quads):
+    return Dataset(quads, UNION)
+
+
+def carried(operations, quads, name=""):
+    """Returns the quads after an update. The blank nodes that it makes have names that begin with this one, and no other's.
 
     # Errors
 
     Refused where an operation can't be carried out; its words are the fault's line."""
-    return frozenset(updated(operations, Dataset(quads, UNION)))
+    after = updated(operations, dataset_of(quads))
+    fresh = {it: Term("bnode", f"{name}.{it.text}") for it in blanks(after) - blanks(quads)}
+    return frozenset(tuple(fresh.get(it, it) for it in quad) for quad in after) if fresh else frozenset(after)
 
 
 def inserted(quads):
@@ -66,7 +70,7 @@ def quads_of(elements):
 
 def solutions(elements, quads):
     """Returns the bag of solutions of a group."""
-    data = Dataset(quads, UNION)
+    data = dataset_of(quads)
     return group_solutions(group_of(elements), data, data.default())
 
 
@@ -172,6 +176,51 @@ class Rows:
             raise Wrong(f"{self.count} of these solutions are due: {[*self.rows.elements()][:20]}")
         if body != f'{{"head":{{"vars":{compact(self.names)}}},"results":{{"bindings":[{",".join(rows)}]}}}}':
             raise Wrong("the variables are others, or the JSON isn't in its written form")
+
+
+@functools.lru_cache(8)
+def read_solutions(body, names):
+    return solutions_of(body, [*names])
+
+
+@functools.lru_cache(8)
+def read_statements(body, count):
+    return statements(body, count)
+
+
+class Solutions:
+    """Solutions are due that the model allows, where blank nodes may have other names."""
+
+    def __init__(self, names, lists):
+        self.names, self.lists = tuple(names), lists
+
+    def check(self, found):
+        status, media, body = parts_of(found)
+        if (status, media) != (200, RESULTS) or not allows(self.lists, read_solutions(body, self.names)):
+            told = ["{" + ", ".join(row_text(it)[:200] for it in tied[:20]) + "}" for tied in self.lists.classes[:20]]
+            slice = f"offset {self.lists.offset}, limit {self.lists.limit}"
+            raise Wrong(f"the variables {self.names}, {slice}, of these solutions are due, with ties in braces: {' '.join(told)}")
+
+
+class Statements:
+    """One of these sets of triples or quads is due, where blank nodes may have other names."""
+
+    def __init__(self, media, sets):
+        self.media, self.sets = media, sets
+
+    def check(self, found):
+        status, media, body = parts_of(found)
+        if (status, media) != (200, self.media):
+            raise Wrong("statements are due")
+        rows = read_statements(body, 4 if self.media == NQUADS else 3)
+        if not any(are_same(rows, it) for it in self.sets):
+            raise Wrong(f"these are due, or the like of {len(self.sets)} such sets: {lines_of(self.sets[0])[:3000]}")
+
+    def check_front(self, found):
+        """Checks what a client read that left before the end: it tells little, since the names of blank nodes aren't known."""
+        head = reply(200, self.media, "").rpartition(b" ")[0]
+        if not (head.startswith(found) or found.startswith(head)):
+            raise Wrong(f"a front of a reply with {self.media} is due")
 
 
 class Lawful:

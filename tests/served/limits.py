@@ -10,13 +10,16 @@ import signal
 import socket
 import subprocess
 
+from answers import Wrong
 from crowd import EACH, Client, Read, talk
-from due import RESULTS, Exactly, Wrong, reply
+from due import RESULTS, Exactly, reply
 from messages import dumped
 from serving import Unserved, serving
 from trees import Term, iri, lines_of
 
 SLACK, TICK = 3, 1
+PATIENCE = 1
+"""How many times as long a client may wait as on a machine that isn't slow. `be_patient` sets it."""
 ASK = b"GET /query?query=ASK%7B%7D HTTP/1.1\r\nHost: e\r\n\r\n"
 TRUE = Exactly(reply(200, RESULTS, '{"boolean":true,"head":{}}'))
 DATA = b"GET /data HTTP/1.1\r\nHost: e\r\n\r\n"
@@ -24,6 +27,11 @@ SMALL = frozenset({(None, iri("a"), iri("p"), iri("b"))})
 LARGE = frozenset((iri("big"), iri(str(at)), iri("p"), Term("literal", f"{at:03}-" * 100_000)) for at in range(60))
 """Quads of 24 MB."""
 CUT = len(ASK) - 1
+
+
+def be_patient(times):
+    global PATIENCE
+    PATIENCE = times
 
 
 def sound(**how):
@@ -58,14 +66,14 @@ def check(truth, what):
 def check_answered(client, most=EACH, due=TRUE):
     check(client.end == "end", f"a reply is due, and the connection is {client.end} after {took(client):.2f} s and {len(client.found)} bytes")
     due.check(bytes(client.found))
-    check(took(client) <= most, f"the reply took {took(client):.2f} s, and {most} are allowed")
+    check(took(client) <= most * PATIENCE, f"the reply took {took(client):.2f} s, and {most * PATIENCE} are allowed")
 
 
 def check_dropped(client, least, most):
     """Checks that a client was dropped so many seconds after it connected."""
     is_dropped = client.end in ("end", "broken") and not client.found
     check(is_dropped, f"it is due to be dropped, but it is {client.end}, and is answered {bytes(client.found[:60])!r}")
-    check(least <= took(client) <= most, f"it is dropped after {took(client):.2f} s, and {least} to {most} are due")
+    check(least <= took(client) <= most * PATIENCE, f"it is dropped after {took(client):.2f} s, and {least} to {most * PATIENCE} are due")
 
 
 # ---- the rounds: the words of the command line, the data, and what makes the clients and the checks of each

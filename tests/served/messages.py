@@ -1,8 +1,13 @@
-"""Random connections: sound requests, and requests that are refused or none, each with what is due."""
+"""Random connections: sound requests, and requests that are refused or none, each with what is due.
+
+What makes a connection of a sound request is given a call that makes one: what it is called, the request, and what it means. `sound` is one,
+for texts of few forms; those of all forms are in `forms.py`."""
 import functools
 
+from answers import blanks
 from connection import Connection
-from due import NOTHING, NQUADS, REFUSED, Exactly, Lawful, Line, Meaning, carried, deleted, fault, fixed, inserted, reply
+from crowd import Read
+from due import NOTHING, NQUADS, REFUSED, Exactly, Lawful, Line, Meaning, Statements, carried, deleted, fault, fixed, inserted, reply
 from texts import FAULTS, Spelling, ask, by_graph, random_bytes, random_quads, random_query, random_update
 from trees import Term, iri, lines_of
 
@@ -79,20 +84,23 @@ def sound(rng):
 @functools.lru_cache(32)
 def dumped(quads):
     """Returns the reply that is the whole dataset."""
-    return Exactly(reply(200, NQUADS, lines_of(quads)))
+    return Statements(NQUADS, [quads]) if blanks(quads) else Exactly(reply(200, NQUADS, lines_of(quads)))
 
 
 def dump():
     return Connection("the dataset", b"GET /data HTTP/1.1\r\nHost: e\r\n\r\n", Meaning(lambda quads: (dumped(quads), quads), has_fronts=True))
 
 
-def answered(rng):
-    """A sound request, perhaps with more bytes after it, which nobody reads."""
+def answered(rng, sound):
+    """A sound request, perhaps with more bytes after it, which nobody reads. Some read the reply slowly."""
     kind, request, meaning = sound(rng)
     if rng.random() < 0.1:
         request.version = "HTTP/1.0"
     more, whole = rng.choice((b"", b"", b"", b"\r\n", b"GET /data HTTP/1.1\r\n", random_bytes(rng, 300))), request.written()
-    return Connection(kind, whole + more, meaning, rng.choice(("stay", "stay", "half")), len(whole))
+    it = Connection(kind, whole + more, meaning, rng.choice(("stay", "stay", "half")), len(whole))
+    if rng.random() < 0.1:
+        it.read, it.receive = Read(step=rng.choice((1, 7, 500)), rate=rng.choice((None, 20_000))), rng.choice((None, 4096))
+    return it
 
 
 def small(rng, is_update):
@@ -108,13 +116,13 @@ def small(rng, is_update):
     return Connection("a small update", Request(rng, "update", f"{word} DATA {{ {words} }}").written(), meaning)
 
 
-def left(rng):
+def left(rng, sound):
     """A sound request whose client closes or resets the connection once it is sent, and reads no reply."""
     kind, request, meaning = sound(rng)
     return Connection(f"{kind} that nobody waits for", request.written(), meaning, rng.choice(("close", "reset")))
 
 
-def left_within(rng):
+def left_within(rng, sound):
     """A sound request whose client leaves within the reply, or when the reply was there for a while."""
     kind, request, meaning = sound(rng)
     it = Connection(f"{kind} whose client leaves", request.written(), meaning, "front" if meaning.has_fronts and rng.random() < 0.6 else "deaf")
@@ -122,17 +130,17 @@ def left_within(rng):
     return it if it.how == "front" else it.hold(len(it.sent), ("wait", rng.choice((0.01, 0.1))))
 
 
-def silent(rng):
+def silent(rng, sound):
     """A client that sends nothing for a while, and then leaves, or makes a sound request."""
     pause = ("wait", rng.choice((0.01, 0.04, 0.1, 0.2)))
     if rng.random() < 0.5:
-        return answered(rng).hold(0, pause)
+        return answered(rng, sound).hold(0, pause)
     it = Connection("silence", b"", Meaning(NOTHING), "silent").hold(0, pause)
     it.leaves = rng.choice(("close", "reset"))
     return it
 
 
-def unfinished(rng):
+def unfinished(rng, sound):
     """A sound request that lacks its end; it has no reply, and changes nothing."""
     kind, request, _ = sound(rng)
     whole = request.written()
@@ -208,10 +216,10 @@ def changed_head(rng):
     return Connection("a changed head", sent, Meaning(Lawful({b"", *REFUSED})), "half")
 
 
-def refused_request(rng):
+def refused_request(rng, sound):
     """A sound request with one part that is refused, by the first of the checks that it doesn't pass."""
     kind, request, _ = sound(rng)
-    resource = "update" if kind == "an update" else "query"
+    resource = "update" if kind.startswith("an update") else "query"
     is_post = request.method == "POST"
     allow = "POST" if resource == "update" else "GET, POST"
 
@@ -341,16 +349,19 @@ KINDS = [
     (left, 5),
     (left_within, 6),
     (silent, 5),
+    (refused_request, 10),
     (faulty, 4),
     (cut_text, 3),
     (noise, 4),
     (changed_query, 5),
     (changed_head, 4),
-    (refused_request, 10),
     (refused_parameters, 3),
     (no_head, 4),
 ]
+"""What makes connections, and how often: the first of a sound request, by a call that makes one."""
+SOUND = {answered, unfinished, left, left_within, silent, refused_request}
 
 
-def random_connection(rng):
-    return rng.choices(*zip(*KINDS))[0](rng)
+def random_connection(rng, sound=sound):
+    make = rng.choices(*zip(*KINDS))[0]
+    return make(rng, sound) if make in SOUND else make(rng)

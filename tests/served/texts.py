@@ -1,10 +1,10 @@
 """Random texts of SPARQL, each with what it means for the model."""
 import re
 
-from due import GRAPHS, LITERALS, NTRIPLES, PREDICATES, RESULTS, SUBJECTS, Exactly, Meaning, Rows, carried, deleted, fault, group_of, inserted
-from due import quads_of, reply, solutions, variables_of
-from model import Refused, instances
-from trees import XSD, Clear, Create, Modify, Term, Transfer, compact, json_of, lines_of
+from due import GRAPHS, LITERALS, NTRIPLES, PREDICATES, RESULTS, SUBJECTS, Exactly, Meaning, Solutions, Statements, carried, deleted, fault
+from due import group_of, inserted, quads_of, reply, solutions, variables_of
+from model import Lists, Refused, instances
+from trees import XSD, Clear, Create, Modify, Term, Transfer
 
 
 class Spelling:
@@ -173,9 +173,8 @@ def ask(elements):
 
 def select(elements, names, is_distinct, limit):
     def due(quads):
-        rows = [compact({it: json_of(row[it]) for it in names if it in row}) for row in solutions(elements, quads)]
-        rows = sorted({*rows}) if is_distinct else rows
-        return Rows(names, rows, min(len(rows), limit)), quads
+        rows = [frozenset((it, row[it]) for it in names if it in row) for row in solutions(elements, quads)]
+        return Solutions(names, Lists([[*{*rows}] if is_distinct else rows], 0, limit)), quads
 
     return due
 
@@ -183,7 +182,7 @@ def select(elements, names, is_distinct, limit):
 def construct(elements, template):
     def due(quads):
         made = instances(template, solutions(elements, quads))
-        return Exactly(reply(200, NTRIPLES, lines_of(made))), quads
+        return Statements(NTRIPLES, [made]), quads
 
     return due
 

@@ -1,0 +1,228 @@
+"""Requests of all forms of queries and updates: random trees over quads, each with what is due by the model."""
+from dataclasses import fields, is_dataclass, replace
+
+from connection import Connection
+from due import NTRIPLES, RESULTS, Exactly, Lawful, Meaning, Solutions, Statements, carried, dataset_of, fault, reply
+from generated import Generator
+from generated import random_quads as few_quads
+from messages import Request, sound
+from model import Refused, TooLarge, ask, bound_joins, construct, select
+from scope import breaks_scope, labels
+from texts import random_quads
+from trees import Alternative, Bind, Call, Clear, Closure, Filter, Graph, Group, Inverse, Minus, Modify, Negated, Optional, Query, Sequence, Term
+from trees import Triples, Union, Values, iri, is_hidden, query, text_of, update_text, var
+
+FEW, MANY = 4_000, 60_000
+"""How many pairs of solutions a join of the model may look at: of requests that are made, and of replies that are looked at, since updates may
+have had another order than they were made in."""
+MOST_QUADS = 50
+"""How many quads an update may leave, in the order in which the requests were made."""
+
+
+# ---- what is due
+
+
+def answer(tree, quads):
+    """Returns the reply that is due for a query: any where the model can't say in time."""
+    if breaks_scope(tree):
+        return Exactly(fault("F5 scope"))
+    data = dataset_of(quads)
+    try:
+        if tree.form == "ASK":
+            return Exactly(reply(200, RESULTS, f'{{"boolean":{"true" if ask(tree, data) else "false"},"head":{{}}}}'))
+        return Statements(NTRIPLES, construct(tree, data)) if tree.form == "CONSTRUCT" else Solutions(*select(tree, data))
+    except TooLarge:
+        return Lawful()
+
+
+def query_meaning(tree):
+    return Meaning(lambda quads: (answer(tree, quads), quads), has_fronts=tree.form == "ASK")
+
+
+def update_meaning(tree, name):
+    """Returns what an update means, whose blank nodes have names that begin with this one."""
+
+    def due(quads):
+        if breaks_scope(tree):
+            return Exactly(fault("F5 scope")), quads
+        try:
+            return Exactly(reply(204)), carried(tree, quads, name)
+        except Refused as it:
+            return Exactly(fault(str(it))), quads
+
+    return Meaning(due, writes=True, has_fronts=True)
+
+
+# ---- queries that tell whether a form is evaluated as it should be
+
+
+def changed(it, change):
+    """Returns a tree with each of its nodes as the call has it; one that is None is left out of its tuple."""
+    if isinstance(it, Term):
+        return it
+    if isinstance(it, tuple):
+        return tuple(new for new, old in ((changed(part, change), part) for part in it) if new is not None or old is None)
+    if not is_dataclass(it):
+        return it
+    return change(replace(it, **{field.name: changed(getattr(it, field.name), change) for field in fields(it)}))
+
+
+def left_out(kind):
+    return lambda it: None if isinstance(it, kind) else it
+
+
+def of_kind(kind, call):
+    return lambda it: call(it) if isinstance(it, kind) else it
+
+
+CHANGES = [
+    *map(left_out, (Minus, Optional, Filter, Bind, Values)),
+    of_kind(Union, lambda it: Union(it.groups[:1])),
+    of_kind(Values, lambda it: Values(it.names, it.rows[:1])),
+    of_kind(Graph, lambda it: it.group),
+    of_kind(Closure, lambda it: Closure(it.path, "?")),
+    of_kind(Closure, lambda it: Closure(it.path, "+")),
+    of_kind(Negated, lambda it: Negated(it.forward, ())),
+    of_kind(Inverse, lambda it: it.path),
+    of_kind(Alternative, lambda it: it.second),
+    of_kind(Sequence, lambda it: it.second),
+    of_kind(Query, lambda it: replace(it, order=tuple((key, not is_down) for key, is_down in it.order))),
+    of_kind(Query, lambda it: replace(it, distinct="")),
+    of_kind(Query, lambda it: replace(it, offset=0, limit=None)),
+    of_kind(Triples, lambda it: Triples(tuple((s, v, iri("a") if is_label(o) else o) for s, v, o in it.triples))),
+    of_kind(Query, lambda it: replace(it, items=tuple((iri("a") if is_label(s) else s, v, o) for s, v, o in it.items)) if made(it) else it),
+]
+"""What a tree becomes where a form is left out or is another one. A query whose answer isn't the same then tells something of that form."""
+TRIES = 60
+"""How many queries are made at most to find one that tells something of a form."""
+
+
+def is_label(term):
+    return isinstance(term, Term) and term.kind == "var" and is_hidden(term.text)
+
+
+def made(tree):
+    """Returns whether a query makes statements with blank nodes."""
+    return tree.form == "CONSTRUCT" and labels(tree.items)
+
+
+def said(due):
+    """Returns an answer's list of solutions or its statements, as values to compare."""
+    if isinstance(due, Solutions):
+        return due.names, [sorted(map(sorted, tied)) for tied in due.lists.classes], due.lists.offset, due.lists.limit
+    return [sorted(it, key=str) for it in due.sets] if isinstance(due, Statements) else getattr(due, "due", None)
+
+
+def tells(tree, quads, change):
+    """Returns whether the answer is another one where the tree is changed."""
+    other = changed(tree, change)
+    if other == tree or breaks_scope(tree) or breaks_scope(other):
+        return False
+    due = answer(tree, quads)
+    return not isinstance(due, Lawful) and said(due) != said(answer(other, quads))
+
+
+# ---- random requests
+
+
+def first_quads(rng):
+    """Returns quads for the beginning, some of which have blank nodes."""
+    named = lambda it: Term("bnode", "f" + it.text) if it and it.kind == "bnode" else it
+    return frozenset(random_quads(rng, 12)) | {tuple(map(named, quad)) for quad in few_quads(rng)}
+
+
+class Forms:
+    """Makes the sound requests of a round: most of them of all forms, over the quads that are stored if they are carried out in this order."""
+
+    def __init__(self, rng, quads, is_union):
+        self.rng, self.quads, self.is_union, self.number = rng, quads, is_union, 0
+        bound_joins(FEW)
+
+    def sound(self, rng):
+        """Returns what a sound request is called, the request, and what it means."""
+        if rng.random() < 0.3:
+            return sound(rng)
+        return self.update() if rng.random() < 0.3 else self.query()
+
+    def generator(self):
+        return Generator(self.rng, dataset_of(self.quads))
+
+    def query(self):
+        """Most queries tell something of a form that is drawn first, if one is found soon."""
+        change, left = self.rng.choice(CHANGES), TRIES
+        while True:
+            tree, left = self.tree(change), left - 1
+            if tells(tree, self.quads, change) or left <= 0 and not isinstance(answer(tree, self.quads), Lawful):
+                return "a query of all forms", Request(self.rng, "query", text_of(tree)), query_meaning(tree)
+
+    def tree(self, change):
+        """Returns a query. Where MINUS is to be told it has one at its end, since most take away nothing; where blank nodes are that are made, it is a
+        CONSTRUCT."""
+        generator = self.generator()
+        tree = generator.query()
+        if change == CHANGES[0]:
+            tree = replace(tree, where=Group((*tree.where.elements, Minus(generator.side(0, self.rng.random() < 0.3)))))
+        if change == CHANGES[-1] and tree.form == "SELECT":
+            tree = replace(tree, form="CONSTRUCT", items=(*generator.template(), (var("_:t"), iri("p"), generator.var())), distinct="")
+        return tree
+
+    def update(self):
+        while True:
+            tree = self.generator().update()
+            self.number += 1
+            meaning = update_meaning(tree, f"u{self.number}")
+            try:
+                _, after = meaning.due(self.quads)
+            except TooLarge:
+                continue
+            if len(after) <= MOST_QUADS:
+                self.quads = after
+                return "an update of all forms", Request(self.rng, "update", update_text(tree)), meaning
+
+    def renewal(self):
+        """Returns the connection of an update that puts other quads in the place of all."""
+        self.number += 1
+        # (no graph's name is a blank node in a text: 19.8, rule 52)
+        quads = sorted((it for it in first_quads(self.rng) if not it[0] or it[0].kind == "uri"), key=str)
+        self.quads = frozenset(quads)
+        labelled = lambda it: var("_:" + it.text) if it and it.kind == "bnode" else it
+        tree = Clear("CLEAR", "ALL", False), Modify("INSERT DATA", None, None, tuple(tuple(map(labelled, it)) for it in quads), None)
+        it = Connection("an update of all quads", Request(self.rng, "update", update_text(tree)).written(), update_meaning(tree, f"u{self.number}"))
+        it.is_renewal = True
+        return it
+
+
+# ---- large replies
+
+BIG = [(iri("big"), iri(str(at)), iri("p"), Term("literal", f"{at:03}-" * 100_000)) for at in range(25)]
+"""Quads of 10 MB, which no update of their round changes."""
+
+
+def big_trees():
+    """Returns queries of all forms whose answers have up to 10 MB."""
+    g, s, o, n = map(var, "gson")
+    inside = lambda verb: Group((Triples(((s, verb, o),)),))
+    named = lambda name: Group((Triples(((iri(name), iri("p"), o),)),))
+    whole = Graph(g, inside(iri("p")))
+    where = lambda *more: Group((whole, *more))
+    length = Call("STRLEN", (o,))
+    is_late = Call(">=", (o, Term("literal", "012")))
+    names = Values((s,), tuple((iri(str(at)),) for at in (3, 7, 7, 24)))
+    return [
+        query("SELECT", None, where()),
+        query("SELECT", (o, s), where(), order=((s, True),)),
+        query("SELECT", (o,), where(), order=((o, True),), offset=3, limit=20),
+        query("SELECT", (o,), Group((Union((where(), where())),)), distinct="DISTINCT"),
+        query("SELECT", (s, o, n), where(Optional(Group((Triples(((s, iri("none"), n),)),))), Filter(is_late))),
+        query("SELECT", (o, n), where(Bind(length, n))),
+        query("SELECT", (o,), where(Minus(Group((Graph(g, named("7")),))))),
+        query("SELECT", (s, o), where(names)),
+        query("SELECT", (s, o), Group((Graph(g, inside(Sequence(iri("p"), Closure(iri("none"), "?")))),))),
+        query("CONSTRUCT", ((s, iri("q"), o),), where()),
+        query("CONSTRUCT", ((var("_:t"), iri("of"), o), (var("_:t"), iri("in"), s)), where(Filter(is_late))),
+    ]
+
+
+def big_queries(rng):
+    """Returns connections of queries with large replies."""
+    return [Connection("a large query", Request(rng, "query", text_of(it)).written(), query_meaning(it)) for it in big_trees()]
