@@ -1,11 +1,17 @@
-"""What the benchmarks share: the program and a peer, the data, runs of the program, and requests over loopback."""
+"""What the benchmarks share: the program and a peer, the data, runs of the program, requests over loopback, and comparisons of both."""
+import contextlib
+import functools
+import http.client
+import importlib.machinery
+import importlib.util
+import json
 import os
 import shutil
 import socket
 import subprocess
 import sys
 import time
-from collections import namedtuple
+from collections import Counter, namedtuple
 from urllib.parse import quote
 
 ROOT = os.path.dirname(os.path.dirname(os.path.realpath(__file__)))
@@ -13,16 +19,30 @@ sys.path.insert(0, f"{ROOT}/scripts")
 sys.dont_write_bytecode = True
 from program import asked  # noqa: E402
 
-PROGRAM = asked(ROOT, os.environ.get("BENCH_PROGRAM"))
-"""The program that is measured: the one that ./quads runs, unless BENCH_PROGRAM names another."""
 MB = 1_000_000
 PAST_ALL = 100 * MB
 """An OFFSET past the end of every answer here: with it a query is evaluated, and no row is written."""
+
+JSON = "application/sparql-results+json"
 
 Cost = namedtuple("Cost", "clock busy memory")
 """What a run took: the seconds of the clock and of the processor, and the most bytes of memory."""
 Reply = namedtuple("Reply", "head body first whole")
 """The reply of a request, with the milliseconds from connecting to its first byte and to its end."""
+
+
+@functools.lru_cache(None)
+def program_to_run():
+    """Returns where the program stands that is measured: the one that ./quads runs, unless BENCH_PROGRAM names another."""
+    return asked(ROOT, os.environ.get("BENCH_PROGRAM"))
+
+
+def script(name):
+    """Returns the module bench/NAME/run."""
+    loader = importlib.machinery.SourceFileLoader(name, f"{ROOT}/bench/{name}/run")
+    it = importlib.util.module_from_spec(importlib.util.spec_from_loader(name, loader))
+    loader.exec_module(it)
+    return it
 
 
 # ---- data
@@ -85,17 +105,18 @@ def run(words, out=subprocess.DEVNULL):
 # ---- requests
 
 
+def posted(path, media, body):
+    """Returns the request that sends a body. It asks both programs for the same forms, and for the end of the connection."""
+    head = f"POST {path} HTTP/1.1\r\nHost: e\r\nAccept: {JSON}, application/n-triples\r\nConnection: close\r\n"
+    return f"{head}Content-Type: {media}\r\nContent-Length: {len(body)}\r\n\r\n".encode() + body
+
+
 def query(text):
-    return f"GET /query?query={quote(text)} HTTP/1.1\r\nHost: e\r\n\r\n".encode()
+    return posted("/query", "application/sparql-query", text.encode())
 
 
 def update(text):
-    body = text.encode()
-    return b"POST /update HTTP/1.1\r\nHost: e\r\nContent-Type: application/sparql-update\r\nContent-Length: %d\r\n\r\n" % len(body) + body
-
-
-def get(path):
-    return f"GET {path} HTTP/1.1\r\nHost: e\r\n\r\n".encode()
+    return posted("/update", "application/sparql-update", text.encode())
 
 
 def free_port():
@@ -112,6 +133,32 @@ class Running:
         if self.program.stdout:
             self.program.stdout.close()
         self.program.wait()
+
+    def ask(self, request):
+        """Returns the reply of a request over a connection of its own. Its body is put together where it came in chunks."""
+        pieces, first, begin = [], 0, time.perf_counter()
+        with socket.create_connection(("127.0.0.1", self.port), timeout=600) as it:
+            it.sendall(request)
+            while piece := it.recv(1 << 20):
+                first = first or 1000 * (time.perf_counter() - begin)
+                pieces.append(piece)
+        whole = 1000 * (time.perf_counter() - begin)
+        head, _, body = b"".join(pieces).partition(b"\r\n\r\n")
+        head = head.decode()
+        return Reply(head, joined(body) if "transfer-encoding: chunked" in head.lower() else body, first, whole)
+
+    def dump(self):
+        """Returns how many quads the program holds, and a sum over them that doesn't depend on their order."""
+        connection = http.client.HTTPConnection("127.0.0.1", self.port, timeout=600)
+        connection.request("GET", self.DUMP, headers={"Accept": "application/n-quads"})
+        reply, count, total, rest = connection.getresponse(), 0, 0, b""
+        if reply.status != 200:
+            sys.exit(f"{self.NAME} doesn't tell its quads: {reply.status}")
+        while piece := reply.read(1 << 20):
+            *lines, rest = (rest + piece).split(b"\n")
+            count, total = count + len(lines), (total + sum(map(hash, lines))) % (1 << 64)
+        connection.close()
+        return count, total
 
     def status(self, name):
         """Returns a number of bytes that the system tells of the program."""
@@ -136,10 +183,22 @@ class Running:
         return main / 1e9 if int(fields[17]) == 1 else (int(fields[11]) + int(fields[12])) / os.sysconf("SC_CLK_TCK")
 
 
+def joined(body):
+    """Returns what the chunks of a body hold."""
+    parts, at = [], 0
+    while True:
+        end = body.index(b"\r\n", at)
+        size = int(body[at:end].partition(b";")[0], 16)
+        if not size:
+            return b"".join(parts)
+        parts.append(body[end + 2 : end + 2 + size])
+        at = end + 2 + size + 2
+
+
 class Server(Running):
     """The program as it serves a file, until the block ends."""
 
-    NAME = "Vinnakush"
+    NAME, DUMP = "Vinnakush", "/data"
 
     def __init__(self, file):
         self.file = file
@@ -148,7 +207,7 @@ class Server(Running):
         self.port = free_port()
         begin = time.perf_counter()
         # (it ends by itself once it has served so many)
-        words = [PROGRAM, "serve", "--port", str(self.port), "--data", self.file, "--requests", "4294967295"]
+        words = [program_to_run(), "serve", "--port", str(self.port), "--data", self.file, "--requests", "4294967295"]
         self.program = subprocess.Popen(words, stdin=subprocess.DEVNULL, stdout=subprocess.PIPE)
         said = self.program.stdout.readline()
         self.ready = 1000 * (time.perf_counter() - begin)
@@ -157,23 +216,11 @@ class Server(Running):
             sys.exit(f"the program doesn't listen: {said.decode().strip()}")
         return self
 
-    def ask(self, request):
-        """Returns the reply of a request over a connection of its own."""
-        pieces, first, begin = [], 0, time.perf_counter()
-        with socket.create_connection(("127.0.0.1", self.port), timeout=600) as it:
-            it.sendall(request)
-            while piece := it.recv(1 << 20):
-                first = first or 1000 * (time.perf_counter() - begin)
-                pieces.append(piece)
-        whole = 1000 * (time.perf_counter() - begin)
-        head, _, body = b"".join(pieces).partition(b"\r\n\r\n")
-        return Reply(head.decode(), body, first, whole)
-
 
 class Oxigraph(Running):
     """Oxigraph with the quads of a file in memory, until the block ends."""
 
-    NAME = "Oxigraph"
+    NAME, DUMP = "Oxigraph", "/store"
 
     def __init__(self, file):
         self.file = file
@@ -190,7 +237,7 @@ class Oxigraph(Running):
         begin = time.perf_counter()
         self.program = subprocess.Popen(words, stdin=subprocess.DEVNULL, stdout=subprocess.DEVNULL, stderr=subprocess.DEVNULL)
         try:
-            self.wait_until_ready(begin + 60)
+            self.wait_until_ready(begin + 120)
             self.put()
         except BaseException:
             self.__exit__()
@@ -208,12 +255,127 @@ class Oxigraph(Running):
                 time.sleep(0.01)
 
     def put(self):
-        """Puts the quads of the file into the store."""
-        with open(self.file, "rb") as it:
-            data = it.read()
-        head = f"POST /store HTTP/1.1\r\nHost: e\r\nContent-Type: application/n-quads\r\nConnection: close\r\nContent-Length: {len(data)}\r\n\r\n"
-        with socket.create_connection(("127.0.0.1", self.port), 600) as it:
-            it.sendall(head.encode() + data)
+        """Puts the quads of the file into the store, without a transaction, which takes Oxigraph less time and memory."""
+        head = "POST /store?no_transaction HTTP/1.1\r\nHost: e\r\nContent-Type: application/n-quads\r\nConnection: close\r\n"
+        with open(self.file, "rb") as data, socket.create_connection(("127.0.0.1", self.port), 600) as it:
+            it.sendall(f"{head}Content-Length: {os.path.getsize(self.file)}\r\n\r\n".encode())
+            it.sendfile(data)
             found = b"".join(iter(lambda: it.recv(1 << 16), b""))
         if not found.startswith(b"HTTP/1.1 20"):
             sys.exit(f"Oxigraph doesn't take the data: {found[:200]!r}")
+
+
+def kinds():
+    """Returns the servers that are measured: the program, and Oxigraph where it is here."""
+    return [Server] + [Oxigraph] * (Oxigraph.path() is not None)
+
+
+@contextlib.contextmanager
+def serving(file):
+    """Yields the servers, each over the quads of a file."""
+    with contextlib.ExitStack() as held:
+        yield [held.enter_context(kind(file)) for kind in kinds()]
+
+
+# ---- comparisons
+
+
+Line = namedtuple("Line", "name text kind", defaults=("bag",))
+"""A query and its name. The answers must agree as bags, or in their order too where the kind is "list". Of the kind "some" are those whose slice
+may take any solutions: then both answers have as many, and each has solutions of the other's whole answer alone."""
+Figure = namedtuple("Figure", "name rows differs least")
+"""Of a line how many solutions it has (or the line of its refusal), what differs (or ""), and the least milliseconds of each server (None where
+it refused)."""
+TOO_MANY = "500 F8 too many rows"
+LONGEST = 60
+"""A line isn't asked again once it has taken so many seconds."""
+
+
+def answer_of(reply):
+    """Returns what a reply says: the solutions of a SELECT, the truth of an ASK, or the triples of a CONSTRUCT, each as a list."""
+    if JSON not in reply.head:
+        return sorted({*reply.body.decode().splitlines()})
+    answer = json.loads(reply.body)
+    return [solution_of(it) for it in answer["results"]["bindings"]] if "results" in answer else [answer["boolean"]]
+
+
+def solution_of(row):
+    """Returns a solution: the bound variables with their terms. (xsd:string is left out by one of the two.)"""
+    string = "http://www.w3.org/2001/XMLSchema#string"
+    return frozenset((name, it["type"], it["value"], it.get("datatype", string) if it["type"] == "literal" else "", it.get("xml:lang", "")) for name, it in row.items())
+
+
+def fault_of(reply):
+    """Returns the status and the line of a refusal, or "" where the request was answered."""
+    status = reply.head.partition(" ")[2][:3]
+    return "" if status in ("200", "204") else f"{status} {reply.body[:60].decode(errors='replace').strip()}"
+
+
+def written(cell):
+    """Returns a term as a query writes it."""
+    _, kind, value, datatype, tag = cell
+    if kind == "uri":
+        return f"<{value}>"
+    text = '"' + value.replace("\\", "\\\\").replace('"', '\\"').replace("\n", "\\n").replace("\r", "\\r") + '"'
+    return f"{text}@{tag}" if tag else f"{text}^^<{datatype}>"
+
+
+def has(server, text, solutions):
+    """Returns whether a server finds these solutions of a query whose slice is left out. None of them has a blank node."""
+    names = sorted({cell[0] for it in solutions for cell in it})
+    cells = [{cell[0]: written(cell) for cell in it} for it in solutions]
+    rows = " ".join(f"({' '.join(it.get(name, 'UNDEF') for name in names)})" for it in cells)
+    whole = text.partition(" LIMIT ")[0].partition(" OFFSET ")[0]
+    reply = server.ask(query(f"{whole} VALUES ({' '.join(f'?{name}' for name in names)}) {{ {rows} }}"))
+    return not fault_of(reply) and not Counter(solutions) - Counter(answer_of(reply))
+
+
+def difference(line, servers, replies):
+    """Returns how many solutions an answer has, and what the answers of two servers differ in."""
+    answers = [answer_of(it) for it in replies]
+    first, last = answers[0], answers[-1]
+    rows = str(first[0]).lower() if first in ([True], [False]) else len(first)
+    if len(first) != len(last):
+        return rows, f"{len(first)} and {len(last)} solutions"
+    if line.kind == "some":
+        same = all(has(it, line.text, answer) for it, answer in zip(servers, reversed(answers)))
+    else:
+        same = first == last if line.kind == "list" else Counter(first) == Counter(last)
+    return rows, "" if same else "other solutions"
+
+
+def least_of(servers, requests, runs):
+    """Returns of each request the first reply of each server, and the least milliseconds. They are asked in turn, in so many runs: in ten times as
+    many where one of them takes less than a millisecond."""
+    replies, least, end = [], [], time.perf_counter() + LONGEST
+    for at in range(10 * runs):
+        if at and (time.perf_counter() > end or at >= runs and min(map(min, least)) >= 1):
+            break
+        new = [[it.ask(request) for it in servers] for request in requests]
+        times = [[it.whole for it in each] for each in new]
+        replies = replies or new
+        least = [[*map(min, *each)] for each in zip(least, times)] if at else times
+    return [*zip(replies, least)]
+
+
+def compared(lines, servers, runs):
+    """Yields the figure of each line."""
+    for line in lines:
+        [(replies, least)] = least_of(servers, [query(line.text)], runs)
+        faults = [fault_of(it) for it in replies]
+        least = [None if fault else it for fault, it in zip(faults, least)]
+        yield Figure(line.name, *(refusal(faults) if any(faults) else difference(line, servers, replies)), least)
+
+
+def refusal(faults):
+    """Returns the refusal, and that it is a difference; but for that of too many rows, which is a limit that is documented."""
+    said = "; ".join(filter(None, faults))
+    return said, "" if {*faults} <= {"", TOO_MANY} else said
+
+
+def told(figure):
+    """Returns a line for a reader: the name, how many solutions there are, and the least times, with the ratio of the peer's to the program's."""
+    shown = [f"{it:.2f}" if it is not None else "-" for it in figure.least]
+    if len(shown) > 1 and None not in figure.least:
+        shown.append(f"{figure.least[1] / figure.least[0]:.2f}")
+    return f"{figure.name}: {figure.rows}: {', '.join(shown)}{figure.differs and ', differs: ' + figure.differs}"
