@@ -174,13 +174,22 @@ class Running:
         return self.status("VmRSS")
 
     def busy(self):
-        """Returns the seconds of processor time that the program has taken."""
-        with open(f"/proc/{self.program.pid}/schedstat", encoding="utf-8") as it:
-            main = int(it.read().split()[0])
-        with open(f"/proc/{self.program.pid}/stat", encoding="utf-8") as it:
-            fields = it.read().rpartition(")")[2].split()
-        # (the first is exact, but of the main thread alone; the second is of all threads, in ticks)
-        return main / 1e9 if int(fields[17]) == 1 else (int(fields[11]) + int(fields[12])) / os.sysconf("SC_CLK_TCK")
+        """Returns the seconds of processor time that the program has taken, of all its threads, once they all wait."""
+        # (the time of a thread that runs isn't counted yet)
+        for _ in range(10_000):
+            if all(self.waits(it) for it in os.listdir(f"/proc/{self.program.pid}/task")):
+                break
+            time.sleep(0.0001)
+        # (the clock of a process by its number, as clock_getcpuclockid(3) makes it)
+        return time.clock_gettime(~self.program.pid << 3 | 2)
+
+    def waits(self, thread):
+        """Returns whether a thread waits, or is gone."""
+        try:
+            with open(f"/proc/{self.program.pid}/task/{thread}/stat", encoding="utf-8") as it:
+                return it.read().rpartition(") ")[2][0] not in "RD"
+        except OSError:
+            return True
 
 
 def joined(body):
@@ -300,9 +309,11 @@ def answer_of(reply):
 
 
 def solution_of(row):
-    """Returns a solution: the bound variables with their terms. (xsd:string is left out by one of the two.)"""
+    """Returns a solution: the bound variables with their terms."""
+    # (a server may leave xsd:string out)
     string = "http://www.w3.org/2001/XMLSchema#string"
-    return frozenset((name, it["type"], it["value"], it.get("datatype", string) if it["type"] == "literal" else "", it.get("xml:lang", "")) for name, it in row.items())
+    datatypes = {name: it.get("datatype", string) if it["type"] == "literal" else "" for name, it in row.items()}
+    return frozenset((name, it["type"], it["value"], datatypes[name], it.get("xml:lang", "")) for name, it in row.items())
 
 
 def fault_of(reply):
@@ -344,24 +355,37 @@ def difference(line, servers, replies):
     return rows, "" if same else "other solutions"
 
 
-def least_of(servers, requests, runs):
+def by_clock(server, request):
+    """Returns a reply, and the milliseconds from connecting to its end."""
+    reply = server.ask(request)
+    return reply, reply.whole
+
+
+def by_processor(server, request):
+    """Returns a reply, and the milliseconds of processor time that the server takes for it."""
+    before = server.busy()
+    reply = server.ask(request)
+    return reply, 1000 * (server.busy() - before)
+
+
+def least_of(servers, requests, runs, timed=by_clock):
     """Returns of each request the first reply of each server, and the least milliseconds. They are asked in turn, in so many runs: in ten times as
     many where one of them takes less than a millisecond."""
     replies, least, end = [], [], time.perf_counter() + LONGEST
     for at in range(10 * runs):
         if at and (time.perf_counter() > end or at >= runs and min(map(min, least)) >= 1):
             break
-        new = [[it.ask(request) for it in servers] for request in requests]
-        times = [[it.whole for it in each] for each in new]
-        replies = replies or new
+        new = [[timed(it, request) for it in servers] for request in requests]
+        times = [[taken for _, taken in each] for each in new]
+        replies = replies or [[reply for reply, _ in each] for each in new]
         least = [[*map(min, *each)] for each in zip(least, times)] if at else times
     return [*zip(replies, least)]
 
 
-def compared(lines, servers, runs):
-    """Yields the figure of each line."""
+def compared(lines, servers, *how):
+    """Yields the figure of each line. How times are taken least_of() says."""
     for line in lines:
-        [(replies, least)] = least_of(servers, [query(line.text)], runs)
+        [(replies, least)] = least_of(servers, [query(line.text)], *how)
         faults = [fault_of(it) for it in replies]
         least = [None if fault else it for fault, it in zip(faults, least)]
         yield Figure(line.name, *(refusal(faults) if any(faults) else difference(line, servers, replies)), least)

@@ -4,7 +4,7 @@ vendors, offers, persons and reviews, with long texts. All stand in the default 
 
 usage: bench/shop/data.py [TRIPLES] [SEED]
 
-About so many triples are written (1,000,000, some 250 MB), the same for the same seed (1). Of each 1,000 products there are 20,000 offers and
+About so many triples are written (1,000,000, some 220 MB), the same for the same seed (1). Of each 1,000 products there are 20,000 offers and
 10,000 reviews. Prices are whole cents and days are numbers like 20080714, since the profile has neither decimals nor dates with a value.
 """
 import hashlib
@@ -18,15 +18,19 @@ RDFS = "http://www.w3.org/2000/01/rdf-schema#"
 FOAF = "http://xmlns.com/foaf/0.1/"
 DC = "http://purl.org/dc/elements/1.1/"
 REV = "http://purl.org/stuff/rev#"
+INSTITUTION = f"{DATA}StandardizationInstitution1"
 INTEGER = "http://www.w3.org/2001/XMLSchema#integer"
 
-TRIPLES_A_PRODUCT = 361
+TRIPLES_A_PRODUCT = 354
 """How many triples there are for each product, with its offers and reviews."""
 OFFERS, REVIEWS = 20, 10
 """How many there are for each product."""
 TODAY = 20080701
 """A day on which some offers are valid."""
-COUNTRIES = [("US", "en", 40), ("GB", "en", 10), ("JP", "ja", 10), ("CN", "zh", 10), ("DE", "de", 5), ("FR", "fr", 5), ("ES", "es", 5), ("RU", "ru", 5), ("KR", "ko", 5), ("AT", "de", 5)]
+COUNTRIES = [
+    *(("US", "en", 40), ("GB", "en", 10), ("JP", "ja", 10), ("CN", "zh", 10), ("DE", "de", 5)),
+    *(("FR", "fr", 5), ("ES", "es", 5), ("RU", "ru", 5), ("KR", "ko", 5), ("AT", "de", 5)),
+]
 """Countries, with their languages and how many of a hundred firms and persons are there."""
 SYLLABLES = {
     "en": "al an ar ber con der dis en er for gal in ing ister ket lan les mar men nor on per ra ron sel ten ter ti un ver",
@@ -140,23 +144,23 @@ class Shop:
     def type_quads(self, it):
         for at, above in enumerate(self.types):
             links = [(RDFS + "subClassOf", product_type(above))] if above is not None else []
-            yield it.named(product_type(at), SHOP + "ProductType", DATA + "StandardizationInstitution1", [*links, (RDFS + "label", it.text(1, 3)), (RDFS + "comment", it.text(20, 50))])
+            yield it.named(product_type(at), SHOP + "ProductType", INSTITUTION, [*links, *it.label_and_comment(20, 50)])
 
     def feature_quads(self, it):
         for at in range(self.features):
-            yield it.named(feature(at), SHOP + "ProductFeature", DATA + "StandardizationInstitution1", [(RDFS + "label", it.text(1, 3)), (RDFS + "comment", it.text(20, 50))])
+            yield it.named(feature(at), SHOP + "ProductFeature", INSTITUTION, it.label_and_comment(20, 50))
 
     def firm_quads(self, it):
         for kind, last in (("Producer", self.producer[-1]), ("Vendor", self.vendor[-1])):
             for at in range(last + 1):
                 name, page = firm(kind, at), f"http://www.{kind.lower()}{at}.example/"
-                links = [(RDFS + "label", it.text(1, 3)), (RDFS + "comment", it.text(20, 50)), (FOAF + "homepage", page), (SHOP + "country", country(it.draw.country()[0]))]
-                yield it.named(name, SHOP + kind, name, links)
+                links = [(FOAF + "homepage", page), (SHOP + "country", country(it.draw.country()[0]))]
+                yield it.named(name, SHOP + kind, name, [*it.label_and_comment(20, 50), *links])
 
     def product_quads(self, it):
         for at, (types, features) in enumerate(self.products):
             maker = firm("Producer", self.producer[at])
-            links = [(RDFS + "label", it.text(1, 3)), (RDFS + "comment", it.text(50, 150)), (SHOP + "producer", maker)]
+            links = [*it.label_and_comment(50, 150), (SHOP + "producer", maker)]
             links += [(RDF + "type", product_type(each)) for each in types]
             links += [(SHOP + "productFeature", feature(each)) for each in features]
             for number in range(1, 7):
@@ -178,7 +182,8 @@ class Shop:
     def person_quads(self, it):
         for at, (site, land, _) in enumerate(self.persons):
             name = it.text(2, 2)
-            links = [(FOAF + "name", name), (FOAF + "mbox_sha1sum", Text(hashlib.sha1(name.form.encode()).hexdigest(), "")), (SHOP + "country", country(land))]
+            mail = Text(hashlib.sha1(name.form.encode()).hexdigest(), "")
+            links = [(FOAF + "name", name), (FOAF + "mbox_sha1sum", mail), (SHOP + "country", country(land))]
             yield it.named(self.person(at), FOAF + "Person", site_name(site), links)
 
     def review_quads(self, it):
@@ -237,6 +242,9 @@ class Writer:
         words, draw = self.words[language or "en"], self.draw.next
         count, bound = self.draw.between(least, most), len(words)
         return Text(" ".join([words[int(draw() * draw() * bound)] for _ in range(count)]), language)
+
+    def label_and_comment(self, least, most):
+        return [(RDFS + "label", self.text(1, 3)), (RDFS + "comment", self.text(least, most))]
 
     def named(self, subject, kind, publisher, links):
         """Returns the statements of a subject: its kind, its links, who published it, and when."""
