@@ -28,7 +28,6 @@ use Rattle.qs_plan.specs.Plans.{plan_list, SamePlan}
 use Rattle.qs_plan_meaning.specs.Stages.{Made, kept_if, only, aside, fed_rows, through}
 use Rattle.qs_plan.specs.inner.Certain.{Bound, Begun, Binds, Steady, SameFrom}
 use Rattle.qs_plan.specs.inner.Reads.{Agree, Settles}
-use Rattle.qs_plan.specs.inner.Sames.{SameStages}
 use Rattle.qs_plan.proofs.Laying.{between, same}
 use Rattle.qs_plan.proofs.Commutes.{all_map}
 use Rattle.qs_plan.proofs.Levels.{gives_filter, gives_union, gives_optional, gives_fed, gives_minus, gives_apart, through_append, through_one, flat_ap}
@@ -63,13 +62,11 @@ module _ (width : ℕ) (quads : List Statement) (active : Graph) where
       at true h = append-nil (through width quads active (map stage.Filter es) m) ∙ h
       at false h = refl
 
-pub parts_same : (es : List Expr) → SameStages (map stage.Filter es) (stage.Filter (And es) ∷ [])
-parts_same es = record {
-  same = λ width quads active m.
-      same _ _
-      (filters_give width quads active es m
-      ∙ (ap (λ b. kept_if b m) (sym (holds_each (take width m) es)) ∙ sym (through_one width quads active (stage.Filter (And es)) m ∙ gives_filter width quads active m (And es))));
-}
+pub parts_same : (es : List Expr) (width : ℕ) (quads : List Statement) (active : Graph) (m : Solution) → SameBag (through width quads active (map stage.Filter es) m) (through width quads active (stage.Filter (And es) ∷ []) m)
+parts_same es width quads active m =
+    same _ _
+    (filters_give width quads active es m
+    ∙ (ap (λ b. kept_if b m) (sym (holds_each (take width m) es)) ∙ sym (through_one width quads active (stage.Filter (And es)) m ∙ gives_filter width quads active m (And es))))
 
 module _ (size : Size) where
   -- a filter for each part

@@ -24,6 +24,7 @@ pub mod Sames
 pub mod Taking
 pub mod Settled
 pub mod Leaving
+pub mod Tables
 pub mod Onward
 pub mod Keeping
 pub mod Getting

@@ -16,7 +16,6 @@ use Rattle.qs_plan_meaning.specs.declared.stage.Stage.TheVariants as stage
 use Rattle.qs_plan_meaning.specs.Stages.{Made, kept_if, through}
 use Rattle.qs_plan.specs.inner.Certain.{Bound, Alike, Begun, Keeps, Binds, Steady, SameFrom}
 use Rattle.qs_plan.specs.inner.Reads.{Agree, Settles, Leaves}
-use Rattle.qs_plan.specs.inner.Sames.{SameStages}
 use Rattle.qs_plan.proofs.Commutes.{all_map}
 use Rattle.qs_plan.proofs.Getting.{binds_to, given_none}
 use Rattle.qs_plan.proofs.Keeping.{all_more}
@@ -51,8 +50,8 @@ module _ (size : Size) where
   pub from_trans : (given : List ℕ) (ss ts us : List Stage) → SameFrom size given ss ts → SameFrom size given ts us → SameFrom size given ss us
   from_trans given ss ts us a b = record { same = λ quads active m k. IsPermutation-trans _ _ _ (a.same quads active m k) (b.same quads active m k) }
 
-  pub from_same : (given : List ℕ) (ss ts : List Stage) → SameStages ss ts → SameFrom size given ss ts
-  from_same given ss ts h = record { same = λ quads active m b. h.same size.width quads active m }
+  pub from_same : (given : List ℕ) (ss ts : List Stage) → ((width : ℕ) (quads : List Statement) (active : Graph) (m : Solution) → SameBag (through width quads active ss m) (through width quads active ts m)) → SameFrom size given ss ts
+  from_same given ss ts h = record { same = λ quads active m b. h size.width quads active m }
 
   pub from_none : (given : List ℕ) (ss ts : List Stage) → SameFrom size [] ss ts → SameFrom size given ss ts
   from_none given ss ts h = record { same = λ quads active m b. h.same quads active m (record { wide = b.wide; binds = tt }) }

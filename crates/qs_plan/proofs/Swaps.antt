@@ -1,8 +1,8 @@
 -- Scans may be exchanged: a join is the same bag from either side.
-use Rattle.std.proofs.Common.{◌≡◌, inl, inr, ℕ, zero, suc, ◌+◌, ◌<◌, Bool, true, false, ◌&&◌, cond, List, [], ◌∷◌, ◌++◌, length, get_or, reverse, Option, Some, None, refl, sym, ◌∙◌, ap, subst, arith, append_assoc}
+use Rattle.std.proofs.Common.{◌≡◌, inl, inr, ℕ, zero, suc, ◌+◌, ◌<◌, ◌≤◌, Bool, true, false, ◌&&◌, cond, List, [], ◌∷◌, ◌++◌, length, get_or, reverse, Option, Some, None, refl, sym, ◌∙◌, ap, subst, arith, append_assoc}
 use Rattle.std.specs.List.{AllByRecursion, flat_map, remove}
 use Rattle.std.proofs.lemmas.List.{get_or-set_other, length-set, reverse-append}
-use Rattle.std.proofs.lemmas.List.Sorted.{IsPermutation-refl, IsPermutation-trans}
+use Rattle.std.proofs.lemmas.List.Sorted.{IsPermutation-refl, IsPermutation-trans, IsPermutation-append}
 use Rattle.qs_terms.specs.Bag.{SameBag, times}
 use Rattle.qs_terms.specs.Dataset.{Triple, graph_of}
 use Rattle.qs_terms.specs.Statement.{Statement}
@@ -26,8 +26,9 @@ use Rattle.qs_plan_meaning.specs.Scans.{bound_slot, bound_end, then_bound, bound
 use Rattle.qs_plan_meaning.specs.Stages.{Made, looked, graph_named, gives, through}
 use Rattle.qs_plan_meaning.specs.Stages.{register_of}
 use Rattle.qs_plan.specs.inner.Sames.{SameStages, held, Stays, IsScan, Misses}
-use Rattle.qs_plan.proofs.Commutes.{SetBy, slot_sets, end_sets, scanned_each, triple_even, path_even, flat_flat, merges_joined}
+use Rattle.qs_plan.proofs.Commutes.{SetBy, all_map, slot_sets, end_sets, scanned_each, triple_even, path_even, flat_flat, merges_joined}
 use Rattle.qs_plan.proofs.Levels.{gives_triple, gives_path, through_append, flat_ap}
+use Rattle.qs_plan.proofs.Onward.{Onward, stages_onward}
 use Rattle.qs_plan.proofs.Operators.{by_times, flat_map_same, merges_same}
 use Rattle.qs_plan.proofs.Runs.{by_merges}
 
@@ -133,33 +134,45 @@ flat_on P f g h [] k = refl
 flat_on P f g h (x ∷ xs) k = ap (λ l. l ++ flat_map f xs) (h x k.0) ∙ ap (λ l. g x ++ l) (flat_on P f g h xs k.1)
 
 module _ (r : Option ℕ) (width : ℕ) (quads : List Statement) (active : Graph) where
-  one_then : (s t : Stage) → IsScan r s → (k : IsScan r t) → (m : Solution) → flat_map (gives width quads active t) (gives width quads active s m) ≡ flat_map (merges (k.rows quads active (held r m) (length m))) (gives width quads active s m)
-  one_then s t h k m =
-      flat_on (Stays r m) (gives width quads active t) (merges (k.rows quads active (held r m) (length m)))
-      (λ q a. k.gives_rows width quads active q ∙ ap (λ o. merges (k.rows quads active o (length q)) q) a.holds ∙ ap (λ n. merges (k.rows quads active (held r m) n) q) a.wide)
-      (gives width quads active s m) (h.stays width quads active m)
+  -- a scan after what leaves the register and the width
+  pub scan_after : (t : Stage) (k : IsScan r t) (m : Solution) → width ≤ length m → (xs : List Solution) → AllByRecursion (Stays r m) xs → flat_map (gives width quads active t) xs ≡ flat_map (merges (k.rows width quads active (held r m) (length m))) xs
+  scan_after t k m w xs h =
+      flat_on (Stays r m) (gives width quads active t) (merges (k.rows width quads active (held r m) (length m)))
+      (λ q a. k.gives_rows width quads active q (omega (arith, w, a.wide)) ∙ ap (λ o. merges (k.rows width quads active o (length q)) q) a.holds ∙ ap (λ n. merges (k.rows width quads active (held r m) n) q) a.wide)
+      xs h
 
-  two_turned : (s t : Stage) → IsScan r s → IsScan r t → (m : Solution) → SameBag (flat_map (gives width quads active t) (gives width quads active s m)) (flat_map (gives width quads active s) (gives width quads active t m))
-  two_turned s t h k m =
-      let xs = h.rows quads active (held r m) (length m) in
-      let ys = k.rows quads active (held r m) (length m) in
-      subst (λ (l : List Solution). SameBag l (flat_map (gives width quads active s) (gives width quads active t m))) (sym (one_then s t h k m ∙ ap (flat_map (merges ys)) (h.gives_rows width quads active m)))
-      (subst (λ (l : List Solution). SameBag (flat_map (merges ys) (merges xs m)) l) (sym (one_then t s k h m ∙ ap (flat_map (merges xs)) (k.gives_rows width quads active m))) (both_merged xs ys m))
+  two_turned : (s t : Stage) → IsScan r s → IsScan r t → (m : Solution) → width ≤ length m → SameBag (flat_map (gives width quads active t) (gives width quads active s m)) (flat_map (gives width quads active s) (gives width quads active t m))
+  two_turned s t h k m w =
+      let xs = h.rows width quads active (held r m) (length m) in
+      let ys = k.rows width quads active (held r m) (length m) in
+      subst (λ (l : List Solution). SameBag l (flat_map (gives width quads active s) (gives width quads active t m))) (sym (scan_after t k m w (gives width quads active s m) (h.stays width quads active m w) ∙ ap (flat_map (merges ys)) (h.gives_rows width quads active m w)))
+      (subst (λ (l : List Solution). SameBag (flat_map (merges ys) (merges xs m)) l) (sym (scan_after s h m w (gives width quads active t m) (k.stays width quads active m w) ∙ ap (flat_map (merges xs)) (k.gives_rows width quads active m w))) (both_merged xs ys m))
 
 -- ---- lists of stages
 
 pub same_refl : (ss : List Stage) → SameStages ss ss
-same_refl ss = record { same = λ width quads active m. IsPermutation-refl (through width quads active ss m) }
+same_refl ss = record { same = λ width quads active m w. IsPermutation-refl (through width quads active ss m) }
 
 pub same_trans : (ss ts us : List Stage) → SameStages ss ts → SameStages ts us → SameStages ss us
-same_trans ss ts us a b = record { same = λ width quads active m. IsPermutation-trans _ _ _ (a.same width quads active m) (b.same width quads active m) }
+same_trans ss ts us a b = record { same = λ width quads active m w. IsPermutation-trans _ _ _ (a.same width quads active m w) (b.same width quads active m w) }
+
+-- stages don't shorten a row
+pub all_long : (width : ℕ) (quads : List Statement) (active : Graph) (ss : List Stage) (m : Solution) → width ≤ length m → AllByRecursion (λ q. width ≤ length q) (through width quads active ss m)
+all_long width quads active ss m w = all_map (Onward m) (λ q. width ≤ length q) (λ q o. omega (arith, w, o.wide)) (through width quads active ss m) (stages_onward width quads active ss m)
+
+-- equal bags from each
+flat_bags : (P : Solution → Type 0) (f g : Made) → ((x : Solution) → P x → SameBag (f x) (g x)) → (xs : List Solution) → AllByRecursion P xs → SameBag (flat_map f xs) (flat_map g xs)
+flat_bags P f g h [] k = IsPermutation-refl []
+flat_bags P f g h (x ∷ xs) k = IsPermutation-append _ _ _ _ (h x k.0) (flat_bags P f g h xs k.1)
 
 pub same_append : (ss ss' ts ts' : List Stage) → SameStages ss ss' → SameStages ts ts' → SameStages (ss ++ ts) (ss' ++ ts')
 same_append ss ss' ts ts' a b = record {
-  same = λ width quads active m.
+  same = λ width quads active m w.
       subst (λ (l : List Solution). SameBag l (through width quads active (ss' ++ ts') m)) (sym (through_append width quads active ss ts m))
       (subst (λ (l : List Solution). SameBag (flat_map (through width quads active ts) (through width quads active ss m)) l) (sym (through_append width quads active ss' ts' m))
-      (flat_map_same (through width quads active ts) (through width quads active ts') (through width quads active ss m) (through width quads active ss' m) (a.same width quads active m) (b.same width quads active)));
+      (IsPermutation-trans _ _ _
+      (flat_bags (λ q. width ≤ length q) (through width quads active ts) (through width quads active ts') (λ q k. b.same width quads active q k) (through width quads active ss m) (all_long width quads active ss m w))
+      (flat_map_same (through width quads active ts') (through width quads active ts') (through width quads active ss m) (through width quads active ss' m) (a.same width quads active m w) (λ x. IsPermutation-refl (through width quads active ts' x)))));
 }
 
 pub same_cons : (s : Stage) (ss ts : List Stage) → SameStages ss ts → SameStages (s ∷ ss) (s ∷ ts)
@@ -167,11 +180,11 @@ same_cons s ss ts h = same_append (s ∷ []) (s ∷ []) ss ts (same_refl (s ∷ 
 
 swap_two : (r : Option ℕ) (s t : Stage) (rest : List Stage) → IsScan r s → IsScan r t → SameStages (s ∷ t ∷ rest) (t ∷ s ∷ rest)
 swap_two r s t rest h k = record {
-  same = λ width quads active m.
+  same = λ width quads active m w.
       subst (λ (l : List Solution). SameBag l (through width quads active (t ∷ s ∷ rest) m)) (sym (flat_flat (gives width quads active t) (through width quads active rest) (gives width quads active s m)))
       (subst (λ (l : List Solution). SameBag (flat_map (through width quads active rest) (flat_map (gives width quads active t) (gives width quads active s m))) l)
       (sym (flat_flat (gives width quads active s) (through width quads active rest) (gives width quads active t m)))
-      (flat_map_same (through width quads active rest) (through width quads active rest) _ _ (two_turned r width quads active s t h k m) (λ x. IsPermutation-refl (through width quads active rest x))));
+      (flat_map_same (through width quads active rest) (through width quads active rest) _ _ (two_turned r width quads active s t h k m w) (λ x. IsPermutation-refl (through width quads active rest x))));
 }
 
 -- a scan is brought forward
@@ -268,24 +281,24 @@ looked_by quads active (look.Register r) m = refl
 
 pub triple_scan : (r : Option ℕ) (place : Look) (p : TriplePattern) → register_of place ≡ r → Misses r p.subject → Misses r p.predicate → Misses r p.object → IsScan r (stage.Triple place p)
 triple_scan r place p e a b c = record {
-  rows = λ quads active o n. extensions p (seen_by quads active place o) (unbound n);
-  gives_rows = λ width quads active m.
+  rows = λ width quads active o n. extensions p (seen_by quads active place o) (unbound n);
+  gives_rows = λ width quads active m w.
       gives_triple width quads active m place p
       ∙ (ap (λ g. extensions p g m) (looked_by quads active place m ∙ ap (λ x. seen_by quads active place (held x m)) e)
       ∙ by_merges (extensions p (seen_by quads active place (held r m))) (triple_even p (seen_by quads active place (held r m))) m);
-  stays = λ width quads active m.
+  stays = λ width quads active m w.
       subst (AllByRecursion (Stays r m)) (sym (gives_triple width quads active m place p))
       (scanned_each (Stays r m) (λ t. bound_triple p t m) (λ t q k. triple_stays r p t m q a b c k) (looked quads active place m));
 }
 
 pub path_scan : (r : Option ℕ) (place : Look) (p : PathPattern) → register_of place ≡ r → Misses r p.subject → Misses r p.object → IsScan r (stage.Path place p)
 path_scan r place p e a c = record {
-  rows = λ quads active o n. path_extensions p (seen_by quads active place o) (unbound n);
-  gives_rows = λ width quads active m.
+  rows = λ width quads active o n. path_extensions p (seen_by quads active place o) (unbound n);
+  gives_rows = λ width quads active m w.
       gives_path width quads active m place p
       ∙ (ap (λ g. path_extensions p g m) (looked_by quads active place m ∙ ap (λ x. seen_by quads active place (held x m)) e)
       ∙ by_merges (path_extensions p (seen_by quads active place (held r m))) (path_even p (seen_by quads active place (held r m))) m);
-  stays = λ width quads active m.
+  stays = λ width quads active m w.
       subst (AllByRecursion (Stays r m)) (sym (gives_path width quads active m place p))
       (scanned_each (Stays r m) (λ x. bound_ends p x m) (λ x q k. ends_stay r p x m q a c k) (path_pairs p (looked quads active place m)));
 }

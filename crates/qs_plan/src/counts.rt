@@ -25,10 +25,11 @@ const FEW: u64 = 16;
 /// Where no pattern has fewer, up to so many are counted for all of them.
 const IN_ALL: u64 = 4096;
 
-/// Of paths nothing is counted: there are as many pairs as may be.
+/// A table has as many as its rows. Of paths nothing is counted: there are as many pairs as may be.
 fn count_of<C: Counts>(counts: &C, stage: &Stage, limit: u64) -> u64 {
     match stage {
         Stage::Triple(look, pattern) => counts.about(look, pattern, limit),
+        Stage::Values(table) => table.get().rows.len() as u64,
         _ => limit,
     }
 }
@@ -51,13 +52,18 @@ fn is_any_below(counts: &[u64], limit: u64) -> bool {
     counts.iter().any(|count| *count < limit)
 }
 
-/// The count of each stage of a run: few triples are counted for each, and more where no stage has fewer.
+/// The count of each stage of a run: few rows are counted for each, and more where no stage has fewer and none has a variable that is bound
+/// before the run (`is_bound`).
 pub(crate) fn counts_of<C: Counts>(
     alloc: Global,
     counts: &C,
     stages: &[Stage],
+    is_bound: bool,
 ) -> Result<Vec<u64>, AllocError> {
     let found = counts_to(alloc, counts, stages, FEW)?;
+    if is_bound {
+        return Ok(found);
+    }
     let limit = IN_ALL / (stages.len() as u64).max(1);
     if limit <= FEW || is_any_below(found.as_slice(), FEW) {
         return Ok(found);

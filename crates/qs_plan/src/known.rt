@@ -87,26 +87,29 @@ pub(crate) fn keep_flags(known: &mut Vec<bool>, others: &[bool]) {
     }
 }
 
-fn variable_of(slot: &Slot) -> Option<usize> {
+fn push_slot(variables: &mut Vec<usize>, slot: &Slot) -> Result<(), AllocError> {
     match slot {
-        Slot::Term(_) => None,
-        Slot::Variable(variable) => Some(*variable),
+        Slot::Term(_) => {}
+        Slot::Variable(variable) => variables.push(*variable)?,
     }
+    Ok(())
 }
 
-/// The variables in the three places of a triple or a path. The place of a path's predicate has none.
-pub(crate) fn variables_of(stage: &Stage) -> [Option<usize>; 3] {
+/// The variables in the places of a triple, a path or a table, one for each place that holds one. The places of a table are its columns.
+pub(crate) fn variables_of(alloc: Global, stage: &Stage) -> Result<Vec<usize>, AllocError> {
+    let mut variables = Vec::new(alloc);
     match stage {
-        Stage::Triple(_, pattern) => [
-            variable_of(&pattern.subject),
-            variable_of(&pattern.predicate),
-            variable_of(&pattern.object),
-        ],
-        Stage::Path(_, pattern) => [
-            variable_of(&pattern.subject),
-            None,
-            variable_of(&pattern.object),
-        ],
-        _ => [None, None, None],
+        Stage::Triple(_, pattern) => {
+            push_slot(&mut variables, &pattern.subject)?;
+            push_slot(&mut variables, &pattern.predicate)?;
+            push_slot(&mut variables, &pattern.object)?;
+        }
+        Stage::Path(_, pattern) => {
+            push_slot(&mut variables, &pattern.subject)?;
+            push_slot(&mut variables, &pattern.object)?;
+        }
+        Stage::Values(table) => variables.extend_from_slice(table.get().variables.as_slice())?,
+        _ => {}
     }
+    Ok(variables)
 }

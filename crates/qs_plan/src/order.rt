@@ -1,4 +1,4 @@
-//! The order of runs: which triple or path comes next.
+//! The order of runs: which triple, path or table comes next.
 
 ghost use Rattle.std.specs.Prelude.{◌≡◌, ◌≢◌, true, [], ◌∷◌, ◌++◌, reverse, IfOk, OnOk};
 ghost use Rattle.std.specs.List.{AllByRecursion};
@@ -6,15 +6,16 @@ ghost use Rattle.std.specs.Option.{option_to_list};
 ghost use Rattle.qs_plan_meaning.specs.declared.stage.Stage.TheVariants as stage;
 ghost use Rattle.qs_plan.specs.Plans.{SamePlan};
 ghost use Rattle.qs_plan_meaning.specs.Stages.{register_of};
-ghost use Rattle.qs_plan.specs.inner.Sames.{IsScan, Misses, SameStages};
+ghost use Rattle.qs_plan.specs.inner.Sames.{IsScan, Misses, MissesAll, SameStages};
 ghost use Rattle.qs_plan.specs.inner.Slots.{Puts, Takes, stages_left};
 
-use crate::copies::copied_stage;
+use crate::copies::{copied_stage, copied_stages};
 use crate::counts::{Counts, NoCounts};
 use crate::known::{add_flags, all_flags, keep_flags, mark_stage, no_flags};
+use crate::leaves::has_column;
 use crate::plan_type::Plan;
 use crate::ranks::order_of;
-use qs_algebra_patterns::{PathPattern, Slot, TriplePattern};
+use qs_algebra_patterns::{PathPattern, Slot, Table, TriplePattern};
 use qs_plan_meaning::{Group, Look, Stage};
 use sqlite_items::Items;
 use std::alloc::{AllocError, Global};
@@ -48,6 +49,16 @@ pub(crate) fn path_misses(pattern: &PathPattern, register: Option<usize>) -> boo
     misses(&pattern.subject, register) && misses(&pattern.object, register)
 }
 
+/// Whether no column of the table is the variable that is the register.
+fn table_misses(table: &Table, register: Option<usize>) -> bool
+    ensures { result ≡ true → MissesAll register table.now.variables }
+{
+    match register {
+        None => true,
+        Some(register) => !has_column(table, register),
+    }
+}
+
 /// Whether it looks in this register, or in none where there is none.
 fn looks_in(look: &Look, register: Option<usize>) -> bool
     ensures { result ≡ true → register_of look.now ≡ register }
@@ -59,7 +70,7 @@ fn looks_in(look: &Look, register: Option<usize>) -> bool
     }
 }
 
-/// Whether the stage is a triple or a path that looks in this register, or in none where there is none, and doesn't bind it.
+/// Whether the stage is a triple or a path that looks in this register, or in none where there is none, or a table, and doesn't bind it.
 fn is_scan(stage: &Stage, register: Option<usize>) -> bool
     ensures { result ≡ true → IsScan register stage.now }
 {
@@ -68,6 +79,7 @@ fn is_scan(stage: &Stage, register: Option<usize>) -> bool
             looks_in(look, register) && triple_misses(pattern, register)
         }
         Stage::Path(look, pattern) => looks_in(look, register) && path_misses(pattern, register),
+        Stage::Values(table) => table_misses(table.get(), register),
         _ => false,
     }
 }
@@ -336,7 +348,19 @@ fn ordered_branches<C: Counts>(
     Ok(done)
 }
 
-/// The plan with the triples and paths of each run in their order, by these counts (`order_of`). Both plans have the same solutions.
+fn copied_plan(alloc: Global, plan: &Plan) -> Result<Plan, AllocError>
+    ensures { IfOk result (λ p. p ≡ plan.now) }
+{
+    let stages = copied_stages(alloc, plan.stages.as_slice())?;
+    Ok(Plan {
+        width: plan.width,
+        cells: plan.cells,
+        stages,
+    })
+}
+
+/// The plan with the triples, paths and tables of each run in their order, by these counts (`order_of`). Both plans have the same solutions.
+/// Where a row has no cell for a named variable, the plan stays as it is: a table then makes the row longer, and a triple after it may bind more.
 pub(crate) fn counted_order<C: Counts>(
     alloc: Global,
     counts: &C,
@@ -344,6 +368,9 @@ pub(crate) fn counted_order<C: Counts>(
 ) -> Result<Plan, AllocError>
     ensures { IfOk result (λ p. SamePlan p plan.now) }
 {
+    if plan.cells < plan.width {
+        return copied_plan(alloc, plan);
+    }
     let mut known = no_flags(alloc, plan.cells)?;
     let stages = ordered_stages(alloc, counts, plan.stages.as_slice(), &mut known)?;
     Ok(Plan {
@@ -353,9 +380,8 @@ pub(crate) fn counted_order<C: Counts>(
     })
 }
 
-/// The plan with the triples and paths of each run in their order: next comes one that shares a variable with those before, or has none, if
-/// there is one; of several, one with the fewest places that are neither terms nor variables bound before, and then the first of the text.
-/// Both plans have the same solutions.
+/// The plan with the triples, paths and tables of each run in the order that `plan_for` tells, for a store of which nothing is known: of each
+/// triple and path there are as many as may be. Both plans have the same solutions.
 ///
 /// # Errors
 /// `AllocError` where memory runs out.

@@ -58,14 +58,16 @@ pub fn plan(alloc: Global, pattern: &Pattern) -> Result<Plan, QFault>
 }
 
 /// The plan of a pattern for a store: it has the solutions of the pattern over each dataset and in each graph, whatever the counts are (SPARQL
-/// 1.1 Query, 18.5 and 18.6). The counts decide the order of the triples and paths between two other stages.
+/// 1.1 Query, 18.5 and 18.6). The counts decide the order of the triples, paths and tables between two other stages.
 ///
-/// Next comes a triple or a path that has a variable bound before, or no variable, or one triple at most in the store. Of several, it is one
-/// with the fewest places free, then one with the fewest triples in the store, then the first of the text. Where there is none, as at the
-/// beginning, it is one with the fewest triples in the store, then with the fewest places free, then the first of the text.
+/// Next comes one that has a variable bound before, or no variable, or one row at most: for a triple one triple in the store. Of several, it is
+/// one with the fewest places free, then one with the fewest rows, then the first of the text. Where there is none, as at the beginning, it is
+/// one with the fewest rows, then with the fewest places free, then the first of the text. A table comes last if it has no variable that is bound
+/// before or stands in another of them: what comes after it would be done again for each of its rows.
 ///
-/// A place is free if it holds neither a term nor a variable bound before. What has no triple in the store comes before all others. Up to 16
-/// triples are counted for each pattern, and where none has fewer, up to 4,096 for all of them. Paths aren't counted.
+/// A place is free if it holds neither a term nor a variable bound before. The places of a table are its columns. What has no row comes before all
+/// others. Up to 16 rows are counted for each pattern. Where none of them has fewer, nor a variable that another stage bound before all of them, up
+/// to 4,096 rows are counted for all of them. Paths aren't counted.
 ///
 /// # Errors
 /// `Memory` where memory runs out.

@@ -1,22 +1,22 @@
-//! In which order the triples and paths of a run come.
-
-ghost use Rattle.std.specs.Prelude.{◌≤◌};
+//! In which order the triples, paths and tables of a run come.
 
 use crate::counts::{Counts, counts_of};
-use crate::known::{is_known, mark, mark_stage, variables_of};
+use crate::known::{is_known, mark, mark_stage, no_flags, variables_of};
 use qs_plan_meaning::Stage;
 use std::alloc::{AllocError, Global};
 use std::collections::BTreeSet;
 
-/// A triple or a path of a run, as far as the choice goes by it.
+/// A stage of a run, as far as the choice goes by it.
 #[derive(Clone, Copy)]
 struct Candidate {
     /// How many of its places hold neither a term nor a variable that is bound.
     free: u64,
-    /// About how many triples agree with its terms.
+    /// About how many rows it has by itself.
     count: u64,
     /// Whether it makes no product of its rows and those before: it has a variable that is bound, or none, or it has one row at most.
     is_joined: bool,
+    /// Whether it makes a product wherever it comes, which belongs at the end: what comes after it is done again for each of its rows.
+    is_apart: bool,
 }
 
 /// What decides between candidates: the least comes next.
@@ -47,41 +47,59 @@ struct Choice {
 
 // ---- candidates
 
-/// One, where the place holds a variable that isn't bound.
-fn free_place(known: &[bool], variable: Option<usize>) -> u64
-    ensures { result ≤ 1 }
-{
-    match variable {
-        Some(variable) if !is_known(known, variable) => 1,
-        _ => 0,
+/// How many of the variables aren't bound.
+fn free_places(known: &[bool], variables: &[usize]) -> u64 {
+    let mut free: u64 = 0;
+    for variable in variables {
+        if !is_known(known, *variable) {
+            free = free.saturating_add(1);
+        }
     }
+    free
 }
 
-/// Whether the place holds a variable that is bound.
-fn is_bound(known: &[bool], variable: Option<usize>) -> bool {
-    match variable {
-        Some(variable) => is_known(known, variable),
-        None => false,
+/// Whether one of the variables is bound.
+fn is_any_known(known: &[bool], variables: &[usize]) -> bool {
+    for variable in variables {
+        if is_known(known, *variable) {
+            return true;
+        }
     }
+    false
 }
 
-/// The stage as a candidate. Where no triple agrees, no row is left: it comes as one whose places are all bound.
-fn candidate_of(known: &[bool], stage: &Stage, count: u64) -> Candidate {
-    let [subject, predicate, object] = variables_of(stage);
-    let free = free_place(known, subject)
-        + free_place(known, predicate)
-        + free_place(known, object);
-    let is_shared = is_bound(known, subject)
-        || is_bound(known, predicate)
-        || is_bound(known, object);
+/// Whether a variable of one of the stages is bound.
+fn is_any_bound(known: &[bool], places: &[Vec<usize>]) -> bool {
+    for at in 0..places.len() {
+        if is_any_known(known, places[at].as_slice()) {
+            return true;
+        }
+    }
+    false
+}
+
+/// A stage with these variables as a candidate. Where it has no row, none is left: it comes as one whose places are all bound. It is apart if
+/// it may be and none of its variables is bound.
+fn candidate_of(known: &[bool], variables: &[usize], count: u64, may_be_apart: bool) -> Candidate {
+    let free = free_places(known, variables);
+    let is_bound = free == 0 || is_any_known(known, variables);
     Candidate {
         free: if count == 0 { 0 } else { free },
         count,
-        is_joined: is_shared || free == 0 || count <= 1,
+        is_joined: is_bound || count <= 1,
+        is_apart: may_be_apart && !is_bound && count > 0,
     }
 }
 
 fn rank_of(at: usize, one: Candidate) -> Rank {
+    if one.is_apart {
+        return Rank {
+            is_product: true,
+            first: u64::MAX,
+            second: one.count,
+            at,
+        };
+    }
     if one.is_joined {
         return Rank {
             is_product: false,
@@ -98,16 +116,43 @@ fn rank_of(at: usize, one: Candidate) -> Rank {
     }
 }
 
-/// The candidates, by the counts of their stages.
+/// Whether the stage is a table.
+fn is_table(stage: &Stage) -> bool {
+    match stage {
+        Stage::Values(_) => true,
+        _ => false,
+    }
+}
+
+/// Whether the stage at the place is a table.
+fn is_table_at(stages: &[Stage], at: usize) -> bool {
+    match stages.get(at) {
+        Some(stage) => is_table(stage),
+        None => false,
+    }
+}
+
+fn count_at(counts: &[u64], at: usize) -> u64 {
+    match counts.get(at) {
+        Some(count) => *count,
+        None => 0,
+    }
+}
+
+/// The candidates, by the counts of their stages, the variables in their places, and whether they have a variable of another stage.
 fn candidates_of(
     alloc: Global,
     stages: &[Stage],
     known: &[bool],
     counts: &[u64],
+    places: &[Vec<usize>],
+    shared: &[bool],
 ) -> Result<Vec<Candidate>, AllocError> {
-    let mut candidates = Vec::with_capacity(alloc, stages.len())?;
-    for (stage, count) in stages.iter().zip(counts.iter()) {
-        candidates.push(candidate_of(known, stage, *count))?;
+    let mut candidates = Vec::with_capacity(alloc, places.len())?;
+    for at in 0..places.len() {
+        let may_be_apart = is_table_at(stages, at) && !is_known(shared, at);
+        let count = count_at(counts, at);
+        candidates.push(candidate_of(known, places[at].as_slice(), count, may_be_apart))?;
     }
     Ok(candidates)
 }
@@ -122,24 +167,47 @@ fn ranks_of(alloc: Global, candidates: &[Candidate]) -> Result<BTreeSet<Rank>, A
 
 // ---- variables
 
-fn push_use(uses: &mut Vec<Use>, variable: Option<usize>, at: usize) -> Result<(), AllocError> {
-    if let Some(variable) = variable {
-        uses.push(Use { variable, at })?;
+/// The variables in the places of each stage.
+fn places_of(alloc: Global, stages: &[Stage]) -> Result<Vec<Vec<usize>>, AllocError> {
+    let mut places = Vec::with_capacity(alloc, stages.len())?;
+    for stage in stages {
+        places.push(variables_of(alloc, stage)?)?;
+    }
+    Ok(places)
+}
+
+fn push_uses(uses: &mut Vec<Use>, variables: &[usize], at: usize) -> Result<(), AllocError> {
+    for variable in variables {
+        uses.push(Use {
+            variable: *variable,
+            at,
+        })?;
     }
     Ok(())
 }
 
 /// Where each variable stands, in ascending order of the variables.
-fn uses_of(alloc: Global, stages: &[Stage]) -> Result<Vec<Use>, AllocError> {
+fn uses_of(alloc: Global, places: &[Vec<usize>]) -> Result<Vec<Use>, AllocError> {
     let mut uses = Vec::new(alloc);
-    for at in 0..stages.len() {
-        let [subject, predicate, object] = variables_of(&stages[at]);
-        push_use(&mut uses, subject, at)?;
-        push_use(&mut uses, predicate, at)?;
-        push_use(&mut uses, object, at)?;
+    for at in 0..places.len() {
+        push_uses(&mut uses, places[at].as_slice(), at)?;
     }
     uses.sort_unstable_by_key(|one| one.variable);
     Ok(uses)
+}
+
+/// Flags the stages, of so many, that have a variable of another stage. The uses are in ascending order of the variables.
+fn shared_of(alloc: Global, uses: &[Use], count: usize) -> Result<Vec<bool>, AllocError> {
+    let mut shared = no_flags(alloc, count)?;
+    for at in 1..uses.len() {
+        let one = uses[at - 1];
+        let other = uses[at];
+        if one.variable == other.variable && one.at != other.at {
+            mark(&mut shared, one.at);
+            mark(&mut shared, other.at);
+        }
+    }
+    Ok(shared)
 }
 
 /// The candidate at the place has one more place bound, if it is left.
@@ -156,6 +224,7 @@ fn bind_place(
         free: one.free.saturating_sub(1),
         count: one.count,
         is_joined: true,
+        is_apart: false,
     };
     candidates[at] = bound;
     ranks.insert(rank_of(at, bound))?;
@@ -186,12 +255,21 @@ impl Choice {
         alloc: Global,
         counts: &C,
         stages: &[Stage],
+        places: &[Vec<usize>],
         known: &[bool],
     ) -> Result<Choice, AllocError> {
-        let counts = counts_of(alloc, counts, stages)?;
-        let candidates = candidates_of(alloc, stages, known, counts.as_slice())?;
+        let counts = counts_of(alloc, counts, stages, is_any_bound(known, places))?;
+        let uses = uses_of(alloc, places)?;
+        let shared = shared_of(alloc, uses.as_slice(), places.len())?;
+        let candidates = candidates_of(
+            alloc,
+            stages,
+            known,
+            counts.as_slice(),
+            places,
+            shared.as_slice(),
+        )?;
         let ranks = ranks_of(alloc, candidates.as_slice())?;
-        let uses = uses_of(alloc, stages)?;
         Ok(Choice {
             candidates,
             uses,
@@ -208,10 +286,7 @@ impl Choice {
     }
 
     /// The variable is bound, if it wasn't before.
-    fn bind(&mut self, known: &mut Vec<bool>, variable: Option<usize>) -> Result<(), AllocError> {
-        let Some(variable) = variable else {
-            return Ok(());
-        };
+    fn bind(&mut self, known: &mut Vec<bool>, variable: usize) -> Result<(), AllocError> {
         if is_known(known, variable) {
             return Ok(());
         }
@@ -224,12 +299,12 @@ impl Choice {
         )
     }
 
-    /// The variables of the stage are bound.
-    fn bind_stage(&mut self, known: &mut Vec<bool>, stage: &Stage) -> Result<(), AllocError> {
-        let [subject, predicate, object] = variables_of(stage);
-        self.bind(known, subject)?;
-        self.bind(known, predicate)?;
-        self.bind(known, object)
+    /// The variables are bound.
+    fn bind_all(&mut self, known: &mut Vec<bool>, variables: &[usize]) -> Result<(), AllocError> {
+        for variable in variables {
+            self.bind(known, *variable)?;
+        }
+        Ok(())
     }
 }
 
@@ -253,15 +328,16 @@ pub(crate) fn order_of<C: Counts>(
         mark_stages(known, stages);
         return Ok(Vec::new(alloc));
     }
-    let mut choice = Choice::new(alloc, counts, stages, known)?;
+    let places = places_of(alloc, stages)?;
+    let mut choice = Choice::new(alloc, counts, stages, places.as_slice(), known)?;
     let mut order = Vec::with_capacity(alloc, stages.len())?;
     for _ in 0..stages.len() {
         let Some(at) = choice.next() else {
             return Ok(order);
         };
         order.push(at)?;
-        if let Some(stage) = stages.get(at) {
-            choice.bind_stage(known, stage)?;
+        if let Some(variables) = places.get(at) {
+            choice.bind_all(known, variables.as_slice())?;
         }
     }
     Ok(order)

@@ -131,7 +131,25 @@ const PLANS: &[(&str, &str)] = &[
         "SELECT * { ?a <u:p>+ ?b . ?b <u:q> ?c }",
         "triple ?1 <u:q> ?2\npath ?0 <u:p>+ ?1\n",
     ),
+    // a table has as many as its rows
+    (
+        "SELECT * { ?s <u:p> ?x . ?x <u:rare> ?v VALUES ?s { <u:x> } }",
+        "values ?0, rows: 1\ntriple ?0 <u:p> ?1\ntriple ?1 <u:rare> ?2\n",
+    ),
+    (
+        "SELECT * { ?s <u:p> ?x . ?x <u:rare> ?v VALUES (?s ?v) { (<u:x> 1) (<u:y> 2) (<u:z> 3) (<u:w> 4) } }",
+        "triple ?1 <u:rare> ?2\nvalues ?0 ?2, rows: 4\ntriple ?0 <u:p> ?1\n",
+    ),
+    // a table without a variable of the others comes last
+    (
+        "SELECT * { VALUES ?z { <u:x> } ?a <u:p> ?b . ?b <u:q> ?c }",
+        "triple ?1 <u:p> ?2\ntriple ?2 <u:q> ?3\nvalues ?0, rows: 1\n",
+    ),
     // what is bound before the run counts as bound
+    (
+        "SELECT * { BIND(<u:x> AS ?b) ?a <u:rare> ?c . ?b <u:p> ?c }",
+        "bind ?0 = <u:x>\ntriple ?0 <u:p> ?2\ntriple ?1 <u:rare> ?2\n",
+    ),
     (
         "SELECT * { VALUES ?b { <u:x> } ?a <u:rare> ?c . ?b <u:p> ?c }",
         "values ?0, rows: 1\ntriple ?0 <u:p> ?2\ntriple ?1 <u:rare> ?2\n",

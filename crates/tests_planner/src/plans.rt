@@ -335,7 +335,7 @@ const PLANS: &[(&str, &str)] = &[
     ),
     (
         "SELECT * { ?a <u:p> ?b { ?b <u:q> ?c FILTER(?c = <u:x>) } }",
-        "triple ?0 <u:p> ?1\nvalues ?2, rows: 1\nfilter (= ?2 <u:x>)\ntriple ?1 <u:q> ?2\n",
+        "values ?2, rows: 1\nfilter (= ?2 <u:x>)\ntriple ?1 <u:q> ?2\ntriple ?0 <u:p> ?1\n",
     ),
     (
         "SELECT * { ?a <u:p> ?b { { ?b <u:q> ?c FILTER(?c > 'x') } UNION { ?b <u:r> ?c } } }",
