@@ -1,8 +1,10 @@
 //! Which patterns may be evaluated again for each row at a small cost: triples, short tables, and groups, unions and named graphs of them.
-//! A closure or a negated set is left out: where the row binds none of its ends, all its pairs would be found anew for each row.
+//! A closure or a negated set is left out: where the row binds none of its ends, all its pairs would be found anew for each row. So is a
+//! group that is evaluated by itself: it would be anew for each row.
 
 use crate::few::is_short;
 use qs_algebra_patterns::{BasicPattern, PatternNode, Step};
+use qs_plan_meaning::{Group, Stage};
 use qs_syntax_ast::path::Path;
 
 /// Whether the path becomes triples alone.
@@ -43,9 +45,7 @@ pub(crate) fn is_feedable(part: &PatternNode) -> bool {
     match part {
         PatternNode::Basic(basic) => becomes_triples(basic),
         PatternNode::Values(table) => is_short(table),
-        PatternNode::Group(steps, conditions) => {
-            conditions.is_empty() && are_feedable_steps(steps.as_slice())
-        }
+        PatternNode::Group(steps, _) => are_feedable_steps(steps.as_slice()),
         PatternNode::Union(parts) => are_feedable(parts.as_slice()),
         PatternNode::Graph(_, part) => is_feedable(part.get()),
         PatternNode::EachGraph(_, _) => false,
@@ -78,4 +78,38 @@ fn is_feedable_step(one: &Step) -> bool {
         Step::Join(part) => is_feedable(part),
         _ => false,
     }
+}
+
+/// Whether the stage holds no group that is evaluated by itself.
+#[cycle(in_line)]
+fn is_in_line(stage: &Stage) -> bool {
+    match stage {
+        Stage::Union(branches) => are_branches_in_line(branches.as_slice()),
+        Stage::Fed(group, _) => are_in_line(group.stages.as_slice()),
+        Stage::Optional(_, _, _) => false,
+        Stage::Minus(_, _) => false,
+        Stage::Apart(_, _) => false,
+        _ => true,
+    }
+}
+
+/// Whether the stages hold no group that is evaluated by itself.
+#[cycle(in_line)]
+pub(crate) fn are_in_line(stages: &[Stage]) -> bool {
+    for stage in stages {
+        if !is_in_line(stage) {
+            return false;
+        }
+    }
+    true
+}
+
+#[cycle(in_line)]
+fn are_branches_in_line(branches: &[Group]) -> bool {
+    for branch in branches {
+        if !are_in_line(branch.stages.as_slice()) {
+            return false;
+        }
+    }
+    true
 }

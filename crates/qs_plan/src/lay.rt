@@ -10,7 +10,7 @@ ghost use Rattle.qs_plan.specs.inner.Lays.{Lays, LaysStep, Within, IsJoin, all_k
 
 use crate::certain::Size;
 use crate::copies::{shared_expr, shared_table};
-use crate::feedable::is_feedable;
+use crate::feedable::{are_in_line, is_feedable};
 use crate::few::are_few;
 use crate::fixes::{are_settled, put_tables};
 use crate::laid::{
@@ -377,7 +377,8 @@ fn lay_step(
     }
 }
 
-/// The stage of an OPTIONAL. Its group is fed each row where few stand before it, and evaluating it again costs little.
+/// The stage of an OPTIONAL. Its group is fed each row where few stand before it, and evaluating it again costs little: no part of it is
+/// evaluated by itself.
 #[cycle(lay)]
 fn lay_optional(
     alloc: Global,
@@ -394,8 +395,10 @@ fn lay_optional(
 {
     if few && is_feedable(part) {
         let laid = lay(alloc, width, part, look, from, false)?;
-        let laid = fed(alloc, conditions, laid)?;
-        return Ok(laid);
+        if are_in_line(laid.stages.as_slice()) {
+            let laid = fed(alloc, conditions, laid)?;
+            return Ok(laid);
+        }
     }
     let laid = lay(alloc, width, part, look, from, true)?;
     let laid = optional(alloc, look, conditions, laid)?;

@@ -122,6 +122,15 @@ const PLANS: &[(&str, &str)] = &[
         "SELECT * { GRAPH ?g { ?a <u:p> <u:x> OPTIONAL { ?a <u:q> ?b } } }",
         "names ?3\ntriple ?1 <u:p> <u:x> in ?3\noptional, fed\n  triple ?1 <u:q> ?2 in ?3\nname ?0 = ?3\n",
     ),
+    // a group with filters is fed where it is certain to bind what they read
+    (
+        "SELECT * { <u:a> <u:p> ?b OPTIONAL { { ?b <u:q> ?c FILTER(?c > ?b) } } }",
+        "triple <u:a> <u:p> ?0\noptional, fed\n  triple ?0 <u:q> ?1\n  filter (> ?1 ?0)\n",
+    ),
+    (
+        "SELECT * { <u:a> <u:p> ?b OPTIONAL { { ?c <u:q> ?d FILTER(?d > ?b) } } }",
+        "triple <u:a> <u:p> ?0\noptional\n  triple ?1 <u:q> ?2\n  filter (> ?2 ?0)\n",
+    ),
     // many subjects have a type in common
     (
         "SELECT * { ?a a <u:x> OPTIONAL { ?a <u:p> ?b } }",

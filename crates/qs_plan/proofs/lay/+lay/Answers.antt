@@ -76,8 +76,8 @@ pub lay_step-returns-in_ok-laid-in-LeftJoin : goal.lay_step-returns-in_ok-laid-i
 lay_step-returns-in_ok-laid-in-LeftJoin t c =
     left_join_arm c.args.first c.args.width c.args.look.now c.args.from _ _ c.args.one.now c.in-LeftJoin.part c.in-LeftJoin.conditions _ c.in-LeftJoin.is c.as_slice.ensures (c.in_ok-laid-in-LeftJoin.ensures c.args.first)
 
-pub lay_optional-returns-then-is_feedable : goal.lay_optional-returns-then-is_feedable
-lay_optional-returns-then-is_feedable t c first =
+pub lay_optional-returns-then-are_in_line : goal.lay_optional-returns-then-are_in_line
+lay_optional-returns-then-are_in_line t c first =
     optional_fed first c.args.width c.args.look.now c.args.from _ _ c.args.part.now c.args.conditions.now _ _ c.in_ok-laid.ensures c.in_ok-laid-2.ensures
 
 pub lay_optional-returns : goal.lay_optional-returns
