@@ -58,7 +58,6 @@ fn not_certain(known: &[Bound], variables: &[usize]) -> Option<usize> {
 
 fn filter_reason(
     alloc: Global,
-    side: Side,
     condition: &Expr,
     known: &[Bound],
 ) -> Result<Option<Reason>, AllocError> {
@@ -66,7 +65,7 @@ fn filter_reason(
     settle(alloc, condition, &mut variables)?;
     match not_certain(known, variables.as_slice()) {
         Some(variable) => Ok(Some(Reason::NotCertain(variable))),
-        None => Ok(side.only_if_optional(Reason::Inside("FILTER"))),
+        None => Ok(None),
     }
 }
 
@@ -79,7 +78,7 @@ fn stage_reason(
     known: &[Bound],
 ) -> Result<Option<Reason>, AllocError> {
     match stage {
-        Stage::Filter(condition) => filter_reason(alloc, side, condition.get(), known),
+        Stage::Filter(condition) => filter_reason(alloc, condition.get(), known),
         Stage::Path(_, _) => Ok(side.only_if_optional(Reason::Inside("a path"))),
         Stage::Names(_) => Ok(side.only_if_optional(Reason::Inside("GRAPH of a variable"))),
         Stage::Values(table) => Ok(table_reason(side, table.get())),
