@@ -22,9 +22,11 @@ pub mod Arms
 pub mod Swaps
 pub mod Sames
 pub mod Taking
+pub mod Cutting
 pub mod Settled
 pub mod Leaving
 pub mod Tables
+pub mod Unions
 pub mod Onward
 pub mod Keeping
 pub mod Getting

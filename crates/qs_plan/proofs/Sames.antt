@@ -1,8 +1,8 @@
 -- Stages of which the groups are exchanged for others that make the same.
-use Rattle.std.proofs.Common.{arith, ◌≡◌, ℕ, ◌+◌, ◌<◌, ◌≤◌, not, List, [], ◌∷◌, ◌++◌, map, take, length, get_or, reverse, Option, sym, ◌∙◌, ap, subst, append-nil, append_assoc, zero, suc, None, Some, slice_get}
+use Rattle.std.proofs.Common.{arith, ◌≡◌, ℕ, ◌+◌, ◌<◌, ◌≤◌, not, List, [], ◌∷◌, ◌++◌, map, take, length, get_or, Option, sym, ◌∙◌, ap, subst, append-nil, zero, suc, None, Some, slice_get}
 use Rattle.std.specs.List.{AllByRecursion, flat_map, remove}
 use Rattle.std.proofs.lemmas.Grind.{flat_map-append}
-use Rattle.std.proofs.lemmas.List.{length-set, take_more, take_all, reverse-append}
+use Rattle.std.proofs.lemmas.List.{length-set, take_more, take_all}
 use Rattle.std.proofs.lemmas.List.Sorted.{IsPermutation-append, IsPermutation-map, IsPermutation-refl, list_any-IsPermutation}
 use Rattle.qs_terms.specs.Bag.{SameBag}
 use Rattle.qs_terms.specs.Statement.{Statement}
@@ -26,7 +26,7 @@ use Rattle.qs_plan.proofs.Laying.{between, same}
 use Rattle.qs_plan.proofs.Levels.{gives_union, gives_optional, gives_fed, gives_minus, gives_apart, through_one}
 use Rattle.qs_plan.proofs.Operators.{filter_same, merges_same, alone_same}
 use Rattle.qs_plan.proofs.Widths.{length_unbound}
-use Rattle.qs_plan.proofs.Swaps.{same_refl, same_trans, same_append, same_turned, scans_turned, triple_scan, path_scan, one_brought, scans_left}
+use Rattle.qs_plan.proofs.Swaps.{same_refl, triple_scan, path_scan, one_brought, scans_left}
 
 pub same_as : (s t : Stage) → s ≡ t → SameStages (s ∷ []) (t ∷ [])
 same_as s t e = subst (λ (x : Stage). SameStages (s ∷ []) (x ∷ [])) e (same_refl (s ∷ []))
@@ -123,40 +123,6 @@ minus_arm s r g own is h = subst (λ (x : Stage). SameStages (stage.Minus r own 
 pub apart_arm : (s : Stage) (r : Option ℕ) (g own : Group) → s ≡ stage.Apart r g → SameStages own.stages g.stages → SameStages (stage.Apart r own ∷ []) (s ∷ [])
 apart_arm s r g own is h = subst (λ (x : Stage). SameStages (stage.Apart r own ∷ []) (x ∷ [])) (sym is) (apart_same own.stages g.stages h r)
 
--- the stage behind those that are done, where no run is left
-pub put_behind : (r : Option ℕ) (done run done' run' new : List Stage) (s : Stage) → (run' ≡ []) × SameStages done' (done ++ run) → new ≡ done' ++ s ∷ [] → AllByRecursion (IsScan r) run' × SameStages (new ++ run') ((done ++ run) ++ s ∷ [])
-put_behind r done run done' run' new s h e = (
-  subst (AllByRecursion (IsScan r)) (sym h.0) tt,
-  subst (λ (l : List Stage). SameStages (new ++ l) ((done ++ run) ++ s ∷ [])) (sym h.0)
-      (subst (λ (l : List Stage). SameStages l ((done ++ run) ++ s ∷ [])) (sym (append-nil new ∙ e)) (same_append done' (done ++ run) (s ∷ []) (s ∷ []) h.1 (same_refl (s ∷ [])))),
-)
-
--- the stage in its run
-pub put_in : (r : Option ℕ) (done run new : List Stage) (s : Stage) → AllByRecursion (IsScan r) run → IsScan r s → new ≡ run ++ s ∷ [] → AllByRecursion (IsScan r) new × SameStages (done ++ new) ((done ++ run) ++ s ∷ [])
-put_in r done run new s h k e =
-    (subst (AllByRecursion (IsScan r)) (sym e) (last run h), subst (λ (l : List Stage). SameStages (done ++ l) ((done ++ run) ++ s ∷ [])) (sym e) (subst (λ (l : List Stage). SameStages l ((done ++ run) ++ s ∷ [])) (append_assoc done run (s ∷ [])) (same_refl ((done ++ run) ++ s ∷ []))))
-  where
-    last : (ss : List Stage) → AllByRecursion (IsScan r) ss → AllByRecursion (IsScan r) (ss ++ s ∷ [])
-    last [] a = (k, tt)
-    last (t ∷ ss) a = (a.0, last ss a.1)
-
--- no run is left
-pub run_ended : (r : Option ℕ) (done run done' run' : List Stage) → (run' ≡ []) × SameStages done' (done ++ run) → AllByRecursion (IsScan r) run' × SameStages (done' ++ run') (done ++ run)
-run_ended r done run done' run' h = (
-  subst (AllByRecursion (IsScan r)) (sym h.0) tt,
-  subst (λ (l : List Stage). SameStages (done' ++ l) (done ++ run)) (sym h.0) (subst (λ (l : List Stage). SameStages l (done ++ run)) (sym (append-nil done')) h.1),
-)
-
--- one stage more
-pub stage_more : (before begun after : List Stage) (stages : List Stage) (i : ℕ) (s one : Stage) → i < length stages → s ≡ get_or stages i s → SameStages before (take i stages) → SameStages begun before → SameStages (one ∷ []) (s ∷ []) → SameStages after (begun ++ one ∷ [])
-    → SameStages after (take (i + 1) stages)
-stage_more before begun after stages i s one lt is a b c d =
-    subst (λ (l : List Stage). SameStages after l) (sym (take_more stages i s lt ∙ ap (λ x. take i stages ++ x ∷ []) (sym is)))
-    (same_trans after (begun ++ one ∷ []) (take i stages ++ s ∷ []) d (same_append begun (take i stages) (one ∷ []) (s ∷ []) (same_trans begun before (take i stages) b a) c))
-
-pub stages_end : (done : List Stage) (before stages : List Stage) (i : ℕ) → length stages ≤ i → SameStages before (take i stages) → SameStages done before → SameStages done stages
-stages_end done before stages i h a b = same_trans done before stages b (subst (λ (l : List Stage). SameStages before l) (take_all i stages h) a)
-
 pub branches_end : (done : List Group) (branches : List Group) (i : ℕ) → length branches ≤ i → SameStages (stage.Union done ∷ []) (stage.Union (take i branches) ∷ []) → SameStages (stage.Union done ∷ []) (stage.Union branches ∷ [])
 branches_end done branches i h a = subst (λ (l : List Group). SameStages (stage.Union done ∷ []) (stage.Union l ∷ [])) (take_all i branches h) a
 
@@ -177,15 +143,3 @@ run_more r done new before left rest i s lt is h e f a = one_brought r done new 
 
 pub run_less : (r : Option ℕ) (left rest : List Stage) (i : ℕ) → AllByRecursion (IsScan r) left → rest ≡ remove left i → AllByRecursion (IsScan r) rest
 run_less r left rest i h f = subst (AllByRecursion (IsScan r)) (sym f) (scans_left r left i h)
-
--- a run is put the other way round
-pub run_turned : (r : Option ℕ) (done run left new : List Stage) → AllByRecursion (IsScan r) run → left ≡ reverse run → SameStages new (done ++ left) → SameStages new (done ++ run)
-run_turned r done run left new h e k =
-    same_trans new (done ++ reverse run) (done ++ run) (subst (λ (l : List Stage). SameStages new (done ++ l)) e k) (same_append done done (reverse run) run (same_refl done) (same_turned r run h))
-
-pub left_scans : (r : Option ℕ) (run left : List Stage) → AllByRecursion (IsScan r) run → left ≡ reverse run → AllByRecursion (IsScan r) left
-left_scans r run left h e = subst (AllByRecursion (IsScan r)) (sym e) (scans_turned r run h)
-
--- one more is turned
-pub turned_more : (rest new run left first : List Stage) (s : Stage) → left ≡ run ++ s ∷ [] → new ≡ rest ++ s ∷ [] → first ≡ rest ++ reverse left → first ≡ new ++ reverse run
-turned_more rest new run left first s l n h = h ∙ (ap (λ xs. rest ++ xs) (ap reverse l ∙ reverse-append run (s ∷ [])) ∙ (sym (append_assoc rest (s ∷ []) (reverse run)) ∙ ap (λ xs. xs ++ reverse run) (sym n)))

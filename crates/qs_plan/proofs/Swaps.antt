@@ -1,7 +1,7 @@
 -- Scans may be exchanged: a join is the same bag from either side.
-use Rattle.std.proofs.Common.{◌≡◌, inl, inr, ℕ, zero, suc, ◌+◌, ◌<◌, ◌≤◌, Bool, true, false, ◌&&◌, cond, List, [], ◌∷◌, ◌++◌, length, get_or, reverse, Option, Some, None, refl, sym, ◌∙◌, ap, subst, arith, append_assoc}
+use Rattle.std.proofs.Common.{◌≡◌, inl, inr, ℕ, zero, suc, ◌+◌, ◌<◌, ◌≤◌, Bool, true, false, ◌&&◌, cond, List, [], ◌∷◌, ◌++◌, length, get_or, Option, Some, None, refl, sym, ◌∙◌, ap, subst, arith, append_assoc}
 use Rattle.std.specs.List.{AllByRecursion, flat_map, remove}
-use Rattle.std.proofs.lemmas.List.{get_or-set_other, length-set, reverse-append}
+use Rattle.std.proofs.lemmas.List.{get_or-set_other, length-set}
 use Rattle.std.proofs.lemmas.List.Sorted.{IsPermutation-refl, IsPermutation-trans, IsPermutation-append}
 use Rattle.qs_terms.specs.Bag.{SameBag, times}
 use Rattle.qs_terms.specs.Dataset.{Triple, graph_of}
@@ -201,26 +201,6 @@ brought r (t ∷ ss) (suc i) s lt is h =
     scan_at (u ∷ ss) zero lt is h = subst (IsScan r) (sym is) h.0
     scan_at (u ∷ ss) (suc i) lt is h = scan_at ss i (omega arith) is h.1
 
--- the first scan goes behind the others
-first_last : (r : Option ℕ) (ss : List Stage) (t : Stage) → AllByRecursion (IsScan r) ss → IsScan r t → SameStages (ss ++ t ∷ []) (t ∷ ss)
-first_last r [] t h k = same_refl (t ∷ [])
-first_last r (s ∷ ss) t h k = same_trans (s ∷ (ss ++ t ∷ [])) (s ∷ t ∷ ss) (t ∷ s ∷ ss) (same_cons s (ss ++ t ∷ []) (t ∷ ss) (first_last r ss t h.1 k)) (swap_two r s t ss h.0 k)
-
--- scans the other way round
-pub scans_turned : (r : Option ℕ) (ss : List Stage) → AllByRecursion (IsScan r) ss → AllByRecursion (IsScan r) (reverse ss)
-scans_turned r [] h = tt
-scans_turned r (t ∷ ss) h = subst (AllByRecursion (IsScan r)) (sym (reverse-append (t ∷ []) ss)) (last (reverse ss) (scans_turned r ss h.1))
-  where
-    last : (ts : List Stage) → AllByRecursion (IsScan r) ts → AllByRecursion (IsScan r) (ts ++ t ∷ [])
-    last [] k = (h.0, tt)
-    last (u ∷ ts) k = (k.0, last ts k.1)
-
-pub same_turned : (r : Option ℕ) (ss : List Stage) → AllByRecursion (IsScan r) ss → SameStages (reverse ss) ss
-same_turned r [] h = same_refl []
-same_turned r (t ∷ ss) h =
-    subst (λ (l : List Stage). SameStages l (t ∷ ss)) (sym (reverse-append (t ∷ []) ss))
-    (same_trans (reverse ss ++ t ∷ []) (ss ++ t ∷ []) (t ∷ ss) (same_append (reverse ss) ss (t ∷ []) (t ∷ []) (same_turned r ss h.1) (same_refl (t ∷ []))) (first_last r ss t h.1 h.0))
-
 pub scans_left : (r : Option ℕ) (ss : List Stage) (i : ℕ) → AllByRecursion (IsScan r) ss → AllByRecursion (IsScan r) (remove ss i)
 scans_left r [] zero h = tt
 scans_left r [] (suc i) h = tt
@@ -237,10 +217,10 @@ one_brought r done new before left rest i s lt is h e f a =
 
 -- ---- which stages are scans
 
-stays_refl : (r : Option ℕ) (m : Solution) → Stays r m m
+pub stays_refl : (r : Option ℕ) (m : Solution) → Stays r m m
 stays_refl r m = record { wide = refl; holds = refl }
 
-stays_trans : (r : Option ℕ) (m q p : Solution) → Stays r m q → Stays r q p → Stays r m p
+pub stays_trans : (r : Option ℕ) (m q p : Solution) → Stays r m q → Stays r q p → Stays r m p
 stays_trans r m q p a b = record { wide = b.wide ∙ a.wide; holds = b.holds ∙ a.holds }
 
 set_stays : (r : Option ℕ) (s : Slot) (t : Term) (m q : Solution) → Misses r s → SetBy s t m q → Stays r m q

@@ -1,7 +1,9 @@
 //! Which variables are bound before a stage, as far as the order of runs goes by it.
 
+ghost use Rattle.std.specs.Prelude.{◌≡◌, true, replicate, IfOk};
+
 use qs_algebra_patterns::Slot;
-use qs_plan_meaning::Stage;
+use qs_plan_meaning::{Group, Stage};
 use std::alloc::{AllocError, Global};
 
 /// Whether the variable is flagged.
@@ -19,72 +21,38 @@ pub(crate) fn mark(known: &mut Vec<bool>, variable: usize) {
     }
 }
 
-fn mark_slot(known: &mut Vec<bool>, slot: &Slot) {
-    match slot {
-        Slot::Term(_) => {}
-        Slot::Variable(variable) => mark(known, *variable),
+/// Flags the variables that the stage binds.
+pub(crate) fn mark_stage(
+    alloc: Global,
+    known: &mut Vec<bool>,
+    stage: &Stage,
+) -> Result<(), AllocError> {
+    let variables = variables_of(alloc, stage)?;
+    for variable in variables.as_slice() {
+        mark(known, *variable);
     }
-}
-
-fn mark_all(known: &mut Vec<bool>, variables: &[usize]) {
-    for at in 0..variables.len() {
-        mark(known, variables[at]);
-    }
-}
-
-/// Flags the variables that the stage binds, if it holds no groups.
-pub(crate) fn mark_stage(known: &mut Vec<bool>, stage: &Stage) {
-    match stage {
-        Stage::Triple(_, pattern) => {
-            mark_slot(known, &pattern.subject);
-            mark_slot(known, &pattern.predicate);
-            mark_slot(known, &pattern.object);
-        }
-        Stage::Path(_, pattern) => {
-            mark_slot(known, &pattern.subject);
-            mark_slot(known, &pattern.object);
-        }
-        Stage::Name(variable, _) => mark(known, *variable),
-        Stage::Bind(variable, _) => mark(known, *variable),
-        Stage::Values(table) => mark_all(known, table.get().variables.as_slice()),
-        _ => {}
-    }
+    Ok(())
 }
 
 /// As many flags, none set.
 pub(crate) fn no_flags(alloc: Global, count: usize) -> Result<Vec<bool>, AllocError> {
-    let mut flags = Vec::new(alloc);
-    for _ in 0..count {
-        flags.push(false)?;
-    }
-    Ok(flags)
+    Ok(vec![in alloc; false; count]?)
 }
 
 /// As many flags, all set.
-pub(crate) fn all_flags(alloc: Global, count: usize) -> Result<Vec<bool>, AllocError> {
-    let mut flags = Vec::new(alloc);
-    for _ in 0..count {
-        flags.push(true)?;
-    }
-    Ok(flags)
+pub(crate) fn all_flags(alloc: Global, count: usize) -> Result<Vec<bool>, AllocError>
+    ensures { IfOk result (λ flags. flags.items ≡ replicate count true) }
+{
+    Ok(vec![in alloc; true; count]?)
 }
 
-/// Flags those that the others flag too.
-pub(crate) fn add_flags(known: &mut Vec<bool>, others: &[bool]) {
-    for at in 0..others.len() {
-        if others[at] {
-            mark(known, at);
-        }
+/// The same flags.
+pub(crate) fn copied_flags(alloc: Global, flags: &[bool]) -> Result<Vec<bool>, AllocError> {
+    let mut copies = Vec::with_capacity(alloc, flags.len())?;
+    for flag in flags {
+        copies.push(*flag)?;
     }
-}
-
-/// Leaves those that the others flag too.
-pub(crate) fn keep_flags(known: &mut Vec<bool>, others: &[bool]) {
-    for at in 0..known.len() {
-        if !is_known(others, at) {
-            known[at] = false;
-        }
-    }
+    Ok(copies)
 }
 
 fn push_slot(variables: &mut Vec<usize>, slot: &Slot) -> Result<(), AllocError> {
@@ -95,7 +63,9 @@ fn push_slot(variables: &mut Vec<usize>, slot: &Slot) -> Result<(), AllocError> 
     Ok(())
 }
 
-/// The variables in the places of a triple, a path or a table, one for each place that holds one. The places of a table are its columns.
+/// The variables that the stage binds. A triple, a path and a table have one for each place that holds one, and the places of a table are its
+/// columns. A union has those that each of its branches binds, and a group by itself those that its stages bind, each once.
+#[cycle(bound)]
 pub(crate) fn variables_of(alloc: Global, stage: &Stage) -> Result<Vec<usize>, AllocError> {
     let mut variables = Vec::new(alloc);
     match stage {
@@ -108,8 +78,61 @@ pub(crate) fn variables_of(alloc: Global, stage: &Stage) -> Result<Vec<usize>, A
             push_slot(&mut variables, &pattern.subject)?;
             push_slot(&mut variables, &pattern.object)?;
         }
+        Stage::Name(variable, _) => variables.push(*variable)?,
+        Stage::Bind(variable, _) => variables.push(*variable)?,
         Stage::Values(table) => variables.extend_from_slice(table.get().variables.as_slice())?,
+        Stage::Union(branches) => return variables_of_branches(alloc, branches.as_slice()),
+        Stage::Apart(_, group) => return variables_of_stages(alloc, group.stages.as_slice()),
         _ => {}
     }
     Ok(variables)
+}
+
+/// The variables that the stages bind, each once, in ascending order.
+#[cycle(bound)]
+fn variables_of_stages(alloc: Global, stages: &[Stage]) -> Result<Vec<usize>, AllocError> {
+    let mut all = Vec::new(alloc);
+    for stage in stages {
+        let own = variables_of(alloc, stage)?;
+        all.extend_from_slice(own.as_slice())?;
+    }
+    all.sort_unstable();
+    repeated(alloc, all.as_slice(), 1)
+}
+
+/// The variables that each branch binds, each once, in ascending order.
+#[cycle(bound)]
+fn variables_of_branches(alloc: Global, branches: &[Group]) -> Result<Vec<usize>, AllocError> {
+    let mut all = Vec::new(alloc);
+    for branch in branches {
+        let own = variables_of_stages(alloc, branch.stages.as_slice())?;
+        all.extend_from_slice(own.as_slice())?;
+    }
+    all.sort_unstable();
+    repeated(alloc, all.as_slice(), branches.len())
+}
+
+/// Whether the variable at the place is the one before it.
+fn is_repeated(variables: &[usize], at: usize) -> bool {
+    if at == 0 || variables.len() <= at {
+        return false;
+    }
+    variables[at - 1] == variables[at]
+}
+
+/// Of variables in ascending order those that stand so many times at least, each once.
+fn repeated(alloc: Global, variables: &[usize], times: usize) -> Result<Vec<usize>, AllocError> {
+    let mut found = Vec::new(alloc);
+    let mut count: usize = 0;
+    for at in 0..variables.len() {
+        count = if is_repeated(variables, at) {
+            count.saturating_add(1)
+        } else {
+            1
+        };
+        if count == times {
+            found.push(variables[at])?;
+        }
+    }
+    Ok(found)
 }

@@ -1,17 +1,17 @@
-//! The order of runs: which triple, path or table comes next.
+//! The order of runs: which triple, path, table or union comes next.
 
-ghost use Rattle.std.specs.Prelude.{◌≡◌, ◌≢◌, true, [], ◌∷◌, ◌++◌, reverse, IfOk, OnOk};
+ghost use Rattle.std.specs.Prelude.{◌≡◌, ◌≢◌, ◌+◌, ◌<◌, ◌≤◌, true, false, [], ◌∷◌, ◌++◌, drop, length, slice_get, IfOk, OnOk};
 ghost use Rattle.std.specs.List.{AllByRecursion};
 ghost use Rattle.std.specs.Option.{option_to_list};
 ghost use Rattle.qs_plan_meaning.specs.declared.stage.Stage.TheVariants as stage;
 ghost use Rattle.qs_plan.specs.Plans.{SamePlan};
 ghost use Rattle.qs_plan_meaning.specs.Stages.{register_of};
 ghost use Rattle.qs_plan.specs.inner.Sames.{IsScan, Misses, MissesAll, SameStages};
-ghost use Rattle.qs_plan.specs.inner.Slots.{Puts, Takes, stages_left};
+ghost use Rattle.qs_plan.specs.inner.Slots.{Clears, Cut, Puts, if_left, part, stages_at, stages_left};
 
 use crate::copies::{copied_stage, copied_stages};
 use crate::counts::{Counts, NoCounts};
-use crate::known::{add_flags, all_flags, keep_flags, mark_stage, no_flags};
+use crate::known::{all_flags, copied_flags, mark_stage, no_flags};
 use crate::leaves::has_column;
 use crate::plan_type::Plan;
 use crate::ranks::order_of;
@@ -70,7 +70,9 @@ fn looks_in(look: &Look, register: Option<usize>) -> bool
     }
 }
 
-/// Whether the stage is a triple or a path that looks in this register, or in none where there is none, or a table, and doesn't bind it.
+/// Whether the stage is a triple or a path that looks in this register, or in none where there is none, a table, or a union of which each
+/// branch holds such stages alone. None of them binds the register.
+#[cycle(scans)]
 fn is_scan(stage: &Stage, register: Option<usize>) -> bool
     ensures { result ≡ true → IsScan register stage.now }
 {
@@ -80,192 +82,309 @@ fn is_scan(stage: &Stage, register: Option<usize>) -> bool
         }
         Stage::Path(look, pattern) => looks_in(look, register) && path_misses(pattern, register),
         Stage::Values(table) => table_misses(table.get(), register),
+        Stage::Union(branches) => have_scans(branches.as_slice(), register),
         _ => false,
     }
 }
 
-/// The register in which the stage looks, if it does in one.
+#[cycle(scans)]
+fn are_scans(stages: &[Stage], register: Option<usize>) -> bool
+    ensures { result ≡ true → AllByRecursion (IsScan register) stages.now }
+{
+    for stage in stages {
+        if !is_scan(stage, register) {
+            return false;
+        }
+    }
+    true
+}
+
+#[cycle(scans)]
+fn have_scans(branches: &[Group], register: Option<usize>) -> bool
+    ensures { result ≡ true → AllByRecursion (λ g. AllByRecursion (IsScan register) g.stages) branches.now }
+{
+    for branch in branches {
+        if !are_scans(branch.stages.as_slice(), register) {
+            return false;
+        }
+    }
+    true
+}
+
+/// The register in which the stage looks, if it does in one: of a union the first that is found in it.
+#[cycle(registers)]
 fn register_in(stage: &Stage) -> Option<usize> {
     match stage {
         Stage::Triple(look, _) => look.register(),
         Stage::Path(look, _) => look.register(),
+        Stage::Union(branches) => register_of_branches(branches.as_slice()),
         _ => None,
     }
 }
 
-// ---- the order
-
-fn push<T: Drop>(items: &mut Vec<T>, item: T) -> Result<(), AllocError>
-    ensures { OnOk result (items.new.items ≡ items.old.items ++ item ∷ []) }
-{
-    items.push(item)?;
-    Ok(())
-}
-
-/// Takes the stages away, the last first.
-fn slots_of(alloc: Global, run: &mut Items<Stage>) -> Result<Vec<Option<Stage>>, AllocError>
-    ensures { IfOk result (λ slots. (run.new ≡ []) × (stages_left slots.items ≡ reverse run.old)) }
-{
-    let mut slots = Vec::new(alloc);
-    'back: while let Some(last) = run.pop() {
-        push(&mut slots, Some(last))?;
+#[cycle(registers)]
+fn register_of_stages(stages: &[Stage]) -> Option<usize> {
+    for stage in stages {
+        if let Some(register) = register_in(stage) {
+            return Some(register);
+        }
     }
-    Ok(slots)
+    None
 }
 
-/// Takes the stage at the place, if one is there.
-fn take_at(slots: &mut Vec<Option<Stage>>, at: usize) -> Option<Stage>
-    ensures { Takes result (stages_left slots.old.items) (stages_left slots.new.items) }
-{
-    if slots.len() <= at {
-        return None;
+#[cycle(registers)]
+fn register_of_branches(branches: &[Group]) -> Option<usize> {
+    for branch in branches {
+        if let Some(register) = register_of_stages(branch.stages.as_slice()) {
+            return Some(register);
+        }
     }
-    slots[at].take()
+    None
 }
 
-/// Puts the scan at the place after those that are done, if it is still there.
-fn put_at(
+/// So many tables are passed to find a register.
+const AHEAD: usize = 16;
+
+fn is_table(stage: &Stage) -> bool {
+    match stage {
+        Stage::Values(_) => true,
+        _ => false,
+    }
+}
+
+/// The register of a run that begins at the place: that of the first stage that is no table.
+fn register_from(stages: &[Stage], from: usize) -> Option<usize> {
+    let end = stages.len().min(from.saturating_add(AHEAD));
+    for at in from..end {
+        if !is_table(&stages[at]) {
+            return register_in(&stages[at]);
+        }
+    }
+    None
+}
+
+// ---- the order of a run
+
+/// Stages that may be exchanged: so many from a place on, which look in this register, or in none.
+#[derive(Clone, Copy)]
+struct Run {
     register: Option<usize>,
-    slots: &mut Vec<Option<Stage>>,
+    from: usize,
+    count: usize,
+}
+
+/// Clears the flag at the place, and tells whether it was set.
+fn take_flag(left: &mut Vec<bool>, at: usize) -> bool
+    ensures { Clears result at left.old.items left.new.items }
+{
+    if left.len() <= at {
+        return false;
+    }
+    if !left[at] {
+        return false;
+    }
+    left[at] = false;
+    true
+}
+
+/// Whether the place `at` from the place `from` on is one of so many.
+fn is_within(count: usize, from: usize, at: usize) -> bool
+    ensures within { result ≡ true → from + at < count }
+    ensures past { result ≡ false → count ≤ from + at }
+{
+    if count <= from {
+        return false;
+    }
+    at < count - from
+}
+
+/// Puts the place after others, if a stage stands there: it is the place `at` of the stages from the place `from` on.
+fn put_place(
+    stages: &[Stage],
+    from: usize,
     at: usize,
-    done: &mut Items<Stage>,
+    places: &mut Vec<usize>,
 ) -> Result<(), AllocError>
-    requires { AllByRecursion (IsScan register) (stages_left slots.old.items) }
-    ensures { OnOk result (Puts register done.old (stages_left slots.old.items) done.new (stages_left slots.new.items)) }
+    ensures { OnOk result (stages_at stages.now places.new.items ≡ stages_at stages.now places.old.items ++ option_to_list (slice_get (drop from stages.now) at)) }
 {
-    if let Some(stage) = take_at(slots, at) {
-        done.push(stage)?;
+    if is_within(stages.len(), from, at) {
+        places.push(from + at)?;
     }
     Ok(())
 }
 
-/// Puts the scans at these places of the run after those that are done. The last of the run comes first in the slots.
+/// Puts the place in the run after others, if it is left.
+fn put_at(
+    stages: &[Stage],
+    run: Run,
+    left: &mut Vec<bool>,
+    at: usize,
+    places: &mut Vec<usize>,
+) -> Result<(), AllocError>
+    requires { AllByRecursion (IsScan run.register) (stages_left (drop run.from stages.now) left.old.items) }
+    ensures { OnOk result (Puts run.register (stages_at stages.now places.old.items) (stages_left (drop run.from stages.now) left.old.items) (stages_at stages.now places.new.items) (stages_left (drop run.from stages.now) left.new.items)) }
+{
+    if take_flag(left, at) {
+        put_place(stages, run.from, at, places)?;
+    }
+    Ok(())
+}
+
+/// Puts these places in the run after others, each that is left.
 fn put_chosen(
-    register: Option<usize>,
+    stages: &[Stage],
+    run: Run,
     order: &[usize],
-    slots: &mut Vec<Option<Stage>>,
-    done: &mut Items<Stage>,
+    left: &mut Vec<bool>,
+    places: &mut Vec<usize>,
 ) -> Result<(), AllocError>
-    requires { AllByRecursion (IsScan register) (stages_left slots.old.items) }
-    ensures { OnOk result (Puts register done.old (stages_left slots.old.items) done.new (stages_left slots.new.items)) }
+    requires { AllByRecursion (IsScan run.register) (stages_left (drop run.from stages.now) left.old.items) }
+    ensures { OnOk result (Puts run.register (stages_at stages.now places.old.items) (stages_left (drop run.from stages.now) left.old.items) (stages_at stages.now places.new.items) (stages_left (drop run.from stages.now) left.new.items)) }
 {
-    let count = slots.len();
     for at in order {
-        let slot = count.saturating_sub(*at).saturating_sub(1);
-        put_at(register, slots, slot, done)?;
+        put_at(stages, run, left, *at, places)?;
     }
     Ok(())
 }
 
-/// Puts the scan after those that are done, if there is one.
-fn put_slot(slot: Option<Stage>, done: &mut Items<Stage>) -> Result<(), AllocError>
-    ensures { OnOk result (done.new ≡ done.old ++ option_to_list slot) }
-{
-    if let Some(stage) = slot {
-        done.push(stage)?;
-    }
-    Ok(())
-}
-
-/// Puts all scans that are left after those that are done.
-fn put_left(
-    register: Option<usize>,
-    mut slots: Vec<Option<Stage>>,
-    done: &mut Items<Stage>,
+/// Puts the place after others, if its flag is set.
+fn put_flagged(
+    stages: &[Stage],
+    from: usize,
+    at: usize,
+    is_left: bool,
+    places: &mut Vec<usize>,
 ) -> Result<(), AllocError>
-    requires { AllByRecursion (IsScan register) (stages_left slots.items) }
-    ensures { OnOk result (SameStages done.new (done.old ++ stages_left slots.items)) }
+    ensures { OnOk result (stages_at stages.now places.new.items ≡ stages_at stages.now places.old.items ++ option_to_list (if_left is_left (slice_get (drop from stages.now) at))) }
 {
-    'left: while let Some(slot) = slots.pop() {
-        put_slot(slot, done)?;
+    if is_left {
+        put_place(stages, from, at, places)?;
     }
     Ok(())
 }
 
-/// Puts the scans of the run after those that are done, in the order of `order_of`.
+/// Puts all places in the run that are left after others.
+fn put_left(
+    stages: &[Stage],
+    run: Run,
+    mut left: Vec<bool>,
+    places: &mut Vec<usize>,
+) -> Result<(), AllocError>
+    requires { AllByRecursion (IsScan run.register) (stages_left (drop run.from stages.now) left.items) }
+    ensures { OnOk result (Puts run.register (stages_at stages.now places.old.items) (stages_left (drop run.from stages.now) left.items) (stages_at stages.now places.new.items) (stages_left (drop run.from stages.now) [])) }
+{
+    'left: while let Some(is_left) = left.pop() {
+        put_flagged(stages, run.from, left.len(), is_left, places)?;
+    }
+    Ok(())
+}
+
+/// Puts the places in the run after others, in the order of `order_of`.
 fn put_run<C: Counts>(
     alloc: Global,
     counts: &C,
-    register: Option<usize>,
-    run: &mut Items<Stage>,
+    stages: &[Stage],
+    run: Run,
     known: &mut Vec<bool>,
-    done: &mut Items<Stage>,
+    places: &mut Vec<usize>,
 ) -> Result<(), AllocError>
-    requires { AllByRecursion (IsScan register) run.old }
-    ensures { OnOk result ((run.new ≡ []) × SameStages done.new (done.old ++ run.old)) }
+    requires within { run.from + run.count ≤ length stages.now }
+    requires scans { AllByRecursion (IsScan run.register) (part stages.now run.from run.count) }
+    ensures { OnOk result (SameStages (stages_at stages.now places.new.items) (stages_at stages.now places.old.items ++ part stages.now run.from run.count)) }
 {
-    let order = order_of(alloc, counts, run.as_slice(), known)?;
-    let mut slots = slots_of(alloc, run)?;
-    put_chosen(register, order.as_slice(), &mut slots, done)?;
-    put_left(register, slots, done)?;
+    let end = run.from + run.count;
+    let order = order_of(alloc, counts, &stages[run.from..end], known)?;
+    let mut left = all_flags(alloc, run.count)?;
+    put_chosen(stages, run, order.as_slice(), &mut left, places)?;
+    put_left(stages, run, left, places)?;
     Ok(())
 }
 
-/// Ends the run where the stage isn't one of it, and tells in which register the next one looks.
-fn begin_run<C: Counts>(
+/// The run with the next stage in it, or the next run, where that stage isn't one of it. A stage that is in no run stays where it is.
+fn next_run<C: Counts>(
     alloc: Global,
     counts: &C,
-    register: Option<usize>,
-    stage: &Stage,
-    run: &mut Items<Stage>,
+    stages: &[Stage],
+    run: Run,
     known: &mut Vec<bool>,
-    done: &mut Items<Stage>,
-) -> Result<Option<usize>, AllocError>
-    requires { AllByRecursion (IsScan register) run.old }
-    ensures { IfOk result (λ r. AllByRecursion (IsScan r) run.new × SameStages (done.new ++ run.new) (done.old ++ run.old)) }
+    places: &mut Vec<usize>,
+) -> Result<Run, AllocError>
+    requires within { run.from + run.count < length stages.now }
+    requires cut { Cut stages.now places.old.items run.register run.from run.count }
+    ensures { IfOk result (λ next. (next.from + next.count ≡ run.from + run.count + 1) × Cut stages.now places.new.items next.register next.from next.count) }
 {
+    let at = run.from + run.count;
+    let stage = &stages[at];
+    if run.count > 0 && is_scan(stage, run.register) {
+        return Ok(Run {
+            register: run.register,
+            from: run.from,
+            count: run.count + 1,
+        });
+    }
+    put_run(alloc, counts, stages, run, known, places)?;
+    let register = register_from(stages, at);
     if is_scan(stage, register) {
-        return Ok(register);
+        return Ok(Run {
+            register,
+            from: at,
+            count: 1,
+        });
     }
-    put_run(alloc, counts, register, run, known, done)?;
-    Ok(register_in(stage))
+    mark_stage(alloc, known, stage)?;
+    put_place(stages, at, 0, places)?;
+    Ok(Run {
+        register: None,
+        from: at + 1,
+        count: 0,
+    })
 }
 
-/// Puts the stage into the run, or after those that are done.
-fn put_next<C: Counts>(
+/// The places of all stages, those of each run in their order. The flags tell which variables are bound before.
+fn places_of<C: Counts>(
     alloc: Global,
     counts: &C,
-    register: Option<usize>,
-    stage: Stage,
-    run: &mut Items<Stage>,
-    known: &mut Vec<bool>,
-    done: &mut Items<Stage>,
-) -> Result<(), AllocError>
-    requires { AllByRecursion (IsScan register) run.old }
-    ensures { OnOk result (AllByRecursion (IsScan register) run.new × SameStages (done.new ++ run.new) ((done.old ++ run.old) ++ stage ∷ [])) }
+    stages: &[Stage],
+    known: &[bool],
+) -> Result<Vec<usize>, AllocError>
+    ensures { IfOk result (λ ps. SameStages (stages_at stages.now ps.items) stages.now) }
 {
-    if is_scan(&stage, register) {
-        run.push(stage)?;
-        return Ok(());
+    let mut own = copied_flags(alloc, known)?;
+    let mut places = Vec::new(alloc);
+    let mut run = Run {
+        register: None,
+        from: 0,
+        count: 0,
+    };
+    for at in 0..stages.len() {
+        run = next_run(alloc, counts, stages, run, &mut own, &mut places)?;
     }
-    put_run(alloc, counts, register, run, known, done)?;
-    mark_stage(known, &stage);
-    done.push(stage)?;
-    Ok(())
+    put_run(alloc, counts, stages, run, &mut own, &mut places)?;
+    Ok(places)
 }
 
 // ---- groups
 
-/// The stages with the scans of each run in their order. The flags tell which variables are bound before, and afterwards which are bound
-/// after them.
+/// The stages with those of each run in their order. The flags tell which variables are bound before.
 #[cycle(ordered)]
 fn ordered_stages<C: Counts>(
     alloc: Global,
     counts: &C,
     stages: &[Stage],
-    known: &mut Vec<bool>,
+    known: &[bool],
 ) -> Result<Items<Stage>, AllocError>
     ensures { IfOk result (λ ss. SameStages ss stages.now) }
 {
+    let places = places_of(alloc, counts, stages, known)?;
+    let mut own = copied_flags(alloc, known)?;
     let mut done = Items::new(alloc);
-    let mut run = Items::new(alloc);
-    let mut register = None;
-    for stage in stages {
-        register = begin_run(alloc, counts, register, stage, &mut run, known, &mut done)?;
-        let one = ordered_stage(alloc, counts, stage, known)?;
-        put_next(alloc, counts, register, one, &mut run, known, &mut done)?;
+    for place in places.as_slice() {
+        if let Some(stage) = stages.get(*place) {
+            let one = ordered_stage(alloc, counts, stage, own.as_slice())?;
+            mark_stage(alloc, &mut own, stage)?;
+            done.push(one)?;
+        }
     }
-    put_run(alloc, counts, register, &mut run, known, &mut done)?;
     Ok(done)
 }
 
@@ -275,7 +394,7 @@ fn ordered_stage<C: Counts>(
     alloc: Global,
     counts: &C,
     stage: &Stage,
-    known: &mut Vec<bool>,
+    known: &[bool],
 ) -> Result<Stage, AllocError>
     ensures { IfOk result (λ s. SameStages (s ∷ []) (stage.now ∷ [])) }
 {
@@ -286,26 +405,23 @@ fn ordered_stage<C: Counts>(
         }
         Stage::Optional(register, group, conditions) => {
             let conditions = conditions.share()?;
-            let mut own = no_flags(alloc, known.len())?;
-            let group = ordered_group(alloc, counts, group, &mut own)?;
+            let none = no_flags(alloc, known.len())?;
+            let group = ordered_group(alloc, counts, group, none.as_slice())?;
             Ok(Stage::Optional(*register, group, conditions))
         }
         Stage::Fed(group, conditions) => {
             let conditions = conditions.share()?;
-            let mut own = no_flags(alloc, known.len())?;
-            add_flags(&mut own, known.as_slice());
-            let group = ordered_group(alloc, counts, group, &mut own)?;
+            let group = ordered_group(alloc, counts, group, known)?;
             Ok(Stage::Fed(group, conditions))
         }
         Stage::Minus(register, group) => {
-            let mut own = no_flags(alloc, known.len())?;
-            let group = ordered_group(alloc, counts, group, &mut own)?;
+            let none = no_flags(alloc, known.len())?;
+            let group = ordered_group(alloc, counts, group, none.as_slice())?;
             Ok(Stage::Minus(*register, group))
         }
         Stage::Apart(register, group) => {
-            let mut own = no_flags(alloc, known.len())?;
-            let group = ordered_group(alloc, counts, group, &mut own)?;
-            add_flags(known, own.as_slice());
+            let none = no_flags(alloc, known.len())?;
+            let group = ordered_group(alloc, counts, group, none.as_slice())?;
             Ok(Stage::Apart(*register, group))
         }
         other => copied_stage(alloc, other),
@@ -317,7 +433,7 @@ fn ordered_group<C: Counts>(
     alloc: Global,
     counts: &C,
     group: &Group,
-    known: &mut Vec<bool>,
+    known: &[bool],
 ) -> Result<Group, AllocError>
     ensures { IfOk result (λ g. SameStages g.stages group.now.stages) }
 {
@@ -325,26 +441,21 @@ fn ordered_group<C: Counts>(
     Ok(Group { stages })
 }
 
-/// The branches, each in its order. What each of them binds is bound after them.
+/// The branches, each in its order.
 #[cycle(ordered)]
 fn ordered_branches<C: Counts>(
     alloc: Global,
     counts: &C,
     branches: &[Group],
-    known: &mut Vec<bool>,
+    known: &[bool],
 ) -> Result<Items<Group>, AllocError>
     ensures { IfOk result (λ bs. SameStages (stage.Union bs ∷ []) (stage.Union branches.now ∷ [])) }
 {
     let mut done = Items::new(alloc);
-    let mut all = all_flags(alloc, known.len())?;
     for branch in branches {
-        let mut own = no_flags(alloc, known.len())?;
-        add_flags(&mut own, known.as_slice());
-        let group = ordered_group(alloc, counts, branch, &mut own)?;
+        let group = ordered_group(alloc, counts, branch, known)?;
         done.push(group)?;
-        keep_flags(&mut all, own.as_slice());
     }
-    add_flags(known, all.as_slice());
     Ok(done)
 }
 
@@ -359,7 +470,7 @@ fn copied_plan(alloc: Global, plan: &Plan) -> Result<Plan, AllocError>
     })
 }
 
-/// The plan with the triples, paths and tables of each run in their order, by these counts (`order_of`). Both plans have the same solutions.
+/// The plan with the stages of each run in their order, by these counts (`order_of`). Both plans have the same solutions.
 /// Where a row has no cell for a named variable, the plan stays as it is: a table then makes the row longer, and a triple after it may bind more.
 pub(crate) fn counted_order<C: Counts>(
     alloc: Global,
@@ -371,8 +482,8 @@ pub(crate) fn counted_order<C: Counts>(
     if plan.cells < plan.width {
         return copied_plan(alloc, plan);
     }
-    let mut known = no_flags(alloc, plan.cells)?;
-    let stages = ordered_stages(alloc, counts, plan.stages.as_slice(), &mut known)?;
+    let known = no_flags(alloc, plan.cells)?;
+    let stages = ordered_stages(alloc, counts, plan.stages.as_slice(), known.as_slice())?;
     Ok(Plan {
         width: plan.width,
         cells: plan.cells,
@@ -380,7 +491,7 @@ pub(crate) fn counted_order<C: Counts>(
     })
 }
 
-/// The plan with the triples, paths and tables of each run in the order that `plan_for` tells, for a store of which nothing is known: of each
+/// The plan with the triples, paths, tables and unions of each run in the order that `plan_for` tells, for a store of which nothing is known: of each
 /// triple and path there are as many as may be. Both plans have the same solutions.
 ///
 /// # Errors

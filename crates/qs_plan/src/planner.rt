@@ -58,16 +58,19 @@ pub fn plan(alloc: Global, pattern: &Pattern) -> Result<Plan, QFault>
 }
 
 /// The plan of a pattern for a store: it has the solutions of the pattern over each dataset and in each graph, whatever the counts are (SPARQL
-/// 1.1 Query, 18.5 and 18.6). The counts decide the order of the triples, paths and tables between two other stages.
+/// 1.1 Query, 18.5 and 18.6). The counts decide the order of the triples, paths, tables and unions between two other stages. A union is one of them
+/// if its branches hold nothing else than these, all in one graph or in the graphs of one variable.
 ///
 /// Next comes one that has a variable bound before, or no variable, or one row at most: for a triple one triple in the store. Of several, it is
 /// one with the fewest places free, then one with the fewest rows, then the first of the text. Where there is none, as at the beginning, it is
-/// one with the fewest rows, then with the fewest places free, then the first of the text. A table comes last if it has no variable that is bound
-/// before or stands in another of them: what comes after it would be done again for each of its rows.
+/// one with the fewest rows, then with the fewest places free, then the first of the text. A table or a union comes last if it has no variable
+/// that is bound before or stands in another of them: what comes after it would be done again for each of its rows.
 ///
-/// A place is free if it holds neither a term nor a variable bound before. The places of a table are its columns. What has no row comes before all
-/// others. Up to 16 rows are counted for each pattern. Where none of them has fewer, nor a variable that another stage bound before all of them, up
-/// to 4,096 rows are counted for all of them. Paths aren't counted.
+/// A place is free if it holds neither a term nor a variable bound before. The places of a table are its columns, and those of a union hold the
+/// variables that each branch binds. A union has as many rows as its branches together, and a branch as many as the one of its stages with the
+/// fewest. What has no row comes before all others. Up to 16 rows are counted for each pattern. Where none of them has fewer, nor a variable that
+/// another stage bound before all of them, up to 4,096 rows are counted for all of them. Paths aren't counted. The groups in a union are ordered
+/// when it has its place.
 ///
 /// # Errors
 /// `Memory` where memory runs out.

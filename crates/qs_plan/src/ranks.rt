@@ -1,4 +1,4 @@
-//! In which order the triples, paths and tables of a run come.
+//! In which order the triples, paths, tables and unions of a run come.
 
 use crate::counts::{Counts, counts_of};
 use crate::known::{is_known, mark, mark_stage, no_flags, variables_of};
@@ -116,18 +116,19 @@ fn rank_of(at: usize, one: Candidate) -> Rank {
     }
 }
 
-/// Whether the stage is a table.
-fn is_table(stage: &Stage) -> bool {
+/// Whether the stage is a table or a union.
+fn is_whole(stage: &Stage) -> bool {
     match stage {
         Stage::Values(_) => true,
+        Stage::Union(_) => true,
         _ => false,
     }
 }
 
-/// Whether the stage at the place is a table.
-fn is_table_at(stages: &[Stage], at: usize) -> bool {
+/// Whether the stage at the place is a table or a union.
+fn is_whole_at(stages: &[Stage], at: usize) -> bool {
     match stages.get(at) {
-        Some(stage) => is_table(stage),
+        Some(stage) => is_whole(stage),
         None => false,
     }
 }
@@ -150,7 +151,7 @@ fn candidates_of(
 ) -> Result<Vec<Candidate>, AllocError> {
     let mut candidates = Vec::with_capacity(alloc, places.len())?;
     for at in 0..places.len() {
-        let may_be_apart = is_table_at(stages, at) && !is_known(shared, at);
+        let may_be_apart = is_whole_at(stages, at) && !is_known(shared, at);
         let count = count_at(counts, at);
         candidates.push(candidate_of(known, places[at].as_slice(), count, may_be_apart))?;
     }
@@ -311,10 +312,11 @@ impl Choice {
 // ---- the order
 
 /// Flags the variables of the stages.
-fn mark_stages(known: &mut Vec<bool>, stages: &[Stage]) {
+fn mark_stages(alloc: Global, known: &mut Vec<bool>, stages: &[Stage]) -> Result<(), AllocError> {
     for stage in stages {
-        mark_stage(known, stage);
+        mark_stage(alloc, known, stage)?;
     }
+    Ok(())
 }
 
 /// The places of the stages of a run in the order that `plan_for` tells, or none of a single stage. Their variables are flagged.
@@ -325,7 +327,7 @@ pub(crate) fn order_of<C: Counts>(
     known: &mut Vec<bool>,
 ) -> Result<Vec<usize>, AllocError> {
     if stages.len() < 2 {
-        mark_stages(known, stages);
+        mark_stages(alloc, known, stages)?;
         return Ok(Vec::new(alloc));
     }
     let places = places_of(alloc, stages)?;

@@ -145,6 +145,24 @@ const PLANS: &[(&str, &str)] = &[
         "SELECT * { VALUES ?z { <u:x> } ?a <u:p> ?b . ?b <u:q> ?c }",
         "triple ?1 <u:p> ?2\ntriple ?2 <u:q> ?3\nvalues ?0, rows: 1\n",
     ),
+    // a union has as many as its branches together, and is ordered inside when it has its place
+    (
+        "SELECT * { { ?x <u:p> ?y } UNION { ?x <u:q> ?y } <u:s> <u:rare> ?x }",
+        "triple <u:s> <u:rare> ?0\nunion\n  branch\n    triple ?0 <u:p> ?1\n  branch\n    triple ?0 <u:q> ?1\n",
+    ),
+    (
+        "SELECT * { ?a <u:p> ?b { ?b <u:type> <u:One> } UNION { ?b <u:rare> <u:x> } }",
+        "union\n  branch\n    triple ?1 <u:type> <u:One>\n  branch\n    triple ?1 <u:rare> <u:x>\ntriple ?0 <u:p> ?1\n",
+    ),
+    (
+        "SELECT * { { ?x <u:p> ?y . ?y <u:rare> ?z } UNION { ?x <u:q> ?z } ?x <u:type> <u:One> }",
+        "triple ?0 <u:type> <u:One>\nunion\n  branch\n    triple ?0 <u:p> ?1\n    triple ?1 <u:rare> ?2\n  branch\n    triple ?0 <u:q> ?2\n",
+    ),
+    // a union without a variable of the others comes last
+    (
+        "SELECT * { { ?z <u:rare> <u:x> } UNION { ?z <u:rare> <u:y> } ?a <u:p> ?b . ?b <u:q> ?c }",
+        "triple ?1 <u:p> ?2\ntriple ?2 <u:q> ?3\nunion\n  branch\n    triple ?0 <u:rare> <u:x>\n  branch\n    triple ?0 <u:rare> <u:y>\n",
+    ),
     // what is bound before the run counts as bound
     (
         "SELECT * { BIND(<u:x> AS ?b) ?a <u:rare> ?c . ?b <u:p> ?c }",

@@ -233,8 +233,8 @@ const PLANS: &[(&str, &str)] = &[
         "union\n  branch\n    filter (= ?2 \"y\")\n    triple ?0 <u:p> ?1\n    filter (= ?1 \"x\")\n  branch\n    triple ?1 <u:q> ?2\n    filter (= ?1 \"x\")\n    filter (= ?2 \"y\")\ntriple ?1 <u:r> ?3\n",
     ),
     (
-        "SELECT * { { ?a <u:p> ?b } UNION { ?b <u:q> ?c } ?c <u:r> ?d FILTER(?c = 'x') }",
-        "union\n  branch\n    triple ?0 <u:p> ?1\n  branch\n    triple ?1 <u:q> ?2\ntriple ?2 <u:r> ?3\nfilter (= ?2 \"x\")\n",
+        "SELECT * { { ?a <u:p> ?b } UNION { ?b <u:q> ?c } ?b <u:r> ?c FILTER(?c = 'x') }",
+        "union\n  branch\n    triple ?0 <u:p> ?1\n  branch\n    triple ?1 <u:q> ?2\ntriple ?1 <u:r> ?2\nfilter (= ?2 \"x\")\n",
     ),
     // VALUES binds a variable in each row, unless UNDEF stands in it
     (

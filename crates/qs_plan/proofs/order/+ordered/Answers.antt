@@ -1,4 +1,7 @@
-use Rattle.qs_plan.proofs.Sames.{branch_more, optional_arm, fed_arm, minus_arm, apart_arm, stage_more, stages_end}
+use Rattle.std.proofs.Common.{get_or, refl, ◌∙◌}
+use Rattle.qs_plan.proofs.Cutting.{place_put, place_none, places_end}
+use Rattle.qs_plan.proofs.order.+ordered.Goals.{ordered_stages-in-Some+in_ok-one+in_ok-mark_stage+in_ok-push, ordered_stages-in_default}
+use Rattle.qs_plan.proofs.Sames.{branch_more, optional_arm, fed_arm, minus_arm, apart_arm}
 use Rattle.qs_plan.proofs.order.+ordered.Goals as goal
 
 pub ordered_branches-loop-branch-preserved : goal.ordered_branches-loop-branch-preserved
@@ -21,12 +24,16 @@ pub ordered_stage-returns-in_ok-group-in-Apart : goal.ordered_stage-returns-in_o
 ordered_stage-returns-in_ok-group-in-Apart g t c =
     apart_arm c.args.stage.now c.in-Apart.register c.in-Apart.group c.in_ok-group-in-Apart.group c.in-Apart.is c.in_ok-group-in-Apart.ensures
 
-pub ordered_stages-loop-stage-preserved : goal.ordered_stages-loop-stage-preserved
-ordered_stages-loop-stage-preserved g t c = record {
-  scans = c.in_ok-put_next.ensures.0;
-  same = stage_more _ _ _ c.args.stages.now c.loop-stage.stage-index c.stage-item.result c.in_ok-one.one c.loop-stage-test.true c.stage-item.is c.loop-stage.invariant.same c.in_ok-register.ensures.1 c.in_ok-one.ensures c.in_ok-put_next.ensures.1;
-}
+pub ordered_stages-loop-place-preserved : goal.ordered_stages-loop-place-preserved
+ordered_stages-loop-place-preserved g t c =
+    let items = c.as_slice-place-items.result.now in
+    let i = c.loop-place.place-index in
+    elim c.match-get.branch [
+      | ordered_stages-in-Some+in_ok-one+in_ok-mark_stage+in_ok-push w ↦
+          place_put c.loop-place.done c.match-get.done c.args.stages.now items i (get_or items i 0) c.loop-place-test.true refl c.loop-place.invariant w.in-Some.stage.now w.in_ok-one.one w.in-Some.ensures.lookup.3.0 w.in-Some.ensures.lookup.1 w.in_ok-one.ensures (w.done-is ∙ w.in_ok-push.ensures.ok)
+      | ordered_stages-in_default w ↦ place_none c.loop-place.done c.match-get.done c.args.stages.now items i (get_or items i 0) c.loop-place-test.true refl c.loop-place.invariant w.in_default.ensures.lookup.3 w.done-is
+    ]
 
 pub ordered_stages-returns : goal.ordered_stages-returns
 ordered_stages-returns g t c =
-    stages_end c.put_run.new.done _ c.args.stages.now c.loop-stage.stage-index c.loop-stage-test.false c.loop-stage.invariant.same c.in_ok-put_run.ensures.1
+    places_end c.loop-place.done c.args.stages.now c.in_ok-places.places.items c.as_slice-place-items.result.now c.loop-place.place-index c.loop-place-test.false c.as_slice-place-items.ensures.value c.loop-place.invariant c.in_ok-places.ensures
