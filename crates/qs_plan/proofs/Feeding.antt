@@ -71,7 +71,7 @@ merged_again a (x ∷ xs) =
     let c : compatible a (merge a x) ≡ true = merge_compatible a x in
     simp c (ap (λ y. y ∷ merges (map (merge a) xs) a) (merge_again a x) ∙ ap (λ l. merge a x ∷ l) (merged_again a xs))
 
-merges_again : (xs : List Solution) (a : Solution) → merges (merges xs a) a ≡ merges xs a
+pub merges_again : (xs : List Solution) (a : Solution) → merges (merges xs a) a ≡ merges xs a
 merges_again xs a = merged_again a (filter (compatible a) xs)
 
 -- ---- the stage

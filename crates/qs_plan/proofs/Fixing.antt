@@ -34,9 +34,10 @@ use Rattle.qs_plan_meaning.specs.declared.stage.Stage.TheVariants as stage
 use Rattle.qs_plan_meaning.specs.Stages.{looked, only, register_of, through}
 use Rattle.qs_plan.specs.inner.Certain.{Bound, Alike, Binds}
 use Rattle.qs_plan.specs.inner.Fixes.{is_one_of, Fixes, SettledBy, StepKeeps, Found, joined_to, AreWide, kept_after, StandsFor, Instead}
+use Rattle.qs_plan.specs.inner.Feeds.{LaysRest}
 use Rattle.qs_plan.specs.inner.Reads.{Agree, Settles}
 use Rattle.qs_plan.specs.inner.Lays.{Ready, Within, Makes, Lays, IsLinear, IsJoin, joined_with, all_stepped, all_kept}
-use Rattle.qs_plan.proofs.Arms.{begins_of, filters_arm}
+use Rattle.qs_plan.proofs.Arms.{filters_arm}
 use Rattle.qs_plan.proofs.Commutes.{all_map, flat_flat, merges_joined}
 use Rattle.qs_plan.proofs.Entering.{holds_each, merged_alike}
 use Rattle.qs_plan.proofs.Keeping.{all_more, still_bound}
@@ -179,7 +180,7 @@ module _ (n v : ℕ) where
 
 -- ---- what stages are certain to bind, the solutions do
 
-permuted : (P : Solution → Type 0) (xs ys : List Solution) → SameBag xs ys → AllByRecursion P xs → AllByRecursion P ys
+pub permuted : (P : Solution → Type 0) (xs ys : List Solution) → SameBag xs ys → AllByRecursion P xs → AllByRecursion P ys
 permuted P xs ys h k = recursion_from_All P ys (All-permutation P xs ys h (All-from_recursion P xs k))
 
 pub ready_any : (width from next : ℕ) (m : Solution) → Ready width true from next m → Ready width false from next m
@@ -262,7 +263,7 @@ module _ (width : ℕ) where
   linear_level (level.Minus e) = subst (IsLinear width) (sym (rolls-Minus e.0)) (minus_linear width e.0)
   linear_level (level.Extend w e) = subst (IsLinear width) (sym (rolls-Extend w e)) (extend_linear width w e)
 
-  linear : (s : Step) → IsLinear width s
+  pub linear : (s : Step) → IsLinear width s
   linear = ind-Step (λ (p : PatternNode). Unit {0}) (IsLinear width) (λ x y is. tt) (λ x y is. subst (λ z. IsLinear width (roll-Step z)) is (linear_level y))
 
   module _ (quads : List Statement) (graph : Graph) where
@@ -414,7 +415,7 @@ instead_parts size steps c parts slice old new is e k =
 pub rest_of : (count : ℕ) (steps : List Step) → take (length steps - count) (drop count steps) ≡ drop count steps
 rest_of count steps = take_all (length steps - count) (drop count steps) (omega (arith, length-drop count steps))
 
-module _ (width : ℕ) (place : Look) (from mid next : ℕ) (count : ℕ) (steps : List Step) (conditions : List Expr) (front new more ss : List Stage) (second : Bool) (rest : List Step) where
+module _ (width : ℕ) (place : Look) (from mid next : ℕ) (count : ℕ) (steps : List Step) (conditions : List Expr) (front new all ss : List Stage) (rest : List Step) where
   abbrev size : Size
   size = record { width = width; cells = mid }
 
@@ -437,9 +438,9 @@ module _ (width : ℕ) (place : Look) (from mid next : ℕ) (count : ℕ) (steps
       ∙ sym (eval_group width quads graph steps conditions))
 
   pub whole_lays : Within width from place → AllByRecursion IsJoin (take count steps) → Lays false width place from mid front (all_stepped width (take count steps)) → rest ≡ drop count steps → Instead size rest conditions front new
-      → (second ≡ true → (true ≡ true) × (new ≡ [])) → Lays second width place mid next more (all_stepped width (drop count steps)) → ss ≡ (new ++ more) ++ map stage.Filter conditions
+      → LaysRest width place mid next new all rest → ss ≡ all ++ map stage.Filter conditions
       → Lays true width place from next ss (joined_with width (pattern.Group steps conditions))
-  whole_lays within joins l e instead begins k is =
+  whole_lays within joins l e instead k is =
       let x : StandsFor width (drop count steps) conditions place from mid new before =
       (subst (λ (r : List Step). Instead size r conditions front new) e instead).stands place from mid before within (omega arith) (λ quads graph. eval_wide width quads (pattern.Group (take count steps) []) graph) (joins_lay width place from mid front (take count steps) [] joins refl l) in
       lays_as true width place from next ss (all_kept conditions (then_made (joined_to x.fewer) (all_stepped width (drop count steps)))) (joined_with width (pattern.Group steps conditions))
@@ -449,8 +450,8 @@ module _ (width : ℕ) (place : Look) (from mid next : ℕ) (count : ℕ) (steps
       ∙ (x.same quads graph
       ∙ (rest_same quads graph
       ∙ (sym (eval_merges width quads (pattern.Group steps conditions) graph) ∙ ap (merges (eval width quads (pattern.Group steps conditions) graph)) (sym (h refl)))))))
-      (filters_arm true width place from next next (new ++ more) ss (then_made (joined_to x.fewer) (all_stepped width (drop count steps))) conditions within
-      (then_lays width place true second from mid next new more (joined_to x.fewer) (all_stepped width (drop count steps)) within (lays_any width place from mid new (joined_to x.fewer) x.lays) k (begins_of true second new begins))
+      (filters_arm true width place from next next all ss (then_made (joined_to x.fewer) (all_stepped width (drop count steps))) conditions within
+      ((subst (LaysRest width place mid next new all) e k).follows from (joined_to x.fewer) within (lays_any width place from mid new (joined_to x.fewer) x.lays))
       (is, refl))
 
 -- ---- conditions in line

@@ -36,3 +36,7 @@ pub mod Pairing
 pub mod Joining
 pub mod Fixing
 pub mod Fixed
+pub mod Nested
+pub mod Needs
+pub mod Fed
+pub mod FedArms

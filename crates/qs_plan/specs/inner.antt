@@ -8,3 +8,4 @@ pub mod Reads
 pub mod Certain
 pub mod Joins
 pub mod Fixes
+pub mod Feeds

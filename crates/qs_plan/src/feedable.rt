@@ -1,5 +1,5 @@
-//! Which patterns may be evaluated again for each row at a small cost: triples, short tables, and groups, unions and named graphs of them.
-//! A closure or a negated set is left out: where the row binds none of its ends, all its pairs would be found anew for each row. So is a
+//! Which patterns may be evaluated again for each row at a small cost: triples, short tables, groups, unions and named graphs of them, and
+//! groups that have such an OPTIONAL. A closure or a negated set is left out: where the row binds none of its ends, all its pairs would be found anew for each row. So is a
 //! group that is evaluated by itself: it would be anew for each row.
 
 use crate::few::is_short;
@@ -39,27 +39,54 @@ fn becomes_triples(basic: &BasicPattern) -> bool {
     true
 }
 
-/// Whether the pattern costs little for each row that it is fed.
-#[cycle(feedable)]
-pub(crate) fn is_feedable(part: &PatternNode) -> bool {
+/// Whether the pattern holds no OPTIONAL, and costs little for each row that it is fed.
+#[cycle(flat)]
+fn is_flat(part: &PatternNode) -> bool {
     match part {
         PatternNode::Basic(basic) => becomes_triples(basic),
         PatternNode::Values(table) => is_short(table),
-        PatternNode::Group(steps, _) => are_feedable_steps(steps.as_slice()),
-        PatternNode::Union(parts) => are_feedable(parts.as_slice()),
-        PatternNode::Graph(_, part) => is_feedable(part.get()),
+        PatternNode::Group(steps, _) => are_flat_steps(steps.as_slice()),
+        PatternNode::Union(parts) => are_flat(parts.as_slice()),
+        PatternNode::Graph(_, part) => is_flat(part.get()),
         PatternNode::EachGraph(_, _) => false,
     }
 }
 
-#[cycle(feedable)]
-fn are_feedable(parts: &[PatternNode]) -> bool {
+#[cycle(flat)]
+fn are_flat(parts: &[PatternNode]) -> bool {
     for part in parts {
-        if !is_feedable(part) {
+        if !is_flat(part) {
             return false;
         }
     }
     true
+}
+
+#[cycle(flat)]
+fn are_flat_steps(steps: &[Step]) -> bool {
+    for one in steps {
+        if !is_flat_step(one) {
+            return false;
+        }
+    }
+    true
+}
+
+#[cycle(flat)]
+fn is_flat_step(one: &Step) -> bool {
+    match one {
+        Step::Join(part) => is_flat(part),
+        _ => false,
+    }
+}
+
+/// Whether the pattern costs little for each row that it is fed.
+#[cycle(feedable)]
+pub(crate) fn is_feedable(part: &PatternNode) -> bool {
+    match part {
+        PatternNode::Group(steps, _) => are_feedable_steps(steps.as_slice()),
+        _ => is_flat(part),
+    }
 }
 
 #[cycle(feedable)]
@@ -75,7 +102,8 @@ fn are_feedable_steps(steps: &[Step]) -> bool {
 #[cycle(feedable)]
 fn is_feedable_step(one: &Step) -> bool {
     match one {
-        Step::Join(part) => is_feedable(part),
+        Step::Join(part) => is_flat(part),
+        Step::LeftJoin(part, _) => is_feedable(part),
         _ => false,
     }
 }

@@ -88,16 +88,6 @@ pub fn behind(alloc: Global, stage: Stage, laid: Laid) -> Result<Laid, AllocErro
     Ok(Laid { stages, next })
 }
 
-/// The stages, and those after them.
-pub fn behind_all(first: Items<Stage>, laid: Laid) -> Result<Laid, AllocError>
-    ensures { IfOk result (λ l. (l.stages ≡ first ++ laid.stages) × (l.next ≡ laid.next)) }
-{
-    let Laid { stages: more, next } = laid;
-    let mut stages = first;
-    stages.append(more)?;
-    Ok(Laid { stages, next })
-}
-
 /// The name, to be shared.
 fn shared(alloc: Global, name: &Term) -> Result<Shared<Term>, AllocError>
     ensures { IfOk result (λ s. s ≡ name.now) }

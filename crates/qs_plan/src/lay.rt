@@ -1,21 +1,21 @@
 //! The text's order: the stages of a pattern (SPARQL 1.1 Query, 18.5), as they stand in its text.
 
-ghost use Rattle.std.specs.Prelude.{◌≡◌, ◌≤◌, Bool, true, false, [], ◌∷◌, ◌++◌, map, take, drop, length, IfOk};
+ghost use Rattle.std.specs.Prelude.{◌≡◌, ◌≤◌, true, false, [], ◌∷◌, ◌++◌, map, take, drop, length, IfOk, IfSome};
 ghost use Rattle.std.specs.List.{AllByRecursion};
 ghost use Rattle.qs_algebra_patterns.specs.declared.pattern.PatternNode.TheVariants as pattern;
 ghost use Rattle.qs_algebra_patterns.specs.declared.pattern.Step.TheVariants as a_step;
 ghost use Rattle.qs_plan_meaning.specs.declared.stage.Look as places;
 ghost use Rattle.qs_plan_meaning.specs.declared.stage.Stage.TheVariants as stage;
+ghost use Rattle.qs_plan.specs.inner.Feeds.{Feeds, FeedsNext, LaysNext, LaysRest, after_steps, solutions_of};
 ghost use Rattle.qs_plan.specs.inner.Lays.{Lays, LaysStep, Within, IsJoin, all_kept, all_stepped, joined_with};
 
 use crate::certain::Size;
 use crate::copies::{shared_expr, shared_table};
+use crate::feed::{Feed, all_leave, are_looked_at, are_too_many, put_read, put_seen};
 use crate::feedable::{are_in_line, is_feedable};
 use crate::few::are_few;
 use crate::fixes::{are_settled, put_tables};
-use crate::laid::{
-    Laid, alone, apart, behind_all, bind, fed, if_exists, in_each, look_named, minus, optional,
-};
+use crate::laid::{Laid, alone, apart, bind, fed, if_exists, in_each, look_named, minus, optional};
 use crate::run::{lay_run, room_after};
 use qs_algebra_patterns::{PatternNode, Step, Table};
 use qs_expr_meaning::Expr;
@@ -107,6 +107,13 @@ fn are_none(conditions: &[Expr]) -> bool
     ensures { result ≡ true → conditions.now ≡ [] }
 {
     conditions.is_empty()
+}
+
+/// Whether there are no stages.
+fn are_no_stages(stages: &[Stage]) -> bool
+    ensures { result ≡ true → stages.now ≡ [] }
+{
+    stages.is_empty()
 }
 
 /// Whether rows stand before the stages that come next as they stood before the first.
@@ -204,17 +211,7 @@ fn lay_group(
     ensures { IfOk result (λ l. Lays first width look.now from l.next l.stages (joined_with width (pattern.Group steps.now conditions.now))) }
 {
     if !first && are_none(conditions) && are_joins(steps) {
-        let laid = lay_steps(
-            alloc,
-            width,
-            steps,
-            0,
-            steps.len(),
-            look,
-            from,
-            false,
-            false,
-        )?;
+        let laid = lay_steps(alloc, width, steps, 0, steps.len(), look, from, false)?;
         return Ok(laid);
     }
     if !first && are_joins(steps) && are_plain_steps(steps) {
@@ -245,17 +242,7 @@ fn lay_plain(
     requires joins { AllByRecursion IsJoin steps.now }
     ensures { IfOk result (λ l. Lays false width look.now from l.next l.stages (joined_with width (pattern.Group steps.now conditions.now))) }
 {
-    let laid = lay_steps(
-        alloc,
-        width,
-        steps,
-        0,
-        steps.len(),
-        look,
-        from,
-        false,
-        false,
-    )?;
+    let laid = lay_steps(alloc, width, steps, 0, steps.len(), look, from, false)?;
     let Laid { mut stages, next } = laid;
     let size = Size { width, cells: next };
     put_tables(alloc, conditions, &[], size, &mut stages)?;
@@ -271,6 +258,7 @@ fn lay_plain(
 /// The stages of a group that comes first. Its first steps that are plain have the same stages whatever a row binds, so that tables may come
 /// before them: of the terms to which conditions fix variables.
 #[cycle(lay)]
+#[tactic(auto, using(crate::proofs::Laying::within_more))]
 fn lay_whole(
     alloc: Global,
     width: usize,
@@ -284,29 +272,16 @@ fn lay_whole(
     ensures { IfOk result (λ l. Lays true width look.now from l.next l.stages (joined_with width (pattern.Group steps.now conditions.now))) }
 {
     let count = plain_front(steps);
-    let laid = lay_steps(alloc, width, steps, 0, count, look, from, false, false)?;
+    let laid = lay_steps(alloc, width, steps, 0, count, look, from, false)?;
     let Laid { mut stages, next } = laid;
     let size = Size { width, cells: next };
     put_tables(alloc, conditions, &steps[count..], size, &mut stages)?;
-    let second = is_start(true, &stages);
-    let few = are_few(true, stages.as_slice());
-    let laid = lay_steps(
-        alloc,
-        width,
-        steps,
-        count,
-        steps.len(),
-        look,
-        next,
-        second,
-        few,
-    )?;
-    let laid = behind_all(stages, laid)?;
+    let laid = lay_rest(alloc, width, steps, count, look, stages, next)?;
     let laid = lay_filters(alloc, conditions, laid)?;
     Ok(laid)
 }
 
-/// The stages of the steps of a group from one place up to another, before which few rows stand or not.
+/// The stages of the steps of a group from one place up to another.
 #[cycle(lay)]
 fn lay_steps(
     alloc: Global,
@@ -317,7 +292,6 @@ fn lay_steps(
     look: &Look,
     from: usize,
     first: bool,
-    few: bool,
 ) -> Result<Laid, AllocError>
     requires named { width ≤ from }
     requires within { Within width from look.now }
@@ -329,8 +303,7 @@ fn lay_steps(
     let mut next = from;
     for at in start..end {
         let second = is_start(first, &stages);
-        let few = few || are_few(first, stages.as_slice());
-        let laid = lay_step(alloc, width, &steps[at], look, next, second, few)?;
+        let laid = lay_step(alloc, width, &steps[at], look, next, second)?;
         let Laid {
             stages: more,
             next: past,
@@ -341,7 +314,7 @@ fn lay_steps(
     Ok(Laid { stages, next })
 }
 
-/// The stages of a step of a group. What is taken away is evaluated by itself, and what is optional too, unless few rows stand before it.
+/// The stages of a step of a group. What is optional or taken away is evaluated by itself.
 #[cycle(lay)]
 fn lay_step(
     alloc: Global,
@@ -350,7 +323,6 @@ fn lay_step(
     look: &Look,
     from: usize,
     first: bool,
-    few: bool,
 ) -> Result<Laid, AllocError>
     requires named { width ≤ from }
     requires within { Within width from look.now }
@@ -362,7 +334,8 @@ fn lay_step(
             Ok(laid)
         }
         Step::LeftJoin(part, conditions) => {
-            let laid = lay_optional(alloc, width, part, conditions.as_slice(), look, from, few)?;
+            let laid = lay(alloc, width, part, look, from, true)?;
+            let laid = optional(alloc, look, conditions.as_slice(), laid)?;
             Ok(laid)
         }
         Step::Minus(part) => {
@@ -377,8 +350,92 @@ fn lay_step(
     }
 }
 
-/// The stage of an OPTIONAL. Its group is fed each row where few stand before it, and evaluating it again costs little: no part of it is
-/// evaluated by itself.
+/// The stages of a group that comes first, with those of its last steps.
+#[cycle(lay)]
+fn lay_rest(
+    alloc: Global,
+    width: usize,
+    steps: &[Step],
+    start: usize,
+    look: &Look,
+    front: Items<Stage>,
+    from: usize,
+) -> Result<Laid, AllocError>
+    requires named { width ≤ from }
+    requires within { Within width from look.now }
+    requires inside { start ≤ length steps.now }
+    ensures { IfOk result (λ l. LaysRest width look.now from l.next front l.stages (drop start steps.now)) }
+{
+    let mut stages = front;
+    let mut next = from;
+    for at in start..steps.len() {
+        let laid = lay_next(alloc, width, &steps[at], look, next, stages.as_slice())?;
+        let Laid {
+            stages: more,
+            next: past,
+        } = laid;
+        stages.append(more)?;
+        next = past;
+    }
+    Ok(Laid { stages, next })
+}
+
+/// The stages of a step of a group that comes first, after those of the steps before it.
+#[cycle(lay)]
+fn lay_next(
+    alloc: Global,
+    width: usize,
+    one: &Step,
+    look: &Look,
+    from: usize,
+    before: &[Stage],
+) -> Result<Laid, AllocError>
+    requires named { width ≤ from }
+    requires within { Within width from look.now }
+    ensures { IfOk result (λ l. LaysNext width look.now from l.next before.now l.stages one.now) }
+{
+    if let Some(laid) = lay_fed(alloc, width, one, look, from, before)? {
+        return Ok(laid);
+    }
+    let laid = lay_step(alloc, width, one, look, from, are_no_stages(before))?;
+    Ok(laid)
+}
+
+/// The stage of an OPTIONAL whose group is fed each row: where few stand before it, and evaluating it again costs little.
+#[cycle(lay)]
+fn lay_fed(
+    alloc: Global,
+    width: usize,
+    one: &Step,
+    look: &Look,
+    from: usize,
+    before: &[Stage],
+) -> Result<Option<Laid>, AllocError>
+    requires named { width ≤ from }
+    requires within { Within width from look.now }
+    ensures { IfOk result (λ o. IfSome o (λ l. LaysNext width look.now from l.next before.now l.stages one.now)) }
+{
+    match one {
+        Step::LeftJoin(part, conditions) => {
+            if !are_few(true, before) || !is_feedable(part) {
+                return Ok(None);
+            }
+            let laid = lay_optional(
+                alloc,
+                width,
+                part,
+                conditions.as_slice(),
+                look,
+                from,
+                before,
+            )?;
+            Ok(laid)
+        }
+        _ => Ok(None),
+    }
+}
+
+/// The stage of an OPTIONAL whose group is fed each row, if the rows bind none of what it needs.
 #[cycle(lay)]
 fn lay_optional(
     alloc: Global,
@@ -387,22 +444,233 @@ fn lay_optional(
     conditions: &[Expr],
     look: &Look,
     from: usize,
-    few: bool,
-) -> Result<Laid, AllocError>
+    before: &[Stage],
+) -> Result<Option<Laid>, AllocError>
     requires named { width ≤ from }
     requires within { Within width from look.now }
-    ensures { IfOk result (λ l. (first : Bool) → LaysStep first width look.now from l.next l.stages (a_step.LeftJoin part.now conditions.now)) }
+    ensures { IfOk result (λ o. IfSome o (λ l. LaysNext width look.now from l.next before.now l.stages (a_step.LeftJoin part.now conditions.now))) }
 {
-    if few && is_feedable(part) {
-        let laid = lay(alloc, width, part, look, from, false)?;
-        if are_in_line(laid.stages.as_slice()) {
-            let laid = fed(alloc, conditions, laid)?;
-            return Ok(laid);
+    if let Some(feed) = feed(alloc, width, part, look, from)? {
+        let Feed {
+            stages,
+            next,
+            needs,
+        } = feed;
+        if all_leave(before, needs.as_slice()) {
+            let laid = fed(alloc, conditions, Laid { stages, next })?;
+            return Ok(Some(laid));
         }
     }
-    let laid = lay(alloc, width, part, look, from, true)?;
-    let laid = optional(alloc, look, conditions, laid)?;
-    Ok(laid)
+    Ok(None)
+}
+
+// ---- groups that are fed
+
+/// The stages of a pattern that is fed rows; none where it would be evaluated by itself for each of them.
+#[cycle(lay)]
+fn feed(
+    alloc: Global,
+    width: usize,
+    part: &PatternNode,
+    look: &Look,
+    from: usize,
+) -> Result<Option<Feed>, AllocError>
+    requires named { width ≤ from }
+    requires within { Within width from look.now }
+    ensures { IfOk result (λ o. IfSome o (λ f. Feeds f.needs.items width look.now from f.next f.stages (solutions_of width part.now))) }
+{
+    match part {
+        PatternNode::Group(steps, conditions) => {
+            let feed = feed_group(
+                alloc,
+                width,
+                steps.as_slice(),
+                conditions.as_slice(),
+                look,
+                from,
+            )?;
+            Ok(feed)
+        }
+        _ => {
+            let feed = feed_plain(alloc, width, part, look, from)?;
+            Ok(feed)
+        }
+    }
+}
+
+/// The stages of a pattern that may be fed any row.
+#[cycle(lay)]
+fn feed_plain(
+    alloc: Global,
+    width: usize,
+    part: &PatternNode,
+    look: &Look,
+    from: usize,
+) -> Result<Option<Feed>, AllocError>
+    requires named { width ≤ from }
+    requires within { Within width from look.now }
+    ensures { IfOk result (λ o. IfSome o (λ f. Feeds f.needs.items width look.now from f.next f.stages (solutions_of width part.now))) }
+{
+    let laid = lay(alloc, width, part, look, from, false)?;
+    let Laid { stages, next } = laid;
+    if !are_in_line(stages.as_slice()) {
+        return Ok(None);
+    }
+    let needs = Vec::new(alloc);
+    Ok(Some(Feed {
+        stages,
+        next,
+        needs,
+    }))
+}
+
+/// The stages of a group that is fed rows, its conditions after its steps.
+#[cycle(lay)]
+fn feed_group(
+    alloc: Global,
+    width: usize,
+    steps: &[Step],
+    conditions: &[Expr],
+    look: &Look,
+    from: usize,
+) -> Result<Option<Feed>, AllocError>
+    requires named { width ≤ from }
+    requires within { Within width from look.now }
+    ensures { IfOk result (λ o. IfSome o (λ f. Feeds f.needs.items width look.now from f.next f.stages (solutions_of width (pattern.Group steps.now conditions.now)))) }
+{
+    if let Some(feed) = feed_steps(alloc, width, steps, look, from)? {
+        let Feed {
+            stages,
+            next,
+            mut needs,
+        } = feed;
+        let size = Size { width, cells: next };
+        put_read(alloc, conditions, stages.as_slice(), size, &mut needs)?;
+        let laid = lay_filters(alloc, conditions, Laid { stages, next })?;
+        let Laid { stages, next } = laid;
+        return Ok(Some(Feed {
+            stages,
+            next,
+            needs,
+        }));
+    }
+    Ok(None)
+}
+
+/// The stages of the steps of a group that is fed rows.
+#[cycle(lay)]
+fn feed_steps(
+    alloc: Global,
+    width: usize,
+    steps: &[Step],
+    look: &Look,
+    from: usize,
+) -> Result<Option<Feed>, AllocError>
+    requires named { width ≤ from }
+    requires within { Within width from look.now }
+    ensures { IfOk result (λ o. IfSome o (λ f. Feeds f.needs.items width look.now from f.next f.stages (after_steps width steps.now))) }
+{
+    if are_too_many(width, steps) {
+        return Ok(None);
+    }
+    let mut stages = Items::new(alloc);
+    let mut needs = Vec::new(alloc);
+    let mut next = from;
+    for one in steps {
+        let before = stages.as_slice();
+        if !are_looked_at(before) {
+            return Ok(None);
+        }
+        let fed = feed_step(alloc, width, one, look, next, before, &mut needs)?;
+        let Some(laid) = fed else {
+            return Ok(None);
+        };
+        let Laid {
+            stages: more,
+            next: past,
+        } = laid;
+        stages.append(more)?;
+        next = past;
+    }
+    Ok(Some(Feed {
+        stages,
+        next,
+        needs,
+    }))
+}
+
+/// The stages of a step of a group that is fed rows, after those of the steps before it. What it needs is put after the other needs.
+#[cycle(lay)]
+fn feed_step(
+    alloc: Global,
+    width: usize,
+    one: &Step,
+    look: &Look,
+    from: usize,
+    before: &[Stage],
+    needs: &mut Vec<usize>,
+) -> Result<Option<Laid>, AllocError>
+    requires named { width ≤ from }
+    requires within { Within width from look.now }
+    ensures { IfOk result (λ o. IfSome o (λ l. FeedsNext needs.old.items needs.new.items width look.now from l.next before.now l.stages one.now)) }
+{
+    match one {
+        Step::Join(part) => {
+            let joined = lay(alloc, width, part, look, from, false)?;
+            if !are_in_line(joined.stages.as_slice()) {
+                return Ok(None);
+            }
+            Ok(Some(joined))
+        }
+        Step::LeftJoin(part, conditions) => {
+            let laid = feed_optional(
+                alloc,
+                width,
+                part,
+                conditions.as_slice(),
+                look,
+                from,
+                before,
+                needs,
+            )?;
+            Ok(laid)
+        }
+        _ => Ok(None),
+    }
+}
+
+/// The stage of an OPTIONAL in a group that is fed rows. Its own group is fed what comes of the stages before it.
+#[cycle(lay)]
+fn feed_optional(
+    alloc: Global,
+    width: usize,
+    part: &PatternNode,
+    conditions: &[Expr],
+    look: &Look,
+    from: usize,
+    before: &[Stage],
+    needs: &mut Vec<usize>,
+) -> Result<Option<Laid>, AllocError>
+    requires named { width ≤ from }
+    requires within { Within width from look.now }
+    ensures { IfOk result (λ o. IfSome o (λ l. FeedsNext needs.old.items needs.new.items width look.now from l.next before.now l.stages (a_step.LeftJoin part.now conditions.now))) }
+{
+    if let Some(feed) = feed(alloc, width, part, look, from)? {
+        let Feed {
+            stages,
+            next,
+            needs: inner,
+        } = feed;
+        let needed = inner.as_slice();
+        let own = stages.as_slice();
+        if all_leave(before, needed) {
+            let size = Size { width, cells: from };
+            put_seen(alloc, before, own, conditions, needed, size, needs)?;
+            let laid = fed(alloc, conditions, Laid { stages, next })?;
+            return Ok(Some(laid));
+        }
+    }
+    Ok(None)
 }
 
 /// The stage of a union, whose branches begin with the same row.

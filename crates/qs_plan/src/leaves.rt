@@ -53,8 +53,9 @@ pub(crate) fn leaves(stage: &Stage, variable: usize) -> bool
     }
 }
 
+/// Whether what the stages make of a row binds the variable as the row does.
 #[cycle(leaves)]
-fn leave_all(stages: &[Stage], variable: usize) -> bool
+pub(crate) fn leave_all(stages: &[Stage], variable: usize) -> bool
     ensures { result ≡ true → LeaveAll variable stages.now }
 {
     for stage in stages {

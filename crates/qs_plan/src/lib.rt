@@ -6,6 +6,7 @@ mod certain;
 mod copies;
 mod counts;
 mod display;
+mod feed;
 mod feedable;
 mod few;
 mod filters;

@@ -97,7 +97,11 @@ pub fn settle(alloc: Global, expr: &Expr, variables: &mut Vec<usize>) -> Result<
 /// Puts the variables that the expressions read after the others.
 #[cycle(settle)]
 #[tactic(auto, using(crate::proofs::Settled::part_settled, crate::proofs::Settled::all_settled, crate::proofs::Settled::grows_more, crate::proofs::Settled::grows_same))]
-fn settle_all(alloc: Global, parts: &[Expr], variables: &mut Vec<usize>) -> Result<(), AllocError>
+pub(crate) fn settle_all(
+    alloc: Global,
+    parts: &[Expr],
+    variables: &mut Vec<usize>,
+) -> Result<(), AllocError>
     ensures grows { OnOk result (Grows variables.old.items variables.new.items) }
     ensures settles { OnOk result (AllByRecursion (Settles variables.new.items) parts.now) }
 {

@@ -131,6 +131,11 @@ const PLANS: &[(&str, &str)] = &[
         "SELECT * { <u:a> <u:p> ?b OPTIONAL { { ?c <u:q> ?d FILTER(?d > ?b) } } }",
         "triple <u:a> <u:p> ?0\noptional\n  triple ?1 <u:q> ?2\n  filter (> ?2 ?0)\n",
     ),
+    // so is one with an OPTIONAL of its own, which is fed what comes of the stages before it
+    (
+        "SELECT * { <u:a> <u:p> ?b OPTIONAL { ?b <u:p> ?c OPTIONAL { ?c <u:q> ?d } } }",
+        "triple <u:a> <u:p> ?0\noptional, fed\n  triple ?0 <u:p> ?1\n  optional, fed\n    triple ?1 <u:q> ?2\n",
+    ),
     // many subjects have a type in common
     (
         "SELECT * { ?a a <u:x> OPTIONAL { ?a <u:p> ?b } }",

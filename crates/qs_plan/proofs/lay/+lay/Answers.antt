@@ -1,10 +1,13 @@
 use Rattle.std.proofs.Common.{rules, arith, true, false, refl, sym, ap, ◌∙◌, List, ◌++◌, map, subst}
 use Rattle.std.specs.List.{AllByRecursion}
+use Rattle.qs_plan.specs.inner.Feeds.{LaysRest}
 use Rattle.qs_plan.specs.inner.Fixes.{SettledBy}
 use Rattle.qs_algebra_patterns.specs.declared.pattern.PatternNode.TheVariants as pattern
 use Rattle.qs_plan_meaning.specs.declared.stage.Stage.{Stage}
 use Rattle.qs_plan_meaning.specs.declared.stage.Stage.TheVariants.{Filter}
-use Rattle.qs_plan.proofs.Arms.{lays_at, as_part, values_arm, left_join_arm, optional_apart, optional_fed, minus_arm, extend_arm, apart_arm, union_arm, graph_arm, each_arm, at_flag, group_joins, steps_init, one_step_more, steps_end, steps_all, union_init, union_end}
+use Rattle.qs_plan.proofs.Arms.{lays_at, as_part, values_arm, left_join_arm, optional_apart, minus_arm, extend_arm, apart_arm, union_arm, graph_arm, each_arm, at_flag, group_joins, steps_init, one_step_more, steps_end, steps_all, union_init, union_end}
+use Rattle.qs_plan.proofs.Fed.{feeds_any, next_step}
+use Rattle.qs_plan.proofs.FedArms.{feeds_conditions, feeds_init, feeds_one, feeds_optional, feeds_step, next_fed_at, rest_init, rest_step, rest_ended}
 use Rattle.qs_plan.proofs.Fixing.{plain_first, plain_in_line, rest_of, whole_lays}
 use Rattle.qs_plan.proofs.Laying.{union_more}
 use Rattle.qs_plan.proofs.lay.+lay.Goals as goal
@@ -66,23 +69,33 @@ lay_plain-returns t c =
 
 pub lay_whole-returns : goal.lay_whole-returns
 lay_whole-returns t c =
-    lays_at true c.args.width c.args.look.now c.args.from _ c.in_ok-laid-4.laid.stages _ c.in_ok-laid-2.laid.next c.in_ok-laid-4.laid.stages (c.in_ok-laid-4.ensures.1 ∙ c.in_ok-laid-3.ensures.1) refl
-    (whole_lays c.args.width c.args.look.now c.args.from c.in_ok-laid.laid.next c.in_ok-laid-2.laid.next c.plain_front-count.result c.args.steps.now c.args.conditions.now c.in_ok-laid.laid.stages c.put_tables.new.stages c.in_ok-laid-2.laid.stages c.in_ok-laid-4.laid.stages c.is_start-second.result _
-    c.requires.within c.plain_front-count.ensures.joins c.in_ok-laid.ensures (rest_of c.plain_front-count.result c.args.steps.now) c.in_ok-put_tables.ensures c.is_start-second.ensures
-    (steps_all c.is_start-second.result c.args.width c.args.look.now c.in_ok-laid.laid.next c.in_ok-laid-2.laid.next c.in_ok-laid-2.laid.stages c.args.steps.now c.plain_front-count.result _ (omega arith) c.in_ok-laid-2.ensures)
-    (c.in_ok-laid-4.ensures.0 ∙ ap (λ (l : List Stage). l ++ map Filter c.args.conditions.now) c.in_ok-laid-3.ensures.0))
+    lays_at true c.args.width c.args.look.now c.args.from _ c.in_ok-laid-3.laid.stages _ c.in_ok-laid-2.laid.next c.in_ok-laid-3.laid.stages c.in_ok-laid-3.ensures.1 refl
+    (whole_lays c.args.width c.args.look.now c.args.from c.in_ok-laid.laid.next c.in_ok-laid-2.laid.next c.plain_front-count.result c.args.steps.now c.args.conditions.now c.in_ok-laid.laid.stages c.put_tables.new.stages c.in_ok-laid-2.laid.stages c.in_ok-laid-3.laid.stages _
+    c.requires.within c.plain_front-count.ensures.joins c.in_ok-laid.ensures (rest_of c.plain_front-count.result c.args.steps.now) c.in_ok-put_tables.ensures
+    (subst (LaysRest c.args.width c.args.look.now c.in_ok-laid.laid.next c.in_ok-laid-2.laid.next c.put_tables.new.stages c.in_ok-laid-2.laid.stages) (sym (rest_of c.plain_front-count.result c.args.steps.now)) c.in_ok-laid-2.ensures) c.in_ok-laid-3.ensures.0)
 
-pub lay_step-returns-in_ok-laid-in-LeftJoin : goal.lay_step-returns-in_ok-laid-in-LeftJoin
-lay_step-returns-in_ok-laid-in-LeftJoin t c =
-    left_join_arm c.args.first c.args.width c.args.look.now c.args.from _ _ c.args.one.now c.in-LeftJoin.part c.in-LeftJoin.conditions _ c.in-LeftJoin.is c.as_slice.ensures (c.in_ok-laid-in-LeftJoin.ensures c.args.first)
+pub lay_rest-loop-at-init : goal.lay_rest-loop-at-init
+lay_rest-loop-at-init t c = rest_init c.args.width c.args.look.now c.args.from c.args.front c.args.steps.now c.args.start c.requires.inside
 
-pub lay_optional-returns-then-are_in_line : goal.lay_optional-returns-then-are_in_line
-lay_optional-returns-then-are_in_line t c first =
-    optional_fed first c.args.width c.args.look.now c.args.from _ _ c.args.part.now c.args.conditions.now _ _ c.in_ok-laid.ensures c.in_ok-laid-2.ensures
+pub lay_rest-loop-at-preserved : goal.lay_rest-loop-at-preserved
+lay_rest-loop-at-preserved t c =
+    rest_step c.args.width c.args.look.now c.args.from _ _ c.args.front _ _ _ _ c.args.steps.now c.args.start c.loop-at.at c.index-steps-at.result (omega (arith, c.loop-at.auto.at)) c.loop-at-test.true c.index-steps-at.is c.as_slice.ensures c.in_ok-append.ensures c.loop-at.invariant c.in_ok-laid.ensures
 
-pub lay_optional-returns : goal.lay_optional-returns
-lay_optional-returns t c first =
-    optional_apart first c.args.width c.args.look.now c.args.from _ _ c.args.part.now c.args.conditions.now _ _ c.requires.named c.requires.within c.in_ok-laid-3.ensures c.in_ok-laid-4.ensures
+pub lay_rest-returns : goal.lay_rest-returns
+lay_rest-returns t c = rest_ended c.args.width c.args.look.now c.args.from _ c.args.front _ c.args.steps.now c.args.start c.loop-at.at c.loop-at-test.false c.loop-at.invariant
+
+pub lay_next-returns : goal.lay_next-returns
+lay_next-returns t c = next_step c.args.width c.args.look.now c.args.from _ c.args.before.now c.are_no_stages.result _ c.args.one.now c.are_no_stages.ensures c.in_ok-laid-2.ensures
+
+pub lay_optional-returns-then-all_leave : goal.lay_optional-returns-then-all_leave
+lay_optional-returns-then-all_leave t c =
+    let k = rw c.in-Some.is at c.in_ok-feed.ensures in
+    next_fed_at c.args.width c.args.look.now c.args.from _ c.args.before.now _ c.in-Some.feed.needs.items _ _ _ c.args.part.now c.args.conditions.now k c.as_slice.ensures.value (c.all_leave.ensures c.if-all_leave.true) c.in_ok-laid.ensures
+
+pub lay_step-returns-in_ok-laid-in-LeftJoin-2 : goal.lay_step-returns-in_ok-laid-in-LeftJoin-2
+lay_step-returns-in_ok-laid-in-LeftJoin-2 t c =
+    left_join_arm c.args.first c.args.width c.args.look.now c.args.from _ _ c.args.one.now c.in-LeftJoin.part c.in-LeftJoin.conditions _ c.in-LeftJoin.is c.as_slice.ensures
+    (optional_apart c.args.first c.args.width c.args.look.now c.args.from _ _ c.in-LeftJoin.part _ _ _ c.requires.named c.requires.within c.in_ok-laid-in-LeftJoin.ensures c.in_ok-laid-in-LeftJoin-2.ensures)
 
 pub lay_step-returns-in_ok-laid-in-Minus-2 : goal.lay_step-returns-in_ok-laid-in-Minus-2
 lay_step-returns-in_ok-laid-in-Minus-2 t c =
@@ -115,3 +128,27 @@ lay_union-returns t c =
     union_arm c.args.first c.args.width c.args.look.now c.args.from _ _ c.args.parts.now c.loop-part.branches c.loop-part.next
     (union_end c.args.first c.args.width c.args.look.now c.args.from c.loop-part.next _ c.args.parts.now c.loop-part.part-index c.loop-part-test.false c.loop-part.invariant)
     c.in_ok-laid-2.ensures
+
+pub feed_plain-returns : goal.feed_plain-returns
+feed_plain-returns t c = feeds_any _ c.args.width c.args.look.now c.args.from _ _ c.args.part.now c.in_ok-laid.ensures
+
+pub feed_group-returns-in-Some : goal.feed_group-returns-in-Some
+feed_group-returns-in-Some t c =
+    let k = rw c.in-Some.is at c.in_ok-feed.ensures in
+    feeds_conditions c.in-Some.feed.needs.items c.put_read.new.needs.items c.args.width c.args.look.now c.args.from c.in-Some.feed.next _ c.in-Some.feed.stages _ _ c.args.steps.now c.args.conditions.now c.requires.within k c.as_slice.ensures c.in_ok-put_read.ensures c.in_ok-laid.ensures
+
+pub feed_steps-loop-one-init : goal.feed_steps-loop-one-init
+feed_steps-loop-one-init t c = feeds_init _ c.args.width c.args.look.now c.args.from _ c.args.steps.now c.requires.named c.new-stages.ensures c.new-needs.ensures.items
+
+pub feed_steps-loop-one-preserved : goal.feed_steps-loop-one-preserved
+feed_steps-loop-one-preserved t c =
+    let k = rw c.in-Some.is at c.in_ok-fed.ensures in
+    feeds_step _ _ c.args.width c.args.look.now c.args.from _ _ _ _ _ _ c.args.steps.now c.loop-one.one-index c.one-item.result c.requires.within c.loop-one-test.true c.one-item.is c.as_slice-before.ensures c.in_ok-append.ensures c.loop-one.invariant k
+
+pub feed_step-returns-else-not-are_in_line : goal.feed_step-returns-else-not-are_in_line
+feed_step-returns-else-not-are_in_line t c = feeds_one c.args.width c.args.look.now c.args.from _ c.args.before.now _ c.args.needs.now.items c.args.one.now c.in-Join.part c.in-Join.is c.in_ok-joined-in-Join.ensures
+
+pub feed_optional-returns-then-all_leave : goal.feed_optional-returns-then-all_leave
+feed_optional-returns-then-all_leave t c =
+    let k = rw c.in-Some.is at c.in_ok-feed.ensures in
+    feeds_optional c.args.width c.args.look.now c.args.from _ c.args.before.now _ c.args.needs.now.items c.put_seen.new.needs.items c.in-Some.feed.needs.items _ c.in-Some.feed.next c.in-Some.feed.stages _ c.args.part.now c.args.conditions.now k c.as_slice-needed.ensures.value c.as_slice-own.ensures (c.all_leave.ensures c.if-all_leave.true) c.in_ok-put_seen.ensures c.in_ok-laid.ensures
