@@ -34,7 +34,7 @@ impl Bound {
         }
     }
 
-    /// The same where the rows may be left as they were.
+    /// What is known where some rows may be left without what binds the variable.
     fn at_most_maybe(self) -> Bound {
         match self {
             Bound::Never => Bound::Never,
@@ -75,7 +75,7 @@ pub(crate) fn none_bound(
     Ok(known)
 }
 
-/// The same of its own.
+/// A copy of what is known.
 pub(crate) fn copied(alloc: Global, known: &[Bound]) -> Result<Vec<Bound>, AllocError> {
     let mut copy = Vec::new(alloc);
     for bound in known {
@@ -200,7 +200,11 @@ fn mark_stages(alloc: Global, known: &mut Vec<Bound>, stages: &[Stage]) -> Resul
 
 /// What the group binds by itself, of so many variables.
 #[cycle(bound)]
-fn bound_by(alloc: Global, count: usize, group: &Group) -> Result<Vec<Bound>, AllocError> {
+pub(crate) fn bound_by(
+    alloc: Global,
+    count: usize,
+    group: &Group,
+) -> Result<Vec<Bound>, AllocError> {
     let mut own = none_bound(alloc, count, None)?;
     mark_stages(alloc, &mut own, group.stages.as_slice())?;
     Ok(own)

@@ -39,7 +39,7 @@ fn put_facts<V: View>(
         }
         Stage::Path(_, pattern) => put_path_facts(place.names, pattern, known, text),
         Stage::Optional(_, group, _) => {
-            let reason = optional_reason(alloc, group, known.len())?;
+            let reason = optional_reason(alloc, group, known)?;
             put_reason(place.names, reason, text)
         }
         Stage::Minus(_, _) => text.push_str(", apart: MINUS isn't fed"),

@@ -1,7 +1,7 @@
 //! Why a group is evaluated by itself. Its stages tell it: a planner feeds a group the rows before it only where each row that it makes stays
 //! the same, and an OPTIONAL only where its group costs little for each of few rows.
 
-use crate::bound::{Bound, bound_at, mark_stage, none_bound};
+use crate::bound::{Bound, bound_at, bound_by, mark_stage, none_bound};
 use crate::words::put_variable;
 use qs_algebra_patterns::Table;
 use qs_expr_meaning::Expr;
@@ -18,6 +18,8 @@ pub(crate) enum Reason {
     Inside(&'static str),
     /// It is optional, and many rows may stand before it.
     ManyRows,
+    /// That, or this stands in a group in it.
+    ManyRowsOrInside(&'static str),
 }
 
 /// What the group stands in: some parts may be fed in a group that is joined, and not in an OPTIONAL.
@@ -69,6 +71,69 @@ fn filter_reason(
     }
 }
 
+/// The first of the variables that the rows outside may bind, and that isn't bound in each row.
+fn seen_outside(outside: &[Bound], known: &[Bound], variables: &[usize]) -> Option<usize> {
+    for at in 0..variables.len() {
+        let variable = variables[at];
+        if !bound_at(known, variable).is_always() && !bound_at(outside, variable).is_never() {
+            return Some(variable);
+        }
+    }
+    None
+}
+
+/// The variables that the group binds in some row, of so many.
+fn bound_variables(alloc: Global, count: usize, group: &Group) -> Result<Vec<usize>, AllocError> {
+    let bound = bound_by(alloc, count, group)?;
+    let mut variables = Vec::new(alloc);
+    for at in 0..bound.len() {
+        if !bound[at].is_never() {
+            variables.push(at)?;
+        }
+    }
+    Ok(variables)
+}
+
+/// Why a group with this OPTIONAL in it isn't fed, if the OPTIONAL is the cause: it sees a variable that the rows outside may bind, and that the
+/// stages before it aren't certain to bind.
+#[cycle(reason)]
+fn inner_reason(
+    alloc: Global,
+    group: &Group,
+    conditions: &[Expr],
+    known: &[Bound],
+    outside: &[Bound],
+) -> Result<Option<Reason>, AllocError> {
+    let reason = group_reason(alloc, Side::Optional, group, outside, known.len())?;
+    if reason.is_some() {
+        return Ok(reason);
+    }
+    let mut variables = bound_variables(alloc, known.len(), group)?;
+    for condition in conditions {
+        settle(alloc, condition, &mut variables)?;
+    }
+    match seen_outside(outside, known, variables.as_slice()) {
+        Some(variable) => Ok(Some(Reason::NotCertain(variable))),
+        None => Ok(None),
+    }
+}
+
+/// Why a group with this OPTIONAL in it isn't fed, if the OPTIONAL is the cause: always in a group that is joined.
+#[cycle(reason)]
+fn optional_inside(
+    alloc: Global,
+    side: Side,
+    group: &Group,
+    conditions: &[Expr],
+    known: &[Bound],
+    outside: &[Bound],
+) -> Result<Option<Reason>, AllocError> {
+    match side {
+        Side::Joined => Ok(Some(Reason::Inside("OPTIONAL"))),
+        Side::Optional => inner_reason(alloc, group, conditions, known, outside),
+    }
+}
+
 /// Why a group with this stage isn't fed, if the stage is the cause.
 #[cycle(reason)]
 fn stage_reason(
@@ -76,6 +141,7 @@ fn stage_reason(
     side: Side,
     stage: &Stage,
     known: &[Bound],
+    outside: &[Bound],
 ) -> Result<Option<Reason>, AllocError> {
     match stage {
         Stage::Filter(condition) => filter_reason(alloc, condition.get(), known),
@@ -83,11 +149,19 @@ fn stage_reason(
         Stage::Names(_) => Ok(side.only_if_optional(Reason::Inside("GRAPH of a variable"))),
         Stage::Values(table) => Ok(table_reason(side, table.get())),
         Stage::Bind(_, _) => Ok(Some(Reason::Inside("BIND"))),
-        Stage::Optional(_, _, _) => Ok(Some(Reason::Inside("OPTIONAL"))),
-        Stage::Fed(_, _) => Ok(Some(Reason::Inside("OPTIONAL"))),
+        Stage::Optional(_, group, conditions) => {
+            let conditions = conditions.get().as_slice();
+            optional_inside(alloc, side, group, conditions, known, outside)
+        }
+        Stage::Fed(group, conditions) => {
+            let conditions = conditions.get().as_slice();
+            optional_inside(alloc, side, group, conditions, known, outside)
+        }
         Stage::Minus(_, _) => Ok(Some(Reason::Inside("MINUS"))),
         Stage::Apart(_, _) => Ok(Some(Reason::Inside("a group apart"))),
-        Stage::Union(branches) => branches_reason(alloc, side, branches.as_slice(), known.len()),
+        Stage::Union(branches) => {
+            branches_reason(alloc, side, branches.as_slice(), outside, known.len())
+        }
         _ => Ok(None),
     }
 }
@@ -97,10 +171,11 @@ fn branches_reason(
     alloc: Global,
     side: Side,
     branches: &[Group],
+    outside: &[Bound],
     count: usize,
 ) -> Result<Option<Reason>, AllocError> {
     for branch in branches {
-        let reason = group_reason(alloc, side, branch, count)?;
+        let reason = group_reason(alloc, side, branch, outside, count)?;
         if reason.is_some() {
             return Ok(reason);
         }
@@ -108,17 +183,18 @@ fn branches_reason(
     Ok(None)
 }
 
-/// Why the group, with so many variables, isn't fed, if a stage of it is the cause.
+/// Why the group, with so many variables, isn't fed the rows outside, if a stage of it is the cause.
 #[cycle(reason)]
 fn group_reason(
     alloc: Global,
     side: Side,
     group: &Group,
+    outside: &[Bound],
     count: usize,
 ) -> Result<Option<Reason>, AllocError> {
     let mut known = none_bound(alloc, count, None)?;
     for stage in group.stages.as_slice() {
-        let reason = stage_reason(alloc, side, stage, known.as_slice())?;
+        let reason = stage_reason(alloc, side, stage, known.as_slice(), outside)?;
         if reason.is_some() {
             return Ok(reason);
         }
@@ -127,14 +203,34 @@ fn group_reason(
     Ok(None)
 }
 
-/// Why the group of an OPTIONAL is evaluated by itself.
+fn is_optional(stage: &Stage) -> bool {
+    match stage {
+        Stage::Optional(_, _, _) => true,
+        Stage::Fed(_, _) => true,
+        _ => false,
+    }
+}
+
+/// Whether an OPTIONAL stands among the stages of the group.
+fn has_optional(group: &Group) -> bool {
+    for stage in group.stages.as_slice() {
+        if is_optional(stage) {
+            return true;
+        }
+    }
+    false
+}
+
+/// Why the group of an OPTIONAL isn't fed the rows outside, which bind these variables. An OPTIONAL in a group inside that is joined is a cause
+/// too, but its stages don't tell that group.
 pub(crate) fn optional_reason(
     alloc: Global,
     group: &Group,
-    count: usize,
+    outside: &[Bound],
 ) -> Result<Reason, AllocError> {
-    match group_reason(alloc, Side::Optional, group, count)? {
+    match group_reason(alloc, Side::Optional, group, outside, outside.len())? {
         Some(reason) => Ok(reason),
+        None if has_optional(group) => Ok(Reason::ManyRowsOrInside("OPTIONAL")),
         None => Ok(Reason::ManyRows),
     }
 }
@@ -145,7 +241,7 @@ pub(crate) fn join_reason(
     group: &Group,
     count: usize,
 ) -> Result<Reason, AllocError> {
-    match group_reason(alloc, Side::Joined, group, count)? {
+    match group_reason(alloc, Side::Joined, group, &[], count)? {
         Some(reason) => Ok(reason),
         None => Ok(Reason::Inside("FILTER")),
     }
@@ -165,5 +261,8 @@ pub(crate) fn put_reason(
         }
         Reason::Inside(part) => write!(text, ", apart: {part} inside"),
         Reason::ManyRows => text.push_str(", apart: many rows before it"),
+        Reason::ManyRowsOrInside(part) => {
+            write!(text, ", apart: many rows before it, or {part} inside")
+        }
     }
 }
