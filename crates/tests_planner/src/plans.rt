@@ -7,7 +7,7 @@ use qs_syntax::{drop_query, parse_query};
 use qs_terms::QFault;
 use std::alloc::Global;
 
-/// Texts and what is printed of their plans.
+/// Texts and what is printed of their plans: how parts of patterns are laid.
 const PLANS: &[(&str, &str)] = &[
     // the triple with more places fixed comes first
     (
@@ -176,6 +176,10 @@ const PLANS: &[(&str, &str)] = &[
         "SELECT * { GRAPH <u:g> { ?a <u:p> ?b OPTIONAL { ?b <u:q> ?c } } }",
         "exists <u:g>\ntriple ?0 <u:p> ?1 in <u:g>\noptional\n  triple ?1 <u:q> ?2 in <u:g>\n",
     ),
+];
+
+/// Texts and what is printed of their plans: where filters go.
+const FILTERS: &[(&str, &str)] = &[
     // a filter goes before what doesn't bind a variable of it, and not into what is optional
     (
         "SELECT * { ?a <u:p> ?b . ?a <u:q> ?c FILTER(?b = 'x') }",
@@ -385,8 +389,8 @@ fn is_printed(alloc: Global, text: &str, expected: &str) -> Result<bool, QFault>
     Ok(printed.as_str() == expected)
 }
 
-fn are_printed(alloc: Global) -> bool {
-    for (text, expected) in PLANS {
+fn are_printed(alloc: Global, plans: &[(&str, &str)]) -> bool {
+    for (text, expected) in plans {
         match is_printed(alloc, text, expected) {
             Ok(true) => {}
             _ => return false,
@@ -397,7 +401,12 @@ fn are_printed(alloc: Global) -> bool {
 
 #[test]
 fn plans_are_printed(rt: HostRuntime) {
-    assert!(rt; are_printed(rt.alloc()));
+    assert!(rt; are_printed(rt.alloc(), PLANS));
+}
+
+#[test]
+fn plans_with_filters_are_printed(rt: HostRuntime) {
+    assert!(rt; are_printed(rt.alloc(), FILTERS));
 }
 
 /// The plan in the order of the text, and what is printed of it.
