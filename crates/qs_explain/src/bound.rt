@@ -51,7 +51,7 @@ pub(crate) fn bound_at(known: &[Bound], variable: usize) -> Bound {
     }
 }
 
-/// Whether what stands in the place is a term, or a variable that each row binds.
+/// Whether the place has a term, or a variable that each row binds.
 pub(crate) fn is_given(known: &[Bound], slot: &Slot) -> bool {
     match slot {
         Slot::Term(_) => true,

@@ -30,6 +30,8 @@ fn put_pattern<V: View>(
     ensures { IfErr result (λ f. f ≡ Memory) }
 {
     let active = active_of(view, name);
+    // The plan that is run is made by this call too. It is proved that it has the solutions of its pattern. No clause says which plan it is,
+    // so none says what is printed.
     let plan = plan_over(alloc, pattern, view, active)?;
     let place = Place {
         names: pattern.names.as_slice(),

@@ -5,13 +5,14 @@ use crate::bound::{Bound, bound_at, is_given};
 use crate::words::put_variable;
 use qs_algebra_patterns::{PathPattern, Slot, TriplePattern};
 use qs_index::permutation::{Lookup, Permutation};
-use qs_plan::{Counts, Look};
+use qs_plan::{Counts, Look, Stage};
 use qs_query_solutions::ViewCounts;
 use qs_store::{Active, DefaultGraph, View};
 use qs_terms::Text;
 use std::alloc::AllocError;
 
-/// How many triples are counted at most for a pattern.
+/// How many triples are counted at most for a pattern. The planner counts fewer, as it stops where the order is settled: so triples may be in
+/// another order than the printed counts would give.
 const MOST: u64 = 4096;
 
 // ---- the order
@@ -39,9 +40,61 @@ fn given(known: &[Bound], slot: &Slot) -> Option<u32> {
     if is_given(known, slot) { Some(0) } else { None }
 }
 
+/// A register that holds each name in turn, and the variable that was joined with it, if one was.
+#[derive(Clone, Copy)]
+pub(crate) struct OpenRegister {
+    pub register: usize,
+    pub variable: Option<usize>,
+}
+
+/// The register that still holds each name in turn after the stage, if there is one: rows whose variable is bound before look in one graph.
+pub(crate) fn open_after(
+    open: Option<OpenRegister>,
+    stage: &Stage,
+    known: &[Bound],
+) -> Option<OpenRegister> {
+    match stage {
+        Stage::Names(register) => Some(OpenRegister {
+            register: *register,
+            variable: None,
+        }),
+        Stage::Name(variable, register) => {
+            let open = open?;
+            if open.register != *register || !bound_at(known, *variable).is_never() {
+                return None;
+            }
+            Some(OpenRegister {
+                register: *register,
+                variable: Some(*variable),
+            })
+        }
+        _ => None,
+    }
+}
+
+/// Whether the slot is the variable, if there is one.
+fn is_variable(slot: &Slot, variable: Option<usize>) -> bool {
+    match (slot, variable) {
+        (Slot::Variable(one), Some(other)) => *one == other,
+        _ => false,
+    }
+}
+
+/// Whether one scan finds the triples of the pattern in all named graphs.
+fn is_in_all(open: Option<OpenRegister>, look: &Look, pattern: &TriplePattern) -> bool {
+    let Some(open) = open else {
+        return false;
+    };
+    let is_named = is_variable(&pattern.subject, open.variable)
+        || is_variable(&pattern.predicate, open.variable)
+        || is_variable(&pattern.object, open.variable);
+    look.register() == Some(open.register) && !is_named
+}
+
 /// The order of the index in which the scan of the pattern finds its triples.
 fn order_used<V: View>(
     counts: &ViewCounts<'_, V>,
+    open: Option<OpenRegister>,
     look: &Look,
     pattern: &TriplePattern,
     known: &[Bound],
@@ -49,7 +102,8 @@ fn order_used<V: View>(
     let subject = given(known, &pattern.subject);
     let predicate = given(known, &pattern.predicate);
     let object = given(known, &pattern.object);
-    if is_of_union(counts, look) {
+    let is_any = subject.is_some() || predicate.is_some() || object.is_some();
+    if is_of_union(counts, look) || is_any && is_in_all(open, look, pattern) {
         return Lookup::of_named(subject, predicate, object).permutation;
     }
     Lookup::new(0, subject, predicate, object).permutation
@@ -122,16 +176,13 @@ fn put_bindings(
 
 // ---- the count
 
-/// How many triples agree with the terms of the pattern, unless they aren't counted.
+/// How many triples agree with the terms of the pattern.
 fn put_count<V: View>(
     counts: &ViewCounts<'_, V>,
     look: &Look,
     pattern: &TriplePattern,
     text: &mut String,
 ) -> Result<(), AllocError> {
-    if look.register().is_some() {
-        return text.push_str(", not counted");
-    }
     let count = counts.about(look, pattern, MOST);
     write!(text, ", count: {count}")?;
     if count >= MOST {
@@ -142,22 +193,43 @@ fn put_count<V: View>(
 
 // ---- the facts
 
-/// Writes what is told of a triple after what is known to be bound.
+/// Writes what is told of a triple, where the register is open and the variables are known to be bound before it.
 pub(crate) fn put_triple_facts<V: View>(
     names: &[Text],
     counts: &ViewCounts<'_, V>,
+    open: Option<OpenRegister>,
     look: &Look,
     pattern: &TriplePattern,
     known: &[Bound],
     text: &mut String,
 ) -> Result<(), AllocError> {
-    let order = order_word(order_used(counts, look, pattern, known));
+    let order = order_word(order_used(counts, open, look, pattern, known));
     write!(text, ", order: {order}")?;
     let subject = other_variable(&pattern.subject, None, None);
     let predicate = other_variable(&pattern.predicate, subject, None);
     let object = other_variable(&pattern.object, subject, predicate);
     put_bindings(names, known, [subject, predicate, object], text)?;
     put_count(counts, look, pattern, text)
+}
+
+/// Writes the variable that the next stage joins with the register's name, if each row binds it.
+pub(crate) fn put_names_facts(
+    names: &[Text],
+    register: usize,
+    next: Option<&Stage>,
+    known: &[Bound],
+    text: &mut String,
+) -> Result<(), AllocError> {
+    match next {
+        Some(Stage::Name(variable, other)) => {
+            if *other == register && bound_at(known, *variable).is_always() {
+                text.push_str(", bound: ")?;
+                put_variable(names, *variable, text)?;
+            }
+            Ok(())
+        }
+        _ => Ok(()),
+    }
 }
 
 /// Writes what is told of a path after what is known to be bound. Paths aren't counted.

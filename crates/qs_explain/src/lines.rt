@@ -1,7 +1,7 @@
 //! The stages of a plan, a line each, with those of its groups indented.
 
 use crate::bound::{Bound, copied, mark_stage, none_bound};
-use crate::facts::{put_path_facts, put_triple_facts};
+use crate::facts::{OpenRegister, open_after, put_names_facts, put_path_facts, put_triple_facts};
 use crate::reason::{join_reason, optional_reason, put_reason};
 use crate::words::put_line;
 use qs_plan::{Group, Plan, Stage};
@@ -25,18 +25,21 @@ fn put_indent(depth: usize, text: &mut String) -> Result<(), AllocError> {
     Ok(())
 }
 
-/// What is told of the stage besides what it is.
+/// What is told of the stage besides what it is; `next` is the stage after it.
 fn put_facts<V: View>(
     alloc: Global,
     place: &Place<'_, V>,
     stage: &Stage,
+    next: Option<&Stage>,
+    open: Option<OpenRegister>,
     known: &[Bound],
     text: &mut String,
 ) -> Result<(), AllocError> {
     match stage {
         Stage::Triple(look, pattern) => {
-            put_triple_facts(place.names, &place.counts, look, pattern, known, text)
+            put_triple_facts(place.names, &place.counts, open, look, pattern, known, text)
         }
+        Stage::Names(register) => put_names_facts(place.names, *register, next, known, text),
         Stage::Path(_, pattern) => put_path_facts(place.names, pattern, known, text),
         Stage::Optional(_, group, _) => {
             let reason = optional_reason(alloc, group, known)?;
@@ -61,10 +64,13 @@ pub(crate) fn put_stages<V: View>(
     depth: usize,
     text: &mut String,
 ) -> Result<(), AllocError> {
-    for stage in stages {
+    let mut open = None;
+    for at in 0..stages.len() {
+        let stage = &stages[at];
+        let next = stages.get(at + 1);
         put_indent(depth, text)?;
         put_line(place.names, stage, text)?;
-        put_facts(alloc, place, stage, known.as_slice(), text)?;
+        put_facts(alloc, place, stage, next, open, known.as_slice(), text)?;
         text.push('\n')?;
         put_groups(
             alloc,
@@ -74,6 +80,7 @@ pub(crate) fn put_stages<V: View>(
             depth.saturating_add(1),
             text,
         )?;
+        open = open_after(open, stage, known.as_slice());
         mark_stage(alloc, known, stage)?;
     }
     Ok(())

@@ -1,5 +1,5 @@
-//! Why a group is evaluated by itself. Its stages tell it: a planner feeds a group the rows before it only where each row that it makes stays
-//! the same, and an OPTIONAL only where its group costs little for each of few rows.
+//! Why a group is evaluated by itself. A plan doesn't keep the reason: the stages of the group tell it. A planner feeds a group the rows before
+//! it only where each row that it makes stays as it was, and an OPTIONAL only where its group costs little for each of few rows.
 
 use crate::bound::{Bound, bound_at, bound_by, mark_stage, none_bound};
 use crate::words::put_variable;
@@ -14,15 +14,15 @@ use std::alloc::{AllocError, Global};
 pub(crate) enum Reason {
     /// A filter in it reads a variable that it isn't certain to bind.
     NotCertain(usize),
-    /// This stands in it.
+    /// The group has such a part.
     Inside(&'static str),
-    /// It is optional, and many rows may stand before it.
+    /// It is optional, and many rows may come before it.
     ManyRows,
-    /// That, or this stands in a group in it.
+    /// It is optional, and many rows may come before it, or such a part is in a group in it.
     ManyRowsOrInside(&'static str),
 }
 
-/// What the group stands in: some parts may be fed in a group that is joined, and not in an OPTIONAL.
+/// Whether the group is joined or optional: some parts may be fed in a group that is joined, and not in an OPTIONAL.
 #[derive(Clone, Copy)]
 enum Side {
     Joined,
@@ -211,7 +211,7 @@ fn is_optional(stage: &Stage) -> bool {
     }
 }
 
-/// Whether an OPTIONAL stands among the stages of the group.
+/// Whether an OPTIONAL is among the stages of the group.
 fn has_optional(group: &Group) -> bool {
     for stage in group.stages.as_slice() {
         if is_optional(stage) {

@@ -11,7 +11,8 @@ use std::alloc::{AllocError, Global};
 /// How many numbers one half of a place has.
 const HALF: u64 = 1 << 32;
 
-/// A cell, or none. The place of a term in the scratch table is in two halves, so that each part has four bytes.
+/// A cell, or none, in twelve bytes. One word of 64 bits doesn't suffice: the numbers of terms and the places of the scratch table together
+/// have more values. A place is in two halves, so that each part has four bytes.
 #[derive(Clone, Copy)]
 pub(crate) enum CompactCell {
     Unbound,

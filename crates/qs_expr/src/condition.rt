@@ -17,8 +17,8 @@ use qs_store::View;
 use std::alloc::{AllocError, Global};
 use std::marker::Model;
 
-/// A condition prepared over a view: its IRIs' numbers are looked up and its constants are read once. A conjunction is a list of parts,
-/// since an error and false are alike for a condition.
+/// A condition prepared over a view: its IRIs' numbers are looked up and its constants are read once. (`eval` and `holds` take any
+/// expression, and look nothing up beforehand.) A conjunction is a list of parts, since an error and false are alike for a condition.
 #[derive(Drop)]
 pub struct Condition<'e> {
     expr: &'e Expr,

@@ -51,7 +51,7 @@ fn worth_of_constant(term: &Term) -> Worth<'_>
     }
 }
 
-/// Whether the comparison is true of two values of one kind that stand so to each other.
+/// Whether the comparison is true of two values of one kind that compare so.
 fn satisfies(comparison: Comparison, order: Ordering) -> bool
     ensures { result ≡ satisfies comparison order }
 {
@@ -66,7 +66,7 @@ fn satisfies(comparison: Comparison, order: Ordering) -> bool
 }
 
 impl<'e> AgainstConstant<'e> {
-    /// The comparison of the variable with the literal, or of the literal with the variable where it comes first.
+    /// The comparison of the variable with the literal, or of the literal with the variable where the literal is the first operand.
     #[tactic(auto, using(crate::proofs::Said::against_sound))]
     pub(crate) fn new(
         expr: &'e Expr,
@@ -88,7 +88,7 @@ impl<'e> AgainstConstant<'e> {
         }
     }
 
-    // How the term stands to the constant, or the constant to the term where it comes first.
+    // How the term compares with the constant, or the constant with the term where the constant is the first operand.
     fn order(&self, term: &Term) -> Option<Ordering>
         ensures { result ≡ ordered self.now.first (seen self.now.worth) (of_terms.worth term.now) }
     {

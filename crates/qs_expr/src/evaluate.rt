@@ -42,7 +42,7 @@ fn computed<V: View>(
     }
 }
 
-/// The cell of the expression's value. A variable's cell is answered as it stands; a value that neither the dictionary nor the table has
+/// The cell of the expression's value. A variable's cell is answered as it is; a value that neither the dictionary nor the table has
 /// is put into the table.
 ///
 /// # Errors

@@ -5,7 +5,7 @@
 //! variable. `eval` answers the cell of an expression's value, `holds` what FILTER asks, `ebv` and `order_key` read a cell. A
 //! `Condition` is prepared once and asked of many rows.
 //!
-//! The definitions stand in `specs/`: what cells and rows denote in `Cell.antt`, rows by their cells in `Row.antt`, the scratch table
+//! The definitions are in `specs/`: what cells and rows denote in `Cell.antt`, rows by their cells in `Row.antt`, the scratch table
 //! in `Scratch.antt`, what `eval` answers in `Evaluated.antt`, prepared conditions in `Condition.antt`.
 #![tactic(auto)]
 

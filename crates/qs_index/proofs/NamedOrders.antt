@@ -1,17 +1,18 @@
 -- The orders of the named graphs of one set.
-use Rattle.std.proofs.Common.{◌≡◌, ℕ, ◌+◌, ◌≤◌, Bool, true, false, cond, List, [], map, min, take, drop, Option, Some, None, refl, ap, sym, ◌∙◌, subst, arith, inl, inr, ⊎_elim, IsTrue, ◌↔◌}
+use Rattle.std.proofs.Common.{◌≡◌, ℕ, Bool, true, false, cond, List, [], ◌∷◌, ◌++◌, length, map, take, drop, Option, Some, None, refl, ap, sym, ◌∙◌, subst, inl, inr, ⊎_elim, IsTrue, ◌↔◌}
 use Rattle.std.specs.Bool.{OnTrue}
 use Rattle.std.specs.List.{All, Contains}
 use Rattle.std.specs.List.Sorted.{IsPermutation}
 use Rattle.std.proofs.lemmas.Bool.{false≢true}
 use Rattle.std.proofs.lemmas.List.{take-append-drop}
-use Rattle.std.proofs.lemmas.List.Elements.{All-contains, Contains-append_right, Contains-append_cases}
-use Rattle.std.proofs.lemmas.List.Sorted.{Contains-permutation, IsPermutation-sym}
+use Rattle.std.proofs.lemmas.List.Elements.{All-contains, All-head, All-tail, filter-append, Contains-append_right, Contains-append_cases}
+use Rattle.std.proofs.lemmas.List.Sorted.{Contains-permutation, IsPermutation-sym, sum_by-IsPermutation}
+use Rattle.std.proofs.lemmas.List.Sums.{length-filter}
 use Rattle.qs_index.specs.Agreeing.{agreeing_named}
 use Rattle.qs_index.specs.Entry.{IsEntry, IsAscending, beginning, with_entry, without_entry}
 use Rattle.qs_index.specs.Entries.{IsUnion, IsDifference}
 use Rattle.qs_index.specs.Graph.{is_named, named_entries}
-use Rattle.qs_index.specs.Named.{NamedOrders, AreNamedOf, held, held_by, HasRoom, KeepsRoom, least_room}
+use Rattle.qs_index.specs.Named.{NamedOrders, AreNamedOf, held_by}
 use Rattle.qs_index.specs.OrderOf.{IsOrderOf}
 use Rattle.qs_index.specs.Permutation.{turned, restored, order_used, named_order_used, named_prefix_of}
 use Rattle.qs_index.specs.declared.permutation.Permutation.{Permutation}
@@ -104,140 +105,95 @@ named_difference xs removed all ys k p d u = record {
   only = λ x c. let m = member_of_filter is_named x ys c in filter_has is_named x xs (u.only x m.0) m.1;
 }
 
--- orders that aren't kept
-held_none : (kept : Bool) (xs : List (List ℕ)) → kept ≡ false → held kept xs ≡ []
-held_none kept xs e = ap (λ k. held k xs) e
-
-held_all : (kept : Bool) (xs : List (List ℕ)) → kept ≡ true → held kept xs ≡ named_entries xs
-held_all kept xs e = ap (λ k. held k xs) e
-
 pub AreNamedOf-nil : (orders : NamedOrders) → orders.by_subject ≡ [] → orders.by_predicate ≡ [] → orders.by_object ≡ [] → AreNamedOf [] orders
-AreNamedOf-nil orders s p o =
-    let nothing : (kept : Bool) → held kept [] ≡ [] = λ kept. at_kept kept in
-    record {
-      subject = subst (IsOrderOf Spog (held orders.kept [])) (sym s) (subst (λ r. IsOrderOf Spog r []) (sym (nothing orders.kept)) (IsOrderOf-nil Spog));
-      predicate = subst (IsOrderOf Posg (held orders.kept [])) (sym p) (subst (λ r. IsOrderOf Posg r []) (sym (nothing orders.kept)) (IsOrderOf-nil Posg));
-      object = subst (IsOrderOf Ospg (held orders.kept [])) (sym o) (subst (λ r. IsOrderOf Ospg r []) (sym (nothing orders.kept)) (IsOrderOf-nil Ospg));
-    }
-  where
-    at_kept : (kept : Bool) → held kept [] ≡ []
-    at_kept true = refl
-    at_kept false = refl
-
-pub AreNamedOf-none : (orders : NamedOrders) (xs ys : List (List ℕ)) → orders.kept ≡ false → AreNamedOf xs orders → AreNamedOf ys orders
-AreNamedOf-none orders xs ys e a =
-    let same : held orders.kept xs ≡ held orders.kept ys = held_none orders.kept xs e ∙ sym (held_none orders.kept ys e) in
-    record {
-      subject = subst (λ r. IsOrderOf Spog r orders.by_subject) same a.subject;
-      predicate = subst (λ r. IsOrderOf Posg r orders.by_predicate) same a.predicate;
-      object = subst (λ r. IsOrderOf Ospg r orders.by_object) same a.object;
-    }
-
-pub AreNamedOf-made : (orders : NamedOrders) (xs : List (List ℕ)) → orders.kept ≡ true → IsOrderOf Spog (named_entries xs) orders.by_subject → IsOrderOf Posg (named_entries xs) orders.by_predicate → IsOrderOf Ospg (named_entries xs) orders.by_object → AreNamedOf xs orders
-AreNamedOf-made orders xs e s p o =
-    let same : named_entries xs ≡ held orders.kept xs = sym (held_all orders.kept xs e) in
-    record {
-      subject = subst (λ r. IsOrderOf Spog r orders.by_subject) same s;
-      predicate = subst (λ r. IsOrderOf Posg r orders.by_predicate) same p;
-      object = subst (λ r. IsOrderOf Ospg r orders.by_object) same o;
-    }
-
-pub by_subject : (orders : NamedOrders) (xs : List (List ℕ)) → orders.kept ≡ true → AreNamedOf xs orders → IsOrderOf Spog (named_entries xs) orders.by_subject
-by_subject orders xs e a = subst (λ r. IsOrderOf Spog r orders.by_subject) (held_all orders.kept xs e) a.subject
-
-pub by_predicate : (orders : NamedOrders) (xs : List (List ℕ)) → orders.kept ≡ true → AreNamedOf xs orders → IsOrderOf Posg (named_entries xs) orders.by_predicate
-by_predicate orders xs e a = subst (λ r. IsOrderOf Posg r orders.by_predicate) (held_all orders.kept xs e) a.predicate
-
-pub by_object : (orders : NamedOrders) (xs : List (List ℕ)) → orders.kept ≡ true → AreNamedOf xs orders → IsOrderOf Ospg (named_entries xs) orders.by_object
-by_object orders xs e a = subst (λ r. IsOrderOf Ospg r orders.by_object) (held_all orders.kept xs e) a.object
+AreNamedOf-nil orders s p o = record {
+  subject = subst (IsOrderOf Spog []) (sym s) (IsOrderOf-nil Spog);
+  predicate = subst (IsOrderOf Posg []) (sym p) (IsOrderOf-nil Posg);
+  object = subst (IsOrderOf Ospg []) (sym o) (IsOrderOf-nil Ospg);
+}
 
 -- an entry of the default graph
-pub AreNamedOf-with_none : (orders : NamedOrders) (x : List ℕ) (xs : List (List ℕ)) → orders.kept ≡ true → is_named x ≡ false → AreNamedOf xs orders → AreNamedOf (with_entry x xs) orders
-AreNamedOf-with_none orders x xs e h a =
-    AreNamedOf-made orders (with_entry x xs) e
-    (named_with_none Spog x xs orders.by_subject h (by_subject orders xs e a))
-    (named_with_none Posg x xs orders.by_predicate h (by_predicate orders xs e a))
-    (named_with_none Ospg x xs orders.by_object h (by_object orders xs e a))
+pub AreNamedOf-with_none : (orders : NamedOrders) (x : List ℕ) (xs : List (List ℕ)) → is_named x ≡ false → AreNamedOf xs orders → AreNamedOf (with_entry x xs) orders
+AreNamedOf-with_none orders x xs h a = record {
+  subject = named_with_none Spog x xs orders.by_subject h a.subject;
+  predicate = named_with_none Posg x xs orders.by_predicate h a.predicate;
+  object = named_with_none Ospg x xs orders.by_object h a.object;
+}
 
-pub AreNamedOf-without_none : (orders : NamedOrders) (x : List ℕ) (xs : List (List ℕ)) → orders.kept ≡ true → is_named x ≡ false → IsAscending xs → Contains xs x → AreNamedOf xs orders → AreNamedOf (without_entry x xs) orders
-AreNamedOf-without_none orders x xs e h u s a =
-    AreNamedOf-made orders (without_entry x xs) e
-    (named_without_none Spog x xs orders.by_subject h u s (by_subject orders xs e a))
-    (named_without_none Posg x xs orders.by_predicate h u s (by_predicate orders xs e a))
-    (named_without_none Ospg x xs orders.by_object h u s (by_object orders xs e a))
+pub AreNamedOf-without_none : (orders : NamedOrders) (x : List ℕ) (xs : List (List ℕ)) → is_named x ≡ false → IsAscending xs → Contains xs x → AreNamedOf xs orders → AreNamedOf (without_entry x xs) orders
+AreNamedOf-without_none orders x xs h u s a = record {
+  subject = named_without_none Spog x xs orders.by_subject h u s a.subject;
+  predicate = named_without_none Posg x xs orders.by_predicate h u s a.predicate;
+  object = named_without_none Ospg x xs orders.by_object h u s a.object;
+}
 
 -- lists
-pub AreNamedOf-union : (old new : NamedOrders) (xs ys named : List (List ℕ)) → old.kept ≡ true → new.kept ≡ old.kept → IsUnion (named_entries xs) named (named_entries ys) → IsUnion old.by_subject (map (turned Spog) named) new.by_subject → IsUnion old.by_predicate (map (turned Posg) named) new.by_predicate → IsUnion old.by_object (map (turned Ospg) named) new.by_object → AreNamedOf xs old → AreNamedOf ys new
-AreNamedOf-union old new xs ys named e k u s p o a =
-    AreNamedOf-made new ys (k ∙ e)
-    (IsOrderOf-union Spog (named_entries xs) old.by_subject named (named_entries ys) new.by_subject (by_subject old xs e a) u s)
-    (IsOrderOf-union Posg (named_entries xs) old.by_predicate named (named_entries ys) new.by_predicate (by_predicate old xs e a) u p)
-    (IsOrderOf-union Ospg (named_entries xs) old.by_object named (named_entries ys) new.by_object (by_object old xs e a) u o)
+pub AreNamedOf-union : (old new : NamedOrders) (xs ys named : List (List ℕ)) → IsUnion (named_entries xs) named (named_entries ys) → IsUnion old.by_subject (map (turned Spog) named) new.by_subject → IsUnion old.by_predicate (map (turned Posg) named) new.by_predicate → IsUnion old.by_object (map (turned Ospg) named) new.by_object → AreNamedOf xs old → AreNamedOf ys new
+AreNamedOf-union old new xs ys named u s p o a = record {
+  subject = IsOrderOf-union Spog (named_entries xs) old.by_subject named (named_entries ys) new.by_subject a.subject u s;
+  predicate = IsOrderOf-union Posg (named_entries xs) old.by_predicate named (named_entries ys) new.by_predicate a.predicate u p;
+  object = IsOrderOf-union Ospg (named_entries xs) old.by_object named (named_entries ys) new.by_object a.object u o;
+}
 
-pub AreNamedOf-difference : (old new : NamedOrders) (xs ys named : List (List ℕ)) → old.kept ≡ true → new.kept ≡ old.kept → IsDifference (named_entries xs) named (named_entries ys) → IsDifference old.by_subject (map (turned Spog) named) new.by_subject → IsDifference old.by_predicate (map (turned Posg) named) new.by_predicate → IsDifference old.by_object (map (turned Ospg) named) new.by_object → AreNamedOf xs old → AreNamedOf ys new
-AreNamedOf-difference old new xs ys named e k u s p o a =
-    AreNamedOf-made new ys (k ∙ e)
-    (IsOrderOf-difference Spog (named_entries xs) old.by_subject named (named_entries ys) new.by_subject (by_subject old xs e a) u s)
-    (IsOrderOf-difference Posg (named_entries xs) old.by_predicate named (named_entries ys) new.by_predicate (by_predicate old xs e a) u p)
-    (IsOrderOf-difference Ospg (named_entries xs) old.by_object named (named_entries ys) new.by_object (by_object old xs e a) u o)
+pub AreNamedOf-difference : (old new : NamedOrders) (xs ys named : List (List ℕ)) → IsDifference (named_entries xs) named (named_entries ys) → IsDifference old.by_subject (map (turned Spog) named) new.by_subject → IsDifference old.by_predicate (map (turned Posg) named) new.by_predicate → IsDifference old.by_object (map (turned Ospg) named) new.by_object → AreNamedOf xs old → AreNamedOf ys new
+AreNamedOf-difference old new xs ys named u s p o a = record {
+  subject = IsOrderOf-difference Spog (named_entries xs) old.by_subject named (named_entries ys) new.by_subject a.subject u s;
+  predicate = IsOrderOf-difference Posg (named_entries xs) old.by_predicate named (named_entries ys) new.by_predicate a.predicate u p;
+  object = IsOrderOf-difference Ospg (named_entries xs) old.by_object named (named_entries ys) new.by_object a.object u o;
+}
 
 -- the order that a scan uses has all entries, or those of named graphs
-pub held_by_used : (subject predicate object : Option ℕ) (kept : Bool) (xs : List (List ℕ)) → held_by (order_used subject predicate object) kept xs ≡ xs
-held_by_used None None None kept xs = refl
-held_by_used (Some s) None None kept xs = refl
-held_by_used (Some s) (Some p) None kept xs = refl
-held_by_used (Some s) (Some p) (Some o) kept xs = refl
-held_by_used None (Some p) None kept xs = refl
-held_by_used None (Some p) (Some o) kept xs = refl
-held_by_used None None (Some o) kept xs = refl
-held_by_used (Some s) None (Some o) kept xs = refl
+pub held_by_used : (subject predicate object : Option ℕ) (xs : List (List ℕ)) → held_by (order_used subject predicate object) xs ≡ xs
+held_by_used None None None xs = refl
+held_by_used (Some s) None None xs = refl
+held_by_used (Some s) (Some p) None xs = refl
+held_by_used (Some s) (Some p) (Some o) xs = refl
+held_by_used None (Some p) None xs = refl
+held_by_used None (Some p) (Some o) xs = refl
+held_by_used None None (Some o) xs = refl
+held_by_used (Some s) None (Some o) xs = refl
 
-pub held_by_named : (subject predicate object : Option ℕ) (kept : Bool) (xs : List (List ℕ)) → kept ≡ true → held_by (named_order_used subject predicate object) kept xs ≡ named_entries xs
-held_by_named None None None kept xs e = held_all kept xs e
-held_by_named (Some s) None None kept xs e = held_all kept xs e
-held_by_named (Some s) (Some p) None kept xs e = held_all kept xs e
-held_by_named (Some s) (Some p) (Some o) kept xs e = held_all kept xs e
-held_by_named None (Some p) None kept xs e = held_all kept xs e
-held_by_named None (Some p) (Some o) kept xs e = held_all kept xs e
-held_by_named None None (Some o) kept xs e = held_all kept xs e
-held_by_named (Some s) None (Some o) kept xs e = held_all kept xs e
+pub held_by_named : (subject predicate object : Option ℕ) (xs : List (List ℕ)) → held_by (named_order_used subject predicate object) xs ≡ named_entries xs
+held_by_named None None None xs = refl
+held_by_named (Some s) None None xs = refl
+held_by_named (Some s) (Some p) None xs = refl
+held_by_named (Some s) (Some p) (Some o) xs = refl
+held_by_named None (Some p) None xs = refl
+held_by_named None (Some p) (Some o) xs = refl
+held_by_named None None (Some o) xs = refl
+held_by_named (Some s) None (Some o) xs = refl
 
-pub order_of_used : (subject predicate object : Option ℕ) (used : Permutation) (xs ys : List (List ℕ)) (kept : Bool) → used ≡ order_used subject predicate object → IsOrderOf used (held_by used kept xs) ys → IsOrderOf (order_used subject predicate object) xs ys
-order_of_used subject predicate object used xs ys kept e o =
-    subst (λ r. IsOrderOf (order_used subject predicate object) r ys) (held_by_used subject predicate object kept xs) (subst (λ k. IsOrderOf k (held_by k kept xs) ys) e o)
+pub order_of_used : (subject predicate object : Option ℕ) (used : Permutation) (xs ys : List (List ℕ)) → used ≡ order_used subject predicate object → IsOrderOf used (held_by used xs) ys → IsOrderOf (order_used subject predicate object) xs ys
+order_of_used subject predicate object used xs ys e o =
+    subst (λ r. IsOrderOf (order_used subject predicate object) r ys) (held_by_used subject predicate object xs) (subst (λ k. IsOrderOf k (held_by k xs) ys) e o)
 
-pub order_of_named : (subject predicate object : Option ℕ) (used : Permutation) (xs ys : List (List ℕ)) (kept : Bool) → kept ≡ true → used ≡ named_order_used subject predicate object → IsOrderOf used (held_by used kept xs) ys → IsOrderOf (named_order_used subject predicate object) (named_entries xs) ys
-order_of_named subject predicate object used xs ys kept h e o =
-    subst (λ r. IsOrderOf (named_order_used subject predicate object) r ys) (held_by_named subject predicate object kept xs h) (subst (λ k. IsOrderOf k (held_by k kept xs) ys) e o)
+pub order_of_named : (subject predicate object : Option ℕ) (used : Permutation) (xs ys : List (List ℕ)) → used ≡ named_order_used subject predicate object → IsOrderOf used (held_by used xs) ys → IsOrderOf (named_order_used subject predicate object) (named_entries xs) ys
+order_of_named subject predicate object used xs ys e o =
+    subst (λ r. IsOrderOf (named_order_used subject predicate object) r ys) (held_by_named subject predicate object xs) (subst (λ k. IsOrderOf k (held_by k xs) ys) e o)
 
 pub scan_agrees_named : (subject predicate object : Option ℕ) (xs ys : List (List ℕ)) → ((x : List ℕ) → Contains xs x → IsEntry x) → IsAscending xs → IsOrderOf (named_order_used subject predicate object) (named_entries xs) ys → IsPermutation (agreeing_named subject predicate object xs) (map (restored (named_order_used subject predicate object)) (beginning (named_prefix_of subject predicate object) ys))
 scan_agrees_named subject predicate object xs ys four u o =
     found_agree (named_order_used subject predicate object) (named_prefix_of subject predicate object) _ (named_entries xs) ys
     (λ x c. begins-named subject predicate object x (four x (member_of_filter is_named x xs c).0).four) (IsAscending-filter is_named xs u) o
 
--- the room of all orders
-pub room_left : (a b n : ℕ) (old new : NamedOrders) → KeepsRoom old new n → a ≤ b + n → least_room a old ≤ least_room b new + n
-room_left a b n old new k h = at_kept old.kept new.kept k.same k.most
-  where
-    at_kept : (r s : Bool) → s ≡ r → (r ≡ true → old.spare ≤ new.spare + n) → cond r (min a old.spare) a ≤ cond s (min b new.spare) b + n
-    at_kept true true e m = let f = m refl in omega arith
-    at_kept false false e m = h
-    at_kept true false e m = absurd (false≢true e)
-    at_kept false true e m = absurd (false≢true (sym e))
+-- how many entries are of named graphs
+pub filter_none : (k : List (List ℕ)) → All (λ e. is_named e ≡ false) k → named_entries k ≡ []
+filter_none [] d = refl
+filter_none (x ∷ xs) d =
+    ap (λ b. cond b (x ∷ named_entries xs) (named_entries xs)) (All-head (λ e. is_named e ≡ false) x xs d) ∙ filter_none xs (All-tail (λ e. is_named e ≡ false) x xs d)
 
-pub room_enough : (a n : ℕ) (orders : NamedOrders) → n ≤ a → HasRoom orders n → n ≤ least_room a orders
-room_enough a n orders h r = at_kept orders.kept refl
-  where
-    at_kept : (b : Bool) → orders.kept ≡ b → n ≤ cond b (min a orders.spare) a
-    at_kept true e = let f = r e in omega arith
-    at_kept false e = h
+pub filter_all : (k : List (List ℕ)) → All (λ e. is_named e ≡ true) k → named_entries k ≡ k
+filter_all [] d = refl
+filter_all (x ∷ xs) d =
+    ap (λ b. cond b (x ∷ named_entries xs) (named_entries xs)) (All-head (λ e. is_named e ≡ true) x xs d) ∙ ap (λ r. x ∷ r) (filter_all xs (All-tail (λ e. is_named e ≡ true) x xs d))
 
-pub room_has : (a n : ℕ) (orders : NamedOrders) → n ≤ least_room a orders → HasRoom orders n
-room_has a n orders h e = let f : n ≤ min a orders.spare = subst (λ b. n ≤ cond b (min a orders.spare) a) e h in omega arith
+pub named_count-permutation : (xs ys : List (List ℕ)) → IsPermutation xs ys → length (named_entries ys) ≡ length (named_entries xs)
+named_count-permutation xs ys p =
+    length-filter is_named ys ∙ sum_by-IsPermutation (λ y. cond (is_named y) 1 0) xs ys p ∙ sym (length-filter is_named xs)
 
-pub room_first : (a n : ℕ) (orders : NamedOrders) → n ≤ least_room a orders → n ≤ a
-room_first a n orders h = at_kept orders.kept h
-  where
-    at_kept : (b : Bool) → n ≤ cond b (min a orders.spare) a → n ≤ a
-    at_kept true g = omega arith
-    at_kept false g = g
+pub named_count-parted : (xs all : List (List ℕ)) (k : ℕ) → IsPermutation xs all → All (λ e. is_named e ≡ false) (take k all) → All (λ e. is_named e ≡ true) (drop k all) → length (drop k all) ≡ length (named_entries xs)
+named_count-parted xs all k p d n =
+    let parts : named_entries all ≡ drop k all =
+    ap named_entries (sym (take-append-drop k all)) ∙ filter-append is_named (take k all) (drop k all)
+    ∙ ap (λ r. r ++ named_entries (drop k all)) (filter_none (take k all) d) ∙ filter_all (drop k all) n in
+    sym (ap length parts) ∙ named_count-permutation xs all p

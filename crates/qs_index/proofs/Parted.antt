@@ -1,10 +1,11 @@
 -- A list whose entries of the default graph are moved to the front, as far as a loop came.
-use Rattle.std.proofs.Common.{◌≡◌, ◌≢◌, ℕ, ◌+◌, ◌≤◌, ◌<◌, Bool, true, false, List, [], length, get_or, take, drop, length-take, length-drop, ap, sym, ◌∙◌, subst, arith, ⊎_elim}
+use Rattle.std.proofs.Common.{◌≡◌, ◌≢◌, ℕ, ◌+◌, ◌≤◌, ◌<◌, Bool, true, false, cond, List, [], length, get_or, take, drop, length-take, length-drop, ap, sym, ◌∙◌, subst, arith, ⊎_elim}
 use Rattle.std.specs.List.{All, AllWithin, SwappedAt}
 use Rattle.std.proofs.lemmas.Bool.Decides.{eqb_tells}
 use Rattle.std.proofs.lemmas.List.{get_or_default, get_or-take, get_or-drop}
 use Rattle.std.proofs.lemmas.List.Elements.{All-from_get_or}
-use Rattle.qs_index.specs.Graph.{is_named}
+use Rattle.std.proofs.lemmas.List.Filters.{length-filter_more}
+use Rattle.qs_index.specs.Graph.{is_named, named_entries}
 
 abbrev pub IsKind : Bool → List ℕ → Type 0
 IsKind b entry = is_named entry ≡ b
@@ -37,3 +38,7 @@ all_front b xs k f = All-from_get_or (IsKind b) (take k xs) [] (λ j l. let n = 
 
 pub all_back : (b : Bool) (xs : List (List ℕ)) (k i : ℕ) → length xs ≤ i → AllWithin (IsKind b) xs k i → All (IsKind b) (drop k xs)
 all_back b xs k i h f = All-from_get_or (IsKind b) (drop k xs) [] (λ j l. let n = length-drop k xs in subst (IsKind b) (sym (get_or-drop k xs j [])) (f (k + j) [] (omega arith) (omega arith)))
+
+-- how many of the front are of named graphs, with one more
+pub named_count_more : (xs : List (List ℕ)) (i : ℕ) (b : Bool) → i < length xs → b ≡ is_named (get_or xs i []) → length (named_entries (take (i + 1) xs)) ≡ length (named_entries (take i xs)) + cond b 1 0
+named_count_more xs i b h e = length-filter_more is_named xs i [] h ∙ ap (λ t. length (named_entries (take i xs)) + cond t 1 0) (sym e)

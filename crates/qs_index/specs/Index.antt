@@ -1,15 +1,15 @@
-use Rattle.std.specs.Prelude.{ℕ, Bool, List}
+use Rattle.std.specs.Prelude.{ℕ, List}
 use Rattle.std.specs.List.{Contains}
 use Rattle.qs_index.specs.Entry.{IsEntry}
 use Rattle.qs_index.specs.OrderOf.{IsOrderOf}
 use Rattle.qs_index.specs.Named.{NamedOrders, AreNamedOf}
 use Rattle.qs_index.specs.declared.permutation.Permutation.TheVariants.{Gspo, Gpos, Gosp}
 
--- an ascending list of entries, how many inserts need no memory, and whether there are orders of the named graphs
+-- an ascending list of entries, how many inserts need no memory, and how many of entries of named graphs need none in the orders of these
 pub record IndexState : Type 0 where
   pub entries : List (List ℕ)
   pub spare : ℕ
-  pub has_named : Bool
+  pub named_spare : ℕ
 
 -- orders of one set of entries: three of all, and those of the named graphs
 pub record IsOneSet (gspo gpos gosp : List (List ℕ)) (named : NamedOrders) : Type 0 where

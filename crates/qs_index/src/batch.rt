@@ -4,7 +4,7 @@ ghost use Rattle.std.specs.List.{All};
 ghost use Rattle.std.specs.List.Sorted.{IsPermutation};
 ghost use Rattle.qs_index.specs.Entries.{IsUnion, IsDifference};
 ghost use Rattle.qs_index.specs.Entry.{IsEntry};
-ghost use Rattle.qs_index.specs.Graph.{is_named};
+ghost use Rattle.qs_index.specs.Graph.{is_named, named_entries};
 ghost use Rattle.qs_index.specs.Permutation.{turned};
 
 use crate::entry::is_named;
@@ -52,4 +52,17 @@ pub fn default_first(entries: &mut [[u32; 4]]) -> usize
         }
     }
     first
+}
+
+/// How many of the entries are of named graphs.
+pub fn count_named(entries: &[[u32; 4]]) -> usize
+    ensures { result ≡ length (named_entries entries.now) }
+{
+    let mut count = 0;
+    for i in 0..entries.len() {
+        if is_named(&entries[i]) {
+            count += 1;
+        }
+    }
+    count
 }

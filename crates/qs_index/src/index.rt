@@ -1,4 +1,4 @@
-//! The set of entries in three orders, and in three of the named graphs where they are asked for.
+//! The set of entries in three orders, and that of the entries of named graphs in three more.
 ghost use Rattle.std.specs.Prelude.{◌≡◌, ℕ, ◌+◌, ◌<◌, ◌≤◌, ◌^◌, ◌↔◌, min, Bool, true, false, List, [], ◌∷◌, length, map, IsTrue, IfSome, IfNone};
 ghost use Rattle.std.specs.Bool.{OnTrue, OnFalse};
 ghost use Rattle.std.specs.Result.{OnOk};
@@ -7,9 +7,9 @@ ghost use Rattle.std.specs.List.Sorted.{IsPermutation};
 ghost use Rattle.qs_index.specs.Agreeing.{agreeing, agreeing_named};
 ghost use Rattle.qs_index.specs.Entries.{IsUnion, IsDifference};
 ghost use Rattle.qs_index.specs.Entry.{IsEntry, IsAscending, with_entry, without_entry};
-ghost use Rattle.qs_index.specs.Graph.{graph_of, named_entries, IsNextGraph};
+ghost use Rattle.qs_index.specs.Graph.{graph_of, is_named, named_entries, IsNextGraph};
 ghost use Rattle.qs_index.specs.Index.{IndexState, IsOneSet};
-ghost use Rattle.qs_index.specs.Named.{held_by, least_room};
+ghost use Rattle.qs_index.specs.Named.{held_by};
 ghost use Rattle.qs_index.specs.OrderOf.{IsOrderOf};
 ghost use Rattle.qs_index.specs.Permutation.{order_used, named_order_used, turned};
 
@@ -24,9 +24,9 @@ use crate::search::NOWHERE;
 use std::alloc::{AllocError, Global};
 use std::marker::Model;
 
-/// A set of entries `[graph, subject, predicate, object]`, and how many inserts need no memory. Graph number 0 is the default
-/// graph. An index has three more orders of the named graphs where it is made with them. Contracts see the set as its ascending list,
-/// so equal lists are equal sets.
+/// A set of entries `[graph, subject, predicate, object]`, how many inserts need no memory, and how many of entries of named graphs
+/// need none in the orders of these. Graph number 0 is the default graph. All entries stand in three orders, and those of named graphs
+/// in three more. Contracts see the set as its ascending list, so equal lists are equal sets.
 #[derive(Drop)]
 pub struct Index {
     gspo: Order,
@@ -38,66 +38,58 @@ pub struct Index {
 impl Model for Index {
     ghost Value = { IndexState };
 
-    ghost view = { λ s. record { entries = s.gspo.entries; spare = least_room (min s.gspo.spare (min s.gpos.spare s.gosp.spare)) s.named; has_named = s.named.kept } };
+    ghost view = { λ s. record { entries = s.gspo.entries; spare = min s.gspo.spare (min s.gpos.spare s.gosp.spare); named_spare = s.named.spare } };
 
     ghost invariant = { λ s. IsOneSet s.gspo.entries s.gpos.entries s.gosp.entries s.named };
 }
 
 impl Index {
-    fn made(alloc: Global, has_named: bool) -> Index
+    /// An index without entries. It takes no memory.
+    pub fn new(alloc: Global) -> Index
         ensures entries { result.entries ≡ [] }
         ensures spare { result.spare ≡ 0 }
-        ensures named { result.has_named ≡ has_named }
+        ensures named_spare { result.named_spare ≡ 0 }
     {
         Index {
             gspo: Order::new(alloc),
             gpos: Order::new(alloc),
             gosp: Order::new(alloc),
-            named: Named::new(alloc, has_named),
+            named: Named::new(alloc),
         }
     }
 
-    /// An index without entries, in three orders. It takes no memory.
-    pub fn new(alloc: Global) -> Index
-        ensures entries { result.entries ≡ [] }
-        ensures spare { result.spare ≡ 0 }
-        ensures named { result.has_named ≡ false }
-    {
-        Index::made(alloc, false)
-    }
-
-    /// An index without entries, with orders of the named graphs, too, for scans of all of these. It takes no memory.
-    pub fn with_named(alloc: Global) -> Index
-        ensures entries { result.entries ≡ [] }
-        ensures spare { result.spare ≡ 0 }
-        ensures named { result.has_named ≡ true }
-    {
-        Index::made(alloc, true)
-    }
-
-    /// Whether there are orders of the named graphs.
-    pub fn has_named(&self) -> bool
-        ensures { result ≡ self.now.has_named }
-    {
-        self.named.is_kept()
-    }
-
-    /// Makes room for `n` inserts. A refusal leaves the entries, and no less room than there was.
+    /// Makes room for `n` inserts, of entries of any graphs. A refusal leaves the entries, and no less room than there was.
     pub fn reserve(&mut self, n: u64) -> Result<(), AllocError>
         ensures entries { self.new.entries ≡ self.old.entries }
         ensures kept { self.old.spare ≤ self.new.spare }
+        ensures named_kept { self.old.named_spare ≤ self.new.named_spare }
         ensures ok { OnOk result (n ≤ self.new.spare) }
-        ensures named { self.new.has_named ≡ self.old.has_named }
+        ensures named_ok { OnOk result (n ≤ self.new.named_spare) }
     {
-        self.gspo.reserve(n)?;
-        self.gpos.reserve(n)?;
-        self.gosp.reserve(n)?;
-        self.named.reserve(n)
+        self.reserve_for(n, n)
+    }
+
+    /// Makes room for so many inserts, of which so many are of entries of named graphs. Where there are none, nothing is set aside for
+    /// them. A refusal leaves the entries, and no less room than there was.
+    pub fn reserve_for(&mut self, entries: u64, named: u64) -> Result<(), AllocError>
+        ensures entries { self.new.entries ≡ self.old.entries }
+        ensures kept { self.old.spare ≤ self.new.spare }
+        ensures named_kept { self.old.named_spare ≤ self.new.named_spare }
+        ensures ok { OnOk result (entries ≤ self.new.spare) }
+        ensures named_ok { OnOk result (named ≤ self.new.named_spare) }
+        ensures none { entries ≡ 0 → self.new.spare ≡ self.old.spare }
+        ensures named_none { named ≡ 0 → self.new.named_spare ≡ self.old.named_spare }
+    {
+        self.gspo.reserve(entries)?;
+        self.gpos.reserve(entries)?;
+        self.gosp.reserve(entries)?;
+        self.named.reserve(named)
     }
 
     /// Puts an entry in, and tells whether it is new. It takes no memory, and asks that there is room.
     pub fn insert(&mut self, entry: [u32; 4]) -> bool
-        requires { 0 < self.old.spare }
+        requires room { 0 < self.old.spare }
+        requires named_room { is_named entry ≡ true → 0 < self.old.named_spare }
         ensures new { IsTrue result ↔ (¬ Contains self.old.entries entry) }
         ensures stood { OnFalse result (Contains self.old.entries entry) }
         ensures added { OnTrue result (self.new.entries ≡ with_entry entry self.old.entries) }
@@ -105,7 +97,7 @@ impl Index {
         ensures kept { OnFalse result (self.new.entries ≡ self.old.entries) }
         ensures ascending { IsAscending self.new.entries }
         ensures spare { self.old.spare ≤ self.new.spare + 1 }
-        ensures named { self.new.has_named ≡ self.old.has_named }
+        ensures named_spare { self.old.named_spare ≤ self.new.named_spare + 1 }
     {
         if !self.gspo.insert(entry) {
             return false;
@@ -119,11 +111,12 @@ impl Index {
     /// Puts all of `entries` in, and leaves them in some order: they are sorted for each order before they are put there, which makes
     /// this the fast way to load many. It takes no memory, and asks that there is room.
     pub fn insert_all(&mut self, entries: &mut [[u32; 4]])
-        requires { length entries.old ≤ self.old.spare }
+        requires room { length entries.old ≤ self.old.spare }
+        requires named_room { length (named_entries entries.old) ≤ self.old.named_spare }
         ensures union { IsUnion self.old.entries entries.old self.new.entries }
         ensures spare { self.old.spare ≤ self.new.spare + length entries.old }
+        ensures named_spare { self.old.named_spare ≤ self.new.named_spare + length (named_entries entries.old) }
         ensures permutation { IsPermutation entries.old entries.new }
-        ensures named { self.new.has_named ≡ self.old.has_named }
     {
         insert_turned(&mut self.gspo, Permutation::Gspo, entries);
         insert_turned(&mut self.gpos, Permutation::Gpos, entries);
@@ -139,7 +132,7 @@ impl Index {
         ensures kept { OnFalse result (self.new.entries ≡ self.old.entries) }
         ensures ascending { IsAscending self.new.entries }
         ensures spare { self.old.spare ≤ self.new.spare }
-        ensures named { self.new.has_named ≡ self.old.has_named }
+        ensures named_spare { self.old.named_spare ≤ self.new.named_spare }
     {
         if !self.gspo.remove(entry) {
             return false;
@@ -155,8 +148,8 @@ impl Index {
     pub fn remove_all(&mut self, entries: &mut [[u32; 4]])
         ensures difference { IsDifference self.old.entries entries.old self.new.entries }
         ensures spare { self.old.spare ≤ self.new.spare }
+        ensures named_spare { self.old.named_spare ≤ self.new.named_spare }
         ensures permutation { IsPermutation entries.old entries.new }
-        ensures named { self.new.has_named ≡ self.old.has_named }
     {
         remove_turned(&mut self.gspo, Permutation::Gspo, entries);
         remove_turned(&mut self.gpos, Permutation::Gpos, entries);
@@ -171,6 +164,14 @@ impl Index {
         ensures small { result < 2 ^ 72 }
     {
         self.gspo.len()
+    }
+
+    /// How many entries are of named graphs, which is below 2^72, too. It takes no memory, and goes over none.
+    pub fn named_len(&self) -> u128
+        ensures count { result ≡ length (named_entries self.now.entries) }
+        ensures small { result < 2 ^ 72 }
+    {
+        self.named.len()
     }
 
     /// Whether an entry is there. It takes no memory.
@@ -194,7 +195,7 @@ impl Index {
 
     /// The order of a permutation.
     fn order(&self, permutation: Permutation) -> &Order
-        ensures order { IsOrderOf permutation (held_by permutation self.now.has_named self.now.entries) result.now.entries }
+        ensures order { IsOrderOf permutation (held_by permutation self.now.entries) result.now.entries }
         ensures entries { (x : List ℕ) → Contains self.now.entries x → IsEntry x }
         ensures ascending { IsAscending self.now.entries }
     {
@@ -226,7 +227,7 @@ impl Index {
         self.scan_from(NOWHERE, graph, subject, predicate, object)
     }
 
-    /// The same as `scan`, looked for from a place of an earlier scan of the same order (`Scan::place`): where it begins in the same page,
+    /// What `scan` gives, looked for from a place of an earlier scan of the same order (`Scan::place`): where it begins in the same page,
     /// at that place or after it, the search takes two looks for each binary digit of the distance, and two more. Elsewhere it costs
     /// two looks more than that of `scan`. A place is a hint alone: any place gives the same entries.
     pub fn scan_from(
@@ -252,15 +253,13 @@ impl Index {
 
     /// The entries of all named graphs that have the subject, predicate and object that are given, each once. They ascend in the order
     /// POSG where the predicate is the first place that is given or stands before the object, in OSPG where the object is given
-    /// without the predicate, and in SPOG elsewhere: entries that differ in their graph alone follow one another. It asks that the
-    /// index was made with orders of the named graphs.
+    /// without the predicate, and in SPOG elsewhere: entries that differ in their graph alone follow one another.
     pub fn scan_named(
         &self,
         subject: Option<u32>,
         predicate: Option<u32>,
         object: Option<u32>,
     ) -> Scan<'_>
-        requires { IsTrue self.now.has_named }
         ensures agreeing { IsPermutation (agreeing_named subject predicate object self.now.entries) result.rest }
         ensures ascending { IsAscending (map (turned (named_order_used subject predicate object)) result.rest) }
         ensures handed { result.handed ≡ 0 }
@@ -269,7 +268,7 @@ impl Index {
         self.scan_named_from(NOWHERE, subject, predicate, object)
     }
 
-    /// The same as `scan_named`, looked for from a place of an earlier scan of the same order (`Scan::place`): where it begins in the same page,
+    /// What `scan_named` gives, looked for from a place of an earlier scan of the same order (`Scan::place`): where it begins in the same page,
     /// at that place or after it, the search takes two looks for each binary digit of the distance, and two more. Elsewhere it costs
     /// two looks more than that of `scan_named`. A place is a hint alone: any place gives the same entries.
     pub fn scan_named_from(
@@ -279,7 +278,6 @@ impl Index {
         predicate: Option<u32>,
         object: Option<u32>,
     ) -> Scan<'_>
-        requires { IsTrue self.now.has_named }
         ensures agreeing { IsPermutation (agreeing_named subject predicate object self.now.entries) result.rest }
         ensures ascending { IsAscending (map (turned (named_order_used subject predicate object)) result.rest) }
         ensures handed { result.handed ≡ 0 }

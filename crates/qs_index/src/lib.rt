@@ -1,5 +1,5 @@
-//! A set of numbered quads `[graph, subject, predicate, object]`, kept in three orders of sorted pages, and by choice in three more of
-//! the named graphs. A scan of the set hands out the entries that agree with the places that are given, in ascending order, and looks at
+//! A set of numbered quads `[graph, subject, predicate, object]`, kept in three orders of sorted pages, and those of named graphs in
+//! three more. A scan of the set hands out the entries that agree with the places that are given, in ascending order, and looks at
 //! few more entries than it hands out.
 #![tactic(auto)]
 
@@ -18,6 +18,7 @@ pub mod prefix;
 mod scan;
 mod search;
 
+pub use batch::count_named;
 pub use index::Index;
 pub use pages::PagePosition;
 pub use scan::Scan;

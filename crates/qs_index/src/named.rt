@@ -1,11 +1,12 @@
 //! The orders of the named graphs.
-ghost use Rattle.std.specs.Prelude.{◌≡◌, ℕ, ◌≤◌, min, List, [], true, length, map};
+ghost use Rattle.std.specs.Prelude.{◌≡◌, ℕ, ◌+◌, ◌<◌, ◌≤◌, ◌^◌, min, List, [], true, length, map};
 ghost use Rattle.std.specs.Result.{OnOk};
 ghost use Rattle.std.specs.List.{Contains};
 ghost use Rattle.std.specs.List.Sorted.{IsPermutation};
 ghost use Rattle.qs_index.specs.Entries.{IsUnion, IsDifference};
 ghost use Rattle.qs_index.specs.Entry.{IsAscending, with_entry, without_entry};
-ghost use Rattle.qs_index.specs.Named.{NamedOrders, AreNamedOf, HasRoom, KeepsRoom};
+ghost use Rattle.qs_index.specs.Graph.{is_named, named_entries};
+ghost use Rattle.qs_index.specs.Named.{NamedOrders, AreNamedOf};
 ghost use Rattle.qs_index.specs.Permutation.{turned};
 ghost use Rattle.qs_index.specs.declared.permutation.Permutation.TheVariants.{Spog, Posg, Ospg};
 
@@ -16,10 +17,9 @@ use crate::permutation::Permutation;
 use std::alloc::{AllocError, Global};
 use std::marker::Model;
 
-/// Three orders of the entries of named graphs, if they are kept. Where they aren't, they stay empty and cost nothing.
+/// Three orders of the entries of named graphs. They cost nothing where there are none.
 #[derive(Drop)]
 pub struct Named {
-    is_kept: bool,
     pub spog: Order,
     pub posg: Order,
     pub ospg: Order,
@@ -28,54 +28,48 @@ pub struct Named {
 impl Model for Named {
     ghost Value = { NamedOrders };
 
-    ghost view = { λ s. record { kept = s.is_kept; by_subject = s.spog.entries; by_predicate = s.posg.entries; by_object = s.ospg.entries; spare = min s.spog.spare (min s.posg.spare s.ospg.spare) } };
+    ghost view = { λ s. record { by_subject = s.spog.entries; by_predicate = s.posg.entries; by_object = s.ospg.entries; spare = min s.spog.spare (min s.posg.spare s.ospg.spare) } };
 }
 
 impl Named {
     /// Orders without entries.
-    pub fn new(alloc: Global, is_kept: bool) -> Named
-        ensures kept { result.kept ≡ is_kept }
+    pub fn new(alloc: Global) -> Named
         ensures orders { AreNamedOf [] result }
         ensures spare { result.spare ≡ 0 }
     {
         Named {
-            is_kept,
             spog: Order::new(alloc),
             posg: Order::new(alloc),
             ospg: Order::new(alloc),
         }
     }
 
-    /// Whether the orders are kept.
-    pub fn is_kept(&self) -> bool
-        ensures { result ≡ self.now.kept }
-    {
-        self.is_kept
-    }
-
-    /// Makes room for `n` inserts.
+    /// Makes room for `n` inserts. Where `n` is 0 nothing is set aside.
     pub fn reserve(&mut self, n: u64) -> Result<(), AllocError>
         ensures orders { (xs : List (List ℕ)) → AreNamedOf xs self.old → AreNamedOf xs self.new }
-        ensures room { KeepsRoom self.old self.new 0 }
-        ensures ok { OnOk result (HasRoom self.new n) }
+        ensures spare { self.old.spare ≤ self.new.spare }
+        ensures ok { OnOk result (n ≤ self.new.spare) }
+        ensures none { n ≡ 0 → self.new.spare ≡ self.old.spare }
     {
-        if !self.is_kept {
-            return Ok(());
-        }
         self.spog.reserve(n)?;
         self.posg.reserve(n)?;
         self.ospg.reserve(n)
     }
 
+    /// How many entries there are in each order.
+    pub fn len(&self) -> u128
+        ensures count { result ≡ length self.now.by_subject }
+        ensures small { result < 2 ^ 72 }
+    {
+        self.spog.len()
+    }
+
     /// Puts an entry in that isn't there.
     pub fn insert(&mut self, entry: [u32; 4])
-        requires { HasRoom self.old 1 }
+        requires { is_named entry ≡ true → 0 < self.old.spare }
         ensures orders { (xs : List (List ℕ)) → (¬ Contains xs entry) → AreNamedOf xs self.old → AreNamedOf (with_entry entry xs) self.new }
-        ensures room { KeepsRoom self.old self.new 1 }
+        ensures spare { self.old.spare ≤ self.new.spare + 1 }
     {
-        if !self.is_kept {
-            return;
-        }
         if !is_named(&entry) {
             return;
         }
@@ -87,11 +81,8 @@ impl Named {
     /// Takes an entry out that is there.
     pub fn remove(&mut self, entry: [u32; 4])
         ensures orders { (xs : List (List ℕ)) → IsAscending xs → Contains xs entry → AreNamedOf xs self.old → AreNamedOf (without_entry entry xs) self.new }
-        ensures room { KeepsRoom self.old self.new 0 }
+        ensures spare { self.old.spare ≤ self.new.spare }
     {
-        if !self.is_kept {
-            return;
-        }
         if !is_named(&entry) {
             return;
         }
@@ -102,12 +93,11 @@ impl Named {
 
     // Puts entries of named graphs into each order.
     fn insert_each(&mut self, entries: &mut [[u32; 4]])
-        requires kept { self.old.kept ≡ true }
-        requires room { length entries.old ≤ self.old.spare }
+        requires { length entries.old ≤ self.old.spare }
         ensures subject { IsUnion self.old.by_subject (map (turned Spog) entries.old) self.new.by_subject }
         ensures predicate { IsUnion self.old.by_predicate (map (turned Posg) entries.old) self.new.by_predicate }
         ensures object { IsUnion self.old.by_object (map (turned Ospg) entries.old) self.new.by_object }
-        ensures room { KeepsRoom self.old self.new (length entries.old) }
+        ensures spare { self.old.spare ≤ self.new.spare + length entries.old }
         ensures permutation { IsPermutation entries.old entries.new }
     {
         insert_turned(&mut self.spog, Permutation::Spog, entries);
@@ -117,14 +107,11 @@ impl Named {
 
     /// Puts those of `entries` in that are of named graphs, and leaves all in some order.
     pub fn insert_all(&mut self, entries: &mut [[u32; 4]])
-        requires { HasRoom self.old (length entries.old) }
+        requires { length (named_entries entries.old) ≤ self.old.spare }
         ensures orders { (xs ys : List (List ℕ)) → IsUnion xs entries.old ys → AreNamedOf xs self.old → AreNamedOf ys self.new }
-        ensures room { KeepsRoom self.old self.new (length entries.old) }
+        ensures spare { self.old.spare ≤ self.new.spare + length (named_entries entries.old) }
         ensures permutation { IsPermutation entries.old entries.new }
     {
-        if !self.is_kept {
-            return;
-        }
         let first = default_first(entries);
         let (_, named) = entries.split_at_mut(first);
         self.insert_each(named);
@@ -132,11 +119,10 @@ impl Named {
 
     // Takes entries of named graphs out of each order.
     fn remove_each(&mut self, entries: &mut [[u32; 4]])
-        requires kept { self.old.kept ≡ true }
         ensures subject { IsDifference self.old.by_subject (map (turned Spog) entries.old) self.new.by_subject }
         ensures predicate { IsDifference self.old.by_predicate (map (turned Posg) entries.old) self.new.by_predicate }
         ensures object { IsDifference self.old.by_object (map (turned Ospg) entries.old) self.new.by_object }
-        ensures room { KeepsRoom self.old self.new 0 }
+        ensures spare { self.old.spare ≤ self.new.spare }
         ensures permutation { IsPermutation entries.old entries.new }
     {
         remove_turned(&mut self.spog, Permutation::Spog, entries);
@@ -147,12 +133,9 @@ impl Named {
     /// Takes those of `entries` out that are of named graphs, and leaves all in some order.
     pub fn remove_all(&mut self, entries: &mut [[u32; 4]])
         ensures orders { (xs ys : List (List ℕ)) → IsDifference xs entries.old ys → AreNamedOf xs self.old → AreNamedOf ys self.new }
-        ensures room { KeepsRoom self.old self.new 0 }
+        ensures spare { self.old.spare ≤ self.new.spare }
         ensures permutation { IsPermutation entries.old entries.new }
     {
-        if !self.is_kept {
-            return;
-        }
         let first = default_first(entries);
         let (_, named) = entries.split_at_mut(first);
         self.remove_each(named);

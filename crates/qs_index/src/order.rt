@@ -87,12 +87,16 @@ impl Order {
         }
     }
 
-    /// Makes room for `n` inserts.
+    /// Makes room for `n` inserts. Where there are none, nothing is set aside.
     pub fn reserve(&mut self, n: u64) -> Result<(), AllocError>
         ensures entries { self.new.entries ≡ self.old.entries }
         ensures kept { self.old.spare ≤ self.new.spare }
         ensures ok { OnOk result (n ≤ self.new.spare) }
+        ensures none { n ≡ 0 → self.new.spare ≡ self.old.spare }
     {
+        if n == 0 {
+            return Ok(());
+        }
         let due = self.pages.due();
         let wanted = due.checked_add(n as u128 + 127).ok_or(AllocError)? / 128;
         let wanted = usize::try_from(wanted).map_err(|_| AllocError)?;

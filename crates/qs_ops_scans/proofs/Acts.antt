@@ -98,7 +98,7 @@ cell_after (Some c) m a v w act x n l e h =
     ∙ ⊎_elim (λ (q : v ≡ w). let f : cell_at a w ≡ Some c = ap (cell_at a) (sym q) ∙ e in f ∙ sym (after_some (cell_at a w) ((v == w) && nat_lt w (length m)) n c f))
     (λ (ne : v ≢ w). sym (after_false (cell_at a w) n) ∙ ap (λ b. after (cell_at a w) b n) (sym (none_binds m v w ne))) (cases_eq v w)
 
-act_length : (act : Act) (n : ℕ) (a : Cells) → length (act_bound act n a) ≡ length a
+pub act_length : (act : Act) (n : ℕ) (a : Cells) → length (act_bound act n a) ≡ length a
 act_length Pass n a = refl
 act_length (Bind v) n a = length-set a v (Some (Known n))
 act_length AsSubject n a = refl

@@ -1,10 +1,17 @@
 pub mod May
 pub mod Steps
 pub mod Acts
+pub mod Said
+pub mod Givens
 pub mod Scanned
 pub mod Looks
 pub mod Firsts
 pub mod Named
+pub mod Register
+pub mod Parted
+pub mod EachGraph
+pub mod OneName
+pub mod Joined
 pub mod Pairs
 pub mod Collected
 pub mod Spans

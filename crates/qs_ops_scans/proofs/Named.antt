@@ -26,8 +26,8 @@ use Rattle.qs_store.specs.declared.default_graph.DefaultGraph.{DefaultGraph}
 use Rattle.qs_store.proofs.Members.{here, nothing, head_or_tail, there}
 use Rattle.qs_store.proofs.TriplesSaid.{same_number}
 use Rattle.qs_algebra_solutions.specs.Solution.{Solution}
-use Rattle.qs_expr.specs.declared.cell.Cell.TheVariants.{Known}
-use Rattle.qs_expr.specs.Cell.{Cells, row_solution, FitsRow}
+use Rattle.qs_expr.specs.declared.cell.Cell.TheVariants.{Known, Scratch}
+use Rattle.qs_expr.specs.Cell.{Cells, denoted, row_solution, FitsRow}
 use Rattle.qs_expr.specs.Scratch.{IsTable}
 use Rattle.qs_expr.proofs.Finding.{some_of}
 use Rattle.qs_expr.proofs.Rows.{bound_fits, bound_terms}
@@ -68,7 +68,7 @@ named_only name (r ∷ quads) k = at r.graph refl k (named_only name quads)
     at None e c h = on (h c)
     at (Some x) e c h = ⊎_elim (λ (s : x ≡ name). record { quad = r; stands = here r quads; graph = e ∙ ap Some s }) (λ t. on (h t)) (head_or_tail x (filter_map (λ z. z.graph) quads) name c)
 
-name_has : (name : Term) (quads : List Statement) (q : Statement) → Contains quads q → q.graph ≡ Some name → Contains (names_of quads) name
+pub name_has : (name : Term) (quads : List Statement) (q : Statement) → Contains quads q → q.graph ≡ Some name → Contains (names_of quads) name
 name_has name quads q k e = once_has same_term same_term-Decides name (filter_map (λ r. r.graph) quads) (named_has name quads q k e)
 
 name_only : (name : Term) (quads : List Statement) → Contains (names_of quads) name → Named quads name
@@ -135,6 +135,10 @@ unknown_names c name seen h = at (list_any (same_term name) (names_of c.quads)) 
         let w = name_only name c.quads (of_any same_term same_term-Decides name (names_of c.quads) e) in
         let n = number_there c.known name ((seen.knows w.quad w.stands).graph name w.graph) in
         absurd (h n.number n.is)
+
+-- nor does the term of a scratch cell
+pub scratch_names : (c : Content) (table : List Term) (name : Term) (k : ℕ) → IsSeen c → IsTable c.known table → denoted c.known table (Scratch k) ≡ Some name → false ≡ list_any (same_term name) (names_of c.quads)
+scratch_names c table name k seen t e = unknown_names c name seen (λ n f. let g : Known n ≡ Scratch k = t.one (Known n) (Scratch k) name f e in cc)
 
 -- a term without a number names no graph
 pub unnumbered_names : (c : Content) (name : Term) → IsSeen c → number_of c.known name ≡ None → false ≡ list_any (same_term name) (names_of c.quads)

@@ -1,4 +1,5 @@
 pub mod Makes
+pub mod Each
 pub mod Prepared
 pub mod Paths
 pub mod inner

@@ -34,7 +34,7 @@ pub(crate) fn ends_of(pattern: &PathPattern) -> Ends
     }
 }
 
-/// Whether the same variable stands at both ends.
+/// Whether both ends are the same variable.
 pub(crate) fn is_repeated(subject: &Slot, object: &Slot) -> bool
     ensures { result ≡ is_repeated subject.now object.now }
 {

@@ -27,7 +27,8 @@ fn is_at(end: Option<Cell>, cell: Cell) -> bool
 }
 
 /// The end that a path is given: what the text gives, or the row's cell where it is a node; none where no pair has that cell. A term that
-/// is no node leads to nothing but itself, where the text gives it: the end is left open then.
+/// is no node is never given to a path: no pair leads from it, but to itself where the text gives it at the other end. The end is left open
+/// then.
 fn given_end<V: View>(
     view: &V,
     graph: Active,

@@ -228,7 +228,7 @@ pub struct Span {
     pub to: usize,
 }
 
-/// Where the pairs with this key stand among pairs that ascend.
+/// The places of the pairs with this key among pairs that ascend.
 fn span_of(cells: &[(Cell, Cell)], side: Side, key: u64) -> Span
     requires { IsNonDecreasingBy (side_key side) cells.now }
     ensures { IsSpanOf side key cells.now result }

@@ -4,7 +4,7 @@ ghost use Rattle.qs_store.specs.ActiveGraph.{IsSeen};
 
 use qs_store::View;
 
-/// The quads of the view stand once each, and their terms are known.
+/// The quads of the view occur once each, and their terms are known.
 pub fn content_is_lawful<V: View>(view: &V)
     ensures { IsSeen (V.content view.now) }
 {

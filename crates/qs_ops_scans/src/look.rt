@@ -13,7 +13,7 @@ use qs_store::{Active, View};
 pub enum PreparedLook {
     /// In the graph that is active where the plan is evaluated.
     Active,
-    /// In the graph whose name has this number.
+    /// In the graph whose name has this number. It has no triples where no quad is in it.
     Graph(u32),
     /// In a graph whose name the dictionary lacks: it has no triples.
     Unknown,

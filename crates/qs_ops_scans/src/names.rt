@@ -6,6 +6,7 @@ ghost use Rattle.qs_terms.specs.Dataset.{names_of};
 ghost use Rattle.qs_terms.specs.Term.{same_term};
 ghost use Rattle.qs_store.specs.Graphs.{AreGraphs};
 ghost use Rattle.qs_plan_meaning.specs.Stages.{each_named};
+ghost use Rattle.qs_ops_scans.specs.Each.{NamesGraph};
 ghost use Rattle.qs_ops_scans.specs.Makes.{GivesFirst, Makes};
 ghost use Rattle.qs_ops_scans.specs.inner.Names.{HasQuads};
 
@@ -35,6 +36,17 @@ pub fn is_named_graph<V: View>(view: &V, name: &Term) -> bool
     match view.find(name) {
         Some(number) => has_quads(view, number),
         None => false,
+    }
+}
+
+/// Whether the cell's term is the name of a graph (RDF 1.1 Concepts, 4). The term of a scratch cell is not known, so it names none.
+pub fn names_graph<V: View>(view: &V, cell: Cell) -> bool
+    ensures { NamesGraph (V.content view.now) cell result }
+{
+    content_is_lawful(view);
+    match cell {
+        Cell::Known(number) => has_quads(view, number),
+        Cell::Scratch(_) => false,
     }
 }
 

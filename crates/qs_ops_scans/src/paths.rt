@@ -1,4 +1,5 @@
-//! The rows that the pairs of a path make of a row.
+//! The rows that the pairs of a path make of a row. A path is followed from an end that the row binds, and its pairs serve the next row with
+//! the same cells at its ends.
 
 ghost use Rattle.std.specs.Prelude.{◌≡◌, List, take, OnErr};
 ghost use Rattle.qs_terms.specs.declared.term.Term.{Term};

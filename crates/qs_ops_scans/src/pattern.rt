@@ -6,10 +6,10 @@ ghost use Rattle.qs_ops_scans.specs.Prepared.{number_place, place_of, prepared_t
 use qs_algebra_patterns::{Slot, TriplePattern};
 use qs_store::View;
 
-/// What stands in one place of a triple pattern.
+/// What is in one place of a triple pattern.
 #[derive(Clone, Copy)]
 pub enum Place {
-    /// A term that the dictionary lacks: no triple has it.
+    /// A term that the dictionary lacks: no triple has it, and no scan is begun.
     Absent,
     /// The term with this number.
     Number(u32),

@@ -8,7 +8,7 @@ ghost use Rattle.qs_ops_tables.specs.inner.Keys.{IsIndex, Meets, MeetsNone, Pass
 use qs_expr::{Cell, Row};
 use std::alloc::{AllocError, Global};
 
-/// The fewest rows for which there is an index: few rows are soon gone over.
+/// The fewest rows for which there is an index: fewer are gone over one by one.
 const FEWEST: usize = 8;
 
 /// The rows in buckets, by the hashes of their cells at the variables of the key. There are no buckets where there is no index.

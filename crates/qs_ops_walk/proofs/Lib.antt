@@ -11,6 +11,10 @@ mod Still
 mod Walks
 mod Conditions
 mod Steps
+mod Leads
+mod GivenName
+mod FusedSteps
+mod JoinedSteps
 mod Finished
 mod Asides
 mod Readings

@@ -1,7 +1,7 @@
 -- What the stage of a graph's name makes of a row.
-use Rattle.std.proofs.Common.{◌≡◌, ℕ, zero, suc, ◌<◌, ◌≤◌, Bool, true, false, ◌&&◌, List, [], ◌∷◌, length, Option, Some, None, slice_set, if◌then◌else◌, refl, sym, ◌∙◌, ap, arith}
+use Rattle.std.proofs.Common.{◌≡◌, ℕ, zero, suc, ◌<◌, ◌≤◌, Bool, true, false, List, [], ◌∷◌, length, Option, Some, None, slice_set, if◌then◌else◌, refl, sym, ◌∙◌, ap}
 use Rattle.qs_terms.specs.declared.term.Term.{Term}
-use Rattle.qs_algebra_solutions.specs.Solution.{Solution, term_at, unbound, compatible_terms, compatible, first_bound, merge}
+use Rattle.qs_algebra_solutions.specs.Solution.{Solution, term_at, unbound, compatible_terms, first_bound}
 use Rattle.qs_algebra_solutions.specs.Operators.{merges}
 use Rattle.qs_expr.specs.Cell.{Cells, cell_at, denoted, denoted_if, row_solution, FitsRow}
 use Rattle.qs_expr.specs.Scratch.{IsTable, TellsSameTerm}
@@ -13,57 +13,14 @@ use Rattle.qs_ops_program.proofs.Levels.{gives_name}
 use Rattle.qs_ops_walk.specs.declared.settle.Passes.TheVariants.{One}
 use Rattle.qs_ops_walk.specs.inner.Setting.{Setting, known_of, gives_in, graph_in}
 use Rattle.qs_ops_walk.specs.inner.Moves.{IsPassed, one_if}
+use Rattle.qs_ops_scans.proofs.OneName.{merges_named, none_agrees, none_first}
 use Rattle.qs_ops_walk.proofs.Passes.{cell_term, row_length}
 
-none_agrees : (x : Option Term) → compatible_terms x None ≡ true
-none_agrees None = refl
-none_agrees (Some x) = refl
-
-none_first : (x : Option Term) → first_bound x None ≡ x
-none_first None = refl
-none_first (Some x) = refl
-
-compatible_none : (y : Solution) (w : ℕ) → compatible y (unbound w) ≡ true
-compatible_none [] w = refl
-compatible_none (x ∷ y) zero = refl
-compatible_none (x ∷ y) (suc w) = rw (none_agrees x) (compatible_none y w)
-
-merge_none : (y : Solution) (w : ℕ) → w ≤ length y → merge y (unbound w) ≡ y
-merge_none [] zero h = refl
-merge_none [] (suc w) h = absurd (omega arith)
-merge_none (x ∷ y) zero h = refl
-merge_none (x ∷ y) (suc w) h =
-    let a : first_bound x None ≡ x = none_first x in
-    let b : merge y (unbound w) ≡ y = merge_none y w (omega arith) in cc
-
-named_compatible : (y : Solution) (w v : ℕ) (x : Option Term) → v < w → w ≤ length y → compatible y (slice_set (unbound w) v x) ≡ compatible_terms (term_at y v) x
-named_compatible y zero v x h k = absurd (omega arith)
-named_compatible [] (suc w) v x h k = absurd (omega arith)
-named_compatible (a ∷ y) (suc w) zero x h k = rw (compatible_none y w) (and_true (compatible_terms a x))
-  where
-    and_true : (b : Bool) → (b && true) ≡ b
-    and_true true = refl
-    and_true false = refl
-named_compatible (a ∷ y) (suc w) (suc v) x h k = rw (none_agrees a) (named_compatible y w v x (omega arith) (omega arith))
-
-named_merge : (y : Solution) (w v : ℕ) (x : Option Term) → v < w → w ≤ length y → merge y (slice_set (unbound w) v x) ≡ slice_set y v (first_bound (term_at y v) x)
-named_merge y zero v x h k = absurd (omega arith)
-named_merge [] (suc w) v x h k = absurd (omega arith)
-named_merge (a ∷ y) (suc w) zero x h k = ap (λ (u : Solution). first_bound a x ∷ u) (merge_none y w (omega arith))
-named_merge (a ∷ y) (suc w) (suc v) x h k =
-    let b : first_bound a None ≡ a = none_first a in
-    let c : merge y (slice_set (unbound w) v x) ≡ slice_set y v (first_bound (term_at y v) x) = named_merge y w v x (omega arith) (omega arith) in cc
-
-set_own : (y : Solution) (v : ℕ) → slice_set y v (term_at y v) ≡ y
+pub set_own : (y : Solution) (v : ℕ) → slice_set y v (term_at y v) ≡ y
 set_own [] zero = refl
 set_own [] (suc v) = refl
 set_own (a ∷ y) zero = refl
 set_own (a ∷ y) (suc v) = ap (λ (u : Solution). a ∷ u) (set_own y v)
-
--- the merges of a solution with one other
-pub merges_one : (y b : Solution) (c : Bool) → compatible y b ≡ c → merges (b ∷ []) y ≡ (if c then merge y b ∷ [] else [])
-merges_one y b true e = rw e refl
-merges_one y b false e = rw e refl
 
 module _ (s : Setting) (table : List Term) (m : Cells) (v r : ℕ) (h : FitsRow (known_of s) table m) (l : v < s.width) (long : s.width ≤ length m) where
   abbrev known : List Term
@@ -75,12 +32,10 @@ module _ (s : Setting) (table : List Term) (m : Cells) (v r : ℕ) (h : FitsRow 
   given : (c : Bool) (x : Option Term) → denoted_if known table (cell_at m r) ≡ x → compatible_terms (term_at y v) x ≡ c
       → gives_in s (stage.Name v r) y ≡ (if c then slice_set y v (first_bound (term_at y v) x) ∷ [] else [])
   given c x e f =
-      let b : Solution = slice_set (unbound s.width) v x in
       let long_row : s.width ≤ length y = rw (row_length known table m) long in
       gives_name s.width s.content.quads (graph_in s) y v r
       ∙ (ap (λ (z : Option Term). merges (slice_set (unbound s.width) v z ∷ []) y) (cell_term known table m r ∙ e)
-      ∙ (merges_one y b c (named_compatible y s.width v x l long_row ∙ f)
-      ∙ ap (λ (u : Solution). if c then u ∷ [] else []) (named_merge y s.width v x l long_row)))
+      ∙ merges_named y s.width v x c l long_row f)
 
   pub name_none : cell_at m r ≡ None → IsPassed s (stage.Name v r) table m table m One
   name_none e = record {

@@ -1,5 +1,5 @@
 -- What sources give of a row at the stage that they are opened for.
-use Rattle.std.proofs.Common.{◌≡◌, ℕ, suc, ◌+◌, ◌<◌, Bool, true, false, not, if◌then◌else◌, List, [], ◌∷◌, ◌++◌, length, get_or, map, take, drop, Option, Some, None, refl, sym, ◌∙◌, ap, subst}
+use Rattle.std.proofs.Common.{◌≡◌, ℕ, suc, ◌+◌, ◌<◌, Bool, true, false, not, if◌then◌else◌, List, [], ◌∷◌, ◌++◌, length, get_or, map, take, drop, Option, Some, None, refl, sym, ◌∙◌, ap, subst, arith}
 use Rattle.std.proofs.lemmas.List.Sorted.{IsPermutation-map, list_any-IsPermutation}
 use Rattle.std.specs.List.{AllByRecursion, filter, flat_map, list_any}
 use Rattle.qs_terms.specs.Bag.{SameBag}
@@ -50,7 +50,7 @@ use Rattle.qs_ops_walk.proofs.Passes.{serves, serves_fit}
 
 -- ---- what comes of an instruction's items
 
-flows_going : (s : Setting) (code : List Instruction) (next : ℕ) (xs : List Solution) → flows s code (going next xs) ≡ flat_map (flow (gives_in s) code next) xs
+pub flows_going : (s : Setting) (code : List Instruction) (next : ℕ) (xs : List Solution) → flows s code (going next xs) ≡ flat_map (flow (gives_in s) code next) xs
 flows_going s code next [] = refl
 flows_going s code next (x ∷ xs) = ap (λ ys. flow (gives_in s) code next x ++ ys) (flows_going s code next xs)
 
@@ -58,7 +58,7 @@ flows_starts : (s : Setting) (code : List Instruction) (x : Solution) (starts : 
 flows_starts s code x [] = refl
 flows_starts s code x (k ∷ ks) = ap (λ ys. flow (gives_in s) code k x ++ ys) (flows_starts s code x ks)
 
-moves_going : (s : Setting) (code : List Instruction) (next : ℕ) (xs : List Solution) → summed (item_moves s code) (going next xs) ≡ summed (toil (gives_in s) code next) xs
+pub moves_going : (s : Setting) (code : List Instruction) (next : ℕ) (xs : List Solution) → summed (item_moves s code) (going next xs) ≡ summed (toil (gives_in s) code next) xs
 moves_going s code next [] = refl
 moves_going s code next (x ∷ xs) = ap (λ n. (1 + toil (gives_in s) code next x) + n) (moves_going s code next xs)
 
@@ -82,9 +82,10 @@ opens_to s code k i old new m src f l e o =
     let x : Solution = row_solution (known_of s) old m in
     let F : Going → List Solution = λ (y : Going). flow (gives_in s) code y.0 y.1 in
     let a : flow (gives_in s) code (suc k) x ≡ flows s code (instr_items s i x) = flow_at (gives_in s) code k i x f l e ∙ sym (instr_flows s code i x (is_union i.stage) refl) in
-    let b : toil (gives_in s) code (suc k) x ≡ 1 + summed (item_moves s code) (instr_items s i x) = toil_at (gives_in s) code k i x f l e ∙ sym (instr_moved s code i x (is_union i.stage) refl) in record {
+    let b : toil (gives_in s) code (suc k) x ≡ 1 + summed (item_moves s code) (instr_items s i x) = toil_at (gives_in s) code k i x f l e ∙ sym (instr_moved s code i x (is_union i.stage) refl) in
+    let c : summed (item_moves s code) (source_items s new i.next src) ≡ summed (item_moves s code) (instr_items s i x) = summed_same (item_moves s code) (source_items s new i.next src) (instr_items s i x) o.items in record {
       rows = chain _ _ _ (flat_map_same F (source_items s new i.next src) (instr_items s i x) o.items) (same _ _ (sym a));
-      moves = ap (λ n. 1 + n) (summed_same (item_moves s code) (source_items s new i.next src) (instr_items s i x) o.items) ∙ sym b;
+      moves = omega (arith, b, c);
       fits = o.fits;
     }
 

@@ -15,7 +15,7 @@ use Rattle.qs_ops_walk.specs.inner.Setting.{Setting, known_of, gives_in, graph_i
 use Rattle.qs_ops_walk.specs.inner.Coming.{going}
 use Rattle.qs_ops_walk.specs.inner.Moves.{Opens}
 use Rattle.qs_ops_walk.proofs.Bags.{same}
-use Rattle.qs_ops_walk.proofs.Names.{merges_one}
+use Rattle.qs_ops_scans.proofs.OneName.{merges_one}
 use Rattle.qs_ops_walk.proofs.NoUnions.{name_is_not}
 use Rattle.qs_ops_walk.proofs.Passes.{cell_term}
 

@@ -83,6 +83,7 @@ module _ (s : Setting) (old new : List Term) (g : Grows (known_of s) old new) wh
   items_same : (next : ℕ) (x : Source) → FitsSource known old x → source_items s new next x ≡ source_items s old next x
   items_same next (source.Given m) h = ap (going next) (option_same m h)
   items_same next (source.Triple rows) h = ap (going next) (rows_same rows h)
+  items_same next (source.Quads rows) h = ap (going next) (rows_same rows h)
   items_same next (source.Names rows) h = ap (going next) (rows_same rows h)
   items_same next (source.Path rows) h = ap (going next) (rows_same rows h)
   items_same next (source.Probe rows) h = ap (going next) (rows_same rows h)
@@ -92,6 +93,7 @@ module _ (s : Setting) (old new : List Term) (g : Grows (known_of s) old new) wh
   source_still : (x : Source) → FitsSource known old x → FitsSource known new x
   source_still (source.Given m) h = option_still m h
   source_still (source.Triple rows) h = rows_still rows h
+  source_still (source.Quads rows) h = rows_still rows h
   source_still (source.Names rows) h = rows_still rows h
   source_still (source.Path rows) h = rows_still rows h
   source_still (source.Probe rows) h = rows_still rows h

@@ -3,5 +3,6 @@ pub mod Setting
 pub mod Works
 pub mod Coming
 pub mod Moves
+pub mod After
 pub mod Cursor
 pub mod Gathered

@@ -1,8 +1,8 @@
 //! What a walk reads.
 
-ghost use Rattle.std.specs.Prelude.{◌≡◌, List, take, IfOk};
+ghost use Rattle.std.specs.Prelude.{◌≡◌, ◌<◌, ◌≤◌, true, None, List, length, take, IfOk};
 ghost use Rattle.qs_expr_meaning.specs.Meaning.{holds, meaning};
-ghost use Rattle.qs_expr.specs.Cell.{Cells, denoted_if, row_solution, FitsIf, FitsRow};
+ghost use Rattle.qs_expr.specs.Cell.{Cells, cell_at, denoted_if, row_solution, FitsIf, FitsRow};
 ghost use Rattle.qs_expr.specs.Evaluated.{Evaluates, value_at};
 ghost use Rattle.qs_terms.specs.declared.term.Term.{Term as TermValue};
 ghost use Rattle.qs_expr_meaning.specs.declared.expr.Expr.{Expr as ExprValue};
@@ -15,6 +15,7 @@ ghost use Rattle.qs_plan_meaning.specs.Stages.{each_named, looked};
 ghost use Rattle.qs_store.specs.ActiveGraph.{active_graph};
 ghost use Rattle.qs_store.specs.Graphs.{AreGraphs};
 ghost use Rattle.qs_ops_scans.specs.Paths.{ArePairs, Serve};
+ghost use Rattle.qs_ops_scans.specs.Each.{NamesGraph, each_extension, each_joined, misses};
 ghost use Rattle.qs_ops_scans.specs.Makes.{Makes};
 ghost use Rattle.qs_ops_scans.specs.Prepared.{IsGraphOf, prepared_look, prepared_triple};
 ghost use Rattle.qs_ops_walk.specs.inner.Setting.{graph_in, known_of};
@@ -25,8 +26,8 @@ use qs_base::Shared;
 use qs_expr::{Cell, Condition, Row, Scratch, eval};
 use qs_expr_meaning::{Expr, ExprFault};
 use qs_ops_scans::{
-    NameRows, PathPairs, PreparedLook, PreparedTriple, RowEnds, TripleRows, fed_pairs,
-    graph_of_look, name_rows, open_triple, path_pairs,
+    NameRows, PathPairs, PreparedLook, PreparedTriple, QuadRows, RowEnds, TripleRows, fed_pairs,
+    graph_of_look, joined_quad_rows, name_rows, names_graph, open_triple, path_pairs, quad_rows,
 };
 use qs_store::{Active, View};
 use std::alloc::{AllocError, Global};
@@ -61,6 +62,47 @@ impl<'a, V: View> Reader<'a, V> {
             → Makes (known_of self.now) (λ m. extensions p (looked self.now.content.quads (graph_in self.now) place m) m) row result }
     {
         open_triple(self.view, self.active, look, pattern, row)
+    }
+
+    /// The rows that a triple pattern makes of the row in each named graph, whose name the register holds.
+    pub(crate) fn quad_rows(
+        &self,
+        register: usize,
+        pattern: &PreparedTriple,
+        row: Row,
+    ) -> QuadRows<'a>
+        requires apart { misses register pattern.now ≡ true }
+        requires cell { register < length row }
+        ensures { (p : TriplePattern) → pattern.now ≡ prepared_triple (known_of self.now) p → Makes (known_of self.now) (each_extension self.now.content.quads register p) row result }
+    {
+        quad_rows(self.view, register, pattern, row)
+    }
+
+    /// The rows that a triple pattern makes, in each named graph, of the row merged with a variable that holds the graph's name, as the
+    /// register does.
+    pub(crate) fn joined_quad_rows(
+        &self,
+        variable: usize,
+        register: usize,
+        pattern: &PreparedTriple,
+        row: Row,
+    ) -> QuadRows<'a>
+        requires apart { misses register pattern.now ≡ true }
+        requires other { misses variable pattern.now ≡ true }
+        requires cell { register < length row }
+        requires named { variable < self.now.width }
+        requires wide { self.now.width ≤ register }
+        requires free { cell_at row variable ≡ None }
+        ensures { (p : TriplePattern) → pattern.now ≡ prepared_triple (known_of self.now) p → Makes (known_of self.now) (each_joined self.now.content.quads self.now.width variable register p) row result }
+    {
+        joined_quad_rows(self.view, self.width, variable, register, pattern, row)
+    }
+
+    /// Whether the cell's term is the name of a graph.
+    pub(crate) fn names_graph(&self, cell: Cell) -> bool
+        ensures { NamesGraph self.now.content cell result }
+    {
+        names_graph(self.view, cell)
     }
 
     /// The graph in which a stage looks for the row.

@@ -17,7 +17,7 @@ use qs_expr_meaning::Expr;
 use qs_store::View;
 use std::alloc::AllocError;
 
-/// What became of a row before a stage: nothing comes of it, one row does, or the stage is to be opened.
+/// What a stage makes of a row: nothing, one row, or as many as a source gives, which is to be opened.
 #[derive(Clone, Copy)]
 pub(crate) enum Passes {
     Nothing,
@@ -119,7 +119,8 @@ pub(crate) fn pass<V: View>(
     }
 }
 
-/// Takes the row through the stages that make at most one row of it, from the position `next` on. Returns the position where it goes on.
+/// Takes the row through the stages that make at most one row of it, from the position `next` on. These need no source of rows of their own.
+/// Returns the position where the row goes on.
 pub(crate) fn settle<V: View>(
     reader: &Reader<'_, V>,
     scratch: &mut Scratch,

@@ -15,7 +15,7 @@ use crate::spare::{keep, keep_if};
 use crate::work::{Conditions, Starts};
 use qs_base::Shared;
 use qs_expr::{Row, Scratch};
-use qs_ops_scans::{NameRows, PathRows, TripleRows};
+use qs_ops_scans::{NameRows, PathRows, QuadRows, TripleRows};
 use qs_ops_tables::Probe;
 use qs_store::View;
 use std::alloc::AllocError;
@@ -41,6 +41,7 @@ pub(crate) struct Fork {
 pub(crate) enum Source<'a> {
     Given(Option<Row>),
     Triple(TripleRows<'a>),
+    Quads(QuadRows<'a>),
     Names(NameRows),
     Path(PathRows),
     Probe(Probe),
@@ -150,6 +151,7 @@ pub(crate) fn next_of<V: View>(
     let row = match &mut level.source {
         Source::Given(row) => row.take(),
         Source::Triple(rows) => rows.next(reader.alloc, spare)?,
+        Source::Quads(rows) => rows.next(reader.alloc, spare)?,
         Source::Names(rows) => rows.next(reader.alloc, spare)?,
         Source::Path(rows) => rows.next(reader.alloc, spare)?,
         Source::Probe(rows) => rows.next(reader.alloc, spare)?,
@@ -167,6 +169,7 @@ pub(crate) fn drop_source(source: Source<'_>, spare: &mut Vec<Row>) {
     match source {
         Source::Given(row) => keep_if(spare, row),
         Source::Triple(rows) => keep(spare, rows.into_row()),
+        Source::Quads(rows) => keep(spare, rows.into_row()),
         Source::Names(rows) => keep(spare, rows.into_row()),
         Source::Path(rows) => keep(spare, rows.into_row()),
         Source::Probe(probe) => keep(spare, probe.into_row()),

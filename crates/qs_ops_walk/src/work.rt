@@ -14,8 +14,7 @@ use qs_expr::{Cell, Condition, Row, is_same};
 use qs_expr_meaning::Expr;
 use qs_ops_program::Instr;
 use qs_ops_scans::{
-    PathPairs, PreparedLook, PreparedTriple, RowEnds, graph_numbers, is_named_graph, prepare_look,
-    prepare_triple,
+    PathPairs, PreparedLook, PreparedTriple, RowEnds, is_named_graph, prepare_look, prepare_triple,
 };
 use qs_ops_tables::Kept;
 use qs_plan_meaning::{Group, Stage};
@@ -95,11 +94,11 @@ pub(crate) struct Trail<'a> {
     pub(crate) last: Option<EndPairs>,
 }
 
-/// The register that is bound to the names of graphs, and their numbers.
+/// The register that is bound to the names of graphs, and the numbers of all graphs where they are kept.
 #[derive(Drop)]
 pub(crate) struct Naming {
     pub(crate) register: usize,
-    pub(crate) numbers: Shared<Vec<u32>>,
+    pub(crate) numbers: Option<Shared<Vec<u32>>>,
 }
 
 /// What is prepared and kept of a stage.
@@ -211,14 +210,10 @@ fn work_of<'a, V: View>(reader: &Reader<'a, V>, instr: &Instr<'a>) -> Result<Wor
             last: None,
         })),
         Stage::Exists(name) => Ok(Work::Exists(is_named_graph(reader.view, name.get()))),
-        Stage::Names(register) => {
-            let numbers = graph_numbers(reader.view)?;
-            let numbers = Shared::new(reader.alloc, numbers)?;
-            Ok(Work::Names(Naming {
-                register: *register,
-                numbers,
-            }))
-        }
+        Stage::Names(register) => Ok(Work::Names(Naming {
+            register: *register,
+            numbers: None,
+        })),
         Stage::Name(variable, register) => Ok(Work::Name(*variable, *register)),
         Stage::Filter(expr) => {
             let condition = Condition::new(reader.alloc, expr.get(), reader.view)?;

@@ -1,5 +1,8 @@
 //! Closures with both ends open: the path's pairs are found once, and walks followed along them; under `+` from their left ends, else from
 //! each node. From a node that leads to just what the last walk found no walk is followed.
+//!
+//! The pairs are links between numbers, so nothing is looked up or hashed while a walk is followed. They are all in memory, and may be more
+//! than the pairs of the closure. From an end that is given a walk asks the graph instead (`walk.rt`).
 
 ghost use Rattle.std.specs.Prelude.{◌≡◌, ◌≢◌, [], length, None, true, slice_index_or, IfOk, IfSome, OnOk};
 ghost use Rattle.std.specs.List.{list_any};

@@ -92,7 +92,7 @@ impl Links {
         Ok(all)
     }
 
-    /// A place that stands at this one and was reached, if any was.
+    /// A place that a link leads to from this one and that was reached, if any was.
     pub fn reached_from(&self, place: usize, reached: &Reached) -> Option<usize>
         requires place { place < length self.now.next.items }
         requires below { All (AreBelow (length reached.now.rounds.items)) (rows_of self.now.next.items) }
@@ -103,7 +103,7 @@ impl Links {
         reached.any_of(self.next[place].as_slice())
     }
 
-    /// Puts the places that stand at this one at the end of what was reached, each if it isn't there yet.
+    /// Puts the places that links lead to from this one at the end of what was reached, each if it isn't there yet.
     pub fn lead_on(&self, place: usize, found: &mut Reached) -> Result<(), AllocError>
         requires place { place < length self.now.next.items }
         requires below { All (AreBelow (length found.old.rounds.items)) (rows_of self.now.next.items) }

@@ -36,7 +36,7 @@ fn is_of<V: View>(view: &V, number: u32, iri: &Iri) -> bool
     }
 }
 
-/// The number of the IRI, where it is among these.
+/// The number of the IRI, where it is among these. It is compared with the terms of the numbers, so these need no invariant.
 fn number_among<V: View>(view: &V, kept: &[u32], iri: &Iri) -> Option<u32>
     ensures { IfSome result (λ n. number_of (V.content view.now).known (term_is.Iri iri.now) ≡ Some n) }
 {

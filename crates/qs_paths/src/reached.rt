@@ -10,8 +10,8 @@ ghost use Rattle.qs_paths.specs.inner.Links.{nodes_at};
 use crate::node::NodePair;
 use std::alloc::{AllocError, Global};
 
-/// Numbers in the order in which they were reached, and for each number the last round in which it was. A walk is a round, so that what one
-/// reached needn't be taken back before the next.
+/// Numbers in the order in which they were reached, and for each number the last round in which it was. Each walk is a round of its own, so
+/// no mark is taken back before the next walk.
 #[derive(Drop)]
 pub struct Reached {
     pub numbers: Vec<usize>,

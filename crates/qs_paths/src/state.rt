@@ -1,4 +1,5 @@
-//! The ways in which pairs come: found whole, as a scan finds them, or as a walk does.
+//! The ways in which pairs are found: whole, as a scan finds them, or as a walk does. Paths are followed over the numbers of terms: no term of
+//! a node is read.
 
 ghost use Rattle.std.specs.Prelude.{◌≡◌, ◌≢◌, List, None, Some, drop, IfNone, IfOk, IfSome, IsErr};
 ghost use Rattle.qs_terms.specs.declared.term.Term.{Term};

@@ -86,7 +86,7 @@ impl<'a, V: View> Pairs<'a, V> {
         }
     }
 
-    /// The next pair, wherever it comes from. It stands apart from what each pair that was found before goes through.
+    /// The next pair, wherever it is found. It is a function of its own, since a pair that was found before doesn't need it.
     #[inline(never)]
     fn find_next(&mut self) -> Option<Result<(Cell, Cell), QFault>>
         ensures { GivesPair V.content V.default_seen self.old result self.new }

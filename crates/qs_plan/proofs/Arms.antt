@@ -16,7 +16,7 @@ use Rattle.qs_plan_meaning.specs.declared.stage.Stage.{Stage}
 use Rattle.qs_plan_meaning.specs.declared.stage.Stage.TheVariants as stage
 use Rattle.qs_plan.specs.inner.Lays.{Within, Makes, Lays, LaysStep, IsJoin, joined_with, joined_with_all, all_stepped, all_kept}
 use Rattle.qs_plan_meaning.specs.Stages.{register_of}
-use Rattle.qs_plan.proofs.EachGraph.{each_lays}
+use Rattle.qs_plan.proofs.EachGraph.{bound_lays, each_lays}
 use Rattle.qs_plan.proofs.Feeding.{fed_step}
 use Rattle.qs_plan.proofs.Laying.{Begins, nothing_lays, values_lays, apart_lays, join_step, left_join_step, minus_step, extend_step, step_more, filter_more, none_kept, joins_lay, none_united, union_lays, graph_lays}
 
@@ -98,6 +98,13 @@ module _ (first : Bool) (width : ℕ) (place : Look) (from next : ℕ) (ss : Lis
 -- a flag that is known
 pub at_flag : (first flag : Bool) (width : ℕ) (place : Look) (from next : ℕ) (ss : List Stage) (f : Makes) → first ≡ flag → Lays flag width place from next ss f → Lays first width place from next ss f
 at_flag first flag width place from next ss f e l = subst (λ (b : Bool). Lays b width place from next ss f) (sym e) l
+
+-- a named graph's name before what is laid in it
+pub bound_arm : (whole : Bool) (width : ℕ) (place : Look) (from next : ℕ) (ss : List Stage) (v : ℕ) (part : PatternNode) (mid inner : ℕ) (ts : List Stage) → width ≤ from → mid ≡ from + 1 → Lays false width (look.Register from) mid inner ts (joined_with width part)
+    → (ss ≡ stage.Names from ∷ stage.Name v from ∷ ts) × (next ≡ inner) → Lays whole width place from next ss (joined_with width (pattern.EachGraph v part))
+bound_arm whole width place from next ss v part mid inner ts named m l e =
+    lays_at whole width place from next ss (joined_with width (pattern.EachGraph v part)) inner ss e.1 refl
+    (bound_lays false width from inner ts v part named (subst (λ (k : ℕ). Lays false width (look.Register from) k inner ts (joined_with width part)) m l) refl whole place ss e.0)
 
 -- the register of a graph's name
 pub register_within : (width from mid : ℕ) → width ≤ from → mid ≡ from + 1 → Within width mid (look.Register from)

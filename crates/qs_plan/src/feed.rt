@@ -33,9 +33,12 @@ pub struct Feed {
     pub needs: Vec<usize>,
 }
 
-/// Whether it would cost too much to find what the steps need.
+/// Whether it would cost too much to find what the steps need. A part alone needs nothing.
 pub(crate) fn are_too_many(width: usize, steps: &[Step]) -> bool {
-    steps.len() > 1 && (steps.len() > MOST_STEPS || width > MOST_VARIABLES)
+    match steps {
+        [] | [Step::Join(_)] => false,
+        _ => steps.len() > MOST_STEPS || width > MOST_VARIABLES,
+    }
 }
 
 /// Whether so many stages are looked at.

@@ -1,6 +1,6 @@
 //! Which patterns may be evaluated again for each row at a small cost: triples, short tables, groups, unions and named graphs of them, and
-//! groups that have such an OPTIONAL. A closure or a negated set is left out: where the row binds none of its ends, all its pairs would be found anew for each row. So is a
-//! group that is evaluated by itself: it would be anew for each row.
+//! groups that have such an OPTIONAL. A closure or a negated set is left out: where the row binds none of its ends, all its pairs would be
+//! found for each row. So is a part that is evaluated by itself: that would be done for each row.
 
 use crate::few::is_short;
 use qs_algebra_patterns::{BasicPattern, PatternNode, Step};
@@ -48,7 +48,7 @@ fn is_flat(part: &PatternNode) -> bool {
         PatternNode::Group(steps, _) => are_flat_steps(steps.as_slice()),
         PatternNode::Union(parts) => are_flat(parts.as_slice()),
         PatternNode::Graph(_, part) => is_flat(part.get()),
-        PatternNode::EachGraph(_, _) => false,
+        PatternNode::EachGraph(_, part) => is_flat(part.get()),
     }
 }
 

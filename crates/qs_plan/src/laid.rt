@@ -125,3 +125,16 @@ pub fn in_each(
     stages.push(Stage::Name(variable, register))?;
     behind(alloc, Stage::Names(register), Laid { stages, next })
 }
+
+/// The stages after those that have the register hold each name in turn, and join the variable with it.
+pub fn in_bound(
+    alloc: Global,
+    variable: usize,
+    register: usize,
+    laid: Laid,
+) -> Result<Laid, AllocError>
+    ensures { IfOk result (λ l. (l.stages ≡ stage.Names register ∷ stage.Name variable register ∷ laid.stages) × (l.next ≡ laid.next)) }
+{
+    let laid = behind(alloc, Stage::Name(variable, register), laid)?;
+    behind(alloc, Stage::Names(register), laid)
+}

@@ -1,6 +1,6 @@
 //! The text's order: the stages of a pattern (SPARQL 1.1 Query, 18.5), as they stand in its text.
 
-ghost use Rattle.std.specs.Prelude.{◌≡◌, ◌≤◌, true, false, [], ◌∷◌, ◌++◌, map, take, drop, length, IfOk, IfSome};
+ghost use Rattle.std.specs.Prelude.{◌≡◌, ◌≤◌, Bool, true, false, [], ◌∷◌, ◌++◌, map, take, drop, length, IfOk, IfSome};
 ghost use Rattle.std.specs.List.{AllByRecursion};
 ghost use Rattle.qs_algebra_patterns.specs.declared.pattern.PatternNode.TheVariants as pattern;
 ghost use Rattle.qs_algebra_patterns.specs.declared.pattern.Step.TheVariants as a_step;
@@ -15,7 +15,9 @@ use crate::feed::{Feed, all_leave, are_looked_at, are_too_many, put_read, put_se
 use crate::feedable::{are_in_line, is_feedable};
 use crate::few::are_few;
 use crate::fixes::{are_settled, put_tables};
-use crate::laid::{Laid, alone, apart, bind, fed, if_exists, in_each, look_named, minus, optional};
+use crate::laid::{
+    Laid, alone, apart, bind, fed, if_exists, in_bound, in_each, look_named, minus, optional,
+};
 use crate::run::{lay_run, room_after};
 use qs_algebra_patterns::{PatternNode, Step, Table};
 use qs_expr_meaning::Expr;
@@ -64,6 +66,14 @@ fn is_plain_step(one: &Step) -> bool {
     match one {
         Step::Join(part) => is_plain(part),
         _ => false,
+    }
+}
+
+/// Whether the pattern holds triples, paths and VALUES alone, and conditions on all of them.
+fn is_filtered_plain(part: &PatternNode) -> bool {
+    match part {
+        PatternNode::Group(steps, _) => are_plain_steps(steps.as_slice()),
+        _ => is_plain(part),
     }
 }
 
@@ -718,8 +728,8 @@ fn lay_graph(
     Ok(laid)
 }
 
-/// The stages of a pattern in each named graph: in line where it comes first, or where all of it is plain. The variable is joined with the
-/// name after all stages of the part, so that no part of the pattern sees it.
+/// The stages of a pattern in each named graph. Where all of it is in line whatever a row binds, the row is joined with the name before it, so
+/// that a row which binds the variable looks in one graph.
 #[cycle(lay)]
 fn lay_each(
     alloc: Global,
@@ -734,18 +744,57 @@ fn lay_each(
     requires within { Within width from look.now }
     ensures { IfOk result (λ l. Lays first width look.now from l.next l.stages (joined_with width (pattern.EachGraph variable part.now))) }
 {
-    let next = room_after(from, 1)?;
-    let register = Look::Register(from);
-    if !first && is_plain(part) {
-        let laid = lay(alloc, width, part, &register, next, false)?;
-        let laid = in_each(alloc, variable, from, laid)?;
-        return Ok(laid);
+    if is_filtered_plain(part) {
+        if let Some(laid) = lay_plain_each(alloc, width, variable, part, from)? {
+            return Ok(laid);
+        }
     }
-    let laid = lay(alloc, width, part, &register, next, true)?;
-    let laid = in_each(alloc, variable, from, laid)?;
+    let laid = lay_seen_each(alloc, width, variable, part, from)?;
     if first {
         return Ok(laid);
     }
     let laid = apart(alloc, look, laid)?;
+    Ok(laid)
+}
+
+/// The stages of a pattern in each named graph, with the name joined before it; none where a part of it would be evaluated by itself.
+#[cycle(lay)]
+fn lay_plain_each(
+    alloc: Global,
+    width: usize,
+    variable: usize,
+    part: &PatternNode,
+    from: usize,
+) -> Result<Option<Laid>, AllocError>
+    requires { width ≤ from }
+    ensures { IfOk result (λ o. IfSome o (λ l. (first : Bool) (place : places.Look) → Lays first width place from l.next l.stages (joined_with width (pattern.EachGraph variable part.now)))) }
+{
+    let next = room_after(from, 1)?;
+    let register = Look::Register(from);
+    let laid = lay(alloc, width, part, &register, next, false)?;
+    if !are_in_line(laid.stages.as_slice()) {
+        return Ok(None);
+    }
+    let laid = in_bound(alloc, variable, from, laid)?;
+    Ok(Some(laid))
+}
+
+/// The stages of a pattern in each named graph that comes first. The variable is joined with the name after all stages of the pattern, so that
+/// none of them sees it.
+#[cycle(lay)]
+fn lay_seen_each(
+    alloc: Global,
+    width: usize,
+    variable: usize,
+    part: &PatternNode,
+    from: usize,
+) -> Result<Laid, AllocError>
+    requires { width ≤ from }
+    ensures { IfOk result (λ l. (place : places.Look) → Lays true width place from l.next l.stages (joined_with width (pattern.EachGraph variable part.now))) }
+{
+    let next = room_after(from, 1)?;
+    let register = Look::Register(from);
+    let laid = lay(alloc, width, part, &register, next, true)?;
+    let laid = in_each(alloc, variable, from, laid)?;
     Ok(laid)
 }

@@ -138,13 +138,15 @@ fn selected<V: View>(
     with_vars(asked.vars, rows)
 }
 
+// the graph that is the set of these quads, in any order: it is printed in the order of its lines
 fn graph(quads: Vec<Quad>) -> Answer
     ensures { IsBuilt (Ok quads.items) (Ok result) }
 {
     Answer::Graph(Items::from_vec(each_once(quads)))
 }
 
-// the graph that the template makes of the solutions in this order
+// The graph that the template makes of the solutions in this order. Too many solutions are told before numbers that don't suffice, and are
+// counted as those of a SELECT, whatever quads they make.
 fn graph_of_rows(
     alloc: Global,
     asked: &Construction,

@@ -26,7 +26,8 @@ fn cells<'a>(
     Ok(cells)
 }
 
-/// The rows but those of which one before them has the same terms at these variables. It takes time by their count and its logarithm.
+/// The rows but those of which one before them has the same terms at these variables. A DISTINCT with ORDER BY calls it for rows in order,
+/// before they are projected. It takes time by their count and its logarithm.
 pub fn firsts<'a>(
     alloc: Global,
     rows: &[&'a Row],
@@ -34,6 +35,7 @@ pub fn firsts<'a>(
 ) -> Result<Vec<&'a Row>, AllocError>
     ensures { IfOk result (λ firsts. map (projected columns.now) (lent firsts.items) ≡ once same_solution (map (projected columns.now) (lent rows.now))) }
 {
+    // (The terms that were met are borrowed from the rows.)
     let mut known = BTreeSet::new(alloc);
     let mut firsts = Vec::new(alloc);
     for &row in rows {

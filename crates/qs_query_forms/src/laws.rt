@@ -15,8 +15,8 @@ pub fn quads_are_a_dataset()
     ensures { (quads : List Statement) (next : ℕ) → IsTrue (is_above_blanks next quads) → IsDataset (dataset_of quads next) }
 {}
 
-/// All sequences of the same solutions have one length, in whichever order the solutions stand: so whether there are too many doesn't
-/// depend on it.
+/// All sequences of the same solutions have one length, in whichever order the solutions are: so whether there are too many doesn't depend on
+/// it.
 pub fn sequences_have_one_length()
     ensures order { (asked : Selection) (a b : List Solution) → SameBag a b → count asked a ≡ count asked b }
     ensures part { (asked : Construction) (a b : List Solution) → SameBag a b → length (sliced asked.slice a) ≡ length (sliced asked.slice b) }

@@ -24,7 +24,7 @@ pub fn needed(slice: Slice) -> Option<u64>
     }
 }
 
-/// How many of them suffice for the SELECT. Without duplicates all are needed: any of them may be one.
+/// How many of the solutions in order suffice for the SELECT, where not all are needed. With DISTINCT all are: any may be a duplicate.
 pub fn needed_to_select(asked: &Selection) -> Option<u64>
     ensures { SufficesToSelect asked.now result }
 {
@@ -58,7 +58,8 @@ pub fn enough_for_slice(slice: Slice, conditions: &[OrderCondition], max_rows: u
     slice.offset.checked_add(limit)
 }
 
-/// How many of them suffice for a SELECT whose solutions are put in order. Without duplicates all are needed: any of them may be one.
+/// How many of the solutions suffice for a SELECT that puts them in order, where not all are needed. With DISTINCT all are: any may be a
+/// duplicate.
 pub fn enough(asked: &Selection, max_rows: u64) -> Option<u64>
     ensures { IfSome result (AreEnough asked.now max_rows) }
 {

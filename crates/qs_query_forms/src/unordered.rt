@@ -1,4 +1,5 @@
-//! The rows of a SELECT whose solutions no conditions put in order: they are sliced and projected where they are.
+//! The rows of a SELECT whose solutions no conditions put in order. They are sliced and projected in place, which takes no memory where the
+//! listed variables are the first ones.
 
 ghost use Rattle.std.specs.Prelude.{◌≡◌, ◌<◌, ℕ, true, length, get_or, map, drop, OnOk};
 ghost use Rattle.qs_terms.specs.Outcome.{OneOrOutOfMemory};
@@ -65,7 +66,7 @@ fn project_where(alloc: Global, asked: &Selection, rows: &mut Vec<Row>) -> Resul
     Ok(())
 }
 
-// lets so many rows at the front go
+// drops so many rows at the front
 fn leave_out(rows: &mut Vec<Row>, offset: u64)
     ensures { rows.new.items ≡ drop offset rows.old.items }
 {
@@ -75,7 +76,7 @@ fn leave_out(rows: &mut Vec<Row>, offset: u64)
     rows.truncate(left);
 }
 
-// lets the rows after so many go
+// drops the rows after so many
 fn limit(rows: &mut Vec<Row>, limit: Option<u64>)
     ensures { rows.new.items ≡ spec.limited limit rows.old.items }
 {

@@ -19,7 +19,8 @@ use std::alloc::{AllocError, Global};
 use std::collections::BTreeSet;
 use std::marker::Model;
 
-/// The solutions so far. Where columns are given they are the terms at these alone, and no two are the same.
+/// The solutions so far. Where columns are given they are the terms at these alone, and no two are the same: so a DISTINCT without ORDER BY
+/// keeps the first of each kind that is found, while solutions are searched.
 #[derive(Drop)]
 pub(crate) struct Collected<'c> {
     rows: Vec<Solution>,
@@ -55,7 +56,7 @@ fn push<V: View>(
     Ok(())
 }
 
-/// Puts the terms of these variables in the row after the others, unless they stand there. Where memory runs out, nothing is left.
+/// Puts the terms of these variables in the row after the others, unless they are there. Where memory runs out, nothing is left.
 fn push_new<V: View>(
     alloc: Global,
     op: &Op<'_, V>,
@@ -106,7 +107,7 @@ impl<'c> Collected<'c> {
         }
     }
 
-    /// Puts the solution that the row denotes after the others; where columns are given, its terms at these, unless they stand there.
+    /// Puts the solution that the row denotes after the others; where columns are given, its terms at these, unless they are there.
     pub fn put<V: View>(
         &mut self,
         alloc: Global,

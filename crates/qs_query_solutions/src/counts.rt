@@ -2,7 +2,7 @@
 
 use qs_algebra_patterns::{Slot, TriplePattern};
 use qs_plan::{Counts, Look};
-use qs_store::{Active, Triples, View};
+use qs_store::{Active, NamedQuads, Triples, View};
 use qs_terms::Term;
 
 /// What is counted: the triples of a view, where this graph is active.
@@ -35,10 +35,28 @@ fn agreeing<'v, V: View>(
     Some(view.scan(graph, subject, predicate, object))
 }
 
+/// The quads of all named graphs that agree with the terms of the pattern; none where a term isn't known.
+fn agreeing_named<'v, V: View>(view: &'v V, pattern: &TriplePattern) -> Option<NamedQuads<'v>> {
+    let subject = number_of(view, &pattern.subject)?;
+    let predicate = number_of(view, &pattern.predicate)?;
+    let object = number_of(view, &pattern.object)?;
+    Some(view.scan_named(subject, predicate, object))
+}
+
 /// How many triples there are, up to the limit.
 fn count(mut triples: Triples<'_>, limit: u64) -> u64 {
     for count in 0..limit {
         if triples.next().is_none() {
+            return count;
+        }
+    }
+    limit
+}
+
+/// How many quads there are, up to the limit.
+fn count_quads(mut quads: NamedQuads<'_>, limit: u64) -> u64 {
+    for count in 0..limit {
+        if quads.next().is_none() {
             return count;
         }
     }
@@ -52,6 +70,13 @@ fn count_in<V: View>(view: &V, graph: Active, pattern: &TriplePattern, limit: u6
     }
 }
 
+fn count_named<V: View>(view: &V, pattern: &TriplePattern, limit: u64) -> u64 {
+    match agreeing_named(view, pattern) {
+        Some(quads) => count_quads(quads, limit),
+        None => 0,
+    }
+}
+
 /// The graph of this name.
 fn graph_of<V: View>(view: &V, name: &Term) -> Active {
     match view.find(name) {
@@ -61,7 +86,7 @@ fn graph_of<V: View>(view: &V, name: &Term) -> Active {
 }
 
 impl<'v, V: View> Counts for ViewCounts<'v, V> {
-    /// Triples in each named graph aren't counted.
+    /// In each named graph: how many quads of all of them agree.
     fn about(&self, look: &Look, pattern: &TriplePattern, limit: u64) -> u64 {
         match look {
             Look::Active => count_in(self.view, self.active, pattern, limit),
@@ -69,7 +94,7 @@ impl<'v, V: View> Counts for ViewCounts<'v, V> {
                 let graph = graph_of(self.view, name.get());
                 count_in(self.view, graph, pattern, limit)
             }
-            Look::Register(_) => limit,
+            Look::Register(_) => count_named(self.view, pattern, limit),
         }
     }
 }

@@ -69,6 +69,8 @@ fn collect_all<V: View>(
 {
     let _count = view.count();
     let active = active_of(view, name);
+    // The plan is evaluated over the view's own quads. A lemma says that these have the same solutions in the active graph as what queries
+    // see: for a union that is a list which is never made.
     let plan = plan_over(alloc, pattern, view, active)?;
     let outcome = collect_planned(alloc, &plan, view, active, found);
     drop_plan(plan);

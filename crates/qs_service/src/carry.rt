@@ -25,7 +25,7 @@ use qs_store::Store;
 use qs_terms::QFault;
 use std::alloc::{AllocError, Global};
 
-/// A reply with that status and type, whose body stands in the buffer after the room for a head.
+/// A reply with that status and type, whose body is in the buffer after the room for a head.
 fn made(alloc: Global, status: u16, media: Media, buffer: Vec<u8>) -> Result<Reply, AllocError>
     requires status { IsReplyStatus status }
     requires room { HEAD_ROOM ≤ vec_len buffer }
@@ -82,7 +82,7 @@ fn answered(alloc: Global, answer: &Answer) -> Result<Reply, AllocError>
     }
 }
 
-/// A query's reply, as far as memory is there.
+/// A query's reply, as far as there is memory.
 fn asked(alloc: Global, text: &str, store: &Store, max_rows: u64) -> Result<Reply, AllocError>
     ensures { IfOk result (Carries sparql (stored_of max_rows store.now) (Query text.now) (stored_of max_rows store.now)) }
 {
@@ -93,7 +93,7 @@ fn asked(alloc: Global, text: &str, store: &Store, max_rows: u64) -> Result<Repl
     }
 }
 
-/// The reply with the whole dataset, as far as memory is there.
+/// The reply with the whole dataset, as far as there is memory.
 fn dumped(alloc: Global, store: &Store) -> Result<Reply, AllocError>
     ensures { IfOk result (λ reply. (bounds : Bounds) → CarriesDump sparql store.now.base bounds reply) }
 {

@@ -3,8 +3,8 @@
 //! A `Service` is a table of connections whose requests mean what SPARQL says. `StoreMeaning` makes the reply of a request, by `carry`: by
 //! what its `text` means over the store.
 //!
-//! The definitions stand in `specs/`: what texts mean in `Language.antt`, what requests are carried out over in `State.antt`, and the reply
-//! of one that is carried out in `Carried.antt`. The steps of connections stand in `qs_service_connections`.
+//! The definitions are in `specs/`: what texts mean in `Language.antt`, what requests are carried out over in `State.antt`, and the reply
+//! of one that is carried out in `Carried.antt`. The steps of connections are in `qs_service_connections`.
 #![tactic(auto)]
 
 mod carry;

@@ -31,7 +31,7 @@ impl OverStore for Service {
         }
     }
 
-    /// The store as it stands.
+    /// The store as it is.
     fn store(&self) -> &Store
         ensures { stored_of self.now.stored.bounds.rows result.now ≡ self.now.stored }
     {

@@ -35,7 +35,7 @@ impl StoreMeaning {
         StoreMeaning { store, max_rows }
     }
 
-    /// The store as it stands.
+    /// The store as it is.
     pub fn store(&self) -> &Store
         ensures { stored_of self.now.bounds.rows result.now ≡ self.now }
     {

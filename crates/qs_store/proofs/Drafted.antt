@@ -7,6 +7,7 @@ use Rattle.std.proofs.lemmas.List.{take_more}
 use Rattle.std.proofs.lemmas.List.Elements.{filter-append}
 use Rattle.std.proofs.lemmas.List.Elements.{Contains-append_left, Contains-append_right, Contains-append_cases}
 use Rattle.qs_index.specs.Entries.{IsUnion, IsDifference}
+use Rattle.qs_index.specs.Graph.{is_named, named_entries}
 use Rattle.qs_store.specs.Change.{IsChanged}
 use Rattle.qs_store.specs.Layers.{drafted, IsDraft, IsPartOf}
 use Rattle.std.proofs.lemmas.List.Filters.{length-filter_both}
@@ -86,6 +87,23 @@ union_fits old added new u =
 
 pub difference_fits : (old removed new : Entries) → IsDifference old removed new → length new ≤ length old
 difference_fits old removed new d = ascending_fits new old d.ascending d.only
+
+-- the same of the entries of named graphs
+named_union : (old added new : Entries) → IsUnion old added new → IsUnion (named_entries old) (named_entries added) (named_entries new)
+named_union old added new u = record {
+  ascending = filter_ascends is_named new u.ascending;
+  has_old = λ x m. let f = member_of_filter is_named x old m in filter_has is_named x new (u.has_old x f.0) f.1;
+  has_added = λ x m. let f = member_of_filter is_named x added m in filter_has is_named x new (u.has_added x f.0) f.1;
+  only = λ x m. let f = member_of_filter is_named x new m in ⊎_elim (λ t. inl (filter_has is_named x old t f.1)) (λ t. inr (filter_has is_named x added t f.1)) (u.only x f.0);
+}
+
+pub named_union_fits : (old added new : Entries) → IsUnion old added new → length (named_entries new) ≤ length (named_entries old) + length (named_entries added)
+named_union_fits old added new u = union_fits (named_entries old) (named_entries added) (named_entries new) (named_union old added new u)
+
+pub named_difference_fits : (old removed new : Entries) → IsDifference old removed new → length (named_entries new) ≤ length (named_entries old)
+named_difference_fits old removed new d =
+    ascending_fits (named_entries new) (named_entries old) (filter_ascends is_named new d.ascending)
+    (λ x m. let f = member_of_filter is_named x new m in filter_has is_named x old (d.only x f.0) f.1)
 
 -- the store's entries once a draft is committed
 pub settled : (i j k r a : Entries) → IsDifference i r j → IsUnion j a k → (x : List ℕ) → Contains k x ↔ Contains (drafted i r a) x

@@ -9,6 +9,7 @@ pub mod Loaded
 pub mod Merging
 pub mod Scanned
 pub mod TriplesSaid
+pub mod NamedQuadsSaid
 pub mod Holding
 pub mod GraphsSaid
 pub mod Sets

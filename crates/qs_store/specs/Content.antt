@@ -1,5 +1,5 @@
 -- What a store or a draft holds.
-use Rattle.std.specs.Prelude.{◌≡◌, ℕ, List, Some, Bool, if◌then◌else◌}
+use Rattle.std.specs.Prelude.{◌≡◌, ℕ, List, Some}
 use Rattle.std.specs.Bool.{IsTrue}
 use Rattle.std.specs.List.{Contains}
 use Rattle.qs_terms.specs.Bag.{Distinct}
@@ -8,7 +8,6 @@ use Rattle.qs_terms.specs.Term.{same_term}
 use Rattle.qs_terms.specs.Statement.{Statement, same_statement, fits_places}
 use Rattle.qs_terms.specs.declared.term.Term.{Term}
 use Rattle.qs_store.specs.declared.default_graph.DefaultGraph.{DefaultGraph}
-use Rattle.qs_store.specs.declared.default_graph.DefaultGraph.TheVariants.{Stored, Union}
 
 -- the quads, whose order means nothing, the next blank node's number, and the known terms by their numbers from 1
 pub record Content : Type 0 where
@@ -22,10 +21,6 @@ pub record Held : Type 0 where
   pub draft : Content
   pub limit : ℕ
   pub default_graph : DefaultGraph
-
--- the default graph of a store whose index has orders of the named graphs, or none
-abbrev pub default_of : Bool → DefaultGraph
-default_of has_named = if has_named then Union else Stored
 
 -- each quad stands once, the next number is above those of all blank nodes of the quads, and no two known terms are the same
 pub record IsContent (c : Content) : Type 0 where

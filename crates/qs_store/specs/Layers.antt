@@ -1,15 +1,15 @@
 -- The entries of a store, and those that a draft of it adds and removes.
 use Rattle.std.specs.Str.{bytes_eq}
-use Rattle.std.specs.Prelude.{◌≡◌, ℕ, ◌≤◌, Bool, List, ◌++◌, length, not}
+use Rattle.std.specs.Prelude.{ℕ, ◌≤◌, List, ◌++◌, length, not}
 use Rattle.std.specs.List.{Contains, filter, list_any}
 use Rattle.qs_index.specs.Entry.{IsAscending}
+use Rattle.qs_index.specs.Graph.{named_entries}
 use Rattle.qs_index.specs.Index.{IndexState}
 
--- the entries of a store, those that its draft would make of them, and whether there are orders of the named graphs
+-- the entries of a store, and those that its draft would make of them
 pub record LayersState : Type 0 where
   pub base : List (List ℕ)
   pub draft : List (List ℕ)
-  pub has_named : Bool
 
 -- the entries of a draft: those of the store that aren't removed, and those added
 abbrev pub drafted : List (List ℕ) → List (List ℕ) → List (List ℕ) → List (List ℕ)
@@ -23,14 +23,13 @@ pub record IsDraft (index removed added : List (List ℕ)) : Type 0 where
   pub apart : (x : List ℕ) → Contains added x → ¬ Contains index x
   pub taken : (x : List ℕ) → Contains removed x → Contains index x
 
--- there is room for a commit: for the added in the index, and for either list in one of this length; the orders are of one kind
+-- there is room for a commit: for the added in all orders of the index, and for either list in one of this length
 pub record AreLayers (index removed added : IndexState) (room : ℕ) : Type 0 where
   pub parted : IsDraft index.entries removed.entries added.entries
   pub spare : length added.entries ≤ index.spare
+  pub named_spare : length (named_entries added.entries) ≤ index.named_spare
   pub removed_room : length removed.entries ≤ room
   pub added_room : length added.entries ≤ room
-  pub removed_named : removed.has_named ≡ index.has_named
-  pub added_named : added.has_named ≡ index.has_named
 
 -- those of a list that stand in another, or those that don't
 pub record IsPartOf (entries part : List (List ℕ)) (Chosen : List ℕ → Type 0) : Type 0 where

@@ -5,6 +5,7 @@ pub mod Content
 pub mod Change
 pub mod Fault
 pub mod Triples
+pub mod NamedQuads
 pub mod Scans
 pub mod Sources
 pub mod WholeGraphs

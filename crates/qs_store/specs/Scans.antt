@@ -5,20 +5,22 @@ use Rattle.std.specs.List.{Contains}
 use Rattle.qs_index.specs.Agreeing.{agrees, agrees_anywhere}
 use Rattle.qs_index.specs.Entry.{IsAscending, is_before}
 use Rattle.qs_index.specs.Graph.{is_named}
-use Rattle.qs_index.specs.Permutation.{order_used, named_order_used}
+use Rattle.qs_index.specs.Permutation.{turned, order_used, named_order_used}
 use Rattle.qs_index.specs.declared.permutation.Permutation.{Permutation}
 use Rattle.qs_store.specs.Triples.{turned_triple}
 use Rattle.qs_store.specs.declared.active.Active.{Active}
 use Rattle.qs_store.specs.declared.active.Active.TheVariants.{Default, Graph, Empty}
+use Rattle.qs_store.specs.declared.default_graph.DefaultGraph.{DefaultGraph}
+use Rattle.qs_store.specs.declared.default_graph.DefaultGraph.TheVariants.{Stored, Union}
 use Rattle.qs_store.specs.declared.graphs.Graphs.{Graphs}
 use Rattle.qs_store.specs.declared.graphs.Graphs.TheVariants.{Nothing, One, Named}
 
--- the graphs that are read
-abbrev pub graphs_of : Bool → Active → Graphs
-graphs_of has_named Empty = Nothing
-graphs_of has_named (Graph number) = One number
-graphs_of true Default = Named
-graphs_of false Default = One 0
+-- the graphs that are read, by the default graph that queries see
+abbrev pub graphs_of : DefaultGraph → Active → Graphs
+graphs_of default_graph Empty = Nothing
+graphs_of default_graph (Graph number) = One number
+graphs_of Stored Default = One 0
+graphs_of Union Default = Named
 
 -- an entry of these graphs has the numbers that are given
 abbrev pub IsRead : Graphs → Option ℕ → Option ℕ → Option ℕ → List ℕ → Type 0
@@ -90,3 +92,7 @@ pub record AreTriplesOf (graphs : Graphs) (subject predicate object : Option ℕ
   pub ascending : IsAscending (map (turned_triple (order_used subject predicate object)) triples)
   pub has : (x : List ℕ) → Contains entries x → IsRead graphs subject predicate object x → Contains triples (triple_of x)
   pub only : (t : List ℕ) → Contains triples t → HasTriple graphs subject predicate object entries t
+
+-- the entries of named graphs that have the given numbers, each once, ascending
+abbrev pub AreNamedQuadsOf : Option ℕ → Option ℕ → Option ℕ → List (List ℕ) → List (List ℕ) → Type 0
+AreNamedQuadsOf subject predicate object = IsScanOf (IsRead Named subject predicate object) (turned (named_order_used subject predicate object))

@@ -10,11 +10,12 @@ ghost use Rattle.qs_terms.specs.Statement.{Statement, is_graph};
 ghost use Rattle.qs_terms.specs.declared.term.Term.{Term};
 ghost use Rattle.qs_dict.specs.Dict.{IsInUse, IsDictionary, term_at, number_of};
 ghost use Rattle.qs_store.specs.Change.{IsChanged, KnowsTermsOf, IsFullExactly, IsFullAt, with_terms_of};
-ghost use Rattle.qs_store.specs.Content.{Content, Held, AreLawful, IsContent, KnowsItsTerms, default_of};
+ghost use Rattle.qs_store.specs.Content.{Content, Held, AreLawful, IsContent, KnowsItsTerms};
 ghost use Rattle.qs_store.specs.Entries.{said, AreEntries, IsSaidBehind};
 ghost use Rattle.qs_store.specs.Graphs.{AreGraphs};
 ghost use Rattle.qs_store.specs.Same.{SameSet};
 ghost use Rattle.qs_store.specs.inner.Store.{IsFront};
+ghost use Rattle.qs_store.specs.NamedQuads.{AreNamedQuads};
 ghost use Rattle.qs_store.specs.Triples.{AreTriples};
 ghost use Rattle.qs_store.specs.WholeGraphs.{copies, exists, in_graph, is_named, removed_by};
 ghost use Rattle.qs_store.specs.declared.default_graph.DefaultGraph.TheVariants.{Stored};
@@ -23,6 +24,7 @@ ghost use Rattle.qs_store.specs.declared.fault.StoreFault.TheVariants.{Memory};
 use crate::active::Active;
 use crate::default_graph::DefaultGraph;
 use crate::fault::StoreFault;
+use crate::named_quads::NamedQuads;
 use crate::removal::Removal;
 use crate::store::Store;
 use crate::triples::Triples;
@@ -61,6 +63,20 @@ impl<'a> Draft<'a> {
     {
         let store: &Store = self.store;
         store.scan_draft(active, subject, predicate, object)
+    }
+
+    /// The quads of the draft's named graphs that have the numbers that are given, each once, in the order in which
+    /// `Store::scan_named` gives those of a store. It takes no memory.
+    pub fn scan_named(
+        &self,
+        subject: Option<u32>,
+        predicate: Option<u32>,
+        object: Option<u32>,
+    ) -> NamedQuads<'_>
+        ensures { AreNamedQuads self.now.store.now.draft subject predicate object result }
+    {
+        let store: &Store = self.store;
+        store.scan_draft_named(subject, predicate, object)
     }
 
     /// The quads of the draft, each once, in the order of quads (`Quad::order`), as copies. Its one refusal is running out of memory.

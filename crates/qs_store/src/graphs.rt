@@ -4,6 +4,7 @@ ghost use Rattle.std.specs.Prelude.{◌≡◌};
 ghost use Rattle.qs_store.specs.Scans.{graphs_of};
 
 use crate::active::Active;
+use crate::default_graph::DefaultGraph;
 
 /// The graphs whose entries are read: none, the one with a number, or all named ones.
 #[derive(Clone, Copy)]
@@ -13,19 +14,16 @@ pub enum Graphs {
     Named,
 }
 
-/// The graphs of a store that has orders of the named graphs where its default graph is the union of these.
-pub fn graphs_of(active: Active, has_named: bool) -> Graphs
-    ensures { result ≡ graphs_of has_named active }
+/// The graphs whose entries are those of the active graph, where queries see this default graph.
+pub fn graphs_of(active: Active, default_graph: DefaultGraph) -> Graphs
+    ensures { result ≡ graphs_of default_graph active }
 {
     match active {
         Active::Empty => Graphs::Nothing,
         Active::Graph(number) => Graphs::One(number),
-        Active::Default => {
-            if has_named {
-                Graphs::Named
-            } else {
-                Graphs::One(0)
-            }
-        }
+        Active::Default => match default_graph {
+            DefaultGraph::Stored => Graphs::One(0),
+            DefaultGraph::Union => Graphs::Named,
+        },
     }
 }

@@ -18,7 +18,7 @@ fn is_entry(other: &Option<[u32; 4]>, entry: &[u32; 4]) -> bool
     }
 }
 
-/// The entries of a scan without those of another one of the same order, whose entries stand in it.
+/// The entries of a scan without those of another scan of the same order, each of which is among them.
 #[derive(Drop)]
 pub struct Kept<'a> {
     entries: Scan<'a>,

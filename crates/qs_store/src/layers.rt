@@ -5,23 +5,25 @@ ghost use Rattle.std.specs.Str.{bytes_eq};
 ghost use Rattle.qs_terms.specs.Bag.{Distinct};
 ghost use Rattle.qs_index.specs.Entries.{HaveFour, IsUnion, IsDifference};
 ghost use Rattle.qs_index.specs.Entry.{IsAscending};
+ghost use Rattle.qs_index.specs.Graph.{named_entries};
 ghost use Rattle.qs_store.specs.Change.{IsChanged};
 ghost use Rattle.qs_store.specs.inner.Copied.{AreCopies, AreNamed};
 ghost use Rattle.qs_store.specs.inner.Holding.{AreGraphsOf, HasGraph};
 ghost use Rattle.qs_store.specs.Layers.{drafted, IsPartOf};
 ghost use Rattle.qs_store.specs.Same.{SameSet};
-ghost use Rattle.qs_store.specs.Scans.{AreTriplesOf};
-ghost use Rattle.qs_store.specs.declared.graphs.Graphs.TheVariants.{Named};
+ghost use Rattle.qs_store.specs.Scans.{AreNamedQuadsOf, AreTriplesOf};
 
 use crate::graphs::Graphs;
 use crate::named_graphs::{graphs_in, graphs_in_draft, holds};
+use crate::named_quads::NamedQuads;
 use crate::triples::Triples;
-use qs_index::Index;
+use qs_index::{Index, count_named};
 use std::alloc::{AllocError, Global};
 use std::marker::Model;
 
 /// The entries of a store, and of its draft: those of the index without the removed, and the added. For a commit there is room in the
-/// index for what is added, and in `batch` for either list.
+/// index for what is added, and in `batch` for either list. Where no entry that is added is of a named graph, none is set aside in the
+/// index for such.
 #[derive(Drop)]
 pub struct Layers {
     alloc: Global,
@@ -40,22 +42,57 @@ impl Model for Layers {
     ghost view = { λ l. record {
       base = l.index.entries;
       draft = drafted l.index.entries l.removed.entries l.added.entries;
-      has_named = l.index.has_named;
     } };
 
     ghost invariant = { λ l. AreLayers l.index l.removed l.added (length l.batch.items) };
 }
 
-/// An index without entries.
-fn empty(alloc: Global, has_named: bool) -> Index
-    ensures entries { result.entries ≡ [] }
-    ensures named { result.has_named ≡ has_named }
+/// How many entries there are, and how many of them are of named graphs.
+#[derive(Clone, Copy)]
+struct Counts {
+    all: usize,
+    named: usize,
+}
+
+/// How many entries a list has.
+fn count(entries: &[[u32; 4]]) -> Counts
+    ensures all { result.all ≡ length entries.now }
+    ensures named { result.named ≡ length (named_entries entries.now) }
 {
-    if has_named {
-        Index::with_named(alloc)
-    } else {
-        Index::new(alloc)
+    Counts {
+        all: entries.len(),
+        named: count_named(entries),
     }
+}
+
+/// A count and some more, if it has a number.
+fn sum(count: u128, more: usize) -> Result<usize, AllocError>
+    ensures { IfOk result (λ sum. sum ≡ count + more) }
+{
+    let sum = count.checked_add(more as u128).ok_or(AllocError)?;
+    usize::try_from(sum).map_err(|_| AllocError)
+}
+
+/// How many entries the index will have at most with so many more.
+fn with_more(index: &Index, more: Counts) -> Result<Counts, AllocError>
+    ensures all { IfOk result (λ most. most.all ≡ length index.now.entries + more.all) }
+    ensures named { IfOk result (λ most. most.named ≡ length (named_entries index.now.entries) + more.named) }
+{
+    let all = sum(index.len(), more.all)?;
+    let named = sum(index.named_len(), more.named)?;
+    Ok(Counts { all, named })
+}
+
+/// Makes room for so many inserts.
+fn reserve(index: &mut Index, counts: Counts) -> Result<(), AllocError>
+    ensures entries { index.new.entries ≡ index.old.entries }
+    ensures kept { index.old.spare ≤ index.new.spare }
+    ensures named_kept { index.old.named_spare ≤ index.new.named_spare }
+    ensures ok { OnOk result (counts.all ≤ index.new.spare) }
+    ensures named_ok { OnOk result (counts.named ≤ index.new.named_spare) }
+    ensures none { counts.named ≡ 0 → index.new.named_spare ≡ index.old.named_spare }
+{
+    index.reserve_for(counts.all as u64, counts.named as u64)
 }
 
 /// Writes the entries of the index to the front of `batch`, and tells how many they are.
@@ -77,7 +114,7 @@ fn take_all(index: &mut Index, removed: &Index, batch: &mut [[u32; 4]])
     requires { length removed.now.entries ≤ length batch.old }
     ensures difference { IsDifference index.old.entries removed.now.entries index.new.entries }
     ensures spare { index.old.spare ≤ index.new.spare }
-    ensures named { index.new.has_named ≡ index.old.has_named }
+    ensures named_spare { index.old.named_spare ≤ index.new.named_spare }
 {
     let count = fill(batch, removed);
     index.remove_all(&mut batch[..count]);
@@ -87,9 +124,10 @@ fn take_all(index: &mut Index, removed: &Index, batch: &mut [[u32; 4]])
 fn put_all(index: &mut Index, added: &Index, batch: &mut [[u32; 4]])
     requires batch { length added.now.entries ≤ length batch.old }
     requires spare { length added.now.entries ≤ index.old.spare }
+    requires named_spare { length (named_entries added.now.entries) ≤ index.old.named_spare }
     ensures union { IsUnion index.old.entries added.now.entries index.new.entries }
     ensures spare { index.old.spare ≤ index.new.spare + length added.now.entries }
-    ensures named { index.new.has_named ≡ index.old.has_named }
+    ensures named_spare { index.old.named_spare ≤ index.new.named_spare + length (named_entries added.now.entries) }
 {
     let count = fill(batch, added);
     index.insert_all(&mut batch[..count]);
@@ -110,10 +148,10 @@ fn put_together(
     ensures once { OnOk result (IsAscending index.new.entries) }
     ensures refused { OnErr result (index.new.entries ≡ index.old.entries) }
     ensures spare { OnErr result (index.old.spare ≤ index.new.spare) }
-    ensures named { index.new.has_named ≡ index.old.has_named }
+    ensures named_spare { OnErr result (index.old.named_spare ≤ index.new.named_spare) }
 {
-    let most = with_more(added, entries.len())?;
-    reserve(index, most as u64)?;
+    let most = with_more(added, count(entries))?;
+    reserve(index, most)?;
     take_all(index, removed, batch);
     put_all(index, added, batch);
     index.insert_all(entries);
@@ -187,19 +225,6 @@ fn put_into(alloc: Global, triples: Triples<'_>, graph: u32) -> Result<Vec<[u32;
     Ok(found)
 }
 
-/// Makes room for `n` inserts, where there are any.
-fn reserve(index: &mut Index, n: u64) -> Result<(), AllocError>
-    ensures entries { index.new.entries ≡ index.old.entries }
-    ensures kept { index.old.spare ≤ index.new.spare }
-    ensures ok { OnOk result (n ≤ index.new.spare) }
-    ensures named { index.new.has_named ≡ index.old.has_named }
-{
-    if n == 0 {
-        return Ok(());
-    }
-    index.reserve(n)
-}
-
 /// Makes `batch` no shorter than `n`.
 fn lengthen(batch: &mut Vec<[u32; 4]>, n: usize) -> Result<(), AllocError>
     ensures kept { length batch.old.items ≤ length batch.new.items }
@@ -211,35 +236,19 @@ fn lengthen(batch: &mut Vec<[u32; 4]>, n: usize) -> Result<(), AllocError>
     Ok(())
 }
 
-/// How many entries the index will have at most with `n` more.
-fn with_more(index: &Index, n: usize) -> Result<usize, AllocError>
-    ensures { IfOk result (λ most. most ≡ length index.now.entries + n) }
-{
-    let most = index.len().checked_add(n as u128).ok_or(AllocError)?;
-    usize::try_from(most).map_err(|_| AllocError)
-}
-
 impl Layers {
     /// No entries. It takes no memory.
-    pub fn new(alloc: Global, has_named: bool) -> Layers
+    pub fn new(alloc: Global) -> Layers
         ensures base { result.base ≡ [] }
         ensures draft { result.draft ≡ [] }
-        ensures named { result.has_named ≡ has_named }
     {
         Layers {
             alloc,
-            index: empty(alloc, has_named),
-            removed: empty(alloc, has_named),
-            added: empty(alloc, has_named),
+            index: Index::new(alloc),
+            removed: Index::new(alloc),
+            added: Index::new(alloc),
             batch: Vec::new(alloc),
         }
-    }
-
-    /// Whether there are orders of the named graphs.
-    pub fn has_named(&self) -> bool
-        ensures { result ≡ self.now.has_named }
-    {
-        self.index.has_named()
     }
 
     /// Whether the entry is one of the store's.
@@ -283,7 +292,7 @@ impl Layers {
         graphs_in(self.alloc, &self.index)
     }
 
-    /// The same of the draft.
+    /// The numbers of the named graphs that have entries of the draft, ascending.
     pub fn draft_graphs(&self) -> Result<Vec<u32>, AllocError>
         requires { HaveFour self.now.draft }
         ensures { IfOk result (λ graphs. AreGraphsOf self.now.draft graphs.items) }
@@ -341,7 +350,7 @@ impl Layers {
         Ok(found)
     }
 
-    /// The triples of the store's entries in these graphs. All named ones are read only where there are orders of them.
+    /// The triples of the store's entries in these graphs.
     pub fn scan(
         &self,
         graphs: Graphs,
@@ -349,13 +358,12 @@ impl Layers {
         predicate: Option<u32>,
         object: Option<u32>,
     ) -> Triples<'_>
-        requires { graphs ≡ Named → IsTrue self.now.has_named }
         ensures { AreTriplesOf graphs subject predicate object self.now.base result }
     {
         Triples::of_store(&self.index, graphs, subject, predicate, object)
     }
 
-    /// The same of the draft's entries.
+    /// The triples of the draft's entries in these graphs.
     pub fn scan_draft(
         &self,
         graphs: Graphs,
@@ -363,7 +371,6 @@ impl Layers {
         predicate: Option<u32>,
         object: Option<u32>,
     ) -> Triples<'_>
-        requires { graphs ≡ Named → IsTrue self.now.has_named }
         ensures { AreTriplesOf graphs subject predicate object self.now.draft result }
     {
         Triples::of_draft(
@@ -377,15 +384,44 @@ impl Layers {
         )
     }
 
+    /// The quads of the store's entries in all named graphs.
+    pub fn scan_named(
+        &self,
+        subject: Option<u32>,
+        predicate: Option<u32>,
+        object: Option<u32>,
+    ) -> NamedQuads<'_>
+        ensures { AreNamedQuadsOf subject predicate object self.now.base result }
+    {
+        NamedQuads::of_store(&self.index, subject, predicate, object)
+    }
+
+    /// The quads of the draft's entries in all named graphs.
+    pub fn scan_draft_named(
+        &self,
+        subject: Option<u32>,
+        predicate: Option<u32>,
+        object: Option<u32>,
+    ) -> NamedQuads<'_>
+        ensures { AreNamedQuadsOf subject predicate object self.now.draft result }
+    {
+        NamedQuads::of_draft(
+            &self.index,
+            &self.removed,
+            &self.added,
+            subject,
+            predicate,
+            object,
+        )
+    }
+
     /// Forgets what the draft has added and removed.
     pub fn reset(&mut self)
         ensures base { self.new.base ≡ self.old.base }
         ensures draft { self.new.draft ≡ self.old.base }
-        ensures named { self.new.has_named ≡ self.old.has_named }
     {
-        let has_named = self.index.has_named();
-        self.removed = empty(self.alloc, has_named);
-        self.added = empty(self.alloc, has_named);
+        self.removed = Index::new(self.alloc);
+        self.added = Index::new(self.alloc);
         self.batch = Vec::new(self.alloc);
     }
 
@@ -393,13 +429,11 @@ impl Layers {
     pub fn settle(&mut self)
         ensures base { SameSet self.new.base self.old.draft }
         ensures draft { self.new.draft ≡ self.new.base }
-        ensures named { self.new.has_named ≡ self.old.has_named }
     {
         take_all(&mut self.index, &self.removed, self.batch.as_mut_slice());
         put_all(&mut self.index, &self.added, self.batch.as_mut_slice());
-        let has_named = self.index.has_named();
-        self.removed = empty(self.alloc, has_named);
-        self.added = empty(self.alloc, has_named);
+        self.removed = Index::new(self.alloc);
+        self.added = Index::new(self.alloc);
         self.batch = Vec::new(self.alloc);
     }
 
@@ -410,14 +444,12 @@ impl Layers {
         ensures draft { OnOk result (self.new.draft ≡ self.new.base) }
         ensures refused { OnErr result (self.new.base ≡ self.old.base) }
         ensures draft_refused { OnErr result (self.new.draft ≡ self.old.draft) }
-        ensures named { self.new.has_named ≡ self.old.has_named }
     {
         let batch = self.batch.as_mut_slice();
         match put_together(&mut self.index, &self.removed, &self.added, batch, entries) {
             Ok(()) => {
-                let has_named = self.index.has_named();
-                set(&mut self.removed, empty(self.alloc, has_named));
-                set(&mut self.added, empty(self.alloc, has_named));
+                set(&mut self.removed, Index::new(self.alloc));
+                set(&mut self.added, Index::new(self.alloc));
                 set(&mut self.batch, Vec::new(self.alloc));
                 Ok(())
             }
@@ -431,17 +463,18 @@ impl Layers {
         ensures base { self.new.base ≡ self.old.base }
         ensures draft { OnOk result (IsChanged self.old.draft outs.old ins.old self.new.draft) }
         ensures refused { OnErr result (self.new.draft ≡ self.old.draft) }
-        ensures named { self.new.has_named ≡ self.old.has_named }
     {
         let mut taken = standing(self.alloc, &self.index, outs)?;
         let mut put = missing(self.alloc, &self.index, ins)?;
-        let most_removed = with_more(&self.removed, taken.len())?;
-        let most_added = with_more(&self.added, put.len())?;
-        lengthen(&mut self.batch, most_removed)?;
-        lengthen(&mut self.batch, most_added)?;
-        reserve(&mut self.removed, taken.len() as u64)?;
-        reserve(&mut self.added, put.len() as u64)?;
-        reserve(&mut self.index, most_added as u64)?;
+        let more_removed = count(&taken);
+        let more_added = count(&put);
+        let most_removed = with_more(&self.removed, more_removed)?;
+        let most_added = with_more(&self.added, more_added)?;
+        lengthen(&mut self.batch, most_removed.all)?;
+        lengthen(&mut self.batch, most_added.all)?;
+        reserve(&mut self.removed, more_removed)?;
+        reserve(&mut self.added, more_added)?;
+        reserve(&mut self.index, most_added)?;
         self.added.remove_all(outs);
         self.removed.insert_all(taken.as_mut_slice());
         self.removed.remove_all(ins);

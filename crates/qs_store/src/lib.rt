@@ -11,6 +11,7 @@ mod kept;
 mod layers;
 mod merged;
 mod named_graphs;
+mod named_quads;
 mod numbers;
 mod quads;
 mod removal;
@@ -24,6 +25,7 @@ pub use active::Active;
 pub use default_graph::DefaultGraph;
 pub use draft::Draft;
 pub use fault::StoreFault;
+pub use named_quads::NamedQuads;
 pub use removal::Removal;
 pub use same_set::{
     quads_make_their_terms_known, same_set_is_an_equivalence, same_sets_change_alike,

@@ -12,7 +12,7 @@ use qs_index::permutation::Permutation;
 use qs_index::prefix::Prefix;
 use std::marker::Model;
 
-/// Whether an entry stands before another one in an order.
+/// Whether an entry comes before another one in an order.
 #[inline(always)]
 fn is_before(order: Permutation, entry: [u32; 4], other: [u32; 4]) -> bool
     ensures { result ≡ is_before (turned order entry) (turned order other) }

@@ -63,7 +63,7 @@ fn put(dict: &mut Dict, term: &Term) -> Result<u32, StoreFault>
     }
 }
 
-/// The same of the name of a graph; the default graph has number 0.
+/// The number of the graph's name, which is put after the other terms where it is new; the default graph has number 0.
 pub fn put_graph(dict: &mut Dict, graph: Option<&Term>) -> Result<u32, StoreFault>
     ensures number { IfOk result (λ n. graph_number dict.new.terms (option_copied graph.entry) ≡ Some n) }
     ensures terms { OnOk result (dict.new.terms ≡ with_terms dict.old.terms (cons_option (option_copied graph.entry) [])) }

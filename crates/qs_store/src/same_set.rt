@@ -1,4 +1,4 @@
-//! Laws of lists of quads that are read as sets, and of their terms.
+//! Laws of lists of quads that are read as sets, and of their terms. `SameSet` is defined in this crate, as no crate below it speaks of sets.
 
 ghost use Rattle.std.specs.Prelude.{List, Contains};
 ghost use Rattle.qs_terms.specs.Bag.{SameBag};
@@ -7,7 +7,7 @@ ghost use Rattle.qs_terms.specs.declared.term.Term.{Term};
 ghost use Rattle.qs_store.specs.Change.{IsChanged, KnowsTermsOf, with_terms_of};
 ghost use Rattle.qs_store.specs.Same.{SameSet};
 
-/// A law: to be the same set is an equivalence, and carries what stands in one to the other. The same bags are the same sets.
+/// A law: being the same set is an equivalence, and carries what is in one set to the other. Lists that are the same bag are the same set.
 pub fn same_set_is_an_equivalence()
     ensures reflexive { (a : List Statement) → SameSet a a }
     ensures symmetric { (a b : List Statement) → SameSet a b → SameSet b a }
@@ -16,7 +16,7 @@ pub fn same_set_is_an_equivalence()
     ensures of_bags { (a b : List Statement) → SameBag a b → SameSet a b }
 {}
 
-/// A law: the same changes of the same sets are the same sets.
+/// A law: equal changes of lists that are the same set make lists that are the same set.
 pub fn same_sets_change_alike()
     ensures { (old removed added new old2 removed2 added2 new2 : List Statement) → SameSet old old2 → SameSet removed removed2 → SameSet added added2 → IsChanged old removed added new → IsChanged old2 removed2 added2 new2 → SameSet new new2 }
 {}

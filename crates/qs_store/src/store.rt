@@ -10,11 +10,12 @@ ghost use Rattle.qs_terms.specs.Statement.{Statement, is_graph};
 ghost use Rattle.qs_terms.specs.declared.term.Term.{Term};
 ghost use Rattle.qs_dict.specs.Dict.{IsInUse, IsDictionary, term_at, number_of};
 ghost use Rattle.qs_store.specs.Change.{IsChanged, KnowsTermsOf, IsFullExactly, IsFullAt, with_terms_of};
-ghost use Rattle.qs_store.specs.Content.{Content, Held, AreLawful, IsContent, KnowsItsTerms, default_of};
+ghost use Rattle.qs_store.specs.Content.{Content, Held, AreLawful, IsContent, KnowsItsTerms};
 ghost use Rattle.qs_store.specs.Entries.{said, AreEntries, IsSaidBehind};
 ghost use Rattle.qs_store.specs.Graphs.{AreGraphs};
 ghost use Rattle.qs_store.specs.Same.{SameSet};
 ghost use Rattle.qs_store.specs.inner.Store.{IsFront};
+ghost use Rattle.qs_store.specs.NamedQuads.{AreNamedQuads};
 ghost use Rattle.qs_store.specs.Triples.{AreTriples};
 ghost use Rattle.qs_store.specs.WholeGraphs.{copies, exists, in_graph, is_named, removed_by};
 ghost use Rattle.qs_store.specs.declared.default_graph.DefaultGraph.TheVariants.{Stored};
@@ -25,6 +26,7 @@ use crate::default_graph::DefaultGraph;
 use crate::fault::StoreFault;
 use crate::graphs::graphs_of;
 use crate::layers::Layers;
+use crate::named_quads::NamedQuads;
 use crate::numbers::{entries_of, entry_of, numbered, numbered_all};
 use crate::quads::quads_of;
 use crate::removal::Removal;
@@ -43,6 +45,7 @@ pub struct Store {
     alloc: Global,
     dict: Dict,
     layers: Layers,
+    default_graph: DefaultGraph,
     known: u32,
     next: u64,
     draft_next: u64,
@@ -50,7 +53,7 @@ pub struct Store {
 
 impl Model for Store {
     ghost use Rattle.std.specs.Prelude.{take};
-    ghost use Rattle.qs_store.specs.Content.{Content, Held, default_of};
+    ghost use Rattle.qs_store.specs.Content.{Content, Held};
     ghost use Rattle.qs_store.specs.Entries.{said};
     ghost use Rattle.qs_store.specs.inner.Store.{IsStore};
 
@@ -60,7 +63,7 @@ impl Model for Store {
       base = record { quads = said s.dict.terms s.layers.base; next = s.next; known = take s.known s.dict.terms };
       draft = record { quads = said s.dict.terms s.layers.draft; next = s.draft_next; known = s.dict.terms };
       limit = s.dict.limit;
-      default_graph = default_of s.layers.has_named;
+      default_graph = s.default_graph;
     } };
 
     ghost invariant = { λ s. IsStore s.dict.terms s.layers.base s.layers.draft s.known s.next s.draft_next };
@@ -85,7 +88,6 @@ fn change(
     ensures front { IsFront dict.old.terms dict.new.terms }
     ensures limit { dict.new.limit ≡ dict.old.limit }
     ensures base { layers.new.base ≡ layers.old.base }
-    ensures named { layers.new.has_named ≡ layers.old.has_named }
 {
     let mut ins = numbered_all(alloc, dict, add)?;
     let mut outs = entries_of(alloc, dict, remove)?;
@@ -108,14 +110,11 @@ impl Store {
         ensures limit { result.limit ≡ term_limit }
         ensures default_graph { result.default_graph ≡ default_graph }
     {
-        let has_named = match default_graph {
-            DefaultGraph::Stored => false,
-            DefaultGraph::Union => true,
-        };
         Store {
             alloc,
             dict: Dict::new(alloc, term_limit, hasher),
-            layers: Layers::new(alloc, has_named),
+            layers: Layers::new(alloc),
+            default_graph,
             known: 0,
             next: 0,
             draft_next: 0,
@@ -137,11 +136,7 @@ impl Store {
     pub fn default_graph(&self) -> DefaultGraph
         ensures { result ≡ self.now.default_graph }
     {
-        if self.layers.has_named() {
-            DefaultGraph::Union
-        } else {
-            DefaultGraph::Stored
-        }
+        self.default_graph
     }
 
     /// How many quads there are. It takes no memory, and goes over none.
@@ -186,7 +181,7 @@ impl Store {
         self.known
     }
 
-    // The same of the draft.
+    // How many terms the draft knows: the numbers in use are those from 1 to it. The terms of its quads are among them, each in a lawful place.
     pub(crate) fn draft_terms(&self) -> u32
         ensures count { result ≡ length self.now.draft.known }
         ensures known { KnowsItsTerms self.now.draft }
@@ -252,11 +247,11 @@ impl Store {
     ) -> Triples<'_>
         ensures { AreTriples self.now.base self.now.default_graph active subject predicate object result }
     {
-        let graphs = graphs_of(active, self.layers.has_named());
+        let graphs = graphs_of(active, self.default_graph);
         self.layers.scan(graphs, subject, predicate, object)
     }
 
-    // The same of the draft.
+    // The draft's triples of a graph that have the numbers that are given, each once, in the order of `scan`. It takes no memory.
     pub(crate) fn scan_draft(
         &self,
         active: Active,
@@ -266,8 +261,34 @@ impl Store {
     ) -> Triples<'_>
         ensures { AreTriples self.now.draft self.now.default_graph active subject predicate object result }
     {
-        let graphs = graphs_of(active, self.layers.has_named());
+        let graphs = graphs_of(active, self.default_graph);
         self.layers.scan_draft(graphs, subject, predicate, object)
+    }
+
+    /// The quads of all named graphs that have the numbers that are given, each once. They ascend by predicate, object, subject and graph
+    /// where the predicate is the first that is given or stands before the object, by object, subject, predicate and graph where the object
+    /// is given without the predicate, and by subject, predicate, object and graph elsewhere. It takes no memory.
+    pub fn scan_named(
+        &self,
+        subject: Option<u32>,
+        predicate: Option<u32>,
+        object: Option<u32>,
+    ) -> NamedQuads<'_>
+        ensures { AreNamedQuads self.now.base subject predicate object result }
+    {
+        self.layers.scan_named(subject, predicate, object)
+    }
+
+    // The quads of the draft's named graphs that have the numbers that are given.
+    pub(crate) fn scan_draft_named(
+        &self,
+        subject: Option<u32>,
+        predicate: Option<u32>,
+        object: Option<u32>,
+    ) -> NamedQuads<'_>
+        ensures { AreNamedQuads self.now.draft subject predicate object result }
+    {
+        self.layers.scan_draft_named(subject, predicate, object)
     }
 
     /// The numbers of the names of the graphs that have quads, ascending. Its one refusal is running out of memory.
@@ -279,7 +300,7 @@ impl Store {
         Ok(graphs)
     }
 
-    // The same of the draft.
+    // The numbers of the names of the graphs that have quads of the draft, ascending. Its one refusal is running out of memory.
     pub(crate) fn draft_graphs(&self) -> Result<Vec<u32>, StoreFault>
         ensures graphs { IfOk result (λ graphs. AreGraphs self.now.draft graphs.items) }
         ensures memory { IfErr result (λ fault. fault ≡ Memory) }

@@ -1,11 +1,10 @@
 //! A scan of the triples of a store or of a draft.
 
-ghost use Rattle.std.specs.Prelude.{◌≡◌, ◌∷◌, [], map, None, IfSome, IfNone, IsTrue};
+ghost use Rattle.std.specs.Prelude.{◌≡◌, ◌∷◌, [], map, None, IfSome, IfNone};
 ghost use Rattle.std.specs.Iterator.{YieldsFirst, item_count};
 ghost use Rattle.qs_store.specs.Layers.{IsDraft, drafted};
 ghost use Rattle.qs_store.specs.Scans.{AreTriplesOf, is_last, triple_of, triples_left, unrepeated};
 ghost use Rattle.qs_store.specs.Sources.{entries_left};
-ghost use Rattle.qs_store.specs.declared.graphs.Graphs.TheVariants.{Named};
 
 use crate::graphs::Graphs;
 use crate::merged::Merged;
@@ -23,7 +22,7 @@ pub enum Source<'a> {
 
 /// The next entry.
 #[inline(always)]
-fn next_entry(source: &mut Source<'_>) -> Option<[u32; 4]>
+pub fn next_entry(source: &mut Source<'_>) -> Option<[u32; 4]>
     ensures { YieldsFirst entries_left source.old result source.new }
 {
     match source {
@@ -106,7 +105,6 @@ impl<'a> Triples<'a> {
         predicate: Option<u32>,
         object: Option<u32>,
     ) -> Triples<'a>
-        requires { graphs ≡ Named → IsTrue index.now.has_named }
         ensures { AreTriplesOf graphs subject predicate object index.now.entries result }
     {
         match graphs {
@@ -132,8 +130,7 @@ impl<'a> Triples<'a> {
         predicate: Option<u32>,
         object: Option<u32>,
     ) -> Triples<'a>
-        requires draft { IsDraft index.now.entries removed.now.entries added.now.entries }
-        requires named { graphs ≡ Named → IsTrue index.now.has_named × IsTrue removed.now.has_named × IsTrue added.now.has_named }
+        requires { IsDraft index.now.entries removed.now.entries added.now.entries }
         ensures { AreTriplesOf graphs subject predicate object (drafted index.now.entries removed.now.entries added.now.entries) result }
     {
         match graphs {

@@ -7,6 +7,7 @@ ghost use Rattle.qs_terms.specs.Dataset.{is_above_blanks};
 ghost use Rattle.qs_dict.specs.Dict.{IsInUse, term_at, number_of};
 ghost use Rattle.qs_store.specs.Content.{Content, AreLawful, IsContent, KnowsItsTerms};
 ghost use Rattle.qs_store.specs.Graphs.{AreGraphs};
+ghost use Rattle.qs_store.specs.NamedQuads.{AreNamedQuads};
 ghost use Rattle.qs_store.specs.Triples.{AreTriples};
 ghost use Rattle.qs_store.specs.declared.default_graph.DefaultGraph.{DefaultGraph};
 ghost use Rattle.qs_store.specs.declared.fault.StoreFault.TheVariants.{Memory};
@@ -15,6 +16,7 @@ use crate::active::Active;
 use crate::default_graph::DefaultGraph;
 use crate::draft::Draft;
 use crate::fault::StoreFault;
+use crate::named_quads::NamedQuads;
 use crate::store::Store;
 use crate::triples::Triples;
 use qs_terms::{Quad, Term};
@@ -68,6 +70,17 @@ pub trait View {
         object: Option<u32>,
     ) -> Triples<'_>
         ensures { AreTriples (content self.now) (default_seen self.now) active subject predicate object result };
+
+    /// The quads of all named graphs that have the numbers that are given, each once. They ascend by predicate, object, subject and graph
+    /// where the predicate is the first that is given or stands before the object, by object, subject, predicate and graph where the object
+    /// is given without the predicate, and by subject, predicate, object and graph elsewhere. It takes no memory.
+    fn scan_named(
+        &self,
+        subject: Option<u32>,
+        predicate: Option<u32>,
+        object: Option<u32>,
+    ) -> NamedQuads<'_>
+        ensures { AreNamedQuads (content self.now) subject predicate object result };
 
     /// The numbers of the names of the graphs that have quads, ascending. Its one refusal is running out of memory.
     fn graphs(&self) -> Result<Vec<u32>, StoreFault>
@@ -124,6 +137,15 @@ impl View for Store {
         Store::scan(self, active, subject, predicate, object)
     }
 
+    fn scan_named(
+        &self,
+        subject: Option<u32>,
+        predicate: Option<u32>,
+        object: Option<u32>,
+    ) -> NamedQuads<'_> {
+        Store::scan_named(self, subject, predicate, object)
+    }
+
     fn graphs(&self) -> Result<Vec<u32>, StoreFault> {
         Store::graphs(self)
     }
@@ -174,6 +196,15 @@ impl<'a> View for Draft<'a> {
         object: Option<u32>,
     ) -> Triples<'_> {
         Draft::scan(self, active, subject, predicate, object)
+    }
+
+    fn scan_named(
+        &self,
+        subject: Option<u32>,
+        predicate: Option<u32>,
+        object: Option<u32>,
+    ) -> NamedQuads<'_> {
+        Draft::scan_named(self, subject, predicate, object)
     }
 
     fn graphs(&self) -> Result<Vec<u32>, StoreFault> {

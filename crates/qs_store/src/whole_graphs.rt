@@ -133,7 +133,6 @@ pub fn transfer(
     ensures front { IsFront dict.old.terms dict.new.terms }
     ensures limit { dict.new.limit ≡ dict.old.limit }
     ensures base { layers.new.base ≡ layers.old.base }
-    ensures named { layers.new.has_named ≡ layers.old.has_named }
 {
     let mut ins = entries_copied(alloc, dict, layers, from, to)?;
     let _count = dict.len();
@@ -151,7 +150,6 @@ pub fn remove(dict: &Dict, layers: &mut Layers, outs: &mut [[u32; 4]]) -> Result
     ensures lawful { IsDictionary dict.now }
     ensures refused { OnErr result (layers.new.draft ≡ layers.old.draft) }
     ensures base { layers.new.base ≡ layers.old.base }
-    ensures named { layers.new.has_named ≡ layers.old.has_named }
 {
     let _count = dict.len();
     layers.change(outs, &mut [])

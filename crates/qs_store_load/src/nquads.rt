@@ -1,4 +1,7 @@
 //! Bytes put into a store.
+//!
+//! The load is in a crate above the store and N-Quads, so the store depends on no text. It numbers the terms of each quad in a draft, and
+//! commits the entries of these numbers.
 
 ghost use Rattle.std.specs.Prelude.{◌≡◌, ◌∷◌, ◌++◌, ℕ, List, [], length, IfOk, IfErr, OnOk, OnErr};
 ghost use Rattle.qs_terms.specs.Statement.{Statement};
@@ -39,7 +42,7 @@ fn put(draft: &mut Draft<'_>, entries: &mut Vec<[u32; 4]>, quad: &Quad) -> Resul
     }
 }
 
-// What is told where the terms of a text find no room: a fault in the rest of the text comes before that.
+// The fault of a text whose terms find no room: a fault in the rest of the text comes first.
 fn full(reader: &mut Reader<'_>) -> LoadFault
     ensures { (first : ℕ) (quads : List Statement) → HasRead first quads reader.old → IsTold reader.old.bytes first quads result }
 {
@@ -52,7 +55,7 @@ fn full(reader: &mut Reader<'_>) -> LoadFault
     }
 }
 
-// What is told where a statement is refused.
+// The fault of a text of which the store refuses a statement.
 fn refused(reader: &mut Reader<'_>, fault: StoreFault) -> LoadFault
     ensures { (first : ℕ) (quads : List Statement) → HasRead first quads reader.old → IsToldFor fault reader.old.bytes first quads result }
 {

@@ -38,7 +38,8 @@ fn change_data(
     apply_operation(draft, &effect)
 }
 
-// The next blank node's number of the draft. The predicates of its quads are IRIs.
+// The next blank node's number of the draft. The predicates of its quads are IRIs. An operation is defined over some list of the quads, each
+// once, since the bag of a WHERE's solutions doesn't depend on their order: here it is the draft's own list.
 fn next_blank(draft: &Draft<'_>) -> u64
     ensures next { result ≡ draft.now.store.now.draft.next }
     ensures above { IsTrue (is_above_blanks result draft.now.store.now.draft.quads) }
@@ -126,8 +127,8 @@ fn operate(
 /// # Errors
 /// That of the first operation that is refused: `QFault::NoGraph` where ADD, COPY or MOVE name a graph without quads, `QFault::GraphExists`
 /// where CREATE names one with quads, both without SILENT; `QFault::TooManyRows` where a WHERE has more solutions; `QFault::Full` where
-/// the numbers of blank nodes don't suffice, or where more terms would be known than the store's limit. `QFault::Memory` for want of
-/// memory.
+/// the numbers of blank nodes don't suffice, or where more terms would be known than the store's limit. `QFault::Memory` where
+/// memory runs out.
 pub fn operate_all(
     alloc: Global,
     update: &Update,

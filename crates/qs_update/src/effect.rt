@@ -27,7 +27,7 @@ pub fn nothing(alloc: Global, next: u64) -> Effect
     }
 }
 
-/// The fault, or nothing where SILENT stands.
+/// The fault, or the effect that changes nothing where the operation is SILENT.
 pub fn fault_or_nothing(
     alloc: Global,
     on_missing: OnMissing,

@@ -1,4 +1,5 @@
-//! Operations on whole graphs over a draft of a store (SPARQL 1.1 Update, 3.1.5 and 3.2). They copy no quads: the draft changes its entries.
+//! Operations on whole graphs over a draft of a store (SPARQL 1.1 Update, 3.1.5 and 3.2). They copy no terms: the draft changes its entries. A
+//! transfer makes the name of its target known only where a quad is copied.
 
 ghost use Rattle.std.specs.Prelude.{◌≡◌, ◌≤◌, [], false, length, Ok, IsTrue, IfOk, IfErr, OnOk};
 ghost use Rattle.std.specs.List.{filter};

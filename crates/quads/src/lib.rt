@@ -4,7 +4,7 @@
 //! makes a service over the data of a file. `serve_events` serves it to many connections at once, and `serve` to one after another of a listener.
 //! `put_refusal` prints why there is none.
 //!
-//! The definitions stand in `specs/`: what is due of a job in `Due.antt`, what a run does with a sink in `Run.antt`, a service over data in
+//! The definitions are in `specs/`: what is due of a job in `Due.antt`, what a run does with a sink in `Run.antt`, a service over data in
 //! `Service.antt`, and the lines of refusals in `Refusal.antt`.
 #![tactic(auto)]
 

@@ -18,7 +18,8 @@ use qs_terms::QFault;
 use std::alloc::Global;
 use std::hash::RandomState;
 
-/// The most terms that the store knows: as many as there are numbers for them.
+/// The most terms that the store knows: as many as there are numbers for them. Data with more are refused as full, before a fault of the text
+/// of the job.
 const MAX_TERMS: u32 = 4_294_967_295;
 
 /// Returns a store of the quads of the file with this default graph.

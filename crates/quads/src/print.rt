@@ -62,7 +62,8 @@ fn explanation_text(alloc: Global, explanation: &Text) -> Result<String, AllocEr
     String::from_str(alloc, explanation.as_str())
 }
 
-/// Returns the text that is printed of the result.
+/// Returns the text that is printed of the result. Quads are printed from any list of them: lines ascend and occur once, so each list of the
+/// same quads has the same text.
 ///
 /// # Errors
 ///
@@ -98,6 +99,7 @@ pub fn put_result<S: Sink>(alloc: Global, end: JobResult, out: &mut S) -> Ran
     ensures { Prints (spec.printed end) (spec.status end) (S.taken out.old) (S.taken out.new) (S.faults out.old) (S.faults out.new) result
         ⊎ Prints (line (lines.fault_line Memory)) 1 (S.taken out.old) (S.taken out.new) (S.faults out.old) (S.faults out.new) result }
 {
+    // (The whole text is made before it is printed, so out of memory is never told after a part of it.)
     match result_text(alloc, &end) {
         Ok(line) => put(out, line.as_bytes(), status(&end)),
         Err(_) => put(out, out_of_memory_line().as_bytes(), 1),

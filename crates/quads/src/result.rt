@@ -55,7 +55,7 @@ pub fn load_refusal(fault: LoadFault) -> JobResult
     }
 }
 
-/// Returns the result of a check of the data. The labels of blank nodes are hashed by `hasher`.
+/// Returns the result of a check of the data, for which no store is made. The labels of blank nodes are hashed by `hasher`.
 pub fn check_result(alloc: Global, hasher: RandomState, file: &[u8]) -> JobResult
     ensures { IsCheckResult file.now result }
 {

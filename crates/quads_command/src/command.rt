@@ -59,6 +59,7 @@ fn union_default<'a>(alloc: Global) -> Arg<'a> {
 fn check_command<'a>(alloc: Global) -> Result<Command<'a>, AllocError> {
     Command::new(alloc, "check")
         .about("Prints the data of a file as N-Quads, each quad once, in the order of the lines")
+        .after_help("Example: quads check examples/data.nq")
         .arg(file_argument(alloc, DATA, "the data, as N-Quads"))
 }
 
@@ -67,6 +68,7 @@ fn query_command<'a>(alloc: Global) -> Result<Command<'a>, AllocError> {
         .about(
             "Prints the answer of a query over the data of a file: as JSON, or for CONSTRUCT as N-Triples",
         )
+        .after_help("Example: quads query examples/data.nq examples/authors.rq")
         .arg(file_argument(alloc, DATA, "the data, as N-Quads"))?
         .arg(file_argument(alloc, QUERY, "the text of the query"))?
         .arg(union_default(alloc))
@@ -74,9 +76,8 @@ fn query_command<'a>(alloc: Global) -> Result<Command<'a>, AllocError> {
 
 fn update_command<'a>(alloc: Global) -> Result<Command<'a>, AllocError> {
     Command::new(alloc, "update")
-        .about(
-            "Prints what an update makes of the data of a file, as N-Quads; where a part of it is refused, the fault alone",
-        )
+        .about("Prints the data of a file after an update, as N-Quads; the file stays as it is")
+        .after_help("Example: quads update examples/data.nq examples/lend.ru")
         .arg(file_argument(alloc, DATA, "the data, as N-Quads"))?
         .arg(file_argument(alloc, UPDATE, "the text of the update"))?
         .arg(union_default(alloc))
@@ -85,8 +86,9 @@ fn update_command<'a>(alloc: Global) -> Result<Command<'a>, AllocError> {
 fn explain_command<'a>(alloc: Global) -> Result<Command<'a>, AllocError> {
     Command::new(alloc, "explain")
         .about(
-            "Prints the plan that a query would run over the data of a file, a line a stage; nothing is carried out",
+            "Prints the plan of a query or an update over the data of a file, a line a stage; nothing is carried out",
         )
+        .after_help("Example: quads explain examples/data.nq examples/loans.rq")
         .arg(file_argument(alloc, DATA, "the data, as N-Quads"))?
         .arg(file_argument(alloc, TEXT, "the text of the query, or of the update"))?
         .arg(
@@ -101,8 +103,9 @@ fn explain_command<'a>(alloc: Global) -> Result<Command<'a>, AllocError> {
 fn replay_command<'a>(alloc: Global) -> Result<Command<'a>, AllocError> {
     Command::new(alloc, "replay")
         .about(
-            "Carries out the connection events of a script over the data of a file, and prints each reply in hex when it is made",
+            "Carries out the connection events of a script over the data of a file, and prints each reply in hex",
         )
+        .after_help("Example: quads replay examples/data.nq examples/talk.script")
         .arg(file_argument(alloc, DATA, "the data, as N-Quads"))?
         .arg(file_argument(
             alloc,
@@ -160,6 +163,7 @@ fn request_argument<'a>(alloc: Global) -> Arg<'a> {
 fn serve_command<'a>(alloc: Global) -> Result<Command<'a>, AllocError> {
     Command::new(alloc, "serve")
         .about("Serves the data of a file by the SPARQL protocol, at /query, /update and /data")
+        .after_help("Example: quads serve --port 7878 --data examples/data.nq")
         .arg(port_argument(alloc))?
         .arg(served_argument(alloc))?
         .arg(requests_argument(alloc))?
@@ -176,7 +180,8 @@ fn serve_command<'a>(alloc: Global) -> Result<Command<'a>, AllocError> {
 /// Out of memory.
 pub fn command<'a>(alloc: Global) -> Result<Command<'a>, AllocError> {
     let command = Command::new(alloc, "quads")
-        .about("An RDF quad store with SPARQL")
+        .about("An RDF quad store with SPARQL, over the data of a file or as a server")
+        .after_help("Example: quads query examples/data.nq examples/authors.rq")
         .version(VERSION)
         .subcommand_required(true);
     let command = add_command(command, check_command(alloc))?;

@@ -1,4 +1,4 @@
-//! Values that are dropped by one call each: the drop of a command or of its matches is long, wherever it stands.
+//! Values that are dropped by one call each: the drop of a command or of its matches is long wherever it is.
 
 use clap::Command;
 use std::alloc::AllocError;

@@ -55,7 +55,7 @@ pub fn two_files<S: Sink>(
 ///
 /// # Errors
 ///
-/// The exit status, where there are no random bytes.
+/// The exit status, where the system gives no random bytes: 1, once `cannot read random bytes` is printed.
 pub fn hasher<S: Sink>(rt: &HostRuntime, out: &mut S) -> Result<RandomState, u8> {
     match RandomState::new(rt) {
         Ok(hasher) => Ok(hasher),

@@ -17,7 +17,8 @@ use quads_command::{Usage, read};
 use std::process::ExitCode;
 use std::{env, io};
 
-/// Does what the words say: the exit status. What is wrong with the words goes to standard error.
+/// Does what the words say: the exit status. What `clap` says goes to standard error, and so does the text of `--help`, which is no fault: its
+/// status is 0.
 fn obey<S: Sink>(rt: &HostRuntime, out: &mut S, words: &[String]) -> u8 {
     match read(rt.alloc(), words) {
         Ok(line) => do_line(rt, out, line),
@@ -39,6 +40,7 @@ fn main(rt: HostRuntime) -> ExitCode {
     let status = match words_of(&rt) {
         Ok(words) => obey(&rt, &mut out, words.as_slice()),
         Err(error) if error.kind() == io::ErrorKind::OutOfMemory => refuse_for_memory(&mut out),
+        // An argument that is not UTF-8 is a fault of the command line.
         Err(_) => {
             drop(rt.eprintln("error: an argument is not UTF-8"));
             2

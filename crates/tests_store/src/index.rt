@@ -1,7 +1,7 @@
-//! The index with orders of the named graphs: five entries, of the default graph, of graph 1 and of the last graph.
+//! The index: five entries, of the default graph, of graph 1 and of the last graph.
 
 use crate::outcome::Outcome;
-use qs_index::{Index, PagePosition, Scan};
+use qs_index::{Index, PagePosition, Scan, count_named};
 use std::alloc::{AllocError, Global};
 
 const A: [u32; 4] = [1, 2, 3, 4];
@@ -18,8 +18,9 @@ const E: [u32; 4] = [0, 1, 2, 4];
 fn fill(index: &mut Index) -> Result<(), AllocError> {
     index.reserve(1)?;
     index.insert(D);
-    index.reserve(300)?;
-    index.insert_all(&mut [A, E, B, C]);
+    let mut entries = [A, E, B, C];
+    index.reserve_for(300, count_named(&entries) as u64)?;
+    index.insert_all(&mut entries);
     Ok(())
 }
 
@@ -68,8 +69,7 @@ const PLACES: &[(usize, usize)] = &[(0, 0), (0, 2), (0, 5), (7, 0)];
 
 /// Whether the same is found from a place.
 fn is_found_from(index: &Index, place: PagePosition) -> bool {
-    index.has_named()
-        && hands_out(index.scan_from(place, 1, None, Some(3), None), &[A, B])
+    hands_out(index.scan_from(place, 1, None, Some(3), None), &[A, B])
         && hands_out(
             index.scan_named_from(place, Some(1), Some(2), None),
             &[C, D],
@@ -91,9 +91,6 @@ fn are_found_from(index: &Index) -> bool {
 }
 
 fn are_named_found(index: &Index) -> bool {
-    if !index.has_named() {
-        return false;
-    }
     for (subject, predicate, object, wanted) in NAMED_SCANS {
         if !hands_out(index.scan_named(*subject, *predicate, *object), wanted) {
             return false;
@@ -121,7 +118,10 @@ fn are_graphs_found(index: &Index) -> bool {
 
 /// Whether the entries are counted and known.
 fn are_known(index: &Index) -> bool {
-    index.len() == 5 && index.contains(&A) && !index.contains(&[1, 2, 3, 5])
+    index.len() == 5
+        && index.named_len() == 4
+        && index.contains(&A)
+        && !index.contains(&[1, 2, 3, 5])
 }
 
 /// Whether two entries, and one that isn't there, are taken out at once.
@@ -142,13 +142,13 @@ fn is_whole(index: &mut Index) -> bool {
         && index.remove(D)
         && !index.remove(D)
         && index.next_graph(1).is_none()
-        && index.has_named()
+        && index.named_len() == 1
         && hands_out(index.scan_named(None, None, None), &[B])
 }
 
 /// Whether the index is filled; where memory runs out it has no entry of graph 1.
 pub fn outcome(alloc: Global) -> Outcome {
-    let mut index = Index::with_named(alloc);
+    let mut index = Index::new(alloc);
     let outcome = if fill(&mut index).is_err() {
         Outcome::Refused.or_wrong(hands_out(index.scan(1, None, None, None), &[]))
     } else {

@@ -1,6 +1,6 @@
 //! How many entries a scan looks at, in indexes of four sizes.
 
-use qs_index::{Index, PagePosition, Scan};
+use qs_index::{Index, PagePosition, Scan, count_named};
 use std::alloc::{AllocError, Global};
 
 /// Sizes of an index, how many entries have its first predicate, and how many entries a scan looks at besides those that it hands out,
@@ -18,7 +18,7 @@ fn entries(alloc: Global, size: u32) -> Result<Vec<[u32; 4]>, AllocError> {
 
 fn fill(index: &mut Index, size: u32, alloc: Global) -> Result<(), AllocError> {
     let mut entries = entries(alloc, size)?;
-    index.reserve(entries.len() as u64)?;
+    index.reserve_for(entries.len() as u64, count_named(&entries) as u64)?;
     index.insert_all(&mut entries);
     Ok(())
 }

@@ -3,7 +3,7 @@
 use crate::outcome::Outcome;
 use crate::quads::quads;
 use crate::seen::{Seen, changed, is_seen, reads_back};
-use qs_store::{DefaultGraph, Draft, Store, StoreFault};
+use qs_store::{DefaultGraph, Draft, NamedQuads, Store, StoreFault, View};
 use qs_terms::Quad;
 use qs_terms::dataset::is_above_blanks;
 use std::alloc::Global;
@@ -276,4 +276,94 @@ fn keeps_its_limit(alloc: Global, hasher: Option<RandomState>) -> bool {
 #[test]
 fn refuses_a_fourth_term(rt: HostRuntime) {
     assert!(rt; keeps_its_limit(rt.alloc(), RandomState::new(&rt).ok()));
+}
+
+/// Places that are given, and the quads of named graphs that agree with them, in the order that is used.
+type NamedScan = (Option<u32>, Option<u32>, Option<u32>, &'static [[u32; 4]]);
+
+/// Of quads 1, 2 and 3. A term's number tells when it was first met: e:a is 1, e:p 2, e:b 3, e:g 4, the blank node 5, and e:h 6.
+const NAMED_BASE: &[NamedScan] = &[
+    (
+        None,
+        None,
+        None,
+        &[[4, 1, 2, 3], [6, 1, 2, 3], [4, 1, 2, 5]],
+    ),
+    (None, None, Some(3), &[[4, 1, 2, 3], [6, 1, 2, 3]]),
+    (Some(1), Some(2), Some(5), &[[4, 1, 2, 5]]),
+    (Some(3), None, None, &[]),
+];
+
+/// Of quads 3, 4 and 5, whose e:k is 7.
+const NAMED_HALF: &[NamedScan] = &[
+    (
+        None,
+        None,
+        None,
+        &[[6, 1, 2, 3], [6, 3, 2, 1], [7, 3, 2, 1]],
+    ),
+    (
+        None,
+        Some(2),
+        None,
+        &[[6, 3, 2, 1], [7, 3, 2, 1], [6, 1, 2, 3]],
+    ),
+    (Some(3), None, Some(1), &[[6, 3, 2, 1], [7, 3, 2, 1]]),
+    (None, None, Some(5), &[]),
+];
+
+fn hands_out(mut scan: NamedQuads<'_>, wanted: &[[u32; 4]]) -> bool {
+    for quad in wanted {
+        if scan.next() != Some(*quad) {
+            return false;
+        }
+    }
+    scan.next().is_none()
+}
+
+fn are_named<V: View>(view: &V, scans: &[NamedScan]) -> bool {
+    for (subject, predicate, object, wanted) in scans {
+        if !hands_out(view.scan_named(*subject, *predicate, *object), wanted) {
+            return false;
+        }
+    }
+    true
+}
+
+fn is_named_half(draft: &mut Draft<'_>, quads: &[Quad]) -> bool {
+    change_draft(draft, quads, &TO_HALF) == Some(Ok(()))
+        && are_named(&*draft, NAMED_HALF)
+        && hands_out(draft.scan_named(Some(1), None, None), &[[6, 1, 2, 3]])
+}
+
+fn drafts_named(store: &mut Store, quads: &[Quad]) -> bool {
+    let mut draft = store.draft();
+    let is_half = is_named_half(&mut draft, quads);
+    draft.abandon();
+    is_half
+}
+
+fn scans_named(store: &mut Store, quads: &[Quad]) -> bool {
+    change_store(store, quads, &TO_BASE) == Some(Ok(()))
+        && drafts_named(store, quads)
+        && are_named(&*store, NAMED_BASE)
+        && hands_out(store.scan_named(None, Some(3), None), &[])
+        && hands_out(NamedQuads::nothing(), &[])
+}
+
+fn finds_named(alloc: Global, hasher: Option<RandomState>) -> bool {
+    match (quads(alloc), hasher) {
+        (Ok(quads), Some(hasher)) => {
+            let mut store = Store::new(alloc, 7, hasher);
+            let finds = scans_named(&mut store, &quads);
+            drop(store);
+            finds
+        }
+        _ => false,
+    }
+}
+
+#[test]
+fn finds_quads_of_all_named_graphs(rt: HostRuntime) {
+    assert!(rt; finds_named(rt.alloc(), RandomState::new(&rt).ok()));
 }

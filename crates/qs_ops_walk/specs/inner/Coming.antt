@@ -13,7 +13,7 @@ use Rattle.qs_ops_walk.specs.declared.source.Fork.{Fork as Branching}
 use Rattle.qs_ops_walk.specs.declared.source.Item.{Item}
 use Rattle.qs_ops_walk.specs.declared.source.Level.{Level}
 use Rattle.qs_ops_walk.specs.declared.source.Source.{Source}
-use Rattle.qs_ops_walk.specs.declared.source.Source.TheVariants.{Given, Triple, Names, Path, Probe, Optional, Fork}
+use Rattle.qs_ops_walk.specs.declared.source.Source.TheVariants.{Given, Triple, Quads, Names, Path, Probe, Optional, Fork}
 use Rattle.qs_ops_walk.specs.inner.Setting.{Setting, known_of, gives_in}
 use Rattle.qs_ops_walk.specs.inner.Works.{expr_of}
 
@@ -34,16 +34,6 @@ attempted s table a =
     or_else (known_of s) table a.alone
     (filter (λ n. all_hold (map expr_of a.conditions.list.items) (take s.width n)) (row_solutions (known_of s) table a.probe))
 
--- the solutions of the rows of a source
-abbrev pub source_rows : Setting → List Term → Source → List Solution
-source_rows s table (Given m) = row_if (known_of s) table m
-source_rows s table (Triple rows) = row_solutions (known_of s) table rows
-source_rows s table (Names rows) = row_solutions (known_of s) table rows
-source_rows s table (Path rows) = row_solutions (known_of s) table rows
-source_rows s table (Probe rows) = row_solutions (known_of s) table rows
-source_rows s table (Optional a) = attempted s table a
-source_rows s table (Fork f) = []
-
 -- ---- levels
 
 -- a solution, and the position where it goes on
@@ -60,6 +50,7 @@ forked known table f = map (λ start. (start, row_solution known table f.row)) (
 abbrev pub source_items : Setting → List Term → ℕ → Source → List Going
 source_items s table next (Given m) = going next (row_if (known_of s) table m)
 source_items s table next (Triple rows) = going next (row_solutions (known_of s) table rows)
+source_items s table next (Quads rows) = going next (row_solutions (known_of s) table rows)
 source_items s table next (Names rows) = going next (row_solutions (known_of s) table rows)
 source_items s table next (Path rows) = going next (row_solutions (known_of s) table rows)
 source_items s table next (Probe rows) = going next (row_solutions (known_of s) table rows)
@@ -92,6 +83,7 @@ pub record FitsAttempt (known table : List Term) (a : Attempt) : Type 0 where
 abbrev pub FitsSource : List Term → List Term → Source → Type 0
 FitsSource known table (Given m) = FitsOption known table m
 FitsSource known table (Triple rows) = FitRows known table rows
+FitsSource known table (Quads rows) = FitRows known table rows
 FitsSource known table (Names rows) = FitRows known table rows
 FitsSource known table (Path rows) = FitRows known table rows
 FitsSource known table (Probe rows) = FitRows known table rows

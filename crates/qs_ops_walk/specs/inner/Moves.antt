@@ -18,6 +18,8 @@ use Rattle.qs_ops_walk.specs.declared.source.Attempt.{Attempt}
 use Rattle.qs_ops_walk.specs.declared.source.Source.{Source}
 use Rattle.qs_ops_walk.specs.declared.source.Source.TheVariants as source
 use Rattle.qs_ops_walk.specs.declared.work.Conditions.{Conditions}
+use Rattle.qs_ops_walk.specs.declared.walk.Each.{Each}
+use Rattle.qs_ops_walk.specs.declared.work.Naming.{Naming}
 use Rattle.qs_ops_walk.specs.declared.work.Place.{Place}
 use Rattle.qs_ops_walk.specs.declared.work.Work.{Work}
 use Rattle.qs_ops_walk.specs.declared.work.Work.TheVariants as work
@@ -28,9 +30,11 @@ use Rattle.qs_algebra_patterns.specs.declared.pattern.TriplePattern.{TriplePatte
 use Rattle.qs_plan_meaning.specs.declared.stage.Look.{Look}
 use Rattle.qs_plan_meaning.specs.Scans.{extensions}
 use Rattle.qs_plan_meaning.specs.Stages.{looked}
+use Rattle.qs_ops_scans.specs.Each.{each_extension, misses}
 use Rattle.qs_ops_scans.specs.Makes.{Makes}
 use Rattle.qs_ops_scans.specs.Prepared.{prepared_look, prepared_triple}
 use Rattle.qs_ops_scans.specs.declared.look.PreparedLook.{PreparedLook}
+use Rattle.qs_ops_scans.specs.declared.look.PreparedLook.TheVariants as prepared
 use Rattle.qs_ops_scans.specs.declared.pattern.PreparedTriple.{PreparedTriple}
 use Rattle.qs_ops_walk.specs.inner.Setting.{Setting, known_of, gives_in, graph_in}
 use Rattle.qs_ops_walk.specs.inner.Works.{AreReady, IsRight, code_of}
@@ -183,10 +187,10 @@ OpensName width v r m src =
     (s : Setting) (i : Instruction) (table : List Term) → s.width ≡ width → IsTable (known_of s) table → FitsRow (known_of s) table m → i.stage ≡ stage.Name v r
     → Opens s i table m table src
 
--- the level is what comes of m at the position
+-- the level is what comes of m at the position, and takes no more moves than the program says
 pub record OpensTo (s : Setting) (code : List Instruction) (at : ℕ) (old : List Term) (m : Cells) (new : List Term) (l : Level) : Type 0 where
   pub rows : SameBag (flows s code (level_items s new l)) (flow_in s code at old m)
-  pub moves : 1 + summed (item_moves s code) (level_items s new l) ≡ toil_in s code at old m
+  pub moves : 1 + summed (item_moves s code) (level_items s new l) ≤ toil_in s code at old m
   pub fits : FitsLevel (known_of s) new l
 
 -- such a level stands after the others
@@ -201,6 +205,27 @@ pub record IsTripleOpened (s : Setting) (next : ℕ) (look : PreparedLook) (patt
   pub items : now ≡ levels ++ (record { next = next; source = source.Triple rows }) ∷ []
   pub makes : (place : Look) (p : TriplePattern) → look ≡ prepared_look (known_of s) place → pattern ≡ prepared_triple (known_of s) p
       → Makes (known_of s) (λ n. extensions p (looked s.content.quads (graph_in s) place n) n) m rows
+
+-- the place gives the names of graphs in the register, and the triple pattern after it, which has no such variable, looks in each of them
+pub record IsInEach (ps : List Place) (p : Place) (m : Cells) (each : Each) : Type 0 where
+  pub naming : Naming
+  pub names : p.work ≡ work.Names naming
+  pub register : naming.register ≡ each.register
+  pub k : ℕ
+  pub follows : p.instr.next ≡ suc k
+  pub after : Place
+  pub within : k < length ps
+  pub stands : after ≡ get_or ps k after
+  pub triple : after.work ≡ work.Triple (prepared.Register each.register) each.pattern.now
+  pub next : each.next ≡ after.instr.next
+  pub apart : misses each.register each.pattern.now ≡ true
+  pub cell : each.register < length m
+
+-- a level for what the pattern makes of m in each named graph stands after the others
+pub record IsQuadsOpened (s : Setting) (each : Each) (m : Cells) (levels now : List Level) : Type 0 where
+  pub rows : List Cells
+  pub items : now ≡ levels ++ (record { next = each.next; source = source.Quads rows }) ∷ []
+  pub makes : (p : TriplePattern) → each.pattern.now ≡ prepared_triple (known_of s) p → Makes (known_of s) (each_extension s.content.quads each.register p) m rows
 
 -- one move
 abbrev pub IsStep : Setting → List Instruction → List Term → List Level → Step → List Term → List Level → Type 0

@@ -1,5 +1,5 @@
 -- What the places of a walk have prepared and keep.
-use Rattle.std.specs.Prelude.{◌≡◌, ℕ, Bool, true, List, Option, None, Some, map, take, length, slice_set}
+use Rattle.std.specs.Prelude.{◌≡◌, ℕ, Bool, true, List, Option, None, Some, map, take, length, slice_set, Vec}
 use Rattle.std.specs.List.{AllByRecursion, list_any}
 use Rattle.qs_terms.specs.Bag.{SameBag}
 use Rattle.qs_terms.specs.Dataset.{names_of}
@@ -118,9 +118,14 @@ pub record ArePairsFor (s : Setting) (table : List Term) (t : Trail) (m : Cells)
       Serve (known_of s) table t.pattern.now (active_graph s.content s.default graph)
       (row_ends t.pattern.now m) pairs
 
+-- the numbers are those of all graphs, where they are kept
+abbrev pub IfGraphs : {Z : Type 0} → Setting → Option (Vec ℕ Z) → Type 0
+IfGraphs s None = Unit {0}
+IfGraphs s (Some numbers) = AreGraphs s.content numbers.items
+
 pub record IsNaming (s : Setting) (i : Stage) (n : Naming) : Type 0 where
   pub is : i ≡ stage.Names n.register
-  pub graphs : AreGraphs s.content n.numbers.items
+  pub graphs : IfGraphs s n.numbers
 
 pub record IsExists (s : Setting) (i : Stage) (found : Bool) : Type 0 where
   pub name : Term

@@ -12,12 +12,15 @@ use Rattle.qs_ops_walk.specs.declared.source.Source.TheVariants as source
 use Rattle.qs_ops_walk.specs.inner.Setting.{Setting, known_of}
 use Rattle.qs_ops_walk.specs.inner.Works.{code_of}
 use Rattle.qs_ops_walk.specs.inner.Coming.{coming}
+use Rattle.qs_ops_walk.specs.inner.After.{IsJoining}
 use Rattle.qs_ops_walk.specs.inner.Moves.{Goes, OpensAt}
 use Rattle.qs_ops_walk.proofs.Bags.{chain, none_left, same}
 use Rattle.qs_ops_walk.proofs.Placing.{height_at, ready_at, same_heights, set_code}
 use Rattle.qs_ops_walk.proofs.Walks.{spent, ended, gave, hit}
 use Rattle.qs_ops_walk.proofs.Finished.{finished_walk, finished_gives}
 use Rattle.qs_ops_walk.proofs.Steps.{whole, changed, mid_fit, settled_walk, opened, opened_walk, triple_opened, triple_walk}
+use Rattle.qs_ops_walk.proofs.FusedSteps.{quads_opened, quads_walk}
+use Rattle.qs_ops_walk.proofs.JoinedSteps.{given_opened, given_walk, joined_opened, joined_walk}
 use Rattle.qs_ops_walk.proofs.Opens.{opens_fed, opens_path, opens_names, opens_values, opens_union, opens_apart}
 use Rattle.qs_ops_walk.proofs.Asides.{name_fits, only_fits, aside_made, opens_attempt, opens_unless}
 use Rattle.qs_ops_walk.proofs.Gathering.{named_some, gathers_more, gathers_fewer, gathers_all, gathers_fit}
@@ -164,7 +167,7 @@ open-returns-in_ok-pairs-in-Path-clause-opens g t c =
 pub open-returns-in_ok-numbers-in-Names-clause-opens : goal.open-returns-in_ok-numbers-in-Names-clause-opens
 open-returns-in_ok-numbers-in-Names-clause-opens g t c =
     let r = rw c.in-Names.is at c.requires.ready in
-    opens_names c.args.reader.now c.args.place.now.instr c.args.scratch.now c.args.scratch.now c.args.row c.name_rows.result c.in-Names.naming.register r.is (c.name_rows.ensures (rw c.in_ok-numbers-in-Names.ensures r.graphs)) refl c.requires.table c.requires.row
+    opens_names c.args.reader.now c.args.place.now.instr c.args.scratch.now c.args.scratch.now c.args.row c.name_rows.result c.numbers_of.new.naming.register (rw c.numbers_of.ensures.register r.is) (c.name_rows.ensures c.in_ok-numbers-in-Names.ensures.graphs) refl c.requires.table c.requires.row
 
 pub open-returns-in_ok-source-in-Name-clause-opens : goal.open-returns-in_ok-source-in-Name-clause-opens
 open-returns-in_ok-source-in-Name-clause-opens g t c =
@@ -325,14 +328,58 @@ rows_of_right-returns-clause-right g t c =
     aside_made c.args.reader.now c.args.scratch.now c.rows_of_group.new.scratch c.rows_of_group.ensures.grows c.args.right.now.register c.args.right.now.group.now.stages c.name_at-name.result c.width-2.result c.in_ok-alone.alone c.in_ok-rows.rows.items c.in_ok-kept-3.kept
     (rw c.name_at-name.ensures f) (search rules) (search rules) (rw c.as_slice.ensures at c.in_ok-rows.ensures.rows) c.in_ok-rows.ensures.fit
 
-pub open_level-returns-clause-walk : goal.open_level-returns-clause-walk
-open_level-returns-clause-walk g t c =
+pub open_level-returns-in-Some-clause-walk : goal.open_level-returns-in-Some-clause-walk
+open_level-returns-in-Some-clause-walk g t c =
     let ps = c.args.walk.now.places.items in
     let l : c.args.at < length ps = omega (arith, c.requires.at, c.args.walk.now.places.ok.0) in
     triple_walk c.args.reader.now c.args.scratch.now ps c.args.walk.now.levels.items c.open_triple_level.new.levels.items c.args.at c.index-place.result.now c.args.row c.next-next.result c.in-Some.look c.in-Some.pattern.now c.requires.walk l c.index-place.ensures c.next-next.ensures c.in-Some.ensures.some c.in_ok-open_triple_level.ensures c.requires.table c.requires.row
 
-pub open_level-returns-clause-opened : goal.open_level-returns-clause-opened
-open_level-returns-clause-opened g t c =
+pub open_level-returns-in-Some-clause-opened : goal.open_level-returns-in-Some-clause-opened
+open_level-returns-in-Some-clause-opened g t c =
     let ps = c.args.walk.now.places.items in
     let l : c.args.at < length ps = omega (arith, c.requires.at, c.args.walk.now.places.ok.0) in
     triple_opened c.args.reader.now c.args.scratch.now ps c.args.walk.now.levels.items c.open_triple_level.new.levels.items c.args.at c.index-place.result.now c.args.row c.next-next.result c.in-Some.look c.in-Some.pattern.now c.requires.walk l c.index-place.ensures c.next-next.ensures c.in-Some.ensures.some c.in_ok-open_triple_level.ensures c.requires.table c.requires.row
+
+pub open_level-returns-in_ok-open_given_level-in-Given-clause-walk : goal.open_level-returns-in_ok-open_given_level-in-Given-clause-walk
+open_level-returns-in_ok-open_given_level-in-Given-clause-walk g t c =
+    let ps = c.args.walk.now.places.items in
+    let l : c.args.at < length ps = omega (arith, c.requires.at, c.args.walk.now.places.ok.0) in
+    let a = rw (c.in-Given.is, c.as_slice.ensures.value) at c.after_names.ensures in
+    let is = subst (λ (n : ℕ). IsJoining ps c.index-place.result.now c.args.row n c.in-Given.joining) (ap (λ (x : Setting). x.width) c.reader.view_is) a.0 in
+    given_walk c.args.reader.now c.args.scratch.now ps c.args.walk.now.levels.items c.open_given_level.new.levels.items c.args.at c.index-place.result.now c.args.row c.in-Given.joining c.requires.walk l c.index-place.ensures is c.requires.table c.requires.row c.in-Given.cell a.1 c.in_ok-open_given_level-in-Given.ensures
+
+pub open_level-returns-in_ok-open_given_level-in-Given-clause-opened : goal.open_level-returns-in_ok-open_given_level-in-Given-clause-opened
+open_level-returns-in_ok-open_given_level-in-Given-clause-opened g t c =
+    let ps = c.args.walk.now.places.items in
+    let l : c.args.at < length ps = omega (arith, c.requires.at, c.args.walk.now.places.ok.0) in
+    let a = rw (c.in-Given.is, c.as_slice.ensures.value) at c.after_names.ensures in
+    let is = subst (λ (n : ℕ). IsJoining ps c.index-place.result.now c.args.row n c.in-Given.joining) (ap (λ (x : Setting). x.width) c.reader.view_is) a.0 in
+    given_opened c.args.reader.now c.args.scratch.now ps c.args.walk.now.levels.items c.open_given_level.new.levels.items c.args.at c.index-place.result.now c.args.row c.in-Given.joining c.requires.walk l c.index-place.ensures is c.requires.table c.requires.row c.in-Given.cell a.1 c.in_ok-open_given_level-in-Given.ensures
+
+pub open_level-returns-in_ok-open_joined_level-in-Joined-clause-walk : goal.open_level-returns-in_ok-open_joined_level-in-Joined-clause-walk
+open_level-returns-in_ok-open_joined_level-in-Joined-clause-walk g t c =
+    let ps = c.args.walk.now.places.items in
+    let l : c.args.at < length ps = omega (arith, c.requires.at, c.args.walk.now.places.ok.0) in
+    let a = rw (c.in-Joined.is, c.as_slice.ensures.value) at c.after_names.ensures in
+    let is = subst (λ (n : ℕ). IsJoining ps c.index-place.result.now c.args.row n c.in-Joined.joining) (ap (λ (x : Setting). x.width) c.reader.view_is) a.0 in
+    joined_walk c.args.reader.now c.args.scratch.now ps c.args.walk.now.levels.items c.open_joined_level.new.levels.items c.args.at c.index-place.result.now c.args.row c.in-Joined.joining c.requires.walk l c.index-place.ensures is c.requires.table c.requires.row c.in-Joined.each a.1.0 c.in_ok-open_joined_level-in-Joined.ensures
+
+pub open_level-returns-in_ok-open_joined_level-in-Joined-clause-opened : goal.open_level-returns-in_ok-open_joined_level-in-Joined-clause-opened
+open_level-returns-in_ok-open_joined_level-in-Joined-clause-opened g t c =
+    let ps = c.args.walk.now.places.items in
+    let l : c.args.at < length ps = omega (arith, c.requires.at, c.args.walk.now.places.ok.0) in
+    let a = rw (c.in-Joined.is, c.as_slice.ensures.value) at c.after_names.ensures in
+    let is = subst (λ (n : ℕ). IsJoining ps c.index-place.result.now c.args.row n c.in-Joined.joining) (ap (λ (x : Setting). x.width) c.reader.view_is) a.0 in
+    joined_opened c.args.reader.now c.args.scratch.now ps c.args.walk.now.levels.items c.open_joined_level.new.levels.items c.args.at c.index-place.result.now c.args.row c.in-Joined.joining c.requires.walk l c.index-place.ensures is c.requires.table c.requires.row c.in-Joined.each a.1.0 c.in_ok-open_joined_level-in-Joined.ensures
+
+pub open_level-returns-in_ok-open_quads_level-in-InEach-clause-walk : goal.open_level-returns-in_ok-open_quads_level-in-InEach-clause-walk
+open_level-returns-in_ok-open_quads_level-in-InEach-clause-walk g t c =
+    let ps = c.args.walk.now.places.items in
+    let l : c.args.at < length ps = omega (arith, c.requires.at, c.args.walk.now.places.ok.0) in
+    quads_walk c.args.reader.now c.args.scratch.now ps c.args.walk.now.levels.items c.open_quads_level.new.levels.items c.args.at c.index-place.result.now c.args.row c.in-InEach.each c.requires.walk l c.index-place.ensures (rw (c.in-InEach.is, c.as_slice.ensures.value) at c.after_names.ensures) c.in_ok-open_quads_level-in-InEach.ensures c.requires.table c.requires.row
+
+pub open_level-returns-in_ok-open_quads_level-in-InEach-clause-opened : goal.open_level-returns-in_ok-open_quads_level-in-InEach-clause-opened
+open_level-returns-in_ok-open_quads_level-in-InEach-clause-opened g t c =
+    let ps = c.args.walk.now.places.items in
+    let l : c.args.at < length ps = omega (arith, c.requires.at, c.args.walk.now.places.ok.0) in
+    quads_opened c.args.reader.now c.args.scratch.now ps c.args.walk.now.levels.items c.open_quads_level.new.levels.items c.args.at c.index-place.result.now c.args.row c.in-InEach.each c.requires.walk l c.index-place.ensures (rw (c.in-InEach.is, c.as_slice.ensures.value) at c.after_names.ensures) c.in_ok-open_quads_level-in-InEach.ensures c.requires.table c.requires.row

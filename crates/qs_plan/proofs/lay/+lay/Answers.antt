@@ -5,7 +5,7 @@ use Rattle.qs_plan.specs.inner.Fixes.{SettledBy}
 use Rattle.qs_algebra_patterns.specs.declared.pattern.PatternNode.TheVariants as pattern
 use Rattle.qs_plan_meaning.specs.declared.stage.Stage.{Stage}
 use Rattle.qs_plan_meaning.specs.declared.stage.Stage.TheVariants.{Filter}
-use Rattle.qs_plan.proofs.Arms.{lays_at, as_part, values_arm, left_join_arm, optional_apart, minus_arm, extend_arm, apart_arm, union_arm, graph_arm, each_arm, at_flag, group_joins, steps_init, one_step_more, steps_end, steps_all, union_init, union_end}
+use Rattle.qs_plan.proofs.Arms.{lays_at, as_part, values_arm, left_join_arm, optional_apart, minus_arm, extend_arm, apart_arm, union_arm, graph_arm, each_arm, bound_arm, at_flag, group_joins, steps_init, one_step_more, steps_end, steps_all, union_init, union_end}
 use Rattle.qs_plan.proofs.Fed.{feeds_any, next_step}
 use Rattle.qs_plan.proofs.FedArms.{feeds_conditions, feeds_init, feeds_one, feeds_optional, feeds_step, next_fed_at, rest_init, rest_step, rest_ended}
 use Rattle.qs_plan.proofs.Fixing.{plain_first, plain_in_line, rest_of, whole_lays}
@@ -24,21 +24,26 @@ pub lay-returns-in_ok-laid-in-Values : goal.lay-returns-in_ok-laid-in-Values
 lay-returns-in_ok-laid-in-Values t c =
     values_arm c.args.first c.args.width c.args.look.now c.args.from _ _ c.args.part.now c.in-Values.table c.requires.named c.in-Values.is c.in_ok-laid-in-Values.ensures
 
-pub lay_each-returns-then-is_plain : goal.lay_each-returns-then-is_plain
-lay_each-returns-then-is_plain t c =
-    at_flag c.args.first false c.args.width c.args.look.now c.args.from _ _ _ (search rules)
-    (each_arm false c.args.width c.args.look.now c.args.from _ _ c.args.variable c.args.part.now c.in_ok-next.next _ _ c.requires.named c.in_ok-next.ensures c.in_ok-laid.ensures c.in_ok-laid-2.ensures)
+pub lay_plain_each-returns : goal.lay_plain_each-returns
+lay_plain_each-returns t c first place =
+    bound_arm first c.args.width place c.args.from _ _ c.args.variable c.args.part.now c.in_ok-next.next _ _ c.requires c.in_ok-next.ensures c.in_ok-laid.ensures c.in_ok-laid-2.ensures
+
+pub lay_seen_each-returns : goal.lay_seen_each-returns
+lay_seen_each-returns t c place =
+    each_arm true c.args.width place c.args.from _ _ c.args.variable c.args.part.now c.in_ok-next.next _ _ c.requires c.in_ok-next.ensures c.in_ok-laid.ensures c.in_ok-laid-2.ensures
+
+pub lay_each-returns-in-Some : goal.lay_each-returns-in-Some
+lay_each-returns-in-Some t c =
+    let k = rw c.in-Some.is at c.in_ok-laid.ensures in
+    k c.args.first c.args.look.now
 
 pub lay_each-returns-then-first : goal.lay_each-returns-then-first
 lay_each-returns-then-first t c =
-    at_flag c.args.first true c.args.width c.args.look.now c.args.from _ _ _ c.if-first.true
-    (each_arm true c.args.width c.args.look.now c.args.from _ _ c.args.variable c.args.part.now c.in_ok-next.next _ _ c.requires.named c.in_ok-next.ensures c.in_ok-laid-3.ensures c.in_ok-laid-4.ensures)
+    at_flag c.args.first true c.args.width c.args.look.now c.args.from _ _ _ c.if-first.true (c.in_ok-laid-2.ensures c.args.look.now)
 
 pub lay_each-returns : goal.lay_each-returns
 lay_each-returns t c =
-    apart_arm c.args.first c.args.width c.args.look.now c.args.from _ _ (pattern.EachGraph c.args.variable c.args.part.now) _ _ c.requires.named c.requires.within
-    (each_arm true c.args.width c.args.look.now c.args.from _ _ c.args.variable c.args.part.now c.in_ok-next.next _ _ c.requires.named c.in_ok-next.ensures c.in_ok-laid-3.ensures c.in_ok-laid-4.ensures)
-    c.in_ok-laid-5.ensures
+    apart_arm c.args.first c.args.width c.args.look.now c.args.from _ _ (pattern.EachGraph c.args.variable c.args.part.now) _ _ c.requires.named c.requires.within (c.in_ok-laid-2.ensures c.args.look.now) c.in_ok-laid-3.ensures
 
 pub lay_graph-returns : goal.lay_graph-returns
 lay_graph-returns t c place =

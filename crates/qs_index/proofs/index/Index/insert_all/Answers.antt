@@ -1,4 +1,4 @@
-use Rattle.std.proofs.Common.{map, subst}
+use Rattle.std.proofs.Common.{map, subst, ap, arith}
 use Rattle.std.specs.List.{All}
 use Rattle.std.proofs.lemmas.List.Elements.{All-contains}
 use Rattle.std.proofs.lemmas.List.Sorted.{IsPermutation-map, IsPermutation-trans, IsPermutation-sym}
@@ -6,6 +6,7 @@ use Rattle.qs_index.specs.Entries.{IsUnion}
 use Rattle.qs_index.specs.Entry.{IsEntry}
 use Rattle.qs_index.specs.Permutation.{turned}
 use Rattle.qs_index.specs.declared.permutation.Permutation.TheVariants.{Gpos, Gosp}
+use Rattle.qs_index.proofs.NamedOrders.{named_count-permutation}
 use Rattle.qs_index.proofs.Turned.{IsOrderOf-itself}
 use Rattle.qs_index.proofs.Unions.{IsUnion-permutation, IsOrderOf-union, turned_by_none, entries_of_union}
 use Rattle.qs_index.proofs.index.Index.insert_all.Goals as goal
@@ -40,3 +41,17 @@ returns-clause-union c =
 pub returns-clause-permutation : goal.returns-clause-permutation
 returns-clause-permutation c =
     IsPermutation-trans c.args.entries.now c.insert_turned-3.new.entries c.insert_all.new.entries (IsPermutation-trans c.args.entries.now c.insert_turned-2.new.entries c.insert_turned-3.new.entries (IsPermutation-trans c.args.entries.now c.insert_turned.new.entries c.insert_turned-2.new.entries c.insert_turned.ensures.permutation c.insert_turned-2.ensures.permutation) c.insert_turned-3.ensures.permutation) c.insert_all.ensures.permutation
+
+pub insert_all-requires : goal.insert_all-requires
+insert_all-requires c =
+    let all = c.args.entries.now in
+    let moved = IsPermutation-trans all c.insert_turned.new.entries c.insert_turned-2.new.entries c.insert_turned.ensures.permutation c.insert_turned-2.ensures.permutation in
+    let whole = IsPermutation-trans all c.insert_turned-2.new.entries c.insert_turned-3.new.entries moved c.insert_turned-3.ensures.permutation in
+    omega (arith, named_count-permutation all c.insert_turned-3.new.entries whole, c.requires.named_room, ap (λ s. s.named_spare) c.self.view_is)
+
+pub returns-clause-named_spare : goal.returns-clause-named_spare
+returns-clause-named_spare c =
+    let all = c.args.entries.now in
+    let moved = IsPermutation-trans all c.insert_turned.new.entries c.insert_turned-2.new.entries c.insert_turned.ensures.permutation c.insert_turned-2.ensures.permutation in
+    let whole = IsPermutation-trans all c.insert_turned-2.new.entries c.insert_turned-3.new.entries moved c.insert_turned-3.ensures.permutation in
+    omega (arith, named_count-permutation all c.insert_turned-3.new.entries whole, c.insert_all.ensures.spare, ap (λ s. s.named_spare) c.self.view_is)

@@ -15,7 +15,7 @@ returns-clause-agreeing c =
     let ys = c.order-order.result.now.entries in
     let found = beginning (prefix_of c.args.graph c.args.subject c.args.predicate c.args.object) ys in
     let made : c.new.result.rest ≡ map (restored used) found = ap (λ s. s.rest) c.new.ensures ∙ ap (λ k. map (restored k) c.scan.result.rest) c.new-lookup.ensures.permutation ∙ ap (map (restored used)) (c.scan.ensures.rest ∙ ap (λ p. beginning p ys) c.new-lookup.ensures.prefix) in
-    let order : IsOrderOf used xs ys = order_of_used c.args.subject c.args.predicate c.args.object _ xs ys _ c.new-lookup.ensures.permutation c.order-order.ensures.order in
+    let order : IsOrderOf used xs ys = order_of_used c.args.subject c.args.predicate c.args.object _ xs ys c.new-lookup.ensures.permutation c.order-order.ensures.order in
     subst (IsPermutation (agreeing c.args.graph c.args.subject c.args.predicate c.args.object xs)) (sym made)
     (scan_agrees c.args.graph c.args.subject c.args.predicate c.args.object xs ys c.order-order.ensures.entries c.order-order.ensures.ascending order)
 
@@ -29,4 +29,4 @@ returns-clause-ascending c =
 
 pub returns-clause-size : goal.returns-clause-size
 returns-clause-size c =
-    ap (λ s. s.size) c.new.ensures ∙ c.scan.ensures.size ∙ order_length (order_used c.args.subject c.args.predicate c.args.object) c.args.self.now.entries c.order-order.result.now.entries c.order-order.ensures.ascending (order_of_used c.args.subject c.args.predicate c.args.object _ _ _ _ c.new-lookup.ensures.permutation c.order-order.ensures.order)
+    ap (λ s. s.size) c.new.ensures ∙ c.scan.ensures.size ∙ order_length (order_used c.args.subject c.args.predicate c.args.object) c.args.self.now.entries c.order-order.result.now.entries c.order-order.ensures.ascending (order_of_used c.args.subject c.args.predicate c.args.object _ _ _ c.new-lookup.ensures.permutation c.order-order.ensures.order)

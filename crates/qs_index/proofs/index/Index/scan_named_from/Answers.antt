@@ -17,7 +17,7 @@ returns-clause-agreeing c =
     let ys = c.order-order.result.now.entries in
     let found = beginning (named_prefix_of c.args.subject c.args.predicate c.args.object) ys in
     let made : c.new.result.rest ≡ map (restored used) found = ap (λ s. s.rest) c.new.ensures ∙ ap (λ k. map (restored k) c.scan.result.rest) c.of_named-lookup.ensures.permutation ∙ ap (map (restored used)) (c.scan.ensures.rest ∙ ap (λ p. beginning p ys) c.of_named-lookup.ensures.prefix) in
-    let order : IsOrderOf used (named_entries xs) ys = order_of_named c.args.subject c.args.predicate c.args.object _ xs ys _ c.requires c.of_named-lookup.ensures.permutation c.order-order.ensures.order in
+    let order : IsOrderOf used (named_entries xs) ys = order_of_named c.args.subject c.args.predicate c.args.object _ xs ys c.of_named-lookup.ensures.permutation c.order-order.ensures.order in
     subst (IsPermutation (agreeing_named c.args.subject c.args.predicate c.args.object xs)) (sym made)
     (scan_agrees_named c.args.subject c.args.predicate c.args.object xs ys c.order-order.ensures.entries c.order-order.ensures.ascending order)
 
@@ -31,4 +31,4 @@ returns-clause-ascending c =
 
 pub returns-clause-size : goal.returns-clause-size
 returns-clause-size c =
-    ap (λ s. s.size) c.new.ensures ∙ c.scan.ensures.size ∙ order_length (named_order_used c.args.subject c.args.predicate c.args.object) (named_entries c.args.self.now.entries) c.order-order.result.now.entries (IsAscending-filter is_named c.args.self.now.entries c.order-order.ensures.ascending) (order_of_named c.args.subject c.args.predicate c.args.object _ _ _ _ c.requires c.of_named-lookup.ensures.permutation c.order-order.ensures.order)
+    ap (λ s. s.size) c.new.ensures ∙ c.scan.ensures.size ∙ order_length (named_order_used c.args.subject c.args.predicate c.args.object) (named_entries c.args.self.now.entries) c.order-order.result.now.entries (IsAscending-filter is_named c.args.self.now.entries c.order-order.ensures.ascending) (order_of_named c.args.subject c.args.predicate c.args.object _ _ _ c.of_named-lookup.ensures.permutation c.order-order.ensures.order)

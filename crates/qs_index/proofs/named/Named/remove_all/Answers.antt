@@ -1,4 +1,4 @@
-use Rattle.std.proofs.Common.{◌≡◌, ◌++◌, true, map, drop, ap, sym, ◌∙◌, subst}
+use Rattle.std.proofs.Common.{◌++◌, map, drop, sym, subst}
 use Rattle.std.specs.List.Sorted.{IsPermutation}
 use Rattle.std.proofs.lemmas.List.Sorted.{IsPermutation-append_right, IsPermutation-trans}
 use Rattle.qs_index.specs.Entries.{IsDifference}
@@ -9,12 +9,11 @@ use Rattle.qs_index.proofs.named.Named.remove_all.Goals as goal
 
 pub returns-clause-orders : goal.returns-clause-orders
 returns-clause-orders c =
-    let kept : c.args.self.now.kept ≡ true = sym (ap (λ s. s.kept) c.self.view_is) ∙ c.if-not-self.false in
     let all = c.default_first-first.new.entries in
     let k = c.default_first-first.result in
     λ xs ys u a.
     let named = named_difference xs c.args.entries.now all ys k c.default_first-first.ensures.permutation c.default_first-first.ensures.default u in
-    AreNamedOf-difference c.args.self.now c.remove_each.new.self xs ys (drop k all) kept c.remove_each.ensures.room.same named
+    AreNamedOf-difference c.args.self.now c.remove_each.new.self xs ys (drop k all) named
     (subst (λ r. IsDifference c.args.self.now.by_subject (map (turned Spog) r) c.remove_each.new.self.by_subject) c.split_at_mut-named.ensures.back c.remove_each.ensures.subject)
     (subst (λ r. IsDifference c.args.self.now.by_predicate (map (turned Posg) r) c.remove_each.new.self.by_predicate) c.split_at_mut-named.ensures.back c.remove_each.ensures.predicate)
     (subst (λ r. IsDifference c.args.self.now.by_object (map (turned Ospg) r) c.remove_each.new.self.by_object) c.split_at_mut-named.ensures.back c.remove_each.ensures.object)

@@ -6,4 +6,4 @@ use Rattle.qs_store.proofs.layers.Layers.reset.Goals as goal
 pub returns-clause-draft : goal.returns-clause-draft
 returns-clause-draft c =
     let base = c.self.inside.index.entries in
-    ap (λ r. drafted base r c.empty-2.result.entries) c.empty.ensures.entries ∙ ap (λ a. drafted base [] a) c.empty-2.ensures.entries ∙ drafted_none base ∙ ap (λ v. v.base) c.self.view_is
+    ap (λ r. drafted base r c.new-2.result.entries) c.new.ensures.entries ∙ ap (λ a. drafted base [] a) c.new-2.ensures.entries ∙ drafted_none base ∙ ap (λ v. v.base) c.self.view_is

@@ -13,4 +13,4 @@ returns-clause-base c =
 pub returns-clause-draft : goal.returns-clause-draft
 returns-clause-draft c =
     let base = c.put_all.new.index.entries in
-    ap (λ r. drafted base r c.empty-2.result.entries) c.empty.ensures.entries ∙ ap (λ a. drafted base [] a) c.empty-2.ensures.entries ∙ drafted_none base
+    ap (λ r. drafted base r c.new-2.result.entries) c.new.ensures.entries ∙ ap (λ a. drafted base [] a) c.new-2.ensures.entries ∙ drafted_none base

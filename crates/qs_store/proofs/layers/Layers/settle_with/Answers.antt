@@ -11,4 +11,4 @@ returns-in-Ok-clause-base c =
 pub returns-in-Ok-clause-draft : goal.returns-in-Ok-clause-draft
 returns-in-Ok-clause-draft c =
     let base = c.put_together.new.index.entries in
-    ap (λ r. drafted base r c.set-in-Ok.new.slot.entries) (ap (λ i. i.entries) c.set.ensures ∙ c.empty.ensures.entries) ∙ (ap (λ a. drafted base [] a) (ap (λ i. i.entries) c.set-in-Ok.ensures ∙ c.empty-in-Ok.ensures.entries) ∙ drafted_none base)
+    ap (λ r. drafted base r c.set-in-Ok.new.slot.entries) (ap (λ i. i.entries) c.set.ensures ∙ c.new.ensures.entries) ∙ (ap (λ a. drafted base [] a) (ap (λ i. i.entries) c.set-in-Ok.ensures ∙ c.new-in-Ok.ensures.entries) ∙ drafted_none base)

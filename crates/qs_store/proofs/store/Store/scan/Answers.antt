@@ -1,5 +1,4 @@
-use Rattle.std.proofs.Common.{ap, subst, ◌∙◌}
-use Rattle.qs_store.specs.Scans.{graphs_of}
+use Rattle.std.proofs.Common.{subst}
 use Rattle.qs_store.specs.Triples.{AreTriples}
 use Rattle.qs_store.proofs.TriplesSaid.{store_triples}
 use Rattle.qs_store.proofs.store.Store.scan.Goals as goal
@@ -10,5 +9,5 @@ returns c =
     let i = c.self.invariant in
     let a = c.args in
     subst (λ v. AreTriples v.base v.default_graph a.active a.subject a.predicate a.object c.scan.result) c.self.view_is
-    (store_triples s.dict.terms s.layers.base c.scan.result s.known s.next s.layers.has_named c.graphs_of-graphs.result a.active a.subject a.predicate a.object i.distinct i.within i.known_base
-    (c.graphs_of-graphs.ensures ∙ ap (λ h. graphs_of h a.active) c.has_named.ensures) c.scan.ensures)
+    (store_triples s.dict.terms s.layers.base c.scan.result s.known s.next s.default_graph c.graphs_of-graphs.result a.active a.subject a.predicate a.object i.distinct i.within i.known_base
+    c.graphs_of-graphs.ensures c.scan.ensures)

@@ -1,4 +1,4 @@
-use Rattle.qs_index.proofs.index.Index.reserve.Goals as goal
+use Rattle.qs_index.proofs.index.Index.reserve_for.Goals as goal
 
 pub invariant_of-self-2 : goal.invariant_of-self-2
 invariant_of-self-2 c =

@@ -1,0 +1,7 @@
+use Rattle.qs_ops_scans.proofs.Joined.{joined_made}
+use Rattle.qs_ops_scans.proofs.quads.joined_quad_rows.Goals as goal
+
+pub returns : goal.returns
+returns g c p e =
+    rw c.acts_of-acts.ensures
+    (joined_made (g.V.View.content c.args.view.now) c.args.width c.args.variable c.args.register c.args.pattern.now c.args.row p c.quads_of-scan.result c.content_is_lawful.ensures c.quads_of-scan.ensures c.requires.apart c.requires.other c.requires.cell c.requires.named c.requires.wide c.requires.open e)
