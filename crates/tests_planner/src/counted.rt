@@ -52,10 +52,7 @@ fn count_of(slot: &Slot) -> Option<u64> {
 }
 
 impl Counts for Known {
-    fn about(&self, look: &Look, pattern: &TriplePattern, limit: u64) -> u64 {
-        if look.register().is_some() {
-            return limit;
-        }
+    fn about(&self, _look: &Look, pattern: &TriplePattern, limit: u64) -> u64 {
         match count_of(&pattern.object) {
             Some(count) => count,
             None => count_of(&pattern.predicate).unwrap_or(limit),
@@ -177,10 +174,10 @@ const PLANS: &[(&str, &str)] = &[
         "SELECT * { ?a <u:p> ?b OPTIONAL { ?b <u:q> ?c . ?c <u:rare> ?d } ?a <u:type> <u:One> }",
         "triple ?0 <u:p> ?1\noptional\n  triple ?2 <u:rare> ?3\n  triple ?1 <u:q> ?2\ntriple ?0 <u:type> <u:One>\n",
     ),
-    // in each named graph nothing is counted
+    // triples in the graph of a register are counted too
     (
         "SELECT * { GRAPH ?g { ?a <u:p> ?b . ?b <u:rare> ?c } }",
-        "names ?4\ntriple ?1 <u:p> ?2 in ?4\ntriple ?2 <u:rare> ?3 in ?4\nname ?0 = ?4\n",
+        "names ?4\nname ?0 = ?4\ntriple ?2 <u:rare> ?3 in ?4\ntriple ?1 <u:p> ?2 in ?4\n",
     ),
     (
         "SELECT * { GRAPH <u:g> { ?a <u:p> ?b . ?b <u:rare> ?c } }",

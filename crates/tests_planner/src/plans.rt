@@ -86,7 +86,7 @@ const PLANS: &[(&str, &str)] = &[
     // the parts look where the path does
     (
         "SELECT * { GRAPH ?g { ?a <u:p>/<u:q> ?b } }",
-        "names ?3\ntriple ?1 <u:p> ?4 in ?3\ntriple ?4 <u:q> ?2 in ?3\nname ?0 = ?3\n",
+        "names ?3\nname ?0 = ?3\ntriple ?1 <u:p> ?4 in ?3\ntriple ?4 <u:q> ?2 in ?3\n",
     ),
     (
         "SELECT * { GRAPH <u:g> { ?a <u:p>|<u:q> ?b } }",
@@ -121,6 +121,11 @@ const PLANS: &[(&str, &str)] = &[
     (
         "SELECT * { GRAPH ?g { ?a <u:p> <u:x> OPTIONAL { ?a <u:q> ?b } } }",
         "names ?3\ntriple ?1 <u:p> <u:x> in ?3\noptional, fed\n  triple ?1 <u:q> ?2 in ?3\nname ?0 = ?3\n",
+    ),
+    // GRAPH with a variable is fed too
+    (
+        "SELECT * { <u:a> <u:p> ?b OPTIONAL { GRAPH ?g { ?b <u:q> ?c } } }",
+        "triple <u:a> <u:p> ?0\noptional, fed\n  names ?3\n  name ?1 = ?3\n  triple ?0 <u:q> ?2 in ?3\n",
     ),
     // a group with filters is fed where it is certain to bind what they read
     (
@@ -160,10 +165,15 @@ const PLANS: &[(&str, &str)] = &[
         "SELECT * { ?a <u:p> _:x { ?a <u:q> _:y } }",
         "triple ?0 <u:p> ?1\ntriple ?0 <u:q> ?2\n",
     ),
-    // the name is joined after the triples, which look in the register
+    // the name is joined before the triples, which look in the register
     (
         "SELECT * { GRAPH ?g { ?a <u:p> _:b } }",
-        "names ?2\ntriple ?1 <u:p> ?3 in ?2\nname ?0 = ?2\n",
+        "names ?2\nname ?0 = ?2\ntriple ?1 <u:p> ?3 in ?2\n",
+    ),
+    // where an OPTIONAL is inside, the graph is evaluated by itself, unless it comes first, and the name is joined last
+    (
+        "SELECT * { ?a <u:p> ?b GRAPH ?g { ?b <u:q> ?c OPTIONAL { ?c <u:r> ?d } } }",
+        "triple ?0 <u:p> ?1\njoin\n  names ?5\n  triple ?1 <u:q> ?3 in ?5\n  optional of ?5\n    triple ?3 <u:r> ?4 in ?5\n  name ?2 = ?5\n",
     ),
     // the filter of a graph that doesn't come first sees neither its name nor what is bound outside
     (
@@ -263,10 +273,10 @@ const FILTERS: &[(&str, &str)] = &[
         "SELECT * { ?a <u:p> ?b { ?b <u:q> ?c OPTIONAL { ?c <u:r> ?d } } FILTER(?d = 'x') }",
         "triple ?0 <u:p> ?1\njoin\n  triple ?1 <u:q> ?2\n  optional\n    triple ?2 <u:r> ?3\nfilter (= ?3 \"x\")\n",
     ),
-    // the name of a graph is certain where it is joined with the triples in it
+    // the name of a graph is certain from where it is joined, before the triples in it
     (
         "SELECT * { GRAPH ?g { ?a <u:p> ?b } OPTIONAL { GRAPH ?g { ?b <u:q> ?c } } FILTER(?g != <u:g>) }",
-        "names ?4\ntriple ?1 <u:p> ?2 in ?4\nname ?0 = ?4\nfilter (!= ?0 <u:g>)\noptional\n  names ?5\n  triple ?2 <u:q> ?3 in ?5\n  name ?0 = ?5\n",
+        "names ?4\nname ?0 = ?4\nfilter (!= ?0 <u:g>)\ntriple ?1 <u:p> ?2 in ?4\noptional\n  names ?5\n  name ?0 = ?5\n  triple ?2 <u:q> ?3 in ?5\n",
     ),
     // BIND may leave its variable unbound
     (
@@ -339,7 +349,7 @@ const FILTERS: &[(&str, &str)] = &[
     ),
     (
         "SELECT * { GRAPH ?g { ?a <u:p> ?b FILTER(?a = <u:x>) } }",
-        "names ?3\nvalues ?1, rows: 1\nfilter (= ?1 <u:x>)\ntriple ?1 <u:p> ?2 in ?3\nname ?0 = ?3\n",
+        "names ?3\nname ?0 = ?3\nvalues ?1, rows: 1\nfilter (= ?1 <u:x>)\ntriple ?1 <u:p> ?2 in ?3\n",
     ),
     // a first group that isn't joined alone stays in line, and has its filter where it went
     (
@@ -358,6 +368,11 @@ const FILTERS: &[(&str, &str)] = &[
     (
         "SELECT * { ?a <u:p> ?b { { ?b <u:q> ?c FILTER(?c > 'x') } UNION { ?b <u:r> ?c } } }",
         "triple ?0 <u:p> ?1\nunion\n  branch\n    triple ?1 <u:q> ?2\n    filter (> ?2 \"x\")\n  branch\n    triple ?1 <u:r> ?2\n",
+    ),
+    // so has one in each named graph
+    (
+        "SELECT * { ?a <u:p> ?b GRAPH ?g { ?a <u:q> ?c FILTER(?c > 'x') } }",
+        "triple ?0 <u:p> ?1\nnames ?4\nname ?2 = ?4\ntriple ?0 <u:q> ?3 in ?4\nfilter (> ?3 \"x\")\n",
     ),
     // a filter on what the row before binds alone sees nothing of it
     (
