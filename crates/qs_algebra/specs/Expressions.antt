@@ -1,4 +1,6 @@
 -- The expressions of a text, with their variables by numbers (SPARQL 1.1 Query, 17).
+-- A product of no operands, which no text has, is a COALESCE of nothing and errs. A variable that isn't in the list has the
+-- number past the last.
 use Rattle.std.specs.Prelude.{List, [], ◌∷◌}
 use Rattle.qs_terms.specs.declared.term.Term.TheVariants as term
 use Rattle.qs_syntax_tree.specs.declared.expression.Comparison.{Comparison as WrittenComparison}

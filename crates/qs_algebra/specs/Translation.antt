@@ -1,5 +1,7 @@
 -- The pattern of a group (SPARQL 1.1 Query, 18.2.2, simplified as in 18.2.2.8): what its steps make of the empty solution, in the
 -- order of the text, as far as its filters hold.
+-- The simplification of a single part (SPARQL 1.1 Query, 18.2.2.8) holds for a pattern that is joined alone.
+-- `{ OPTIONAL { .. } }` stays a left join of the empty solution.
 use Rattle.std.specs.Prelude.{ℕ, List, [], ◌∷◌, ◌++◌, map, Option, Some, None}
 use Rattle.std.specs.List.{flat_map}
 use Rattle.qs_terms.specs.declared.term.Term.TheVariants as value

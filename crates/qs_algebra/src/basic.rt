@@ -1,4 +1,8 @@
 //! Basic graph patterns (SPARQL 1.1 Query, 18.2.2.5).
+//!
+//! A slot or a path that equals that of the same place of the pattern before shares it. The pattern before takes no memory, where
+//! a table of all terms would; the triples of one subject or verb are one after another. Those of brackets are between them:
+//! there a term is copied once more.
 
 ghost use Rattle.std.specs.Prelude.{◌≡◌, ◌↔◌, IfOk, IsTrue};
 ghost use Rattle.std.specs.List.{filter_map};

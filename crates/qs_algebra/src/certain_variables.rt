@@ -23,7 +23,7 @@ pub fn certain(alloc: Global, pattern: &Pattern) -> Result<Vec<bool>, AllocError
     certain_of_node(alloc, pattern.names.len(), &pattern.root)
 }
 
-/// The same of a node among `width` named variables.
+/// Which of `width` named variables each solution of a node binds.
 #[cycle(certain)]
 fn certain_of_node(
     alloc: Global,

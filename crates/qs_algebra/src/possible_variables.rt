@@ -1,4 +1,7 @@
 //! The variables that some solution of a pattern may bind.
+//!
+//! A variable of BIND is possible at every number, the others among the named ones alone. Whether a solution is long enough for
+//! BIND's variable isn't known from the step.
 
 ghost use Rattle.std.specs.Prelude.{◌≡◌, length, IfOk};
 ghost use Rattle.std.specs.List.{list_any};
@@ -21,7 +24,7 @@ pub fn possible(alloc: Global, pattern: &Pattern) -> Result<Vec<bool>, AllocErro
     possible_of_node(alloc, pattern.names.len(), &pattern.root)
 }
 
-/// The same of a node among `width` named variables.
+/// Which of `width` named variables a solution of a node may bind.
 #[cycle(possible)]
 fn possible_of_node(
     alloc: Global,

@@ -1,4 +1,7 @@
 //! The patterns of queries (SPARQL 1.1 Query, 18.2).
+//!
+//! A WHERE is translated with its own variables, or with those of a text (`translate_where_with`). The templates of an update and
+//! its WHERE have the numbers of the text's variables in common. By themselves the variables of filters are the last.
 
 ghost use Rattle.std.specs.List.{flat_map};
 ghost use Rattle.std.specs.Prelude.{◌≡◌, ◌++◌, IfOk, IfErr, OnOk};

@@ -1,4 +1,8 @@
 //! Values with their hashes.
+//!
+//! The scratch table and the set of DISTINCT look their values up by the hash first, in ordered maps. A hash map needs a random
+//! key, which these layers don't have: with a fixed one, whoever chooses texts with equal hashes makes each look-up walk all of
+//! them.
 
 ghost use Rattle.std.specs.Prelude.{◌≡◌, nat_eq, refl, Some};
 ghost use Rattle.std.specs.Ordering.{nat_cmp, on, ordering_then, then_cmp, eq_of_both};

@@ -1,5 +1,7 @@
 //! Helpers that keep or drop values of any type. Each takes the value as a type parameter, so that a large tree is dropped by one call,
 //! also where a later step fails, and the proofs of its callers needn't take it apart.
+//!
+//! A value whose drop is large isn't alive where a step may fail. These helpers take it over any type, and drop it by one call.
 
 ghost use Rattle.std.specs.Prelude.{◌≡◌, ◌++◌, ◌∷◌, [], IfOk, IfErr, IsOk, OnOk, Ok, Err};
 

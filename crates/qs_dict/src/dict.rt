@@ -1,4 +1,7 @@
 //! A dictionary of terms.
+//!
+//! An unknown term is hashed twice, to look for it and to put it in. The set has no entry by reference, and finds a term by a
+//! term and not by its parts. `Dict::new` takes no memory, and `cut` past the end leaves all, so neither can fail.
 
 ghost use Rattle.std.specs.Prelude.{◌≡◌, ◌↔◌, ◌<◌, ◌≤◌, ℕ, None, Some, Ok, Err, [], length, take, IfOk, IfErr, OnOk, OnErr, IfSome, IsTrue};
 ghost use Rattle.qs_terms.specs.Bag.{with_new};
@@ -160,7 +163,7 @@ impl Dict {
         ensures lawful { IsDictionary self.new }
         ensures refused { OnErr result (self.new ≡ self.old) }
 
-        // A term that is there is never refused, and a new one for want of room exactly where the limit is reached.
+        // A term that is there is never refused, and a new one is `Full` exactly where the limit is reached.
         ensures present { (n : ℕ) → number_of self.old.terms term.now ≡ Some n → (result ≡ Ok n) × (self.new ≡ self.old) }
         ensures full { (result ≡ Err Full) ↔ ((number_of self.old.terms term.now ≡ None) × (length self.old.terms ≡ self.old.limit)) }
         ensures kept { KeepsNumbers (length self.old.terms) self.old.terms self.new.terms }

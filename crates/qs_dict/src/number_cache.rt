@@ -1,4 +1,7 @@
 //! Numbers of terms that were asked for not long ago.
+//!
+//! The last number of each of 64 slots is a hint that no contract sees. A term that has it isn't hashed. Literals take no slot,
+//! as they are seldom repeated.
 
 ghost use Rattle.std.specs.Prelude.{◌<◌, IfSome};
 

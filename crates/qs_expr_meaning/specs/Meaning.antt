@@ -1,4 +1,5 @@
 -- What an expression means in a solution (SPARQL 1.1 Query, 17): a term, or none where it errs.
+-- Unary `+` computes: `+ "01"^^xsd:integer` is `1`, while the token `+1` is a literal as it is written.
 use Rattle.std.specs.Prelude.{Bool, true, false, List, [], ◌∷◌, map, Option, Some, None, ℤ, ◌+ℤ◌, ◌-ℤ◌, ◌*ℤ◌, neg_ℤ}
 use Rattle.std.specs.Option.{is_some, option_map, option_and_then}
 use Rattle.std.specs.List.{fold}

@@ -1,4 +1,5 @@
 -- The order of ORDER BY (SPARQL 1.1 Query, 15.1): kinds in their order, and within a kind its own; equal keys tie.
+-- Ill-formed booleans and integers, and integers out of range, sort among all other literals.
 use Rattle.std.specs.Prelude.{ℕ, Bool, true, false, List, Option, Some, None}
 use Rattle.std.specs.declared.cmp.Ordering.{Ordering}
 use Rattle.std.specs.declared.cmp.Ordering.TheVariants.{Equal}

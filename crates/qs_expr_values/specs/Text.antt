@@ -1,4 +1,5 @@
 -- Texts in texts, and language ranges.
+-- The empty language range matches the empty tag alone; RFC 4647 has no empty range.
 use Rattle.std.specs.Prelude.{ℕ, Bool, false, ◌||◌, List, [], ◌∷◌, ◌++◌, codes, nat_eq}
 use Rattle.std.specs.List.{starts_with}
 use Rattle.std.specs.Str.{bytes_eq}

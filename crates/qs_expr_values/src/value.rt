@@ -24,9 +24,9 @@ pub enum Value<'a> {
     Integer(i128),
     /// A string without a language tag.
     Text(&'a str),
-    /// The same, of the form of a computed integer, which lies in the value itself.
+    /// A string without a language tag: the form of a computed integer, held in the value itself.
     Digits(ArrayString<40>),
-    /// The same, of a text that was made.
+    /// A string without a language tag, of a text that was made.
     Made(OwnedText),
     /// A text that was made, with the language tag of a literal; without one where that has none.
     Tagged(OwnedText, &'a Lit),

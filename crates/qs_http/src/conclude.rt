@@ -1,4 +1,7 @@
 //! What the bytes of a request result in once its head has ended.
+//!
+//! A POST's head is parsed twice, when it ends and when its body is whole, so that a session keeps no borrowed parts. Both are
+//! bounded by the head's limit.
 
 ghost use Rattle.std.specs.Prelude.{◌≡◌, ◌≤◌, length, Some};
 ghost use Rattle.qs_http.specs.HeadEnd.{head_end};

@@ -1,4 +1,7 @@
 //! The head of a request: its first line and its fields.
+//!
+//! A head is what `httparse` takes in its default form, with room for 64 fields. Two Content-Length fields are refused also where
+//! they are equal.
 
 ghost use Rattle.std.specs.Prelude.{◌≡◌, ◌++◌, SomeIff, ◌+◌, ◌≤◌, ◌<◌, ℕ, List, [], ◌∷◌, length, IfSome};
 ghost use Rattle.httparse.specs.Spans.{IsRequestWithin};

@@ -1,4 +1,7 @@
 //! Where the head of a request ends.
+//!
+//! A head is too large as soon as 16,384 bytes are there without its end within them. Line ends before the head count, and an end
+//! that comes in the same piece doesn't help.
 
 ghost use Rattle.std.specs.Prelude.{◌≡◌, IsNone};
 ghost use Rattle.qs_http.specs.HeadState.{place_after, ends_head, end_from, place_from};

@@ -1,4 +1,7 @@
 //! The parameters of a query string or of a form.
+//!
+//! In the target of a POST only the four names of graph parameters are refused, once the body is there. `/data` ignores its
+//! parameters.
 
 ghost use Rattle.std.specs.Prelude.{◌≡◌, List, ℕ, IfOk};
 ghost use Rattle.std.specs.Str.{bytes_eq};

@@ -1,4 +1,7 @@
 //! A reply in one buffer: its body is written after room for a head, and its head then directly before the body.
+//!
+//! The head of a reply has the body's length. So the body is written after 160 bytes of room, more than any head needs, and the
+//! head then directly before it. A body of 100 MB isn't copied.
 
 ghost use Rattle.std.specs.Prelude.{◌≡◌, ◌≤◌, ◌++◌, ◌-◌, IfOk, drop, length, vec_len};
 ghost use Rattle.qs_http.specs.Reply.{reply_of, IsReplyStatus};

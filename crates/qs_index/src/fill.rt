@@ -1,4 +1,8 @@
 //! Pages that are filled whole, by entries that ascend.
+//!
+//! A list put into an empty order fills pages whole as far as it ascends. Only an empty order is filled so: after pages that
+//! aren't full, a page would cost more room than its entry. A reserve counts half a page for the first, so the room falls by no
+//! more than the entries.
 ghost use Rattle.std.specs.Prelude.{◌≡◌, ◌+◌, ◌-◌, ◌<◌, ◌≤◌, [], length, take};
 ghost use Rattle.qs_index.specs.Entries.{HaveFour, IsUnion};
 ghost use Rattle.qs_index.specs.Entry.{skip_before, with_entry};

@@ -1,4 +1,8 @@
 //! The set of entries in three orders, and that of the entries of named graphs in three more.
+//!
+//! `insert_all` sorts its slice for each order in place, without memory, since single inserts can ascend in one order alone. A
+//! reserve whose count of pages passes 64 bits answers out of memory, as std's does. The count of entries is below 2^72, so the
+//! count of a draft fits 128 bits.
 ghost use Rattle.std.specs.Prelude.{◌≡◌, ℕ, ◌+◌, ◌<◌, ◌≤◌, ◌^◌, ◌↔◌, min, Bool, true, false, List, [], ◌∷◌, length, map, IsTrue, IfSome, IfNone};
 ghost use Rattle.std.specs.Bool.{OnTrue, OnFalse};
 ghost use Rattle.std.specs.Result.{OnOk};

@@ -1,4 +1,7 @@
 //! The orders of the named graphs.
+//!
+//! A list is split once, the entries of named graphs last, so that no other is turned and sorted for these orders. The bound on
+//! looks of a scan of all named graphs counts the entries of its order: it is that of the other scans or a smaller one.
 ghost use Rattle.std.specs.Prelude.{◌≡◌, ℕ, ◌+◌, ◌<◌, ◌≤◌, ◌^◌, min, List, [], true, length, map};
 ghost use Rattle.std.specs.Result.{OnOk};
 ghost use Rattle.std.specs.List.{Contains};

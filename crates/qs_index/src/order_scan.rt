@@ -1,4 +1,7 @@
 //! A scan of one order.
+//!
+//! How many entries were given is a part of a scan's value that each step raises by one, beside those that are left. So no body
+//! can loosen the bound on looks by changing what the scan asks for.
 ghost use Rattle.std.specs.Prelude.{◌≡◌, ℕ, ◌+◌, ◌*◌, ◌^◌, ◌<◌, ◌≤◌, List, [], length, true, slice_index_or};
 ghost use Rattle.std.specs.Iterator.{item_count};
 ghost use Rattle.qs_index.specs.Digits.{digits};

@@ -1,4 +1,8 @@
 //! Binary searches in the pages of one order.
+//!
+//! A scan from an earlier place doubles its steps in the page of that place, and is a search of the whole order elsewhere. So it
+//! looks at two entries more at most, also where pages are nearly empty. Steps that double among pages would pass the bound on
+//! looks there.
 ghost use Rattle.std.specs.Prelude.{◌≡◌, ℕ, ◌+◌, ◌-◌, ◌*◌, ◌<◌, ◌≤◌, ◌^◌, List, [], ◌∷◌, length, drop, true, false, slice_index_or, IfOk, IfErr, IfSome, IfNone};
 ghost use Rattle.qs_index.specs.Digits.{digits};
 ghost use Rattle.qs_index.specs.Layout.{Layout, Reading, joined, page_at, rest_at};

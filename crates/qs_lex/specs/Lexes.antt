@@ -1,4 +1,5 @@
 -- The token list of a text (SPARQL 1.1 Query, 19.8: the longest token is taken at each place).
+-- The longest token is taken, so `<=>` is an IRI where `<` could begin a comparison.
 use Rattle.std.specs.Prelude.{◌≡◌, ◌≤◌, ◌<◌, ℕ, ◌+◌, Bool, true, false, not, cond, ◌||◌, ◌==◌, List, [], ◌∷◌, ◌++◌, length}
 use Rattle.std.specs.Str.{chars, encode_utf8_all}
 use Rattle.qs_lex.specs.Table.{IsToken}

@@ -71,7 +71,7 @@ pub fn is_base(c: char) -> bool
     }
 }
 
-/// The same, or `_`.
+/// One of PN_CHARS_BASE, or `_`.
 #[tactic(auto, unfolding(qs_lex_regular::specs::Character::is_pn_chars_u))]
 pub fn is_pn_chars_u(c: char) -> bool
     ensures { result ≡ is_pn_chars_u c }

@@ -1,4 +1,7 @@
 //! A text that is read a token at a time.
+//!
+//! Reads one token after another without memory. The token lists of `qs_lex` and `qs_syntax` are loops over it, so no text has
+//! its tokens in memory twice. Out of memory is answered only once there is a token to keep.
 
 ghost use Rattle.std.specs.Prelude.{◌≡◌, ◌<◌, ◌≤◌, ◌+◌, [], List, length, IfOk, IfErr, IfSome, OnSome};
 ghost use Rattle.qs_lex.specs.Lexes.{Lexeme, StopsAt};

@@ -1,4 +1,7 @@
 //! Characters of which tokens hold many in a row.
+//!
+//! Letters, digits and `_` in names, what IRIs hold, and what strings hold but their marks, backslashes and line ends are passed
+//! over at once. They leave what is left of the token's form as it is.
 
 ghost use Rattle.std.specs.Prelude.{◌≡◌, ◌≤◌, length};
 ghost use Rattle.std.specs.Str.{chars};

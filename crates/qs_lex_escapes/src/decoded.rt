@@ -50,7 +50,7 @@ pub fn decoded(alloc: Global, text: &str, kind: Escapes) -> Result<Text, AllocEr
     decoded_by_runs(alloc, text, kind)
 }
 
-// The same, run by run between the escapes.
+// The text that a text with escapes denotes, run by run between the escapes.
 #[tactic(auto, using(crate::proofs::EscapeEnds::boundary, crate::proofs::Backslashes::decoded_step, crate::proofs::Backslashes::decoded_plain))]
 fn decoded_by_runs(alloc: Global, text: &str, kind: Escapes) -> Result<Text, AllocError>
     ensures { IfOk result (λ t. t ≡ decoded (escape kind) text.now) }

@@ -1,4 +1,7 @@
 //! What holds of all that the forms of tokens spell.
+//!
+//! What an escape, a tag or an IRI is as characters of a token is one for N-Quads and SPARQL, and is proved once. N-Quads depends
+//! on no tree.
 
 ghost use Rattle.std.specs.Prelude.{◌≡◌, ◌+◌, ◌++◌, ℕ, List, Option, IsTrue, length, false};
 ghost use Rattle.std.specs.List.{list_any};

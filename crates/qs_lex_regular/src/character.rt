@@ -62,7 +62,7 @@ pub fn is_base(c: char) -> bool
         || within(0x1_0000, 0xE_FFFF, c)
 }
 
-/// The same, or `_` (PN_CHARS_U of SPARQL 1.1 Query, 19.8).
+/// One of PN_CHARS_BASE, or `_` (PN_CHARS_U of SPARQL 1.1 Query, 19.8).
 #[tactic(auto, unfolding(crate::specs::Character::is_pn_chars_u))]
 pub fn is_pn_chars_u(c: char) -> bool
     ensures { result ≡ is_pn_chars_u c }

@@ -1,4 +1,7 @@
 -- What a token says in a statement.
+-- A relative IRI that has no place in its statement is `iri`, any other token without a place is `shape`. `literal` comes only
+-- after a `^^` that had its place. An escape that gives an excluded character of an IRI is `iri`, looked for once the token was
+-- read.
 use Rattle.std.specs.Prelude.{ℕ, Bool, true, false, ◌-◌, List, length, Result, Ok, Err}
 use Rattle.qs_lex_escapes.specs.Decoded.{decoded}
 use Rattle.qs_lex_escapes.specs.Escape.{uchar, string_escape}

@@ -1,4 +1,6 @@
 -- How statements are made of their parts (RDF 1.1 N-Quads, 4): subject, predicate, object, optionally the name of a graph, `.`.
+-- Only spaces, tabs and a comment may follow the `.` of a statement on its line. LF and CR each are a token before a statement
+-- and after its `.`; only LF counts for the number of a line. A statement cut short has the number of the line that it ends on.
 use Rattle.std.specs.Prelude.{ℕ, Bool, true, false, List, Option, Some, None, Result, Ok, Err}
 use Rattle.qs_terms.specs.Literal.{Literal, xsd_string, typed, checked_typed, checked_tagged}
 use Rattle.qs_terms.specs.Statement.{Statement}

@@ -1,4 +1,7 @@
 -- The token table: each class of fronts of a text as a form over characters (RDF 1.1 N-Quads, 4).
+-- Two more classes are an IRI or a string without its end, and each of them up to a backslash. The longest front decides: a `\`
+-- in an IRI or a string that begins no lawful escape is `escape`, also one cut short by the end of the bytes. A `\` elsewhere is
+-- `token`.
 use Rattle.std.specs.Prelude.{ℕ, Bool, not, ◌||◌, ◌==◌, [], ◌∷◌}
 use Rattle.qs_lex_regular.specs.Character.{is_one_of, is_digit, is_letter, is_letter_or_digit, is_pn_chars_u, is_pn_chars, is_iri_char, is_scalar}
 use Rattle.qs_lex_regular.specs.Form.{Form, one, many, ◌⨾◌, ◌∣◌, maybe, plus, char, echar, uchar}

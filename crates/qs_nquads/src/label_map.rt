@@ -1,4 +1,8 @@
 //! Labels with their numbers, whichever map has them.
+//!
+//! Labels are in a map with random keys, since strangers choose them, or in std's ordered map where there is no hasher. Both are
+//! one enum, so that what reads tokens is proved once; it costs a branch a label. A label that was met before is found without a
+//! copy. Contracts see the labels in the order of first appearance.
 
 ghost use Rattle.std.specs.Prelude.{◌≡◌, ◌∷◌, ◌++◌, [], None, OnOk, OnErr, string_bytes};
 ghost use Rattle.std.specs.Map.{lookup};

@@ -1,4 +1,6 @@
 //! The numbers of blank nodes, by their labels.
+//!
+//! The last blank node's number is 2^64 - 2, so that the next number has 64 bits.
 
 ghost use Rattle.std.specs.Prelude.{◌≡◌, ℕ, [], Ok, Some, OnErr};
 ghost use Rattle.std.specs.Map.{lookup};

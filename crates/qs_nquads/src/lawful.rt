@@ -41,7 +41,7 @@ pub fn lawful_quad(quad: &Quad)
     lawful_term(quad.object());
 }
 
-/// The same of each quad of a list.
+/// Each quad of a list is lawful.
 pub fn lawful_quads(quads: &[Quad])
     ensures { AreQuads quads.now }
 {

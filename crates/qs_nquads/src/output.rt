@@ -1,4 +1,8 @@
 //! Quads put into a sink.
+//!
+//! Each line is made once, in a vector of its exact size, and the lines are sorted by their bytes. So the written order is never
+//! spelled out as an order on terms. Places in one buffer, and references sorted by terms, took as long or longer. That the text
+//! is UTF-8 is proved.
 
 ghost use Rattle.std.specs.Prelude.{◌≡◌, ◌<◌, ◌++◌, ℕ, List, map, take, length, IfOk, MatchResult, string_bytes};
 ghost use Rattle.std.specs.Io.KnownBytes.{Appends};

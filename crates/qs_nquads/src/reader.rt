@@ -1,4 +1,9 @@
 //! A text that is read a statement at a time.
+//!
+//! A fault's line is counted once, when reading stops, over the bytes before the place. Out of memory has the line of a token to
+//! which reading comes; a caller of `Reader` that meets it tells it with the line of the next token.
+//!
+//! A reader after a fault is of no use, as it has given up the statement that it was in. Its caller stops there.
 
 ghost use Rattle.std.specs.Prelude.{◌≡◌, ◌≢◌, ◌<◌, ◌≤◌, ◌-◌, ℕ, List, [], Ok, Err, length, IfOk, IfErr, OnSome, MatchResult};
 ghost use Rattle.qs_terms.specs.Statement.{Statement};

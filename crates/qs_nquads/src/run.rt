@@ -1,4 +1,7 @@
 //! Runs of characters that leave a state as it is, a byte at a time.
+//!
+//! Within an IRI and a string the ASCII characters that leave what has been read as it is are passed over at once. A law says
+//! that the longest front is then that of what follows them.
 
 ghost use Rattle.std.specs.Prelude.{◌≡◌, drop};
 ghost use Rattle.std.specs.List.{position};
@@ -29,7 +32,7 @@ fn end_in_iri(bytes: &[u8]) -> Option<usize>
     bytes.iter().position(|b| ends_in_iri(*b))
 }
 
-// The same within a string.
+// The place of the first byte that ends a run within a string.
 fn end_in_string(bytes: &[u8]) -> Option<usize>
     ensures { result ≡ position ends_in_string bytes.now }
 {

@@ -14,7 +14,7 @@ use qs_terms::{Iri, Lit, Quad, Term, TermFault, Text};
 use std::alloc::Global;
 use std::mem;
 
-/// Where a statement has come to, with what was read of it.
+/// How far a statement has been read, with what was read of it.
 #[derive(Drop)]
 pub enum StatementState {
     /// before a statement

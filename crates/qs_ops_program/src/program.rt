@@ -1,4 +1,7 @@
 //! Instructions and programs.
+//!
+//! Positions are counted from the end, and the last stage is emitted first. So an instruction names none that is still to be
+//! emitted.
 
 ghost use Rattle.std.specs.Prelude.{◌≡◌};
 ghost use Rattle.qs_ops_program.specs.inner.Flow as flow;

@@ -1,4 +1,6 @@
 -- The pairs of `?`, `*` and `+` (SPARQL 1.1 Query, 9.1 and 18.4; for nested closures and walks of no step this project's own reading).
+-- A closure is a filter of candidates, which are the nodes of the graph and the term that it starts from. So it is a list without
+-- repeats whatever is in it; that it means walks is a law.
 use Rattle.std.specs.Prelude.{Bool, ◌&&◌, ◌||◌, List, [], ◌∷◌, map, Option, Some, None}
 use Rattle.std.specs.List.{filter, flat_map}
 use Rattle.qs_terms.specs.declared.term.Term.{Term}

@@ -1,5 +1,9 @@
 //! Conditions that fix a variable: `?x = <iri>`, `sameTerm(?x, term)` and `?x IN (<iri>, ..)`. Each holds only where the variable is one of
 //! some terms. Stages may then begin with a table of these terms, so that their triples are looked up by them.
+//!
+//! `?x = <iri>`, `sameTerm(?x, term)` and `?x IN (<iri>, ..)` become a table in front of a group whose first joined parts are
+//! certain to bind `?x`. An equality with a literal stays a filter, as a literal may equal others, and so does a list of more
+//! than 256 members.
 
 ghost use Rattle.std.specs.Prelude.{◌≡◌, true, [], ◌∷◌, map, Some, IfOk, IfSome, OnOk};
 ghost use Rattle.std.specs.List.{AllByRecursion, list_any};

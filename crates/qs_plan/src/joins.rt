@@ -1,5 +1,8 @@
 //! Property paths as joins (SPARQL 1.1 Query, 18.2.2.4). A sequence becomes the stages of its parts, with a hidden variable between two of them,
 //! an alternative a union, an inverse the path with its ends exchanged, and an IRI a triple. Closures and negated sets stay paths.
+//!
+//! The branches of a union have their hidden variables in common, so rows stay short. A hidden variable is an open end, so no
+//! closure is given what is between two parts of a sequence. A path whose end has a number past the last stays one stage.
 
 ghost use Rattle.std.specs.Prelude.{◌≡◌, ◌≤◌, ◌<◌, ◌+◌, ◌^◌, true, [], ◌∷◌, map, IfOk};
 ghost use Rattle.qs_syntax_ast.specs.declared.path.Path.TheVariants as path;

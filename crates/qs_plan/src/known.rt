@@ -46,7 +46,7 @@ pub(crate) fn all_flags(alloc: Global, count: usize) -> Result<Vec<bool>, AllocE
     Ok(vec![in alloc; true; count]?)
 }
 
-/// The same flags.
+/// A copy of flags.
 pub(crate) fn copied_flags(alloc: Global, flags: &[bool]) -> Result<Vec<bool>, AllocError> {
     let mut copies = Vec::with_capacity(alloc, flags.len())?;
     for flag in flags {

@@ -1,4 +1,7 @@
 //! The text's order: the stages of a pattern (SPARQL 1.1 Query, 18.5), as they stand in its text.
+//!
+//! A group with conditions is laid in line where they read what it is certain to bind. A merge of a solution with a row leaves
+//! what the solution binds, so such a condition is true of both alike; another might read what the row alone binds.
 
 ghost use Rattle.std.specs.Prelude.{◌≡◌, ◌≤◌, Bool, true, false, [], ◌∷◌, ◌++◌, map, take, drop, length, IfOk, IfSome};
 ghost use Rattle.std.specs.List.{AllByRecursion};

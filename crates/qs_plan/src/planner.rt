@@ -1,4 +1,7 @@
 //! From a pattern to a plan.
+//!
+//! A row of more cells than there are numbers (named and hidden variables and registers) is out of memory, as no such row can be
+//! made.
 
 ghost use Rattle.std.specs.Prelude.{◌≡◌, ◌<◌, true, IfOk, IfErr};
 ghost use Rattle.qs_terms.specs.declared.fault.QFault.TheVariants.{Memory};

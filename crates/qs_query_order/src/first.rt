@@ -1,4 +1,8 @@
 //! The first solutions of an order.
+//!
+//! With LIMIT some more than twice the rows that are asked for are kept with their keys, as rows are seen. A row that isn't below
+//! the last of those asked for is dropped at once. The statements stay those of a whole order: one with these rows at its front
+//! always exists.
 
 ghost use Rattle.std.specs.Prelude.{◌≡◌, ◌<◌, ◌≤◌, ◌++◌, [], ◌∷◌, true, IfOk, OnOk, List, length};
 ghost use Rattle.std.specs.List.Sorted.{IsSortedBy};

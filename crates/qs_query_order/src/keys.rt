@@ -1,4 +1,7 @@
 //! The keys of a solution, one for each condition.
+//!
+//! The keys of a row are computed once. The first condition that tells two rows apart decides; conditions are a list, so
+//! comparing takes no stack.
 
 ghost use Rattle.std.specs.Prelude.{◌≡◌, IfOk, map, drop, length};
 ghost use Rattle.qs_query_order.specs.inner.Keys as spec;

@@ -1,4 +1,6 @@
 -- The quads that a template makes of solutions (SPARQL 1.1 Query, 16.2 and 16.2.1; SPARQL 1.1 Update, 3.1.3).
+-- A blank node past those that a template counts has no term, so `instances` has no `requires`. That no template of a text has
+-- one is a law.
 use Rattle.std.specs.Prelude.{ℕ, ◌+◌, ◌*◌, nat_lt, List, [], ◌∷◌, ◌++◌, length, Option, Some, None, Ok, Err, if◌then◌else◌}
 use Rattle.std.specs.List.{flat_map}
 use Rattle.std.specs.Option.{option_map}

@@ -1,4 +1,6 @@
 -- Answers as JSON (SPARQL 1.1 Query Results JSON Format, 3.1 to 3.3). The members of each object ascend by their bytes.
+-- The members of objects ascend by their bytes. The standard leaves the order free, and so each answer has one text. The datatype
+-- xsd:string isn't written (SPARQL 1.1 Query Results JSON Format, 3.2.2).
 use Rattle.std.specs.Prelude.{ℕ, Bool, true, false, List, [], ◌∷◌, ◌++◌, Option, Some, None, map, codes, decimal, if◌then◌else◌}
 use Rattle.std.specs.Str.{bytes_eq}
 use Rattle.serde_json.specs.Data.{Data, null, boolean, string, array, object, Members, no_members, member, put}

@@ -1,4 +1,7 @@
 //! Answers as JSON (SPARQL 1.1 Query Results JSON Format, 3).
+//!
+//! `json_after` and `ntriples_after`, as `text_after` of `qs_nquads`, write after the bytes of a buffer, so that a reply's body
+//! is written where it goes out from.
 
 ghost use Rattle.std.specs.Prelude.{◌≡◌, ◌++◌, IfOk, true, string_bytes};
 ghost use Rattle.serde_json.specs.Written.{compact_text};

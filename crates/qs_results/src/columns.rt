@@ -1,4 +1,7 @@
 //! Columns in the order of their names, which is that of the members of an object.
+//!
+//! Columns are put in the order of their names once for all rows. A name that is twice among the variables is twice in `head`,
+//! and the last of its terms counts; no query results in this.
 
 ghost use Rattle.std.specs.Prelude.{◌≡◌, if◌then◌else◌, IfOk, OnOk};
 ghost use Rattle.std.specs.BTreeMap.{insert_entry};

@@ -1,4 +1,6 @@
 //! Faults as lines, without the line's end.
+//!
+//! The line for out of memory is a constant, so that it can be written where no memory is left.
 
 ghost use Rattle.std.specs.Prelude.{◌≡◌, ◌++◌, ◌∷◌, [], IfOk, string_bytes};
 ghost use Rattle.qs_terms.specs.declared.fault.QFault.TheVariants.{Memory};

@@ -1,5 +1,8 @@
 //! Solutions as texts of JSON (SPARQL 1.1 Query Results JSON Format, 3.2). The tokens of a row are written one
 //! by one; the rest is text.
+//!
+//! A solution is written a token at a time, by the writer of the kit's `json`. A value of the whole answer would take several
+//! times the memory of its text, and one of each row several times the time.
 
 ghost use Rattle.std.specs.Prelude.{◌≡◌, ◌++◌, false, map, IfOk, IsTrue, string_bytes};
 ghost use Rattle.std.specs.Option.{ForSome};
@@ -56,7 +59,7 @@ fn with_row(
     Ok(out.into_inner())
 }
 
-/// The same, by the columns of all rows, or where there are none such by those of the row.
+/// Writes a row as an object, by the columns of all rows, or where there are none by those of the row.
 fn with_next(
     alloc: Global,
     vars: &[Text],

@@ -1,4 +1,6 @@
 //! The joined connections, and what their requests do.
+//!
+//! `take(id, n)` lends the next n bytes in one slice, or those that are left where they are fewer.
 
 ghost use Rattle.std.specs.Prelude.{◌≡◌, []};
 

@@ -1,4 +1,6 @@
 //! Replies.
+//!
+//! A reply has its status beside its bytes, so that nobody reads it back out of them.
 
 ghost use Rattle.std.specs.Prelude.{◌≡◌};
 

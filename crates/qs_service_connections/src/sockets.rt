@@ -1,4 +1,7 @@
 //! Connections that arrive at a listener.
+//!
+//! `serve` waits 30 seconds at most for a read or a write. A silent peer holds up all others for so long, and one that sends a
+//! byte at times for longer. After a reply it reads for a second, at most 1,100 times.
 
 use crate::connections::Connections;
 use crate::meaning::Meaning;

@@ -1,4 +1,7 @@
 //! Whether somebody may be waiting to be accepted.
+//!
+//! The listener tells of each arrival once, so the loop must not wait for ever after an accept that lacked descriptors or memory.
+//! Two clauses say so: `timeout` gives a time, and `arrivals_after` doesn't pass such a fault on.
 
 ghost use Rattle.std.specs.Prelude.{◌≡◌, ◌↔◌, Ok, IsTrue};
 ghost use Rattle.qs_service_reactor.specs.inner.Shortage.{IsShortage};

@@ -1,4 +1,8 @@
 //! One connection, and its turn.
+//!
+//! After a reply nothing more is sent, and what the peer still sends is read and dropped (RFC 9112, 9.6). Bytes that nobody reads
+//! would reset the connection, and the peer could lose the reply. At most 4,210,688 bytes are dropped, as many as the longest
+//! request has.
 
 ghost use Rattle.std.specs.Prelude.{◌≡◌, [], Some};
 ghost use Rattle.qs_service_reactor.specs.inner.Turn.{AgreesAt, Turns, is_free};

@@ -10,7 +10,7 @@ pub trait Endpoint {
     // One step: the state, the event, whether it was taken up, and the state then.
     ghost steps: { Self → Event → Bool → Self → Type 0 };
 
-    // The reply that stands for the connection of that id.
+    // The reply that is due to the connection of that id.
     ghost reply_of: { Self → ℕ → Option (List ℕ) };
 
     /// A connection joins.

@@ -1,4 +1,7 @@
 //! How many connections there are at once, and how long a peer may take.
+//!
+//! While a peer sends without a pause the loop hardly waits. So no limit of time would end such a connection, and the count of
+//! bytes that are dropped has a limit too.
 
 ghost use Rattle.std.specs.Prelude.{◌<◌, ◌≤◌};
 

@@ -1,4 +1,7 @@
 //! The loop.
+//!
+//! The loop depends on std and `mio` alone. It asks for the bytes of a reply from the place that its writes got to, so a socket
+//! that takes fewer bytes than it was given loses none.
 
 ghost use Rattle.std.specs.Prelude.{◌≡◌, ◌≤◌, ◌-◌, IfSome};
 ghost use Rattle.qs_service_reactor.specs.Run.{Serves};

@@ -1,4 +1,7 @@
 //! The places of the connections.
+//!
+//! Only time in which the loop waits counts against a connection. While a query is evaluated nobody's time runs, and a connection
+//! on which bytes have arrived is read before it is judged.
 
 ghost use Rattle.std.specs.Prelude.{◌≡◌, ◌≤◌, ◌<◌, ◌-◌, ◌+◌, ◌^◌, vec_len, IfOk, IsSome, IsTrue};
 ghost use Rattle.std.specs.List.{list_all};

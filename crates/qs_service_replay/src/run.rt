@@ -1,4 +1,7 @@
 //! The run of a script's events.
+//!
+//! A line goes out before the next event, and where the sink fails no later event is carried out. Out of memory for the line of a
+//! reply comes after its event; its own line is put and the run stops. The data's faults come before the script's.
 
 ghost use Rattle.std.specs.Prelude.{◌^◌, ◌<◌, map};
 ghost use Rattle.qs_service_replay.specs.ScriptEvents.{event_of};

@@ -80,7 +80,7 @@ fn has_reply<M: Meaning>(connections: &Connections<M>, event: &ScriptEvent) -> b
     }
 }
 
-/// What is written of the event, which stands on that line, and is carried out. Where it is out of memory for the text, the event is
+/// What is written of the event of that line, which is carried out. Where it is out of memory for the text, the event is
 /// carried out all the same.
 pub(crate) fn told<M: Meaning>(
     alloc: Global,

@@ -1,4 +1,7 @@
 //! The entries of a store in one index, and apart in two others those that a draft removes and adds.
+//!
+//! Each change of a draft makes a buffer long enough and sets room aside. A commit moves its entries by way of the buffer, so
+//! that it takes no memory and still sorts them for each order. The buffer is given back at the end of the draft.
 
 ghost use Rattle.std.specs.Prelude.{◌≡◌, ℕ, ◌≤◌, ◌+◌, ◌++◌, ◌∷◌, ◌↔◌, Bool, List, [], length, map, take, IsTrue, IfOk, OnOk, OnErr, Contains, cond};
 ghost use Rattle.std.specs.Str.{bytes_eq};

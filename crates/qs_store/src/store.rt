@@ -1,4 +1,11 @@
 //! The store, and drafts of it.
+//!
+//! A change numbers the terms of `add` before it looks for the quads of `remove`, and a refusal cuts the dictionary back. So
+//! `Full` comes before any memory is asked for and before anything is changed. The contract promises the added terms in some
+//! order.
+//!
+//! `Store::change` calls the inner steps of a draft and not the guard, whose end hides the changed value after a name that a
+//! proof can't cite.
 
 ghost use Rattle.std.specs.Prelude.{◌≡◌, ◌↔◌, ◌≤◌, ◌++◌, ◌∷◌, ℕ, List, [], Some, length, take, Contains, IsTrue, IfOk, IfErr, OnOk, OnErr};
 ghost use Rattle.std.specs.List.{filter};

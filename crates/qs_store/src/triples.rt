@@ -1,4 +1,8 @@
 //! A scan of the triples of a store or of a draft.
+//!
+//! A scan is stated over the quads of the active graph through their terms' numbers, so no list of triples is between a store and
+//! its readers. The scans of a draft's parts are merged by entries with their graphs. A repeat is left out last: a triple of the
+//! union stays while one graph has it.
 
 ghost use Rattle.std.specs.Prelude.{◌≡◌, ◌∷◌, [], map, None, IfSome, IfNone};
 ghost use Rattle.std.specs.Iterator.{YieldsFirst, item_count};

@@ -1,4 +1,8 @@
 //! What can be read of a store and of a draft.
+//!
+//! That the terms of quads are known, and that their places are lawful, are clauses of `terms`: a reader of scans needs them,
+//! `count` needs neither. An update's WHERE needs the second: a predicate that were a blank node could make a fresh number occur
+//! twice.
 
 ghost use Rattle.std.specs.Prelude.{◌≡◌, ◌↔◌, Some, length, Contains, IsTrue, IfOk, IfErr};
 ghost use Rattle.std.specs.List.Sorted.{IsSorted};

@@ -5,6 +5,8 @@
 --   3. the tokens spell no tree: Syntax at the token from which on none is spelt, or at the end
 --   4. a name can't be resolved, or a limit of trees is passed: whichever has the first place, at one place the name's
 --   5. a literal isn't lawful, then a rule of scope is broken: Scope
+-- The first step takes the steps after it as a parameter, since a definition can't be used above its place. That a text results
+-- in something is stated over texts that are UTF-8, as all texts of the program are.
 use Rattle.std.specs.Prelude.{◌≡◌, ◌⊎◌, ℕ, Bool, true, false, nat_lt, List, [], ◌∷◌, ◌++◌, length, Option, Some, None, Ok, Err, if◌then◌else◌}
 use Rattle.std.specs.List.{fold}
 use Rattle.qs_syntax_grammar.specs.Grammar.{Spells}

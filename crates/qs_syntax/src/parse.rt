@@ -1,4 +1,7 @@
 //! Queries and updates of texts.
+//!
+//! A text without tokens is answered before it is parsed: a query is a fault of syntax at its end, an update is lawful and has no
+//! operation. So out of memory is answered only of a text that begins with a token.
 
 ghost use Rattle.std.specs.Prelude.{◌≡◌, IfOk, IfErr, length};
 ghost use Rattle.qs_syntax_grammar.specs.Grammar.{Spells};

@@ -1,4 +1,7 @@
 //! Faults of the tree.
+//!
+//! Limits are looked at before names are resolved, since that takes no memory. Where one is passed no list of variables is made,
+//! and the names after its place are still resolved.
 
 ghost use Rattle.std.specs.Prelude.{◌≡◌, ℕ, List, [], None, IfOk, IfErr, OnOk, Ok, Err, if◌then◌else◌};
 ghost use Rattle.qs_terms.specs.declared.fault.QFault.TheVariants.{Memory, Scope};

@@ -1,5 +1,8 @@
 //! The operators and calls of expressions (SPARQL 1.1 Query, 19.8, [110] to [121]). The reader of the expressions that stand
 //! within them is a parameter, so that each is proved by itself.
+//!
+//! A signed number after an operand is added, with its own factors: `1 -2*3` is `1 + ((-2)*3)`. `-2*3` is a chain of `*` whose
+//! first operand is the signed number; the chain is at once an operand of the sum, at the same place.
 
 ghost use Rattle.qs_syntax_grammar.specs.Grammar.{read};
 ghost use Rattle.qs_syntax_grammar.specs.Notation.{opt};

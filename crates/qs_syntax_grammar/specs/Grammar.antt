@@ -1,4 +1,6 @@
 -- What a grammar spells, how it is read, and the test that it must pass.
+-- A law over all grammars is a statement over types, which no contract of a call can make. So laws of grammars are lemmas that
+-- proofs above cite, as they cite std's; for SPARQL's grammar they are clauses of public calls.
 use Rattle.std.specs.Prelude.{◌<◌, ◌≤◌, ◌+◌, ℕ, zero, suc, Bool, not, ◌&&◌, List, [], ◌∷◌, ◌++◌, length, take, Result, Ok, Err}
 use Rattle.qs_syntax_grammar.specs.declared.fault.Fault.{Fault}
 use Rattle.qs_syntax_grammar.specs.declared.fault.Fault.TheVariants.{Deep, Syntax}

@@ -1,5 +1,6 @@
 -- The first place at which there is too much side by side (profile: a group, and the braces of DELETE WHERE, have at most 256
 -- elements, and a chain at most 256 operands).
+-- Chains of `|` in negated sets have the limit too. Data, templates and the short form of CONSTRUCT have no limit of elements.
 use Rattle.std.specs.Prelude.{ℕ, List, ◌∷◌, Option, Some, None, map, min, fold, slice_get}
 use Rattle.qs_syntax_limits.specs.declared.place.Part.{Part}
 use Rattle.qs_syntax_tree.specs.declared.expression.Expression.{Expression, fold-Expression}

@@ -1,4 +1,6 @@
 //! Brackets that are open at once.
+//!
+//! A closing bracket of another sort takes an open one away too; such a text has no tree.
 
 ghost use Rattle.std.specs.Prelude.{◌≡◌, ◌<◌, ◌≤◌};
 ghost use Rattle.qs_syntax_limits.specs.Brackets as spec;

@@ -113,7 +113,7 @@ pub fn excess<T: Placed>(parts: &[T]) -> Option<usize>
     place_at(parts, LIMIT)
 }
 
-/// The same where one part stands before these.
+/// Where the part begins with which there are too many, one part being before these.
 pub fn excess_behind<T: Placed>(parts: &[T]) -> Option<usize>
     ensures { (p : Part) → result ≡ spec.excess (p ∷ map T.part parts.now) }
 {

@@ -1,4 +1,6 @@
 //! The words that are left out.
+//!
+//! The words that are left out are in lists by their lengths, so a word is compared with twelve at most.
 
 ghost use Rattle.std.specs.Prelude.{◌≡◌, map, filter, length, nat_eq};
 ghost use Rattle.std.specs.List.{list_any};

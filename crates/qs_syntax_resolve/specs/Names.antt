@@ -1,4 +1,9 @@
 -- What the names, strings and numbers of a text denote (SPARQL 1.1 Query, 4.1).
+-- A backslash that begins no escape denotes itself, and a string has as many marks at its end as at its front. A byte of a number
+-- counts by how far it is above `0`. So each definition is total. Each backslash of a local name is dropped: no token has one
+-- that denotes itself.
+-- Names are in the crate that resolves trees, the outcomes of tokens and trees in that of texts. Crates of their own would cost
+-- clauses and win no time.
 use Rattle.std.specs.Prelude.{ℕ, Bool, true, false, ◌+◌, ◌-◌, ◌*◌, ◌^◌, ◌||◌, ◌==◌, nat_eq, min, map, List, [], ◌∷◌, ◌++◌, codes, Option, Some, None, Result, Ok, Err, if◌then◌else◌}
 use denote.Ref.{Bor}
 use Rattle.std.specs.List.{starts_with, before_first, after_first}

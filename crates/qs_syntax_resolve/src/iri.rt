@@ -28,7 +28,7 @@ pub(crate) fn absolute(alloc: Global, place: usize, text: Text) -> Result<Iri, Q
     }
 }
 
-// The same of a text that begins with an IRI.
+// The IRI of a text that begins with an IRI, or a fault at that place.
 fn absolute_behind(alloc: Global, place: usize, front: &Iri, text: Text) -> Result<Iri, QFault>
     ensures { OrOutOfMemory (Rattle.qs_syntax_resolve.specs.Names.absolute place (checked_iri text)) result }
 {

@@ -1,4 +1,7 @@
 //! Literals as they are written.
+//!
+//! A literal that isn't lawful, as one of rdf:langString without a tag, doesn't stop the resolving. What is in its place
+//! meanwhile is never handed on.
 
 ghost use Rattle.std.specs.Prelude.{◌≡◌, IfOk, Ok, Some};
 ghost use Rattle.std.specs.Result.{result_ok};

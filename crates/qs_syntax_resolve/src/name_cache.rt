@@ -1,4 +1,7 @@
 //! Names that were read not long ago.
+//!
+//! The last name and the last IRI of each of 64 slots are hints. An IRI is looked for by what its prefix denotes and by its local
+//! name as it is written. An IRI that isn't there is looked through after its prefix's IRI alone.
 
 ghost use Rattle.std.specs.Prelude.{◌≡◌, ◌<◌, IfOk, IfSome};
 

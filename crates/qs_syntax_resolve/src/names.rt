@@ -1,4 +1,7 @@
 //! The names of a text.
+//!
+//! Declared prefixes are in std's ordered map by slices of the text: a look-up takes no memory, a declaration copies no prefix. A
+//! later declaration replaces the earlier one.
 
 ghost use Rattle.std.specs.Prelude.{◌≡◌, IfOk, OnErr};
 ghost use Rattle.std.specs.Map.{lookup};

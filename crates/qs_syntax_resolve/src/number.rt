@@ -1,4 +1,6 @@
 //! Decimal numbers.
+//!
+//! A LIMIT or OFFSET beyond 64 bits is the greatest number of 64 bits, as no answer has so many rows.
 
 ghost use Rattle.std.specs.Prelude.{◌≡◌, ◌^◌, ◌-◌, min};
 ghost use Rattle.qs_syntax_resolve.specs.Names.{decimal};

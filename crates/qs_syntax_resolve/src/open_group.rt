@@ -1,4 +1,7 @@
 //! A group of which elements are still to come.
+//!
+//! Filters are set apart and the triples around them joined. So a block of triples is what is matched at once, and one in which a
+//! label may occur.
 
 ghost use Rattle.std.specs.Prelude.{◌≡◌, IfOk, OnOk};
 ghost use Rattle.qs_syntax_resolve.specs.Pattern as spec;

@@ -1,4 +1,7 @@
 //! Queries.
+//!
+//! The short CONSTRUCT keeps its template alone, and who reads the query takes it as the pattern too. Its template is a run for
+//! labels; other templates are none.
 
 ghost use Rattle.std.specs.Prelude.{[]};
 ghost use Rattle.qs_syntax_resolve.specs.Query as spec;

@@ -1,4 +1,6 @@
 //! What is kept while a tree is read.
+//!
+//! Anonymous blank nodes are numbered by where they begin, over the whole text. A count past 64 bits would be out of memory.
 
 ghost use Rattle.std.specs.Prelude.{◌≡◌};
 ghost use Rattle.qs_syntax_resolve.specs.Resolved.{start};

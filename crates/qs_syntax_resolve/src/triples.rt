@@ -1,4 +1,7 @@
 //! Triples.
+//!
+//! Lists of properties and objects are written out, a triple before those of its object's brackets, so that each blank node first
+//! appears where the text has it.
 
 ghost use Rattle.std.specs.Prelude.{◌≡◌};
 ghost use Rattle.qs_syntax_resolve.specs.Leaves.{term_of};

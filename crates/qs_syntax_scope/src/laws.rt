@@ -1,4 +1,7 @@
 //! What the rules say, in words that ask for no order.
+//!
+//! The listed variables are those of the tokens, then those of the resolved tree. The second part adds none, but that would be a
+//! theorem over the whole grammar and all of name resolution. Without it the number of a variable could be that of a hidden one.
 
 ghost use Rattle.std.specs.Prelude.{◌↔◌, ◌≡◌, ◌<◌, List, [], ◌∷◌, ◌++◌, ◌||◌, length, slice_get, Some, IsTrue, false};
 ghost use Rattle.std.specs.List.{flat_map};

@@ -1,4 +1,7 @@
 //! The names that were met so far.
+//!
+//! Names are kept in order, with an index of the first place and the last of each. To be met before a place, or since, is one
+//! look-up, so no set is built for a group and no two sets are merged.
 
 ghost use Rattle.std.specs.Prelude.{◌≡◌, ◌≤◌, [], ◌∷◌, ◌++◌, length, take, drop, Some, OnOk, OnErr};
 ghost use Rattle.std.specs.Ordering.{nat_cmp};

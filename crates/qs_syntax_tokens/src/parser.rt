@@ -1,5 +1,8 @@
 //! What is handed to each procedure. A procedure reads by one rule of the grammar, and answers what the grammar's reading function
 //! answers at this depth, or running out of memory.
+//!
+//! The procedures here are methods of `Parser`, those of the crates above functions that take one, since only a type's own crate
+//! can give it methods. Expressions and triples need nothing of each other, and are proved side by side.
 
 ghost use Rattle.std.specs.Prelude.{◌≡◌, ◌<◌, ◌-◌};
 

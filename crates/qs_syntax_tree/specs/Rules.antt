@@ -1,4 +1,6 @@
 -- The grammar, line by line.
+-- A definition can't name one below it, so the standard's productions are an index at the head, with their numbers. Rules are
+-- left-factored at `[` in subjects and objects, at INSERT and DELETE, and at NOT; they spell the same texts.
 use Rattle.std.specs.Prelude.{true, false, List, [], ◌∷◌, ◌++◌, Option, Some, None}
 use Rattle.qs_syntax_grammar.specs.Rule.{token, many, made, placed, ref}
 use Rattle.qs_syntax_grammar.specs.Notation.{◌<$>◌, ◌>>◌, ◌<<◌, ◌&◌, ◌<|>◌, or, opt, cons, kept, joined}

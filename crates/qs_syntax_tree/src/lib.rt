@@ -1,5 +1,8 @@
 //! The trees of queries and updates as they are written, and the grammar that they are read by. The trees and the kinds of tokens
 //! stand here; `specs/Rules.antt` has the grammar line by line, `specs/Words.antt` the tables of words and marks.
+//!
+//! Trees are as they are written: names by their spans, chains with all their operands, `a` and `[]` as such. ISURI is ISIRI, and
+//! a keyword leaves no trace but its meaning.
 #![tactic(auto)]
 
 pub mod expression;

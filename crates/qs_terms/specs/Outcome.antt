@@ -1,4 +1,5 @@
 -- What a text, or a part of it, results in: a value, or the one fault that is due.
+-- What a text results in, for all layers.
 use Rattle.std.specs.Prelude.{Result, Ok, Err}
 use Rattle.qs_terms.specs.declared.fault.QFault.{QFault}
 use Rattle.qs_terms.specs.declared.fault.QFault.TheVariants.{Memory}

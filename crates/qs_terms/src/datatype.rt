@@ -1,4 +1,7 @@
 //! Datatypes: those that the recommendations' own rules name (RDF 1.1 Concepts, 3.3 and 5.1), and the others.
+//!
+//! A datatype that rules name is one of four tags and takes no copy of its IRI; contracts see the IRI. Which one a text is is
+//! found before the text is checked as an IRI, since these four are lawful. The IRIs are written here alone.
 
 ghost use Rattle.std.specs.Prelude.{◌≡◌, IfOk, IsTrue, Some, None, nat_eq, refl};
 ghost use Rattle.std.proofs.Common.{rules};

@@ -1,4 +1,7 @@
 //! Absolute IRIs.
+//!
+//! `Iri::text`, `Lit::form` and `Quad::graph` carry the invariant of their type as a clause, so that a caller learns it where it
+//! reads. An IRI made of a text costs a second piece of memory, a copy of it none.
 
 ghost use Rattle.std.specs.Prelude.{◌≡◌, ◌↔◌, IfOk, OnOk, MatchResult, IsTrue};
 ghost use Rattle.std.specs.List.{list_any};

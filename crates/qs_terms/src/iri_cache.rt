@@ -1,4 +1,8 @@
 //! IRIs that were read not long ago.
+//!
+//! A reader keeps the last IRI of each of 64 slots and compares a token with it as it is written. A lawful IRI has no backslash,
+//! so equal bytes say the IRI, which is neither checked nor copied again. Neighbouring statements share their subject, graph or
+//! predicate.
 
 ghost use Rattle.std.specs.Prelude.{◌≡◌, ◌<◌, ◌++◌, true, IfOk, IfSome, IsTrue};
 ghost use Rattle.qs_terms.specs.Iri.{is_iri_text};

@@ -1,4 +1,7 @@
 //! Literals.
+//!
+//! The datatype is an IRI before it is compared with rdf:langString, so one without a scheme is `NotAbsolute`. A text is refused
+//! before any memory is taken.
 
 ghost use Rattle.std.specs.Prelude.{◌≡◌, ◌↔◌, IfOk, IsTrue, Some, None};
 ghost use Rattle.std.specs.Option.{option_copied};

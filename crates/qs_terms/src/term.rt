@@ -1,4 +1,7 @@
 //! RDF terms.
+//!
+//! The total order has IRIs by their bytes, blank nodes by number, literals by form, datatype and tag. It is no order of
+//! SPARQL's: ORDER BY has its own.
 
 ghost use Rattle.std.specs.Prelude.{◌≡◌, ◌↔◌, IsTrue, IfOk};
 ghost use Rattle.std.specs.declared.cmp.Ordering.TheVariants.{Equal};

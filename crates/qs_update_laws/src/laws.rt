@@ -1,4 +1,7 @@
 //! Where the blank nodes of solutions and of instances come from.
+//!
+//! That the blank nodes of solutions are the data's is a crate of laws. It is above the meaning of patterns, expressions and
+//! paths, so that none of these is proved again for it.
 
 ghost use Rattle.std.specs.Prelude.{◌≡◌, ◌↔◌, ◌≤◌, ℕ, List, Option, length, IsTrue, true, false, Ok};
 ghost use Rattle.std.specs.List.{All, Contains};

@@ -2,6 +2,8 @@
 -- of the other jobs are put into a new store before, with the default graph that the job chooses: a query over it is answered, of an update the dataset after it is printed as N-Quads,
 -- of a replay the lines of a run of its events, and of an explanation some text, where the query or the update has no fault of its text; or the first fault is
 -- told, of the data before that of the text or the script.
+-- What a job prints is two relations, what is due whole and what may have been begun. A job that prints as it goes, and whose
+-- sink fails, has more of the second.
 use Rattle.std.specs.Prelude.{◌≡◌, ◌⊎◌, ◌∷◌, ◌++◌, [], ℕ, List, Ok, Err, codes, decimal}
 use Rattle.std.specs.Str.{IsUtf8, IsValidUpTo}
 use Rattle.serde_json.specs.Written.{compact_text}

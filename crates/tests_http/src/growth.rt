@@ -1,5 +1,5 @@
-//! Pairs of tests that run with each allocation refused in turn: the strict one wants the whole answer, the tolerant one takes want of
-//! memory too, and then that it stays.
+//! Pairs of tests that run with each allocation refused in turn: the strict one expects the whole answer, the tolerant one takes
+//! out of memory too, and then that it stays.
 
 use crate::outcome::Outcome;
 use crate::replies;

@@ -92,7 +92,7 @@ fn make(alloc: Global, status: u16, media: Media, body: &str) -> Result<Vec<u8>,
     }
 }
 
-/// The same, in the buffer that its body was written to.
+/// Makes a reply in the buffer that its body was written to.
 fn make_in_buffer(
     alloc: Global,
     status: u16,

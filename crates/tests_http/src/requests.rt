@@ -13,7 +13,7 @@ pub enum End {
     Refused(Fixed),
 }
 
-/// Whether the session has come to this.
+/// Whether the session has this outcome.
 pub fn is_at(session: &Session, progress: Progress, end: End) -> bool {
     match (progress, session.request(), end) {
         (Progress::More, None, End::More) => true,

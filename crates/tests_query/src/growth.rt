@@ -1,5 +1,5 @@
-//! Pairs of tests that run with each allocation refused in turn: the strict one wants the whole answer, the tolerant one takes want of
-//! memory for an answer, but no other.
+//! Pairs of tests that run with each allocation refused in turn: the strict one expects the whole answer, the tolerant one takes
+//! out of memory for an answer, but no other.
 
 use crate::outcome::Outcome;
 use crate::{answers, lines, operations, patterns, quads, tokens, written};

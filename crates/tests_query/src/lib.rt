@@ -2,7 +2,7 @@
 //!
 //! Here is what no clause says and no run of the program shows: updates, forms of queries that have no answer yet, and calls that the
 //! program doesn't make, each once where it succeeds, at values worked out by hand from the standard. `growth` has the pairs for refused
-//! allocations. What is made is held by a small function of its own and let go by `drop`: a proof grows with what is alive where a call
+//! allocations. What is made is held by a small function of its own and dropped by `drop`: a proof grows with what is alive where a call
 //! may fail.
 #![tactic(auto)]
 

@@ -74,7 +74,7 @@ fn outcome_of(alloc: Global, quads: &[Quad], calls: u64) -> Outcome {
     }
 }
 
-/// The same; where memory ran out, the whole text goes out once more.
+/// Writes the quads by `outcome_of`; where memory ran out, the whole text goes out once more.
 fn goes_out(alloc: Global, quads: &[Quad], calls: u64) -> Outcome {
     let outcome = outcome_of(alloc, quads, calls);
     if outcome == Outcome::Refused && outcome_of(alloc, quads, CALLS) != Outcome::Whole {

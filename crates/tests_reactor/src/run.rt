@@ -46,7 +46,7 @@ pub fn run(
     run_with(alloc, peers, none, at_once, connections)
 }
 
-/// The same with that fault: a pause of 30 s, a request of 60 s, and a second for the end.
+/// Runs the loop with that fault: a pause of 30 s, a request of 60 s, and a second for the end.
 pub fn run_with(
     alloc: Global,
     peers: Peers,

@@ -1,5 +1,5 @@
-//! Pairs of tests that run with each allocation refused in turn: the strict one wants the whole answer, the tolerant one takes want of
-//! memory for the answer of one connection, and then the others have theirs and what is stored is as it was, or for a service that isn't
+//! Pairs of tests that run with each allocation refused in turn: the strict one expects the whole answer, the tolerant one takes
+//! out of memory for the answer of one connection, and then the others have theirs and what is stored is as it was, or for a service that isn't
 //! made, and then its store is as it was. Asked once more, they result in what they ought to.
 
 use crate::handed_back::hands_back;

@@ -69,7 +69,7 @@ fn stands(
         && is_kept(&*service, true)
 }
 
-/// The same over a service of its own.
+/// `stands` over a service of its own.
 fn stands_alone(
     alloc: Global,
     hasher: Option<RandomState>,

@@ -1,5 +1,5 @@
-//! Pairs of tests that run with each allocation refused in turn: the strict one wants the whole answer, the tolerant one takes want of
-//! memory for an answer, and then everything is as it was.
+//! Pairs of tests that run with each allocation refused in turn: the strict one expects the whole answer, the tolerant one takes
+//! out of memory for an answer, and then everything is as it was.
 
 use crate::outcome::Outcome;
 use crate::{dict, index, loads, requests, rows, store, terms, whole_graphs};

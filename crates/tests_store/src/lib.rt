@@ -2,7 +2,7 @@
 //!
 //! Here is what no clause says and no run of the program shows: calls that the program doesn't make, each once where it succeeds, at
 //! values worked out by hand from the standard, and what is printed. `growth` has the pairs for refused allocations. What is made is held
-//! by a small function of its own and let go by `drop`: a proof grows with what is alive where a call may fail.
+//! by a small function of its own and dropped by `drop`: a proof grows with what is alive where a call may fail.
 #![tactic(auto)]
 
 #[cfg(test)]

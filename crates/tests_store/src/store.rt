@@ -40,7 +40,7 @@ fn change_store(
     }
 }
 
-/// The same of a draft.
+/// Changes a draft by a change that is lawful for it; `None` where it is not.
 fn change_draft(
     draft: &mut Draft<'_>,
     quads: &[Quad],
@@ -173,7 +173,7 @@ fn draft_once(store: &mut Store, quads: &[Quad], is_kept: bool) -> Outcome {
     }
 }
 
-/// The same; where memory ran out, another draft is whole.
+/// A draft by `draft_once`; where memory ran out, another draft is whole.
 fn draft_again(store: &mut Store, quads: &[Quad], is_kept: bool) -> Outcome {
     match draft_once(store, quads, is_kept) {
         Outcome::Refused => {
