@@ -15,9 +15,10 @@ from collections import Counter, namedtuple
 from urllib.parse import quote
 
 ROOT = os.path.dirname(os.path.dirname(os.path.realpath(__file__)))
-sys.path.insert(0, f"{ROOT}/scripts")
+sys.path[:0] = [f"{ROOT}/scripts", f"{ROOT}/tests"]
 sys.dont_write_bytecode = True
 from program import asked  # noqa: E402
+from server import command, free_port, listening_line  # noqa: E402
 
 MB = 1_000_000
 PAST_ALL = 100 * MB
@@ -119,12 +120,6 @@ def update(text):
     return posted("/update", "application/sparql-update", text.encode())
 
 
-def free_port():
-    with socket.socket() as it:
-        it.bind(("127.0.0.1", 0))
-        return it.getsockname()[1]
-
-
 class Running:
     """A program that serves on loopback: `program` is it, and `port` where it listens. `ready` are the milliseconds until it did."""
 
@@ -216,11 +211,11 @@ class Server(Running):
         self.port = free_port()
         begin = time.perf_counter()
         # (it ends by itself once it has served so many)
-        words = [program_to_run(), "serve", "--port", str(self.port), "--data", self.file, "--requests", "4294967295"]
+        words = command(program_to_run(), self.port, self.file, ["--requests", 4294967295])
         self.program = subprocess.Popen(words, stdin=subprocess.DEVNULL, stdout=subprocess.PIPE)
         said = self.program.stdout.readline()
         self.ready = 1000 * (time.perf_counter() - begin)
-        if said != b"listening on 127.0.0.1:%d\n" % self.port:
+        if said.decode() != listening_line(self.port):
             self.__exit__()
             sys.exit(f"the program doesn't listen: {said.decode().strip()}")
         return self

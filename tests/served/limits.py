@@ -14,7 +14,7 @@ from answers import Wrong
 from crowd import EACH, Client, Read, talk
 from due import RESULTS, Exactly, reply
 from messages import dumped
-from serving import Unserved, serving
+from server import ServerError, command, refusal_line, serving
 from trees import Term, iri, lines_of
 
 SLACK, TICK = 3, 1
@@ -184,7 +184,7 @@ class Tried:
         try:
             call()
             self.passed += 1
-        except (Wrong, Unserved) as wrong:
+        except (Wrong, ServerError) as wrong:
             self.told.append(f"{self.name}: {what}: {wrong}")
 
 
@@ -194,11 +194,11 @@ def try_round(it, made, program, room, seconds_left):
     it.tried += len(checks)
     put_data(room, quads)
     how = {"preexec_fn": lambda: resource.setrlimit(resource.RLIMIT_NOFILE, (16, 16))} if made is descriptors_round else {}
-    with serving(program, room, ["--requests", len(checks), *words], seconds_left(EACH), **how) as served:
-        talk([client for client, _, _ in checks], served.port, seconds_left(EACH))
+    with serving(program, room, ["--requests", len(checks), *words], seconds_left(EACH), **how) as server:
+        talk([client for client, _, _ in checks], server.port, seconds_left(EACH))
         for client, look, what in checks:
             it.check(lambda: look(client), what)
-        it.check(lambda: served.check_end(seconds_left(EACH), dropped), "the program's end")
+        it.check(lambda: server.check_end(seconds_left(EACH), dropped), "the program's end")
 
 
 def put_data(room, quads):
@@ -212,22 +212,22 @@ def try_endless(it, program, room, seconds_left):
     put_data(room, SMALL)
     crowd, clients = [silent() for _ in range(4)], [sound(delay=0.1 + at / 20) for at in range(20)]
     it.tried += len(clients)
-    with serving(program, room, ["--at-once", 4], seconds_left(EACH)) as served:
-        talk(crowd + clients, served.port, seconds_left(EACH))
+    with serving(program, room, ["--at-once", 4], seconds_left(EACH)) as server:
+        talk(crowd + clients, server.port, seconds_left(EACH))
         for client in clients:
             it.check(lambda: check_answered(client), "a sound one")
-        served.program.send_signal(signal.SIGTERM)
-        it.check(lambda: served.check_end(seconds_left(EACH), len(crowd), -signal.SIGTERM), "the program's end")
+        server.program.send_signal(signal.SIGTERM)
+        it.check(lambda: server.check_end(seconds_left(EACH), len(crowd), -signal.SIGTERM), "the program's end")
 
 
 def try_taken(it, program, room, seconds_left):
     """A port that another program has can't be listened on."""
     put_data(room, SMALL)
     with Taken() as port:
-        words = [program, "serve", "--port", str(port), "--data", f"{room}/data.nq", "--requests", "1"]
+        words = command(program, port, f"{room}/data.nq", ["--requests", 1])
         ran = subprocess.run(words, stdin=subprocess.DEVNULL, capture_output=True, timeout=seconds_left(EACH))
     found = ran.returncode, ran.stdout.decode(errors="replace")
-    it.check(lambda: check(found == (1, f"cannot listen on {port}\n"), f"it ends so: {found}"), "the program's end")
+    it.check(lambda: check(found == (1, refusal_line(port)), f"it ends so: {found}"), "the program's end")
 
 
 class Taken:
@@ -247,7 +247,7 @@ def attempt(pipe, it, call, room):
     """Tries a round in a process of its own, and sends how it went."""
     try:
         call(it, room)
-    except (Unserved, subprocess.TimeoutExpired) as wrong:
+    except (ServerError, subprocess.TimeoutExpired) as wrong:
         it.told.append(f"{it.name}: {wrong}")
     pipe.send((it.tried, it.passed, it.told))
 
