@@ -7,24 +7,21 @@ import importlib.util
 import json
 import os
 import shutil
-import socket
 import subprocess
 import sys
 import time
 from collections import Counter, namedtuple
-from urllib.parse import quote
 
 ROOT = os.path.dirname(os.path.dirname(os.path.realpath(__file__)))
 sys.path[:0] = [f"{ROOT}/scripts", f"{ROOT}/tests"]
 sys.dont_write_bytecode = True
+from http_client import NTRIPLES, RESULTS, connect, pieces, post, read_all  # noqa: E402
 from program import asked  # noqa: E402
 from server import command, free_port, listening_line  # noqa: E402
 
 MB = 1_000_000
 PAST_ALL = 100 * MB
 """An OFFSET past the end of every answer here: with it a query is evaluated, and no row is written."""
-
-JSON = "application/sparql-results+json"
 
 Cost = namedtuple("Cost", "clock busy memory")
 """What a run took: the seconds of the clock and of the processor, and the most bytes of memory."""
@@ -106,18 +103,18 @@ def run(words, out=subprocess.DEVNULL):
 # ---- requests
 
 
-def posted(path, media, body):
-    """Returns the request that sends a body. It asks both programs for the same forms, and for the end of the connection."""
-    head = f"POST {path} HTTP/1.1\r\nHost: e\r\nAccept: {JSON}, application/n-triples\r\nConnection: close\r\n"
-    return f"{head}Content-Type: {media}\r\nContent-Length: {len(body)}\r\n\r\n".encode() + body
+FIELDS = f"Accept: {RESULTS}, {NTRIPLES}", "Connection: close"
+"""The header fields that ask both programs for the same forms, and for the end of the connection."""
+TIMEOUT = 600
+"""The seconds after which a client gives up."""
 
 
 def query(text):
-    return posted("/query", "application/sparql-query", text.encode())
+    return post("query", text, None, *FIELDS)
 
 
 def update(text):
-    return posted("/update", "application/sparql-update", text.encode())
+    return post("update", text, None, *FIELDS)
 
 
 class Running:
@@ -131,20 +128,20 @@ class Running:
 
     def ask(self, request):
         """Returns the reply of a request over a connection of its own. Its body is put together where it came in chunks."""
-        pieces, first, begin = [], 0, time.perf_counter()
-        with socket.create_connection(("127.0.0.1", self.port), timeout=600) as it:
-            it.sendall(request)
-            while piece := it.recv(1 << 20):
+        parts, first, begin = [], 0, time.perf_counter()
+        with connect(self.port, TIMEOUT) as connection:
+            connection.sendall(request)
+            for piece in pieces(connection, 1 << 20):
                 first = first or 1000 * (time.perf_counter() - begin)
-                pieces.append(piece)
+                parts.append(piece)
         whole = 1000 * (time.perf_counter() - begin)
-        head, _, body = b"".join(pieces).partition(b"\r\n\r\n")
+        head, _, body = b"".join(parts).partition(b"\r\n\r\n")
         head = head.decode()
         return Reply(head, joined(body) if "transfer-encoding: chunked" in head.lower() else body, first, whole)
 
     def dump(self):
         """Returns how many quads the program holds, and a sum over them that doesn't depend on their order."""
-        connection = http.client.HTTPConnection("127.0.0.1", self.port, timeout=600)
+        connection = http.client.HTTPConnection("127.0.0.1", self.port, timeout=TIMEOUT)
         connection.request("GET", self.DUMP, headers={"Accept": "application/n-quads"})
         reply, count, total, rest = connection.getresponse(), 0, 0, b""
         if reply.status != 200:
@@ -252,7 +249,7 @@ class Oxigraph(Running):
     def wait_until_ready(self, end):
         while True:
             try:
-                return socket.create_connection(("127.0.0.1", self.port), 1).close()
+                return connect(self.port, 1).close()
             except OSError:
                 if self.program.poll() is not None or time.perf_counter() > end:
                     sys.exit("Oxigraph doesn't listen")
@@ -261,10 +258,10 @@ class Oxigraph(Running):
     def put(self):
         """Puts the quads of the file into the store, without a transaction, which takes Oxigraph less time and memory."""
         head = "POST /store?no_transaction HTTP/1.1\r\nHost: e\r\nContent-Type: application/n-quads\r\nConnection: close\r\n"
-        with open(self.file, "rb") as data, socket.create_connection(("127.0.0.1", self.port), 600) as it:
-            it.sendall(f"{head}Content-Length: {os.path.getsize(self.file)}\r\n\r\n".encode())
-            it.sendfile(data)
-            found = b"".join(iter(lambda: it.recv(1 << 16), b""))
+        with open(self.file, "rb") as data, connect(self.port, TIMEOUT) as connection:
+            connection.sendall(f"{head}Content-Length: {os.path.getsize(self.file)}\r\n\r\n".encode())
+            connection.sendfile(data)
+            found = read_all(connection)
         if not found.startswith(b"HTTP/1.1 20"):
             sys.exit(f"Oxigraph doesn't take the data: {found[:200]!r}")
 
@@ -297,7 +294,7 @@ LONGEST = 60
 
 def answer_of(reply):
     """Returns what a reply says: the solutions of a SELECT, the truth of an ASK, or the triples of a CONSTRUCT, each as a list."""
-    if JSON not in reply.head:
+    if RESULTS not in reply.head:
         return sorted({*reply.body.decode().splitlines()})
     answer = json.loads(reply.body)
     return [solution_of(it) for it in answer["results"]["bindings"]] if "results" in answer else [answer["boolean"]]

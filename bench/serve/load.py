@@ -7,24 +7,10 @@ import socket
 import time
 from concurrent.futures import ProcessPoolExecutor
 
+from http_client import connect, exchange
+
 TIMEOUT = 30
 """The seconds after which a client gives up."""
-
-
-def connected(port, receive=None):
-    it = socket.socket()
-    if receive:
-        it.setsockopt(socket.SOL_SOCKET, socket.SO_RCVBUF, receive)
-    it.settimeout(TIMEOUT)
-    it.connect(("127.0.0.1", port))
-    return it
-
-
-def ask(port, request):
-    """Returns the whole reply of a request."""
-    with connected(port) as it:
-        it.sendall(request)
-        return b"".join(iter(lambda: it.recv(1 << 20), b""))
 
 
 def times_of(port, requests, count, lengths):
@@ -33,7 +19,7 @@ def times_of(port, requests, count, lengths):
     times = []
     for at in range(count):
         begin, request = time.perf_counter(), requests[at % len(requests)]
-        found = ask(port, request)
+        found = exchange(port, request, TIMEOUT, 1 << 20)
         times.append(time.perf_counter() - begin)
         assert len(found) == lengths[request], found[:200]
     return sorted(times)
@@ -44,17 +30,15 @@ def times_of(port, requests, count, lengths):
 
 def ask_again(port, requests, lengths, clients, begin, seconds, most):
     """Has so many clients ask again and again, from one thread. Returns how many replies came in the time, at most so many."""
-    address, poll, open_ones, count, at = ("127.0.0.1", port), select.epoll(), {}, 0, 0
+    poll, open_ones, count, at = select.epoll(), {}, 0, 0
     time.sleep(max(0, begin - time.time()))
     end = time.perf_counter() + seconds
 
     def start(at):
-        it, request = socket.socket(), requests[at % len(requests)]
-        it.settimeout(TIMEOUT)
-        it.connect(address)
-        it.send(request)
-        poll.register(it.fileno(), select.EPOLLIN)
-        open_ones[it.fileno()] = [it, request, 0]
+        client, request = connect(port, TIMEOUT), requests[at % len(requests)]
+        client.send(request)
+        poll.register(client.fileno(), select.EPOLLIN)
+        open_ones[client.fileno()] = [client, request, 0]
 
     for at in range(clients):
         start(at)
@@ -122,7 +106,7 @@ def beside(call, *words):
 def send_slowly(pipe, port, clients):
     """Has so many clients send a byte a second, for 100 seconds at most."""
     rest = b"GET /query?query=ASK%7B%7D HTTP/1.1\r\nHost: e\r\nA: " + b"a" * 100
-    held = [connected(port) for _ in range(clients)]
+    held = [connect(port, TIMEOUT) for _ in range(clients)]
     for at in range(100):
         for it in held:
             it.send(rest[at : at + 1])
@@ -134,7 +118,7 @@ def send_slowly(pipe, port, clients):
 
 def read_nothing(pipe, port, clients, request):
     """Has so many clients ask, and read nothing of the replies, for 100 seconds at most. It is ready once each reply has begun."""
-    held = [connected(port, 4096) for _ in range(clients)]
+    held = [connect(port, TIMEOUT, 4096) for _ in range(clients)]
     for it in held:
         it.sendall(request)
     for it in held:
@@ -145,7 +129,7 @@ def read_nothing(pipe, port, clients, request):
 
 def hold(pipe, port, clients, sent=b""):
     """Has so many clients send these bytes and then nothing, for 100 seconds at most."""
-    held = [connected(port) for _ in range(clients)]
+    held = [connect(port, TIMEOUT) for _ in range(clients)]
     for it in held:
         it.sendall(sent)
     pipe.send(None)
@@ -163,7 +147,7 @@ def after_silence(port, request, length, silent):
             it.connect_ex(("127.0.0.1", port))
             held.append(it)
         begin = time.perf_counter()
-        found = ask(port, request)
+        found = exchange(port, request, TIMEOUT, 1 << 20)
         assert len(found) == length, found[:200]
         return time.perf_counter() - begin
     finally:

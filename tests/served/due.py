@@ -5,6 +5,7 @@ import re
 from collections import Counter
 
 from answers import Wrong, allows, are_same, blanks, row_text, solutions_of, statements
+from http_client import NQUADS, NTRIPLES, RESULTS, TEXT, fixed, reply
 from model import Dataset, group_solutions, updated
 from trees import XSD, Graph, Group, Modify, Term, Triples, compact, iri, lines_of
 
@@ -81,38 +82,6 @@ def variables_of(elements):
 
 
 # ---- replies
-
-RESULTS, NTRIPLES, NQUADS = "application/sparql-results+json", "application/n-triples", "application/n-quads"
-TEXT = "text/plain; charset=utf-8"
-PHRASES = {
-    200: "OK",
-    204: "No Content",
-    400: "Bad Request",
-    404: "Not Found",
-    405: "Method Not Allowed",
-    411: "Length Required",
-    413: "Payload Too Large",
-    415: "Unsupported Media Type",
-    431: "Request Header Fields Too Large",
-    500: "Internal Server Error",
-}
-
-
-def reply(status, media="", body="", *fields):
-    """Returns the bytes of a reply. One without a media type has no body."""
-    body = body.encode()
-    typed = [f"Content-Type: {media}", f"Content-Length: {len(body)}"] if media else []
-    return "\r\n".join([f"HTTP/1.1 {status} {PHRASES[status]}", "Connection: close", *fields, *typed, "", ""]).encode() + body
-
-
-def fixed(status, allow=""):
-    return reply(status, TEXT, PHRASES[status] + "\n", *([f"Allow: {allow}"] if allow else []))
-
-
-def fault(line):
-    """Returns the reply of a fault: 400 where the text is at fault, and 500 elsewhere."""
-    return reply(400 if re.match("F[1-6] ", line) else 500, TEXT, line + "\n")
-
 
 TEXT_FAULT = r"(F1 syntax|F2 undeclared prefix|F3 relative IRI|F6 too large) at \d+|F4 left out: \S+|F5 scope"
 REFUSED = {fixed(it) for it in (400, 404, 411, 413, 415, 431)} | {fixed(405, it) for it in ("GET, POST", "POST", "GET")}

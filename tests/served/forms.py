@@ -2,9 +2,10 @@
 from dataclasses import fields, is_dataclass, replace
 
 from connection import Connection
-from due import NTRIPLES, RESULTS, Exactly, Lawful, Meaning, Solutions, Statements, carried, dataset_of, fault, reply
+from due import Exactly, Lawful, Meaning, Solutions, Statements, carried, dataset_of
 from generated import Generator
 from generated import random_quads as few_quads
+from http_client import NTRIPLES, RESULTS, fault, reply
 from messages import Request, sound
 from model import Refused, TooLarge, ask, bound_joins, construct, select
 from scope import breaks_scope, labels

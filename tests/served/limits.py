@@ -12,7 +12,8 @@ import subprocess
 
 from answers import Wrong
 from crowd import EACH, Client, Read, talk
-from due import RESULTS, Exactly, reply
+from due import Exactly
+from http_client import DUMP, RESULTS, get_query, reply
 from messages import dumped
 from server import ServerError, command, refusal_line, serving
 from trees import Term, iri, lines_of
@@ -20,9 +21,8 @@ from trees import Term, iri, lines_of
 SLACK, TICK = 3, 1
 PATIENCE = 1
 """How many times as long a client may wait as on a machine that isn't slow. `be_patient` sets it."""
-ASK = b"GET /query?query=ASK%7B%7D HTTP/1.1\r\nHost: e\r\n\r\n"
+ASK = get_query("ASK{}")
 TRUE = Exactly(reply(200, RESULTS, '{"boolean":true,"head":{}}'))
-DATA = b"GET /data HTTP/1.1\r\nHost: e\r\n\r\n"
 SMALL = frozenset({(None, iri("a"), iri("p"), iri("b"))})
 LARGE = frozenset((iri("big"), iri(str(at)), iri("p"), Term("literal", f"{at:03}-" * 100_000)) for at in range(60))
 """Quads of 24 MB."""
@@ -85,8 +85,8 @@ def times_round():
     # (of 24 MB, at 8 MB a second)
     last = idle + TICK + SLACK
     lively, endless = slow(0.075, 20), slow(0.2, 40)
-    reader = Client([("send", DATA), ("read", Read(rate=8_000_000))])
-    deaf = Client([("send", DATA), ("wait", last + 1), ("read", Read())], receive=4096)
+    reader = Client([("send", DUMP), ("read", Read(rate=8_000_000))])
+    deaf = Client([("send", DUMP), ("wait", last + 1), ("read", Read())], receive=4096)
     clients = [(silent(), "a silent one"), (stalled(), "one within its request")]
     checks = [(it, lambda it: check_dropped(it, 0.9 * idle, last), what) for it, what in clients]
     checks += [
@@ -151,7 +151,7 @@ def lively_round():
 
 def writing_round():
     """All places are taken by those that don't read their replies for a while, and somebody waits: none is dropped."""
-    deaf = lambda: Client([("send", DATA), ("wait", 3), ("read", Read(step=1 << 20))], receive=4096)
+    deaf = lambda: Client([("send", DUMP), ("wait", 3), ("read", Read(step=1 << 20))], receive=4096)
     checks = [(deaf(), lambda it: check_answered(it, due=dumped(LARGE)), "one that reads its reply late") for _ in range(4)]
     return ["--at-once", 4], LARGE, [*checks, (sound(delay=0.2), lambda it: check_answered(it), "a sound one that waits")], None
 

@@ -7,11 +7,11 @@ import functools
 from answers import blanks
 from connection import Connection
 from crowd import Read
-from due import NOTHING, NQUADS, REFUSED, Exactly, Lawful, Line, Meaning, Statements, carried, deleted, fault, fixed, inserted, reply
+from due import NOTHING, REFUSED, Exactly, Lawful, Line, Meaning, Statements, carried, deleted, inserted
+from http_client import DUMP, FORM, NQUADS, fault, fixed, post, reply
 from texts import FAULTS, Spelling, ask, by_graph, random_bytes, random_quads, random_query, random_update
 from trees import Term, iri, lines_of
 
-FORM = "application/x-www-form-urlencoded"
 FIELDS = ["Accept: */*", "User-Agent: storm/1.0 (é)", "X-Empty:", "Content-Language: en", "Accept-Encoding: gzip, deflate", "Cookie: query=ASK%7B%7D"]
 
 
@@ -88,7 +88,7 @@ def dumped(quads):
 
 
 def dump():
-    return Connection("the dataset", b"GET /data HTTP/1.1\r\nHost: e\r\n\r\n", Meaning(lambda quads: (dumped(quads), quads), has_fronts=True))
+    return Connection("the dataset", DUMP, Meaning(lambda quads: (dumped(quads), quads), has_fronts=True))
 
 
 def answered(rng, sound):
@@ -339,8 +339,7 @@ def longest(rng):
     text, meaning = random_update(rng)
     body = text.encode() + b"#"
     body += b"a" * (4194304 - len(body))
-    head = f"POST /update HTTP/1.1\r\nHost: e\r\nContent-Type: application/sparql-update\r\nContent-Length: {len(body)}\r\n\r\n"
-    return Connection("an update of 4,194,304 bytes", head.encode() + body, meaning)
+    return Connection("an update of 4,194,304 bytes", post("update", body), meaning)
 
 
 KINDS = [

@@ -4,11 +4,11 @@ The base are quads that no update touches. Each client has subjects of its own, 
 the reply of each of its requests. All terms that are ever stored are those of the base, since a store keeps each term that it has known.
 """
 import re
-import urllib.parse
 from collections import Counter
 
 from crowd import Client, Read
-from due import NOTHING, NQUADS, NTRIPLES, RESULTS, Exactly, Lawful, Rows, Wrong, fault, fixed, parts_of, reply
+from due import NOTHING, Exactly, Lawful, Rows, Wrong, parts_of
+from http_client import DUMP, NQUADS, NTRIPLES, RESULTS, fault, fixed, get_query, post, post_form, reply
 from trees import INTEGER, Term, compact, iri, json_of, lines_of
 
 NODES, CHAIN = 400, 20
@@ -189,19 +189,13 @@ TOO_MANY = "SELECT * { ?a :value ?x . ?b :value ?y . ?c :value ?z }"
 # ---- what clients do
 
 
-def get(text):
-    return f"GET /query?query={urllib.parse.quote_plus(text)} HTTP/1.1\r\nHost: e\r\n\r\n".encode()
-
-
 def posted(resource, text, is_form):
-    media, body = ("x-www-form-urlencoded", urllib.parse.urlencode({resource: text})) if is_form else (f"sparql-{resource}", text)
-    body = body.encode()
-    return f"POST /{resource} HTTP/1.1\r\nHost: e\r\nContent-Type: application/{media}\r\nContent-Length: {len(body)}\r\n\r\n".encode() + body
+    return (post_form if is_form else post)(resource, text)
 
 
 def queried(rng, text):
     text = PREFIX + text
-    return get(text) if len(text) < 4000 and rng.random() < 0.5 else posted("query", text, rng.random() < 0.5)
+    return get_query(text) if len(text) < 4000 and rng.random() < 0.5 else posted("query", text, rng.random() < 0.5)
 
 
 class Exchange:
@@ -336,12 +330,12 @@ class Owner:
 
     def dump(self):
         due = Dumped(self.base, {*map(line_of, self.stored)}, f"<http://e/c{self.number}n".encode())
-        return Exchange("the dataset", b"GET /data HTTP/1.1\r\nHost: e\r\n\r\n", due)
+        return Exchange("the dataset", DUMP, due)
 
     @staticmethod
     def whole():
         """Returns the exchange that reads the dataset, of which nothing is compared yet."""
-        return Exchange("the dataset", b"GET /data HTTP/1.1\r\nHost: e\r\n\r\n", Lawful())
+        return Exchange("the dataset", DUMP, Lawful())
 
     def refused_update(self):
         fresh = self.rng.randrange(1 << 60)

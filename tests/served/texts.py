@@ -1,8 +1,9 @@
 """Random texts of SPARQL, each with what it means for the model."""
 import re
 
-from due import GRAPHS, LITERALS, NTRIPLES, PREDICATES, RESULTS, SUBJECTS, Exactly, Meaning, Solutions, Statements, carried, deleted, fault
-from due import group_of, inserted, quads_of, reply, solutions, variables_of
+from due import GRAPHS, LITERALS, PREDICATES, SUBJECTS, Exactly, Meaning, Solutions, Statements, carried, deleted, group_of, inserted, quads_of
+from due import solutions, variables_of
+from http_client import NTRIPLES, RESULTS, fault, reply
 from model import Lists, Refused, instances
 from trees import XSD, Clear, Create, Modify, Term, Transfer
 
