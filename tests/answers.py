@@ -2,43 +2,17 @@
 other names (RDF 1.1 Concepts, 3.6; SPARQL 1.1 Query, 15)."""
 import itertools
 import json
-import re
 from collections import Counter
 
 from model import TooLarge
-from trees import Term, compact, lines_of, nquads_of
+from trees import Term, compact, nquads_of
 
 
 class Wrong(Exception):
     """What isn't as it is due."""
 
 
-# ---- answers as they are written (N-Triples, N-Quads; SPARQL 1.1 Query Results JSON Format)
-
-TERM = re.compile(r'<([^>]*)>|_:(b\d+)|"((?:[^"\\]|\\.)*)"(?:@([\w-]+)|\^\^<([^>]*)>)?')
-ESCAPES = {"\\n": "\n", "\\r": "\r", '\\"': '"', "\\\\": "\\"}
-
-
-def term_of(found):
-    uri, label, form, tag, datatype = found.groups()
-    if form is None:
-        return Term("bnode", label) if label else Term("uri", uri)
-    return Term("literal", re.sub(r"\\.", lambda it: ESCAPES[it[0]], form), datatype or "", tag or "")
-
-
-def statements(body, count):
-    """Returns the lines of N-Triples or N-Quads as tuples with so many terms, the graph first where it is one of four.
-
-    # Errors
-
-    Wrong where they aren't ascending lines in their written form, each once."""
-    found = set()
-    for line in body.split("\n")[:-1]:
-        terms = [*map(term_of, TERM.finditer(line))]
-        found.add((*(terms[3:] or [None] if count == 4 else ()), *terms[:3]))
-    if lines_of(found) != body:
-        raise Wrong("these aren't statements in their written form")
-    return found
+# ---- solutions as they are written (SPARQL 1.1 Query Results JSON Format)
 
 
 def json_term(it):

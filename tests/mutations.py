@@ -10,7 +10,8 @@ from importlib.machinery import SourceFileLoader
 from generated import Generator, numbered, random_quads
 from messages import random_connection
 from model import Dataset
-from reader import Fault, read_quads
+from nquads import read_quads
+from reader import Fault
 from texts import random_query, random_update
 from trees import iri, lines_of, text_of, update_text
 

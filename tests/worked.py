@@ -1,30 +1,23 @@
 """Worked cases for the model: datasets, trees and answers, each worked out by hand from the standard's text, or taken from its test suites.
 
-In short, :a is <http://e/a>; 5 and true are an xsd:integer and an xsd:boolean with this form; further forms are "a", "a"@en, "a"^^xsd:integer,
-_:b0 (in data a blank node, in patterns one with a label) and ?x. A row is `x=:a y=5`. What stands behind a name in brackets is where it comes from.
+Terms are in short (`notation.py`); besides, ?x is a variable, and _:b0 is in data a blank node, and in patterns one with a label. A row is
+`x=:a y=5`. What follows a name in brackets is where it comes from.
 """
-import re
 from itertools import permutations
 
 from answers import allows, are_same
 from model import Dataset, Lists, ask, construct, ordered, select, updated
+from notation import term
 from scope import breaks_scope
-from trees import BOOLEAN, INTEGER, XSD, Alternative, Bind, Call, Clear, Closure, Create, Filter, Graph, Group, Inverse, Minus, Modify, Negated
+from trees import Alternative, Bind, Call, Clear, Closure, Create, Filter, Graph, Group, Inverse, Minus, Modify, Negated
 from trees import Optional, Sequence, Term, Transfer, Triples, Union, Values, iri, lines_of, query, var
 
 
 def word(it):
     """Returns the term of a word in short."""
-    if it[0] == "?":
-        return var(it[1:])
-    if it[0] in ":<":
-        return iri(it[1:]) if it[0] == ":" else Term("uri", it[1:-1])
-    if it[0] == "_":
-        return var(it)
-    found = re.fullmatch(r'"([^"]*)"(?:@(.+)|\^\^(xsd:)?:?(.+))?', it)
-    if not found:
-        return Term("literal", it, BOOLEAN if it.isalpha() else INTEGER)
-    return Term("literal", found[1], found[4] and (XSD if found[3] else "http://e/") + found[4] or "", found[2] or "")
+    if it[0] in "?_":
+        return var(it[1:] if it[0] == "?" else it)
+    return term(it)
 
 
 def words(text):

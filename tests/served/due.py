@@ -4,9 +4,10 @@ import json
 import re
 from collections import Counter
 
-from answers import Wrong, allows, are_same, blanks, row_text, solutions_of, statements
+from answers import Wrong, allows, are_same, blanks, row_text, solutions_of
 from http_client import NQUADS, NTRIPLES, RESULTS, TEXT, fixed, reply
 from model import Dataset, group_solutions, updated
+from nquads import statements
 from trees import XSD, Graph, Group, Modify, Term, Triples, compact, iri, lines_of
 
 UNION = False
