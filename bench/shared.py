@@ -4,7 +4,6 @@ import functools
 import http.client
 import importlib.machinery
 import importlib.util
-import json
 import os
 import shutil
 import subprocess
@@ -16,6 +15,7 @@ ROOT = os.path.dirname(os.path.dirname(os.path.realpath(__file__)))
 sys.path[:0] = [f"{ROOT}/scripts", f"{ROOT}/tests"]
 sys.dont_write_bytecode = True
 from http_client import NTRIPLES, RESULTS, connect, pieces, post, read_all  # noqa: E402
+from json_results import answer_of as answer_of_json  # noqa: E402
 from program import asked  # noqa: E402
 from server import command, free_port, listening_line  # noqa: E402
 
@@ -296,8 +296,8 @@ def answer_of(reply):
     """Returns what a reply says: the solutions of a SELECT, the truth of an ASK, or the triples of a CONSTRUCT, each as a list."""
     if RESULTS not in reply.head:
         return sorted({*reply.body.decode().splitlines()})
-    answer = json.loads(reply.body)
-    return [solution_of(it) for it in answer["results"]["bindings"]] if "results" in answer else [answer["boolean"]]
+    answer = answer_of_json(reply.body)
+    return [answer] if isinstance(answer, bool) else [solution_of(it) for it in answer]
 
 
 def solution_of(row):

@@ -1,46 +1,21 @@
-"""What answers say, and whether they are due: solutions and statements as they are written, and how they are compared where blank nodes may have
-other names (RDF 1.1 Concepts, 3.6; SPARQL 1.1 Query, 15)."""
+"""Whether answers are due: how solutions and statements are compared where blank nodes may have other names (RDF 1.1 Concepts, 3.6; SPARQL 1.1
+Query, 15)."""
 import itertools
-import json
 from collections import Counter
 
 from model import TooLarge
-from trees import Term, compact, nquads_of
+from trees import Term, nquads_of
 
 
 class Wrong(Exception):
     """What isn't as it is due."""
 
 
-# ---- solutions as they are written (SPARQL 1.1 Query Results JSON Format)
-
-
-def json_term(it):
-    """Returns the term of a JSON value."""
-    return Term(it["type"], it["value"], it.get("datatype", ""), it.get("xml:lang", ""))
-
-
-def solutions_of(body, names):
-    """Returns the list of solutions of a JSON text, each the set of its pairs (name, term).
-
-    # Errors
-
-    Wrong where it is no such text with these variables."""
-    try:
-        found = json.loads(body)
-        rows = [frozenset((name, json_term(it)) for name, it in row.items()) for row in found["results"]["bindings"]]
-    except (ValueError, LookupError, TypeError, AttributeError):
-        raise Wrong("these aren't solutions") from None
-    if found["head"]["vars"] != names or compact(found) != body:
-        raise Wrong(f"the variables {names} are due, and JSON in its written form")
-    return rows
+# ---- rows of terms that differ in the names of blank nodes
 
 
 def row_text(row):
     return f"({' '.join(f'?{name}={nquads_of(term)}' for name, term in sorted(row))})"
-
-
-# ---- rows of terms that differ in the names of blank nodes
 
 
 def is_blank(term):

@@ -6,6 +6,7 @@ from due import Exactly, Lawful, Meaning, Solutions, Statements, carried, datase
 from generated import Generator
 from generated import random_quads as few_quads
 from http_client import NTRIPLES, RESULTS, fault, reply
+from json_results import boolean_text
 from messages import Request, sound
 from model import Refused, TooLarge, ask, bound_joins, construct, select
 from scope import breaks_scope, labels
@@ -30,7 +31,7 @@ def answer(tree, quads):
     data = dataset_of(quads)
     try:
         if tree.form == "ASK":
-            return Exactly(reply(200, RESULTS, f'{{"boolean":{"true" if ask(tree, data) else "false"},"head":{{}}}}'))
+            return Exactly(reply(200, RESULTS, boolean_text(ask(tree, data))))
         return Statements(NTRIPLES, construct(tree, data)) if tree.form == "CONSTRUCT" else Solutions(*select(tree, data))
     except TooLarge:
         return Lawful()

@@ -14,6 +14,7 @@ from answers import Wrong
 from crowd import EACH, Client, Read, talk
 from due import Exactly
 from http_client import DUMP, RESULTS, get_query, reply
+from json_results import boolean_text
 from messages import dumped
 from server import ServerError, command, refusal_line, serving
 from trees import Term, iri, lines_of
@@ -22,7 +23,7 @@ SLACK, TICK = 3, 1
 PATIENCE = 1
 """How many times as long a client may wait as on a machine that isn't slow. `be_patient` sets it."""
 ASK = get_query("ASK{}")
-TRUE = Exactly(reply(200, RESULTS, '{"boolean":true,"head":{}}'))
+TRUE = Exactly(reply(200, RESULTS, boolean_text(True)))
 SMALL = frozenset({(None, iri("a"), iri("p"), iri("b"))})
 LARGE = frozenset((iri("big"), iri(str(at)), iri("p"), Term("literal", f"{at:03}-" * 100_000)) for at in range(60))
 """Quads of 24 MB."""

@@ -9,7 +9,8 @@ from collections import Counter
 from crowd import Client, Read
 from due import NOTHING, Exactly, Lawful, Rows, Wrong, parts_of
 from http_client import DUMP, NQUADS, NTRIPLES, RESULTS, fault, fixed, get_query, post, post_form, reply
-from trees import INTEGER, Term, compact, iri, json_of, lines_of
+from json_results import binding, boolean_text, results_text
+from trees import INTEGER, Term, iri, lines_of
 
 NODES, CHAIN = 400, 20
 """How many nodes the base has, and how many stand in a chain."""
@@ -18,7 +19,7 @@ OWN, VALUES, OWN_GRAPHS = 16, 8, 2
 FIRST = 150
 """How many quads, some of them the same, a client has stored in the beginning: about as many as later on."""
 PREFIX = "PREFIX : <http://e/> "
-TRUE, FALSE = (reply(200, RESULTS, f'{{"boolean":{it},"head":{{}}}}') for it in ("true", "false"))
+TRUE, FALSE = (reply(200, RESULTS, boolean_text(it)) for it in (True, False))
 
 
 def number(n):
@@ -61,16 +62,15 @@ def line_of(quad):
 # ---- what is due
 
 
-def binding(**terms):
-    return compact({name: json_of(term) for name, term in terms.items()})
+def row(**terms):
+    return binding(terms)
 
 
 class InOrder:
     """Solutions are due in this order."""
 
     def __init__(self, names, rows):
-        body = f'{{"head":{{"vars":{compact(names)}}},"results":{{"bindings":[{",".join(rows)}]}}}}'
-        self.check = Exactly(reply(200, RESULTS, body)).check
+        self.check = Exactly(reply(200, RESULTS, results_text(names, rows))).check
 
 
 class Described:
@@ -120,39 +120,39 @@ def base_queries():
     third = [n for n in range(NODES) if n % 5 == 3]
     yes = Term("literal", "yes")
     return [
-        ("SELECT ?v { :n7 :value ?v }", bag(["v"], [binding(v=number(7))])),
+        ("SELECT ?v { :n7 :value ?v }", bag(["v"], [row(v=number(7))])),
         (
             "SELECT ?x ?v ?w { GRAPH ?g { ?x :in :m3 } ?x :value ?v ; :name ?w }",
-            bag(["x", "v", "w"], [binding(x=node[n], v=number(n), w=name(n)) for n in third]),
+            bag(["x", "v", "w"], [row(x=node[n], v=number(n), w=name(n)) for n in third]),
         ),
-        ("SELECT ?y { :n43 :next+ ?y }", bag(["y"], [binding(y=node[n]) for n in after(43)])),
-        ("SELECT ?y { :n43 :next* ?y }", bag(["y"], [binding(y=node[n]) for n in range(43, 60)])),
-        ("SELECT ?y { :n43 (:next/:next|^:next)? ?y }", bag(["y"], [binding(y=node[n]) for n in (42, 43, 45)])),
-        ("SELECT ?y { :none :next* ?y }", bag(["y"], [binding(y=iri("none"))])),
+        ("SELECT ?y { :n43 :next+ ?y }", bag(["y"], [row(y=node[n]) for n in after(43)])),
+        ("SELECT ?y { :n43 :next* ?y }", bag(["y"], [row(y=node[n]) for n in range(43, 60)])),
+        ("SELECT ?y { :n43 (:next/:next|^:next)? ?y }", bag(["y"], [row(y=node[n]) for n in (42, 43, 45)])),
+        ("SELECT ?y { :none :next* ?y }", bag(["y"], [row(y=iri("none"))])),
         (
             "SELECT ?x ?o { VALUES ?x { :n1 :n2 :n3 } OPTIONAL { ?x :odd ?o } }",
-            bag(["x", "o"], [binding(x=node[1], o=yes), binding(x=node[2]), binding(x=node[3], o=yes)]),
+            bag(["x", "o"], [row(x=node[1], o=yes), row(x=node[2]), row(x=node[3], o=yes)]),
         ),
-        ("SELECT ?x { ?x :value ?v MINUS { ?x :odd ?o } }", bag(["x"], [binding(x=node[n]) for n in range(0, NODES, 2)])),
+        ("SELECT ?x { ?x :value ?v MINUS { ?x :odd ?o } }", bag(["x"], [row(x=node[n]) for n in range(0, NODES, 2)])),
         (
             "SELECT ?x { { ?x :value 5 } UNION { ?x :value 6 } UNION { ?x :odd ?o } }",
-            bag(["x"], [binding(x=it) for it in [node[5], node[6], *node[1::2]]]),
+            bag(["x"], [row(x=it) for it in [node[5], node[6], *node[1::2]]]),
         ),
-        ("SELECT ?g { GRAPH ?g { :n6 :in ?m } }", bag(["g"], [binding(g=iri("g2"))])),
-        ("SELECT DISTINCT ?m { GRAPH ?g { ?x :in ?m } }", bag(["m"], [binding(m=iri(f"m{n}")) for n in range(5)])),
+        ("SELECT ?g { GRAPH ?g { :n6 :in ?m } }", bag(["g"], [row(g=iri("g2"))])),
+        ("SELECT DISTINCT ?m { GRAPH ?g { ?x :in ?m } }", bag(["m"], [row(m=iri(f"m{n}")) for n in range(5)])),
         (
             "SELECT ?x ?w { ?x :value ?v FILTER(?v < 9 && ?v != 4) BIND(?v * 2 AS ?w) } ORDER BY DESC(?v)",
-            InOrder(["x", "w"], [binding(x=node[n], w=number(2 * n)) for n in (8, 7, 6, 5, 3, 2, 1, 0)]),
+            InOrder(["x", "w"], [row(x=node[n], w=number(2 * n)) for n in (8, 7, 6, 5, 3, 2, 1, 0)]),
         ),
-        ("SELECT ?v { ?x :value ?v } ORDER BY ?v OFFSET 100 LIMIT 3", InOrder(["v"], [binding(v=number(n)) for n in (100, 101, 102)])),
-        ("SELECT (STRLEN(?w) AS ?n) { :n100 :name ?w }", bag(["n"], [binding(n=number(8))])),
-        ("SELECT ?x { ?x :value ?v } LIMIT 5", Rows(["x"], 5 * [binding(x=it) for it in node], 5)),
+        ("SELECT ?v { ?x :value ?v } ORDER BY ?v OFFSET 100 LIMIT 3", InOrder(["v"], [row(v=number(n)) for n in (100, 101, 102)])),
+        ("SELECT (STRLEN(?w) AS ?n) { :n100 :name ?w }", bag(["n"], [row(n=number(8))])),
+        ("SELECT ?x { ?x :value ?v } LIMIT 5", Rows(["x"], 5 * [row(x=it) for it in node], 5)),
         ("ASK { ?x :next :n8 ; :odd ?o }", Exactly(TRUE)),
         ("ASK { ?x :next ?x }", Exactly(FALSE)),
         ("CONSTRUCT { ?y :before ?x } WHERE { ?x :next ?y }", Exactly(construct_of(node))),
         ("CONSTRUCT { [] :of ?x } WHERE { ?x :odd ?o }", Described(f"_:b <http://e/of> <http://e/n{n}> ." for n in range(1, NODES, 2))),
-        ("SELECT * { ?x :value ?v . ?x :name ?w }", bag(["x", "v", "w"], [binding(x=node[n], v=number(n), w=name(n)) for n in range(NODES)])),
-        ("SELECT ?t { :big :text ?t }", bag(["t"], [binding(t=Term("literal", f"{n:03}-" * 25_000)) for n in range(10)])),
+        ("SELECT * { ?x :value ?v . ?x :name ?w }", bag(["x", "v", "w"], [row(x=node[n], v=number(n), w=name(n)) for n in range(NODES)])),
+        ("SELECT ?t { :big :text ?t }", bag(["t"], [row(t=Term("literal", f"{n:03}-" * 25_000)) for n in range(10)])),
     ]
 
 
@@ -321,10 +321,10 @@ class Owner:
         self.states = [fits[0]]
 
     def own_query(self):
-        rows = [binding(s=s, v=v) for graph, s, _, v in self.stored if graph is None]
+        rows = [row(s=s, v=v) for graph, s, _, v in self.stored if graph is None]
         text = f"SELECT ?s ?v {{ :c{self.number} :owns ?s . ?s :has ?v }}"
         if self.rng.random() < 0.5:
-            rows = [binding(g=graph, s=s, v=v) for graph, s, _, v in self.stored if graph]
+            rows = [row(g=graph, s=s, v=v) for graph, s, _, v in self.stored if graph]
             text = f"SELECT ?g ?s ?v {{ :c{self.number} :graphs ?g . GRAPH ?g {{ ?s :has ?v }} }}"
         return Exchange("a query of its own", queried(self.rng, text), bag(["s", "v"] if "?g ?s" not in text else ["g", "s", "v"], rows))
 

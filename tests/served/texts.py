@@ -4,6 +4,7 @@ import re
 from due import GRAPHS, LITERALS, PREDICATES, SUBJECTS, Exactly, Meaning, Solutions, Statements, carried, deleted, group_of, inserted, quads_of
 from due import solutions, variables_of
 from http_client import NTRIPLES, RESULTS, fault, reply
+from json_results import boolean_text
 from model import Lists, Refused, instances
 from trees import XSD, Clear, Create, Modify, Term, Transfer
 
@@ -166,8 +167,7 @@ def random_template(rng):
 
 def ask(elements):
     def due(quads):
-        truth = "true" if solutions(elements, quads) else "false"
-        return Exactly(reply(200, RESULTS, f'{{"boolean":{truth},"head":{{}}}}')), quads
+        return Exactly(reply(200, RESULTS, boolean_text(solutions(elements, quads)))), quads
 
     return due
 
