@@ -81,8 +81,8 @@ def quads(subjects, graphs=0):
 
 def put(path, parts):
     """Writes a file of these texts, and returns its path."""
-    with open(path, "w", encoding="utf-8") as it:
-        it.writelines(parts)
+    with open(path, "w", encoding="utf-8") as file:
+        file.writelines(parts)
     return path
 
 
@@ -154,8 +154,8 @@ class Running:
 
     def status(self, name):
         """Returns a number of bytes that the system tells of the program."""
-        with open(f"/proc/{self.program.pid}/status", encoding="utf-8") as it:
-            return 1024 * next(int(line.split()[1]) for line in it if line.startswith(name))
+        with open(f"/proc/{self.program.pid}/status", encoding="utf-8") as file:
+            return 1024 * next(int(line.split()[1]) for line in file if line.startswith(name))
 
     def memory(self):
         """Returns the most bytes of memory that the program has held."""
@@ -178,8 +178,8 @@ class Running:
     def waits(self, thread):
         """Returns whether a thread waits, or is gone."""
         try:
-            with open(f"/proc/{self.program.pid}/task/{thread}/stat", encoding="utf-8") as it:
-                return it.read().rpartition(") ")[2][0] not in "RD"
+            with open(f"/proc/{self.program.pid}/task/{thread}/stat", encoding="utf-8") as file:
+                return file.read().rpartition(") ")[2][0] not in "RD"
         except OSError:
             return True
 

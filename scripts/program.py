@@ -24,8 +24,8 @@ def sha256(data):
 
 
 def read(path):
-    with open(path, "rb") as it:
-        return it.read()
+    with open(path, "rb") as file:
+        return file.read()
 
 
 # ---- what release/ holds
@@ -110,8 +110,8 @@ def put_program(data, program):
     os.makedirs(os.path.dirname(program), exist_ok=True)
     handle, new = tempfile.mkstemp(prefix="new-", dir=os.path.dirname(program))
     try:
-        with os.fdopen(handle, "wb") as it:
-            it.write(data)
+        with os.fdopen(handle, "wb") as file:
+            file.write(data)
         os.chmod(new, 0o755)
         if not starts(new):
             raise OSError("it doesn't start on this machine")
@@ -137,8 +137,8 @@ def is_current(root):
 
 
 def put_stamp(root, text):
-    with open(stamp_of(root), "w", encoding="utf-8") as it:
-        it.write(text)
+    with open(stamp_of(root), "w", encoding="utf-8") as file:
+        file.write(text)
 
 
 def built(root, why=None):

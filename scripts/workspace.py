@@ -24,8 +24,8 @@ def program_path(root):
 
 def lines_of(root):
     """Returns the line of each crate in crates.txt."""
-    with open(f"{root}/crates.txt", encoding="utf-8") as it:
-        lines = [line for line in it if ":" in line.partition("#")[0]]
+    with open(f"{root}/crates.txt", encoding="utf-8") as file:
+        lines = [line for line in file if ":" in line.partition("#")[0]]
     return {line.partition(":")[0].split()[0]: line for line in lines}
 
 
@@ -66,8 +66,8 @@ def sources_sum(root, crates):
     for crate in sorted(crates):
         total.update(repr(lines[crate].partition("#")[0].split()).encode())
         for file in texts_of(root, crate):
-            with open(file, "rb") as it:
-                total.update(repr((os.path.relpath(file, root), hashlib.sha256(it.read()).hexdigest())).encode())
+            with open(file, "rb") as stream:
+                total.update(repr((os.path.relpath(file, root), hashlib.sha256(stream.read()).hexdigest())).encode())
     return total.hexdigest()
 
 
@@ -80,8 +80,8 @@ def made_of(root, crates):
 
 def seconds(root, crate):
     """Returns about how many seconds the check of a crate takes, as scripts/seconds.txt has it, or else by its code."""
-    with open(f"{os.path.dirname(os.path.abspath(__file__))}/seconds.txt", encoding="utf-8") as it:
-        for line in it:
+    with open(f"{os.path.dirname(os.path.abspath(__file__))}/seconds.txt", encoding="utf-8") as stream:
+        for line in stream:
             name, _, count = line.partition(" ")
             if name == crate:
                 return int(count)
@@ -90,8 +90,8 @@ def seconds(root, crate):
 
 def free_memory():
     """Returns how many bytes of memory can still be taken."""
-    with open("/proc/meminfo", encoding="utf-8") as it:
-        return next(1024 * int(line.split()[1]) for line in it if line.startswith("MemAvailable"))
+    with open("/proc/meminfo", encoding="utf-8") as file:
+        return next(1024 * int(line.split()[1]) for line in file if line.startswith("MemAvailable"))
 
 
 def lanes():
@@ -134,8 +134,8 @@ def trees(root):
 
 def put_lists(root, top, crates):
     """Gives a tree of these crates its crates.txt and its HANDLES."""
-    with open(f"{top}/crates.txt", "w", encoding="utf-8") as it:
-        it.writelines(line for name, line in lines_of(root).items() if name in crates)
+    with open(f"{top}/crates.txt", "w", encoding="utf-8") as file:
+        file.writelines(line for name, line in lines_of(root).items() if name in crates)
     shutil.copy2(f"{root}/HANDLES", top)
 
 

@@ -345,9 +345,9 @@ def choice(args, solution):
 
 def coalesce(args, solution):
     """17.4.1.3: the first argument that isn't an error."""
-    for it in args:
+    for argument in args:
         try:
-            return value(it, solution)
+            return value(argument, solution)
         except ExpressionError:
             continue
     raise ExpressionError
@@ -467,9 +467,9 @@ class Lists(namedtuple("Lists", "classes offset limit")):
     def spans(self):
         """Returns each class that the slice meets, with the places of the slice, from 0, that it fills."""
         found, place, end = [], -self.offset, inf if self.limit is None else self.limit
-        for it in self.classes:
-            found.append((it, max(place, 0), min(place + len(it), end)))
-            place += len(it)
+        for tied in self.classes:
+            found.append((tied, max(place, 0), min(place + len(tied), end)))
+            place += len(tied)
         return [it for it in found if it[1] < it[2]]
 
     def allows(self, rows):
@@ -537,8 +537,8 @@ def select(query, data):
     """18.2.4.4, 18.2.5: expressions, ORDER BY, projection, DISTINCT, OFFSET and LIMIT. Returns the names, and all lists of solutions, each the set
     of its pairs (name, term), that may be the answer."""
     found, names = where_solutions(query, data), select_names(query)
-    for it in query.items or ():
-        found = found if isinstance(it, Term) else extend(found, it[1], it[0])
+    for item in query.items or ():
+        found = found if isinstance(item, Term) else extend(found, item[1], item[0])
     projected = [[frozenset((name, it[name]) for name in names if name in it) for it in tied] for tied in ordered(found, query.order)]
     if query.distinct == "DISTINCT":
         before = [set().union(*projected[:at]) for at in range(len(projected))]

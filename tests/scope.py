@@ -36,11 +36,11 @@ def parts(group):
     """Returns the elements of a group that aren't FILTERs, where triples with nothing but FILTERs between them are one basic graph pattern
     (5.1, 18.2.2.5)."""
     found = []
-    for it in group.elements:
-        if isinstance(it, Triples) and found and isinstance(found[-1], Triples):
-            found[-1] = Triples(found[-1].triples + it.triples)
-        elif not isinstance(it, Filter):
-            found.append(it)
+    for element in group.elements:
+        if isinstance(element, Triples) and found and isinstance(found[-1], Triples):
+            found[-1] = Triples(found[-1].triples + element.triples)
+        elif not isinstance(element, Filter):
+            found.append(element)
     return found
 
 
@@ -85,10 +85,10 @@ def breaks_items(query):
         return False
     taken = in_scope(query.where) | (in_scope(query.values) if query.values else set())
     items, before = query.items or (), set()
-    for it in items:
-        if not isinstance(it, Term) and it[1].text in taken | before:
+    for item in items:
+        if not isinstance(item, Term) and item[1].text in taken | before:
             return True
-        before.add(it.text if isinstance(it, Term) else it[1].text)
+        before.add(item.text if isinstance(item, Term) else item[1].text)
     return False
 
 

@@ -108,8 +108,8 @@ def send_slowly(pipe, port, clients):
     rest = b"GET /query?query=ASK%7B%7D HTTP/1.1\r\nHost: e\r\nA: " + b"a" * 100
     held = [connect(port, TIMEOUT) for _ in range(clients)]
     for at in range(100):
-        for it in held:
-            it.send(rest[at : at + 1])
+        for client in held:
+            client.send(rest[at : at + 1])
         if not at:
             pipe.send(None)
         if pipe.poll(1):
@@ -119,8 +119,8 @@ def send_slowly(pipe, port, clients):
 def read_nothing(pipe, port, clients, request):
     """Has so many clients ask, and read nothing of the replies, for 100 seconds at most. It is ready once each reply has begun."""
     held = [connect(port, TIMEOUT, 4096) for _ in range(clients)]
-    for it in held:
-        it.sendall(request)
+    for client in held:
+        client.sendall(request)
     for it in held:
         it.recv(1, socket.MSG_PEEK)
     pipe.send(None)
@@ -130,8 +130,8 @@ def read_nothing(pipe, port, clients, request):
 def hold(pipe, port, clients, sent=b""):
     """Has so many clients send these bytes and then nothing, for 100 seconds at most."""
     held = [connect(port, TIMEOUT) for _ in range(clients)]
-    for it in held:
-        it.sendall(sent)
+    for client in held:
+        client.sendall(sent)
     pipe.send(None)
     pipe.poll(100)
 
@@ -151,5 +151,5 @@ def after_silence(port, request, length, silent):
         assert len(found) == length, found[:200]
         return time.perf_counter() - begin
     finally:
-        for it in held:
-            it.close()
+        for client in held:
+            client.close()

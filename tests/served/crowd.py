@@ -170,8 +170,8 @@ class Crowd:
         """Runs them until each is done, or has taken so many seconds."""
         end = time.monotonic() + seconds
         with selectors.EpollSelector() as self.selector:
-            for it in list(self.talks):
-                self.go_on(it)
+            for talker in list(self.talks):
+                self.go_on(talker)
             self.ready += self.all_begun.open()
             while self.talks and time.monotonic() < end:
                 self.turn(end)
@@ -187,8 +187,8 @@ class Crowd:
         now = time.monotonic()
         while self.times and self.times[0][0] <= now:
             self.ready.append(heapq.heappop(self.times)[2])
-        for it in self.take_ready():
-            self.go_on(it)
+        for talker in self.take_ready():
+            self.go_on(talker)
 
     def take_ready(self):
         ready, self.ready = self.ready, deque()

@@ -114,7 +114,7 @@ def strangers(worlds, asked):
 def suspects(worlds, asked, seconds):
     """Returns those of the queries without which all others have an order, as far as they are found in this time."""
     end, found = time.monotonic() + seconds, []
-    for it in asked:
-        if not it.writes and time.monotonic() < end and worlds_after(worlds, [other for other in asked if other is not it]):
-            found.append(it)
+    for request in asked:
+        if not request.writes and time.monotonic() < end and worlds_after(worlds, [other for other in asked if other is not request]):
+            found.append(request)
     return found
