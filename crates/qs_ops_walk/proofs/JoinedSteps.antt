@@ -19,8 +19,8 @@ use Rattle.qs_ops_scans.specs.declared.look.PreparedLook.TheVariants as prepared
 use Rattle.qs_ops_tables.specs.Tables.{row_solutions}
 use Rattle.qs_ops_walk.specs.declared.source.Level.{Level}
 use Rattle.qs_ops_walk.specs.declared.source.Source.TheVariants as source
-use Rattle.qs_ops_walk.specs.declared.walk.Each.{Each}
-use Rattle.qs_ops_walk.specs.declared.walk.Joining.{Joining}
+use Rattle.qs_ops_walk.specs.declared.after_names.Each.{Each}
+use Rattle.qs_ops_walk.specs.declared.after_names.Joining.{Joining}
 use Rattle.qs_ops_walk.specs.declared.work.Place.{Place}
 use Rattle.qs_ops_walk.specs.inner.Setting.{Setting, known_of}
 use Rattle.qs_ops_walk.specs.inner.Works.{IsNaming, IsTriple, code_of}

@@ -7,7 +7,9 @@
 //! go on. The right side of an OPTIONAL or a MINUS, and a group that is joined, are evaluated by a walk of their own, and kept.
 #![tactic(auto)]
 
+mod after_names;
 mod cursor;
+mod levels;
 mod reader;
 mod settle;
 mod source;

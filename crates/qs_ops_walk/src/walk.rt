@@ -1,29 +1,28 @@
 //! The walk through a program: one loop over a stack of levels.
 
-ghost use Rattle.std.specs.Prelude.{◌≡◌, ◌≤◌, ◌<◌, ◌-◌, true, List, None, IfOk, IfNone, IfSome, OnOk, false, map, suc, take, get_or, length, vec_len};
+ghost use Rattle.std.specs.Prelude.{◌≡◌, ◌≤◌, ◌<◌, ◌-◌, true, List, IfOk, IfNone, IfSome, false, map, suc, take, get_or, vec_len};
 ghost use Rattle.qs_terms.specs.Bag.{SameBag};
 ghost use Rattle.qs_terms.specs.declared.term.Term.{Term as TermValue};
-ghost use Rattle.qs_expr.specs.Cell.{cell_at, row_solution, FitsIf, FitsRow};
+ghost use Rattle.qs_expr.specs.Cell.{row_solution, FitsIf, FitsRow};
 ghost use Rattle.qs_expr.specs.Scratch.{IsTable, Grows};
 ghost use Rattle.qs_store.specs.ActiveGraph.{active_graph};
 ghost use Rattle.qs_store.specs.Graphs.{AreGraphs};
 ghost use Rattle.qs_plan_meaning.specs.Scans.{path_pairs};
 ghost use Rattle.qs_ops_program.specs.inner.Heights.{stages_height};
-ghost use Rattle.qs_ops_scans.specs.Each.{misses};
 ghost use Rattle.qs_ops_scans.specs.Paths.{ArePairs, Serve};
-ghost use Rattle.qs_ops_scans.specs.declared.look.PreparedLook.TheVariants as prepared;
 ghost use Rattle.qs_ops_tables.specs.Tables.{FitRows, row_solutions};
 ghost use Rattle.qs_plan_meaning.specs.Stages.{fed_rows};
 ghost use Rattle.qs_ops_walk.specs.inner.Setting.{known_of, through_in};
 ghost use Rattle.qs_ops_walk.specs.inner.Works.{ArePairsFor, AreValues, IfEndPairs, IfGraphs, IfPairs, IfValues, IsReady, IsRight, Serves, code_of, heights_of, only_cells};
 ghost use Rattle.qs_ops_walk.specs.inner.Coming.{coming};
 ghost use Rattle.qs_ops_walk.specs.inner.Cursor.{GivesNamed};
-ghost use Rattle.qs_ops_walk.specs.inner.After.{IsAfterNames, IsGivenOpened, IsJoined, IsJoinedOpened, IsJoining, named_if};
-ghost use Rattle.qs_ops_walk.specs.inner.Moves.{Finishes, GivesRow, IsInEach, IsOpened, IsQuadsOpened, IsStep, IsWalk, IsTripleOpened, Opens, opens, is_triple, is_optional, Attempts, OpensAt, OpensName, given_unless};
+ghost use Rattle.qs_ops_walk.specs.inner.Moves.{Finishes, GivesRow, IsOpened, IsStep, IsWalk, Opens, opens, is_triple, is_optional, Attempts, OpensAt, OpensName, given_unless};
 ghost use Rattle.qs_ops_walk.specs.declared.work.Place.{Place as PlaceValue};
 ghost use Rattle.qs_ops_walk.specs.declared.work.Work.TheVariants as variant;
 ghost use Rattle.qs_ops_walk.specs.declared.source.Source.TheVariants as origin;
 
+use crate::after_names::{AfterNames, after_names};
+use crate::levels::{open_given_level, open_joined_level, open_quads_level, open_triple_level};
 use crate::reader::Reader;
 use crate::settle::settle;
 use crate::source::{Attempt, Fork, Item, Level, Source, drop_source, next_of};
@@ -37,8 +36,7 @@ use qs_base::Shared;
 use qs_expr::{Cell, Row, Scratch};
 use qs_ops_program::compile;
 use qs_ops_scans::{
-    PathPairs, PreparedLook, PreparedTriple, RowEnds, gives_number, graph_numbers, misses,
-    path_rows, row_ends,
+    PathPairs, PreparedLook, PreparedTriple, RowEnds, graph_numbers, path_rows, row_ends,
 };
 use qs_ops_tables::{Kept, Probe, table_rows};
 use qs_plan_meaning::{Group, Stage};
@@ -479,264 +477,6 @@ fn is_optional(work: &Work<'_>) -> bool
     ensures { result ≡ is_optional work.now }
 {
     matches!(work, Work::Optional(_) | Work::Fed(_))
-}
-
-/// Puts a level for the rows that a triple pattern makes of the row.
-#[inline(never)]
-fn open_triple_level<'a, V: View>(
-    reader: &Reader<'a, V>,
-    levels: &mut Vec<Level<'a>>,
-    next: usize,
-    look: PreparedLook,
-    pattern: &PreparedTriple,
-    row: Row,
-) -> Result<(), AllocError>
-    ensures { IfOk result (λ _. IsTripleOpened reader.now next look pattern.now row levels.old.items levels.new.items) }
-{
-    levels.reserve(1)?;
-    levels.push_reserved(Level {
-        next,
-        source: Source::Triple(reader.open_triple(look, pattern, row)),
-    });
-    Ok(())
-}
-
-/// A triple pattern that is matched in each named graph, whose name the register holds, and the position where its rows go on.
-#[derive(Clone, Copy)]
-struct Each<'w> {
-    register: usize,
-    pattern: &'w PreparedTriple,
-    next: usize,
-}
-
-/// The triple pattern of the place, if it looks in the graph that the register names and has no such variable.
-fn pattern_named<'w>(place: &'w Place<'_>, register: usize) -> Option<&'w PreparedTriple>
-    ensures triple { IfSome result (λ p. place.now.work ≡ variant.Triple (prepared.Register register) p.now) }
-    ensures apart { IfSome result (λ p. misses register p.now ≡ true) }
-{
-    let Work::Triple(PreparedLook::Register(held), pattern) = &place.work else {
-        return None;
-    };
-    if *held != register || !misses(pattern, register) {
-        return None;
-    }
-    Some(pattern)
-}
-
-/// The triple pattern that follows the place, if the place gives the names of graphs, and what the pattern makes of the row in each of them
-/// is found by one scan.
-fn pattern_in_each<'w>(places: &'w [Place<'_>], place: &Place<'_>, row: &Row) -> Option<Each<'w>>
-    ensures { IfSome result (λ e. IsInEach places.now place.now row.now e) }
-{
-    let Work::Names(naming) = &place.work else {
-        return None;
-    };
-    let follows = place.instr.next();
-    if follows == 0 || row.width() <= naming.register {
-        return None;
-    }
-    let Some(after) = places.get(follows - 1) else {
-        return None;
-    };
-    let Some(pattern) = pattern_named(after, naming.register) else {
-        return None;
-    };
-    if !gives_number(pattern, row) {
-        return None;
-    }
-    Some(Each {
-        register: naming.register,
-        pattern,
-        next: after.instr.next(),
-    })
-}
-
-/// A named variable that is merged with the name of each graph in turn, the register that holds the name, and the position where the rows
-/// go on.
-#[derive(Clone, Copy)]
-struct Joining {
-    variable: usize,
-    register: usize,
-    next: usize,
-}
-
-/// The variable that is merged with the names of graphs right after the place, if the place gives them.
-fn joining_after(
-    places: &[Place<'_>],
-    place: &Place<'_>,
-    row: &Row,
-    width: usize,
-) -> Option<Joining>
-    ensures { IfSome result (λ j. IsJoining places.now place.now row.now width j) }
-{
-    let Work::Names(naming) = &place.work else {
-        return None;
-    };
-    let register = naming.register;
-    let follows = place.instr.next();
-    if follows == 0 || register < width || row.width() <= register {
-        return None;
-    }
-    let Some(merging) = places.get(follows - 1) else {
-        return None;
-    };
-    let Work::Name(variable, held) = &merging.work else {
-        return None;
-    };
-    if *held != register || *variable >= width {
-        return None;
-    }
-    let next = merging.instr.next();
-    Some(Joining {
-        variable: *variable,
-        register,
-        next,
-    })
-}
-
-/// The triple pattern that follows a variable merged with the names of graphs, if what it makes of the row in each graph is found by one
-/// scan.
-fn pattern_joined<'w>(places: &'w [Place<'_>], joining: Joining, row: &Row) -> Option<Each<'w>>
-    ensures { IfSome result (λ e. IsJoined places.now joining e) }
-{
-    if joining.next == 0 {
-        return None;
-    }
-    let Some(after) = places.get(joining.next - 1) else {
-        return None;
-    };
-    let Some(pattern) = pattern_named(after, joining.register) else {
-        return None;
-    };
-    if !misses(pattern, joining.variable) || !gives_number(pattern, row) {
-        return None;
-    }
-    let next = after.instr.next();
-    Some(Each {
-        register: joining.register,
-        pattern,
-        next,
-    })
-}
-
-/// What follows the names of graphs: a variable that is merged with them and that the row binds, the same before a triple pattern in each
-/// graph, where the row doesn't bind it, or a triple pattern in each graph. `ByName` is all else: the names are taken one by one.
-#[derive(Clone, Copy)]
-enum AfterNames<'w> {
-    Given(Joining, Cell),
-    Joined(Joining, Each<'w>),
-    InEach(Each<'w>),
-    ByName,
-}
-
-/// What follows the place, for the row.
-fn after_names<'w>(
-    places: &'w [Place<'_>],
-    place: &Place<'_>,
-    row: &Row,
-    width: usize,
-) -> AfterNames<'w>
-    ensures { IsAfterNames places.now place.now row.now width result }
-{
-    let Some(joining) = joining_after(places, place, row, width) else {
-        return match pattern_in_each(places, place, row) {
-            Some(each) => AfterNames::InEach(each),
-            None => AfterNames::ByName,
-        };
-    };
-    if let Some(cell) = row.cell(joining.variable) {
-        return AfterNames::Given(joining, cell);
-    }
-    match pattern_joined(places, joining, row) {
-        Some(each) => AfterNames::Joined(joining, each),
-        None => AfterNames::ByName,
-    }
-}
-
-/// The row with the register bound to the cell, if that names a graph.
-fn named_if(
-    named: bool,
-    register: usize,
-    cell: Cell,
-    mut row: Row,
-    spare: &mut Vec<Row>,
-) -> Option<Row>
-    requires { register < length row }
-    ensures { result ≡ named_if named register cell row }
-{
-    if !named {
-        keep(spare, row);
-        return None;
-    }
-    row.bind(register, cell);
-    Some(row)
-}
-
-/// Puts a level for the row with the register bound to the cell, if the cell's term is the name of a graph.
-#[inline(never)]
-fn open_given_level<'a, V: View>(
-    reader: &Reader<'a, V>,
-    levels: &mut Vec<Level<'a>>,
-    joining: Joining,
-    cell: Cell,
-    row: Row,
-    spare: &mut Vec<Row>,
-) -> Result<(), AllocError>
-    requires { joining.register < length row }
-    ensures { IfOk result (λ _. IsGivenOpened reader.now joining cell row levels.old.items levels.new.items) }
-{
-    levels.reserve(1)?;
-    let named = reader.names_graph(cell);
-    levels.push_reserved(Level {
-        next: joining.next,
-        source: Source::Given(named_if(named, joining.register, cell, row, spare)),
-    });
-    Ok(())
-}
-
-/// Puts a level for the rows that a triple pattern makes, in each named graph, of the row merged with the graph's name.
-#[inline(never)]
-fn open_joined_level<'a, V: View>(
-    reader: &Reader<'a, V>,
-    levels: &mut Vec<Level<'a>>,
-    variable: usize,
-    each: Each<'_>,
-    row: Row,
-) -> Result<(), AllocError>
-    requires apart { misses each.register each.pattern.now ≡ true }
-    requires other { misses variable each.pattern.now ≡ true }
-    requires cell { each.register < length row }
-    requires named { variable < reader.now.width }
-    requires wide { reader.now.width ≤ each.register }
-    requires free { cell_at row variable ≡ None }
-    ensures { IfOk result (λ _. IsJoinedOpened reader.now variable each.entry row levels.old.items levels.new.items) }
-{
-    levels.reserve(1)?;
-    levels.push_reserved(Level {
-        next: each.next,
-        source: Source::Quads(reader.joined_quad_rows(variable, each.register, each.pattern, row)),
-    });
-    Ok(())
-}
-
-/// Puts a level for the rows that a triple pattern makes of the row in each named graph.
-#[inline(never)]
-fn open_quads_level<'a, V: View>(
-    reader: &Reader<'a, V>,
-    levels: &mut Vec<Level<'a>>,
-    each: Each<'_>,
-    row: Row,
-) -> Result<(), AllocError>
-    requires apart { misses each.register each.pattern.now ≡ true }
-    requires cell { each.register < length row }
-    ensures { IfOk result (λ _. IsQuadsOpened reader.now each.entry row levels.old.items levels.new.items) }
-{
-    levels.reserve(1)?;
-    levels.push_reserved(Level {
-        next: each.next,
-        source: Source::Quads(reader.quad_rows(each.register, each.pattern, row)),
-    });
-    Ok(())
 }
 
 /// Puts a level for what the stage before the position makes of the row, where it is an OPTIONAL.

@@ -14,10 +14,10 @@ use Rattle.qs_ops_scans.specs.Prepared.{prepared_triple}
 use Rattle.qs_ops_scans.specs.declared.look.PreparedLook.TheVariants as prepared
 use Rattle.qs_ops_walk.specs.declared.source.Level.{Level}
 use Rattle.qs_ops_walk.specs.declared.source.Source.TheVariants as source
-use Rattle.qs_ops_walk.specs.declared.walk.AfterNames.{AfterNames}
-use Rattle.qs_ops_walk.specs.declared.walk.AfterNames.TheVariants.{Given, Joined, InEach, ByName}
-use Rattle.qs_ops_walk.specs.declared.walk.Each.{Each}
-use Rattle.qs_ops_walk.specs.declared.walk.Joining.{Joining}
+use Rattle.qs_ops_walk.specs.declared.after_names.AfterNames.{AfterNames}
+use Rattle.qs_ops_walk.specs.declared.after_names.AfterNames.TheVariants.{Given, Joined, InEach, ByName}
+use Rattle.qs_ops_walk.specs.declared.after_names.Each.{Each}
+use Rattle.qs_ops_walk.specs.declared.after_names.Joining.{Joining}
 use Rattle.qs_ops_walk.specs.declared.work.Naming.{Naming}
 use Rattle.qs_ops_walk.specs.declared.work.Place.{Place}
 use Rattle.qs_ops_walk.specs.declared.work.Work.TheVariants as work

@@ -18,7 +18,7 @@ use Rattle.qs_ops_walk.specs.declared.source.Attempt.{Attempt}
 use Rattle.qs_ops_walk.specs.declared.source.Source.{Source}
 use Rattle.qs_ops_walk.specs.declared.source.Source.TheVariants as source
 use Rattle.qs_ops_walk.specs.declared.work.Conditions.{Conditions}
-use Rattle.qs_ops_walk.specs.declared.walk.Each.{Each}
+use Rattle.qs_ops_walk.specs.declared.after_names.Each.{Each}
 use Rattle.qs_ops_walk.specs.declared.work.Naming.{Naming}
 use Rattle.qs_ops_walk.specs.declared.work.Place.{Place}
 use Rattle.qs_ops_walk.specs.declared.work.Work.{Work}

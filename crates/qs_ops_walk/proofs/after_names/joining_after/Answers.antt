@@ -1,6 +1,6 @@
 use Rattle.std.proofs.Common.{◌≡◌, ℕ, ◌-◌, suc, refl, sym, ◌∙◌, ap, arith}
 use Rattle.qs_ops_walk.specs.declared.work.Work.TheVariants as work
-use Rattle.qs_ops_walk.proofs.walk.joining_after.Goals as goal
+use Rattle.qs_ops_walk.proofs.after_names.joining_after.Goals as goal
 
 pub returns : goal.returns
 returns c =

@@ -1,5 +1,5 @@
 use Rattle.std.proofs.Common.{ℕ, ◌-◌, refl, sym, ◌∙◌, arith}
-use Rattle.qs_ops_walk.proofs.walk.pattern_joined.Goals as goal
+use Rattle.qs_ops_walk.proofs.after_names.pattern_joined.Goals as goal
 
 pub returns : goal.returns
 returns c =

@@ -1,5 +1,5 @@
 use Rattle.std.proofs.Common.{◌≡◌, ℕ, ◌-◌, suc, refl, sym, ◌∙◌, arith}
-use Rattle.qs_ops_walk.proofs.walk.pattern_in_each.Goals as goal
+use Rattle.qs_ops_walk.proofs.after_names.pattern_in_each.Goals as goal
 
 pub returns : goal.returns
 returns c =
