@@ -1,5 +1,5 @@
 -- A level is opened for a triple pattern in each named graph.
-use Rattle.std.proofs.Common.{◌≡◌, ℕ, suc, ◌<◌, List, [], ◌∷◌, ◌++◌, length, get_or, Option, None, Some, sym, refl, ◌∙◌, ap, subst, arith}
+use Rattle.std.proofs.Common.{◌≡◌, ℕ, suc, ◌<◌, List, [], ◌∷◌, ◌++◌, length, get_or, Option, None, Some, refl, ◌∙◌, ap, subst}
 use Rattle.qs_terms.specs.declared.term.Term.{Term}
 use Rattle.qs_algebra_solutions.specs.Solution.{term_at}
 use Rattle.qs_dict.specs.Dict.{number_of}
@@ -11,7 +11,7 @@ use Rattle.qs_plan_meaning.specs.declared.stage.Stage.TheVariants as stage
 use Rattle.qs_plan_meaning.specs.Scans.{extensions}
 use Rattle.qs_plan_meaning.specs.Stages.{each_named, graph_named}
 use Rattle.qs_ops_scans.specs.Each.{each_extension}
-use Rattle.qs_ops_scans.specs.Makes.{AreMade, Makes}
+use Rattle.qs_ops_scans.specs.Makes.{AreMade}
 use Rattle.qs_ops_scans.specs.Prepared.{named_look, prepared_look}
 use Rattle.qs_ops_scans.specs.declared.look.PreparedLook.TheVariants as prepared
 use Rattle.qs_ops_walk.specs.declared.source.Level.{Level}

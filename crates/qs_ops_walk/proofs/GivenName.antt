@@ -2,7 +2,7 @@
 use Rattle.std.proofs.Common.{◌≡◌, ℕ, ◌<◌, ◌≤◌, Bool, true, false, if◌then◌else◌, List, [], ◌∷◌, ◌++◌, length, map, Option, Some, None, slice_set, option_to_list, refl, sym, ◌∙◌, ap, subst, arith}
 use Rattle.std.proofs.lemmas.List.{get_or-set_other, get_or-set_same, length-set}
 use Rattle.std.proofs.lemmas.List.Sorted.{IsPermutation-refl}
-use Rattle.std.specs.List.{AllByRecursion, filter_map, flat_map, list_any}
+use Rattle.std.specs.List.{filter_map, flat_map, list_any}
 use Rattle.qs_terms.specs.Bag.{Distinct, SameBag}
 use Rattle.qs_terms.specs.Dataset.{names_of}
 use Rattle.qs_terms.specs.Statement.{Statement}
@@ -10,14 +10,12 @@ use Rattle.qs_terms.specs.Term.{same_term}
 use Rattle.qs_terms.specs.declared.term.Term.{Term}
 use Rattle.qs_terms.proofs.FirstOnes.{once_distinct}
 use Rattle.qs_terms.proofs.SameTerm.{same_term-Decides}
-use Rattle.qs_algebra_solutions.specs.Solution.{Solution, term_at, unbound, binding, compatible_terms, first_bound}
+use Rattle.qs_algebra_solutions.specs.Solution.{Solution, term_at, binding, compatible_terms, first_bound}
 use Rattle.qs_algebra_solutions.specs.Operators.{merges}
 use Rattle.qs_expr.specs.declared.cell.Cell.{Cell}
-use Rattle.qs_expr.specs.Cell.{Cells, cell_at, denoted, denoted_if, row_solution, FitsRow}
-use Rattle.qs_expr.specs.Scratch.{IsTable}
+use Rattle.qs_expr.specs.Cell.{Cells, cell_at, denoted, denoted_if, row_solution}
 use Rattle.qs_expr.proofs.Finding.{term_there}
 use Rattle.qs_expr.proofs.Rows.{bound_fits, bound_terms}
-use Rattle.qs_plan_meaning.specs.Stages.{each_named}
 use Rattle.qs_ops_scans.specs.Each.{NamesGraph}
 use Rattle.qs_ops_scans.specs.Makes.{AreMade, Makes}
 use Rattle.qs_ops_scans.proofs.OneName.{merges_named}

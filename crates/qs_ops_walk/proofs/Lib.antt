@@ -6,7 +6,6 @@ mod Opens
 mod Passes
 mod Placing
 mod Settles
-mod Sources
 mod Still
 mod Walks
 mod Conditions

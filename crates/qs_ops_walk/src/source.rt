@@ -1,6 +1,6 @@
 //! Sources of rows.
 
-ghost use Rattle.std.specs.Prelude.{◌≡◌, IfOk, IfSome, map, take};
+ghost use Rattle.std.specs.Prelude.{◌≡◌, IfOk, map, take};
 ghost use Rattle.std.specs.List.{AllByRecursion};
 ghost use Rattle.qs_algebra_patterns.specs.Eval.{all_hold};
 ghost use Rattle.qs_expr.specs.Cell.{row_solution, FitsRow};

@@ -17,7 +17,7 @@ use Rattle.qs_ops_walk.specs.inner.Moves.{Goes, OpensAt}
 use Rattle.qs_ops_walk.proofs.Bags.{chain, none_left, same}
 use Rattle.qs_ops_walk.proofs.Placing.{height_at, ready_at, same_heights, set_code}
 use Rattle.qs_ops_walk.proofs.Walks.{spent, ended, gave, hit}
-use Rattle.qs_ops_walk.proofs.Finished.{finished_walk, finished_gives}
+use Rattle.qs_ops_walk.proofs.Finished.{finished_gives}
 use Rattle.qs_ops_walk.proofs.Steps.{whole, changed, mid_fit, settled_walk, opened, opened_walk, triple_opened, triple_walk}
 use Rattle.qs_ops_walk.proofs.FusedSteps.{quads_opened, quads_walk}
 use Rattle.qs_ops_walk.proofs.JoinedSteps.{given_opened, given_walk, joined_opened, joined_walk}
