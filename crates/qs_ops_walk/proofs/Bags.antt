@@ -14,7 +14,7 @@ module _ {X : Type 0} where
   pub same : (xs ys : List X) → xs ≡ ys → SameBag xs ys
   same xs ys e = subst (λ (zs : List X). SameBag xs zs) e (IsPermutation-refl xs)
 
-  -- the same bag, between lists that are equal to others
+  -- one bag, between lists that are equal to others
   pub between : (xs xs' ys ys' : List X) → xs ≡ xs' → SameBag xs' ys' → ys ≡ ys' → SameBag xs ys
   between xs xs' ys ys' e h f = IsPermutation-trans xs xs' ys (same xs xs' e) (IsPermutation-trans xs' ys' ys h (same ys' ys (sym f)))
 

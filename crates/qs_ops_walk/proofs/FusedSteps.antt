@@ -20,7 +20,8 @@ use Rattle.qs_ops_walk.specs.declared.after_names.Each.{Each}
 use Rattle.qs_ops_walk.specs.declared.work.Place.{Place}
 use Rattle.qs_ops_walk.specs.inner.Setting.{Setting, known_of}
 use Rattle.qs_ops_walk.specs.inner.Works.{IsNaming, IsTriple, code_of}
-use Rattle.qs_ops_walk.specs.inner.Moves.{IsInEach, IsOpened, IsQuadsOpened, IsWalk, OpensTo}
+use Rattle.qs_ops_walk.specs.inner.After.{IsInEach}
+use Rattle.qs_ops_walk.specs.inner.Moves.{IsOpened, IsQuadsOpened, IsWalk, OpensTo}
 use Rattle.qs_ops_walk.proofs.Leads.{Leads, leads_to, names_lead, then_leads, triple_leads}
 use Rattle.qs_ops_walk.proofs.Placing.{code_length, instr_at, ready_at}
 use Rattle.qs_ops_walk.proofs.Walks.{fit_pushed}

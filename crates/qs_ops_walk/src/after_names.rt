@@ -3,8 +3,7 @@
 ghost use Rattle.std.specs.Prelude.{◌≡◌, true, IfSome};
 ghost use Rattle.qs_ops_scans.specs.Each.{misses};
 ghost use Rattle.qs_ops_scans.specs.declared.look.PreparedLook.TheVariants as prepared;
-ghost use Rattle.qs_ops_walk.specs.inner.After.{IsAfterNames, IsJoined, IsJoining};
-ghost use Rattle.qs_ops_walk.specs.inner.Moves.{IsInEach};
+ghost use Rattle.qs_ops_walk.specs.inner.After.{IsAfterNames, IsInEach, IsJoined, IsJoining};
 ghost use Rattle.qs_ops_walk.specs.declared.work.Work.TheVariants as variant;
 
 use crate::work::{Place, Work};

@@ -22,9 +22,9 @@ use Rattle.qs_ops_walk.specs.declared.work.Naming.{Naming}
 use Rattle.qs_ops_walk.specs.declared.work.Place.{Place}
 use Rattle.qs_ops_walk.specs.declared.work.Work.TheVariants as work
 use Rattle.qs_ops_walk.specs.inner.Setting.{Setting, known_of}
-use Rattle.qs_ops_walk.specs.inner.Moves.{IsInEach}
 
--- the rows that have the register holding each name in turn, merged with a variable that holds it too
+-- the rows that have the register holding each name in turn, merged with a variable that holds it too. `each_joined` isn't stated by it: it
+-- matches the pattern name by name, as `each_extension` does, and a law of nested lists would have to join the two
 abbrev pub each_merged : List Statement → ℕ → ℕ → ℕ → Solution → List Solution
 each_merged quads width v r m = flat_map (λ n. merges (binding width (v ∷ []) (term_at n r ∷ []) ∷ []) n) (each_named quads r m)
 
@@ -32,6 +32,21 @@ each_merged quads width v r m = flat_map (λ n. merges (binding width (v ∷ [])
 abbrev pub named_if : Bool → ℕ → Cell → Cells → Option Cells
 named_if true r c m = Some (slice_set m r (Some c))
 named_if false r c m = None
+
+-- the place gives the names of graphs in the register, and the triple pattern after it, which has no such variable, looks in each of them
+pub record IsInEach (ps : List Place) (p : Place) (m : Cells) (each : Each) : Type 0 where
+  pub naming : Naming
+  pub names : p.work ≡ work.Names naming
+  pub register : naming.register ≡ each.register
+  pub k : ℕ
+  pub follows : p.instr.next ≡ suc k
+  pub after : Place
+  pub within : k < length ps
+  pub stands : after ≡ get_or ps k after
+  pub triple : after.work ≡ work.Triple (prepared.Register each.register) each.pattern.now
+  pub next : each.next ≡ after.instr.next
+  pub apart : misses each.register each.pattern.now ≡ true
+  pub cell : each.register < length m
 
 -- the place gives the names of graphs in the register, and a named variable is merged with each right after it
 pub record IsJoining (ps : List Place) (p : Place) (m : Cells) (width : ℕ) (j : Joining) : Type 0 where

@@ -19,7 +19,6 @@ use Rattle.qs_ops_walk.specs.declared.source.Source.{Source}
 use Rattle.qs_ops_walk.specs.declared.source.Source.TheVariants as source
 use Rattle.qs_ops_walk.specs.declared.work.Conditions.{Conditions}
 use Rattle.qs_ops_walk.specs.declared.after_names.Each.{Each}
-use Rattle.qs_ops_walk.specs.declared.work.Naming.{Naming}
 use Rattle.qs_ops_walk.specs.declared.work.Place.{Place}
 use Rattle.qs_ops_walk.specs.declared.work.Work.{Work}
 use Rattle.qs_ops_walk.specs.declared.work.Work.TheVariants as work
@@ -30,11 +29,10 @@ use Rattle.qs_algebra_patterns.specs.declared.pattern.TriplePattern.{TriplePatte
 use Rattle.qs_plan_meaning.specs.declared.stage.Look.{Look}
 use Rattle.qs_plan_meaning.specs.Scans.{extensions}
 use Rattle.qs_plan_meaning.specs.Stages.{looked}
-use Rattle.qs_ops_scans.specs.Each.{each_extension, misses}
+use Rattle.qs_ops_scans.specs.Each.{each_extension}
 use Rattle.qs_ops_scans.specs.Makes.{Makes}
 use Rattle.qs_ops_scans.specs.Prepared.{prepared_look, prepared_triple}
 use Rattle.qs_ops_scans.specs.declared.look.PreparedLook.{PreparedLook}
-use Rattle.qs_ops_scans.specs.declared.look.PreparedLook.TheVariants as prepared
 use Rattle.qs_ops_scans.specs.declared.pattern.PreparedTriple.{PreparedTriple}
 use Rattle.qs_ops_walk.specs.inner.Setting.{Setting, known_of, gives_in, graph_in}
 use Rattle.qs_ops_walk.specs.inner.Works.{AreReady, IsRight, code_of}
@@ -205,21 +203,6 @@ pub record IsTripleOpened (s : Setting) (next : ℕ) (look : PreparedLook) (patt
   pub items : now ≡ levels ++ (record { next = next; source = source.Triple rows }) ∷ []
   pub makes : (place : Look) (p : TriplePattern) → look ≡ prepared_look (known_of s) place → pattern ≡ prepared_triple (known_of s) p
       → Makes (known_of s) (λ n. extensions p (looked s.content.quads (graph_in s) place n) n) m rows
-
--- the place gives the names of graphs in the register, and the triple pattern after it, which has no such variable, looks in each of them
-pub record IsInEach (ps : List Place) (p : Place) (m : Cells) (each : Each) : Type 0 where
-  pub naming : Naming
-  pub names : p.work ≡ work.Names naming
-  pub register : naming.register ≡ each.register
-  pub k : ℕ
-  pub follows : p.instr.next ≡ suc k
-  pub after : Place
-  pub within : k < length ps
-  pub stands : after ≡ get_or ps k after
-  pub triple : after.work ≡ work.Triple (prepared.Register each.register) each.pattern.now
-  pub next : each.next ≡ after.instr.next
-  pub apart : misses each.register each.pattern.now ≡ true
-  pub cell : each.register < length m
 
 -- a level for what the pattern makes of m in each named graph stands after the others
 pub record IsQuadsOpened (s : Setting) (each : Each) (m : Cells) (levels now : List Level) : Type 0 where
