@@ -23,24 +23,24 @@ fn number_of<V: View>(view: &V, slot: &Slot) -> Option<Option<u32>> {
     }
 }
 
-/// The triples of the graph that agree with the terms of the pattern; none where a term isn't known.
-fn agreeing<'v, V: View>(
-    view: &'v V,
-    graph: Active,
-    pattern: &TriplePattern,
-) -> Option<Triples<'v>> {
-    let subject = number_of(view, &pattern.subject)?;
-    let predicate = number_of(view, &pattern.predicate)?;
-    let object = number_of(view, &pattern.object)?;
-    Some(view.scan(graph, subject, predicate, object))
+/// The numbers that a triple must have in its places, where it must have one.
+#[derive(Clone, Copy)]
+struct Given {
+    subject: Option<u32>,
+    predicate: Option<u32>,
+    object: Option<u32>,
 }
 
-/// The quads of all named graphs that agree with the terms of the pattern; none where a term isn't known.
-fn agreeing_named<'v, V: View>(view: &'v V, pattern: &TriplePattern) -> Option<NamedQuads<'v>> {
+/// The numbers of the terms of the pattern; none where a term isn't known.
+fn given_of<V: View>(view: &V, pattern: &TriplePattern) -> Option<Given> {
     let subject = number_of(view, &pattern.subject)?;
     let predicate = number_of(view, &pattern.predicate)?;
     let object = number_of(view, &pattern.object)?;
-    Some(view.scan_named(subject, predicate, object))
+    Some(Given {
+        subject,
+        predicate,
+        object,
+    })
 }
 
 /// How many triples there are, up to the limit.
@@ -63,16 +63,24 @@ fn count_quads(mut quads: NamedQuads<'_>, limit: u64) -> u64 {
     limit
 }
 
+/// How many triples of the graph agree with the terms of the pattern, up to the limit.
 fn count_in<V: View>(view: &V, graph: Active, pattern: &TriplePattern, limit: u64) -> u64 {
-    match agreeing(view, graph, pattern) {
-        Some(triples) => count(triples, limit),
+    match given_of(view, pattern) {
+        Some(given) => count(
+            view.scan(graph, given.subject, given.predicate, given.object),
+            limit,
+        ),
         None => 0,
     }
 }
 
+/// How many quads of all named graphs agree with the terms of the pattern, up to the limit.
 fn count_named<V: View>(view: &V, pattern: &TriplePattern, limit: u64) -> u64 {
-    match agreeing_named(view, pattern) {
-        Some(quads) => count_quads(quads, limit),
+    match given_of(view, pattern) {
+        Some(given) => count_quads(
+            view.scan_named(given.subject, given.predicate, given.object),
+            limit,
+        ),
         None => 0,
     }
 }
