@@ -47,7 +47,7 @@ fn put_facts<V: View>(
         }
         Stage::Minus(_, _) => text.push_str(", apart: MINUS isn't fed"),
         Stage::Apart(_, group) => {
-            let reason = join_reason(alloc, group, known.len())?;
+            let reason = join_reason(alloc, group, known)?;
             put_reason(place.names, reason, text)
         }
         _ => Ok(()),

@@ -16,6 +16,8 @@ pub(crate) enum Reason {
     NotCertain(usize),
     /// The group has such a part.
     Inside(&'static str),
+    /// It shares no variable with the rows before it, and a filter in it leaves few of its rows.
+    NothingShared,
     /// It is optional, and many rows may come before it.
     ManyRows,
     /// It is optional, and many rows may come before it, or such a part is in a group in it.
@@ -146,7 +148,6 @@ fn stage_reason(
     match stage {
         Stage::Filter(condition) => filter_reason(alloc, condition.get(), known),
         Stage::Path(_, _) => Ok(side.only_if_optional(Reason::Inside("a path"))),
-        Stage::Names(_) => Ok(side.only_if_optional(Reason::Inside("GRAPH of a variable"))),
         Stage::Values(table) => Ok(table_reason(side, table.get())),
         Stage::Bind(_, _) => Ok(Some(Reason::Inside("BIND"))),
         Stage::Optional(_, group, conditions) => {
@@ -235,16 +236,31 @@ pub(crate) fn optional_reason(
     }
 }
 
-/// Why a group that is joined is evaluated by itself. Where no stage is the cause, it is a condition on a part of it.
+/// Whether the group binds no variable that the rows outside may bind.
+fn is_nothing_shared(alloc: Global, group: &Group, outside: &[Bound]) -> Result<bool, AllocError> {
+    let variables = bound_variables(alloc, outside.len(), group)?;
+    for variable in variables.as_slice() {
+        if !bound_at(outside, *variable).is_never() {
+            return Ok(false);
+        }
+    }
+    Ok(true)
+}
+
+/// Why a group that is joined is evaluated by itself. Where no stage is the cause, it shares no variable with the rows outside, or the cause is a
+/// condition on a part of it.
 pub(crate) fn join_reason(
     alloc: Global,
     group: &Group,
-    count: usize,
+    outside: &[Bound],
 ) -> Result<Reason, AllocError> {
-    match group_reason(alloc, Side::Joined, group, &[], count)? {
-        Some(reason) => Ok(reason),
-        None => Ok(Reason::Inside("FILTER")),
+    if let Some(reason) = group_reason(alloc, Side::Joined, group, &[], outside.len())? {
+        return Ok(reason);
     }
+    if is_nothing_shared(alloc, group, outside)? {
+        return Ok(Reason::NothingShared);
+    }
+    Ok(Reason::Inside("FILTER"))
 }
 
 /// Writes the reason.
@@ -260,6 +276,7 @@ pub(crate) fn put_reason(
             text.push_str(" isn't certain")
         }
         Reason::Inside(part) => write!(text, ", apart: {part} inside"),
+        Reason::NothingShared => text.push_str(", apart: no variable shared"),
         Reason::ManyRows => text.push_str(", apart: many rows before it"),
         Reason::ManyRowsOrInside(part) => {
             write!(text, ", apart: many rows before it, or {part} inside")

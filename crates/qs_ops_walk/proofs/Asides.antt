@@ -14,6 +14,7 @@ use Rattle.qs_plan_meaning.specs.declared.stage.Stage.TheVariants as stage
 use Rattle.qs_ops_program.specs.inner.Flow.{Instruction}
 use Rattle.qs_ops_tables.specs.Tables.{KeptRows, FitRows, TellsExcluded, row_solutions}
 use Rattle.qs_ops_walk.specs.declared.source.Source.TheVariants as source
+use Rattle.qs_ops_walk.specs.declared.work.Choice.{Choice}
 use Rattle.qs_ops_walk.specs.declared.work.Conditions.{Conditions}
 use Rattle.qs_ops_walk.specs.declared.work.Right.{Right}
 use Rattle.qs_ops_walk.specs.declared.source.Attempt.{Attempt}
@@ -21,6 +22,7 @@ use Rattle.qs_ops_walk.specs.inner.Setting.{Setting, known_of, through_in}
 use Rattle.qs_ops_walk.specs.inner.Works.{name_at, only_at, only_cells, IsAside, IsOptional, IsRight, Serves}
 use Rattle.qs_ops_walk.specs.inner.Moves.{Attempts, Opens, given_unless}
 use Rattle.qs_ops_walk.proofs.Opens.{opens_optional, opens_minus}
+use Rattle.qs_ops_walk.proofs.Still.{right_still}
 
 module _ (known table : List Term) where
   pub name_fits : (register : Option ℕ) (m : Cells) → FitsRow known table m → FitsIf known table (name_at register m)
@@ -56,13 +58,24 @@ aside_made s t0 t1 g register stages x n alone rows k h e f bag fit =
     }
 
 module _ (s : Setting) (i : Instruction) (old new : List Term) (m : Cells) (t : IsTable (known_of s) new) (g : Grows (known_of s) old new) (h : FitsRow (known_of s) old m) (right : Right) (k : KeptRows) (z : Serves right m k) (r : IsRight s new right) where
-  pub opens_attempt : (before : Right) (conditions : Conditions) → right.register ≡ before.register → right.group.now ≡ before.group.now → IsOptional s old i.stage before conditions.list.items
+  pub opens_attempt : (before : Right) (is_alike : Bool) (conditions : Conditions) → right.register ≡ before.register → right.group.now ≡ before.group.now → IsOptional s old i.stage before is_alike conditions.list.items
       → (b : Attempt) → Attempts k conditions m b → Opens s i old m new (source.Optional b)
-  opens_attempt before conditions e f is b a =
-      let o : IsOptional s new i.stage right conditions.list.items = record { is = rw (e, f) is.is; prepared = is.prepared; kept = r } in
-      opens_optional s i old new m t g h right k z r b (rw a.tests o) a.alone a.gives a.fits
+  opens_attempt before is_alike conditions e f is b a =
+      let o : IsOptional s new i.stage right is_alike conditions.list.items = record { is = rw (e, f) is.is; alike = rw (e, f) is.alike; prepared = is.prepared; kept = r } in
+      opens_optional s i old new m t g h right k z r is_alike b (rw a.tests o) a.alone a.gives a.fits
 
   pub opens_unless : (before : Right) → right.register ≡ before.register → right.group.now ≡ before.group.now → i.stage ≡ stage.Minus before.register before.group.now
       → (b : Bool) → TellsExcluded k.rows s.width m b → Opens s i old m new (given_unless b m)
   opens_unless before e f is true tells = opens_minus s i old new m t g h right k z r true None (rw (e, f) is) tells refl
   opens_unless before e f is false tells = opens_minus s i old new m t g h right k z r false (Some m) (rw (e, f) is) tells refl
+
+-- an OPTIONAL of which only what is kept changed, by a table that grew since
+pub optional_still : (s : Setting) (i : Stage) (old mid new : List Term) → Grows (known_of s) mid new → (before after : Choice) → IsOptional s old i before.right before.is_alike before.conditions.list.items
+    → after.right.register ≡ before.right.register → after.right.group.now ≡ before.right.group.now → after.conditions ≡ before.conditions → after.is_alike ≡ before.is_alike
+    → IsRight s mid after.right → IsOptional s new i after.right after.is_alike after.conditions.list.items
+optional_still s i old mid new g before after o r f c a k = record {
+  is = rw (r, f, c) o.is;
+  alike = rw (a, r, f) o.alike;
+  prepared = rw c o.prepared;
+  kept = right_still s mid new g after.right k;
+}

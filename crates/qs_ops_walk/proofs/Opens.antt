@@ -1,5 +1,5 @@
 -- What sources give of a row at the stage that they are opened for.
-use Rattle.std.proofs.Common.{◌≡◌, ℕ, suc, ◌+◌, ◌<◌, Bool, true, false, not, if◌then◌else◌, List, [], ◌∷◌, ◌++◌, length, get_or, map, take, drop, Option, Some, None, refl, sym, ◌∙◌, ap, subst, arith}
+use Rattle.std.proofs.Common.{◌≡◌, ℕ, suc, ◌+◌, ◌<◌, ◌≤◌, Bool, true, false, not, if◌then◌else◌, List, [], ◌∷◌, ◌++◌, length, get_or, map, take, drop, Option, Some, None, refl, sym, ◌∙◌, ap, subst, arith}
 use Rattle.std.proofs.lemmas.List.Sorted.{IsPermutation-map, list_any-IsPermutation}
 use Rattle.std.specs.List.{AllByRecursion, filter, flat_map, list_any}
 use Rattle.qs_terms.specs.Bag.{SameBag}
@@ -23,10 +23,11 @@ use Rattle.qs_ops_walk.specs.declared.source.Attempt.{Attempt}
 use Rattle.qs_ops_walk.specs.declared.source.Fork.{Fork as Branching}
 use Rattle.qs_ops_walk.specs.declared.source.Source.{Source}
 use Rattle.qs_ops_walk.specs.declared.source.Source.TheVariants as source
+use Rattle.qs_ops_walk.specs.declared.work.Conditions.{Conditions}
 use Rattle.qs_ops_walk.specs.declared.work.Feed.{Feed}
 use Rattle.qs_ops_walk.specs.declared.work.Right.{Right}
 use Rattle.qs_ops_walk.specs.inner.Setting.{Setting, known_of, gives_in, graph_in, through_in}
-use Rattle.qs_ops_walk.specs.inner.Works.{ArePairsFor, expr_of, IsTriple, AreValues, IsFed, IsFork, IsOptional, IsRight, Serves}
+use Rattle.qs_ops_walk.specs.inner.Works.{ArePairsFor, expr_of, IsAlike, IsTriple, AreValues, IsFed, IsFork, IsOptional, IsRight, Serves}
 use Rattle.qs_ops_walk.specs.inner.Coming.{Going, going, row_if, or_else, attempted, source_items, flows, FitsOption, FitsSource}
 use Rattle.qs_ops_walk.specs.inner.Moves.{item_moves, instr_items, Attempts, Opens, OpensTo}
 use Rattle.qs_expr_meaning.specs.declared.expr.Expr.{Expr}
@@ -46,7 +47,7 @@ use Rattle.qs_ops_scans.specs.declared.look.PreparedLook.{PreparedLook}
 use Rattle.qs_ops_scans.specs.declared.pattern.PreparedTriple.{PreparedTriple}
 use Rattle.qs_ops_walk.proofs.Bags.{same, chain, filter_same, flat_map_same, merges_same, alone_same}
 use Rattle.qs_ops_walk.proofs.NoUnions.{names_is_not, path_is_not, triple_is_not, values_is_not, optional_is_not, fed_is_not, minus_is_not, apart_is_not}
-use Rattle.qs_ops_walk.proofs.Passes.{serves, serves_fit}
+use Rattle.qs_ops_walk.proofs.Passes.{row_length, serves, serves_fit}
 
 -- ---- what comes of an instruction's items
 
@@ -154,6 +155,27 @@ module _ (s : Setting) (i : Instruction) (old new : List Term) (m : Cells) where
         (ap (λ (q : Stage). gives_in s q x) e ∙ gives_fed s.width s.content.quads (graph_in s) x feed.group.now (map expr_of a.conditions.list.items))
         tries.alone tries.gives tries.fits
 
+    -- the group of an OPTIONAL is fed the row, by a table that may have grown before
+    pub opens_alike : (mid : List Term) → Grows (known_of s) old mid → (before right : Right) (is_alike : Bool) (conditions tests : Conditions) (k : KeptRows)
+        → right.group.now ≡ before.group.now → tests ≡ conditions → IsOptional s old i.stage before is_alike conditions.list.items → is_alike ≡ true → s.width ≤ length m
+        → SameBag (row_solutions (known_of s) new k.rows) (fed_rows s.width (through_in s right.group.now.stages) (row_solution (known_of s) mid m)) → FitRows (known_of s) new k.rows
+        → (a : Attempt) → Attempts k tests m a → Opens s i old m new (source.Optional a)
+    opens_alike mid grew before right is_alike conditions tests k f c is e wide bag fit a tries =
+        let like : IsAlike s.width before.register before.group.now.stages = is.alike e in
+        let cs : List Expr = map expr_of a.conditions.list.items in
+        let u : a.conditions ≡ conditions = tries.tests ∙ c in
+        let o : i.stage ≡ stage.Optional before.register before.group.now cs = subst (λ (y : Conditions). i.stage ≡ stage.Optional before.register before.group.now (map expr_of y.list.items)) (sym u) is.is in
+        let z : i.stage ≡ stage.Optional None before.group.now cs = rw like.0 at o in
+        let p : AllByRecursion (IsPreparedFor (known_of s)) a.conditions.list.items = subst (λ (y : Conditions). AllByRecursion (IsPreparedFor (known_of s)) y.list.items) (sym u) is.prepared in
+        let holds : Solution → Bool = λ (n : Solution). all_hold cs (take s.width n) in
+        let b : SameBag (row_solutions (known_of s) new k.rows) (fed_rows s.width (through_in s before.group.now.stages) x) =
+        subst (λ (y : Solution). SameBag (row_solutions (known_of s) new k.rows) (fed_rows s.width (through_in s before.group.now.stages) y)) (same_row (known_of s) old mid grew m h) (rw f at bag) in
+        opens_attempted k (fed_rows s.width (through_in s before.group.now.stages) x) b fit a p (optional_is_not i.stage None before.group.now cs z)
+        (ap (λ (q : Stage). gives_in s q x) z
+        ∙ (gives_optional s.width s.content.quads (graph_in s) x None before.group.now cs
+        ∙ ap (λ l. or_alone x (filter holds l)) (like.1.same s.content.quads (graph_in s) x (omega (arith, wide, row_length (known_of s) old m)))))
+        tries.alone tries.gives tries.fits
+
     module _ (right : Right) (k : KeptRows) (z : Serves right m k) (r : IsRight s new right) where
       abbrev side : List Solution
       side = aside s.width right.register (through_in s right.group.now.stages) x
@@ -174,8 +196,8 @@ module _ (s : Setting) (i : Instruction) (old new : List Term) (m : Cells) where
           (chain _ _ _ (merged_same merged gives) (same _ _ (sym (ap (λ (q : Stage). gives_in s q x) is ∙ gives_apart s.width s.content.quads (graph_in s) x right.register right.group.now))))
           (fits (known_of s) new served_fit n_fits)
 
-      pub opens_optional : (a : Attempt) → IsOptional s new i.stage right a.conditions.list.items → a.alone ≡ Some m → GivesMerges k.rows m a.probe → FitsMerges k.rows m a.probe → Opens s i old m new (source.Optional a)
-      opens_optional a is e gives fits =
+      pub opens_optional : (is_alike : Bool) (a : Attempt) → IsOptional s new i.stage right is_alike a.conditions.list.items → a.alone ≡ Some m → GivesMerges k.rows m a.probe → FitsMerges k.rows m a.probe → Opens s i old m new (source.Optional a)
+      opens_optional is_alike a is e gives fits =
           let conditions : List Expr = map expr_of a.conditions.list.items in
           opens_attempted k side served served_fit a is.prepared (optional_is_not i.stage right.register right.group.now conditions is.is)
           (ap (λ (q : Stage). gives_in s q x) is.is ∙ gives_optional s.width s.content.quads (graph_in s) x right.register right.group.now conditions)

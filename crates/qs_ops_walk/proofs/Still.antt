@@ -132,7 +132,7 @@ module _ (s : Setting) (old new : List Term) (g : Grows (known_of s) old new) wh
   if_aside_still register stages None h = tt
   if_aside_still register stages (Some a) h = aside_still register stages a h
 
-  right_still : (r : Right) → IsRight s old r → IsRight s new r
+  pub right_still : (r : Right) → IsRight s old r → IsRight s new r
   right_still r h = if_aside_still r.register r.group.now.stages r.kept h
 
   values_still : (values : Table) (o : Option KeptRows) → IfValues s old values o → IfValues s new values o
@@ -170,7 +170,7 @@ module _ (s : Setting) (old new : List Term) (g : Grows (known_of s) old new) wh
   work_still i (work.Bind v e) h = h
   work_still i (work.Values v) h = record { is = h.is; rows = values_still v.table.now v.kept h.rows }
   work_still i (work.Union starts) h = h
-  work_still i (work.Optional c) h = record { is = h.is; prepared = h.prepared; kept = right_still c.right h.kept }
+  work_still i (work.Optional c) h = record { is = h.is; alike = h.alike; prepared = h.prepared; kept = right_still c.right h.kept }
   work_still i (work.Fed feed) h = h
   work_still i (work.Minus right) h = record { is = h.is; kept = right_still right h.kept }
   work_still i (work.Apart right) h = record { is = h.is; kept = right_still right h.kept }

@@ -1,6 +1,6 @@
 //! The walk through a program: one loop over a stack of levels.
 
-ghost use Rattle.std.specs.Prelude.{◌≡◌, ◌≤◌, ◌<◌, ◌-◌, true, List, IfOk, IfNone, IfSome, false, map, suc, take, get_or, vec_len};
+ghost use Rattle.std.specs.Prelude.{◌≡◌, ◌≤◌, ◌<◌, ◌-◌, true, List, None, Ok, IfOk, IfNone, IfSome, IsSome, false, length, map, suc, take, get_or, vec_len};
 ghost use Rattle.qs_terms.specs.Bag.{SameBag};
 ghost use Rattle.qs_terms.specs.declared.term.Term.{Term as TermValue};
 ghost use Rattle.qs_expr.specs.Cell.{row_solution, FitsIf, FitsRow};
@@ -13,7 +13,7 @@ ghost use Rattle.qs_ops_scans.specs.Paths.{ArePairs, Serve};
 ghost use Rattle.qs_ops_tables.specs.Tables.{FitRows, row_solutions};
 ghost use Rattle.qs_plan_meaning.specs.Stages.{fed_rows};
 ghost use Rattle.qs_ops_walk.specs.inner.Setting.{known_of, through_in};
-ghost use Rattle.qs_ops_walk.specs.inner.Works.{ArePairsFor, AreValues, IfEndPairs, IfGraphs, IfPairs, IfValues, IsReady, IsRight, Serves, code_of, heights_of, only_cells};
+ghost use Rattle.qs_ops_walk.specs.inner.Works.{ArePairsFor, AreValues, IfEndPairs, IfGraphs, IfPairs, IfValues, IsReady, IsRight, Serves, code_of, heights_of, only_cells, IsAside, name_at};
 ghost use Rattle.qs_ops_walk.specs.inner.Coming.{coming};
 ghost use Rattle.qs_ops_walk.specs.inner.Cursor.{GivesNamed};
 ghost use Rattle.qs_ops_walk.specs.inner.Moves.{Finishes, GivesRow, IsOpened, IsStep, IsWalk, Opens, opens, is_triple, is_optional, Attempts, OpensAt, OpensName, given_unless};
@@ -28,8 +28,8 @@ use crate::settle::settle;
 use crate::source::{Attempt, Fork, Item, Level, Source, drop_source, next_of};
 use crate::spare::keep;
 use crate::work::{
-    Aside, Conditions, EndPairs, KeptPairs, Naming, Place, Right, TableRows, Trail, Work, name_at,
-    places_of,
+    Aside, Choice, Conditions, EndPairs, KeptPairs, Naming, Place, Right, TableRows, Trail, Work,
+    name_at, places_of,
 };
 use qs_algebra_patterns::PathPattern;
 use qs_base::Shared;
@@ -100,28 +100,107 @@ fn only(
     Ok(row)
 }
 
-/// The solutions of a group for this row, evaluated by itself; the named variables are left of each.
+/// So many rows of a group are kept at most, where rows may be fed to it as well.
+const KEPT: usize = 1_048_576;
+
+/// Whether there are as many rows as may be.
+fn is_full(most: Option<usize>, count: usize) -> bool
+    ensures { most ≡ None → result ≡ false }
+{
+    match most {
+        Some(most) => most <= count,
+        None => false,
+    }
+}
+
+/// The solutions of a group for this row, evaluated by itself; the named variables are left of each. None if there are more than may be.
 #[cycle(next)]
 fn rows_of_group<'a, V: View>(
     reader: &Reader<'a, V>,
     scratch: &mut Scratch,
     stages: &'a [Stage],
     row: Row,
-) -> Result<Vec<Row>, AllocError>
+    most: Option<usize>,
+) -> Result<Option<Vec<Row>>, AllocError>
     requires table { IsTable (known_of reader.now) scratch.old }
     requires row { FitsRow (known_of reader.now) scratch.old row }
     ensures grows { Grows (known_of reader.now) scratch.old scratch.new }
-    ensures rows { IfOk result (λ rows. SameBag (row_solutions (known_of reader.now) scratch.new rows.items) (map (take reader.now.width) (through_in reader.now stages.now (row_solution (known_of reader.now) scratch.old row)))) }
-    ensures fit { IfOk result (λ rows. FitRows (known_of reader.now) scratch.new rows.items) }
+    ensures rows { IfOk result (λ o. IfSome o (λ rows. SameBag (row_solutions (known_of reader.now) scratch.new rows.items) (map (take reader.now.width) (through_in reader.now stages.now (row_solution (known_of reader.now) scratch.old row))))) }
+    ensures fit { IfOk result (λ o. IfSome o (λ rows. FitRows (known_of reader.now) scratch.new rows.items)) }
+    ensures all { most ≡ None → IfOk result (λ o. IsSome o) }
 {
     let mut walk = start(reader, stages, row)?;
     let mut rows = Vec::new(reader.alloc);
     loop {
         let Some(row) = next_named(reader, scratch, &mut walk)? else {
-            return Ok(rows);
+            return Ok(Some(rows));
         };
+        if is_full(most, rows.len()) {
+            return Ok(None);
+        }
         rows.push(row)?;
     }
+}
+
+/// The rows of a right side for rows like this one, evaluated by itself. None if there are more than may be.
+#[cycle(next)]
+fn aside_of<'a, V: View>(
+    reader: &Reader<'a, V>,
+    scratch: &mut Scratch,
+    right: &Right<'a>,
+    row: &Row,
+    most: Option<usize>,
+) -> Result<Option<Aside>, AllocError>
+    requires table { IsTable (known_of reader.now) scratch.old }
+    requires row { FitsRow (known_of reader.now) scratch.old row.now }
+    ensures grows { Grows (known_of reader.now) scratch.old scratch.new }
+    ensures aside { IfOk result (λ o. IfSome o (λ a. IsAside reader.now scratch.new right.now.register right.now.group.now.stages a)) }
+    ensures cells { IfOk result (λ o. IfSome o (λ a. a.cells ≡ length row.now)) }
+    ensures name { IfOk result (λ o. IfSome o (λ a. a.name ≡ name_at right.now.register row.now)) }
+    ensures all { most ≡ None → IfOk result (λ o. IsSome o) }
+{
+    let name = name_at(right.register, row);
+    let alone = only(reader.alloc, right.register, name, row.width())?;
+    let found = rows_of_group(reader, scratch, right.group.stages.as_slice(), alone, most)?;
+    let Some(rows) = found else {
+        return Ok(None);
+    };
+    let kept = Kept::new(reader.alloc, rows, row)?;
+    let kept = Shared::new(reader.alloc, kept)?;
+    Ok(Some(Aside {
+        cells: row.width(),
+        name,
+        kept,
+    }))
+}
+
+/// Evaluates a right side by itself and keeps its rows, if none are kept for rows like this one, and there are no more than `KEPT`. Returns whether
+/// some are kept.
+#[inline(never)]
+#[cycle(next)]
+fn keep_few<'a, V: View>(
+    reader: &Reader<'a, V>,
+    scratch: &mut Scratch,
+    right: &mut Right<'a>,
+    row: &Row,
+) -> Result<bool, AllocError>
+    requires table { IsTable (known_of reader.now) scratch.old }
+    requires row { FitsRow (known_of reader.now) scratch.old row.now }
+    requires right { IsRight reader.now scratch.old right.old }
+    ensures grows { Grows (known_of reader.now) scratch.old scratch.new }
+    ensures register { right.new.register ≡ right.old.register }
+    ensures group { right.new.group.now ≡ right.old.group.now }
+    ensures right { IfOk result (λ b. IsRight reader.now scratch.new right.new) }
+{
+    if right.kept_for(row).is_some() {
+        return Ok(true);
+    }
+    let found = aside_of(reader, scratch, right, row, Some(KEPT))?;
+    let Some(aside) = found else {
+        return Ok(false);
+    };
+    right.kept = Some(aside);
+    Ok(true)
 }
 
 /// The rows of a right side for rows like this one. They are evaluated where none are kept, and kept.
@@ -146,17 +225,10 @@ fn rows_of_right<'a, V: View>(
         let kept = kept.share()?;
         return Ok(kept);
     }
-    let name = name_at(right.register, row);
-    let alone = only(reader.alloc, right.register, name, row.width())?;
-    let rows = rows_of_group(reader, scratch, right.group.stages.as_slice(), alone)?;
-    let kept = Kept::new(reader.alloc, rows, row)?;
-    let kept = Shared::new(reader.alloc, kept)?;
-    let own = kept.share()?;
-    right.kept = Some(Aside {
-        cells: row.width(),
-        name,
-        kept,
-    });
+    let found = aside_of(reader, scratch, right, row, None)?;
+    let Some(aside) = found else { unreachable!() };
+    let own = aside.kept.share()?;
+    right.kept = Some(aside);
     Ok(own)
 }
 
@@ -177,7 +249,8 @@ fn rows_of_feed<'a, V: View>(
     ensures fit { IfOk result (λ k. FitRows (known_of reader.now) scratch.new k.rows) }
 {
     let own = row.copy(reader.alloc, spare)?;
-    let rows = rows_of_group(reader, scratch, group.stages.as_slice(), own)?;
+    let found = rows_of_group(reader, scratch, group.stages.as_slice(), own, None)?;
+    let Some(rows) = found else { unreachable!() };
     let kept = Kept::new(reader.alloc, rows, row)?;
     let kept = Shared::new(reader.alloc, kept)?;
     Ok(kept)
@@ -375,6 +448,40 @@ fn open_name<'a>(
     Ok(Source::Given(Some(merged)))
 }
 
+/// Whether the group of an OPTIONAL is fed the row: the first rows are, so that a few don't cost an evaluation of the whole group. Then it is
+/// evaluated by itself, and its rows are kept; where they are too many, further rows are fed.
+#[cycle(next)]
+fn is_fed_next<'a, V: View>(
+    reader: &Reader<'a, V>,
+    scratch: &mut Scratch,
+    choice: &mut Choice<'a>,
+    row: &Row,
+) -> Result<bool, AllocError>
+    requires table { IsTable (known_of reader.now) scratch.old }
+    requires row { FitsRow (known_of reader.now) scratch.old row.now }
+    requires right { IsRight reader.now scratch.old choice.old.right }
+    ensures grows { Grows (known_of reader.now) scratch.old scratch.new }
+    ensures register { choice.new.right.register ≡ choice.old.right.register }
+    ensures group { choice.new.right.group.now ≡ choice.old.right.group.now }
+    ensures conditions { choice.new.conditions ≡ choice.old.conditions }
+    ensures alike { choice.new.is_alike ≡ choice.old.is_alike }
+    ensures right { IfOk result (λ b. IsRight reader.now scratch.new choice.new.right) }
+    ensures fed { result ≡ Ok true → (choice.old.is_alike ≡ true) × (reader.now.width ≤ length row.now) }
+{
+    if !choice.may_be_fed(row, reader.width) {
+        return Ok(false);
+    }
+    if choice.left > 0 {
+        choice.left -= 1;
+        return Ok(true);
+    }
+    if keep_few(reader, scratch, &mut choice.right, row)? {
+        return Ok(false);
+    }
+    choice.left = usize::MAX;
+    Ok(true)
+}
+
 /// What the OPTIONAL of the place makes of the row.
 #[cycle(next)]
 fn open_optional<'a, V: View>(
@@ -395,6 +502,11 @@ fn open_optional<'a, V: View>(
 {
     match &mut place.work {
         Work::Optional(choice) => {
+            if is_fed_next(reader, scratch, choice, &row)? {
+                let kept = rows_of_feed(reader, scratch, choice.right.group, &row, spare)?;
+                let found = attempt(reader.alloc, kept, &choice.conditions, row, spare)?;
+                return Ok(found);
+            }
             let kept = rows_of_right(reader, scratch, &mut choice.right, &row)?;
             let found = attempt(reader.alloc, kept, &choice.conditions, row, spare)?;
             Ok(found)

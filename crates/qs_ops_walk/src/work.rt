@@ -1,11 +1,11 @@
 //! Places: the instructions of a program, each with what is prepared and kept for it.
 
-ghost use Rattle.std.specs.Prelude.{◌≡◌, ◌↔◌, IsTrue, IfOk, IfSome, List, map, None};
+ghost use Rattle.std.specs.Prelude.{◌≡◌, ◌↔◌, ◌<◌, ◌≤◌, true, IsTrue, IfOk, IfSome, List, length, map, None};
 ghost use Rattle.qs_terms.specs.declared.term.Term.{Term as TermValue};
 ghost use Rattle.std.specs.List.{AllByRecursion};
 ghost use Rattle.qs_expr.specs.Condition.{IsPreparedFor};
 ghost use Rattle.qs_ops_walk.specs.inner.Setting.{known_of};
-ghost use Rattle.qs_ops_walk.specs.inner.Works.{AreReady, IsWork, Serves, code_of, expr_of, name_at};
+ghost use Rattle.qs_ops_walk.specs.inner.Works.{AreReady, IsAlike, IsWork, Serves, code_of, expr_of, name_at};
 
 use crate::reader::Reader;
 use qs_algebra_patterns::{PathPattern, Table};
@@ -17,6 +17,7 @@ use qs_ops_scans::{
     PathPairs, PreparedLook, PreparedTriple, RowEnds, is_named_graph, prepare_look, prepare_triple,
 };
 use qs_ops_tables::Kept;
+use qs_plan::is_fed_alike;
 use qs_plan_meaning::{Group, Stage};
 use qs_store::{Active, View};
 use std::alloc::{AllocError, Global};
@@ -49,11 +50,13 @@ pub(crate) struct Starts {
     pub(crate) list: Vec<usize>,
 }
 
-/// What is prepared and kept of an OPTIONAL.
+/// What is prepared and kept of an OPTIONAL: whether its group may be fed rows, and how many are fed before it is evaluated by itself.
 #[derive(Drop)]
 pub(crate) struct Choice<'a> {
     pub(crate) right: Right<'a>,
     pub(crate) conditions: Shared<Conditions<'a>>,
+    pub(crate) is_alike: bool,
+    pub(crate) left: usize,
 }
 
 /// A group that is fed each row, and the conditions on what it makes of it.
@@ -173,6 +176,26 @@ impl<'a> Right<'a> {
     }
 }
 
+/// So many rows are fed to the group of an OPTIONAL before it is evaluated by itself.
+const FED: usize = 64;
+
+/// Whether a row has the same merges with what the group makes by itself as with what it makes of the row.
+fn is_alike(register: Option<usize>, group: &Group, width: usize) -> bool
+    ensures { result ≡ true → IsAlike width register group.now.stages }
+{
+    register.is_none() && is_fed_alike(group, width)
+}
+
+impl<'a> Choice<'a> {
+    /// Whether the group may be fed the row.
+    pub(crate) fn may_be_fed(&self, row: &Row, width: usize) -> bool
+        ensures alike { result ≡ true → self.now.is_alike ≡ true }
+        ensures wide { result ≡ true → width ≤ length row.now }
+    {
+        self.is_alike && width <= row.width()
+    }
+}
+
 fn conditions_of<'a, V: View>(
     reader: &Reader<'a, V>,
     exprs: &'a [Expr],
@@ -230,6 +253,8 @@ fn work_of<'a, V: View>(reader: &Reader<'a, V>, instr: &Instr<'a>) -> Result<Wor
             Ok(Work::Optional(Choice {
                 right: Right::new(*register, group),
                 conditions,
+                is_alike: is_alike(*register, group, reader.width),
+                left: FED,
             }))
         }
         Stage::Fed(group, conditions) => {

@@ -40,3 +40,4 @@ pub mod Nested
 pub mod Needs
 pub mod Fed
 pub mod FedArms
+pub mod Apart

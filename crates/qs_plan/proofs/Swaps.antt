@@ -58,7 +58,7 @@ first_turned None (Some y) h = refl
 first_turned (Some x) None h = refl
 first_turned (Some x) (Some y) h = ap Some ((same_term-Decides x y).0 h)
 
-both_true : (a b : Bool) → (a && b) ≡ true → (a ≡ true) × (b ≡ true)
+pub both_true : (a b : Bool) → (a && b) ≡ true → (a ≡ true) × (b ≡ true)
 both_true true b h = (refl, h)
 both_true false b h = let f : false ≡ true = h in cc
 

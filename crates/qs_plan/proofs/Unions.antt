@@ -16,11 +16,11 @@ use Rattle.qs_plan.proofs.Levels.{gives_union}
 use Rattle.qs_plan.proofs.Swaps.{flat_on, stays_refl, stays_trans}
 use Rattle.qs_plan.proofs.Widths.{all_append}
 
-nil_right : (a : Solution) → compatible a [] ≡ true
+pub nil_right : (a : Solution) → compatible a [] ≡ true
 nil_right [] = refl
 nil_right (x ∷ a) = refl
 
-nil_merge : (a : Solution) → merge a [] ≡ a
+pub nil_merge : (a : Solution) → merge a [] ≡ a
 nil_merge [] = refl
 nil_merge (x ∷ a) = refl
 
@@ -33,7 +33,7 @@ module _ (r : Option ℕ) where
   Scans g = AllByRecursion (IsScan r) g.stages
 
   -- the rows of scans, one after another
-  abbrev rows_along : (ss : List Stage) → AllByRecursion (IsScan r) ss → ℕ → List Statement → Graph → Option Term → ℕ → List Solution
+  abbrev pub rows_along : (ss : List Stage) → AllByRecursion (IsScan r) ss → ℕ → List Statement → Graph → Option Term → ℕ → List Solution
   rows_along [] h width quads active o n = [] ∷ []
   rows_along (s ∷ ss) h width quads active o n = flat_map (merges (rows_along ss h.1 width quads active o n)) (h.0.rows width quads active o n)
 
@@ -43,7 +43,7 @@ module _ (r : Option ℕ) where
   rows_each (g ∷ gs) h width quads active o n = rows_along g.stages h.0 width quads active o n ++ rows_each gs h.1 width quads active o n
 
   module _ (width : ℕ) (quads : List Statement) (active : Graph) where
-    along_gives : (ss : List Stage) (h : AllByRecursion (IsScan r) ss) (m : Solution) → width ≤ length m → through width quads active ss m ≡ merges (rows_along ss h width quads active (held r m) (length m)) m
+    pub along_gives : (ss : List Stage) (h : AllByRecursion (IsScan r) ss) (m : Solution) → width ≤ length m → through width quads active ss m ≡ merges (rows_along ss h width quads active (held r m) (length m)) m
     along_gives [] h m w = nil_merges m
     along_gives (s ∷ ss) h m w =
         let rows = rows_along ss h.1 width quads active (held r m) (length m) in
@@ -53,7 +53,7 @@ module _ (r : Option ℕ) where
         (gives width quads active s m) (h.0.stays width quads active m w)
         ∙ (ap (flat_map (merges rows)) (h.0.gives_rows width quads active m w) ∙ merges_joined (h.0.rows width quads active (held r m) (length m)) rows m)
 
-    along_stays : (ss : List Stage) → AllByRecursion (IsScan r) ss → (m : Solution) → width ≤ length m → AllByRecursion (Stays r m) (through width quads active ss m)
+    pub along_stays : (ss : List Stage) → AllByRecursion (IsScan r) ss → (m : Solution) → width ≤ length m → AllByRecursion (Stays r m) (through width quads active ss m)
     along_stays [] h m w = (stays_refl r m, tt)
     along_stays (s ∷ ss) h m w =
         all_flat (Stays r m) (Stays r m) (through width quads active ss)

@@ -86,11 +86,11 @@ compatible_unbound zero b = refl
 compatible_unbound (suc n) [] = refl
 compatible_unbound (suc n) (y ∷ b) = compatible_unbound n b
 
-none_right : (x : Option Term) → compatible_terms x None ≡ true
+pub none_right : (x : Option Term) → compatible_terms x None ≡ true
 none_right None = refl
 none_right (Some x) = refl
 
-first_none : (x : Option Term) → first_bound x None ≡ x
+pub first_none : (x : Option Term) → first_bound x None ≡ x
 first_none None = refl
 first_none (Some x) = refl
 

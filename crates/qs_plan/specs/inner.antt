@@ -9,3 +9,4 @@ pub mod Certain
 pub mod Joins
 pub mod Fixes
 pub mod Feeds
+pub mod Parts

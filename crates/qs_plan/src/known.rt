@@ -90,7 +90,10 @@ pub(crate) fn variables_of(alloc: Global, stage: &Stage) -> Result<Vec<usize>, A
 
 /// The variables that the stages bind, each once, in ascending order.
 #[cycle(bound)]
-fn variables_of_stages(alloc: Global, stages: &[Stage]) -> Result<Vec<usize>, AllocError> {
+pub(crate) fn variables_of_stages(
+    alloc: Global,
+    stages: &[Stage],
+) -> Result<Vec<usize>, AllocError> {
     let mut all = Vec::new(alloc);
     for stage in stages {
         let own = variables_of(alloc, stage)?;

@@ -459,7 +459,7 @@ fn ordered_branches<C: Counts>(
     Ok(done)
 }
 
-fn copied_plan(alloc: Global, plan: &Plan) -> Result<Plan, AllocError>
+pub(crate) fn copied_plan(alloc: Global, plan: &Plan) -> Result<Plan, AllocError>
     ensures { IfOk result (λ p. p ≡ plan.now) }
 {
     let stages = copied_stages(alloc, plan.stages.as_slice())?;

@@ -13,6 +13,7 @@ use crate::filters::filter_order;
 use crate::laid::Laid;
 use crate::lay::lay;
 use crate::order::counted_order;
+use crate::parts::parted_plan;
 use crate::plan_type::Plan;
 use crate::run::PAST;
 use qs_algebra_patterns::Pattern;
@@ -75,6 +76,9 @@ pub fn plan(alloc: Global, pattern: &Pattern) -> Result<Plan, QFault>
 /// another stage bound before all of them, up to 4,096 rows are counted for all of them. Paths aren't counted. The groups in a union are ordered
 /// when it has its place.
 ///
+/// Triples of a run that share no variable with the stages before them are evaluated by themselves, once, if a filter reads variables of theirs
+/// alone, and the store has few triples that agree with the first of them: fewer than 262,144 for all such parts of a plan.
+///
 /// # Errors
 /// `Memory` where memory runs out.
 pub fn plan_for<C: Counts>(alloc: Global, pattern: &Pattern, counts: &C) -> Result<Plan, QFault>
@@ -83,6 +87,7 @@ pub fn plan_for<C: Counts>(alloc: Global, pattern: &Pattern, counts: &C) -> Resu
 {
     let plan = text_order(alloc, pattern)?;
     let plan = counted_order(alloc, counts, &plan)?;
+    let plan = parted_plan(alloc, counts, &plan)?;
     let plan = filter_order(alloc, &plan)?;
     Ok(plan)
 }

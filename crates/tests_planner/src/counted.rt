@@ -128,6 +128,25 @@ const PLANS: &[(&str, &str)] = &[
         "SELECT * { ?a <u:p>+ ?b . ?b <u:q> ?c }",
         "triple ?1 <u:q> ?2\npath ?0 <u:p>+ ?1\n",
     ),
+    // triples that share no variable with those before them are evaluated by themselves, once, if a filter reads variables of theirs alone
+    (
+        "SELECT * { ?a <u:type> <u:Small> . ?b <u:type> <u:Middle> . ?b <u:p> ?c FILTER(?c != ?b) }",
+        "triple ?0 <u:type> <u:Small>\njoin\n  triple ?1 <u:type> <u:Middle>\n  triple ?1 <u:p> ?2\n  filter (!= ?2 ?1)\n",
+    ),
+    (
+        "SELECT * { ?a <u:type> <u:Small> . ?b <u:type> <u:Middle> FILTER(?a != ?b) }",
+        "triple ?0 <u:type> <u:Small>\ntriple ?1 <u:type> <u:Middle>\nfilter (!= ?0 ?1)\n",
+    ),
+    // but not where their rows may be too many to keep
+    (
+        "SELECT * { ?a <u:type> <u:Small> . ?b <u:other> ?c FILTER(?c != ?b) }",
+        "triple ?0 <u:type> <u:Small>\ntriple ?1 <u:other> ?2\nfilter (!= ?2 ?1)\n",
+    ),
+    // nor with a blank node, which is no variable that is named
+    (
+        "SELECT * { ?a <u:type> <u:Small> . _:b <u:p> ?c FILTER(?c != <u:x>) }",
+        "triple ?0 <u:type> <u:Small>\ntriple ?2 <u:p> ?1\nfilter (!= ?1 <u:x>)\n",
+    ),
     // a table has as many as its rows
     (
         "SELECT * { ?s <u:p> ?x . ?x <u:rare> ?v VALUES ?s { <u:x> } }",

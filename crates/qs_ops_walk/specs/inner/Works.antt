@@ -27,6 +27,7 @@ use Rattle.qs_expr.specs.declared.cell.Cell.{Cell}
 use Rattle.qs_plan_meaning.specs.declared.stage.Look.{Look}
 use Rattle.qs_plan_meaning.specs.declared.stage.Stage.{Stage}
 use Rattle.qs_plan_meaning.specs.declared.stage.Stage.TheVariants as stage
+use Rattle.qs_plan.specs.inner.Parts.{IsFedAlike}
 use Rattle.qs_ops_program.specs.inner.Flow.{Instruction, is_union}
 use Rattle.qs_ops_program.specs.inner.Heights.{most, stage_height}
 use Rattle.qs_ops_scans.specs.Prepared.{IsGraphOf, prepared_look, prepared_triple}
@@ -156,8 +157,13 @@ pub record IsFork (i : Instruction) (starts : List ℕ) : Type 0 where
 abbrev pub expr_of : Prepared → Expr
 expr_of c = c.expr
 
-pub record IsOptional (s : Setting) (table : List Term) (i : Stage) (right : Right) (conditions : List Prepared) : Type 0 where
+-- the stages look in no register, and a row has the same merges with what they make by themselves as with what they make of the row
+abbrev pub IsAlike : ℕ → Option ℕ → List Stage → Type 0
+IsAlike width register stages = (register ≡ None) × IsFedAlike width stages
+
+pub record IsOptional (s : Setting) (table : List Term) (i : Stage) (right : Right) (is_alike : Bool) (conditions : List Prepared) : Type 0 where
   pub is : i ≡ stage.Optional right.register right.group.now (map expr_of conditions)
+  pub alike : is_alike ≡ true → IsAlike s.width right.register right.group.now.stages
   pub prepared : AllByRecursion (IsPreparedFor (known_of s)) conditions
   pub kept : IsRight s table right
 
@@ -184,7 +190,7 @@ IsWork s table i (Filter c) = IsFilter (known_of s) i.stage c
 IsWork s table i (Bind v e) = i.stage ≡ stage.Bind v e.now
 IsWork s table i (Values v) = IsValues s table i.stage v.table.now v.kept
 IsWork s table i (Union starts) = IsFork i starts.list.items
-IsWork s table i (Optional c) = IsOptional s table i.stage c.right c.conditions.list.items
+IsWork s table i (Optional c) = IsOptional s table i.stage c.right c.is_alike c.conditions.list.items
 IsWork s table i (Fed feed) = IsFed s i.stage feed
 IsWork s table i (Minus right) = IsMinus s table i.stage right
 IsWork s table i (Apart right) = IsApart s table i.stage right

@@ -1,16 +1,19 @@
-use Rattle.std.proofs.Common.{rules, ◌≡◌, ℕ, suc, ◌-◌, ◌<◌, ◌++◌, ◌∷◌, [], List, length, map, take, refl, sym, ◌∙◌, ap, subst, Some, arith}
+use Rattle.std.proofs.Common.{rules, ◌≡◌, ℕ, suc, ◌+◌, ◌-◌, ◌<◌, ◌++◌, ◌∷◌, [], List, length, map, take, refl, sym, ◌∙◌, ap, subst, Some, Ok, arith}
 use Rattle.std.proofs.Math.ListN.{set}
 use Rattle.std.proofs.lemmas.List.{take-set}
 use Rattle.qs_terms.specs.Bag.{SameBag}
 use Rattle.qs_algebra_solutions.specs.Solution.{Solution}
-use Rattle.qs_expr.proofs.Growth.{goes_on, stays}
-use Rattle.qs_ops_program.specs.inner.Heights.{stages_height}
+use Rattle.qs_expr.proofs.Growth.{goes_on, stays, still_row}
+use Rattle.qs_ops_program.specs.inner.Heights.{stage_height, stages_height}
+use Rattle.qs_ops_program.proofs.Unions.{optional_height}
+use Rattle.qs_plan_meaning.specs.declared.stage.Group.{Group}
+use Rattle.qs_ops_walk.specs.declared.work.Conditions.{Conditions}
 use Rattle.qs_ops_tables.specs.Tables.{TellsExcluded}
 use Rattle.qs_ops_walk.specs.declared.source.Fork.{Fork as Branching}
 use Rattle.qs_ops_walk.specs.declared.source.Level.{Level}
 use Rattle.qs_ops_walk.specs.declared.source.Source.TheVariants as source
 use Rattle.qs_ops_walk.specs.inner.Setting.{Setting, known_of}
-use Rattle.qs_ops_walk.specs.inner.Works.{code_of}
+use Rattle.qs_ops_walk.specs.inner.Works.{IsOptional, code_of}
 use Rattle.qs_ops_walk.specs.inner.Coming.{coming}
 use Rattle.qs_ops_walk.specs.inner.After.{IsJoining}
 use Rattle.qs_ops_walk.specs.inner.Moves.{Goes, OpensAt}
@@ -21,8 +24,9 @@ use Rattle.qs_ops_walk.proofs.Finished.{finished_gives}
 use Rattle.qs_ops_walk.proofs.Steps.{whole, changed, mid_fit, settled_walk, opened, opened_walk, triple_opened, triple_walk}
 use Rattle.qs_ops_walk.proofs.FusedSteps.{quads_opened, quads_walk}
 use Rattle.qs_ops_walk.proofs.JoinedSteps.{given_opened, given_walk, joined_opened, joined_walk}
-use Rattle.qs_ops_walk.proofs.Opens.{opens_fed, opens_path, opens_names, opens_values, opens_union, opens_apart}
-use Rattle.qs_ops_walk.proofs.Asides.{name_fits, only_fits, aside_made, opens_attempt, opens_unless}
+use Rattle.qs_ops_walk.proofs.Opens.{opens_alike, opens_fed, opens_path, opens_names, opens_values, opens_union, opens_apart}
+use Rattle.qs_ops_walk.proofs.Asides.{name_fits, only_fits, aside_made, opens_attempt, opens_unless, optional_still}
+use Rattle.qs_ops_walk.proofs.Still.{right_still}
 use Rattle.qs_ops_walk.proofs.Gathering.{named_some, gathers_more, gathers_fewer, gathers_all, gathers_fit}
 use Rattle.qs_ops_walk.proofs.walk.+next.Goals as goal
 
@@ -183,15 +187,56 @@ open-returns-in_ok-starts-in-Union-clause-opens g t c =
     let f : Branching = record { row = c.args.row; starts = c.in_ok-starts-in-Union.starts; at = 0 } in
     opens_union c.args.reader.now c.args.place.now.instr c.args.scratch.now c.args.scratch.now c.args.row f (rw c.in_ok-starts-in-Union.ensures (rw c.in-Union.is at c.requires.ready)) refl refl refl c.requires.row
 
-pub open_optional-returns-in_ok-found-in-Optional-clause-opens : goal.open_optional-returns-in_ok-found-in-Optional-clause-opens
-open_optional-returns-in_ok-found-in-Optional-clause-opens g t c =
-    opens_attempt c.args.reader.now c.args.place.now.instr c.args.scratch.now c.rows_of_right.new.scratch c.args.row c.rows_of_right.ensures.grows.table c.rows_of_right.ensures.grows c.requires.row c.rows_of_right.new.right c.in_ok-kept-in-Optional.kept c.in_ok-kept-in-Optional.ensures.kept c.in_ok-kept-in-Optional.ensures.right
-    c.in-Optional.choice.right c.in-Optional.choice.conditions c.rows_of_right.ensures.register c.rows_of_right.ensures.group (rw c.in-Optional.is at c.requires.ready) c.in_ok-found-in-Optional.found c.in_ok-found-in-Optional.ensures
+pub keep_few-returns-in_default-clause-right : goal.keep_few-returns-in_default-clause-right
+keep_few-returns-in_default-clause-right g t c = right_still c.args.reader.now c.args.scratch.now c.aside_of.new.scratch c.aside_of.ensures.grows c.args.right.now c.requires.right
+
+pub open_optional-rows_of_feed-requires : goal.open_optional-rows_of_feed-requires
+open_optional-rows_of_feed-requires g t c =
+    let r = rw c.in-Optional.is at c.requires.ready in
+    let h : stage_height c.args.place.now.instr.stage ≡ 1 + stages_height c.in-Optional.choice.right.group.now.stages = ap stage_height r.is ∙ optional_height _ _ _ in
+    let k : stages_height c.is_fed_next.new.choice.right.group.now.stages ≡ stages_height c.in-Optional.choice.right.group.now.stages = ap (λ (x : Group). stages_height x.stages) c.is_fed_next.ensures.group in
+    let f = still_row (known_of c.args.reader.now) c.args.scratch.now c.is_fed_next.new.scratch c.is_fed_next.ensures.grows c.args.row c.requires.row in
+    λ κs q. (omega (arith, h, k), (q, (c.is_fed_next.ensures.grows.table, f)))
+
+pub open_optional-returns-then-branch-clause-ready : goal.open_optional-returns-then-branch-clause-ready
+open_optional-returns-then-branch-clause-ready g t c =
+    optional_still c.args.reader.now c.args.place.now.instr.stage c.args.scratch.now c.is_fed_next.new.scratch c.rows_of_feed.new.scratch c.rows_of_feed.ensures.grows c.in-Optional.choice c.is_fed_next.new.choice (rw c.in-Optional.is at c.requires.ready)
+    c.is_fed_next.ensures.register c.is_fed_next.ensures.group c.is_fed_next.ensures.conditions c.is_fed_next.ensures.alike c.in_ok-is_fed_next-in-Optional.ensures.right
+
+pub open_optional-returns-then-branch-clause-opens : goal.open_optional-returns-then-branch-clause-opens
+open_optional-returns-then-branch-clause-opens g t c =
+    let known = known_of c.args.reader.now in
+    let fed = c.is_fed_next.ensures.fed (c.in_ok-is_fed_next-in-Optional.was ∙ ap Ok c.if-branch.true) in
+    opens_alike c.args.reader.now c.args.place.now.instr c.args.scratch.now c.rows_of_feed.new.scratch c.args.row c.rows_of_feed.ensures.grows.table
+    (goes_on known c.args.scratch.now c.is_fed_next.new.scratch c.rows_of_feed.new.scratch c.is_fed_next.ensures.grows c.rows_of_feed.ensures.grows) c.requires.row c.is_fed_next.new.scratch c.is_fed_next.ensures.grows
+    c.in-Optional.choice.right c.is_fed_next.new.choice.right c.in-Optional.choice.is_alike c.in-Optional.choice.conditions c.is_fed_next.new.choice.conditions c.in_ok-kept-in-Optional.kept
+    c.is_fed_next.ensures.group c.is_fed_next.ensures.conditions (rw c.in-Optional.is at c.requires.ready) fed.0 fed.1
+    c.in_ok-kept-in-Optional.ensures.rows c.in_ok-kept-in-Optional.ensures.fit c.in_ok-found-in-Optional.found c.in_ok-found-in-Optional.ensures
+
+pub open_optional-rows_of_right-requires : goal.open_optional-rows_of_right-requires
+open_optional-rows_of_right-requires g t c =
+    let r = rw c.in-Optional.is at c.requires.ready in
+    let h : stage_height c.args.place.now.instr.stage ≡ 1 + stages_height c.in-Optional.choice.right.group.now.stages = ap stage_height r.is ∙ optional_height _ _ _ in
+    let k : stages_height c.is_fed_next.new.choice.right.group.now.stages ≡ stages_height c.in-Optional.choice.right.group.now.stages = ap (λ (x : Group). stages_height x.stages) c.is_fed_next.ensures.group in
+    let f = still_row (known_of c.args.reader.now) c.args.scratch.now c.is_fed_next.new.scratch c.is_fed_next.ensures.grows c.args.row c.requires.row in
+    λ κs q. (omega (arith, h, k), (q, (c.is_fed_next.ensures.grows.table, (f, c.in_ok-is_fed_next-in-Optional.ensures.right))))
+
+pub open_optional-returns-in_ok-found-in-Optional-2-clause-opens : goal.open_optional-returns-in_ok-found-in-Optional-2-clause-opens
+open_optional-returns-in_ok-found-in-Optional-2-clause-opens g t c =
+    let s = c.args.reader.now in
+    let before = c.in-Optional.choice in
+    let after = c.is_fed_next.new.choice in
+    let o : IsOptional s c.args.scratch.now c.args.place.now.instr.stage before.right before.is_alike after.conditions.list.items =
+    subst (λ (y : Conditions). IsOptional s c.args.scratch.now c.args.place.now.instr.stage before.right before.is_alike y.list.items) (sym c.is_fed_next.ensures.conditions) (rw c.in-Optional.is at c.requires.ready) in
+    opens_attempt s c.args.place.now.instr c.args.scratch.now c.rows_of_right.new.scratch c.args.row c.rows_of_right.ensures.grows.table
+    (goes_on (known_of s) c.args.scratch.now c.is_fed_next.new.scratch c.rows_of_right.new.scratch c.is_fed_next.ensures.grows c.rows_of_right.ensures.grows) c.requires.row
+    c.rows_of_right.new.right c.in_ok-kept-in-Optional-2.kept c.in_ok-kept-in-Optional-2.ensures.kept c.in_ok-kept-in-Optional-2.ensures.right
+    before.right before.is_alike after.conditions (c.rows_of_right.ensures.register ∙ c.is_fed_next.ensures.register) (c.rows_of_right.ensures.group ∙ c.is_fed_next.ensures.group) o c.in_ok-found-in-Optional-2.found c.in_ok-found-in-Optional-2.ensures
 
 pub open_optional-returns-in_ok-found-in-Fed-clause-opens : goal.open_optional-returns-in_ok-found-in-Fed-clause-opens
 open_optional-returns-in_ok-found-in-Fed-clause-opens g t c =
     let r = rw c.in-Fed.is at c.requires.ready in
-    opens_fed c.args.reader.now c.args.place.now.instr c.args.scratch.now c.rows_of_feed.new.scratch c.args.row c.rows_of_feed.ensures.grows.table c.rows_of_feed.ensures.grows c.requires.row c.in-Fed.feed c.in_ok-kept-in-Fed.kept r
+    opens_fed c.args.reader.now c.args.place.now.instr c.args.scratch.now c.rows_of_feed-in-Fed.new.scratch c.args.row c.rows_of_feed-in-Fed.ensures.grows.table c.rows_of_feed-in-Fed.ensures.grows c.requires.row c.in-Fed.feed c.in_ok-kept-in-Fed.kept r
     c.in_ok-kept-in-Fed.ensures.rows c.in_ok-kept-in-Fed.ensures.fit c.in_ok-found-in-Fed.found c.in_ok-found-in-Fed.ensures
 
 pub open-returns-in_ok-kept-in-Minus-clause-opens : goal.open-returns-in_ok-kept-in-Minus-clause-opens
@@ -314,19 +359,19 @@ rows_of_group-loop-rows-preserved g t c =
       gathers = rw (c.next_named.ensures.code, c.in_ok-push.ensures.items) (gathers_more c.args.reader.now (code_of c.loop-rows.walk.places.items) _ c.loop-rows.scratch c.loop-rows.rows.items c.loop-rows.walk.levels.items c.loop-rows.invariant.gathers c.next_named.new.scratch c.next_named.ensures.grows c.next_named.new.walk.levels.items c.in-Some.row (rw c.in-Some.is at c.in_ok-row.ensures.gives));
     }
 
-pub rows_of_right-rows_of_group-requires : goal.rows_of_right-rows_of_group-requires
-rows_of_right-rows_of_group-requires g t c =
+pub aside_of-rows_of_group-requires : goal.aside_of-rows_of_group-requires
+aside_of-rows_of_group-requires g t c =
     let known = known_of c.args.reader.now in
     let h = ap stages_height c.as_slice.ensures in
     let f = name_fits known c.args.scratch.now c.args.right.now.register c.args.row.now c.requires.row in
     λ κs q. (omega (arith, h), (q, (c.requires.table, rw (c.in_ok-alone.ensures, c.name_at-name.ensures) (only_fits known c.args.scratch.now c.args.right.now.register c.width.result _ f))))
 
-pub rows_of_right-returns-clause-right : goal.rows_of_right-returns-clause-right
-rows_of_right-returns-clause-right g t c =
+pub aside_of-returns-clause-aside : goal.aside_of-returns-clause-aside
+aside_of-returns-clause-aside g t c =
     let known = known_of c.args.reader.now in
     let f = name_fits known c.args.scratch.now c.args.right.now.register c.args.row.now c.requires.row in
-    aside_made c.args.reader.now c.args.scratch.now c.rows_of_group.new.scratch c.rows_of_group.ensures.grows c.args.right.now.register c.args.right.now.group.now.stages c.name_at-name.result c.width-2.result c.in_ok-alone.alone c.in_ok-rows.rows.items c.in_ok-kept-3.kept
-    (rw c.name_at-name.ensures f) (search rules) (search rules) (rw c.as_slice.ensures at c.in_ok-rows.ensures.rows) c.in_ok-rows.ensures.fit
+    aside_made c.args.reader.now c.args.scratch.now c.rows_of_group.new.scratch c.rows_of_group.ensures.grows c.args.right.now.register c.args.right.now.group.now.stages c.name_at-name.result c.width-2.result c.in_ok-alone.alone c.in-Some.rows.items c.in_ok-kept-2.kept
+    (rw c.name_at-name.ensures f) (search rules) (search rules) (rw c.as_slice.ensures at (rw c.in-Some.is at c.in_ok-found.ensures.rows)) (rw c.in-Some.is at c.in_ok-found.ensures.fit)
 
 pub open_level-returns-in-Some-clause-walk : goal.open_level-returns-in-Some-clause-walk
 open_level-returns-in-Some-clause-walk g t c =

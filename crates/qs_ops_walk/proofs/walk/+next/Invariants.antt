@@ -34,37 +34,46 @@ abbrev pub decreases-rows_of_group-loop-rows : goal.decreases-rows_of_group-loop
 decreases-rows_of_group-loop-rows g l = length (named_coming l.reader (code_of l.walk.places.items) l.scratch l.walk.levels.items)
 
 abbrev pub decreases-rows_of_group : goal.decreases-rows_of_group
-decreases-rows_of_group g l = 10 * stages_height l.stages.now + 10
+decreases-rows_of_group g l = 20 * stages_height l.stages.now + 11
+
+abbrev pub decreases-aside_of : goal.decreases-aside_of
+decreases-aside_of g l = 20 * (1 + stages_height l.right.now.group.now.stages) + 1
+
+abbrev pub decreases-keep_few : goal.decreases-keep_few
+decreases-keep_few g l = 20 * (1 + stages_height l.right.now.group.now.stages) + 2
+
+abbrev pub decreases-is_fed_next : goal.decreases-is_fed_next
+decreases-is_fed_next g l = 20 * (1 + stages_height l.choice.now.right.group.now.stages) + 3
 
 abbrev pub decreases-rows_of_right : goal.decreases-rows_of_right
-decreases-rows_of_right g l = 10 * (1 + stages_height l.right.now.group.now.stages) + 2
+decreases-rows_of_right g l = 20 * (1 + stages_height l.right.now.group.now.stages) + 2
 
 abbrev pub decreases-rows_of_feed : goal.decreases-rows_of_feed
-decreases-rows_of_feed g l = 10 * (1 + stages_height l.group.now.stages) + 2
+decreases-rows_of_feed g l = 20 * (1 + stages_height l.group.now.stages) + 2
 
 abbrev pub decreases-open : goal.decreases-open
-decreases-open g l = 10 * height_of l.place.now + 3
+decreases-open g l = 20 * height_of l.place.now + 4
 
 abbrev pub decreases-open_optional : goal.decreases-open_optional
-decreases-open_optional g l = 10 * height_of l.place.now + 3
+decreases-open_optional g l = 20 * height_of l.place.now + 4
 
 abbrev pub decreases-open_optional_level : goal.decreases-open_optional_level
-decreases-open_optional_level g l = 10 * heights_of l.walk.now.places.items + 4
+decreases-open_optional_level g l = 20 * heights_of l.walk.now.places.items + 5
 
 abbrev pub decreases-open_other_level : goal.decreases-open_other_level
-decreases-open_other_level g l = 10 * heights_of l.walk.now.places.items + 4
+decreases-open_other_level g l = 20 * heights_of l.walk.now.places.items + 5
 
 abbrev pub decreases-open_level : goal.decreases-open_level
-decreases-open_level g l = 10 * heights_of l.walk.now.places.items + 5
+decreases-open_level g l = 20 * heights_of l.walk.now.places.items + 6
 
 abbrev pub decreases-advance : goal.decreases-advance
-decreases-advance g l = 10 * heights_of l.walk.now.places.items + 6
+decreases-advance g l = 20 * heights_of l.walk.now.places.items + 7
 
 abbrev pub decreases-next_of_walk : goal.decreases-next_of_walk
-decreases-next_of_walk g l = 10 * heights_of l.walk.now.places.items + 7
+decreases-next_of_walk g l = 20 * heights_of l.walk.now.places.items + 8
 
 abbrev pub decreases-next_row : goal.decreases-next_row
-decreases-next_row g l = 10 * heights_of l.walk.now.places.items + 8
+decreases-next_row g l = 20 * heights_of l.walk.now.places.items + 9
 
 abbrev pub decreases-next_named : goal.decreases-next_named
-decreases-next_named g l = 10 * heights_of l.walk.now.places.items + 9
+decreases-next_named g l = 20 * heights_of l.walk.now.places.items + 10

@@ -1,10 +1,9 @@
-use Rattle.std.proofs.Common.{rules, arith, true, false, refl, sym, ap, ◌∙◌, List, ◌++◌, map, subst}
+use Rattle.std.proofs.Common.{rules, arith, true, false, refl, sym, ap, ◌∙◌, List, subst}
 use Rattle.std.specs.List.{AllByRecursion}
 use Rattle.qs_plan.specs.inner.Feeds.{LaysRest}
 use Rattle.qs_plan.specs.inner.Fixes.{SettledBy}
 use Rattle.qs_algebra_patterns.specs.declared.pattern.PatternNode.TheVariants as pattern
 use Rattle.qs_plan_meaning.specs.declared.stage.Stage.{Stage}
-use Rattle.qs_plan_meaning.specs.declared.stage.Stage.TheVariants.{Filter}
 use Rattle.qs_plan.proofs.Arms.{lays_at, as_part, values_arm, left_join_arm, optional_apart, minus_arm, extend_arm, apart_arm, union_arm, graph_arm, each_arm, bound_arm, at_flag, group_joins, steps_init, one_step_more, steps_end, steps_all, union_init, union_end}
 use Rattle.qs_plan.proofs.Fed.{feeds_any, next_step}
 use Rattle.qs_plan.proofs.FedArms.{feeds_conditions, feeds_init, feeds_one, feeds_optional, feeds_step, next_fed_at, rest_init, rest_step, rest_ended}

@@ -1,4 +1,4 @@
-use Rattle.std.proofs.Common.{arith, ◌∙◌, None}
+use Rattle.std.proofs.Common.{arith, None}
 use Rattle.qs_plan.proofs.Cutting.{cut_none, cut_ends}
 use Rattle.qs_plan.proofs.order.places_of.Goals as goal
 
