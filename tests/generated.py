@@ -1,5 +1,7 @@
 """Random datasets, queries and updates for the model. Terms come from a small pool, variables are few, and triples of patterns are made of triples
 of the data, so that solutions are found and meet."""
+from functools import lru_cache
+
 from scope import in_scope
 from trees import BOOLEAN, INTEGER, Alternative, Bind, Call, Clear, Closure, Create, Filter, Graph, Group, Inverse, Minus, Modify, Negated
 from trees import Optional, Sequence, Term, Transfer, Triples, Union, Values, iri, query, var
@@ -46,9 +48,16 @@ def numbered(quads):
     return [tuple(places.get(it, it) for it in quad) for quad in quads]
 
 
+@lru_cache(None)
 def like(term):
     """Returns the literals of its datatype, some of which have its value."""
     return [it for it in LITERALS if it.kind == term.kind and it.datatype == term.datatype]
+
+
+@lru_cache(8)
+def in_order(quads):
+    """Returns the quads of a set in an order that is the same each time."""
+    return sorted(quads, key=str)
 
 
 class Generator:
@@ -59,7 +68,7 @@ class Generator:
 
     def __init__(self, rng, data):
         self.rng, self.names, self.meant, self.labels = rng, NAMES, {}, 0
-        self.quads, self.is_loose = sorted(data.quads, key=str), self.often(0.5)
+        self.quads, self.is_loose = in_order(data.quads), self.often(0.5)
         self.active = self.triples_in(None) if not data.is_union else [it[1:] for it in self.quads if it[0]]
         self.terms = [it for quad in self.quads for it in quad[1::2] if it.kind != "bnode"] + NODES + LITERALS
 
@@ -122,7 +131,9 @@ class Generator:
         label = "_:n" if self.often(0.03) else f"_:n{self.labels}"
         made = []
         for _ in range(self.rng.randint(1, self.rng.randint(1, most))):
-            known = [it for it in self.active if any(self.is_near(meant, term) for term in it[::2] for meant in self.meant.values())]
+            meant = {*self.meant.values()}
+            is_known = lambda term: term in meant or self.is_loose and not meant.isdisjoint(like(term))
+            known = [it for it in self.active if is_known(it[0]) or is_known(it[2])]
             some = known if known and self.often(0.6) else self.active or [(NODES[0], PREDICATES[0], self.rng.choice(self.terms))]
             subject, verb, object = self.rng.choice(some)
             verb = self.verb(verb)

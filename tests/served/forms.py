@@ -1,5 +1,6 @@
 """Requests of all forms of queries and updates: random trees over quads, each with what is due by the model."""
-from dataclasses import fields, is_dataclass, replace
+from dataclasses import is_dataclass, replace
+from operator import is_
 
 from connection import Connection
 from due import Exactly, Lawful, Meaning, Solutions, Statements, carried, dataset_of
@@ -59,14 +60,18 @@ def update_meaning(tree, name):
 
 
 def changed(it, change):
-    """Returns a tree with each of its nodes as the call has it; one that is None is left out of its tuple."""
+    """Returns a tree with each of its nodes as the call has it; one that is None is left out of its tuple. What stays as it is isn't copied."""
     if isinstance(it, Term):
         return it
     if isinstance(it, tuple):
-        return tuple(new for new, old in ((changed(part, change), part) for part in it) if new is not None or old is None)
+        new = [changed(part, change) for part in it]
+        is_same = all(map(is_, new, it))
+        return it if is_same else tuple(new for new, old in zip(new, it) if new is not None or old is None)
     if not is_dataclass(it):
         return it
-    return change(replace(it, **{field.name: changed(getattr(it, field.name), change) for field in fields(it)}))
+    old = vars(it)
+    new = {name: changed(part, change) for name, part in old.items()}
+    return change(it if all(map(is_, new.values(), old.values())) else type(it)(**new))
 
 
 def left_out(kind):
