@@ -169,7 +169,7 @@ class Running:
         """Returns the seconds of processor time that the program has taken, of all its threads, once they all wait."""
         # (the time of a thread that runs isn't counted yet)
         for _ in range(10_000):
-            if all(self.waits(it) for it in os.listdir(f"/proc/{self.program.pid}/task")):
+            if all(self.waits(item) for item in os.listdir(f"/proc/{self.program.pid}/task")):
                 break
             time.sleep(0.0001)
         # (the clock of a process by its number, as clock_getcpuclockid(3) makes it)
@@ -297,15 +297,15 @@ def answer_of(reply):
     if RESULTS not in reply.head:
         return sorted({*reply.body.decode().splitlines()})
     answer = answer_of_json(reply.body)
-    return [answer] if isinstance(answer, bool) else [solution_of(it) for it in answer]
+    return [answer] if isinstance(answer, bool) else [solution_of(item) for item in answer]
 
 
 def solution_of(row):
     """Returns a solution: the bound variables with their terms."""
     # (a server may leave xsd:string out)
     string = "http://www.w3.org/2001/XMLSchema#string"
-    datatypes = {name: it.get("datatype", string) if it["type"] == "literal" else "" for name, it in row.items()}
-    return frozenset((name, it["type"], it["value"], datatypes[name], it.get("xml:lang", "")) for name, it in row.items())
+    datatypes = {name: value.get("datatype", string) if value["type"] == "literal" else "" for name, value in row.items()}
+    return frozenset((name, value["type"], value["value"], datatypes[name], value.get("xml:lang", "")) for name, value in row.items())
 
 
 def fault_of(reply):
@@ -325,8 +325,8 @@ def written(cell):
 
 def has(server, text, solutions):
     """Returns whether a server finds these solutions of a query whose slice is left out. None of them has a blank node."""
-    names = sorted({cell[0] for it in solutions for cell in it})
-    cells = [{cell[0]: written(cell) for cell in it} for it in solutions]
+    names = sorted({cell[0] for solution in solutions for cell in solution})
+    cells = [{cell[0]: written(cell) for cell in solution} for solution in solutions]
     rows = " ".join(f"({' '.join(it.get(name, 'UNDEF') for name in names)})" for it in cells)
     whole = text.partition(" LIMIT ")[0].partition(" OFFSET ")[0]
     reply = server.ask(query(f"{whole} VALUES ({' '.join(f'?{name}' for name in names)}) {{ {rows} }}"))
@@ -335,13 +335,13 @@ def has(server, text, solutions):
 
 def difference(line, servers, replies):
     """Returns how many solutions an answer has, and what the answers of two servers differ in."""
-    answers = [answer_of(it) for it in replies]
+    answers = [answer_of(reply) for reply in replies]
     first, last = answers[0], answers[-1]
     rows = str(first[0]).lower() if first in ([True], [False]) else len(first)
     if len(first) != len(last):
         return rows, f"{len(first)} and {len(last)} solutions"
     if line.kind == "some":
-        same = all(has(it, line.text, answer) for it, answer in zip(servers, reversed(answers)))
+        same = all(has(server, line.text, answer) for server, answer in zip(servers, reversed(answers)))
     else:
         same = first == last if line.kind == "list" else Counter(first) == Counter(last)
     return rows, "" if same else "other solutions"
@@ -367,7 +367,7 @@ def least_of(servers, requests, runs, timed=by_clock):
     for at in range(10 * runs):
         if at and (time.perf_counter() > end or at >= runs and min(map(min, least)) >= 1):
             break
-        new = [[timed(it, request) for it in servers] for request in requests]
+        new = [[timed(server, request) for server in servers] for request in requests]
         times = [[taken for _, taken in each] for each in new]
         replies = replies or [[reply for reply, _ in each] for each in new]
         least = [[*map(min, *each)] for each in zip(least, times)] if at else times
@@ -378,8 +378,8 @@ def compared(lines, servers, *how):
     """Yields the figure of each line. How times are taken least_of() says."""
     for line in lines:
         [(replies, least)] = least_of(servers, [query(line.text)], *how)
-        faults = [fault_of(it) for it in replies]
-        least = [None if fault else it for fault, it in zip(faults, least)]
+        faults = [fault_of(reply) for reply in replies]
+        least = [None if fault else item for fault, item in zip(faults, least)]
         yield Figure(line.name, *(refusal(faults) if any(faults) else difference(line, servers, replies)), least)
 
 

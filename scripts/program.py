@@ -258,7 +258,7 @@ def libc_of(data):
     # Errors
 
     ValueError where it names none."""
-    versions = [tuple(map(int, it.split(b"."))) for it in re.findall(rb"\0GLIBC_([0-9]+(?:\.[0-9]+)+)(?=\0)", data)]
+    versions = [tuple(map(int, found.split(b"."))) for found in re.findall(rb"\0GLIBC_([0-9]+(?:\.[0-9]+)+)(?=\0)", data)]
     if not versions:
         raise ValueError("the program names no version of the GNU C library")
     return ".".join(map(str, max(versions)))

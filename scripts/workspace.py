@@ -32,7 +32,7 @@ def lines_of(root):
 def crates_of(root):
     """Returns the crates of crates.txt, each with the crates of the repository that it names."""
     lines = lines_of(root)
-    return {crate: [it for it in line.partition("#")[0].partition(":")[2].split() if it in lines] for crate, line in lines.items()}
+    return {crate: [part for part in line.partition("#")[0].partition(":")[2].split() if part in lines] for crate, line in lines.items()}
 
 
 def below(root, *names):
@@ -41,8 +41,8 @@ def below(root, *names):
 
     def take(crate):
         if crate not in found:
-            for it in crates[crate]:
-                take(it)
+            for item in crates[crate]:
+                take(item)
             found[crate] = crates[crate]
 
     for name in names:
@@ -176,16 +176,16 @@ def build(root, crates, folder, words_of, tell):
 
     A long crate gets two jobs where there are four processors and no crate that is left has a longer chain above it; each other crate gets
     one. A further job loads all that is below once more: of a short crate high in the chain it takes longer than it saves."""
-    effort = {it: seconds(root, it) for it in crates}
+    effort = {item: seconds(root, item) for item in crates}
     behind = dict.fromkeys(crates, 0)
     for crate in reversed([*crates]):
         behind[crate] += effort[crate]
-        for it in crates[crate]:
-            behind[it] = max(behind[it], behind[crate])
-    left, running, done, most = sorted(crates, key=lambda it: -behind[it]), {}, set(), lanes()
+        for entry in crates[crate]:
+            behind[entry] = max(behind[entry], behind[crate])
+    left, running, done, most = sorted(crates, key=lambda value: -behind[value]), {}, set(), lanes()
 
     def jobs_of(crate):
-        others = [behind[it] for it in left]
+        others = [behind[item] for item in left]
         return 2 if most >= 4 and effort[crate] >= LONG and behind[crate] >= max(others, default=0) else 1
 
     def prove(crate, jobs):
@@ -199,14 +199,14 @@ def build(root, crates, folder, words_of, tell):
 
     with ThreadPoolExecutor(most) as pool:
         while left or running:
-            ready = [it for it in left if done.issuperset(crates[it])]
+            ready = [item for item in left if done.issuperset(crates[item])]
             for crate in ready[: most - len(running)]:
                 left.remove(crate)
                 tell(crate, len(left))
                 running[pool.submit(prove, crate, jobs_of(crate))] = crate
-            for it in wait(running, return_when=FIRST_COMPLETED).done:
-                crate = running.pop(it)
-                if it.result():
+            for each in wait(running, return_when=FIRST_COMPLETED).done:
+                crate = running.pop(each)
+                if each.result():
                     wait(running)
                     return crate
                 done.add(crate)

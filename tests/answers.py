@@ -23,13 +23,13 @@ def is_blank(term):
 
 
 def blanks(rows):
-    return {it for row in rows for it in row if is_blank(it)}
+    return {item for row in rows for item in row if is_blank(item)}
 
 
 def are_same(some, others):
     """Returns whether two bags of rows are the same where blank nodes may have other names, one for one."""
     some, others = Counter(some), Counter(others)
-    bound = [{row: count for row, count in it.items() if any(map(is_blank, row))} for it in (some, others)]
+    bound = [{row: count for row, count in item.items() if any(map(is_blank, row))} for item in (some, others)]
     if some - Counter(bound[0]) != others - Counter(bound[1]) or len(blanks(bound[0])) != len(blanks(bound[1])):
         return False
     return are_alike(*bound, dict.fromkeys(blanks(bound[0]), 0), dict.fromkeys(blanks(bound[1]), 0))
@@ -39,17 +39,17 @@ def coloured(rows, colours):
     """Returns the bag of rows with the colours of blank nodes in their places."""
     found = Counter()
     for row, count in rows.items():
-        found[tuple(colours.get(it, it) for it in row), count] += 1
+        found[tuple(colours.get(item, item) for item in row), count] += 1
     return found
 
 
 def refined(rows, colours):
     """Returns for each blank node its colour, and where it stands among which others."""
-    places = {it: Counter() for it in colours}
+    places = {colour: Counter() for colour in colours}
     for row, count in rows.items():
         for node in {*filter(is_blank, row)}:
-            places[node][tuple(("here",) if it == node else ("node", colours[it]) if is_blank(it) else it for it in row), count] += 1
-    return {it: (colours[it], frozenset(some.items())) for it, some in places.items()}
+            places[node][tuple(("here",) if item == node else ("node", colours[item]) if is_blank(item) else item for item in row), count] += 1
+    return {item: (colours[item], frozenset(some.items())) for item, some in places.items()}
 
 
 def are_alike(some, others, colours, other_colours):
@@ -57,9 +57,9 @@ def are_alike(some, others, colours, other_colours):
     while True:
         pair = refined(some, colours), refined(others, other_colours)
         numbers = {}
-        for it in itertools.chain(pair[0].values(), pair[1].values()):
-            numbers.setdefault(it, len(numbers))
-        pair = [{node: numbers[it] for node, it in side.items()} for side in pair]
+        for entry in itertools.chain(pair[0].values(), pair[1].values()):
+            numbers.setdefault(entry, len(numbers))
+        pair = [{node: numbers[value] for node, value in side.items()} for side in pair]
         if Counter(pair[0].values()) != Counter(pair[1].values()):
             return False
         is_done = len(numbers) == len({*colours.values()})
@@ -68,23 +68,23 @@ def are_alike(some, others, colours, other_colours):
             break
     if coloured(some, colours) != coloured(others, other_colours):
         return False
-    size, colour = min(((size, it) for it, size in Counter(colours.values()).items() if size > 1), default=(1, None))
+    size, colour = min(((size, item) for item, size in Counter(colours.values()).items() if size > 1), default=(1, None))
     if size == 1:
         return True
-    node = next(it for it in colours if colours[it] == colour)
-    tried = [it for it in other_colours if other_colours[it] == colour]
-    return any(are_alike(some, others, {**colours, node: -1}, {**other_colours, it: -1}) for it in tried)
+    node = next(item for item in colours if colours[item] == colour)
+    tried = [item for item in other_colours if other_colours[item] == colour]
+    return any(are_alike(some, others, {**colours, node: -1}, {**other_colours, item: -1}) for item in tried)
 
 
 def blurred(row):
     """Returns a row with its blank nodes numbered by their first places in it."""
     numbers = {}
-    return tuple(Term("bnode", str(numbers.setdefault(it, len(numbers)))) if is_blank(it) else it for it in row)
+    return tuple(Term("bnode", str(numbers.setdefault(item, len(numbers)))) if is_blank(item) else item for item in row)
 
 
 def pairs_row(row):
     """Returns a solution as a row: the names and the terms, in the order of the names."""
-    return tuple(it for pair in sorted(row) for it in pair)
+    return tuple(item for pair in sorted(row) for item in pair)
 
 
 def allows(lists, rows):
@@ -110,13 +110,13 @@ def canonical(found, old):
     # Errors
 
     TooLarge where more than six such nodes hang together."""
-    new = {it: {term for term in it if term and term.kind == "bnode" and term not in old} for it in found}
-    known, forms = frozenset(it for it in found if not new[it]), Counter()
-    left = {it for it in found if new[it]}
+    new = {item: {term for term in item if term and term.kind == "bnode" and term not in old} for item in found}
+    known, forms = frozenset(item for item in found if not new[item]), Counter()
+    left = {item for item in found if new[item]}
     while left:
         part, names = set(), set(new[next(iter(left))])
-        while more := {it for it in left if new[it] & names}:
-            part, left, names = part | more, left - more, names.union(*(new[it] for it in more))
+        while more := {item for item in left if new[item] & names}:
+            part, left, names = part | more, left - more, names.union(*(new[item] for item in more))
         if len(names) > 6:
             raise TooLarge
         forms[min(renamed(part, order) for order in itertools.permutations(names))] += 1
@@ -124,8 +124,8 @@ def canonical(found, old):
 
 
 def renamed(part, order):
-    numbers = {it: Term("new", str(at)) for at, it in enumerate(order)}
-    return tuple(sorted(tuple(numbers.get(it, it) or ("",) for it in statement) for statement in part))
+    numbers = {item: Term("new", str(at)) for at, item in enumerate(order)}
+    return tuple(sorted(tuple(numbers.get(item, item) or ("",) for item in statement) for statement in part))
 
 
 def spelt(form):

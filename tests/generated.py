@@ -6,20 +6,20 @@ from scope import in_scope
 from trees import BOOLEAN, INTEGER, Alternative, Bind, Call, Clear, Closure, Create, Filter, Graph, Group, Inverse, Minus, Modify, Negated
 from trees import Optional, Sequence, Term, Transfer, Triples, Union, Values, iri, query, var
 
-NODES, PREDICATES, GRAPHS = [iri(it) for it in "abc"], [iri(it) for it in "pq"], [iri(it) for it in "gha"]
-BLANKS = [Term("bnode", it) for it in ("b0", "b1")]
-INTEGERS = [Term("literal", it, INTEGER) for it in ("1", "01", "+1", "0", "-1", "x")]
-BOOLEANS = [Term("literal", it, BOOLEAN) for it in ("true", "1", "false", "0", "x")]
-STRINGS = [Term("literal", it) for it in ("", "a", "b", "1")] + [Term("literal", "a", "", it) for it in ("en", "en-gb")]
+NODES, PREDICATES, GRAPHS = [iri(item) for item in "abc"], [iri(item) for item in "pq"], [iri(item) for item in "gha"]
+BLANKS = [Term("bnode", item) for item in ("b0", "b1")]
+INTEGERS = [Term("literal", item, INTEGER) for item in ("1", "01", "+1", "0", "-1", "x")]
+BOOLEANS = [Term("literal", item, BOOLEAN) for item in ("true", "1", "false", "0", "x")]
+STRINGS = [Term("literal", item) for item in ("", "a", "b", "1")] + [Term("literal", "a", "", item) for item in ("en", "en-gb")]
 LITERALS = [*INTEGERS, *BOOLEANS, *STRINGS, Term("literal", "a", "http://e/t"), Term("literal", str(2**127), INTEGER)]
-LARGE = [Term("literal", str(it), INTEGER) for it in (2**63 - 1, 2**127 - 1, -(2**127), 2**127)]
+LARGE = [Term("literal", str(item), INTEGER) for item in (2**63 - 1, 2**127 - 1, -(2**127), 2**127)]
 KINDS = {
     "integer": (lambda term: term.datatype == INTEGER, INTEGERS + LARGE),
     "boolean": (lambda term: term.datatype == BOOLEAN, BOOLEANS),
     "string": (lambda term: term.kind == "literal" and not term.datatype, STRINGS),
 }
 """By the name of a kind, which terms are of it, and constants."""
-LANGUAGES = [Term("literal", it) for it in ("en", "EN-GB", "*", "")]
+LANGUAGES = [Term("literal", item) for item in ("en", "EN-GB", "*", "")]
 NAMES = "xyzw"
 OTHER_NAMES = "st"
 """The variables of some groups in a MINUS or an OPTIONAL, which share none with those outside."""
@@ -42,16 +42,16 @@ def numbered(quads):
     """Returns the quads with blank nodes numbered by their first places in the lines `subject predicate object graph`."""
     places = {}
     for graph, *triple in quads:
-        for it in (*triple, graph):
-            if it and it.kind == "bnode":
-                places.setdefault(it, Term("bnode", f"b{len(places)}"))
-    return [tuple(places.get(it, it) for it in quad) for quad in quads]
+        for entry in (*triple, graph):
+            if entry and entry.kind == "bnode":
+                places.setdefault(entry, Term("bnode", f"b{len(places)}"))
+    return [tuple(places.get(item, item) for item in quad) for quad in quads]
 
 
 @lru_cache(None)
 def like(term):
     """Returns the literals of its datatype, some of which have its value."""
-    return [it for it in LITERALS if it.kind == term.kind and it.datatype == term.datatype]
+    return [literal for literal in LITERALS if literal.kind == term.kind and literal.datatype == term.datatype]
 
 
 @lru_cache(8)
@@ -69,14 +69,14 @@ class Generator:
     def __init__(self, rng, data):
         self.rng, self.names, self.meant, self.labels = rng, NAMES, {}, 0
         self.quads, self.is_loose = in_order(data.quads), self.often(0.5)
-        self.active = self.triples_in(None) if not data.is_union else [it[1:] for it in self.quads if it[0]]
-        self.terms = [it for quad in self.quads for it in quad[1::2] if it.kind != "bnode"] + NODES + LITERALS
+        self.active = self.triples_in(None) if not data.is_union else [item[1:] for item in self.quads if item[0]]
+        self.terms = [item for quad in self.quads for item in quad[1::2] if item.kind != "bnode"] + NODES + LITERALS
 
     def often(self, chance):
         return self.rng.random() < chance
 
     def triples_in(self, graph):
-        return [it[1:] for it in self.quads if it[0] == graph]
+        return [quad[1:] for quad in self.quads if quad[0] == graph]
 
     def var(self):
         """Returns a variable that was used, mostly."""
@@ -85,7 +85,7 @@ class Generator:
 
     def var_for(self, term):
         """Returns a variable that means the term, mostly."""
-        same, free = [it for it in self.names if self.is_near(self.meant.get(it), term)], [it for it in self.names if it not in self.meant]
+        same, free = [item for item in self.names if self.is_near(self.meant.get(item), term)], [item for item in self.names if item not in self.meant]
         if self.often(0.1) or not same and not free:
             return self.var()
         name = self.rng.choice(same if same and (not free or self.often(0.6)) else free)
@@ -133,7 +133,7 @@ class Generator:
         for _ in range(self.rng.randint(1, self.rng.randint(1, most))):
             meant = {*self.meant.values()}
             is_known = lambda term: term in meant or self.is_loose and not meant.isdisjoint(like(term))
-            known = [it for it in self.active if is_known(it[0]) or is_known(it[2])]
+            known = [item for item in self.active if is_known(item[0]) or is_known(item[2])]
             some = known if known and self.often(0.6) else self.active or [(NODES[0], PREDICATES[0], self.rng.choice(self.terms))]
             subject, verb, object = self.rng.choice(some)
             verb = self.verb(verb)
@@ -155,7 +155,7 @@ class Generator:
         if depth > 0 and self.often(0.35):
             return {"integer": self.number, "string": self.string, "boolean": self.condition}[kind](depth - 1)
         fits, constants = KINDS[kind]
-        known = [var(name) for name, it in sorted(self.meant.items()) if fits(it)]
+        known = [var(name) for name, item in sorted(self.meant.items()) if fits(item)]
         return self.rng.choice(known * 4 + constants)
 
     def number(self, depth):
@@ -211,7 +211,7 @@ class Generator:
     def table(self):
         """Returns inline data, whose rows often have what the variables mean."""
         names = self.rng.sample(self.names, self.rng.choice((0, 1, 1, 1, 1, 2, 2, 2))) if not self.often(0.01) else ["x", "x"]
-        meant = {name: [it] * 8 + like(it) for name, it in self.meant.items() if it.kind != "bnode"}
+        meant = {name: [item] * 8 + like(item) for name, item in self.meant.items() if item.kind != "bnode"}
         cell = lambda name: None if self.often(0.2) else self.rng.choice(meant.get(name, []) + self.terms)
         return Values(tuple(map(var, names)), tuple(tuple(map(cell, names)) for _ in range(self.rng.choice((0, 1, 2, 2, 3, 4)))))
 
@@ -223,7 +223,7 @@ class Generator:
 
     def graph(self, depth):
         """Returns a GRAPH, mostly of a graph that is stored, with a group that is made over it."""
-        stored = [it for it in dict.fromkeys(it[0] for it in self.quads) if it]
+        stored = [fromkey for fromkey in dict.fromkeys(quad[0] for quad in self.quads) if fromkey]
         graph, active = self.rng.choice(stored or GRAPHS) if self.often(0.85) else self.rng.choice(GRAPHS), self.active
         name = var(self.rng.choice("gggg" + self.names[:1])) if self.often(0.5) or graph.kind == "bnode" else graph
         self.active = self.triples_in(graph)
@@ -285,7 +285,7 @@ class Generator:
             yield Filter(self.condition(3))
 
     def modifiers(self):
-        literals = [name for name, it in sorted(self.meant.items()) if it.kind == "literal"]
+        literals = [name for name, item in sorted(self.meant.items()) if item.kind == "literal"]
         key = lambda: self.value(2) if self.often(0.25) else var(self.rng.choice(literals)) if literals and self.often(0.6) else self.var()
         order = tuple((key(), self.often(0.4)) for _ in range(self.rng.choice((0, 0, 1, 1, 2))))
         limit = self.rng.choice((None, None, None, None, None, None, 0, 1, 2, 2, 5, 5))
@@ -309,7 +309,7 @@ class Generator:
 
     def query(self):
         if self.often(0.02):
-            triples = tuple(it for it in self.triples().triples if isinstance(it[1], Term))
+            triples = tuple(triple for triple in self.triples().triples if isinstance(triple[1], Term))
             return query("CONSTRUCT", triples, Group((Triples(triples),)), **self.modifiers())
         where, kind = self.group(self.rng.choice((0, 1, 1, 2, 2, 3))), self.rng.random()
         where = Group((*where.elements, *self.last(where)))
@@ -331,7 +331,7 @@ class Generator:
         self.labels += 1
         fresh = [var(f"_:{it}{self.labels if self.often(0.95) else ''}") for it in labels] + [var("x")] * self.often(0.03)
         word = lambda others: self.rng.choice(others if others == PREDICATES else [*others, *fresh])
-        stored = [it for it in self.quads if not any(term and term.kind == "bnode" for term in it)]
+        stored = [quad for quad in self.quads if not any(term and term.kind == "bnode" for term in quad)]
         return self.block(word, [None, None, *GRAPHS]) + tuple(self.rng.sample(stored, min(len(stored), self.rng.choice((0, 1, 1, 2)))))
 
     def modify(self):
@@ -345,7 +345,7 @@ class Generator:
         fresh = lambda others: word(others if others == PREDICATES else [*others, var("_:t"), var("_:s")])
         graphs = [None, None, None, *GRAPHS[:2], var(self.rng.choice("gx"))]
         form = self.rng.choice(("DELETE", "INSERT", "both"))
-        delete, insert = (self.block(it, graphs) if form in (name, "both") else None for name, it in (("DELETE", gone), ("INSERT", fresh)))
+        delete, insert = (self.block(item, graphs) if form in (name, "both") else None for name, item in (("DELETE", gone), ("INSERT", fresh)))
         return Modify("MODIFY", graph, delete, insert, where)
 
     def delete_where(self):

@@ -90,7 +90,7 @@ def bindings_of(body, names):
 
     Wrong where it is no such answer in its written form."""
     try:
-        found = [compact(it) for it in select_of(body)[1]]
+        found = [compact(item) for item in select_of(body)[1]]
     except TypeError:
         raise Wrong("these aren't solutions") from None
     if results_text(names, found) != body:

@@ -312,7 +312,7 @@ class Laws:
         triples = self.anchored(name).triples
         at = self.rng.choice([object for _, verb, object in triples if object.kind == "var"])
         term = self.constant()
-        placed = tuple(tuple(term if it == at else it for it in triple) for triple in triples)
+        placed = tuple(tuple(term if item == at else item for item in triple) for triple in triples)
         return group(Triples(triples), Filter(Call("sameTerm", (at, term)))), group(Triples(placed), Bind(term, at))
 
     # ---- UNION (18.5, Union: the sum of two bags)
@@ -334,13 +334,13 @@ class Laws:
         name, one = self.first()
         # (what shares no variable with the optional part would be joined with all of it)
         other, more = self.next(name), self.anchored(name)
-        sides = [group(it, Optional(group(other))) for it in (one, more)]
+        sides = [group(item, Optional(group(other))) for item in (one, more)]
         return group(Union((group(one), group(more))), Optional(group(other))), Union(tuple(sides))
 
     def union_of_minus(self):
         """Minus looks at each solution of its left side by itself."""
         (one, other), more = self.pair(), self.first()[1]
-        sides = [group(it, Minus(group(other))) for it in (one, more)]
+        sides = [group(item, Minus(group(other))) for item in (one, more)]
         return group(Union((group(one), group(more))), Minus(group(other))), Union(tuple(sides))
 
     # ---- OPTIONAL and MINUS (18.5, LeftJoin and Minus)
@@ -374,8 +374,8 @@ class Laws:
         more = self.next(self.shared(one))
         if not in_scope(other) & in_scope(more) <= certain(one):
             return self.optional_order()
-        sides = [Optional(group(it, Filter(self.condition(sorted(in_scope(it)))))) for it in (other, more)]
-        if any(not may_move(it.group.elements[1].condition, Group((one, it.group.elements[0])), rest) for it, rest in zip(sides, (more, other))):
+        sides = [Optional(group(item, Filter(self.condition(sorted(in_scope(item)))))) for item in (other, more)]
+        if any(not may_move(side.group.elements[1].condition, Group((one, side.group.elements[0])), rest) for side, rest in zip(sides, (more, other))):
             return self.optional_order()
         return group(one, *sides), group(one, *reversed(sides))
 
@@ -420,7 +420,7 @@ class Laws:
     def path_alternative(self):
         """An alternative is a union."""
         one, other = self.path(), self.path()
-        return self.path_rewritten(Alternative(one, other), lambda x, y: [Union(tuple(group(Triples(((x, it, y),))) for it in (one, other)))])
+        return self.path_rewritten(Alternative(one, other), lambda x, y: [Union(tuple(group(Triples(((x, item, y),))) for item in (one, other)))])
 
     def path_inverse(self):
         """An inverse exchanges the ends, and turns a sequence round."""
@@ -431,7 +431,7 @@ class Laws:
 
     def path_negated(self):
         """A negated property set has the triples by other predicates, and reversed ones where it names an inverse."""
-        names, verb = tuple(iri(it) for it in self.rng.sample(OBJECTS + LITERALS, 2)), self.fresh()
+        names, verb = tuple(iri(item) for item in self.rng.sample(OBJECTS + LITERALS, 2)), self.fresh()
         others = Filter(Call("NOT IN", (verb, *names)))
         if self.often(0.5):
             return self.path_rewritten(Negated(names, ()), lambda x, y: [group(Triples(((x, verb, y),)), others)])
@@ -458,9 +458,9 @@ class Laws:
         """A row of VALUES is the one solution of BINDs of its terms, and the rows are a union."""
         name, one = self.first()
         names = (name, self.fresh()) if self.often(0.5) else (name,)
-        cell = lambda it: None if self.often(0.15) else self.subject() if it == name else self.constant()
+        cell = lambda entry: None if self.often(0.15) else self.subject() if entry == name else self.constant()
         rows = tuple(tuple(map(cell, names)) for _ in range(self.rng.randint(2, 30)))
-        binds = lambda row: Group(tuple(Bind(term, it) for it, term in zip(names, row) if term))
+        binds = lambda row: Group(tuple(Bind(term, item) for item, term in zip(names, row) if term))
         return group(one, Values(names, rows)), group(one, Union(tuple(map(binds, rows))))
 
     def values_by_filter(self):
@@ -468,7 +468,7 @@ class Laws:
         name, one = self.first()
         terms = [self.subject() for _ in range(300)] if self.often(0.5) else [iri(f"s{it}") for it in range(self.rng.randrange(self.count))]
         terms = list(dict.fromkeys(terms)) or [iri("s0")]
-        return group(one, Values((name,), tuple((it,) for it in terms))), group(one, Filter(Call("IN", (name, *terms))))
+        return group(one, Values((name,), tuple((term,) for term in terms))), group(one, Filter(Call("IN", (name, *terms))))
 
     def bind_later(self):
         """Extend may be put after a join with what doesn't have its variable, where its expression has the same value there."""
@@ -483,7 +483,7 @@ class Laws:
     def graph_variable(self):
         """A variable graph is the union over the graphs' names, each joined with the variable bound to it."""
         name, inner = self.fresh(), self.inner()
-        each = [group(Graph(it, inner), Values((name,), ((it,),))) for it in GRAPHS]
+        each = [group(Graph(graph, inner), Values((name,), ((graph,),))) for graph in GRAPHS]
         return group(Graph(name, inner)), Union(tuple(each))
 
     def inner(self):
@@ -501,7 +501,7 @@ class Laws:
 
     def placed(self, pair):
         """Puts both patterns of a pair at the same place of a larger one. Returns them with the names of the variables that are compared."""
-        left, right = (it if isinstance(it, Group) else group(it) for it in pair)
+        left, right = (item if isinstance(item, Group) else group(item) for item in pair)
         names = sorted(in_scope(left) & in_scope(right))
         shared, kind = sorted(certain(left) & certain(right) & {*names}), self.rng.random()
         name = var(self.rng.choice(shared)) if shared else None

@@ -75,7 +75,7 @@ def left_join(left, right, conditions):
     """18.5, LeftJoin: the joined solutions for which the condition is true, and each left one that has none."""
     found = []
     for one in left:
-        found += [it for it in join([one], right) if all_true(conditions, it)] or [one]
+        found += [item for item in join([one], right) if all_true(conditions, item)] or [one]
     return found
 
 
@@ -86,7 +86,7 @@ def minus(left, right):
 
 def extend(solutions, name, expression):
     """18.5, Extend: with the value, or the solution as it is where the expression is an error."""
-    return [{**it, **bound_to(name, expression, it)} for it in solutions]
+    return [{**item, **bound_to(name, expression, item)} for item in solutions]
 
 
 def bound_to(name, expression, solution):
@@ -98,7 +98,7 @@ def bound_to(name, expression, solution):
 
 def all_true(conditions, solution):
     """18.5, Filter: the effective boolean value of the conjunction is true; an error isn't."""
-    return all(truth(it, solution) is True for it in conditions)
+    return all(truth(condition, solution) is True for condition in conditions)
 
 
 # ---- evaluation of patterns over a dataset (18.2.2, 18.5, 18.6)
@@ -113,36 +113,36 @@ class Dataset:
 
     def names(self):
         """The names of graphs, each of which holds a quad (own: there is no empty named graph)."""
-        return {it[0] for it in self.quads} - {None}
+        return {quad[0] for quad in self.quads} - {None}
 
     def graph(self, name):
-        return {it[1:] for it in self.quads if it[0] == name}
+        return {quad[1:] for quad in self.quads if quad[0] == name}
 
     def default(self):
-        return {it[1:] for it in self.quads if it[0]} if self.is_union else self.graph(None)
+        return {quad[1:] for quad in self.quads if quad[0]} if self.is_union else self.graph(None)
 
 
 def group_solutions(group, data, graph):
     """18.2.2.2 and 18.2.2.7: the FILTERs of a group are about the whole group."""
-    return [it for it in unfiltered(group, data, graph) if all_true(conditions(group), it)]
+    return [item for item in unfiltered(group, data, graph) if all_true(conditions(group), item)]
 
 
 def conditions(group):
-    return [it.condition for it in group.elements if isinstance(it, Filter)]
+    return [element.condition for element in group.elements if isinstance(element, Filter)]
 
 
 def unfiltered(group, data, graph):
     """18.2.2.6: each part is put to what stands before it, beginning with the one empty solution."""
     found = [{}]
-    for it in parts(group):
-        if isinstance(it, Optional):
-            found = left_join(found, unfiltered(it.group, data, graph), conditions(it.group))
-        elif isinstance(it, Minus):
-            found = minus(found, group_solutions(it.group, data, graph))
-        elif isinstance(it, Bind):
-            found = extend(found, it.name, it.value)
+    for part in parts(group):
+        if isinstance(part, Optional):
+            found = left_join(found, unfiltered(part.group, data, graph), conditions(part.group))
+        elif isinstance(part, Minus):
+            found = minus(found, group_solutions(part.group, data, graph))
+        elif isinstance(part, Bind):
+            found = extend(found, part.name, part.value)
         else:
-            found = join(found, alone(it, data, graph))
+            found = join(found, alone(part, data, graph))
     return found
 
 
@@ -176,7 +176,7 @@ def run_solutions(triples, graph):
     for subject, verb, object in triples:
         is_path = isinstance(verb, PATHS)
         found = join(found, path_solutions(subject, verb, object, graph) if is_path else maps((subject, verb, object), graph))
-    return [{name: term for name, term in it.items() if not is_hidden(name)} for it in found]
+    return [{name: term for name, term in item.items() if not is_hidden(name)} for item in found]
 
 
 def maps(words, rows):
@@ -193,7 +193,7 @@ def maps(words, rows):
 
 
 def path_solutions(subject, path, object, graph):
-    ends = [None if it.kind == "var" else it for it in (subject, object)]
+    ends = [None if item.kind == "var" else item for item in (subject, object)]
     return maps((subject, object), pairs(path, graph, *ends))
 
 
@@ -227,24 +227,24 @@ def negated_pairs(path, graph):
 def closure_pairs(path, graph, left, right):
     """18.4, ZeroOrOnePath, ZeroOrMorePath and OneOrMorePath: each pair once. A path of length zero leads from any term that is an end to itself,
     and between variables from the terms that stand as subject or object in the graph."""
-    nodes = {it for s, _, o in graph for it in (s, o)}
+    nodes = {item for s, _, o in graph for item in (s, o)}
     starts = {left} if left else nodes | {right} if right else nodes
     found = []
     for start in starts:
         reached = step(path.path, graph, start) if path.mark == "?" else walk(path.path, graph, start)
-        found += [(start, it) for it in (reached if path.mark == "+" else reached | {start})]
+        found += [(start, item) for item in (reached if path.mark == "+" else reached | {start})]
     return found
 
 
 def step(path, graph, start):
-    return {it for _, it in pairs(path, graph, start, None)}
+    return {item for _, item in pairs(path, graph, start, None)}
 
 
 def walk(path, graph, start):
     """Returns the terms that one step or more lead to."""
     reached, last = set(), {start}
     while last:
-        last = set().union(*(step(path, graph, it) for it in last)) - reached
+        last = set().union(*(step(path, graph, item) for item in last)) - reached
         reached |= last
     return reached
 
@@ -317,17 +317,17 @@ def any_of(truths):
 
 
 def disjunction(args, solution):
-    return truth_of(any_of([truth(it, solution) for it in args]))
+    return truth_of(any_of([truth(arg, solution) for arg in args]))
 
 
 def conjunction(args, solution):
     """17.2, the table of `&&`: false beats an error, and an error beats true."""
-    return truth_of(not any_of([None if it is None else not it for it in (truth(arg, solution) for arg in args)]))
+    return truth_of(not any_of([None if item is None else not item for item in (truth(arg, solution) for arg in args)]))
 
 
 def among(args, solution):
     """17.4.1.9: `x IN (a, ..)` is `(x = a) || ..`, and false for an empty list."""
-    return truth_of(any_of([truth(Call("=", (args[0], it)), solution) for it in args[1:]]))
+    return truth_of(any_of([truth(Call("=", (args[0], arg)), solution) for arg in args[1:]]))
 
 
 def not_among(args, solution):
@@ -413,13 +413,13 @@ def arguments(one, other):
 
 def concat(*args):
     """17.4.3.12: with the tag that all have, if they have one."""
-    tags = {text(it).tag for it in args}
-    return Term("literal", "".join(it.text for it in args), "", tags.pop() if len(tags) == 1 else "")
+    tags = {text(arg).tag for arg in args}
+    return Term("literal", "".join(arg.text for arg in args), "", tags.pop() if len(tags) == 1 else "")
 
 
 def language_matches(tag, span):
     """17.4.3.13; RFC 4647, 3.3.1. ASCII case is looked over."""
-    tag, span = (plain(it).encode().lower() for it in (tag, span))
+    tag, span = (plain(item).encode().lower() for item in (tag, span))
     return truth_of(tag != b"" if span == b"*" else tag == span or span != b"" and tag.startswith(span + b"-"))
 
 
@@ -437,7 +437,7 @@ FUNCTIONS = {
     "!": lambda x: truth_of(not effective(x)),
     "=": lambda x, y: truth_of(equal(x, y)),
     "!=": lambda x, y: truth_of(not equal(x, y)),
-    **{name: comparison(it) for name, it in (("<", lt), (">", gt), ("<=", le), (">=", ge))},
+    **{name: comparison(entry) for name, entry in (("<", lt), (">", gt), ("<=", le), (">=", ge))},
     "+": lambda x, y=None: number(whole(x) if y is None else whole(x) + whole(y)),
     "-": lambda x, y=None: number(-whole(x) if y is None else whole(x) - whole(y)),
     "*": lambda x, y: number(whole(x) * whole(y)),
@@ -470,20 +470,20 @@ class Lists(namedtuple("Lists", "classes offset limit")):
         for tied in self.classes:
             found.append((tied, max(place, 0), min(place + len(tied), end)))
             place += len(tied)
-        return [it for it in found if it[1] < it[2]]
+        return [item for item in found if item[1] < item[2]]
 
     def allows(self, rows):
         """Returns whether a list is one of these."""
         spans = self.spans()
-        fits = all(not Counter(rows[begin:end]) - Counter(it) for it, begin, end in spans)
+        fits = all(not Counter(rows[begin:end]) - Counter(item) for item, begin, end in spans)
         return fits and len(rows) == (spans[-1][2] if spans else 0)
 
     def bags(self, most=200):
         """Returns each bag that the slice may hold."""
-        if prod(comb(len(it), end - begin) for it, begin, end in self.spans()) > most:
+        if prod(comb(len(item), end - begin) for item, begin, end in self.spans()) > most:
             raise TooLarge
-        chosen = [itertools.combinations(it, end - begin) for it, begin, end in self.spans()]
-        return [[*itertools.chain(*it)] for it in itertools.product(*chosen)]
+        chosen = [itertools.combinations(item, end - begin) for item, begin, end in self.spans()]
+        return [[*itertools.chain(*item)] for item in itertools.product(*chosen)]
 
 
 def rank(it, solution):
@@ -508,13 +508,13 @@ def ordered(solutions, order):
     if not order:
         return [solutions] if solutions else []
     (key, is_down), *rest = order
-    ranks = [rank(key, it) for it in solutions]
-    known = [it[:1] if it[0] == 1 and (1,) in ranks else it for it in ranks]
-    keyed = sorted(zip(known, solutions), key=lambda it: it[0], reverse=is_down)
+    ranks = [rank(key, item) for item in solutions]
+    known = [item[:1] if item[0] == 1 and (1,) in ranks else item for item in ranks]
+    keyed = sorted(zip(known, solutions), key=lambda entry: entry[0], reverse=is_down)
     found = []
-    for place, tied in itertools.groupby(keyed, key=lambda it: it[0]):
-        tied = [it for _, it in tied]
-        is_open = place == (1,) and len({value(key, it) for it in tied}) > 1
+    for place, tied in itertools.groupby(keyed, key=lambda entry: entry[0]):
+        tied = [item for _, item in tied]
+        is_open = place == (1,) and len({value(key, item) for item in tied}) > 1
         found += [tied] if is_open else ordered(tied, rest)
     return found
 
@@ -528,9 +528,9 @@ def where_solutions(query, data):
 def select_names(query):
     """Returns the names of a SELECT's variables, each once; `*` lists those in scope by their first places in the text (16.1.1; own: the order)."""
     if query.items is not None:
-        return list(dict.fromkeys(it.text if isinstance(it, Term) else it[1].text for it in query.items))
+        return list(dict.fromkeys(item.text if isinstance(item, Term) else item[1].text for item in query.items))
     names = in_scope(query.where) | (in_scope(query.values) if query.values else set())
-    return [it for it in dict.fromkeys(re.findall(r"\?(\w+)", text_of(query))) if it in names]
+    return [fromkey for fromkey in dict.fromkeys(re.findall(r"\?(\w+)", text_of(query))) if fromkey in names]
 
 
 def select(query, data):
@@ -539,10 +539,10 @@ def select(query, data):
     found, names = where_solutions(query, data), select_names(query)
     for item in query.items or ():
         found = found if isinstance(item, Term) else extend(found, item[1], item[0])
-    projected = [[frozenset((name, it[name]) for name in names if name in it) for it in tied] for tied in ordered(found, query.order)]
+    projected = [[frozenset((name, entry[name]) for name in names if name in entry) for entry in tied] for tied in ordered(found, query.order)]
     if query.distinct == "DISTINCT":
         before = [set().union(*projected[:at]) for at in range(len(projected))]
-        projected = [[*dict.fromkeys(it for it in tied if it not in seen)] for tied, seen in zip(projected, before)]
+        projected = [[*dict.fromkeys(entry for entry in tied if entry not in seen)] for tied, seen in zip(projected, before)]
     return names, Lists(projected, query.offset, query.limit)
 
 
@@ -553,7 +553,7 @@ def ask(query, data):
 
 def construct(query, data):
     """16.2: the triples that may be the answer, over each bag of solutions that the slice may hold, blank nodes of the template up to renaming."""
-    solutions = [[frozenset(it.items()) for it in tied] for tied in ordered(where_solutions(query, data), query.order)]
+    solutions = [[frozenset(item.items()) for item in tied] for tied in ordered(where_solutions(query, data), query.order)]
     return [instances(query.items, map(dict, bag)) for bag in Lists(solutions, query.offset, query.limit).bags()]
 
 
@@ -562,10 +562,10 @@ def instances(template, solutions, name=""):
     term at an unlawful place. A blank node of the template is another one for each solution, named for both; solutions are numbered in some order of
     their own, so that the names are the same each time."""
     found = set()
-    for at, solution in enumerate(sorted(solutions, key=lambda it: sorted(it.items()))):
+    for at, solution in enumerate(sorted(solutions, key=lambda entry: sorted(entry.items()))):
         fresh = {it: Term("bnode", f"{name}n{at}{it[2:]}") for it in labels(template)}
         for words in template:
-            terms = tuple({**solution, **fresh}.get(it.text) if it and it.kind == "var" else it for it in words)
+            terms = tuple({**solution, **fresh}.get(item.text) if item and item.kind == "var" else item for item in words)
             if is_lawful(terms) and all(term or not word for word, term in zip(words, terms)):
                 found.add(terms)
     return found
@@ -574,7 +574,7 @@ def instances(template, solutions, name=""):
 def is_lawful(terms):
     """RDF 1.1 Concepts, 3.1, 4: the predicate is an IRI, and neither subject nor graph a literal."""
     *front, predicate, _ = terms
-    return (not predicate or predicate.kind == "uri") and all(not it or it.kind != "literal" for it in front)
+    return (not predicate or predicate.kind == "uri") and all(not item or item.kind != "literal" for item in front)
 
 
 # ---- updates (SPARQL 1.1 Update, 3 and 4)
@@ -590,9 +590,9 @@ def updated(operations, data):
     # Errors
 
     Refused where one of them can't be carried out; then none of them has an effect."""
-    for at, it in enumerate(operations):
-        by = {Modify: modified, Clear: cleared, Create: created}.get(type(it), transferred)
-        data = Dataset(by(it, data, str(at)), data.is_union)
+    for at, operation in enumerate(operations):
+        by = {Modify: modified, Clear: cleared, Create: created}.get(type(operation), transferred)
+        data = Dataset(by(operation, data, str(at)), data.is_union)
     return data.quads
 
 

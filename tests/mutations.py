@@ -54,14 +54,14 @@ class Corpus:
             for case in cases.cases_of(path):
                 if not isinstance(case, str):
                     self.put(case)
-        self.texts = {kind: [*dict.fromkeys(it)] for kind, it in self.texts.items()}
+        self.texts = {kind: [*dict.fromkeys(value)] for kind, value in self.texts.items()}
 
     def put(self, case):
         for kind in ("query", "update", "data", "script"):
             text = case.file(kind)
             if kind in case.sections and len(text) <= (LONGEST if kind != "script" else 10 * LONGEST):
                 self.texts[kind].append((text, first_quads(case)))
-        kind = next((it for it in ("query", "update", "check") if it in case.sections), None)
+        kind = next((item for item in ("query", "update", "check") if item in case.sections), None)
         is_of_text = case.due != "fault" or re.match("F[1-6] " if kind != "check" else "N", case.words)
         if kind and case.due != "fronts" and "args" not in case.sections and is_of_text:
             text = case.file("data" if kind == "check" else kind)
@@ -70,7 +70,7 @@ class Corpus:
             sent = defaultdict(bytes)
             for id, piece in re.findall(rb"^piece (\d+) ((?:[0-9a-fA-F]{2})*)$", case.file("script"), re.M):
                 sent[id] += bytes.fromhex(piece.decode())
-            self.texts["request"] += [(it, first_quads(case)) for it in sent.values() if it and len(it) <= 10 * LONGEST]
+            self.texts["request"] += [(value, first_quads(case)) for value in sent.values() if value and len(value) <= 10 * LONGEST]
 
     def some(self, rng, kind):
         return rng.choice(self.texts[kind])
@@ -121,16 +121,16 @@ def wide(rng):
 def script(rng, sent):
     """Returns the bytes of a script in which connections send these bytes, each cut into pieces, which alternate."""
     lines = []
-    for at, it in enumerate(sent):
-        it = it[:4000]
-        cuts = sorted({0, len(it), *(rng.randrange(len(it) + 1) for _ in range(rng.choice((0, 0, 1, 4))))})
-        parts = [f"piece {at} {it[a:b].hex()}" for a, b in zip(cuts, cuts[1:])]
+    for at, item in enumerate(sent):
+        item = item[:4000]
+        cuts = sorted({0, len(item), *(rng.randrange(len(item) + 1) for _ in range(rng.choice((0, 0, 1, 4))))})
+        parts = [f"piece {at} {item[a:b].hex()}" for a, b in zip(cuts, cuts[1:])]
         lines.append([f"join {at}", *parts, *[f"end {at}"] * (rng.random() < 0.5)])
     mixed = []
     while lines:
         one = rng.choice(lines)
         mixed.append(one.pop(0))
-        lines = [it for it in lines if it]
+        lines = [line for line in lines if line]
     return "\n".join(mixed).encode() + b"\n" * (rng.random() < 0.8)
 
 

@@ -75,7 +75,7 @@ def term(word):
 def rows_of(text):
     """Returns the rows of a text, in short or with the full stop of N-Quads after them."""
     rows = []
-    for line in filter(None, (it.strip(" \t") for it in text.split("\n"))):
+    for line in filter(None, (part.strip(" \t") for part in text.split("\n"))):
         terms, place, line = [], 0, "" if line == "()" else re.sub(r"[ \t]+\.$", "", line)
         while place < len(line):
             found = match_at(line, place)

@@ -50,7 +50,7 @@ CLASSES = {
     "WORD": "[A-Za-z][A-Za-z0-9_]*",
     "MARK": r"\|\||&&|\^\^|[!<>]=|[{}()\[\].,;*/+\-|^?!=<>]",
 }
-CLASSES = {name: re.compile(it) for name, it in CLASSES.items()}
+CLASSES = {name: re.compile(item) for name, item in CLASSES.items()}
 STARTS = {
     "<": ("IRIREF", "MARK"), "_": ("BLANK",), ":": ("NAME", "NAMESPACE"), "?": ("VAR", "MARK"), "$": ("VAR",), "@": ("LANGTAG",),
     "'": ("STRING",), '"': ("STRING",), ".": ("DECIMAL", "DOUBLE", "MARK"),
@@ -74,7 +74,7 @@ def unescaped(text):
     """Returns a text with each UCHAR and ECHAR replaced by its character (19.2, 19.7)."""
     if "\\" not in text:
         return text
-    meant = lambda it: LETTERS[it[1]] if it[1] in LETTERS else chr(int(it[0][2:], 16))
+    meant = lambda entry: LETTERS[entry[1]] if entry[1] in LETTERS else chr(int(entry[0][2:], 16))
     return re.sub(r"\\(?:u[0-9A-Fa-f]{4}|U[0-9A-Fa-f]{8}|(.))", meant, text)
 
 
@@ -135,7 +135,7 @@ CALLS = {
     **dict.fromkeys("LANGMATCHES CONTAINS STRSTARTS STRENDS sameTerm".split(), 2), "IF": 3, "COALESCE": None, "CONCAT": None, "BOUND": 0,
 }  # fmt: skip
 """How many arguments a call has; None for a list, and 0 for one variable."""
-NAMES = {it.upper(): it for it in CALLS}
+NAMES = {item.upper(): item for item in CALLS}
 RELATIONS = ("=", "!=", "<", ">", "<=", ">=")
 
 
@@ -477,7 +477,7 @@ class Parser:
         names = self.several(self.variable, ")")
         self.mark("{")
         rows = self.several(self.row, "}")
-        self.breaks = self.breaks or any(len(it) != len(names) for it in rows)
+        self.breaks = self.breaks or any(len(item) != len(names) for item in rows)
         return Values(names, rows)
 
     def several(self, one, end):
@@ -612,7 +612,7 @@ class Parser:
                 self.counted(elements)
             elements += 1
             if is_after and self.is_node():
-                found += [(None, *it) for it in self.template()]
+                found += [(None, *item) for item in self.template()]
                 is_after = False
                 continue
             self.word("GRAPH")
@@ -622,7 +622,7 @@ class Parser:
             self.mark("}")
             self.has_empty_graph = self.has_empty_graph or not inner
             self.breaks = self.breaks or is_data and graph.kind == "var"
-            found += [(graph, *it) for it in inner]
+            found += [(graph, *item) for item in inner]
             self.has_mark(".")
             is_after = True
         self.take()
@@ -653,4 +653,4 @@ def read(kind, text):
 
 def variables_of(text):
     """Returns the names of the variables of a text, each once, in the order of their first places."""
-    return [*dict.fromkeys(it[1:] for name, _, it in tokens_of(text) if name == "VAR")]
+    return [*dict.fromkeys(item[1:] for name, _, item in tokens_of(text) if name == "VAR")]

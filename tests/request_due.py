@@ -20,8 +20,8 @@ NOTHING, UNKNOWN = ("nothing",), ("unknown",)
 
 def pairs_of(form):
     """Returns the pairs of a form (WHATWG URL, 5.1)."""
-    decoded = lambda it: unquote_to_bytes(it.replace(b"+", b" ")).decode("utf-8", "replace")
-    return [tuple(map(decoded, it.partition(b"=")[::2])) for it in form.split(b"&") if it]
+    decoded = lambda value: unquote_to_bytes(value.replace(b"+", b" ")).decode("utf-8", "replace")
+    return [tuple(map(decoded, part.partition(b"=")[::2])) for part in form.split(b"&") if part]
 
 
 def due(sent):
@@ -35,9 +35,9 @@ def due(sent):
     if not head:
         return UNKNOWN
     method, target, version, lines = head.groups()
-    fields = [it.partition(b":")[::2] for it in lines.replace(b"\r\n", b"\n").split(b"\n") if it]
+    fields = [part.partition(b":")[::2] for part in lines.replace(b"\r\n", b"\n").split(b"\n") if part]
     fields = [(name.lower(), value.strip(b" \t")) for name, value in fields]
-    values = lambda name: [value for it, value in fields if it == name]
+    values = lambda name: [value for item, value in fields if item == name]
     if len(fields) > FIELDS or version == b"1" and len(values(b"host")) != 1:
         return "refused", 400
     path, _, search = target.partition(b"?")
@@ -52,7 +52,7 @@ def due(sent):
 
 
 def posted(kind, search, values, rest):
-    lengths, media = values(b"content-length"), [it.partition(b";")[0].strip(b" \t").lower() for it in values(b"content-type")]
+    lengths, media = values(b"content-length"), [value.partition(b";")[0].strip(b" \t").lower() for value in values(b"content-type")]
     if values(b"transfer-encoding") or not lengths:
         return "refused", 411
     if len(lengths) > 1 or not re.fullmatch(rb"[0-9]+", lengths[0]):

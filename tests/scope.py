@@ -29,7 +29,7 @@ def inner_groups(it):
 
 def groups_of(group):
     """Returns the group and all groups in it."""
-    return [group, *(it for element in group.elements for inner in inner_groups(element) for it in groups_of(inner))]
+    return [group, *(item for element in group.elements for inner in inner_groups(element) for item in groups_of(inner))]
 
 
 def parts(group):
@@ -47,34 +47,34 @@ def parts(group):
 def labels(triples):
     """Returns the labels of blank nodes in triples or quads, each once, in the order of the text."""
     words = (word for triple in triples for word in triple if isinstance(word, Term))
-    return list(dict.fromkeys(it.text for it in words if it.kind == "var" and is_hidden(it.text)))
+    return list(dict.fromkeys(item.text for item in words if item.kind == "var" and is_hidden(item.text)))
 
 
 def pattern_of(quads):
     """Update 3.1.3.3: the quads of a DELETE WHERE as its pattern."""
     parts = [(graph, Triples((tuple(triple),))) for graph, *triple in quads]
-    return Group(tuple(Graph(graph, Group((it,))) if graph else it for graph, it in parts))
+    return Group(tuple(Graph(graph, Group((item,))) if graph else item for graph, item in parts))
 
 
 def patterns(tree):
     """Returns the groups in which a query or an update has its patterns."""
     if isinstance(tree, Query):
         return [tree.where]
-    return [it.where or pattern_of(it.delete) for it in tree if isinstance(it, Modify) and (it.where or it.form == "DELETE WHERE")]
+    return [item.where or pattern_of(item.delete) for item in tree if isinstance(item, Modify) and (item.where or item.form == "DELETE WHERE")]
 
 
 def breaks_scope(tree):
     """Returns whether a name stands where it may not: a variable of BIND or AS that is in scope already (18.2.1; 19.8, its notes), a label of
     a blank node in two basic graph patterns of the text (5.1.1), a variable twice in VALUES (own), and what an update's forms rule out."""
-    groups = [it for pattern in patterns(tree) for it in groups_of(pattern)]
-    runs = [labels(it.triples) for group in groups for it in parts(group) if isinstance(it, Triples)]
-    binds = [(it, group.elements[:at]) for group in groups for at, it in enumerate(group.elements) if isinstance(it, Bind)]
+    groups = [item for pattern in patterns(tree) for item in groups_of(pattern)]
+    runs = [labels(part.triples) for group in groups for part in parts(group) if isinstance(part, Triples)]
+    binds = [(element, group.elements[:at]) for group in groups for at, element in enumerate(group.elements) if isinstance(element, Bind)]
     trailing = [tree.values] if isinstance(tree, Query) and tree.values else []
-    tables = [it for group in groups for it in group.elements if isinstance(it, Values)] + trailing
+    tables = [element for group in groups for element in group.elements if isinstance(element, Values)] + trailing
     return (
-        any(it.name.text in in_scope(Group(before)) for it, before in binds)
+        any(item.name.text in in_scope(Group(before)) for item, before in binds)
         or max(Counter(itertools.chain(*runs)).values(), default=0) > 1
-        or any(len({*it.names}) < len(it.names) for it in tables)
+        or any(len({*table.names}) < len(table.names) for table in tables)
         or (breaks_items(tree) if isinstance(tree, Query) else breaks_quads(tree))
     )
 
@@ -95,11 +95,11 @@ def breaks_items(query):
 def breaks_quads(operations):
     """Returns whether a form of an update has words that it may not have: a blank node in what is deleted, a variable in DATA, or a label in two
     INSERT DATA (19.6; 19.8, its notes)."""
-    forms = [it for it in operations if isinstance(it, Modify)]
-    data = [it.insert or it.delete or () for it in forms if it.form.endswith("DATA")]
-    made = Counter(label for it in forms if it.form == "INSERT DATA" for label in labels(it.insert))
+    forms = [operation for operation in operations if isinstance(operation, Modify)]
+    data = [form.insert or form.delete or () for form in forms if form.form.endswith("DATA")]
+    made = Counter(label for form in forms if form.form == "INSERT DATA" for label in labels(form.insert))
     return (
-        any(labels(it.delete or ()) for it in forms)
+        any(labels(form.delete or ()) for form in forms)
         or any(word and word.kind == "var" and not is_hidden(word.text) for quads in data for quad in quads for word in quad)
         or max(made.values(), default=0) > 1
     )

@@ -14,7 +14,7 @@ def without(items):
 
 def changed(items, of):
     """Returns the tuples in which one item is replaced by one of those that `of` gives for it."""
-    return [(*items[:at], less, *items[at + 1 :]) for at, it in enumerate(items) for less in of(it)]
+    return [(*items[:at], less, *items[at + 1 :]) for at, item in enumerate(items) for less in of(item)]
 
 
 def with_each(it, **fields):
@@ -88,7 +88,7 @@ def smaller_operation(it):
 
 
 def smaller_update(operations):
-    return [it for it in without(operations) if it] + changed(operations, smaller_operation)
+    return [item for item in without(operations) if item] + changed(operations, smaller_operation)
 
 
 def smaller(it):
@@ -101,7 +101,7 @@ def smallest(quads, tree, is_wrong, seconds):
     end = time.monotonic() + seconds
     while time.monotonic() < end:
         tries = itertools.chain(((less, tree) for less in without(quads)), ((quads, less) for less in smaller(tree)))
-        found = next((it for it in tries if time.monotonic() < end and is_wrong(*it)), None)
+        found = next((item for item in tries if time.monotonic() < end and is_wrong(*item)), None)
         if not found:
             break
         quads, tree = found

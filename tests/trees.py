@@ -37,7 +37,7 @@ def nquads_of(term):
 
 def lines_of(statements):
     """Returns the written form: the lines of quads (graph, subject, predicate, object), or of triples, ascending, each once."""
-    lines = {" ".join(nquads_of(it) for it in (*quad[-3:], *filter(None, quad[:-3]))) + " .\n" for quad in statements}
+    lines = {" ".join(nquads_of(item) for item in (*quad[-3:], *filter(None, quad[:-3]))) + " .\n" for quad in statements}
     return "".join(sorted(lines, key=str.encode))
 
 

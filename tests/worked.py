@@ -26,7 +26,7 @@ def words(text):
 
 def quads(text):
     """Returns the quads of lines `subject predicate object graph`, of which the last may be missing."""
-    rows = [[Term("bnode", it.text[2:]) if it.kind == "var" else it for it in words(line)] for line in text.split(" . ") if line]
+    rows = [[Term("bnode", item.text[2:]) if item.kind == "var" else item for item in words(line)] for line in text.split(" . ") if line]
     return [(row[3] if len(row) > 3 else None, *row[:3]) for row in rows]
 
 
@@ -37,7 +37,7 @@ def t(text):
 
 def block(text):
     """Returns a template of quads, without graphs."""
-    return tuple((None, *it) for it in t(text).triples)
+    return tuple((None, *triple) for triple in t(text).triples)
 
 
 def path(subject, it, object):
@@ -49,7 +49,7 @@ def g(*elements):
 
 
 def call(name, *args):
-    return Call(name, tuple(word(it) if isinstance(it, str) else it for it in args))
+    return Call(name, tuple(word(arg) if isinstance(arg, str) else arg for arg in args))
 
 
 def where(condition):
@@ -78,7 +78,7 @@ def graph(name, *elements):
 
 
 def table(names, *rows):
-    return Values(words(names), tuple(tuple(None if it == "UNDEF" else word(it) for it in row.split()) for row in rows))
+    return Values(words(names), tuple(tuple(None if part == "UNDEF" else word(part) for part in row.split()) for row in rows))
 
 
 def modify(delete, insert, *elements, graph=None):
@@ -249,13 +249,13 @@ CLASSES = [
 
 def term_rows(texts):
     """Returns rows in which a word with a label is a blank node."""
-    node = lambda it: Term("bnode", it.text[2:]) if it.text[:2] == "_:" else it
+    node = lambda value: Term("bnode", value.text[2:]) if value.text[:2] == "_:" else value
     return [frozenset((name, node(term)) for name, term in row) for row in rows_of(texts)]
 
 
 def unlike():
     """Returns the names of the cases in which answers are compared wrongly, and how many cases there are."""
-    triples = lambda text: [it[1:] for it in quads(text)]
+    triples = lambda text: [quad[1:] for quad in quads(text)]
     wrong = [name for name, one, other, due in SAME if are_same(triples(one), triples(other)) != due]
     for name, rows, offset, limit, found, due in SLICES:
         wrong += [name] * (allows(Lists([term_rows(rows)], offset, limit), term_rows(found)) != due)
@@ -267,25 +267,25 @@ def unlike():
 
 
 def rows_of(texts):
-    return [frozenset((name, word(it)) for name, it in (pair.split("=", 1) for pair in text.split())) for text in texts]
+    return [frozenset((name, word(item)) for name, item in (pair.split("=", 1) for pair in text.split())) for text in texts]
 
 
 def triples_of(text):
-    return {it[1:] for it in quads(text)}
+    return {quad[1:] for quad in quads(text)}
 
 
 def failed():
     """Returns the names of the cases in which the model isn't right, and how many cases there are."""
-    rows = ROWS + [(name, "", computed(it), [row]) for name, it, row in COMPUTED]
-    wrong = [name for name, data, it, due in rows if not select(it, Dataset(quads(data)))[1].allows(rows_of(due))]
-    wrong += [name for name, data, it, due in UNIONS if not select(it, Dataset(quads(data), True))[1].allows(rows_of(due))]
-    for name, data, it, *lists in ORDERED:
-        lists = [select(it, Dataset(quads(data)))[1].allows(rows_of(rows.split())) for rows in lists]
+    rows = ROWS + [(name, "", computed(item), [row]) for name, item, row in COMPUTED]
+    wrong = [name for name, data, item, due in rows if not select(item, Dataset(quads(data)))[1].allows(rows_of(due))]
+    wrong += [name for name, data, item, due in UNIONS if not select(item, Dataset(quads(data), True))[1].allows(rows_of(due))]
+    for name, data, entry, *lists in ORDERED:
+        lists = [select(entry, Dataset(quads(data)))[1].allows(rows_of(rows.split())) for rows in lists]
         wrong += [name] * (lists != [True, False])
-    for name, data, it, due in CONSTRUCTS:
-        wrong += [name] * (construct(it, Dataset(quads(data))) != [triples_of(due)])
-    wrong += [name for name, data, it, due in UPDATES if lines_of(updated(it, Dataset(quads(data)))) != lines_of(quads(due))]
-    wrong += [name for name, it, due in SCOPE if breaks_scope(it) != due]
+    for name, data, each, due in CONSTRUCTS:
+        wrong += [name] * (construct(each, Dataset(quads(data))) != [triples_of(due)])
+    wrong += [name for name, data, item, due in UPDATES if lines_of(updated(item, Dataset(quads(data)))) != lines_of(quads(due))]
+    wrong += [name for name, item, due in SCOPE if breaks_scope(item) != due]
     wrong += [] if ask(query("ASK", None, g(t("?x :p ?y"))), Dataset(quads(NODES))) else ["ASK (16.3)"]
     more, count = unlike()
     return wrong + more, sum(map(len, (rows, UNIONS, ORDERED, CONSTRUCTS, UPDATES, SCOPE))) + 1 + count
@@ -293,6 +293,6 @@ def failed():
 
 def asked():
     """Returns the requests of the cases: for each its name, its dataset in short, whether the default graph is the union, and the tree."""
-    found = [(name, data, False, it) for name, data, it, *_ in ROWS + ORDERED + CONSTRUCTS]
-    found += [(name, "", False, computed(it)) for name, it, _ in COMPUTED] + [(name, data, True, it) for name, data, it, _ in UNIONS]
-    return found + [(name, data, False, tuple(it)) for name, data, it, _ in UPDATES] + [(name, "", False, it) for name, it, _ in SCOPE]
+    found = [(name, data, False, item) for name, data, item, *_ in ROWS + ORDERED + CONSTRUCTS]
+    found += [(name, "", False, computed(item)) for name, item, _ in COMPUTED] + [(name, data, True, item) for name, data, item, _ in UNIONS]
+    return found + [(name, data, False, tuple(item)) for name, data, item, _ in UPDATES] + [(name, "", False, item) for name, item, _ in SCOPE]

@@ -128,8 +128,8 @@ class Connection:
         """Returns what is wrong with a reply where this one is due, or None."""
         try:
             (due.check_front if is_front else due.check)(bytes(client.found))
-        except Wrong as it:
-            return it
+        except Wrong as error:
+            return error
         return None
 
     def shown(self, client):

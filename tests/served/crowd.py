@@ -163,7 +163,7 @@ class Crowd:
 
     def __init__(self, clients, port):
         self.all_begun, self.ready, self.times, self.number = Gate(), deque(), [], itertools.count()
-        self.talks = {it: it.talk(port, self.all_begun) for it in clients}
+        self.talks = {client: client.talk(port, self.all_begun) for client in clients}
         self.waits = {}
 
     def run(self, seconds=EACH):
@@ -175,8 +175,8 @@ class Crowd:
             self.ready += self.all_begun.open()
             while self.talks and time.monotonic() < end:
                 self.turn(end)
-            for it in list(self.talks):
-                self.go_on(it, Late())
+            for item in list(self.talks):
+                self.go_on(item, Late())
 
     def turn(self, end):
         """Lets each client go on that can."""
@@ -192,7 +192,7 @@ class Crowd:
 
     def take_ready(self):
         ready, self.ready = self.ready, deque()
-        return [it for it in ready if it in self.talks]
+        return [item for item in ready if item in self.talks]
 
     def go_on(self, client, error=None):
         """Lets a client go on to what it waits for next."""

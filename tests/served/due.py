@@ -21,17 +21,17 @@ def see_union(is_union):
 
 # ---- terms
 
-SUBJECTS = [iri(it) for it in "abcd"]
-PREDICATES = [iri(it) for it in "pqr"]
+SUBJECTS = [iri(item) for item in "abcd"]
+PREDICATES = [iri(item) for item in "pqr"]
 LITERALS = [
-    *(Term("literal", it) for it in ("", "x", "Zoë", 'a "quoted" \\ word', "two\nlines\r\n", "tab\there", "𝄞 or 100% & +1?", "it's")),
-    *(Term("literal", "a", "", it) for it in ("en", "en-gb")),
+    *(Term("literal", item) for item in ("", "x", "Zoë", 'a "quoted" \\ word', "two\nlines\r\n", "tab\there", "𝄞 or 100% & +1?", "it's")),
+    *(Term("literal", "a", "", item) for item in ("en", "en-gb")),
     Term("literal", "源氏物語", "", "ja"),
-    *(Term("literal", it, XSD + "integer") for it in ("5", "05", "-7")),
+    *(Term("literal", item, XSD + "integer") for item in ("5", "05", "-7")),
     Term("literal", "true", XSD + "boolean"),
     Term("literal", "x", "http://e/t"),
 ]
-GRAPHS = [iri(it) for it in "gh"] + [iri("a")]
+GRAPHS = [iri(item) for item in "gh"] + [iri("a")]
 
 
 # ---- what patterns, templates and updates give over a set of quads (graph, subject, predicate, object), whose graph is None for the default graph
@@ -49,7 +49,7 @@ def carried(operations, quads, name=""):
     Refused where an operation can't be carried out; its words are the fault's line."""
     after = updated(operations, dataset_of(quads))
     fresh = {it: Term("bnode", f"{name}.{it.text}") for it in blanks(after) - blanks(quads)}
-    return frozenset(tuple(fresh.get(it, it) for it in quad) for quad in after) if fresh else frozenset(after)
+    return frozenset(tuple(fresh.get(item, item) for item in quad) for quad in after) if fresh else frozenset(after)
 
 
 def inserted(quads):
@@ -78,14 +78,14 @@ def solutions(elements, quads):
 
 def variables_of(elements):
     """Returns the names of the variables, each once, in the order in which they first appear."""
-    words = [word for graph, triples in elements for word in (graph, *(it for triple in triples for it in triple))]
-    return list(dict.fromkeys(it.text for it in words if it and it.kind == "var"))
+    words = [word for graph, triples in elements for word in (graph, *(item for triple in triples for item in triple))]
+    return list(dict.fromkeys(item.text for item in words if item and item.kind == "var"))
 
 
 # ---- replies
 
 TEXT_FAULT = r"(F1 syntax|F2 undeclared prefix|F3 relative IRI|F6 too large) at \d+|F4 left out: \S+|F5 scope"
-REFUSED = {fixed(it) for it in (400, 404, 411, 413, 415, 431)} | {fixed(405, it) for it in ("GET, POST", "POST", "GET")}
+REFUSED = {fixed(item) for item in (400, 404, 411, 413, 415, 431)} | {fixed(405, item) for item in ("GET, POST", "POST", "GET")}
 """The replies that refuse a request for its head."""
 
 
@@ -162,7 +162,7 @@ class Solutions:
     def check(self, found):
         status, media, body = parts_of(found)
         if (status, media) != (200, RESULTS) or not allows(self.lists, read_solutions(body, self.names)):
-            told = ["{" + ", ".join(row_text(it)[:200] for it in tied[:20]) + "}" for tied in self.lists.classes[:20]]
+            told = ["{" + ", ".join(row_text(item)[:200] for item in tied[:20]) + "}" for tied in self.lists.classes[:20]]
             slice = f"offset {self.lists.offset}, limit {self.lists.limit}"
             raise Wrong(f"the variables {self.names}, {slice}, of these solutions are due, with ties in braces: {' '.join(told)}")
 
@@ -178,7 +178,7 @@ class Statements:
         if (status, media) != (200, self.media):
             raise Wrong("statements are due")
         rows = read_statements(body, 4 if self.media == NQUADS else 3)
-        if not any(are_same(rows, it) for it in self.sets):
+        if not any(are_same(rows, item) for item in self.sets):
             raise Wrong(f"these are due, or the like of {len(self.sets)} such sets: {lines_of(self.sets[0])[:3000]}")
 
     def check_front(self, found):

@@ -50,8 +50,8 @@ def update_meaning(tree, name):
             return Exactly(fault("F5 scope")), quads
         try:
             return Exactly(reply(204)), carried(tree, quads, name)
-        except Refused as it:
-            return Exactly(fault(str(it))), quads
+        except Refused as error:
+            return Exactly(fault(str(error))), quads
 
     return Meaning(due, writes=True, has_fronts=True)
 
@@ -75,29 +75,29 @@ def changed(it, change):
 
 
 def left_out(kind):
-    return lambda it: None if isinstance(it, kind) else it
+    return lambda value: None if isinstance(value, kind) else value
 
 
 def of_kind(kind, call):
-    return lambda it: call(it) if isinstance(it, kind) else it
+    return lambda value: call(value) if isinstance(value, kind) else value
 
 
 CHANGES = [
     *map(left_out, (Minus, Optional, Filter, Bind, Values)),
-    of_kind(Union, lambda it: Union(it.groups[:1])),
-    of_kind(Values, lambda it: Values(it.names, it.rows[:1])),
-    of_kind(Graph, lambda it: it.group),
-    of_kind(Closure, lambda it: Closure(it.path, "?")),
-    of_kind(Closure, lambda it: Closure(it.path, "+")),
-    of_kind(Negated, lambda it: Negated(it.forward, ())),
-    of_kind(Inverse, lambda it: it.path),
-    of_kind(Alternative, lambda it: it.second),
-    of_kind(Sequence, lambda it: it.second),
-    of_kind(Query, lambda it: replace(it, order=tuple((key, not is_down) for key, is_down in it.order))),
-    of_kind(Query, lambda it: replace(it, distinct="")),
-    of_kind(Query, lambda it: replace(it, offset=0, limit=None)),
-    of_kind(Triples, lambda it: Triples(tuple((s, v, iri("a") if is_label(o) else o) for s, v, o in it.triples))),
-    of_kind(Query, lambda it: replace(it, items=tuple((iri("a") if is_label(s) else s, v, o) for s, v, o in it.items)) if made(it) else it),
+    of_kind(Union, lambda value: Union(value.groups[:1])),
+    of_kind(Values, lambda value: Values(value.names, value.rows[:1])),
+    of_kind(Graph, lambda value: value.group),
+    of_kind(Closure, lambda value: Closure(value.path, "?")),
+    of_kind(Closure, lambda value: Closure(value.path, "+")),
+    of_kind(Negated, lambda value: Negated(value.forward, ())),
+    of_kind(Inverse, lambda value: value.path),
+    of_kind(Alternative, lambda value: value.second),
+    of_kind(Sequence, lambda value: value.second),
+    of_kind(Query, lambda value: replace(value, order=tuple((key, not is_down) for key, is_down in value.order))),
+    of_kind(Query, lambda value: replace(value, distinct="")),
+    of_kind(Query, lambda value: replace(value, offset=0, limit=None)),
+    of_kind(Triples, lambda value: Triples(tuple((s, v, iri("a") if is_label(o) else o) for s, v, o in value.triples))),
+    of_kind(Query, lambda value: replace(value, items=tuple((iri("a") if is_label(s) else s, v, o) for s, v, o in value.items)) if made(value) else value),
 ]
 """What a tree becomes where a form is left out or is another one. A query whose answer isn't the same then tells something of that form."""
 TRIES = 60
@@ -117,7 +117,7 @@ def said(due):
     """Returns an answer's list of solutions or its statements, as values to compare."""
     if isinstance(due, Solutions):
         return due.names, [sorted(map(sorted, tied)) for tied in due.lists.classes], due.lists.offset, due.lists.limit
-    return [sorted(it, key=str) for it in due.sets] if isinstance(due, Statements) else getattr(due, "due", None)
+    return [sorted(item, key=str) for item in due.sets] if isinstance(due, Statements) else getattr(due, "due", None)
 
 
 def tells(tree, quads, change):
@@ -134,7 +134,7 @@ def tells(tree, quads, change):
 
 def first_quads(rng):
     """Returns quads for the beginning, some of which have blank nodes."""
-    named = lambda it: Term("bnode", "f" + it.text) if it and it.kind == "bnode" else it
+    named = lambda value: Term("bnode", "f" + value.text) if value and value.kind == "bnode" else value
     return frozenset(random_quads(rng, 12)) | {tuple(map(named, quad)) for quad in few_quads(rng)}
 
 
@@ -190,10 +190,10 @@ class Forms:
         """Returns the connection of an update that puts other quads in the place of all."""
         self.number += 1
         # (no graph's name is a blank node in a text: 19.8, rule 52)
-        quads = sorted((it for it in first_quads(self.rng) if not it[0] or it[0].kind == "uri"), key=str)
+        quads = sorted((quad for quad in first_quads(self.rng) if not quad[0] or quad[0].kind == "uri"), key=str)
         self.quads = frozenset(quads)
-        labelled = lambda it: var("_:" + it.text) if it and it.kind == "bnode" else it
-        tree = Clear("CLEAR", "ALL", False), Modify("INSERT DATA", None, None, tuple(tuple(map(labelled, it)) for it in quads), None)
+        labelled = lambda value: var("_:" + value.text) if value and value.kind == "bnode" else value
+        tree = Clear("CLEAR", "ALL", False), Modify("INSERT DATA", None, None, tuple(tuple(map(labelled, quad)) for quad in quads), None)
         it = Connection("an update of all quads", Request(self.rng, "update", update_text(tree)).written(), update_meaning(tree, f"u{self.number}"))
         it.is_renewal = True
         return it
@@ -232,4 +232,4 @@ def big_trees():
 
 def big_queries(rng):
     """Returns connections of queries with large replies."""
-    return [Connection("a large query", Request(rng, "query", text_of(it)).written(), query_meaning(it)) for it in big_trees()]
+    return [Connection("a large query", Request(rng, "query", text_of(item)).written(), query_meaning(item)) for item in big_trees()]

@@ -89,14 +89,14 @@ def times_round():
     reader = Client([("send", DUMP), ("read", Read(rate=8_000_000))])
     deaf = Client([("send", DUMP), ("wait", last + 1), ("read", Read())], receive=4096)
     clients = [(silent(), "a silent one"), (stalled(), "one within its request")]
-    checks = [(it, lambda it: check_dropped(it, 0.9 * idle, last), what) for it, what in clients]
+    checks = [(item, lambda value: check_dropped(value, 0.9 * idle, last), what) for item, what in clients]
     checks += [
-        (lively, lambda it: check_answered(it), "a lively one that takes longer than --idle"),
-        (endless, lambda it: check_dropped(it, 0.9 * request, request + TICK + SLACK + 0.2), "a lively one that takes longer than --request"),
-        (reader, lambda it: check_slow_reader(it, request), "one that reads its reply for longer than --request"),
-        (deaf, lambda it: check_cut(it), "one that doesn't read its reply"),
+        (lively, lambda value: check_answered(value), "a lively one that takes longer than --idle"),
+        (endless, lambda value: check_dropped(value, 0.9 * request, request + TICK + SLACK + 0.2), "a lively one that takes longer than --request"),
+        (reader, lambda value: check_slow_reader(value, request), "one that reads its reply for longer than --request"),
+        (deaf, lambda value: check_cut(value), "one that doesn't read its reply"),
     ]
-    checks += [(sound(delay=at / 4), lambda it: check_answered(it, 3), "a sound one") for at in range(16)]
+    checks += [(sound(delay=at / 4), lambda value: check_answered(value, 3), "a sound one") for at in range(16)]
     return ["--at-once", 24, "--idle", idle, "--request", request], LARGE, checks, 0
 
 
@@ -114,8 +114,8 @@ def check_cut(client):
 def silent_round():
     """Silent ones have all places, and nobody waits until a sound one comes."""
     wait, last = 0.6, sound(delay=0.6)
-    checks = [(silent(), lambda it: check_dropped(it, 0.9 * wait, wait + 3), "a silent one") for _ in range(4)]
-    return ["--at-once", 4], SMALL, [*checks, (last, lambda it: check_answered(it, 3), "a sound one that waits")], 4
+    checks = [(silent(), lambda value: check_dropped(value, 0.9 * wait, wait + 3), "a silent one") for _ in range(4)]
+    return ["--at-once", 4], SMALL, [*checks, (last, lambda value: check_answered(value, 3), "a sound one that waits")], 4
 
 
 def crowd_round():
@@ -124,43 +124,43 @@ def crowd_round():
     for at in range(4):
         last = sound(delay=at + 0.05)
         crowd = [Client([("after", last), ("look", None), ("close", None)], delay=at) for _ in range(50)]
-        checks += [(it, lambda it: check(not it.found and it.end != "late", "a silent one is answered"), "a silent one") for it in crowd]
-        checks.append((last, lambda it: check_answered(it, 3), "a sound one after 50 silent ones"))
+        checks += [(item, lambda value: check(not value.found and value.end != "late", "a silent one is answered"), "a silent one") for item in crowd]
+        checks.append((last, lambda value: check_answered(value, 3), "a sound one after 50 silent ones"))
     return ["--at-once", 4], SMALL, checks, None
 
 
 def stalled_round():
     """All places are taken by those that stop within their requests."""
-    checks = [(stalled(), lambda it: check_dropped(it, 1.8, 3.5), "one that stops within its request") for _ in range(4)]
-    return ["--at-once", 4], SMALL, [*checks, (sound(delay=0.2), lambda it: check_answered(it, 3.3), "a sound one that waits")], 4
+    checks = [(stalled(), lambda value: check_dropped(value, 1.8, 3.5), "one that stops within its request") for _ in range(4)]
+    return ["--at-once", 4], SMALL, [*checks, (sound(delay=0.2), lambda value: check_answered(value, 3.3), "a sound one that waits")], 4
 
 
 def mixed_round():
     """Silent ones are dropped before those that stopped a second ago."""
     late = [Client([("send", ASK[:CUT]), ("wait", 1.2), ("send", ASK[CUT:]), ("read", Read())]) for _ in range(2)]
-    checks = [(it, lambda it: check_answered(it, 4), "one that goes on after 1.2 s") for it in late]
-    checks += [(silent(), lambda it: check_dropped(it, 0.04, 3), "a silent one") for _ in range(2)]
-    return ["--at-once", 4], SMALL, [*checks, (sound(delay=0.2), lambda it: check_answered(it, 3), "a sound one that waits")], 2
+    checks = [(item, lambda value: check_answered(value, 4), "one that goes on after 1.2 s") for item in late]
+    checks += [(silent(), lambda value: check_dropped(value, 0.04, 3), "a silent one") for _ in range(2)]
+    return ["--at-once", 4], SMALL, [*checks, (sound(delay=0.2), lambda value: check_answered(value, 3), "a sound one that waits")], 2
 
 
 def lively_round():
     """All places are taken by slow ones that send a byte now and then, and somebody waits: none is dropped."""
-    checks = [(slow(0.3, 10), lambda it: check_answered(it), "a slow one") for _ in range(4)]
+    checks = [(slow(0.3, 10), lambda value: check_answered(value), "a slow one") for _ in range(4)]
     # (one that has its reply may be dropped before it has closed the connection)
-    return ["--at-once", 4], SMALL, [*checks, (sound(delay=0.2), lambda it: check_answered(it), "a sound one that waits")], None
+    return ["--at-once", 4], SMALL, [*checks, (sound(delay=0.2), lambda value: check_answered(value), "a sound one that waits")], None
 
 
 def writing_round():
     """All places are taken by those that don't read their replies for a while, and somebody waits: none is dropped."""
     deaf = lambda: Client([("send", DUMP), ("wait", 3), ("read", Read(step=1 << 20))], receive=4096)
-    checks = [(deaf(), lambda it: check_answered(it, due=dumped(LARGE)), "one that reads its reply late") for _ in range(4)]
-    return ["--at-once", 4], LARGE, [*checks, (sound(delay=0.2), lambda it: check_answered(it), "a sound one that waits")], None
+    checks = [(deaf(), lambda value: check_answered(value, due=dumped(LARGE)), "one that reads its reply late") for _ in range(4)]
+    return ["--at-once", 4], LARGE, [*checks, (sound(delay=0.2), lambda value: check_answered(value), "a sound one that waits")], None
 
 
 def descriptors_round():
     """There are fewer descriptors than connections: those that wait are accepted as others end."""
     crowd = [Client([("send", ASK[:CUT]), ("all", None), ("wait", 0.1), ("send", ASK[CUT:]), ("read", Read())]) for _ in range(40)]
-    return [], SMALL, [(it, lambda it: check_answered(it), "one of 40") for it in crowd], 0
+    return [], SMALL, [(item, lambda value: check_answered(value), "one of 40") for item in crowd], 0
 
 
 ROUNDS = {
@@ -255,9 +255,9 @@ def attempt(pipe, it, call, room):
 
 def try_all(program, room, seconds_left, only=""):
     """Tries all rounds side by side whose names hold a text, and tells what is wrong. Returns how many checks passed, and how many there were."""
-    calls = {name: (lambda it, room, made=made: try_round(it, made, program, room, seconds_left)) for name, made in ROUNDS.items()}
-    calls["no count of connections"] = lambda it, room: try_endless(it, program, room, seconds_left)
-    calls["a port that is taken"] = lambda it, room: try_taken(it, program, room, seconds_left)
+    calls = {name: (lambda value, room, made=made: try_round(value, made, program, room, seconds_left)) for name, made in ROUNDS.items()}
+    calls["no count of connections"] = lambda value, room: try_endless(value, program, room, seconds_left)
+    calls["a port that is taken"] = lambda value, room: try_taken(value, program, room, seconds_left)
     context, pipes, passed, tried = multiprocessing.get_context("fork"), {}, 0, 0
     for name, call in calls.items():
         if only in name:

@@ -56,13 +56,13 @@ class Request:
         self.fields.append(f"{self.rng.choice((name, name.lower(), name.upper()))}:{self.rng.choice((' ', '', '  '))}{value}")
 
     def without(self, name):
-        self.fields = [it for it in self.fields if not it.lower().startswith(name.lower() + ":")]
+        self.fields = [field for field in self.fields if not field.lower().startswith(name.lower() + ":")]
         return self
 
     def head(self):
         """Returns the head, with its Host unless there is one."""
         fields = [*self.fields]
-        if self.version == "HTTP/1.1" and not any(it.lower().startswith("host:") for it in fields):
+        if self.version == "HTTP/1.1" and not any(field.lower().startswith("host:") for field in fields):
             fields.append(self.rng.choice(("Host: e", "host: 127.0.0.1", "HOST:")))
         self.rng.shuffle(fields)
         end = self.rng.choice(("\r\n", "\r\n", "\n"))
@@ -112,7 +112,7 @@ def small(rng, is_update):
         return Connection("a small query", Request(rng, "query", f"ASK {{ {words} }}").written(), Meaning(ask([(None, [triple])]), has_fronts=True))
     word = rng.choice(("INSERT", "DELETE"))
     operation = (inserted if word == "INSERT" else deleted)(quads)
-    meaning = Meaning(lambda it: (Exactly(reply(204)), carried([operation], it)), writes=True, has_fronts=True)
+    meaning = Meaning(lambda value: (Exactly(reply(204)), carried([operation], value)), writes=True, has_fronts=True)
     return Connection("a small update", Request(rng, "update", f"{word} DATA {{ {words} }}").written(), meaning)
 
 

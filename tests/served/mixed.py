@@ -19,7 +19,7 @@ OWN, VALUES, OWN_GRAPHS = 16, 8, 2
 FIRST = 150
 """How many quads, some of them the same, a client has stored in the beginning: about as many as later on."""
 PREFIX = "PREFIX : <http://e/> "
-TRUE, FALSE = (reply(200, RESULTS, boolean_text(it)) for it in (True, False))
+TRUE, FALSE = (reply(200, RESULTS, boolean_text(item)) for item in (True, False))
 
 
 def number(n):
@@ -84,7 +84,7 @@ class Described:
         blanks, lines = re.findall(r"_:b\d+", body), body.splitlines()
         if (status, media) != (200, NTRIPLES) or len(blanks) != len({*blanks}) or lines != sorted(lines):
             raise Wrong("triples in order are due, each with a blank node of its own")
-        if Counter(re.sub(r"_:b\d+", "_:b", it) for it in lines) != self.lines:
+        if Counter(re.sub(r"_:b\d+", "_:b", line) for line in lines) != self.lines:
             raise Wrong(f"{sum(self.lines.values())} triples are due")
 
 
@@ -103,9 +103,9 @@ class Dumped:
         others = some - self.base
         if len(some) - len(others) != len(self.base):
             raise Wrong("a quad of the base is missing")
-        if {it for it in others if it.startswith(self.prefix)} != self.own:
+        if {other for other in others if other.startswith(self.prefix)} != self.own:
             raise Wrong("the client's own quads aren't those that it stored")
-        if not all(re.fullmatch(rb"<http://e/c\d+n\d+> <http://e/has> <http://e/v\d>( <http://e/c\d+g\d>)? \.", it) for it in others):
+        if not all(re.fullmatch(rb"<http://e/c\d+n\d+> <http://e/has> <http://e/v\d>( <http://e/c\d+g\d>)? \.", other) for other in others):
             raise Wrong("a quad is there that nobody stored")
 
 
@@ -136,7 +136,7 @@ def base_queries():
         ("SELECT ?x { ?x :value ?v MINUS { ?x :odd ?o } }", bag(["x"], [row(x=node[n]) for n in range(0, NODES, 2)])),
         (
             "SELECT ?x { { ?x :value 5 } UNION { ?x :value 6 } UNION { ?x :odd ?o } }",
-            bag(["x"], [row(x=it) for it in [node[5], node[6], *node[1::2]]]),
+            bag(["x"], [row(x=item) for item in [node[5], node[6], *node[1::2]]]),
         ),
         ("SELECT ?g { GRAPH ?g { :n6 :in ?m } }", bag(["g"], [row(g=iri("g2"))])),
         ("SELECT DISTINCT ?m { GRAPH ?g { ?x :in ?m } }", bag(["m"], [row(m=iri(f"m{n}")) for n in range(5)])),
@@ -146,7 +146,7 @@ def base_queries():
         ),
         ("SELECT ?v { ?x :value ?v } ORDER BY ?v OFFSET 100 LIMIT 3", InOrder(["v"], [row(v=number(n)) for n in (100, 101, 102)])),
         ("SELECT (STRLEN(?w) AS ?n) { :n100 :name ?w }", bag(["n"], [row(n=number(8))])),
-        ("SELECT ?x { ?x :value ?v } LIMIT 5", Rows(["x"], 5 * [row(x=it) for it in node], 5)),
+        ("SELECT ?x { ?x :value ?v } LIMIT 5", Rows(["x"], 5 * [row(x=item) for item in node], 5)),
         ("ASK { ?x :next :n8 ; :odd ?o }", Exactly(TRUE)),
         ("ASK { ?x :next ?x }", Exactly(FALSE)),
         ("CONSTRUCT { ?y :before ?x } WHERE { ?x :next ?y }", Exactly(construct_of(node))),
@@ -314,8 +314,8 @@ class Owner:
 
         Wrong where that can't be."""
         prefix = f"<http://e/c{self.number}n".encode()
-        own = {it for it in lines if it.startswith(prefix)}
-        fits = [it for it in self.states if {*map(line_of, it)} == own]
+        own = {line for line in lines if line.startswith(prefix)}
+        fits = [state for state in self.states if {*map(line_of, state)} == own]
         if not fits:
             raise Wrong(f"client {self.number} stored {[*map(len, self.states)]} quads, and there are {len(own)}, or others")
         self.states = [fits[0]]
@@ -365,21 +365,21 @@ class Owner:
 
     def modify(self):
         old, new = self.rng.sample(range(VALUES), 2)
-        hit = {it for it in self.stored if it[0] is None and it[3] == iri(f"v{old}")}
+        hit = {item for item in self.stored if item[0] is None and item[3] == iri(f"v{old}")}
         text = f"DELETE {{ ?s :has :v{old} }} INSERT {{ ?s :has :v{new} }} WHERE {{ :c{self.number} :owns ?s . ?s :has :v{old} }}"
-        return text, self.stored - hit | {(*it[:3], iri(f"v{new}")) for it in hit}
+        return text, self.stored - hit | {(*item[:3], iri(f"v{new}")) for item in hit}
 
     def whole_graph(self):
         at = self.rng.randrange(2)
         source, target = self.graph(at), self.graph(1 - at)
-        inside = {it for it in self.stored if it[0] == source}
+        inside = {item for item in self.stored if item[0] == source}
         word = self.rng.choice(("CLEAR", "DROP", "ADD", "COPY", "MOVE"))
         if word in ("CLEAR", "DROP"):
             return f"{word} GRAPH <{source.text}>", self.stored - inside
         if not inside:
             return f"{word} <{source.text}> TO <{target.text}>", None
-        rest = self.stored if word == "ADD" else {it for it in self.stored if it[0] != target}
-        after = rest | {(target, *it[1:]) for it in inside}
+        rest = self.stored if word == "ADD" else {item for item in self.stored if item[0] != target}
+        after = rest | {(target, *item[1:]) for item in inside}
         return f"{word} <{source.text}> TO <{target.text}>", frozenset(after - inside if word == "MOVE" else after)
 
 

@@ -42,8 +42,8 @@ class Search:
 
     def __init__(self, asked):
         self.asked = asked
-        self.before = [self.set_of(other.heard < it.asked for other in asked) for it in asked]
-        self.due = self.set_of(it.is_answered for it in asked)
+        self.before = [self.set_of(other.heard < item.asked for other in asked) for item in asked]
+        self.due = self.set_of(item.is_answered for item in asked)
 
     @staticmethod
     def set_of(flags):
@@ -57,8 +57,8 @@ class Search:
         grows = True
         while grows:
             grows = False
-            for at, it in enumerate(self.asked):
-                if not it.writes and self.can_follow(done, at) and it.fits(quads):
+            for at, item in enumerate(self.asked):
+                if not item.writes and self.can_follow(done, at) and item.fits(quads):
                     done, grows = done | 1 << at, True
         return done
 
@@ -74,10 +74,10 @@ class Search:
             if len(seen) > MOST:
                 raise TooMany
             if not self.due & ~done:
-                found.add(World(quads, frozenset(it for at, it in enumerate(self.asked) if not done >> at & 1)))
-            for at, it in enumerate(self.asked):
-                if it.writes and self.can_follow(done, at):
-                    left += [(done | 1 << at, after) for after in it.fits(quads)]
+                found.add(World(quads, frozenset(item for at, item in enumerate(self.asked) if not done >> at & 1)))
+            for at, entry in enumerate(self.asked):
+                if entry.writes and self.can_follow(done, at):
+                    left += [(done | 1 << at, after) for after in entry.fits(quads)]
         return found
 
     def datasets(self, starts):
@@ -87,15 +87,15 @@ class Search:
             done, quads = state = left.pop()
             if state not in seen and len(seen) < MOST // 100:
                 seen.add(state)
-                left += [(done | 1 << at, after) for at, it in enumerate(self.asked) if it.writes and not done >> at & 1 for after in it.fits(quads)]
+                left += [(done | 1 << at, after) for at, item in enumerate(self.asked) if item.writes and not done >> at & 1 for after in item.fits(quads)]
         return {quads for _, quads in seen}
 
 
 def searched(worlds, asked):
     """Returns the search for orders of these requests and of those that are pending in the worlds, and where it starts."""
-    pending = list(dict.fromkeys(it for world in worlds for it in world.pending))
+    pending = list(dict.fromkeys(item for world in worlds for item in world.pending))
     search = Search(pending + asked)
-    return search, [(Search.set_of(it not in world.pending for it in pending), world.quads) for world in worlds]
+    return search, [(Search.set_of(item not in world.pending for item in pending), world.quads) for world in worlds]
 
 
 def worlds_after(worlds, asked):
@@ -108,7 +108,7 @@ def strangers(worlds, asked):
     """Returns those of the requests whose replies are due over no dataset that may have been stored."""
     search, starts = searched(worlds, asked)
     datasets = search.datasets(starts)
-    return [it for it in asked if not any(it.fits(quads) for quads in datasets)]
+    return [item for item in asked if not any(item.fits(quads) for quads in datasets)]
 
 
 def suspects(worlds, asked, seconds):

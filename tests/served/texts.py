@@ -48,7 +48,7 @@ class Spelling:
         """Returns the tokens of the triples, with `;` and `,` where they fit."""
         tokens, last = [], (None, None)
         for subject, predicate, object in triples:
-            terms = [self.term(it) for it in (subject, predicate, object)]
+            terms = [self.term(item) for item in (subject, predicate, object)]
             same = 0 if not tokens or self.rng.random() < 0.3 else 2 if last == (subject, predicate) else int(last[0] == subject)
             tokens += ([["."], [";"], [","]][same] if tokens else []) + terms[same:]
             last = subject, predicate
@@ -67,7 +67,7 @@ class Spelling:
         return tokens
 
     def text(self, tokens):
-        return "".join(it + self.rng.choice(self.gaps) for it in tokens)
+        return "".join(token + self.rng.choice(self.gaps) for token in tokens)
 
 
 def random_bytes(rng, count):
@@ -81,8 +81,8 @@ def random_quads(rng, most):
 
 
 def by_graph(quads):
-    graphs = dict.fromkeys(it[0] for it in quads)
-    return [(graph, sorted(it[1:] for it in quads if it[0] == graph)) for graph in graphs]
+    graphs = dict.fromkeys(quad[0] for quad in quads)
+    return [(graph, sorted(quad[1:] for quad in quads if quad[0] == graph)) for graph in graphs]
 
 
 def random_modify(rng, spelling):
@@ -93,10 +93,10 @@ def random_modify(rng, spelling):
     if form == "DELETE WHERE":
         return [word("DELETE"), word("WHERE"), "{", *spelling.blocks(pattern), "}"], Modify(form, None, quads_of(pattern), None, None)
     graph = rng.choice((None, None, None, *GRAPHS))
-    delete, insert = (random_template(rng) if form in (it, "both") else None for it in ("DELETE", "INSERT"))
+    delete, insert = (random_template(rng) if form in (item, "both") else None for item in ("DELETE", "INSERT"))
     tokens = [word("WITH"), spelling.term(graph)] if graph else []
-    for name, it in (("DELETE", delete), ("INSERT", insert)):
-        tokens += [word(name), "{", *spelling.blocks(it), "}"] if it is not None else []
+    for name, entry in (("DELETE", delete), ("INSERT", insert)):
+        tokens += [word(name), "{", *spelling.blocks(entry), "}"] if entry is not None else []
     tokens += [word("WHERE"), "{", *spelling.blocks(pattern), "}"]
     return tokens, Modify("MODIFY", graph, delete and quads_of(delete), insert and quads_of(insert), group_of(pattern))
 
@@ -120,7 +120,7 @@ def random_operation(rng, spelling):
         said = [word("GRAPH"), spelling.term(graph)] if target is graph else [word(target)]
         return [word(rng.choice(("CLEAR", "DROP"))), *silent, *said], Clear("CLEAR", target, bool(silent))
     form, ends = rng.choice(("ADD", "COPY", "MOVE")), [rng.choice((None, *GRAPHS)) for _ in "st"]
-    said = [[word("DEFAULT")] if it is None else [word("GRAPH")] * (rng.random() < 0.5) + [spelling.term(it)] for it in ends]
+    said = [[word("DEFAULT")] if end is None else [word("GRAPH")] * (rng.random() < 0.5) + [spelling.term(end)] for end in ends]
     return [word(form), *silent, *said[0], word("TO"), *said[1]], Transfer(form, *ends, bool(silent))
 
 
@@ -135,8 +135,8 @@ def random_update(rng):
     def due(quads):
         try:
             return Exactly(reply(204)), carried(operations, quads)
-        except Refused as it:
-            return Exactly(fault(str(it))), quads
+        except Refused as error:
+            return Exactly(fault(str(error))), quads
 
     return spelling.text(spelling.prologue() + tokens), Meaning(due, writes=True, has_fronts=True)
 
@@ -174,7 +174,7 @@ def ask(elements):
 
 def select(elements, names, is_distinct, limit):
     def due(quads):
-        rows = [frozenset((it, row[it]) for it in names if it in row) for row in solutions(elements, quads)]
+        rows = [frozenset((item, row[item]) for item in names if item in row) for row in solutions(elements, quads)]
         return Solutions(names, Lists([[*{*rows}] if is_distinct else rows], 0, limit)), quads
 
     return due
@@ -204,7 +204,7 @@ def random_query(rng):
     said = ["*"]
     if rng.random() < 0.5:
         names = rng.sample("sopxgz", rng.randint(1, 4))
-        said = [spelling.term(Term("var", it)) for it in names]
+        said = [spelling.term(Term("var", item)) for item in names]
     tokens = [word(form), *[word("DISTINCT")] * is_distinct, *said, *where]
     tokens += [word("LIMIT"), str(limit)] if limit < 1 << 60 else []
     return spelling.text(spelling.prologue() + tokens), Meaning(select(elements, names, is_distinct, limit))
