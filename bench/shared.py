@@ -38,9 +38,9 @@ def program_to_run():
 def script(name):
     """Returns the module bench/NAME/run."""
     loader = importlib.machinery.SourceFileLoader(name, f"{ROOT}/bench/{name}/run")
-    it = importlib.util.module_from_spec(importlib.util.spec_from_loader(name, loader))
-    loader.exec_module(it)
-    return it
+    module = importlib.util.module_from_spec(importlib.util.spec_from_loader(name, loader))
+    loader.exec_module(module)
+    return module
 
 
 # ---- data
@@ -327,7 +327,7 @@ def has(server, text, solutions):
     """Returns whether a server finds these solutions of a query whose slice is left out. None of them has a blank node."""
     names = sorted({cell[0] for solution in solutions for cell in solution})
     cells = [{cell[0]: written(cell) for cell in solution} for solution in solutions]
-    rows = " ".join(f"({' '.join(it.get(name, 'UNDEF') for name in names)})" for it in cells)
+    rows = " ".join(f"({' '.join(row.get(name, 'UNDEF') for name in names)})" for row in cells)
     whole = text.partition(" LIMIT ")[0].partition(" OFFSET ")[0]
     reply = server.ask(query(f"{whole} VALUES ({' '.join(f'?{name}' for name in names)}) {{ {rows} }}"))
     return not fault_of(reply) and not Counter(solutions) - Counter(answer_of(reply))
@@ -391,7 +391,7 @@ def refusal(faults):
 
 def told(figure):
     """Returns a line for a reader: the name, how many solutions there are, and the least times, with the ratio of the peer's to the program's."""
-    shown = [f"{it:.2f}" if it is not None else "-" for it in figure.least]
+    shown = [f"{duration:.2f}" if duration is not None else "-" for duration in figure.least]
     if len(shown) > 1 and None not in figure.least:
         shown.append(f"{figure.least[1] / figure.least[0]:.2f}")
     return f"{figure.name}: {figure.rows}: {', '.join(shown)}{figure.differs and ', differs: ' + figure.differs}"

@@ -166,7 +166,7 @@ def is_built(root):
     crates = below(root, PROGRAM)
     text, logs = made_of(root, crates), tempfile.mkdtemp(prefix="quads-build-")
     say(f"proving and building the program, {len(crates)} crates, which takes a while the first time; logs: {logs}")
-    failed = build(root, crates, logs, words_of, lambda it, left: say(f"proving {it}, {left} left"))
+    failed = build(root, crates, logs, words_of, lambda crate, left: say(f"proving {crate}, {left} left"))
     if failed:
         say(f"{failed} was not built: {logs}/{failed}.log says why")
         return False

@@ -56,7 +56,7 @@ def texts_of(root, crate):
     for part in ("src", "specs", "proofs"):
         for at, folders, files in os.walk(f"{root}/crates/{crate}/{part}"):
             folders.sort()
-            found += [f"{at}/{it}" for it in sorted(files) if it.endswith((".rt", ".antt"))]
+            found += [f"{at}/{file}" for file in sorted(files) if file.endswith((".rt", ".antt"))]
     return found
 
 

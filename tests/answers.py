@@ -134,7 +134,7 @@ def spelt(form):
     found, first = [*known], 1000
     for part, times in sorted(parts, key=str):
         for _ in range(times):
-            named = lambda it: Term("bnode", f"b{first + int(it.text)}") if it[0] == "new" else it if it[0] else None
+            named = lambda term: Term("bnode", f"b{first + int(term.text)}") if term[0] == "new" else term if term[0] else None
             found += [tuple(map(named, statement)) for statement in part]
             first += 10
     return sorted(found, key=str)

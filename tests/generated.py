@@ -329,7 +329,7 @@ class Generator:
     def data_block(self, labels):
         """Returns quads without variables, of which some are stored."""
         self.labels += 1
-        fresh = [var(f"_:{it}{self.labels if self.often(0.95) else ''}") for it in labels] + [var("x")] * self.often(0.03)
+        fresh = [var(f"_:{label}{self.labels if self.often(0.95) else ''}") for label in labels] + [var("x")] * self.often(0.03)
         word = lambda others: self.rng.choice(others if others == PREDICATES else [*others, *fresh])
         stored = [quad for quad in self.quads if not any(term and term.kind == "bnode" for term in quad)]
         return self.block(word, [None, None, *GRAPHS]) + tuple(self.rng.sample(stored, min(len(stored), self.rng.choice((0, 1, 1, 2)))))

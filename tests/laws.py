@@ -12,7 +12,7 @@ from scope import in_scope
 from trees import BOOLEAN, INTEGER, Alternative, Bind, Call, Closure, Filter, Graph, Group, Inverse, Minus, Negated, Optional, Sequence, Term
 from trees import Triples, Union, Values, iri, var
 
-GRAPHS = [iri(f"g{it}") for it in range(4)]
+GRAPHS = [iri(f"g{number}") for number in range(4)]
 CLASSES, DEEP = 10, 20
 """How many classes there are, and how long the chains by p3 are."""
 OBJECTS = ("p1", "p2", "p3", "p4")
@@ -34,8 +34,8 @@ def data_lines(rng, count):
     integer below 20, in one of two forms; p7 one of few strings, some tagged; p8 a term of any kind; p9 the subject's number. One subject in ten is
     a blank node. The quads of half of the subjects are in the default graph, the others in a named one, and one triple in ten is in another graph
     too."""
-    names = [f"_:n{it}" if rng.random() < 0.1 else f"<http://e/s{it}>" for it in range(count)]
-    number = lambda it: f'"{it}"^^<{INTEGER}>'
+    names = [f"_:n{index}" if rng.random() < 0.1 else f"<http://e/s{index}>" for index in range(count)]
+    number = lambda form: f'"{form}"^^<{INTEGER}>'
     for at, name in enumerate(names):
         some = lambda: rng.choice(names)
         pairs = [(0, f"<http://e/c{rng.randrange(CLASSES)}>"), (1, some()), (2, some()), (9, number(at))]
@@ -46,7 +46,7 @@ def data_lines(rng, count):
         pairs += [(7, f'"{rng.choice("abcdé")}"' + rng.choice(("", "", "@en", "@en-gb")))]
         mixed = f'"{rng.choice(("true", "0"))}"^^<{BOOLEAN}>', '"x"', '"5"^^<http://e/t>', f'"y"^^<{INTEGER}>'
         pairs += [(8, rng.choice((number(rng.randrange(10)), some(), *mixed)))]
-        home = rng.choice(("", "", "", *(f" <http://e/g{it}>" for it in (0, 1)))) if rng.random() < 0.9 else f" <http://e/g{rng.randrange(4)}>"
+        home = rng.choice(("", "", "", *(f" <http://e/g{graph}>" for graph in (0, 1)))) if rng.random() < 0.9 else f" <http://e/g{rng.randrange(4)}>"
         for verb, object in pairs:
             yield f"{name} <http://e/p{verb}> {object}{home} .\n"
             if rng.random() < 0.1:
@@ -56,22 +56,22 @@ def data_lines(rng, count):
 # ---- variables
 
 
-def certain(it):
+def certain(element):
     """Returns the names of the variables that are bound in every solution of a group or an element."""
-    if isinstance(it, Group):
-        return set().union(*map(certain, it.elements))
-    if isinstance(it, Union):
-        return set.intersection(*map(certain, it.groups))
-    if isinstance(it, Graph):
-        return certain(it.group) | ({it.name.text} if it.name.kind == "var" else set())
-    if isinstance(it, Values):
-        return {name.text for at, name in enumerate(it.names) if all(row[at] for row in it.rows)}
-    return in_scope(it) if isinstance(it, Triples) else set()
+    if isinstance(element, Group):
+        return set().union(*map(certain, element.elements))
+    if isinstance(element, Union):
+        return set.intersection(*map(certain, element.groups))
+    if isinstance(element, Graph):
+        return certain(element.group) | ({element.name.text} if element.name.kind == "var" else set())
+    if isinstance(element, Values):
+        return {name.text for at, name in enumerate(element.names) if all(row[at] for row in element.rows)}
+    return in_scope(element) if isinstance(element, Triples) else set()
 
 
-def named_by(it):
+def named_by(expression):
     """Returns the names of the variables of an expression."""
-    return set().union(*map(named_by, it.args)) if isinstance(it, Call) else {it.text} if it.kind == "var" else set()
+    return set().union(*map(named_by, expression.args)) if isinstance(expression, Call) else {expression.text} if expression.kind == "var" else set()
 
 
 def may_move(condition, kept, other):
@@ -466,7 +466,7 @@ class Laws:
     def values_by_filter(self):
         """A join with different IRIs keeps the solutions whose variable, which each binds, is one of them (17.4.1.9)."""
         name, one = self.first()
-        terms = [self.subject() for _ in range(300)] if self.often(0.5) else [iri(f"s{it}") for it in range(self.rng.randrange(self.count))]
+        terms = [self.subject() for _ in range(300)] if self.often(0.5) else [iri(f"s{number}") for number in range(self.rng.randrange(self.count))]
         terms = list(dict.fromkeys(terms)) or [iri("s0")]
         return group(one, Values((name,), tuple((term,) for term in terms))), group(one, Filter(Call("IN", (name, *terms))))
 

@@ -146,15 +146,15 @@ def unfiltered(group, data, graph):
     return found
 
 
-def alone(it, data, graph):
+def alone(part, data, graph):
     """Returns the solutions of a part that is joined to what stands before."""
-    if isinstance(it, Triples):
-        return run_solutions(it.triples, graph)
-    if isinstance(it, Group):
-        return group_solutions(it, data, graph)
-    if isinstance(it, Union):
-        return [found for inner in it.groups for found in group_solutions(inner, data, graph)]
-    return graph_solutions(it, data) if isinstance(it, Graph) else row_solutions(it)
+    if isinstance(part, Triples):
+        return run_solutions(part.triples, graph)
+    if isinstance(part, Group):
+        return group_solutions(part, data, graph)
+    if isinstance(part, Union):
+        return [found for inner in part.groups for found in group_solutions(inner, data, graph)]
+    return graph_solutions(part, data) if isinstance(part, Graph) else row_solutions(part)
 
 
 def row_solutions(values):
@@ -162,11 +162,11 @@ def row_solutions(values):
     return [{name.text: term for name, term in zip(values.names, row) if term} for row in values.rows]
 
 
-def graph_solutions(it, data):
+def graph_solutions(pattern, data):
     """18.6, Graph: the pattern in the named graph; for a variable the union over the names, each joined with the variable bound to it."""
-    if it.name.kind == "uri":
-        return group_solutions(it.group, data, data.graph(it.name)) if it.name in data.names() else []
-    return [found for name in data.names() for found in join(group_solutions(it.group, data, data.graph(name)), [{it.name.text: name}])]
+    if pattern.name.kind == "uri":
+        return group_solutions(pattern.group, data, data.graph(pattern.name)) if pattern.name in data.names() else []
+    return [found for name in data.names() for found in join(group_solutions(pattern.group, data, data.graph(name)), [{pattern.name.text: name}])]
 
 
 def run_solutions(triples, graph):
@@ -183,9 +183,9 @@ def maps(words, rows):
     """Returns each map of the variables that makes one of the rows of the words."""
     found = []
     for row in rows:
-        it = {}
-        if all((it.setdefault(word.text, term) if word.kind == "var" else word) == term for word, term in zip(words, row)):
-            found.append(it)
+        mapping = {}
+        if all((mapping.setdefault(word.text, term) if word.kind == "var" else word) == term for word, term in zip(words, row)):
+            found.append(mapping)
     return found
 
 
@@ -256,20 +256,20 @@ class ExpressionError(Exception):
     """An expression has no value."""
 
 
-def value(it, solution):
+def value(expression, solution):
     """Returns the value of an expression: a term.
 
     # Errors
 
     ExpressionError where it has none: an unbound variable is such an error (17.2)."""
-    if isinstance(it, Term):
-        term = solution.get(it.text) if it.kind == "var" else it
+    if isinstance(expression, Term):
+        term = solution.get(expression.text) if expression.kind == "var" else expression
         if term is None:
             raise ExpressionError
         return term
-    if it.name in FORMS:
-        return FORMS[it.name](it.args, solution)
-    return FUNCTIONS[it.name](*(value(arg, solution) for arg in it.args))
+    if expression.name in FORMS:
+        return FORMS[expression.name](expression.args, solution)
+    return FUNCTIONS[expression.name](*(value(arg, solution) for arg in expression.args))
 
 
 def effective(term):
@@ -283,10 +283,10 @@ def effective(term):
     raise ExpressionError
 
 
-def truth(it, solution):
+def truth(expression, solution):
     """Returns the effective boolean value of an expression, or None for an error."""
     try:
-        return effective(value(it, solution))
+        return effective(value(expression, solution))
     except ExpressionError:
         return None
 
@@ -486,10 +486,10 @@ class Lists(namedtuple("Lists", "classes offset limit")):
         return [[*itertools.chain(*item)] for item in itertools.product(*chosen)]
 
 
-def rank(it, solution):
+def rank(expression, solution):
     """15.1: the place of an expression's value in an order. Blank nodes by number, if they have one, and literals by kind and value (own)."""
     try:
-        term = value(it, solution)
+        term = value(expression, solution)
     except ExpressionError:
         return (0,)
     if term.kind == "bnode":
@@ -563,7 +563,7 @@ def instances(template, solutions, name=""):
     their own, so that the names are the same each time."""
     found = set()
     for at, solution in enumerate(sorted(solutions, key=lambda entry: sorted(entry.items()))):
-        fresh = {it: Term("bnode", f"{name}n{at}{it[2:]}") for it in labels(template)}
+        fresh = {label: Term("bnode", f"{name}n{at}{label[2:]}") for label in labels(template)}
         for words in template:
             terms = tuple({**solution, **fresh}.get(item.text) if item and item.kind == "var" else item for item in words)
             if is_lawful(terms) and all(term or not word for word, term in zip(words, terms)):
@@ -596,36 +596,36 @@ def updated(operations, data):
     return data.quads
 
 
-def modified(it, data, name):
+def modified(operation, data, name):
     """Update 3.1.1 to 3.1.3: WHERE is evaluated once; all deletions come before all insertions. The graph of WITH is the default graph of WHERE and
     of the templates. DATA forms have the one empty solution."""
-    where = pattern_of(it.delete) if it.form == "DELETE WHERE" else it.where or Group(())
-    solutions = group_solutions(where, data, data.graph(it.graph) if it.graph else data.default())
-    less, more = ([(graph or it.graph, *triple) for graph, *triple in quads or ()] for quads in (it.delete, it.insert))
+    where = pattern_of(operation.delete) if operation.form == "DELETE WHERE" else operation.where or Group(())
+    solutions = group_solutions(where, data, data.graph(operation.graph) if operation.graph else data.default())
+    less, more = ([(graph or operation.graph, *triple) for graph, *triple in quads or ()] for quads in (operation.delete, operation.insert))
     return data.quads - instances(less, solutions) | instances(more, solutions, name)
 
 
-def cleared(it, data, _):
+def cleared(operation, data, _):
     """Update 3.1.5, 3.2.2: CLEAR and DROP, which always succeed here, since a graph that isn't there is an empty one (own)."""
     goes = {"ALL": lambda graph: True, "NAMED": lambda graph: graph, "DEFAULT": lambda graph: not graph}
-    return {quad for quad in data.quads if not goes.get(it.target, lambda graph: graph == it.target)(quad[0])}
+    return {quad for quad in data.quads if not goes.get(operation.target, lambda graph: graph == operation.target)(quad[0])}
 
 
-def created(it, data, _):
+def created(operation, data, _):
     """Update 3.2.1: nothing is stored of an empty graph (own)."""
-    if it.graph in data.names() and not it.silent:
+    if operation.graph in data.names() and not operation.silent:
         raise Refused("F7 graph exists")
     return data.quads
 
 
-def transferred(it, data, _):
+def transferred(operation, data, _):
     """Update 3.2.3 to 3.2.5. ADD leaves the target's quads; COPY and MOVE don't, and MOVE takes the source's away. The default graph is always
     there; a graph onto itself is left as it is."""
-    if it.source and it.source not in data.names():
-        if it.silent:
+    if operation.source and operation.source not in data.names():
+        if operation.silent:
             return data.quads
         raise Refused("F7 no such graph")
-    if it.source == it.target:
+    if operation.source == operation.target:
         return data.quads
-    emptied = {"ADD": (), "COPY": (it.target,), "MOVE": (it.source, it.target)}[it.word]
-    return {quad for quad in data.quads if quad[0] not in emptied} | {(it.target, *triple) for triple in data.graph(it.source)}
+    emptied = {"ADD": (), "COPY": (operation.target,), "MOVE": (operation.source, operation.target)}[operation.word]
+    return {quad for quad in data.quads if quad[0] not in emptied} | {(operation.target, *triple) for triple in data.graph(operation.source)}

@@ -113,7 +113,7 @@ def wide(rng):
     """Returns a query with up to 3 ** 14 solutions over three quads, which takes much time or memory."""
     count = rng.choice((4, 6, 7, 8, 9, 10, 11, 12, 14))
     where = rng.choice(("{ %s }", "{ { %s } }", "{ OPTIONAL { %s } }", "{ %s FILTER(?s0 != ?o1) }", "{ { %s } UNION { ?x ?y ?z } }"))
-    triples = where % " . ".join(f"?s{it} ?p{it} ?o{it}" for it in range(count))
+    triples = where % " . ".join(f"?s{number} ?p{number} ?o{number}" for number in range(count))
     head = rng.choice(("SELECT * ", "SELECT DISTINCT ?s1 ", "ASK ", "CONSTRUCT { ?s0 ?p0 ?o1 } WHERE ", "SELECT (CONCAT(STR(?s0), STR(?o1)) AS ?c) "))
     return (head + triples + rng.choice(("", "", " LIMIT 10", " ORDER BY ?o1", " OFFSET 100000"))).encode()
 
@@ -212,9 +212,9 @@ def lengthen(rng, words, _):
 def flip(rng, text):
     if not text:
         return b"\x00"
-    it, at = bytearray(text), rng.randrange(len(text))
-    it[at] = it[at] ^ 1 << rng.randrange(8) if rng.random() < 0.6 else rng.randrange(256)
-    return bytes(it)
+    copy, at = bytearray(text), rng.randrange(len(text))
+    copy[at] = copy[at] ^ 1 << rng.randrange(8) if rng.random() < 0.6 else rng.randrange(256)
+    return bytes(copy)
 
 
 def insert(rng, text):

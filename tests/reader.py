@@ -43,8 +43,8 @@ CLASSES = {
     "DECIMAL": r"[+-]?[0-9]*\.[0-9]+",
     "DOUBLE": r"[+-]?(?:[0-9]+\.[0-9]*|\.?[0-9]+)[eE][+-]?[0-9]+",
     "STRING": "|".join(
-        [f"{it}{{3}}(?:{it}{{0,2}}(?:[^{it}\\\\]|{ECHAR}|{UCHAR}))*{it}{{3}}" for it in "'\""]
-        + [f"{it}(?:[^{it}\\\\\n\r]|{ECHAR}|{UCHAR})*{it}" for it in "'\""]
+        [f"{quote}{{3}}(?:{quote}{{0,2}}(?:[^{quote}\\\\]|{ECHAR}|{UCHAR}))*{quote}{{3}}" for quote in "'\""]
+        + [f"{quote}(?:[^{quote}\\\\\n\r]|{ECHAR}|{UCHAR})*{quote}" for quote in "'\""]
     ),
     "LANGTAG": "@[A-Za-z]+(?:-[A-Za-z0-9]+)*",
     "WORD": "[A-Za-z][A-Za-z0-9_]*",
@@ -82,10 +82,10 @@ def token_at(text, place):
     """Returns the class and the end of the longest token that begins there, or None."""
     found = None
     for name in STARTS.get(text[place], ("NAME", "NAMESPACE", "WORD")):
-        it = CLASSES[name].match(text, place)
-        if it and (found is None or it.end() > found[1]):
-            if name != "IRIREF" or "\\" not in it[0] or not FORBIDDEN.search(unescaped(it[0][1:-1])):
-                found = name, it.end()
+        match = CLASSES[name].match(text, place)
+        if match and (found is None or match.end() > found[1]):
+            if name != "IRIREF" or "\\" not in match[0] or not FORBIDDEN.search(unescaped(match[0][1:-1])):
+                found = name, match.end()
     return found
 
 
@@ -248,12 +248,12 @@ class Parser:
     def node(self, is_plain, found):
         """Reads a node, whose own triples are put to those found. Returns it, and whether it needs no more properties."""
         if self.has_mark("["):
-            it = self.hidden()
+            blank = self.hidden()
             if self.has_mark("]"):
-                return it, False
-            self.properties(it, is_plain, found)
+                return blank, False
+            self.properties(blank, is_plain, found)
             self.mark("]")
-            return it, True
+            return blank, True
         if self.is_class("VAR"):
             return self.variable(), False
         if self.is_class("BLANK"):

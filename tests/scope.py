@@ -6,25 +6,30 @@ from collections import Counter
 from trees import Bind, Filter, Graph, Group, Modify, Optional, Query, Term, Triples, Union, Values, is_hidden
 
 
-def in_scope(it):
+def in_scope(element):
     """Returns the names of the variables that are in scope of a group or an element (the table of 18.2.1)."""
-    if isinstance(it, Triples):
-        return {word.text for triple in it.triples for word in triple if isinstance(word, Term) and word.kind == "var" and not is_hidden(word.text)}
-    if isinstance(it, Group):
-        return set().union(*map(in_scope, it.elements))
-    if isinstance(it, Optional):
-        return in_scope(it.group)
-    if isinstance(it, Union):
-        return set().union(*map(in_scope, it.groups))
-    if isinstance(it, Graph):
-        return in_scope(it.group) | ({it.name.text} if it.name.kind == "var" else set())
-    if isinstance(it, Bind):
-        return {it.name.text}
-    return {name.text for name in it.names} if isinstance(it, Values) else set()
+    if isinstance(element, Triples):
+        return {
+            word.text
+            for triple in element.triples
+            for word in triple
+            if isinstance(word, Term) and word.kind == "var" and not is_hidden(word.text)
+        }
+    if isinstance(element, Group):
+        return set().union(*map(in_scope, element.elements))
+    if isinstance(element, Optional):
+        return in_scope(element.group)
+    if isinstance(element, Union):
+        return set().union(*map(in_scope, element.groups))
+    if isinstance(element, Graph):
+        return in_scope(element.group) | ({element.name.text} if element.name.kind == "var" else set())
+    if isinstance(element, Bind):
+        return {element.name.text}
+    return {name.text for name in element.names} if isinstance(element, Values) else set()
 
 
-def inner_groups(it):
-    return it.groups if isinstance(it, Union) else (it,) if isinstance(it, Group) else (it.group,) if hasattr(it, "group") else ()
+def inner_groups(part):
+    return part.groups if isinstance(part, Union) else (part,) if isinstance(part, Group) else (part.group,) if hasattr(part, "group") else ()
 
 
 def groups_of(group):

@@ -17,18 +17,18 @@ def changed(items, of):
     return [(*items[:at], less, *items[at + 1 :]) for at, item in enumerate(items) for less in of(item)]
 
 
-def with_each(it, **fields):
+def with_each(tree, **fields):
     """Returns the values that differ in one field, which has one of the values given for it."""
-    return [replace(it, **{name: less}) for name, values in fields.items() for less in values]
+    return [replace(tree, **{name: less}) for name, values in fields.items() for less in values]
 
 
-def smaller_path(it):
-    if isinstance(it, Negated):
-        return with_each(it, forward=without(it.forward), inverse=without(it.inverse))
-    if not isinstance(it, PATHS):
+def smaller_path(path):
+    if isinstance(path, Negated):
+        return with_each(path, forward=without(path.forward), inverse=without(path.inverse))
+    if not isinstance(path, PATHS):
         return []
-    names = [name for name in ("path", "first", "second") if hasattr(it, name)]
-    return [getattr(it, name) for name in names] + with_each(it, **{name: smaller_path(getattr(it, name)) for name in names})
+    names = [name for name in ("path", "first", "second") if hasattr(path, name)]
+    return [getattr(path, name) for name in names] + with_each(path, **{name: smaller_path(getattr(path, name)) for name in names})
 
 
 def smaller_triple(triple):
@@ -36,64 +36,73 @@ def smaller_triple(triple):
     return [(subject, less, object) for less in smaller_path(verb)]
 
 
-def smaller_expression(it):
-    if not isinstance(it, Call):
+def smaller_expression(expression):
+    if not isinstance(expression, Call):
         return []
-    is_list = it.name in ("IN", "NOT IN", "COALESCE", "CONCAT")
-    return [*it.args, *with_each(it, args=[*(without(it.args) if is_list and len(it.args) > 1 else []), *changed(it.args, smaller_expression)])]
+    is_list = expression.name in ("IN", "NOT IN", "COALESCE", "CONCAT")
+    return [
+        *expression.args,
+        *with_each(
+            expression,
+            args=[*(without(expression.args) if is_list and len(expression.args) > 1 else []), *changed(expression.args, smaller_expression)],
+        ),
+    ]
 
 
 def first_smaller(pair):
     return [(less, pair[1]) for less in smaller_expression(pair[0])] if not isinstance(pair, Term) else []
 
 
-def smaller_element(it):
+def smaller_element(element):
     """Returns elements that are smaller than an element of a group."""
-    if isinstance(it, Group):
-        return [*it.elements, *smaller_group(it)]
-    if isinstance(it, Triples):
-        return with_each(it, triples=without(it.triples) + changed(it.triples, smaller_triple))
-    if isinstance(it, Filter):
-        return with_each(it, condition=smaller_expression(it.condition))
-    if isinstance(it, Bind):
-        return with_each(it, value=smaller_expression(it.value))
-    if isinstance(it, Values):
-        return with_each(it, rows=without(it.rows))
-    if isinstance(it, Union):
-        return [*it.groups, *with_each(it, groups=[less for less in without(it.groups) if less] + changed(it.groups, smaller_group))]
-    return [it.group, *with_each(it, group=smaller_group(it.group))] if isinstance(it, (Optional, Minus, Graph)) else []
+    if isinstance(element, Group):
+        return [*element.elements, *smaller_group(element)]
+    if isinstance(element, Triples):
+        return with_each(element, triples=without(element.triples) + changed(element.triples, smaller_triple))
+    if isinstance(element, Filter):
+        return with_each(element, condition=smaller_expression(element.condition))
+    if isinstance(element, Bind):
+        return with_each(element, value=smaller_expression(element.value))
+    if isinstance(element, Values):
+        return with_each(element, rows=without(element.rows))
+    if isinstance(element, Union):
+        return [
+            *element.groups,
+            *with_each(element, groups=[less for less in without(element.groups) if less] + changed(element.groups, smaller_group)),
+        ]
+    return [element.group, *with_each(element, group=smaller_group(element.group))] if isinstance(element, (Optional, Minus, Graph)) else []
 
 
-def smaller_group(it):
-    return with_each(it, elements=without(it.elements) + changed(it.elements, smaller_element))
+def smaller_group(group):
+    return with_each(group, elements=without(group.elements) + changed(group.elements, smaller_element))
 
 
-def smaller_query(it):
-    items = () if it.items is None or it.form == "ASK" else it.items
-    fewer = without(items) + changed(items, first_smaller if it.form == "SELECT" else lambda _: ())
+def smaller_query(query):
+    items = () if query.items is None or query.form == "ASK" else query.items
+    fewer = without(items) + changed(items, first_smaller if query.form == "SELECT" else lambda _: ())
     plain = {"values": None, "limit": None, "offset": 0, "distinct": "", "order": ()}
     return [
-        *with_each(it, **{name: [less] for name, less in plain.items() if getattr(it, name) != less}),
-        *with_each(it, where=smaller_group(it.where), items=[less for less in fewer if less or it.form != "SELECT"]),
-        *with_each(it, order=without(it.order) + changed(it.order, first_smaller)),
-        *([] if it.values is None else with_each(it, values=smaller_element(it.values))),
+        *with_each(query, **{name: [less] for name, less in plain.items() if getattr(query, name) != less}),
+        *with_each(query, where=smaller_group(query.where), items=[less for less in fewer if less or query.form != "SELECT"]),
+        *with_each(query, order=without(query.order) + changed(query.order, first_smaller)),
+        *([] if query.values is None else with_each(query, values=smaller_element(query.values))),
     ]  # fmt: skip
 
 
-def smaller_operation(it):
-    if not isinstance(it, Modify):
+def smaller_operation(operation):
+    if not isinstance(operation, Modify):
         return []
-    templates = {name: without(getattr(it, name)) for name in ("delete", "insert") if getattr(it, name)}
-    return with_each(it, **templates, where=smaller_group(it.where) if it.where else [])
+    templates = {name: without(getattr(operation, name)) for name in ("delete", "insert") if getattr(operation, name)}
+    return with_each(operation, **templates, where=smaller_group(operation.where) if operation.where else [])
 
 
 def smaller_update(operations):
     return [item for item in without(operations) if item] + changed(operations, smaller_operation)
 
 
-def smaller(it):
+def smaller(tree):
     """Returns trees that are smaller than a query or a tuple of operations."""
-    return smaller_query(it) if isinstance(it, Query) else smaller_update(it)
+    return smaller_query(tree) if isinstance(tree, Query) else smaller_update(tree)
 
 
 def smallest(quads, tree, is_wrong, seconds):

@@ -111,7 +111,7 @@ def path_text(path):
     if isinstance(path, Term):
         return term_text(path)
     if isinstance(path, Negated):
-        return f"!({'|'.join([*map(term_text, path.forward), *('^' + term_text(it) for it in path.inverse)])})"
+        return f"!({'|'.join([*map(term_text, path.forward), *('^' + term_text(term) for term in path.inverse)])})"
     if isinstance(path, Inverse):
         return f"(^{path_text(path.path)})"
     if isinstance(path, Closure):
@@ -119,43 +119,43 @@ def path_text(path):
     return f"({path_text(path.first)}{'|' if isinstance(path, Alternative) else '/'}{path_text(path.second)})"
 
 
-def expression_text(it):
+def expression_text(expression):
     """Returns the text of an expression, with each operator in brackets (19.8, rules 110 to 121)."""
-    if isinstance(it, Term):
-        return term_text(it)
-    args = [*map(expression_text, it.args)]
-    if it.name in ("IN", "NOT IN"):
-        return f"({args[0]} {it.name} ({', '.join(args[1:])}))"
-    if it.name[0].isalpha():
-        return f"{it.name}({', '.join(args)})"
-    return f"({it.name} {args[0]})" if len(args) == 1 else f"({args[0]} {it.name} {args[1]})"
+    if isinstance(expression, Term):
+        return term_text(expression)
+    args = [*map(expression_text, expression.args)]
+    if expression.name in ("IN", "NOT IN"):
+        return f"({args[0]} {expression.name} ({', '.join(args[1:])}))"
+    if expression.name[0].isalpha():
+        return f"{expression.name}({', '.join(args)})"
+    return f"({expression.name} {args[0]})" if len(args) == 1 else f"({args[0]} {expression.name} {args[1]})"
 
 
 def triples_text(triples):
     return " ".join(f"{term_text(s)} {path_text(v)} {term_text(o)} ." for s, v, o in triples)
 
 
-def values_text(it):
-    rows = (" ".join(term_text(term) if term else "UNDEF" for term in row) for row in it.rows)
-    return f"VALUES ({' '.join(map(term_text, it.names))}) {{ {' '.join(f'({row})' for row in rows)} }}"
+def values_text(values):
+    rows = (" ".join(term_text(term) if term else "UNDEF" for term in row) for row in values.rows)
+    return f"VALUES ({' '.join(map(term_text, values.names))}) {{ {' '.join(f'({row})' for row in rows)} }}"
 
 
-def element_text(it):
+def element_text(element):
     """Returns the text of a group or an element of one (19.8, rules 53 to 68)."""
-    if isinstance(it, Group):
-        return f"{{ {' '.join(map(element_text, it.elements))} }}"
-    if isinstance(it, Triples):
-        return triples_text(it.triples)
-    if isinstance(it, Filter):
-        return f"FILTER({expression_text(it.condition)})"
-    if isinstance(it, Bind):
-        return f"BIND({expression_text(it.value)} AS {term_text(it.name)})"
-    if isinstance(it, Values):
-        return values_text(it)
-    if isinstance(it, Union):
-        return " UNION ".join(map(element_text, it.groups))
-    word = f"GRAPH {term_text(it.name)}" if isinstance(it, Graph) else type(it).__name__.upper()
-    return f"{word} {element_text(it.group)}"
+    if isinstance(element, Group):
+        return f"{{ {' '.join(map(element_text, element.elements))} }}"
+    if isinstance(element, Triples):
+        return triples_text(element.triples)
+    if isinstance(element, Filter):
+        return f"FILTER({expression_text(element.condition)})"
+    if isinstance(element, Bind):
+        return f"BIND({expression_text(element.value)} AS {term_text(element.name)})"
+    if isinstance(element, Values):
+        return values_text(element)
+    if isinstance(element, Union):
+        return " UNION ".join(map(element_text, element.groups))
+    word = f"GRAPH {term_text(element.name)}" if isinstance(element, Graph) else type(element).__name__.upper()
+    return f"{word} {element_text(element.group)}"
 
 
 def head_text(query):
@@ -165,13 +165,13 @@ def head_text(query):
     if query.form == "CONSTRUCT":
         return f"CONSTRUCT {{ {triples_text(query.items)} }}"
     items = query.items if query.items is not None else ()
-    said = [term_text(it) if isinstance(it, Term) else f"({expression_text(it[0])} AS {term_text(it[1])})" for it in items]
+    said = [term_text(item) if isinstance(item, Term) else f"({expression_text(item[0])} AS {term_text(item[1])})" for item in items]
     return " ".join(["SELECT", *filter(None, [query.distinct]), *(said or "*")])
 
 
 def text_of(query):
     """Returns the text of a query (19.8, rules 1 to 28)."""
-    order = [f"{'DESC' if is_down else 'ASC'}({expression_text(it)})" for it, is_down in query.order]
+    order = [f"{'DESC' if is_down else 'ASC'}({expression_text(expression)})" for expression, is_down in query.order]
     return " ".join([
         "PREFIX : <http://e/>", head_text(query), "WHERE", element_text(query.where), *["ORDER BY"] * bool(order), *order,
         *([f"OFFSET {query.offset}"] if query.offset else []), *([f"LIMIT {query.limit}"] if query.limit is not None else []),
@@ -182,24 +182,24 @@ def text_of(query):
 def quads_text(quads):
     """Returns the text of a template of quads, with a GRAPH for each that has a graph (19.8; Update 4.1)."""
     blocks = [(graph, triples_text([triple])) for graph, *triple in quads]
-    return f"{{ {' '.join(f'GRAPH {term_text(graph)} {{ {it} }}' if graph else it for graph, it in blocks)} }}"
+    return f"{{ {' '.join(f'GRAPH {term_text(graph)} {{ {block} }}' if graph else block for graph, block in blocks)} }}"
 
 
-def operation_text(it):
+def operation_text(operation):
     """Returns the text of an operation (19.8, rules 30 to 45)."""
-    silent, end = ["SILENT"] * getattr(it, "silent", False), lambda graph: f"GRAPH {term_text(graph)}" if graph else "DEFAULT"
-    if isinstance(it, Clear):
-        words = [it.word, *silent, it.target if isinstance(it.target, str) else end(it.target)]
-    elif isinstance(it, Create):
-        words = ["CREATE", *silent, end(it.graph)]
-    elif isinstance(it, Transfer):
-        words = [it.word, *silent, end(it.source), "TO", end(it.target)]
-    elif it.form != "MODIFY":
-        words = [it.form, quads_text(it.insert if it.form == "INSERT DATA" else it.delete)]
+    silent, end = ["SILENT"] * getattr(operation, "silent", False), lambda graph: f"GRAPH {term_text(graph)}" if graph else "DEFAULT"
+    if isinstance(operation, Clear):
+        words = [operation.word, *silent, operation.target if isinstance(operation.target, str) else end(operation.target)]
+    elif isinstance(operation, Create):
+        words = ["CREATE", *silent, end(operation.graph)]
+    elif isinstance(operation, Transfer):
+        words = [operation.word, *silent, end(operation.source), "TO", end(operation.target)]
+    elif operation.form != "MODIFY":
+        words = [operation.form, quads_text(operation.insert if operation.form == "INSERT DATA" else operation.delete)]
     else:
-        named = (("DELETE", it.delete), ("INSERT", it.insert))
+        named = (("DELETE", operation.delete), ("INSERT", operation.insert))
         templates = [f"{word} {quads_text(quads)}" for word, quads in named if quads is not None]
-        words = [*([f"WITH {term_text(it.graph)}"] if it.graph else []), *templates, "WHERE", element_text(it.where)]
+        words = [*([f"WITH {term_text(operation.graph)}"] if operation.graph else []), *templates, "WHERE", element_text(operation.where)]
     return " ".join(words)
 
 

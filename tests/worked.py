@@ -13,11 +13,11 @@ from trees import Alternative, Bind, Call, Clear, Closure, Create, Filter, Graph
 from trees import Optional, Sequence, Term, Transfer, Triples, Union, Values, iri, lines_of, query, var
 
 
-def word(it):
+def word(text):
     """Returns the term of a word in short."""
-    if it[0] in "?_":
-        return var(it[1:] if it[0] == "?" else it)
-    return term(it)
+    if text[0] in "?_":
+        return var(text[1:] if text[0] == "?" else text)
+    return term(text)
 
 
 def words(text):
@@ -40,8 +40,8 @@ def block(text):
     return tuple((None, *triple) for triple in t(text).triples)
 
 
-def path(subject, it, object):
-    return Triples(((word(subject), it, word(object)),))
+def path(subject, verb, object):
+    return Triples(((word(subject), verb, word(object)),))
 
 
 def g(*elements):

@@ -55,17 +55,17 @@ def ask_again(port, requests, lengths, clients, begin, seconds, most):
             del open_ones[handle]
             count, at = count + 1, at + 1
             start(at)
-    for it, _, _ in open_ones.values():
-        it.close()
+    for client, _, _ in open_ones.values():
+        client.close()
     poll.close()
     return count
 
 
-def take(it):
+def take(client):
     """Reads what is there. Returns how many bytes that are: positive if more may come, else the number is negated."""
     size = 0
     try:
-        while piece := it.recv(1 << 16, socket.MSG_DONTWAIT if size else 0):
+        while piece := client.recv(1 << 16, socket.MSG_DONTWAIT if size else 0):
             size += len(piece)
     except BlockingIOError:
         return size
@@ -78,8 +78,8 @@ def rate(port, requests, lengths, clients, seconds, most=200_000):
     shares = [clients // parts + (at < clients % parts) for at in range(parts)]
     with ProcessPoolExecutor(parts, multiprocessing.get_context("fork")) as pool:
         begin = time.time() + 0.3
-        work = [pool.submit(ask_again, port, requests, lengths, it, begin, seconds, most // parts) for it in shares]
-        return sum(it.result() for it in work) / seconds
+        work = [pool.submit(ask_again, port, requests, lengths, share, begin, seconds, most // parts) for share in shares]
+        return sum(job.result() for job in work) / seconds
 
 
 # ---- clients that hold connections
@@ -121,8 +121,8 @@ def read_nothing(pipe, port, clients, request):
     held = [connect(port, TIMEOUT, 4096) for _ in range(clients)]
     for client in held:
         client.sendall(request)
-    for it in held:
-        it.recv(1, socket.MSG_PEEK)
+    for client in held:
+        client.recv(1, socket.MSG_PEEK)
     pipe.send(None)
     pipe.poll(100)
 
@@ -141,11 +141,11 @@ def after_silence(port, request, length, silent):
     held = []
     try:
         for _ in range(silent):
-            it = socket.socket()
-            it.setblocking(False)
+            client = socket.socket()
+            client.setblocking(False)
             # (where the queue is full the connection isn't made at once)
-            it.connect_ex(("127.0.0.1", port))
-            held.append(it)
+            client.connect_ex(("127.0.0.1", port))
+            held.append(client)
         begin = time.perf_counter()
         found = exchange(port, request, TIMEOUT, 1 << 20)
         assert len(found) == length, found[:200]

@@ -117,7 +117,7 @@ class Shop:
         types = [lowest]
         while self.types[types[-1]] is not None:
             types.append(self.types[types[-1]])
-        features = [it for each in types for it in self.features_of_type[each] if draw.below(8) == 0]
+        features = [number for each in types for number in self.features_of_type[each] if draw.below(8) == 0]
         return types, features or [self.features_of_type[lowest][0]]
 
     # ---- names
@@ -141,58 +141,62 @@ class Shop:
         for part in (self.type_quads, self.feature_quads, self.firm_quads, self.product_quads, self.offer_quads, self.person_quads, self.review_quads):
             yield from part(Writer(Draw(f"{part.__name__} {self.seed}"), self.words))
 
-    def type_quads(self, it):
+    def type_quads(self, writer):
         for at, above in enumerate(self.types):
             links = [(RDFS + "subClassOf", product_type(above))] if above is not None else []
-            yield it.named(product_type(at), SHOP + "ProductType", INSTITUTION, [*links, *it.label_and_comment(20, 50)])
+            yield writer.named(product_type(at), SHOP + "ProductType", INSTITUTION, [*links, *writer.label_and_comment(20, 50)])
 
-    def feature_quads(self, it):
+    def feature_quads(self, writer):
         for at in range(self.features):
-            yield it.named(feature(at), SHOP + "ProductFeature", INSTITUTION, it.label_and_comment(20, 50))
+            yield writer.named(feature(at), SHOP + "ProductFeature", INSTITUTION, writer.label_and_comment(20, 50))
 
-    def firm_quads(self, it):
+    def firm_quads(self, writer):
         for kind, last in (("Producer", self.producer[-1]), ("Vendor", self.vendor[-1])):
             for at in range(last + 1):
                 name, page = firm(kind, at), f"http://www.{kind.lower()}{at}.example/"
-                links = [(FOAF + "homepage", page), (SHOP + "country", country(it.draw.country()[0]))]
-                yield it.named(name, SHOP + kind, name, [*it.label_and_comment(20, 50), *links])
+                links = [(FOAF + "homepage", page), (SHOP + "country", country(writer.draw.country()[0]))]
+                yield writer.named(name, SHOP + kind, name, [*writer.label_and_comment(20, 50), *links])
 
-    def product_quads(self, it):
+    def product_quads(self, writer):
         for at, (types, features) in enumerate(self.products):
             maker = firm("Producer", self.producer[at])
-            links = [*it.label_and_comment(50, 150), (SHOP + "producer", maker)]
+            links = [*writer.label_and_comment(50, 150), (SHOP + "producer", maker)]
             links += [(RDF + "type", product_type(each)) for each in types]
             links += [(SHOP + "productFeature", feature(each)) for each in features]
             for number in range(1, 7):
                 # (of the last three each is missing for some products)
-                if number <= 3 or it.draw.below(10) < 6:
-                    links.append((f"{SHOP}productPropertyTextual{number}", it.text(3, 15)))
-                if number <= 3 or it.draw.below(10) < 6:
-                    links.append((f"{SHOP}productPropertyNumeric{number}", it.draw.between(1, 1000) + it.draw.between(0, 1000)))
-            yield it.named(self.product(at), SHOP + "Product", maker, links)
+                if number <= 3 or writer.draw.below(10) < 6:
+                    links.append((f"{SHOP}productPropertyTextual{number}", writer.text(3, 15)))
+                if number <= 3 or writer.draw.below(10) < 6:
+                    links.append((f"{SHOP}productPropertyNumeric{number}", writer.draw.between(1, 1000) + writer.draw.between(0, 1000)))
+            yield writer.named(self.product(at), SHOP + "Product", maker, links)
 
-    def offer_quads(self, it):
+    def offer_quads(self, writer):
         for at, product in enumerate(self.offered):
-            vendor, begin = firm("Vendor", self.vendor[at]), it.draw.day()
-            links = [(SHOP + "product", self.product(product)), (SHOP + "vendor", vendor), (SHOP + "price", it.draw.between(500, 1_000_000))]
-            links += [(SHOP + "validFrom", begin), (SHOP + "validTo", max(begin, it.draw.day())), (SHOP + "deliveryDays", it.draw.between(1, 14))]
+            vendor, begin = firm("Vendor", self.vendor[at]), writer.draw.day()
+            links = [(SHOP + "product", self.product(product)), (SHOP + "vendor", vendor), (SHOP + "price", writer.draw.between(500, 1_000_000))]
+            links += [(SHOP + "validFrom", begin), (SHOP + "validTo", max(begin, writer.draw.day())), (SHOP + "deliveryDays", writer.draw.between(1, 14))]
             links.append((SHOP + "offerWebpage", f"http://www.vendor{self.vendor[at]}.example/offers/Offer{at}/"))
-            yield it.named(self.offer(at), SHOP + "Offer", vendor, links)
+            yield writer.named(self.offer(at), SHOP + "Offer", vendor, links)
 
-    def person_quads(self, it):
+    def person_quads(self, writer):
         for at, (site, land, _) in enumerate(self.persons):
-            name = it.text(2, 2)
+            name = writer.text(2, 2)
             mail = Text(hashlib.sha1(name.form.encode()).hexdigest(), "")
             links = [(FOAF + "name", name), (FOAF + "mbox_sha1sum", mail), (SHOP + "country", country(land))]
-            yield it.named(self.person(at), FOAF + "Person", site_name(site), links)
+            yield writer.named(self.person(at), FOAF + "Person", site_name(site), links)
 
-    def review_quads(self, it):
+    def review_quads(self, writer):
         for at, product in enumerate(self.reviewed):
             language = self.persons[self.reviewer[at]][2]
-            links = [(SHOP + "reviewFor", self.product(product)), (REV + "reviewer", self.person(self.reviewer[at])), (SHOP + "reviewDate", it.draw.day())]
-            links += [(DC + "title", it.text(4, 15, language)), (REV + "text", it.text(50, 300, language))]
-            links += [(f"{SHOP}rating{number}", it.draw.between(1, 10)) for number in range(1, 5) if it.draw.below(10) < 7]
-            yield it.named(self.review(at), SHOP + "Review", site_name(self.site[at]), links)
+            links = [
+                (SHOP + "reviewFor", self.product(product)),
+                (REV + "reviewer", self.person(self.reviewer[at])),
+                (SHOP + "reviewDate", writer.draw.day()),
+            ]
+            links += [(DC + "title", writer.text(4, 15, language)), (REV + "text", writer.text(50, 300, language))]
+            links += [(f"{SHOP}rating{number}", writer.draw.between(1, 10)) for number in range(1, 5) if writer.draw.below(10) < 7]
+            yield writer.named(self.review(at), SHOP + "Review", site_name(self.site[at]), links)
 
 
 def shares(draw, count, mean):
@@ -249,7 +253,7 @@ class Writer:
     def named(self, subject, kind, publisher, links):
         """Returns the statements of a subject: its kind, its links, who published it, and when."""
         every = [(RDF + "type", kind), *links, (DC + "publisher", publisher), (DC + "date", self.draw.day())]
-        return "".join(f"<{subject}> <{predicate}> {written(it)} .\n" for predicate, it in every)
+        return "".join(f"<{subject}> <{predicate}> {written(object)} .\n" for predicate, object in every)
 
 
 def written(term):

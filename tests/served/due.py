@@ -48,7 +48,7 @@ def carried(operations, quads, name=""):
 
     Refused where an operation can't be carried out; its words are the fault's line."""
     after = updated(operations, dataset_of(quads))
-    fresh = {it: Term("bnode", f"{name}.{it.text}") for it in blanks(after) - blanks(quads)}
+    fresh = {blank: Term("bnode", f"{name}.{blank.text}") for blank in blanks(after) - blanks(quads)}
     return frozenset(tuple(fresh.get(item, item) for item in quad) for quad in after) if fresh else frozenset(after)
 
 
@@ -220,5 +220,5 @@ class Meaning:
         self.writes, self.has_fronts = writes, has_fronts
 
 
-def shown(it, most=2000):
-    return repr(bytes(it)) if len(it) <= most else f"{bytes(it[:most])!r} and {len(it) - most} bytes more"
+def shown(data, most=2000):
+    return repr(bytes(data)) if len(data) <= most else f"{bytes(data[:most])!r} and {len(data) - most} bytes more"

@@ -59,19 +59,19 @@ def update_meaning(tree, name):
 # ---- queries that tell whether a form is evaluated as it should be
 
 
-def changed(it, change):
+def changed(tree, change):
     """Returns a tree with each of its nodes as the call has it; one that is None is left out of its tuple. What stays as it is isn't copied."""
-    if isinstance(it, Term):
-        return it
-    if isinstance(it, tuple):
-        new = [changed(part, change) for part in it]
-        is_same = all(map(is_, new, it))
-        return it if is_same else tuple(new for new, old in zip(new, it) if new is not None or old is None)
-    if not is_dataclass(it):
-        return it
-    old = vars(it)
+    if isinstance(tree, Term):
+        return tree
+    if isinstance(tree, tuple):
+        new = [changed(part, change) for part in tree]
+        is_same = all(map(is_, new, tree))
+        return tree if is_same else tuple(new for new, old in zip(new, tree) if new is not None or old is None)
+    if not is_dataclass(tree):
+        return tree
+    old = vars(tree)
     new = {name: changed(part, change) for name, part in old.items()}
-    return change(it if all(map(is_, new.values(), old.values())) else type(it)(**new))
+    return change(tree if all(map(is_, new.values(), old.values())) else type(tree)(**new))
 
 
 def left_out(kind):
@@ -194,9 +194,13 @@ class Forms:
         self.quads = frozenset(quads)
         labelled = lambda value: var("_:" + value.text) if value and value.kind == "bnode" else value
         tree = Clear("CLEAR", "ALL", False), Modify("INSERT DATA", None, None, tuple(tuple(map(labelled, quad)) for quad in quads), None)
-        it = Connection("an update of all quads", Request(self.rng, "update", update_text(tree)).written(), update_meaning(tree, f"u{self.number}"))
-        it.is_renewal = True
-        return it
+        connection = Connection(
+            "an update of all quads",
+            Request(self.rng, "update", update_text(tree)).written(),
+            update_meaning(tree, f"u{self.number}"),
+        )
+        connection.is_renewal = True
+        return connection
 
 
 # ---- large replies

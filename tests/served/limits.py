@@ -189,17 +189,17 @@ class Tried:
             self.told.append(f"{self.name}: {what}: {wrong}")
 
 
-def try_round(it, made, program, room, seconds_left):
+def try_round(tally, made, program, room, seconds_left):
     """Tries a round: each of its connections and the program's end."""
     words, quads, checks, dropped = made()
-    it.tried += len(checks)
+    tally.tried += len(checks)
     put_data(room, quads)
     how = {"preexec_fn": lambda: resource.setrlimit(resource.RLIMIT_NOFILE, (16, 16))} if made is descriptors_round else {}
     with serving(program, room, ["--requests", len(checks), *words], seconds_left(EACH), **how) as server:
         talk([client for client, _, _ in checks], server.port, seconds_left(EACH))
         for client, look, what in checks:
-            it.check(lambda: look(client), what)
-        it.check(lambda: server.check_end(seconds_left(EACH), dropped), "the program's end")
+            tally.check(lambda: look(client), what)
+        tally.check(lambda: server.check_end(seconds_left(EACH), dropped), "the program's end")
 
 
 def put_data(room, quads):
@@ -208,27 +208,27 @@ def put_data(room, quads):
         file.write(lines_of(quads))
 
 
-def try_endless(it, program, room, seconds_left):
+def try_endless(tally, program, room, seconds_left):
     """Without a count the program serves until a signal ends it, which it doesn't catch."""
     put_data(room, SMALL)
     crowd, clients = [silent() for _ in range(4)], [sound(delay=0.1 + at / 20) for at in range(20)]
-    it.tried += len(clients)
+    tally.tried += len(clients)
     with serving(program, room, ["--at-once", 4], seconds_left(EACH)) as server:
         talk(crowd + clients, server.port, seconds_left(EACH))
         for client in clients:
-            it.check(lambda: check_answered(client), "a sound one")
+            tally.check(lambda: check_answered(client), "a sound one")
         server.program.send_signal(signal.SIGTERM)
-        it.check(lambda: server.check_end(seconds_left(EACH), len(crowd), -signal.SIGTERM), "the program's end")
+        tally.check(lambda: server.check_end(seconds_left(EACH), len(crowd), -signal.SIGTERM), "the program's end")
 
 
-def try_taken(it, program, room, seconds_left):
+def try_taken(tally, program, room, seconds_left):
     """A port that another program has can't be listened on."""
     put_data(room, SMALL)
     with Taken() as port:
         words = command(program, port, f"{room}/data.nq", ["--requests", 1])
         ran = subprocess.run(words, stdin=subprocess.DEVNULL, capture_output=True, timeout=seconds_left(EACH))
     found = ran.returncode, ran.stdout.decode(errors="replace")
-    it.check(lambda: check(found == (1, refusal_line(port)), f"it ends so: {found}"), "the program's end")
+    tally.check(lambda: check(found == (1, refusal_line(port)), f"it ends so: {found}"), "the program's end")
 
 
 class Taken:
@@ -244,13 +244,13 @@ class Taken:
         self.socket.close()
 
 
-def attempt(pipe, it, call, room):
+def attempt(pipe, tally, call, room):
     """Tries a round in a process of its own, and sends how it went."""
     try:
-        call(it, room)
+        call(tally, room)
     except (ServerError, subprocess.TimeoutExpired) as wrong:
-        it.told.append(f"{it.name}: {wrong}")
-    pipe.send((it.tried, it.passed, it.told))
+        tally.told.append(f"{tally.name}: {wrong}")
+    pipe.send((tally.tried, tally.passed, tally.told))
 
 
 def try_all(program, room, seconds_left, only=""):

@@ -19,12 +19,12 @@ def escaped(rng, text):
     """Returns a form's value that stands for these bytes."""
     often = rng.choice((0, 0.3, 1))
     return "".join(
-        chr(it)
-        if chr(it).isascii() and (chr(it).isalnum() or chr(it) in "*-._") and rng.random() >= often
+        chr(byte)
+        if chr(byte).isascii() and (chr(byte).isalnum() or chr(byte) in "*-._") and rng.random() >= often
         else "+"
-        if it == 32 and rng.random() < 0.5
-        else f"%{it:{rng.choice(('02X', '02x'))}}"
-        for it in text
+        if byte == 32 and rng.random() < 0.5
+        else f"%{byte:{rng.choice(('02X', '02x'))}}"
+        for byte in text
     )
 
 
@@ -97,10 +97,10 @@ def answered(rng, sound):
     if rng.random() < 0.1:
         request.version = "HTTP/1.0"
     more, whole = rng.choice((b"", b"", b"", b"\r\n", b"GET /data HTTP/1.1\r\n", random_bytes(rng, 300))), request.written()
-    it = Connection(kind, whole + more, meaning, rng.choice(("stay", "stay", "half")), len(whole))
+    connection = Connection(kind, whole + more, meaning, rng.choice(("stay", "stay", "half")), len(whole))
     if rng.random() < 0.1:
-        it.read, it.receive = Read(step=rng.choice((1, 7, 500)), rate=rng.choice((None, 20_000))), rng.choice((None, 4096))
-    return it
+        connection.read, connection.receive = Read(step=rng.choice((1, 7, 500)), rate=rng.choice((None, 20_000))), rng.choice((None, 4096))
+    return connection
 
 
 def small(rng, is_update):
@@ -125,9 +125,9 @@ def left(rng, sound):
 def left_within(rng, sound):
     """A sound request whose client leaves within the reply, or when the reply was there for a while."""
     kind, request, meaning = sound(rng)
-    it = Connection(f"{kind} whose client leaves", request.written(), meaning, "front" if meaning.has_fronts and rng.random() < 0.6 else "deaf")
-    it.most, it.leaves = rng.choice((1, 12, 40, 60)), rng.choice(("close", "reset"))
-    return it if it.how == "front" else it.hold(len(it.sent), ("wait", rng.choice((0.01, 0.1))))
+    connection = Connection(f"{kind} whose client leaves", request.written(), meaning, "front" if meaning.has_fronts and rng.random() < 0.6 else "deaf")
+    connection.most, connection.leaves = rng.choice((1, 12, 40, 60)), rng.choice(("close", "reset"))
+    return connection if connection.how == "front" else connection.hold(len(connection.sent), ("wait", rng.choice((0.01, 0.1))))
 
 
 def silent(rng, sound):
@@ -135,9 +135,9 @@ def silent(rng, sound):
     pause = ("wait", rng.choice((0.01, 0.04, 0.1, 0.2)))
     if rng.random() < 0.5:
         return answered(rng, sound).hold(0, pause)
-    it = Connection("silence", b"", Meaning(NOTHING), "silent").hold(0, pause)
-    it.leaves = rng.choice(("close", "reset"))
-    return it
+    connection = Connection("silence", b"", Meaning(NOTHING), "silent").hold(0, pause)
+    connection.leaves = rng.choice(("close", "reset"))
+    return connection
 
 
 def unfinished(rng, sound):
@@ -269,7 +269,7 @@ def refused_request(rng, sound):
         return fixed(415)
 
     def many_fields():
-        request.fields += [f"X-{it}: {it}" for it in range(64)]
+        request.fields += [f"X-{number}: {number}" for number in range(64)]
         return fixed(400)
 
     def long_head():

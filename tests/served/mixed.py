@@ -291,21 +291,21 @@ class Owner:
         if choice < 0.69:
             return self.refused_update()
         if choice < 0.72:
-            it = self.update()[0] if self.rng.random() < 0.5 else self.own_query()
-            return it.leave(self.rng)
-        it, after = self.update()
+            exchange = self.update()[0] if self.rng.random() < 0.5 else self.own_query()
+            return exchange.leave(self.rng)
+        update, after = self.update()
         self.states = [after]
         if self.rng.random() < 0.1:
-            it.pauses = {self.rng.randrange(len(it.sent)): self.rng.choice((0.001, 0.3))}
-        it.how = "half" if self.rng.random() < 0.1 else "stay"
-        return it
+            update.pauses = {self.rng.randrange(len(update.sent)): self.rng.choice((0.001, 0.3))}
+        update.how = "half" if self.rng.random() < 0.1 else "stay"
+        return update
 
     def parting(self):
         """Returns an update whose reply the client doesn't read: it may be carried out or not."""
-        it, after = self.update()
-        it.how = self.rng.choice(("close", "reset"))
+        update, after = self.update()
+        update.how = self.rng.choice(("close", "reset"))
         self.states = [self.stored, after]
-        return it
+        return update
 
     def settle(self, lines):
         """Takes what is stored from the lines of the dataset.
@@ -360,7 +360,7 @@ class Owner:
     def data(self):
         word = self.rng.choice(("INSERT", "DELETE"))
         quads = {own_quad(self.rng, self.number) for _ in range(self.rng.choice((1, 5, 60)))}
-        blocks = [(f"GRAPH <{it[0].text}> {{ %s }}" if it[0] else "%s . ") % " ".join(f"<{term.text}>" for term in it[1:]) for it in quads]
+        blocks = [(f"GRAPH <{quad[0].text}> {{ %s }}" if quad[0] else "%s . ") % " ".join(f"<{term.text}>" for term in quad[1:]) for quad in quads]
         return f"{word} DATA {{ {' '.join(blocks)} }}", self.stored | quads if word == "INSERT" else self.stored - quads
 
     def modify(self):

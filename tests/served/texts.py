@@ -29,7 +29,7 @@ class Spelling:
         if len(quote) == 1 or self.rng.random() < 0.5:
             text = text.replace("\n", "\\n").replace("\r", "\\r")
         if self.rng.random() < 0.3:
-            text = "".join(it if it < "\x7f" else f"\\U{ord(it):08X}" for it in text.replace("\t", "\\t"))
+            text = "".join(char if char < "\x7f" else f"\\U{ord(char):08X}" for char in text.replace("\t", "\\t"))
         return quote + text + quote
 
     def term(self, term):

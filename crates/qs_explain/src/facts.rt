@@ -11,9 +11,8 @@ use qs_store::{Active, DefaultGraph, View};
 use qs_terms::Text;
 use std::alloc::AllocError;
 
-/// How many triples are counted at most for a pattern. The planner counts fewer, as it stops where the order is settled: so triples may be in
-/// another order than the printed counts would give.
-const MOST: u64 = 4096;
+/// A count above this one is printed as an estimate.
+const EXACT: u64 = 4096;
 
 // ---- the order
 
@@ -176,18 +175,16 @@ fn put_bindings(
 
 // ---- the count
 
-/// How many triples agree with the terms of the pattern.
+/// About how many triples agree with the terms of the pattern, as the planner counts them.
 fn put_count<V: View>(
     counts: &ViewCounts<'_, V>,
     look: &Look,
     pattern: &TriplePattern,
     text: &mut String,
 ) -> Result<(), AllocError> {
-    let count = counts.about(look, pattern, MOST);
-    write!(text, ", count: {count}")?;
-    if count >= MOST {
-        return text.push_str(" or more");
-    }
+    let count = counts.about(look, pattern);
+    let about = if count > EXACT { "about " } else { "" };
+    write!(text, ", count: {about}{count}")?;
     Ok(())
 }
 

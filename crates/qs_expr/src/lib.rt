@@ -24,5 +24,7 @@ mod scratch;
 pub use cell::{Cell, is_same};
 pub use condition::Condition;
 pub use evaluate::{ebv, eval, holds, order_key};
+pub use qs_expr_meaning::{Expr, ExprFault};
+pub use qs_expr_values::Key;
 pub use row::Row;
 pub use scratch::{Scratch, intern, intern_owned, term};

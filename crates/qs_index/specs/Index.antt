@@ -1,4 +1,4 @@
-use Rattle.std.specs.Prelude.{ℕ, List}
+use Rattle.std.specs.Prelude.{ℕ, List, min}
 use Rattle.std.specs.List.{Contains}
 use Rattle.qs_index.specs.Entry.{IsEntry}
 use Rattle.qs_index.specs.OrderOf.{IsOrderOf}
@@ -10,6 +10,10 @@ pub record IndexState : Type 0 where
   pub entries : List (List ℕ)
   pub spare : ℕ
   pub named_spare : ℕ
+
+-- how many inserts need no memory, whatever graphs their entries are of
+abbrev pub spare_of : IndexState → ℕ
+spare_of s = min s.spare s.named_spare
 
 -- orders of one set of entries: three of all, and those of the named graphs
 pub record IsOneSet (gspo gpos gosp : List (List ℕ)) (named : NamedOrders) : Type 0 where

@@ -12,7 +12,7 @@ ghost use Rattle.qs_index.specs.Agreeing.{agreeing, agreeing_named};
 ghost use Rattle.qs_index.specs.Entries.{IsUnion, IsDifference};
 ghost use Rattle.qs_index.specs.Entry.{IsEntry, IsAscending, with_entry, without_entry};
 ghost use Rattle.qs_index.specs.Graph.{graph_of, is_named, named_entries, IsNextGraph};
-ghost use Rattle.qs_index.specs.Index.{IndexState, IsOneSet};
+ghost use Rattle.qs_index.specs.Index.{IndexState, IsOneSet, spare_of};
 ghost use Rattle.qs_index.specs.Named.{held_by};
 ghost use Rattle.qs_index.specs.OrderOf.{IsOrderOf};
 ghost use Rattle.qs_index.specs.Permutation.{order_used, named_order_used, turned};
@@ -67,8 +67,10 @@ impl Index {
         ensures entries { self.new.entries ≡ self.old.entries }
         ensures kept { self.old.spare ≤ self.new.spare }
         ensures named_kept { self.old.named_spare ≤ self.new.named_spare }
+        ensures spare_kept { spare_of self.old ≤ spare_of self.new }
         ensures ok { OnOk result (n ≤ self.new.spare) }
         ensures named_ok { OnOk result (n ≤ self.new.named_spare) }
+        ensures spare_ok { OnOk result (n ≤ spare_of self.new) }
     {
         self.reserve_for(n, n)
     }
@@ -90,16 +92,16 @@ impl Index {
         self.named.reserve(named)
     }
 
-    /// Puts an entry in, and tells whether it is new. It takes no memory, and asks that there is room.
+    /// Puts an entry in, and tells whether it is new. It takes no memory, and asks that there is room for an entry of any graph.
     pub fn insert(&mut self, entry: [u32; 4]) -> bool
-        requires room { 0 < self.old.spare }
-        requires named_room { is_named entry ≡ true → 0 < self.old.named_spare }
+        requires { 0 < spare_of self.old }
         ensures new { IsTrue result ↔ (¬ Contains self.old.entries entry) }
         ensures stood { OnFalse result (Contains self.old.entries entry) }
         ensures added { OnTrue result (self.new.entries ≡ with_entry entry self.old.entries) }
         ensures members { OnTrue result (IsPermutation (entry ∷ self.old.entries) self.new.entries) }
         ensures kept { OnFalse result (self.new.entries ≡ self.old.entries) }
         ensures ascending { IsAscending self.new.entries }
+        ensures room { spare_of self.old ≤ spare_of self.new + 1 }
         ensures spare { self.old.spare ≤ self.new.spare + 1 }
         ensures named_spare { self.old.named_spare ≤ self.new.named_spare + 1 }
     {
@@ -293,6 +295,32 @@ impl Index {
             order.scan(from, lookup.prefix, lookup.given),
             lookup.permutation,
         )
+    }
+
+    /// About how many entries `scan` gives, by two searches. Nothing is promised of the number: it serves as an estimate. It takes no memory.
+    pub fn about(
+        &self,
+        graph: u32,
+        subject: Option<u32>,
+        predicate: Option<u32>,
+        object: Option<u32>,
+    ) -> u64 {
+        let lookup = Lookup::new(graph, subject, predicate, object);
+        let order = self.order(lookup.permutation);
+        order.about(lookup.prefix, lookup.given)
+    }
+
+    /// About how many entries `scan_named` gives, by two searches. Nothing is promised of the number: it serves as an estimate. It takes no
+    /// memory.
+    pub fn about_named(
+        &self,
+        subject: Option<u32>,
+        predicate: Option<u32>,
+        object: Option<u32>,
+    ) -> u64 {
+        let lookup = Lookup::of_named(subject, predicate, object);
+        let order = self.order(lookup.permutation);
+        order.about(lookup.prefix, lookup.given)
     }
 
     /// The least graph number above `after` that an entry has. It takes no memory.

@@ -11,7 +11,7 @@ use crate::fill::fill;
 use crate::order_scan::OrderScan;
 use crate::pages::{HALF, PAGE, PagePosition, Pages, Reader};
 use crate::prefix::Prefix;
-use crate::search::{Found, NOWHERE, find, locate, locate_from};
+use crate::search::{NOWHERE, find, locate, locate_from};
 use std::alloc::{AllocError, Global};
 use std::marker::Model;
 
@@ -58,6 +58,21 @@ fn make_room(pages: &mut Pages, place: PagePosition) -> PagePosition
 struct Edited {
     is_done: bool,
     place: PagePosition,
+}
+
+// So many pages are counted one by one.
+const COUNTED: usize = 64;
+
+// The numbers that follow the first `given` ones in the order of entries: the last of them is greater by one. None follow the greatest.
+fn following(numbers: [u32; 4], given: usize) -> Option<[u32; 4]> {
+    let [a, b, c, d] = numbers;
+    match given {
+        1 => Some([a.checked_add(1)?, b, c, d]),
+        2 => Some([a, b.checked_add(1)?, c, d]),
+        3 => Some([a, b, c.checked_add(1)?, d]),
+        4 => Some([a, b, c, d.checked_add(1)?]),
+        _ => None,
+    }
 }
 
 /// The entries of one order, and how many inserts need no memory.
@@ -281,11 +296,66 @@ impl Order {
         Some(found.entry)
     }
 
-    // The first entry that isn't before `prefix`, and where it stands.
-    fn first(&self, prefix: &Prefix) -> Option<Found> {
-        let _count = self.pages.len();
+    // The place of the first entry that doesn't stand before all entries that begin with `prefix`, or a place after all pages.
+    fn place_from(&self, prefix: &Prefix) -> PagePosition {
+        let count = self.pages.len();
         let mut reader = Reader::new(&self.pages);
-        find(&mut reader, prefix)
+        match find(&mut reader, prefix) {
+            Some(found) => found.place,
+            None => PagePosition { page: count, at: 0 },
+        }
+    }
+
+    // How many entries a page has, and none where there is no such page.
+    fn page_len(&self, page: usize) -> usize {
+        if page < self.pages.len() {
+            self.pages.page_len(page)
+        } else {
+            0
+        }
+    }
+
+    // How many entries a page has in the mean.
+    fn mean(&self) -> u64 {
+        let pages = self.pages.len().max(1);
+        u64::try_from(self.count / pages as u128).unwrap_or(PAGE as u64)
+    }
+
+    // How many entries the pages have from one up to another; about so many, by the mean, where they are more than `COUNTED` pages.
+    fn between(&self, from: usize, to: usize) -> u64 {
+        let count = to.saturating_sub(from);
+        if count > COUNTED {
+            return self.mean().saturating_mul(count as u64);
+        }
+        let mut sum: u64 = 0;
+        for page in from..to {
+            sum = sum.saturating_add(self.page_len(page) as u64);
+        }
+        sum
+    }
+
+    // About how many entries stand from one place up to a later one.
+    fn distance(&self, from: PagePosition, to: PagePosition) -> u64 {
+        let pages = self.between(from.page, to.page);
+        pages
+            .saturating_add(to.at as u64)
+            .saturating_sub(from.at as u64)
+    }
+
+    /// About how many entries begin with the first `given` numbers of `prefix`, by two searches. It is their count where these lead to pages
+    /// that are at most 64 apart.
+    pub fn about(&self, prefix: [u32; 4], given: usize) -> u64
+        requires { given ≤ 4 }
+    {
+        let from = self.place_from(&Prefix::new(prefix, given));
+        let to = match following(prefix, given) {
+            Some(next) => self.place_from(&Prefix::new(next, given)),
+            None => PagePosition {
+                page: self.pages.len(),
+                at: 0,
+            },
+        };
+        self.distance(from, to)
     }
 
     /// The entries that begin with the first `given` numbers of `prefix`, which are looked for about `from` first.

@@ -1,9 +1,7 @@
-//! The pages of one order, in blocks of 256 that are full but the last: a page is found by its number at once, and one that comes or goes
+//! The pages of one order, in blocks of 256 pages.
 //!
-//! Pages are in blocks of 256, each a ring, of which all are full but the last, so a page's number gives its block by a division.
-//! A page that comes moves half of a block at most, and one page of each block after. Blocks that split would need two numbers a
-//! place, or a search.
-// moves half of a block at most, and one page of each block after.
+//! Each block is a ring, and all are full but the last. So a page's number gives its block by a division. A page that comes or goes moves
+//! half of a block at most, and one page of each block after. Blocks that split would need two numbers a place, or a search.
 ghost use Rattle.std.specs.Prelude.{◌≡◌, ℕ, ◌+◌, ◌-◌, ◌*◌, ◌<◌, ◌≤◌, ◌^◌, min, List, [], ◌∷◌, ◌++◌, length, take, drop, IfOk, OnOk, IfSome, IsSome, slice_index_or, slice_set, option_to_list};
 ghost use Rattle.std.specs.List.{insert, remove};
 ghost use Rattle.std.specs.VecDeque.{deque_capacity};

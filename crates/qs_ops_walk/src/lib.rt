@@ -9,6 +9,7 @@
 
 mod after_names;
 mod cursor;
+mod kept;
 mod levels;
 mod reader;
 mod settle;

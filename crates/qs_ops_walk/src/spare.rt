@@ -2,8 +2,8 @@
 
 use qs_expr::Row;
 
-/// How many rows are kept.
-const LIMIT: usize = 64;
+/// So many rows are kept, for which a list has room from the beginning.
+pub(crate) const LIMIT: usize = 32;
 
 /// Keeps the memory of the row for a copy.
 #[inline(always)]

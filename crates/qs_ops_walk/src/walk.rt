@@ -3,17 +3,13 @@
 ghost use Rattle.std.specs.Prelude.{◌≡◌, ◌≤◌, ◌<◌, ◌-◌, true, List, None, Ok, IfOk, IfNone, IfSome, IsSome, false, length, map, suc, take, get_or, vec_len};
 ghost use Rattle.qs_terms.specs.Bag.{SameBag};
 ghost use Rattle.qs_terms.specs.declared.term.Term.{Term as TermValue};
-ghost use Rattle.qs_expr.specs.Cell.{row_solution, FitsIf, FitsRow};
+ghost use Rattle.qs_expr.specs.Cell.{row_solution, FitsRow};
 ghost use Rattle.qs_expr.specs.Scratch.{IsTable, Grows};
-ghost use Rattle.qs_store.specs.ActiveGraph.{active_graph};
-ghost use Rattle.qs_store.specs.Graphs.{AreGraphs};
-ghost use Rattle.qs_plan_meaning.specs.Scans.{path_pairs};
 ghost use Rattle.qs_ops_program.specs.inner.Heights.{stages_height};
-ghost use Rattle.qs_ops_scans.specs.Paths.{ArePairs, Serve};
 ghost use Rattle.qs_ops_tables.specs.Tables.{FitRows, row_solutions};
 ghost use Rattle.qs_plan_meaning.specs.Stages.{fed_rows};
 ghost use Rattle.qs_ops_walk.specs.inner.Setting.{known_of, through_in};
-ghost use Rattle.qs_ops_walk.specs.inner.Works.{ArePairsFor, AreValues, IfEndPairs, IfGraphs, IfPairs, IfValues, IsReady, IsRight, Serves, code_of, heights_of, only_cells, IsAside, name_at};
+ghost use Rattle.qs_ops_walk.specs.inner.Works.{IsReady, IsRight, Serves, code_of, heights_of, only_cells, IsAside, name_at};
 ghost use Rattle.qs_ops_walk.specs.inner.Coming.{coming};
 ghost use Rattle.qs_ops_walk.specs.inner.Cursor.{GivesNamed};
 ghost use Rattle.qs_ops_walk.specs.inner.Moves.{Finishes, GivesRow, IsOpened, IsStep, IsWalk, Opens, opens, is_triple, is_optional, Attempts, OpensAt, OpensName, given_unless};
@@ -22,25 +18,20 @@ ghost use Rattle.qs_ops_walk.specs.declared.work.Work.TheVariants as variant;
 ghost use Rattle.qs_ops_walk.specs.declared.source.Source.TheVariants as origin;
 
 use crate::after_names::{AfterNames, after_names};
+use crate::kept::{numbers_of, pairs_of_trail, rows_of_values};
 use crate::levels::{open_given_level, open_joined_level, open_quads_level, open_triple_level};
 use crate::reader::Reader;
 use crate::settle::settle;
 use crate::source::{Attempt, Fork, Item, Level, Source, drop_source, next_of};
-use crate::spare::keep;
-use crate::work::{
-    Aside, Choice, Conditions, EndPairs, KeptPairs, Naming, Place, Right, TableRows, Trail, Work,
-    name_at, places_of,
-};
-use qs_algebra_patterns::PathPattern;
+use crate::spare::{LIMIT, keep};
+use crate::work::{Aside, Choice, Conditions, Place, Right, Work, name_at, places_of};
 use qs_base::Shared;
 use qs_expr::{Cell, Row, Scratch};
 use qs_ops_program::compile;
-use qs_ops_scans::{
-    PathPairs, PreparedLook, PreparedTriple, RowEnds, graph_numbers, path_rows, row_ends,
-};
-use qs_ops_tables::{Kept, Probe, table_rows};
+use qs_ops_scans::{PreparedLook, PreparedTriple, path_rows};
+use qs_ops_tables::{Kept, Probe};
 use qs_plan_meaning::{Group, Stage};
-use qs_store::{Active, View};
+use qs_store::View;
 use std::alloc::{AllocError, Global};
 
 /// The places and levels of a walk, and rows that were dropped, for their memory.
@@ -69,6 +60,7 @@ pub(crate) fn start<'a, V: View>(
     ensures rows { IfOk result (λ w. (table : List TermValue) → coming reader.now (code_of w.places.items) table w.levels.items ≡ through_in reader.now stages.now (row_solution (known_of reader.now) table row)) }
     ensures low { IfOk result (λ w. heights_of w.places.items ≤ stages_height stages.now) }
 {
+    let spare = Vec::with_capacity(reader.alloc, LIMIT)?;
     let program = compile(reader.alloc, stages)?;
     let next = program.start;
     let places = places_of(reader, program.code)?;
@@ -80,7 +72,7 @@ pub(crate) fn start<'a, V: View>(
     Ok(Walk {
         places,
         levels,
-        spare: Vec::new(reader.alloc),
+        spare,
     })
 }
 
@@ -254,150 +246,6 @@ fn rows_of_feed<'a, V: View>(
     let kept = Kept::new(reader.alloc, rows, row)?;
     let kept = Shared::new(reader.alloc, kept)?;
     Ok(kept)
-}
-
-/// The rows of VALUES. They are made where none are kept, and kept.
-#[inline(never)]
-fn rows_of_values<V: View>(
-    reader: &Reader<'_, V>,
-    scratch: &mut Scratch,
-    values: &mut TableRows<'_>,
-    row: &Row,
-) -> Result<Shared<Kept>, AllocError>
-    requires table { IsTable (known_of reader.now) scratch.old }
-    requires kept { IfValues reader.now scratch.old values.old.table.now values.old.kept }
-    ensures grows { Grows (known_of reader.now) scratch.old scratch.new }
-    ensures table { values.new.table.now ≡ values.old.table.now }
-    ensures kept { IfOk result (λ k. values.new.kept ≡ Some k) }
-    ensures values { IfOk result (λ k. AreValues reader.now scratch.new values.old.table.now k) }
-{
-    if let Some(kept) = &values.kept {
-        let own = kept.share()?;
-        return Ok(own);
-    }
-    let rows = table_rows(
-        reader.alloc,
-        reader.view,
-        scratch,
-        values.table,
-        reader.width,
-    )?;
-    let made = Kept::new(reader.alloc, rows, row)?;
-    let made = Shared::new(reader.alloc, made)?;
-    let own = made.share()?;
-    values.kept = Some(made);
-    Ok(own)
-}
-
-/// The numbers of the names of all graphs. They are looked up where none are kept, and kept.
-#[inline(never)]
-fn numbers_of<V: View>(
-    reader: &Reader<'_, V>,
-    naming: &mut Naming,
-) -> Result<Shared<Vec<u32>>, AllocError>
-    requires kept { IfGraphs reader.now naming.old.numbers }
-    ensures register { naming.new.register ≡ naming.old.register }
-    ensures kept { IfOk result (λ k. naming.new.numbers ≡ Some k) }
-    ensures graphs { IfOk result (λ k. AreGraphs reader.now.content k.items) }
-{
-    if let Some(numbers) = &naming.numbers {
-        let own = numbers.share()?;
-        return Ok(own);
-    }
-    let numbers = graph_numbers(reader.view)?;
-    let numbers = Shared::new(reader.alloc, numbers)?;
-    let own = numbers.share()?;
-    naming.numbers = Some(numbers);
-    Ok(own)
-}
-
-/// All pairs of a path in the graph. They are made where none are kept, and kept.
-#[inline(never)]
-fn all_pairs<V: View>(
-    reader: &Reader<'_, V>,
-    scratch: &mut Scratch,
-    pattern: &PathPattern,
-    kept: &mut Option<KeptPairs>,
-    graph: Active,
-    row: &Row,
-) -> Result<Shared<PathPairs>, AllocError>
-    requires table { IsTable (known_of reader.now) scratch.old }
-    requires kept { IfPairs reader.now scratch.old pattern.now kept.old }
-    ensures grows { Grows (known_of reader.now) scratch.old scratch.new }
-    ensures kept { IfOk result (λ k. IfPairs reader.now scratch.new pattern.now kept.new) }
-    ensures pairs { IfOk result (λ k. ArePairs (known_of reader.now) scratch.new k (path_pairs pattern.now (active_graph reader.now.content reader.now.default graph))) }
-{
-    if let Some(kept) = kept {
-        if kept.graph == graph {
-            let own = kept.pairs.share()?;
-            return Ok(own);
-        }
-    }
-    let pairs = reader.path_pairs(graph, pattern, row, scratch)?;
-    let pairs = Shared::new(reader.alloc, pairs)?;
-    let own = pairs.share()?;
-    *kept = Some(KeptPairs { graph, pairs });
-    Ok(own)
-}
-
-/// The pairs of a path in the graph that serve the rows with these cells at its ends. They are found where the last row had others, and
-/// kept for the next row.
-#[inline(never)]
-fn pairs_of_ends<V: View>(
-    reader: &Reader<'_, V>,
-    scratch: &mut Scratch,
-    pattern: &PathPattern,
-    last: &mut Option<EndPairs>,
-    graph: Active,
-    ends: RowEnds,
-) -> Result<Shared<PathPairs>, AllocError>
-    requires table { IsTable (known_of reader.now) scratch.old }
-    requires last { IfEndPairs reader.now scratch.old pattern.now last.old }
-    requires subject { FitsIf (known_of reader.now) scratch.old ends.subject }
-    requires object { FitsIf (known_of reader.now) scratch.old ends.object }
-    ensures grows { Grows (known_of reader.now) scratch.old scratch.new }
-    ensures last { IfOk result (λ k. IfEndPairs reader.now scratch.new pattern.now last.new) }
-    ensures serve { IfOk result (λ k. Serve (known_of reader.now) scratch.new pattern.now (active_graph reader.now.content reader.now.default graph) ends k) }
-{
-    if let Some(last) = last {
-        if last.graph == graph && last.ends.are_same(&ends) {
-            let own = last.pairs.share()?;
-            return Ok(own);
-        }
-    }
-    let pairs = reader.fed_pairs(graph, pattern, ends, scratch)?;
-    let pairs = Shared::new(reader.alloc, pairs)?;
-    let own = pairs.share()?;
-    *last = Some(EndPairs { graph, ends, pairs });
-    Ok(own)
-}
-
-/// Pairs of a path that serve the row, in the graph in which it looks for it: those from or to the terms that the row binds, or all.
-fn pairs_of_trail<V: View>(
-    reader: &Reader<'_, V>,
-    scratch: &mut Scratch,
-    trail: &mut Trail<'_>,
-    row: &Row,
-) -> Result<Shared<PathPairs>, AllocError>
-    requires table { IsTable (known_of reader.now) scratch.old }
-    requires row { FitsRow (known_of reader.now) scratch.old row.now }
-    requires kept { IfPairs reader.now scratch.old trail.old.pattern.now trail.old.kept }
-    requires last { IfEndPairs reader.now scratch.old trail.old.pattern.now trail.old.last }
-    ensures grows { Grows (known_of reader.now) scratch.old scratch.new }
-    ensures look { trail.new.look ≡ trail.old.look }
-    ensures pattern { trail.new.pattern.now ≡ trail.old.pattern.now }
-    ensures kept { IfOk result (λ k. IfPairs reader.now scratch.new trail.old.pattern.now trail.new.kept) }
-    ensures last { IfOk result (λ k. IfEndPairs reader.now scratch.new trail.old.pattern.now trail.new.last) }
-    ensures pairs { IfOk result (λ k. ArePairsFor reader.now scratch.new trail.old row.now k) }
-{
-    let graph = reader.graph_of_look(trail.look, row);
-    let ends = row_ends(trail.pattern, row);
-    if ends.are_bound() {
-        let own = pairs_of_ends(reader, scratch, trail.pattern, &mut trail.last, graph, ends)?;
-        return Ok(own);
-    }
-    let own = all_pairs(reader, scratch, trail.pattern, &mut trail.kept, graph, row)?;
-    Ok(own)
 }
 
 fn attempt<'a>(

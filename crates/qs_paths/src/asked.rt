@@ -47,7 +47,7 @@ fn requested<'a>(path: &'a Path, left: Option<Cell>, right: Option<Cell>) -> Opt
 
 /// The pairs of nodes that the path leads between in the graph that is active over the view, each with these ends, in no promised order
 /// (SPARQL 1.1 Query, 9 and 18.4). An end that is not given is open. Those of one IRI, of a negated set and of a closure with an end
-/// given come as they are found.
+/// given come as they are found. It takes no memory.
 pub fn pairs<'a, V: View>(
     alloc: Global,
     view: &'a V,
@@ -65,7 +65,7 @@ pub fn pairs<'a, V: View>(
         (denoted_if (V.content view.now).known table left) (denoted_if (V.content view.now).known table right)) }
 {
     is_lawful(view);
-    let kept = kept_numbers(alloc, view, path);
+    let kept = kept_numbers(view, path);
     let edges = Seen {
         view,
         active: graph,

@@ -7,7 +7,7 @@ ghost use Rattle.qs_dict.specs.Dict.{number_of};
 use qs_store::View;
 use qs_syntax_ast::path::{NegatedIri, Path};
 use qs_terms::{Iri, Term};
-use std::alloc::{AllocError, Global};
+use std::alloc::AllocError;
 
 /// How many numbers are kept. An IRI of a path that has more of them is looked up for each scan: so a search among these stays short.
 const KEPT: usize = 8;
@@ -58,27 +58,52 @@ pub fn number_of_iri<V: View>(view: &V, kept: &[u32], iri: &Iri) -> Result<Optio
     }
 }
 
+/// Numbers of IRIs of a path that may be asked for again. They save time alone: any numbers would do.
+#[derive(Drop)]
+pub struct Kept {
+    numbers: [u32; KEPT],
+    count: usize,
+}
+
+impl Kept {
+    /// The numbers that are kept.
+    pub fn as_slice(&self) -> &[u32] {
+        match self.numbers.get(..self.count) {
+            Some(numbers) => numbers,
+            None => &[],
+        }
+    }
+
+    /// Keeps the number, where there is room.
+    fn put(&mut self, number: u32) {
+        if let Some(place) = self.numbers.get_mut(self.count) {
+            *place = number;
+            self.count += 1;
+        }
+    }
+}
+
 /// Keeps the number of the IRI, where it is known, and there is room.
-fn keep_iri<V: View>(view: &V, iri: &Iri, kept: &mut Vec<u32>) {
-    if kept.len() >= KEPT {
+fn keep_iri<V: View>(view: &V, iri: &Iri, kept: &mut Kept) {
+    if kept.count >= KEPT {
         return;
     }
     if number_among(view, kept.as_slice(), iri).is_some() {
         return;
     }
     if let Ok(Some(number)) = looked_up(view, iri) {
-        let _ = kept.push(number);
+        kept.put(number);
     }
 }
 
-fn keep_members<V: View>(view: &V, members: &[NegatedIri], kept: &mut Vec<u32>) {
+fn keep_members<V: View>(view: &V, members: &[NegatedIri], kept: &mut Kept) {
     for member in members {
         keep_iri(view, &member.iri, kept);
     }
 }
 
 #[cycle(iris)]
-fn keep_parts<V: View>(view: &V, parts: &[Path], kept: &mut Vec<u32>) {
+fn keep_parts<V: View>(view: &V, parts: &[Path], kept: &mut Kept) {
     for part in parts {
         keep_path(view, part, kept);
     }
@@ -86,7 +111,7 @@ fn keep_parts<V: View>(view: &V, parts: &[Path], kept: &mut Vec<u32>) {
 
 /// Keeps the numbers of the IRIs of the path, as far as there is room.
 #[cycle(iris)]
-fn keep_path<V: View>(view: &V, path: &Path, kept: &mut Vec<u32>) {
+fn keep_path<V: View>(view: &V, path: &Path, kept: &mut Kept) {
     match path {
         Path::Iri(iri) => keep_iri(view, iri, kept),
         Path::NegatedSet(members) => keep_members(view, members.as_slice(), kept),
@@ -97,10 +122,12 @@ fn keep_path<V: View>(view: &V, path: &Path, kept: &mut Vec<u32>) {
     }
 }
 
-/// Numbers of IRIs of the path that may be asked for again: none where it is one IRI or a negated set. They save time alone: any numbers
-/// would do, and where memory runs out there are fewer.
-pub fn kept_numbers<V: View>(alloc: Global, view: &V, path: &Path) -> Vec<u32> {
-    let mut kept = Vec::new(alloc);
+/// The numbers that are kept of the path: none where it is one IRI or a negated set. It takes no memory.
+pub fn kept_numbers<V: View>(view: &V, path: &Path) -> Kept {
+    let mut kept = Kept {
+        numbers: [0; KEPT],
+        count: 0,
+    };
     match path {
         Path::Iri(_) => {}
         Path::NegatedSet(_) => {}

@@ -9,7 +9,7 @@ ghost use Rattle.qs_paths.specs.inner.Nodes.{ArePairs, TellsNode};
 ghost use Rattle.qs_paths.specs.inner.Scans.{AreOutside, AreScanned, IsPast, edges_in, number_out};
 
 use crate::node::NodePair;
-use crate::numbered::number_of_iri;
+use crate::numbered::{Kept, number_of_iri};
 use crate::scan::{Scan, collected};
 use crate::source::Source;
 use crate::steps::is_of;
@@ -23,7 +23,7 @@ use std::alloc::{AllocError, Global};
 pub struct Seen<'v, V: View> {
     pub view: &'v V,
     pub active: Active,
-    pub kept: Vec<u32>,
+    pub kept: Kept,
 }
 
 /// The content of a view is lawful, and the numbers of its terms fit 4 bytes.

@@ -20,12 +20,12 @@ use Rattle.qs_plan.specs.inner.Certain.{Begun, SameFrom}
 use Rattle.qs_plan.specs.inner.Parts.{IsFedAlike, IsNamed, IsPart}
 use Rattle.qs_plan.specs.inner.Reads.{Leaves}
 use Rattle.qs_plan.specs.inner.Sames.{Misses, Stays, IsScan, held}
-use Rattle.qs_plan.specs.inner.Slots.{part}
 use Rattle.qs_plan.proofs.Commutes.{all_map, flat_flat, merges_joined}
+use Rattle.qs_plan.proofs.Entering.{placed_more}
 use Rattle.qs_plan.proofs.Laying.{same}
 use Rattle.qs_plan.proofs.Leaving.{triple_leaves}
 use Rattle.qs_plan.proofs.Levels.{gives_apart, map_flat, through_one}
-use Rattle.qs_plan.proofs.Moving.{from_append, from_refl, from_trans}
+use Rattle.qs_plan.proofs.Moving.{from_refl}
 use Rattle.qs_plan.proofs.Sames.{triple_is_scan}
 use Rattle.qs_plan.proofs.Swaps.{both_true, pair, merges_pairs}
 use Rattle.qs_plan.proofs.Unions.{along_gives, along_stays, nil_merge, nil_right, rows_along}
@@ -228,58 +228,10 @@ part_apart size ss le h = record {
       ∙ part_gives size.width quads active ss h m (omega (arith, le, b.wide))));
 }
 
--- a part is put after others
-pub part_put : (size : Size) (done new ss own : List Stage) (one : Stage) → size.width ≤ size.cells → AllByRecursion (IsPart size.width) ss → own ≡ ss → one ≡ stage.Apart None (record { stages = own }) → new ≡ done ++ one ∷ [] → SameFrom size [] new (done ++ ss)
-part_put size done new ss own one le h e is n =
-    subst (λ (l : List Stage). SameFrom size [] l (done ++ ss)) (sym (n ∙ ap (λ x. done ++ x ∷ []) (is ∙ ap (λ l. stage.Apart None (record { stages = l })) e)))
-    (from_append size done done (stage.Apart None (record { stages = ss }) ∷ []) ss (from_refl size [] done) (part_apart size ss le h))
+-- a stage that may be a part, as a group of its own
+pub by_itself_arm : (size : Size) (s one : Stage) → size.width ≤ size.cells → IsPart size.width s → one ≡ stage.Apart None (record { stages = s ∷ [] }) → SameFrom size [] (one ∷ []) (s ∷ [])
+by_itself_arm size s one le h is = subst (λ (x : Stage). SameFrom size [] (x ∷ []) (s ∷ [])) (sym is) (part_apart size (s ∷ []) le (h, tt))
 
--- one stage is
-pub stage_put : (size : Size) (done new stages : List Stage) (at : ℕ) (s one : Stage) → at < length stages → s ≡ get_or stages at s → SameFrom size [] (one ∷ []) (s ∷ []) → new ≡ done ++ one ∷ [] → SameFrom size [] new (done ++ part stages at 1)
-stage_put size done new stages at s one lt is h n =
-    subst (λ (l : List Stage). SameFrom size [] l (done ++ part stages at 1)) (sym n)
-    (subst (λ (l : List Stage). SameFrom size [] (done ++ one ∷ []) (done ++ l)) (sym (first stages at lt is))
-    (from_append size done done (one ∷ []) (s ∷ []) (from_refl size [] done) h))
-  where
-    first : (ss : List Stage) (i : ℕ) → i < length ss → s ≡ get_or ss i s → part ss i 1 ≡ s ∷ []
-    first [] i lt is = absurd (omega (arith, lt))
-    first (t ∷ ss) zero lt is = ap (λ x. x ∷ []) (sym is)
-    first (t ∷ ss) (suc i) lt is = first ss i (omega (arith, lt)) is
-
--- no stage has a part
-no_part : (i k n : ℕ) → part [] (suc i) k ≡ take n []
-no_part i zero zero = refl
-no_part i zero (suc n) = refl
-no_part i (suc k) zero = refl
-no_part i (suc k) (suc n) = refl
-
--- the stages up to a place, and then up to a later one
-pub put_more : (size : Size) (done new stages : List Stage) (at past : ℕ) → at < past → SameFrom size [] done (take at stages) → SameFrom size [] new (done ++ part stages at (past - at)) → SameFrom size [] new (take past stages)
-put_more size done new stages at past lt a b =
-    subst (λ (l : List Stage). SameFrom size [] new l) (joined stages at past (omega (arith, lt)))
-    (from_trans size [] new (done ++ part stages at (past - at)) (take at stages ++ part stages at (past - at)) b
-    (from_append size done (take at stages) (part stages at (past - at)) (part stages at (past - at)) a (from_refl size [] (part stages at (past - at)))))
-  where
-    joined : (ss : List Stage) (i n : ℕ) → i ≤ n → take i ss ++ part ss i (n - i) ≡ take n ss
-    joined ss zero n le = let e : n - zero ≡ n = omega arith in ap (λ k. take k ss) e
-    joined [] (suc i) zero le = absurd (omega (arith, le))
-    joined [] (suc i) (suc n) le = no_part i (suc n - suc i) (suc n)
-    joined (s ∷ ss) (suc i) zero le = absurd (omega (arith, le))
-    joined (s ∷ ss) (suc i) (suc n) le = let e : suc n - suc i ≡ n - i = omega arith in ap (λ k. s ∷ (take i ss ++ take k (drop i ss))) e ∙ ap (λ l. s ∷ l) (joined ss i n (omega (arith, le)))
-
--- so many are done, and then more
-pub put_step : (size : Size) (done new stages : List Stage) (at past next : ℕ) → at ≤ past → past ≤ at → at < next → next ≤ length stages → SameFrom size [] done (take past stages) → SameFrom size [] new (done ++ part stages at (next - at))
-    → (at + 1 ≤ next) × ((next ≤ length stages) × SameFrom size [] new (take next stages))
-put_step size done new stages at past next le ge lt within a b =
-    let e : past ≡ at = omega (arith, le, ge) in
-    (omega (arith, lt), (within, put_more size done new stages at next lt (subst (λ k. SameFrom size [] done (take k stages)) e a) b))
-
--- all of them
-pub put_all : (size : Size) (done stages : List Stage) (past : ℕ) → length stages ≤ past → SameFrom size [] done (take past stages) → SameFrom size [] done stages
-put_all size done stages past le h = subst (SameFrom size [] done) (whole stages past le) h
-  where
-    whole : (ss : List Stage) (n : ℕ) → length ss ≤ n → take n ss ≡ ss
-    whole [] zero le = refl
-    whole [] (suc n) le = refl
-    whole (s ∷ ss) zero le = absurd (omega (arith, le))
-    whole (s ∷ ss) (suc n) le = ap (λ l. s ∷ l) (whole ss n (omega (arith, le)))
+-- one stage more is done
+pub parted_more : (size : Size) (done new stages : List Stage) (i : ℕ) (s one : Stage) → i < length stages → s ≡ get_or stages i s → SameFrom size [] done (take i stages) → SameFrom size [] (one ∷ []) (s ∷ []) → new ≡ done ++ one ∷ [] → SameFrom size [] new (take (i + 1) stages)
+parted_more size done new stages i s one lt is a b n = placed_more size done new stages i s one lt is a b (subst (λ (l : List Stage). SameFrom size [] new l) n (from_refl size [] new))

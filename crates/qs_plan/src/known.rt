@@ -5,33 +5,63 @@ ghost use Rattle.std.specs.Prelude.{◌≡◌, true, replicate, IfOk};
 use qs_algebra_patterns::Slot;
 use qs_plan_meaning::{Group, Stage};
 use std::alloc::{AllocError, Global};
+use std::collections::BTreeSet;
 
-/// Whether the variable is flagged.
-pub(crate) fn is_known(known: &[bool], variable: usize) -> bool {
-    match known.get(variable) {
-        Some(flag) => *flag,
-        None => false,
-    }
+/// The variables that are bound so far.
+#[derive(Drop)]
+pub(crate) struct Known {
+    set: BTreeSet<usize>,
+    /// Those of the set, in the order in which they came.
+    list: Vec<usize>,
 }
 
-/// Flags the variable, if it is one of them.
-pub(crate) fn mark(known: &mut Vec<bool>, variable: usize) {
-    if let Some(flag) = known.get_mut(variable) {
-        *flag = true;
+impl Known {
+    /// None is bound.
+    pub(crate) fn new(alloc: Global) -> Known {
+        Known {
+            set: BTreeSet::new(alloc),
+            list: Vec::new(alloc),
+        }
     }
-}
 
-/// Flags the variables that the stage binds.
-pub(crate) fn mark_stage(
-    alloc: Global,
-    known: &mut Vec<bool>,
-    stage: &Stage,
-) -> Result<(), AllocError> {
-    let variables = variables_of(alloc, stage)?;
-    for variable in variables.as_slice() {
-        mark(known, *variable);
+    /// Whether the variable is bound.
+    pub(crate) fn has(&self, variable: usize) -> bool {
+        self.set.contains(&variable)
     }
-    Ok(())
+
+    /// Adds the variable, and tells whether it is new.
+    pub(crate) fn add(&mut self, variable: usize) -> Result<bool, AllocError> {
+        if self.set.contains(&variable) {
+            return Ok(false);
+        }
+        self.list.push(variable)?;
+        self.set.insert(variable)?;
+        Ok(true)
+    }
+
+    /// Adds the variables that the stage binds.
+    pub(crate) fn add_stage(&mut self, alloc: Global, stage: &Stage) -> Result<(), AllocError> {
+        let variables = variables_of(alloc, stage)?;
+        for variable in variables.as_slice() {
+            self.add(*variable)?;
+        }
+        Ok(())
+    }
+
+    /// How many there are.
+    pub(crate) fn len(&self) -> usize {
+        self.list.len()
+    }
+
+    /// Forgets all that came after the first `count`.
+    pub(crate) fn cut(&mut self, count: usize) {
+        for at in count..self.list.len() {
+            if let Some(variable) = self.list.get(at) {
+                self.set.remove(variable);
+            }
+        }
+        self.list.truncate(count);
+    }
 }
 
 /// As many flags, none set.
@@ -44,15 +74,6 @@ pub(crate) fn all_flags(alloc: Global, count: usize) -> Result<Vec<bool>, AllocE
     ensures { IfOk result (λ flags. flags.items ≡ replicate count true) }
 {
     Ok(vec![in alloc; true; count]?)
-}
-
-/// A copy of flags.
-pub(crate) fn copied_flags(alloc: Global, flags: &[bool]) -> Result<Vec<bool>, AllocError> {
-    let mut copies = Vec::with_capacity(alloc, flags.len())?;
-    for flag in flags {
-        copies.push(*flag)?;
-    }
-    Ok(copies)
 }
 
 fn push_slot(variables: &mut Vec<usize>, slot: &Slot) -> Result<(), AllocError> {

@@ -21,6 +21,7 @@ use crate::fixes::{are_settled, put_tables};
 use crate::laid::{
     Laid, alone, apart, bind, fed, if_exists, in_bound, in_each, look_named, minus, optional,
 };
+use crate::plain::{are_joins, are_plain_steps, is_filtered_plain, plain_front};
 use crate::run::{lay_run, room_after};
 use qs_algebra_patterns::{PatternNode, Step, Table};
 use qs_expr_meaning::Expr;
@@ -28,92 +29,6 @@ use qs_plan_meaning::{Group, Look, Stage};
 use qs_terms::Term;
 use sqlite_items::Items;
 use std::alloc::{AllocError, Global};
-
-/// Whether the pattern holds triples, paths and VALUES alone.
-#[cycle(plain)]
-fn is_plain(part: &PatternNode) -> bool {
-    match part {
-        PatternNode::Basic(_) => true,
-        PatternNode::Values(_) => true,
-        PatternNode::Group(steps, conditions) => {
-            conditions.is_empty() && are_plain_steps(steps.as_slice())
-        }
-        PatternNode::Union(parts) => are_plain(parts.as_slice()),
-        PatternNode::Graph(_, part) => is_plain(part.get()),
-        PatternNode::EachGraph(_, part) => is_plain(part.get()),
-    }
-}
-
-#[cycle(plain)]
-fn are_plain(parts: &[PatternNode]) -> bool {
-    for part in parts {
-        if !is_plain(part) {
-            return false;
-        }
-    }
-    true
-}
-
-#[cycle(plain)]
-fn are_plain_steps(steps: &[Step]) -> bool {
-    for one in steps {
-        if !is_plain_step(one) {
-            return false;
-        }
-    }
-    true
-}
-
-#[cycle(plain)]
-fn is_plain_step(one: &Step) -> bool {
-    match one {
-        Step::Join(part) => is_plain(part),
-        _ => false,
-    }
-}
-
-/// Whether the pattern holds triples, paths and VALUES alone, and conditions on all of them.
-fn is_filtered_plain(part: &PatternNode) -> bool {
-    match part {
-        PatternNode::Group(steps, _) => are_plain_steps(steps.as_slice()),
-        _ => is_plain(part),
-    }
-}
-
-/// Whether the step joins a pattern.
-fn is_join(one: &Step) -> bool
-    ensures { result ≡ true → IsJoin one.now }
-{
-    match one {
-        Step::Join(_) => true,
-        _ => false,
-    }
-}
-
-/// Whether each of the steps joins a pattern.
-fn are_joins(steps: &[Step]) -> bool
-    ensures { result ≡ true → AllByRecursion IsJoin steps.now }
-{
-    for one in steps {
-        if !is_join(one) {
-            return false;
-        }
-    }
-    true
-}
-
-/// How many of the first steps join a pattern that is plain.
-fn plain_front(steps: &[Step]) -> usize
-    ensures within { result ≤ length steps.now }
-    ensures joins { AllByRecursion IsJoin (take result steps.now) }
-{
-    for at in 0..steps.len() {
-        if !is_join(&steps[at]) || !is_plain_step(&steps[at]) {
-            return at;
-        }
-    }
-    steps.len()
-}
 
 /// Whether there are no conditions.
 fn are_none(conditions: &[Expr]) -> bool

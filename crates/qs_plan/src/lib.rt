@@ -18,6 +18,7 @@ mod lay;
 mod leaves;
 mod order;
 mod parts;
+mod plain;
 mod plan_type;
 mod planner;
 mod ranks;

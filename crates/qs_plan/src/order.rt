@@ -11,7 +11,7 @@ ghost use Rattle.qs_plan.specs.inner.Slots.{Clears, Cut, Puts, if_left, part, st
 
 use crate::copies::{copied_stage, copied_stages};
 use crate::counts::{Counts, NoCounts};
-use crate::known::{all_flags, copied_flags, mark_stage, no_flags};
+use crate::known::{Known, all_flags};
 use crate::leaves::has_column;
 use crate::plan_type::Plan;
 use crate::ranks::order_of;
@@ -285,7 +285,7 @@ fn put_run<C: Counts>(
     counts: &C,
     stages: &[Stage],
     run: Run,
-    known: &mut Vec<bool>,
+    known: &mut Known,
     places: &mut Vec<usize>,
 ) -> Result<(), AllocError>
     requires within { run.from + run.count ≤ length stages.now }
@@ -306,7 +306,7 @@ fn next_run<C: Counts>(
     counts: &C,
     stages: &[Stage],
     run: Run,
-    known: &mut Vec<bool>,
+    known: &mut Known,
     places: &mut Vec<usize>,
 ) -> Result<Run, AllocError>
     requires within { run.from + run.count < length stages.now }
@@ -331,7 +331,7 @@ fn next_run<C: Counts>(
             count: 1,
         });
     }
-    mark_stage(alloc, known, stage)?;
+    known.add_stage(alloc, stage)?;
     put_place(stages, at, 0, places)?;
     Ok(Run {
         register: None,
@@ -340,16 +340,16 @@ fn next_run<C: Counts>(
     })
 }
 
-/// The places of all stages, those of each run in their order. The flags tell which variables are bound before.
+/// The places of all stages, those of each run in their order. The variables that are bound before stay as they were.
 fn places_of<C: Counts>(
     alloc: Global,
     counts: &C,
     stages: &[Stage],
-    known: &[bool],
+    known: &mut Known,
 ) -> Result<Vec<usize>, AllocError>
     ensures { IfOk result (λ ps. SameStages (stages_at stages.now ps.items) stages.now) }
 {
-    let mut own = copied_flags(alloc, known)?;
+    let count = known.len();
     let mut places = Vec::new(alloc);
     let mut run = Run {
         register: None,
@@ -357,34 +357,36 @@ fn places_of<C: Counts>(
         count: 0,
     };
     for at in 0..stages.len() {
-        run = next_run(alloc, counts, stages, run, &mut own, &mut places)?;
+        run = next_run(alloc, counts, stages, run, known, &mut places)?;
     }
-    put_run(alloc, counts, stages, run, &mut own, &mut places)?;
+    put_run(alloc, counts, stages, run, known, &mut places)?;
+    known.cut(count);
     Ok(places)
 }
 
 // ---- groups
 
-/// The stages with those of each run in their order. The flags tell which variables are bound before.
+/// The stages with those of each run in their order. The variables that are bound before stay as they were.
 #[cycle(ordered)]
 fn ordered_stages<C: Counts>(
     alloc: Global,
     counts: &C,
     stages: &[Stage],
-    known: &[bool],
+    known: &mut Known,
 ) -> Result<Items<Stage>, AllocError>
     ensures { IfOk result (λ ss. SameStages ss stages.now) }
 {
     let places = places_of(alloc, counts, stages, known)?;
-    let mut own = copied_flags(alloc, known)?;
+    let count = known.len();
     let mut done = Items::new(alloc);
     for place in places.as_slice() {
         if let Some(stage) = stages.get(*place) {
-            let one = ordered_stage(alloc, counts, stage, own.as_slice())?;
-            mark_stage(alloc, &mut own, stage)?;
+            let one = ordered_stage(alloc, counts, stage, known)?;
+            known.add_stage(alloc, stage)?;
             done.push(one)?;
         }
     }
+    known.cut(count);
     Ok(done)
 }
 
@@ -394,7 +396,7 @@ fn ordered_stage<C: Counts>(
     alloc: Global,
     counts: &C,
     stage: &Stage,
-    known: &[bool],
+    known: &mut Known,
 ) -> Result<Stage, AllocError>
     ensures { IfOk result (λ s. SameStages (s ∷ []) (stage.now ∷ [])) }
 {
@@ -405,8 +407,8 @@ fn ordered_stage<C: Counts>(
         }
         Stage::Optional(register, group, conditions) => {
             let conditions = conditions.share()?;
-            let none = no_flags(alloc, known.len())?;
-            let group = ordered_group(alloc, counts, group, none.as_slice())?;
+            let mut none = Known::new(alloc);
+            let group = ordered_group(alloc, counts, group, &mut none)?;
             Ok(Stage::Optional(*register, group, conditions))
         }
         Stage::Fed(group, conditions) => {
@@ -415,13 +417,13 @@ fn ordered_stage<C: Counts>(
             Ok(Stage::Fed(group, conditions))
         }
         Stage::Minus(register, group) => {
-            let none = no_flags(alloc, known.len())?;
-            let group = ordered_group(alloc, counts, group, none.as_slice())?;
+            let mut none = Known::new(alloc);
+            let group = ordered_group(alloc, counts, group, &mut none)?;
             Ok(Stage::Minus(*register, group))
         }
         Stage::Apart(register, group) => {
-            let none = no_flags(alloc, known.len())?;
-            let group = ordered_group(alloc, counts, group, none.as_slice())?;
+            let mut none = Known::new(alloc);
+            let group = ordered_group(alloc, counts, group, &mut none)?;
             Ok(Stage::Apart(*register, group))
         }
         other => copied_stage(alloc, other),
@@ -433,7 +435,7 @@ fn ordered_group<C: Counts>(
     alloc: Global,
     counts: &C,
     group: &Group,
-    known: &[bool],
+    known: &mut Known,
 ) -> Result<Group, AllocError>
     ensures { IfOk result (λ g. SameStages g.stages group.now.stages) }
 {
@@ -447,7 +449,7 @@ fn ordered_branches<C: Counts>(
     alloc: Global,
     counts: &C,
     branches: &[Group],
-    known: &[bool],
+    known: &mut Known,
 ) -> Result<Items<Group>, AllocError>
     ensures { IfOk result (λ bs. SameStages (stage.Union bs ∷ []) (stage.Union branches.now ∷ [])) }
 {
@@ -482,8 +484,8 @@ pub(crate) fn counted_order<C: Counts>(
     if plan.cells < plan.width {
         return copied_plan(alloc, plan);
     }
-    let known = no_flags(alloc, plan.cells)?;
-    let stages = ordered_stages(alloc, counts, plan.stages.as_slice(), known.as_slice())?;
+    let mut known = Known::new(alloc);
+    let stages = ordered_stages(alloc, counts, plan.stages.as_slice(), &mut known)?;
     Ok(Plan {
         width: plan.width,
         cells: plan.cells,

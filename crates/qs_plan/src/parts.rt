@@ -1,18 +1,19 @@
-//! Parts of a run that share no variable with the stages before them. In line such a part is read again for each row before it. A part of which
-//! a filter reads variables alone leaves few rows, so it is evaluated by itself, once, if the store has few triples for it.
+//! Parts of a run: triples that share no variable with the stages before them. In line such a triple is read again for each row before it. One of
+//! which a filter reads variables alone leaves few rows, so it is evaluated by itself, once, if the store has few triples for it.
+//!
+//! Several triples that are joined could have any number of rows, whatever the store has of each. So these stay in line.
 
-ghost use Rattle.std.specs.Prelude.{◌≡◌, ◌≤◌, ◌<◌, ◌-◌, true, None, [], ◌∷◌, ◌++◌, IfOk, OnOk, length};
+ghost use Rattle.std.specs.Prelude.{◌≡◌, ◌≤◌, ◌<◌, true, None, [], ◌∷◌, IfOk};
 ghost use Rattle.std.specs.List.{AllByRecursion};
-ghost use Rattle.qs_plan_meaning.specs.declared.stage.Stage.TheVariants as stage;
+ghost use Rattle.qs_plan_meaning.specs.declared.stage.Stage.TheVariants as a_stage;
 ghost use Rattle.qs_plan_meaning.specs.Stages.{register_of};
 ghost use Rattle.qs_plan.specs.Plans.{SamePlan};
 ghost use Rattle.qs_plan.specs.inner.Certain.{SameFrom};
 ghost use Rattle.qs_plan.specs.inner.Parts.{IsFedAlike, IsNamed, IsPart};
-ghost use Rattle.qs_plan.specs.inner.Slots.{part};
 
 use crate::certain::Size;
-use crate::copies::{copied_stage, copied_stages};
-use crate::counts::Counts;
+use crate::copies::copied_stage;
+use crate::counts::{Counts, MANY};
 use crate::known::{variables_of, variables_of_stages};
 use crate::order::copied_plan;
 use crate::plan_type::Plan;
@@ -22,9 +23,10 @@ use qs_expr_meaning::Expr;
 use qs_plan_meaning::{Group, Look, Stage};
 use sqlite_items::Items;
 use std::alloc::{AllocError, Global};
+use std::collections::{BTreeMap, BTreeSet};
 
-/// All parts of a plan that are evaluated by themselves have fewer triples in the store than this, by the first triple of each. So their rows
-/// take some 30 MB at most.
+/// All parts of a plan that are evaluated by themselves have fewer triples in the store than this, as far as it is counted. So their rows take
+/// some 30 MB.
 const KEPT: u64 = 262_144;
 
 // ---- what may be a part
@@ -84,159 +86,109 @@ pub fn is_fed_alike(group: &Group, width: usize) -> bool
 
 // ---- which parts there are
 
-/// Where a variable stands in the stages that were passed.
+/// Where a variable stands first in the stages that were passed. In none of them it has no home.
 #[derive(Clone, Copy, PartialEq, Eq)]
 enum Home {
-    /// In none of them.
-    Nowhere,
-    /// In the part of this number, and first there.
+    /// In the part at this place.
     Part(usize),
-    /// In a stage that is in no part.
+    /// In a stage that is no part.
     Elsewhere,
 }
 
-/// Triples one after another, connected by variables, of which none stands in a stage before them.
-#[derive(Clone, Copy)]
-struct Part {
-    from: usize,
-    end: usize,
-    /// Whether a filter reads variables of this part alone.
-    is_filtered: bool,
-}
-
-/// The parts of the stages that were passed, and where each variable stands.
+/// What is known of the stages that were passed.
 #[derive(Drop)]
-struct Parts {
-    list: Vec<Part>,
-    homes: Vec<Home>,
-    /// Whether a stage with a variable was passed.
-    is_begun: bool,
+struct Passed {
+    homes: BTreeMap<usize, Home>,
+    /// The places of the parts of which a filter reads variables alone.
+    filtered: BTreeSet<usize>,
 }
 
-fn home_of(homes: &[Home], variable: usize) -> Home {
-    match homes.get(variable) {
-        Some(home) => *home,
-        None => Home::Elsewhere,
-    }
+fn home_of(passed: &Passed, variable: usize) -> Option<Home> {
+    passed.homes.get(&variable).copied()
 }
 
-/// Whether each of the variables stands there, or, where that is allowed, nowhere.
-fn are_at(homes: &[Home], variables: &[usize], home: Home, or_nowhere: bool) -> bool {
+/// Whether each of the variables has this home, or none has one.
+fn are_at(passed: &Passed, variables: &[usize], home: Option<Home>) -> bool {
     for variable in variables {
-        let found = home_of(homes, *variable);
-        if found != home && !(or_nowhere && found == Home::Nowhere) {
+        if home_of(passed, *variable) != home {
             return false;
         }
     }
     true
 }
 
-/// Has those of the variables that stand nowhere stand there.
-fn settle_at(homes: &mut Vec<Home>, variables: &[usize], home: Home) {
+/// The home of the variables of a stage that have none. A part is no first stage, and has no variable of a stage before it.
+fn new_home(passed: &Passed, variables: &[usize], at: usize, may_be_part: bool) -> Home {
+    if may_be_part && !passed.homes.is_empty() && are_at(passed, variables, None) {
+        Home::Part(at)
+    } else {
+        Home::Elsewhere
+    }
+}
+
+/// Gives those of the variables a home that have none.
+fn settle_at(passed: &mut Passed, variables: &[usize], home: Home) -> Result<(), AllocError> {
     for variable in variables {
-        if let Some(found) = homes.get_mut(*variable) {
-            if *found == Home::Nowhere {
-                *found = home;
-            }
+        if home_of(passed, *variable).is_none() {
+            passed.homes.insert(*variable, home)?;
         }
     }
-}
-
-/// The number of the part that ends at the place.
-fn part_before(list: &[Part], at: usize) -> Option<usize> {
-    match list.last() {
-        Some(part) if part.end == at => Some(list.len() - 1),
-        _ => None,
-    }
-}
-
-/// Puts a triple that may be in a part: into the part before it, or into a new one, or elsewhere.
-fn put_triple(parts: &mut Parts, variables: &[usize], at: usize) -> Result<(), AllocError> {
-    if parts.is_begun && are_at(parts.homes.as_slice(), variables, Home::Nowhere, false) {
-        settle_at(&mut parts.homes, variables, Home::Part(parts.list.len()));
-        parts.list.push(Part {
-            from: at,
-            end: at.saturating_add(1),
-            is_filtered: false,
-        })?;
-        return Ok(());
-    }
-    if let Some(number) = part_before(parts.list.as_slice(), at) {
-        if are_at(parts.homes.as_slice(), variables, Home::Part(number), true) {
-            settle_at(&mut parts.homes, variables, Home::Part(number));
-            if let Some(part) = parts.list.get_mut(number) {
-                part.end = at.saturating_add(1);
-            }
-            return Ok(());
-        }
-    }
-    settle_at(&mut parts.homes, variables, Home::Elsewhere);
-    parts.is_begun = true;
     Ok(())
 }
 
-/// Marks the part that alone has the variables of the condition, or of a part of it if it is a conjunction.
-#[cycle(marks)]
-fn mark_condition(alloc: Global, parts: &mut Parts, condition: &Expr) -> Result<(), AllocError> {
+/// Notes the part that alone has the variables of the condition, or of a part of it if it is a conjunction.
+#[cycle(notes)]
+fn note_condition(alloc: Global, passed: &mut Passed, condition: &Expr) -> Result<(), AllocError> {
     match condition {
-        Expr::And(conditions) => mark_conditions(alloc, parts, conditions.as_slice()),
+        Expr::And(conditions) => note_conditions(alloc, passed, conditions.as_slice()),
         _ => {
             let mut variables = Vec::new(alloc);
             settle(alloc, condition, &mut variables)?;
-            mark_part(parts, variables.as_slice());
-            Ok(())
+            note_part(passed, variables.as_slice())
         }
     }
 }
 
-#[cycle(marks)]
-fn mark_conditions(
+#[cycle(notes)]
+fn note_conditions(
     alloc: Global,
-    parts: &mut Parts,
+    passed: &mut Passed,
     conditions: &[Expr],
 ) -> Result<(), AllocError> {
     for condition in conditions {
-        mark_condition(alloc, parts, condition)?;
+        note_condition(alloc, passed, condition)?;
     }
     Ok(())
 }
 
-fn mark_part(parts: &mut Parts, variables: &[usize]) {
+fn note_part(passed: &mut Passed, variables: &[usize]) -> Result<(), AllocError> {
     let Some(first) = variables.first() else {
-        return;
+        return Ok(());
     };
-    let home = home_of(parts.homes.as_slice(), *first);
-    let Home::Part(number) = home else {
-        return;
+    let home = home_of(passed, *first);
+    let Some(Home::Part(at)) = home else {
+        return Ok(());
     };
-    if are_at(parts.homes.as_slice(), variables, home, false) {
-        if let Some(part) = parts.list.get_mut(number) {
-            part.is_filtered = true;
-        }
+    if are_at(passed, variables, home) {
+        passed.filtered.insert(at)?;
     }
+    Ok(())
 }
 
-/// Puts a stage after those that were passed.
-fn put_stage(
+/// Passes the stage at the place.
+fn pass(
     alloc: Global,
-    parts: &mut Parts,
+    passed: &mut Passed,
     stage: &Stage,
     at: usize,
     width: usize,
 ) -> Result<(), AllocError> {
     if let Stage::Filter(condition) = stage {
-        return mark_condition(alloc, parts, condition.get());
+        return note_condition(alloc, passed, condition.get());
     }
     let variables = names_in(alloc, stage)?;
-    if variables.is_empty() {
-        return Ok(());
-    }
-    if is_part(stage, width) {
-        return put_triple(parts, variables.as_slice(), at);
-    }
-    settle_at(&mut parts.homes, variables.as_slice(), Home::Elsewhere);
-    parts.is_begun = true;
-    Ok(())
+    let home = new_home(passed, variables.as_slice(), at, is_part(stage, width));
+    settle_at(passed, variables.as_slice(), home)
 }
 
 /// The variables that the stage binds, or may bind.
@@ -248,120 +200,67 @@ fn names_in(alloc: Global, stage: &Stage) -> Result<Vec<usize>, AllocError> {
     }
 }
 
-/// The parts of the stages, in their order.
-fn parts_of(alloc: Global, stages: &[Stage], size: Size) -> Result<Vec<Part>, AllocError> {
-    let mut parts = Parts {
-        list: Vec::new(alloc),
-        homes: vec![in alloc; Home::Nowhere; size.cells]?,
-        is_begun: false,
-    };
-    for at in 0..stages.len() {
-        put_stage(alloc, &mut parts, &stages[at], at, size.width)?;
+fn is_filter(stage: &Stage) -> bool {
+    match stage {
+        Stage::Filter(_) => true,
+        _ => false,
     }
-    let Parts { list, .. } = parts;
-    Ok(list)
+}
+
+fn has_filter(stages: &[Stage]) -> bool {
+    for stage in stages {
+        if is_filter(stage) {
+            return true;
+        }
+    }
+    false
+}
+
+/// The places of the parts of which a filter reads variables alone.
+fn filtered_parts(
+    alloc: Global,
+    stages: &[Stage],
+    width: usize,
+) -> Result<BTreeSet<usize>, AllocError> {
+    let mut passed = Passed {
+        homes: BTreeMap::new(alloc),
+        filtered: BTreeSet::new(alloc),
+    };
+    if has_filter(stages) {
+        for at in 0..stages.len() {
+            pass(alloc, &mut passed, &stages[at], at, width)?;
+        }
+    }
+    let Passed { filtered, .. } = passed;
+    Ok(filtered)
 }
 
 // ---- which of them are evaluated by themselves
 
-/// Whether the store has fewer triples than are left for the part that begins with the stage. Then they are taken from what is left. Else half
-/// of that is left, so that no more than twice as many are counted for a plan.
+/// Whether the store has fewer triples of the stage than are left. Then they are taken from what is left.
 fn is_kept<C: Counts>(counts: &C, stage: &Stage, left: &mut u64) -> bool {
     let count = match stage {
-        Stage::Triple(look, pattern) => counts.about(look, pattern, *left),
-        _ => *left,
+        Stage::Triple(look, pattern) => counts.about(look, pattern),
+        _ => MANY,
     };
     if count < *left {
         *left -= count;
         return true;
     }
-    *left /= 2;
     false
 }
 
-/// For each place the end of the part that begins there and is evaluated by itself; 0 where there is none.
-fn ends_of<C: Counts>(
-    alloc: Global,
-    counts: &C,
-    stages: &[Stage],
-    size: Size,
-    left: &mut u64,
-) -> Result<Vec<usize>, AllocError> {
-    let parts = parts_of(alloc, stages, size)?;
-    let mut ends = vec![in alloc; 0; stages.len()]?;
-    for part in parts.as_slice() {
-        if let Some(stage) = stages.get(part.from) {
-            if part.is_filtered && is_kept(counts, stage, left) {
-                put_end(&mut ends, *part);
-            }
-        }
-    }
-    Ok(ends)
-}
-
-fn put_end(ends: &mut Vec<usize>, part: Part) {
-    if let Some(end) = ends.get_mut(part.from) {
-        *end = part.end;
-    }
-}
-
-fn end_at(ends: &[usize], at: usize) -> usize {
-    match ends.get(at) {
-        Some(end) => *end,
-        None => 0,
-    }
-}
-
-// ---- stages with parts that are evaluated by themselves
-
-/// Whether the stages from one place up to another are some, and may be a part.
-fn is_part_from(stages: &[Stage], at: usize, end: usize, width: usize) -> bool
-    ensures some { result ≡ true → at < end }
-    ensures within { result ≡ true → end ≤ length stages.now }
-    ensures parts { result ≡ true → AllByRecursion (IsPart width) (part stages.now at (end - at)) }
+/// A copy of the stage, as a group that is evaluated by itself.
+fn by_itself(alloc: Global, stage: &Stage) -> Result<Stage, AllocError>
+    ensures { IfOk result (λ s. s ≡ a_stage.Apart None (record { stages = stage.now ∷ [] })) }
 {
-    if end <= at || stages.len() < end {
-        return false;
-    }
-    are_parts(&stages[at..end], width)
-}
-
-/// Copies of the stages, as a group that is evaluated by itself.
-fn by_itself(alloc: Global, stages: &[Stage]) -> Result<Stage, AllocError>
-    ensures { IfOk result (λ s. s ≡ stage.Apart None (record { stages = stages.now })) }
-{
-    let stages = copied_stages(alloc, stages)?;
+    let one = copied_stage(alloc, stage)?;
+    let mut stages = Items::new(alloc);
+    stages.push(one)?;
     Ok(Stage::Apart(None, Group { stages }))
 }
 
-/// Puts the stages from the place up to the end, if they may be a part, as a group that is evaluated by itself; else the stage at the place.
-/// Returns the place after them.
-#[cycle(parted)]
-fn put_next<C: Counts>(
-    alloc: Global,
-    counts: &C,
-    stages: &[Stage],
-    at: usize,
-    end: usize,
-    size: Size,
-    left: &mut u64,
-    done: &mut Items<Stage>,
-) -> Result<usize, AllocError>
-    requires wide { size.width ≤ size.cells }
-    requires at { at < length stages.now }
-    ensures up { IfOk result (λ past. at < past) }
-    ensures within { IfOk result (λ past. past ≤ length stages.now) }
-    ensures same { IfOk result (λ past. SameFrom size [] done.new (done.old ++ part stages.now at (past - at))) }
-{
-    if is_part_from(stages, at, end, size.width) {
-        let one = by_itself(alloc, &stages[at..end])?;
-        done.push(one)?;
-        return Ok(end);
-    }
-    let one = parted_stage(alloc, counts, &stages[at], size, left)?;
-    done.push(one)?;
-    Ok(at + 1)
-}
+// ---- stages with parts that are evaluated by themselves
 
 /// The stages, with each part that is evaluated by itself as a group.
 #[cycle(parted)]
@@ -375,31 +274,34 @@ fn parted_stages<C: Counts>(
     requires { size.width ≤ size.cells }
     ensures { IfOk result (λ ss. SameFrom size [] ss stages.now) }
 {
-    let ends = ends_of(alloc, counts, stages, size, left)?;
+    let parts = filtered_parts(alloc, stages, size.width)?;
     let mut done = Items::new(alloc);
-    let mut past = 0;
     for at in 0..stages.len() {
-        if past <= at {
-            let end = end_at(ends.as_slice(), at);
-            past = put_next(alloc, counts, stages, at, end, size, left, &mut done)?;
-        }
+        let is_asked = parts.contains(&at);
+        let one = parted_stage(alloc, counts, &stages[at], size, is_asked, left)?;
+        done.push(one)?;
     }
     Ok(done)
 }
 
-/// The stage, with the parts of its group where that is evaluated by itself. Rows that a group is fed, and those of the branches of a union,
-/// may bind what stands in a part.
+/// The stage as a group that is evaluated by itself, if that is asked for and it may be one; else the stage, with the parts of its group where
+/// that is evaluated by itself. Rows that a group is fed, and those of the branches of a union, may bind what stands in a part.
 #[cycle(parted)]
 fn parted_stage<C: Counts>(
     alloc: Global,
     counts: &C,
     stage: &Stage,
     size: Size,
+    is_asked: bool,
     left: &mut u64,
 ) -> Result<Stage, AllocError>
     requires { size.width ≤ size.cells }
     ensures { IfOk result (λ s. SameFrom size [] (s ∷ []) (stage.now ∷ [])) }
 {
+    if is_asked && is_part(stage, size.width) && is_kept(counts, stage, left) {
+        let one = by_itself(alloc, stage)?;
+        return Ok(one);
+    }
     match stage {
         Stage::Optional(register, group, conditions) => {
             let conditions = conditions.share()?;

@@ -72,12 +72,11 @@ pub fn plan(alloc: Global, pattern: &Pattern) -> Result<Plan, QFault>
 ///
 /// A place is free if it holds neither a term nor a variable bound before. The places of a table are its columns, and those of a union hold the
 /// variables that each branch binds. A union has as many rows as its branches together, and a branch as many as the one of its stages with the
-/// fewest. What has no row comes before all others. Up to 16 rows are counted for each pattern. Where none of them has fewer, nor a variable that
-/// another stage bound before all of them, up to 4,096 rows are counted for all of them. Paths aren't counted. The groups in a union are ordered
+/// fewest. What has no row comes before all others. Paths aren't counted: there are as many pairs as may be. The groups in a union are ordered
 /// when it has its place.
 ///
-/// Triples of a run that share no variable with the stages before them are evaluated by themselves, once, if a filter reads variables of theirs
-/// alone, and the store has few triples that agree with the first of them: fewer than 262,144 for all such parts of a plan.
+/// A triple that shares no variable with the stages before it is evaluated by itself, once, if a filter reads variables of it alone, and if the
+/// store has few triples for it: fewer than 262,144 for all such triples of a plan.
 ///
 /// # Errors
 /// `Memory` where memory runs out.

@@ -1,7 +1,7 @@
 //! In which order the triples, paths, tables and unions of a run come.
 
 use crate::counts::{Counts, counts_of};
-use crate::known::{is_known, mark, mark_stage, no_flags, variables_of};
+use crate::known::{Known, no_flags, variables_of};
 use qs_plan_meaning::Stage;
 use std::alloc::{AllocError, Global};
 use std::collections::BTreeSet;
@@ -48,10 +48,10 @@ struct Choice {
 // ---- candidates
 
 /// How many of the variables aren't bound.
-fn free_places(known: &[bool], variables: &[usize]) -> u64 {
+fn free_places(known: &Known, variables: &[usize]) -> u64 {
     let mut free: u64 = 0;
     for variable in variables {
-        if !is_known(known, *variable) {
+        if !known.has(*variable) {
             free = free.saturating_add(1);
         }
     }
@@ -59,19 +59,9 @@ fn free_places(known: &[bool], variables: &[usize]) -> u64 {
 }
 
 /// Whether one of the variables is bound.
-fn is_any_known(known: &[bool], variables: &[usize]) -> bool {
+fn is_any_known(known: &Known, variables: &[usize]) -> bool {
     for variable in variables {
-        if is_known(known, *variable) {
-            return true;
-        }
-    }
-    false
-}
-
-/// Whether a variable of one of the stages is bound.
-fn is_any_bound(known: &[bool], places: &[Vec<usize>]) -> bool {
-    for at in 0..places.len() {
-        if is_any_known(known, places[at].as_slice()) {
+        if known.has(*variable) {
             return true;
         }
     }
@@ -80,7 +70,7 @@ fn is_any_bound(known: &[bool], places: &[Vec<usize>]) -> bool {
 
 /// A stage with these variables as a candidate. Where it has no row, none is left: it comes as one whose places are all bound. It is apart if
 /// it may be and none of its variables is bound.
-fn candidate_of(known: &[bool], variables: &[usize], count: u64, may_be_apart: bool) -> Candidate {
+fn candidate_of(known: &Known, variables: &[usize], count: u64, may_be_apart: bool) -> Candidate {
     let free = free_places(known, variables);
     let is_bound = free == 0 || is_any_known(known, variables);
     Candidate {
@@ -144,14 +134,14 @@ fn count_at(counts: &[u64], at: usize) -> u64 {
 fn candidates_of(
     alloc: Global,
     stages: &[Stage],
-    known: &[bool],
+    known: &Known,
     counts: &[u64],
     places: &[Vec<usize>],
     shared: &[bool],
 ) -> Result<Vec<Candidate>, AllocError> {
     let mut candidates = Vec::with_capacity(alloc, places.len())?;
     for at in 0..places.len() {
-        let may_be_apart = is_whole_at(stages, at) && !is_known(shared, at);
+        let may_be_apart = is_whole_at(stages, at) && !is_set(shared, at);
         let count = count_at(counts, at);
         candidates.push(candidate_of(known, places[at].as_slice(), count, may_be_apart))?;
     }
@@ -167,6 +157,19 @@ fn ranks_of(alloc: Global, candidates: &[Candidate]) -> Result<BTreeSet<Rank>, A
 }
 
 // ---- variables
+
+fn is_set(flags: &[bool], at: usize) -> bool {
+    match flags.get(at) {
+        Some(flag) => *flag,
+        None => false,
+    }
+}
+
+fn set_flag(flags: &mut Vec<bool>, at: usize) {
+    if let Some(flag) = flags.get_mut(at) {
+        *flag = true;
+    }
+}
 
 /// The variables in the places of each stage.
 fn places_of(alloc: Global, stages: &[Stage]) -> Result<Vec<Vec<usize>>, AllocError> {
@@ -204,8 +207,8 @@ fn shared_of(alloc: Global, uses: &[Use], count: usize) -> Result<Vec<bool>, All
         let one = uses[at - 1];
         let other = uses[at];
         if one.variable == other.variable && one.at != other.at {
-            mark(&mut shared, one.at);
-            mark(&mut shared, other.at);
+            set_flag(&mut shared, one.at);
+            set_flag(&mut shared, other.at);
         }
     }
     Ok(shared)
@@ -257,9 +260,9 @@ impl Choice {
         counts: &C,
         stages: &[Stage],
         places: &[Vec<usize>],
-        known: &[bool],
+        known: &Known,
     ) -> Result<Choice, AllocError> {
-        let counts = counts_of(alloc, counts, stages, is_any_bound(known, places))?;
+        let counts = counts_of(alloc, counts, stages)?;
         let uses = uses_of(alloc, places)?;
         let shared = shared_of(alloc, uses.as_slice(), places.len())?;
         let candidates = candidates_of(
@@ -287,11 +290,10 @@ impl Choice {
     }
 
     /// The variable is bound, if it wasn't before.
-    fn bind(&mut self, known: &mut Vec<bool>, variable: usize) -> Result<(), AllocError> {
-        if is_known(known, variable) {
+    fn bind(&mut self, known: &mut Known, variable: usize) -> Result<(), AllocError> {
+        if !known.add(variable)? {
             return Ok(());
         }
-        mark(known, variable);
         bind_places(
             self.uses.as_slice(),
             self.candidates.as_mut_slice(),
@@ -301,7 +303,7 @@ impl Choice {
     }
 
     /// The variables are bound.
-    fn bind_all(&mut self, known: &mut Vec<bool>, variables: &[usize]) -> Result<(), AllocError> {
+    fn bind_all(&mut self, known: &mut Known, variables: &[usize]) -> Result<(), AllocError> {
         for variable in variables {
             self.bind(known, *variable)?;
         }
@@ -311,23 +313,23 @@ impl Choice {
 
 // ---- the order
 
-/// Flags the variables of the stages.
-fn mark_stages(alloc: Global, known: &mut Vec<bool>, stages: &[Stage]) -> Result<(), AllocError> {
+/// Adds the variables of the stages to those that are bound.
+fn add_stages(alloc: Global, known: &mut Known, stages: &[Stage]) -> Result<(), AllocError> {
     for stage in stages {
-        mark_stage(alloc, known, stage)?;
+        known.add_stage(alloc, stage)?;
     }
     Ok(())
 }
 
-/// The places of the stages of a run in the order that `plan_for` tells, or none of a single stage. Their variables are flagged.
+/// The places of the stages of a run in the order that `plan_for` tells, or none of a single stage. Their variables are bound then.
 pub(crate) fn order_of<C: Counts>(
     alloc: Global,
     counts: &C,
     stages: &[Stage],
-    known: &mut Vec<bool>,
+    known: &mut Known,
 ) -> Result<Vec<usize>, AllocError> {
     if stages.len() < 2 {
-        mark_stages(alloc, known, stages)?;
+        add_stages(alloc, known, stages)?;
         return Ok(Vec::new(alloc));
     }
     let places = places_of(alloc, stages)?;

@@ -2,7 +2,7 @@
 
 use qs_algebra_patterns::{Slot, TriplePattern};
 use qs_plan::{Counts, Look};
-use qs_store::{Active, NamedQuads, Triples, View};
+use qs_store::{Active, View};
 use qs_terms::Term;
 
 /// What is counted: the triples of a view, where this graph is active.
@@ -43,44 +43,18 @@ fn given_of<V: View>(view: &V, pattern: &TriplePattern) -> Option<Given> {
     })
 }
 
-/// How many triples there are, up to the limit.
-fn count(mut triples: Triples<'_>, limit: u64) -> u64 {
-    for count in 0..limit {
-        if triples.next().is_none() {
-            return count;
-        }
-    }
-    limit
-}
-
-/// How many quads there are, up to the limit.
-fn count_quads(mut quads: NamedQuads<'_>, limit: u64) -> u64 {
-    for count in 0..limit {
-        if quads.next().is_none() {
-            return count;
-        }
-    }
-    limit
-}
-
-/// How many triples of the graph agree with the terms of the pattern, up to the limit.
-fn count_in<V: View>(view: &V, graph: Active, pattern: &TriplePattern, limit: u64) -> u64 {
+/// About how many triples of the graph agree with the terms of the pattern.
+fn count_in<V: View>(view: &V, graph: Active, pattern: &TriplePattern) -> u64 {
     match given_of(view, pattern) {
-        Some(given) => count(
-            view.scan(graph, given.subject, given.predicate, given.object),
-            limit,
-        ),
+        Some(given) => view.about(graph, given.subject, given.predicate, given.object),
         None => 0,
     }
 }
 
-/// How many quads of all named graphs agree with the terms of the pattern, up to the limit.
-fn count_named<V: View>(view: &V, pattern: &TriplePattern, limit: u64) -> u64 {
+/// About how many quads of all named graphs agree with the terms of the pattern.
+fn count_named<V: View>(view: &V, pattern: &TriplePattern) -> u64 {
     match given_of(view, pattern) {
-        Some(given) => count_quads(
-            view.scan_named(given.subject, given.predicate, given.object),
-            limit,
-        ),
+        Some(given) => view.about_named(given.subject, given.predicate, given.object),
         None => 0,
     }
 }
@@ -94,15 +68,15 @@ fn graph_of<V: View>(view: &V, name: &Term) -> Active {
 }
 
 impl<'v, V: View> Counts for ViewCounts<'v, V> {
-    /// In each named graph: how many quads of all of them agree.
-    fn about(&self, look: &Look, pattern: &TriplePattern, limit: u64) -> u64 {
+    /// In each named graph: about how many quads of all of them agree.
+    fn about(&self, look: &Look, pattern: &TriplePattern) -> u64 {
         match look {
-            Look::Active => count_in(self.view, self.active, pattern, limit),
+            Look::Active => count_in(self.view, self.active, pattern),
             Look::Named(name) => {
                 let graph = graph_of(self.view, name.get());
-                count_in(self.view, graph, pattern, limit)
+                count_in(self.view, graph, pattern)
             }
-            Look::Register(_) => count_named(self.view, pattern, limit),
+            Look::Register(_) => count_named(self.view, pattern),
         }
     }
 }

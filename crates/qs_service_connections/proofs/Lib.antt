@@ -1,3 +1,4 @@
 pub mod Places
 pub mod Listening
 pub mod Puts
+mod Requests

@@ -4,7 +4,7 @@ ghost use Rattle.qs_service_connections.specs.inner.Receive.{IsReading, bytes_re
 
 use crate::meaning::Meaning;
 use crate::reply::Reply;
-use qs_http::{Fixed, Progress, Session};
+use qs_http::{Progress, Session};
 use std::alloc::Global;
 
 /// How far a connection has come.
@@ -15,6 +15,7 @@ pub enum ConnectionState {
 }
 
 /// The reply, once the piece completes the request or makes it unlawful: a request that is complete is carried out.
+#[tactic(auto, using(crate::proofs::Requests::ready_stands))]
 pub fn receive<M: Meaning>(
     alloc: Global,
     session: &mut Session,
@@ -29,7 +30,7 @@ pub fn receive<M: Meaning>(
         Progress::Refused(which) => Some(Reply::fixed(which)),
         Progress::Ready => match session.request() {
             Some(request) => Some(meaning.carry_out(alloc, request)),
-            None => Some(Reply::fixed(Fixed::Memory)),
+            None => unreachable!(),
         },
     }
 }

@@ -16,3 +16,4 @@ pub mod Sets
 pub mod Copied
 pub mod CopiedTerms
 pub mod Emptied
+pub mod Out

@@ -53,7 +53,11 @@ scan_of_draft P order i r a xs ys zs d f g h =
     } in
     record {
       ascending = ascending_merged key (without xs ys) zs (ascending_without key xs ys f.ascending) h.ascending
-          (λ z w m n e. d.apart w (h.only w n).0 (subst (Contains i) (turned_same order z w e) (f.only z (without_only xs ys z m)).0));
+          (λ z w m n e.
+          let l = h.only w n in
+          let v = f.only z (without_only xs ys z m) in
+          let s = turned_same order z w e in
+          gone z m (g.has z (subst (Contains r) (sym s) (d.apart w l.0 (subst (Contains i) s v.0))) v.1));
       has = λ x c q. merged_has key (without xs ys) zs x
           (⊎_elim (λ s. inl (without_has xs ys x (f.has x s.stands q) (λ m. s.left (g.only x m).0))) (λ m. inr (h.has x m q)) (parts i r a x c));
       only = λ x c.

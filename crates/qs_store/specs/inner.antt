@@ -2,3 +2,5 @@
 pub mod Store
 pub mod Holding
 pub mod Copied
+pub mod Emptied
+pub mod Missing

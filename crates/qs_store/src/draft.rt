@@ -79,6 +79,29 @@ impl<'a> Draft<'a> {
         store.scan_draft_named(subject, predicate, object)
     }
 
+    /// About how many triples `scan` gives, by searches alone. Nothing is promised of the number: it serves as an estimate.
+    pub fn about(
+        &self,
+        active: Active,
+        subject: Option<u32>,
+        predicate: Option<u32>,
+        object: Option<u32>,
+    ) -> u64 {
+        let store: &Store = self.store;
+        store.about_draft(active, subject, predicate, object)
+    }
+
+    /// About how many quads `scan_named` gives, by searches alone. Nothing is promised of the number: it serves as an estimate.
+    pub fn about_named(
+        &self,
+        subject: Option<u32>,
+        predicate: Option<u32>,
+        object: Option<u32>,
+    ) -> u64 {
+        let store: &Store = self.store;
+        store.about_draft_named(subject, predicate, object)
+    }
+
     /// The quads of the draft, each once, in the order of quads (`Quad::order`), as copies. Its one refusal is running out of memory.
     pub fn quads(&self) -> Result<Vec<Quad>, StoreFault>
         ensures same { IfOk result (λ quads. SameBag self.now.store.now.draft.quads quads.items) }

@@ -1,5 +1,7 @@
 //! The entries of a store in one index, and apart in two others those that a draft removes and adds.
 //!
+//! An entry that a draft removed and gets again stays removed, and is added: so the removed ones only grow until the draft's end.
+//!
 //! Each change of a draft makes a buffer long enough and sets room aside. A commit moves its entries by way of the buffer, so
 //! that it takes no memory and still sorts them for each order. The buffer is given back at the end of the draft.
 
@@ -12,10 +14,13 @@ ghost use Rattle.qs_index.specs.Graph.{named_entries};
 ghost use Rattle.qs_store.specs.Change.{IsChanged};
 ghost use Rattle.qs_store.specs.inner.Copied.{AreCopies, AreNamed};
 ghost use Rattle.qs_store.specs.inner.Holding.{AreGraphsOf, HasGraph};
+ghost use Rattle.qs_store.specs.inner.Emptied.{IsRemoval};
+ghost use Rattle.qs_store.specs.inner.Missing.{IsMissing, IsUnionWith, MayBeMissing};
 ghost use Rattle.qs_store.specs.Layers.{drafted, IsPartOf};
 ghost use Rattle.qs_store.specs.Same.{SameSet};
 ghost use Rattle.qs_store.specs.Scans.{AreNamedQuadsOf, AreTriplesOf};
 
+use crate::emptied_graphs::{Emptied, are_out, is_all_out, is_emptied};
 use crate::graphs::Graphs;
 use crate::named_graphs::{graphs_in, graphs_in_draft, holds};
 use crate::named_quads::NamedQuads;
@@ -26,13 +31,14 @@ use std::marker::Model;
 
 /// The entries of a store, and of its draft: those of the index without the removed, and the added. For a commit there is room in the
 /// index for what is added, and in `batch` for either list. Where no entry that is added is of a named graph, none is set aside in the
-/// index for such.
+/// index for such. Of the `emptied` graphs the draft has no entries but the added ones.
 #[derive(Drop)]
 pub struct Layers {
     alloc: Global,
     index: Index,
     removed: Index,
     added: Index,
+    emptied: Emptied,
     batch: Vec<[u32; 4]>,
 }
 
@@ -47,7 +53,7 @@ impl Model for Layers {
       draft = drafted l.index.entries l.removed.entries l.added.entries;
     } };
 
-    ghost invariant = { λ l. AreLayers l.index l.removed l.added (length l.batch.items) };
+    ghost invariant = { λ l. AreLayers l.index l.removed l.added l.emptied (length l.batch.items) };
 }
 
 /// How many entries there are, and how many of them are of named graphs.
@@ -181,24 +187,81 @@ fn standing(alloc: Global, index: &Index, entries: &[[u32; 4]]) -> Result<Vec<[u
     Ok(part)
 }
 
-/// Those of the entries that the index lacks.
-fn missing(alloc: Global, index: &Index, entries: &[[u32; 4]]) -> Result<Vec<[u32; 4]>, AllocError>
-    ensures { IfOk result (λ part. IsPartOf entries.now part.items (λ x. ¬ Contains index.now.entries x)) }
+/// Whether the index lacks the entry, or it is removed.
+fn is_missing(index: &Index, removed: &Index, entry: &[u32; 4]) -> bool
+    ensures { IsTrue result ↔ IsMissing index.now.entries removed.now.entries entry.now }
+{
+    !index.contains(entry) || removed.contains(entry)
+}
+
+/// Whether the entry may be missing once those that are `taken` are removed, too: any may where there are such.
+fn may_be_missing(index: &Index, removed: &Index, taken: &[[u32; 4]], entry: &[u32; 4]) -> bool
+    ensures { IsTrue result ↔ MayBeMissing index.now.entries removed.now.entries taken.now entry.now }
+{
+    !taken.is_empty() || is_missing(index, removed, entry)
+}
+
+/// Those of the entries that may be missing once those that are `taken` are removed, too.
+fn missing(
+    alloc: Global,
+    index: &Index,
+    removed: &Index,
+    taken: &[[u32; 4]],
+    entries: &[[u32; 4]],
+) -> Result<Vec<[u32; 4]>, AllocError>
+    ensures { IfOk result (λ part. IsPartOf entries.now part.items (MayBeMissing index.now.entries removed.now.entries taken.now)) }
 {
     let mut part = Vec::new(alloc);
     for entry in entries {
-        if !index.contains(entry) {
+        if may_be_missing(index, removed, taken, entry) {
             part.push(*entry)?;
         }
     }
     Ok(part)
 }
 
+/// Writes those of the entries that are missing to the front of `batch`, and tells how many they are.
+fn gather(batch: &mut [[u32; 4]], index: &Index, removed: &Index, entries: &[[u32; 4]]) -> usize
+    requires { length entries.now ≤ length batch.old }
+    ensures part { IsPartOf entries.now (take result batch.new) (IsMissing index.now.entries removed.now.entries) }
+    ensures count { result ≤ length batch.new }
+{
+    let mut count: usize = 0;
+    for entry in entries {
+        if is_missing(index, removed, entry) {
+            batch[count] = *entry;
+            count += 1;
+        }
+    }
+    count
+}
+
+/// Puts those of the entries that are missing into `added`, which has room for them, by way of `batch`.
+fn put_missing(
+    added: &mut Index,
+    index: &Index,
+    removed: &Index,
+    batch: &mut [[u32; 4]],
+    entries: &[[u32; 4]],
+)
+    requires batch { length entries.now ≤ length batch.old }
+    requires spare { length entries.now ≤ added.old.spare }
+    requires named_spare { length (named_entries entries.now) ≤ added.old.named_spare }
+    ensures union { IsUnionWith added.old.entries entries.now (IsMissing index.now.entries removed.now.entries) added.new.entries }
+{
+    let count = gather(batch, index, removed, entries);
+    added.insert_all(&mut batch[..count]);
+}
+
 /// The entries of the index that stand in another one no more.
 fn kept(alloc: Global, index: &Index, removed: &Index) -> Result<Vec<[u32; 4]>, AllocError>
+    requires { IsRemoval index.now.entries removed.now.entries }
     ensures { IfOk result (λ kept. kept.items ≡ drafted index.now.entries removed.now.entries []) }
 {
     let mut kept = Vec::new(alloc);
+    if is_all_out(index, removed) {
+        return Ok(kept);
+    }
     for entry in index.entries() {
         if !removed.contains(&entry) {
             kept.push(entry)?;
@@ -228,6 +291,21 @@ fn put_into(alloc: Global, triples: Triples<'_>, graph: u32) -> Result<Vec<[u32;
     Ok(found)
 }
 
+/// About how many entries of these graphs have the numbers that are given.
+fn about(
+    index: &Index,
+    graphs: Graphs,
+    subject: Option<u32>,
+    predicate: Option<u32>,
+    object: Option<u32>,
+) -> u64 {
+    match graphs {
+        Graphs::Nothing => 0,
+        Graphs::One(graph) => index.about(graph, subject, predicate, object),
+        Graphs::Named => index.about_named(subject, predicate, object),
+    }
+}
+
 /// Makes `batch` no shorter than `n`.
 fn lengthen(batch: &mut Vec<[u32; 4]>, n: usize) -> Result<(), AllocError>
     ensures kept { length batch.old.items ≤ length batch.new.items }
@@ -250,6 +328,7 @@ impl Layers {
             index: Index::new(alloc),
             removed: Index::new(alloc),
             added: Index::new(alloc),
+            emptied: Emptied::new(alloc),
             batch: Vec::new(alloc),
         }
     }
@@ -300,7 +379,16 @@ impl Layers {
         requires { HaveFour self.now.draft }
         ensures { IfOk result (λ graphs. AreGraphsOf self.now.draft graphs.items) }
     {
-        graphs_in_draft(self.alloc, &self.index, &self.removed, &self.added)
+        if are_out(&self.index, &self.removed, &self.emptied, Graphs::Named) {
+            return graphs_in(self.alloc, &self.added);
+        }
+        graphs_in_draft(
+            self.alloc,
+            &self.index,
+            &self.removed,
+            &self.added,
+            &self.emptied,
+        )
     }
 
     /// The entries of the store.
@@ -327,7 +415,13 @@ impl Layers {
         ensures held { IsTrue result → HasGraph self.now.draft graph }
         ensures empty { HasGraph self.now.draft graph → IsTrue result }
     {
-        holds(&self.index, &self.removed, &self.added, graph)
+        holds(
+            &self.index,
+            &self.removed,
+            &self.added,
+            &self.emptied,
+            graph,
+        )
     }
 
     /// The draft's entries of one graph, put into another one.
@@ -376,6 +470,9 @@ impl Layers {
     ) -> Triples<'_>
         ensures { AreTriplesOf graphs subject predicate object self.now.draft result }
     {
+        if are_out(&self.index, &self.removed, &self.emptied, graphs) {
+            return Triples::of_store(&self.added, graphs, subject, predicate, object);
+        }
         Triples::of_draft(
             &self.index,
             &self.removed,
@@ -408,6 +505,9 @@ impl Layers {
     ) -> NamedQuads<'_>
         ensures { AreNamedQuadsOf subject predicate object self.now.draft result }
     {
+        if are_out(&self.index, &self.removed, &self.emptied, Graphs::Named) {
+            return NamedQuads::of_store(&self.added, subject, predicate, object);
+        }
         NamedQuads::of_draft(
             &self.index,
             &self.removed,
@@ -418,6 +518,31 @@ impl Layers {
         )
     }
 
+    /// About how many triples `scan` gives.
+    pub fn about(
+        &self,
+        graphs: Graphs,
+        subject: Option<u32>,
+        predicate: Option<u32>,
+        object: Option<u32>,
+    ) -> u64 {
+        about(&self.index, graphs, subject, predicate, object)
+    }
+
+    /// About how many triples `scan_draft` gives.
+    pub fn about_draft(
+        &self,
+        graphs: Graphs,
+        subject: Option<u32>,
+        predicate: Option<u32>,
+        object: Option<u32>,
+    ) -> u64 {
+        let stored = about(&self.index, graphs, subject, predicate, object);
+        let removed = about(&self.removed, graphs, subject, predicate, object);
+        let added = about(&self.added, graphs, subject, predicate, object);
+        stored.saturating_sub(removed).saturating_add(added)
+    }
+
     /// Forgets what the draft has added and removed.
     pub fn reset(&mut self)
         ensures base { self.new.base ≡ self.old.base }
@@ -425,6 +550,7 @@ impl Layers {
     {
         self.removed = Index::new(self.alloc);
         self.added = Index::new(self.alloc);
+        self.emptied = Emptied::new(self.alloc);
         self.batch = Vec::new(self.alloc);
     }
 
@@ -437,6 +563,7 @@ impl Layers {
         put_all(&mut self.index, &self.added, self.batch.as_mut_slice());
         self.removed = Index::new(self.alloc);
         self.added = Index::new(self.alloc);
+        self.emptied = Emptied::new(self.alloc);
         self.batch = Vec::new(self.alloc);
     }
 
@@ -453,6 +580,7 @@ impl Layers {
             Ok(()) => {
                 set(&mut self.removed, Index::new(self.alloc));
                 set(&mut self.added, Index::new(self.alloc));
+                set(&mut self.emptied, Emptied::new(self.alloc));
                 set(&mut self.batch, Vec::new(self.alloc));
                 Ok(())
             }
@@ -460,15 +588,15 @@ impl Layers {
         }
     }
 
-    /// Takes the first entries out of the draft, and puts the others in. It leaves both in some order. Where it is refused the draft
+    /// Takes the first entries out of the draft, which leaves them in some order, and puts the others in. Where it is refused the draft
     /// stays as it was.
-    pub fn change(&mut self, outs: &mut [[u32; 4]], ins: &mut [[u32; 4]]) -> Result<(), AllocError>
+    pub fn change(&mut self, outs: &mut [[u32; 4]], ins: &[[u32; 4]]) -> Result<(), AllocError>
         ensures base { self.new.base ≡ self.old.base }
-        ensures draft { OnOk result (IsChanged self.old.draft outs.old ins.old self.new.draft) }
+        ensures draft { OnOk result (IsChanged self.old.draft outs.old ins.now self.new.draft) }
         ensures refused { OnErr result (self.new.draft ≡ self.old.draft) }
     {
         let mut taken = standing(self.alloc, &self.index, outs)?;
-        let mut put = missing(self.alloc, &self.index, ins)?;
+        let put = missing(self.alloc, &self.index, &self.removed, &taken, ins)?;
         let more_removed = count(&taken);
         let more_added = count(&put);
         let most_removed = with_more(&self.removed, more_removed)?;
@@ -480,8 +608,32 @@ impl Layers {
         reserve(&mut self.index, most_added)?;
         self.added.remove_all(outs);
         self.removed.insert_all(taken.as_mut_slice());
-        self.removed.remove_all(ins);
-        self.added.insert_all(put.as_mut_slice());
+        put_missing(
+            &mut self.added,
+            &self.index,
+            &self.removed,
+            self.batch.as_mut_slice(),
+            &put,
+        );
         Ok(())
+    }
+
+    /// Notes the graph where all entries of it that the store has are removed, so that no reader of the draft goes over them again. Out of
+    /// memory it isn't noted.
+    pub fn note(&mut self, graph: u32)
+        ensures base { self.new.base ≡ self.old.base }
+        ensures draft { self.new.draft ≡ self.old.draft }
+    {
+        if are_out(
+            &self.index,
+            &self.removed,
+            &self.emptied,
+            Graphs::One(graph),
+        ) {
+            return;
+        }
+        if is_emptied(&self.index, &self.removed, graph) {
+            let _ = self.emptied.note(graph);
+        }
     }
 }

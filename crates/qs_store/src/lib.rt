@@ -5,6 +5,7 @@
 mod active;
 mod default_graph;
 mod draft;
+mod emptied_graphs;
 mod fault;
 mod graphs;
 mod kept;

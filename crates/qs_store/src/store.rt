@@ -31,14 +31,14 @@ ghost use Rattle.qs_store.specs.declared.fault.StoreFault.TheVariants.{Memory};
 use crate::active::Active;
 use crate::default_graph::DefaultGraph;
 use crate::fault::StoreFault;
-use crate::graphs::graphs_of;
+use crate::graphs::{Graphs, graphs_of};
 use crate::layers::Layers;
 use crate::named_quads::NamedQuads;
 use crate::numbers::{entries_of, entry_of, numbered, numbered_all};
 use crate::quads::quads_of;
 use crate::removal::Removal;
 use crate::triples::Triples;
-use crate::whole_graphs::{entries_in, entries_named, filled, remove, transfer};
+use crate::whole_graphs::{entries_in, entries_named, filled, note, remove, transfer};
 use qs_dict::Dict;
 use qs_terms::{Quad, Term};
 use std::alloc::Global;
@@ -96,9 +96,9 @@ fn change(
     ensures limit { dict.new.limit ≡ dict.old.limit }
     ensures base { layers.new.base ≡ layers.old.base }
 {
-    let mut ins = numbered_all(alloc, dict, add)?;
+    let ins = numbered_all(alloc, dict, add)?;
     let mut outs = entries_of(alloc, dict, remove)?;
-    layers.change(outs.as_mut_slice(), ins.as_mut_slice())?;
+    layers.change(outs.as_mut_slice(), &ins)?;
     Ok(())
 }
 
@@ -298,6 +298,51 @@ impl Store {
         self.layers.scan_draft_named(subject, predicate, object)
     }
 
+    /// About how many triples `scan` gives, by searches alone. Nothing is promised of the number: it serves as an estimate.
+    pub fn about(
+        &self,
+        active: Active,
+        subject: Option<u32>,
+        predicate: Option<u32>,
+        object: Option<u32>,
+    ) -> u64 {
+        let graphs = graphs_of(active, self.default_graph);
+        self.layers.about(graphs, subject, predicate, object)
+    }
+
+    // About how many triples `scan_draft` gives.
+    pub(crate) fn about_draft(
+        &self,
+        active: Active,
+        subject: Option<u32>,
+        predicate: Option<u32>,
+        object: Option<u32>,
+    ) -> u64 {
+        let graphs = graphs_of(active, self.default_graph);
+        self.layers.about_draft(graphs, subject, predicate, object)
+    }
+
+    /// About how many quads `scan_named` gives, by searches alone. Nothing is promised of the number: it serves as an estimate.
+    pub fn about_named(
+        &self,
+        subject: Option<u32>,
+        predicate: Option<u32>,
+        object: Option<u32>,
+    ) -> u64 {
+        self.layers.about(Graphs::Named, subject, predicate, object)
+    }
+
+    // About how many quads `scan_draft_named` gives.
+    pub(crate) fn about_draft_named(
+        &self,
+        subject: Option<u32>,
+        predicate: Option<u32>,
+        object: Option<u32>,
+    ) -> u64 {
+        self.layers
+            .about_draft(Graphs::Named, subject, predicate, object)
+    }
+
     /// The numbers of the names of the graphs that have quads, ascending. Its one refusal is running out of memory.
     pub fn graphs(&self) -> Result<Vec<u32>, StoreFault>
         ensures graphs { IfOk result (λ graphs. AreGraphs self.now.base graphs.items) }
@@ -482,6 +527,7 @@ impl Store {
     {
         let mut outs = entries_in(self.alloc, &self.dict, &self.layers, name)?;
         remove(&self.dict, &mut self.layers, outs.as_mut_slice())?;
+        note(&self.dict, &mut self.layers, name);
         Ok(())
     }
 

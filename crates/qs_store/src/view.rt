@@ -86,6 +86,18 @@ pub trait View {
     ) -> NamedQuads<'_>
         ensures { AreNamedQuads (content self.now) subject predicate object result };
 
+    /// About how many triples `scan` gives. It takes no memory, and goes over none. Nothing is promised of the number: it serves as an estimate.
+    fn about(
+        &self,
+        active: Active,
+        subject: Option<u32>,
+        predicate: Option<u32>,
+        object: Option<u32>,
+    ) -> u64;
+
+    /// About how many quads `scan_named` gives. It takes no memory, and goes over none. Nothing is promised of the number.
+    fn about_named(&self, subject: Option<u32>, predicate: Option<u32>, object: Option<u32>) -> u64;
+
     /// The numbers of the names of the graphs that have quads, ascending. Its one refusal is running out of memory.
     fn graphs(&self) -> Result<Vec<u32>, StoreFault>
         ensures graphs { IfOk result (λ graphs. AreGraphs (content self.now) graphs.items) }
@@ -150,6 +162,25 @@ impl View for Store {
         Store::scan_named(self, subject, predicate, object)
     }
 
+    fn about(
+        &self,
+        active: Active,
+        subject: Option<u32>,
+        predicate: Option<u32>,
+        object: Option<u32>,
+    ) -> u64 {
+        Store::about(self, active, subject, predicate, object)
+    }
+
+    fn about_named(
+        &self,
+        subject: Option<u32>,
+        predicate: Option<u32>,
+        object: Option<u32>,
+    ) -> u64 {
+        Store::about_named(self, subject, predicate, object)
+    }
+
     fn graphs(&self) -> Result<Vec<u32>, StoreFault> {
         Store::graphs(self)
     }
@@ -209,6 +240,25 @@ impl<'a> View for Draft<'a> {
         object: Option<u32>,
     ) -> NamedQuads<'_> {
         Draft::scan_named(self, subject, predicate, object)
+    }
+
+    fn about(
+        &self,
+        active: Active,
+        subject: Option<u32>,
+        predicate: Option<u32>,
+        object: Option<u32>,
+    ) -> u64 {
+        Draft::about(self, active, subject, predicate, object)
+    }
+
+    fn about_named(
+        &self,
+        subject: Option<u32>,
+        predicate: Option<u32>,
+        object: Option<u32>,
+    ) -> u64 {
+        Draft::about_named(self, subject, predicate, object)
     }
 
     fn graphs(&self) -> Result<Vec<u32>, StoreFault> {

@@ -112,6 +112,37 @@ fn entries_copied(
     Ok(layers.draft_copies(from, to)?)
 }
 
+/// Notes a graph whose quads were removed.
+pub fn note(dict: &Dict, layers: &mut Layers, name: Option<&Term>)
+    ensures base { layers.new.base ≡ layers.old.base }
+    ensures draft { layers.new.draft ≡ layers.old.draft }
+{
+    if let Some(graph) = graph_number(dict, name) {
+        layers.note(graph);
+    }
+}
+
+/// Notes the graphs whose quads were removed before those of a graph were put into another one.
+fn note_removed(
+    dict: &Dict,
+    layers: &mut Layers,
+    removal: Removal,
+    from: Option<&Term>,
+    to: Option<&Term>,
+)
+    ensures base { layers.new.base ≡ layers.old.base }
+    ensures draft { layers.new.draft ≡ layers.old.draft }
+{
+    match removal {
+        Removal::Nothing => {}
+        Removal::Target => note(dict, layers, to),
+        Removal::Both => {
+            note(dict, layers, to);
+            note(dict, layers, from);
+        }
+    }
+}
+
 /// Puts the quads of a graph into another one, where those of `removal` are removed before. Where it is refused the draft's entries stay,
 /// and the dictionary may have a term after those that it had.
 pub fn transfer(
@@ -134,10 +165,11 @@ pub fn transfer(
     ensures limit { dict.new.limit ≡ dict.old.limit }
     ensures base { layers.new.base ≡ layers.old.base }
 {
-    let mut ins = entries_copied(alloc, dict, layers, from, to)?;
+    let ins = entries_copied(alloc, dict, layers, from, to)?;
     let _count = dict.len();
     let mut outs = entries_removed(alloc, dict, layers, removal, from, to)?;
-    layers.change(outs.as_mut_slice(), ins.as_mut_slice())?;
+    layers.change(outs.as_mut_slice(), &ins)?;
+    note_removed(dict, layers, removal, from, to);
     Ok(())
 }
 
@@ -152,5 +184,5 @@ pub fn remove(dict: &Dict, layers: &mut Layers, outs: &mut [[u32; 4]]) -> Result
     ensures base { layers.new.base ≡ layers.old.base }
 {
     let _count = dict.len();
-    layers.change(outs, &mut [])
+    layers.change(outs, &[])
 }

@@ -14,3 +14,6 @@ mod tree;
 pub use crate::drop_tree::{drop_query, drop_update};
 pub use crate::parse::{parse_query, parse_update};
 pub use crate::token::tokens;
+pub use qs_syntax_ast::pattern::Group;
+pub use qs_syntax_ast::query::Query;
+pub use qs_syntax_ast::update::Update;

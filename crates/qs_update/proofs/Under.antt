@@ -1,5 +1,5 @@
 -- What templates do under all solutions of a WHERE.
-use Rattle.std.proofs.Common.{◌≡◌, ℕ, List, Option, Ok, Err, sym, ap, subst, inl, inr}
+use Rattle.std.proofs.Common.{◌≡◌, ℕ, Bool, List, Option, Ok, Err, sym, ap, subst, inl, inr}
 use Rattle.qs_terms.specs.Bag.{SameBag}
 use Rattle.qs_terms.specs.Outcome.{Outcome, OrOutOfMemory, OneOrOutOfMemory}
 use Rattle.qs_terms.specs.Statement.{Statement}
@@ -7,9 +7,12 @@ use Rattle.qs_terms.specs.declared.fault.QFault.{QFault}
 use Rattle.qs_terms.specs.declared.fault.QFault.TheVariants.{TooManyRows}
 use Rattle.qs_terms.specs.declared.term.Term.{Term}
 use Rattle.qs_algebra_solutions.specs.Solution.{Solution}
+use Rattle.qs_algebra_solutions.specs.declared.answer.Answer.{Answer}
+use Rattle.qs_algebra_solutions.specs.declared.answer.Answer.TheVariants.{Solutions, Truth, Graph}
 use Rattle.qs_query_template.specs.declared.template.Template.{Template}
 use Rattle.qs_algebra_patterns.specs.declared.named_pattern.Pattern.{Pattern}
 use Rattle.qs_store.specs.declared.default_graph.DefaultGraph.{DefaultGraph}
+use Rattle.qs_query_forms.specs.Outcome.{IsAllSolutions}
 use Rattle.qs_update.specs.Effect.{solutions, modified, IsModified}
 use Rattle.qs_update.specs.inner.Rows.{AreAllRows}
 use Rattle.qs_update.specs.declared.effect.Effect.{Effect}
@@ -43,3 +46,13 @@ same_effect a b c d next r s result e f g h =
 pub same_rows : (max_rows : ℕ) (p q : Pattern) (default : DefaultGraph) (name : Option Term) (quads : List Statement) (result : Outcome (List Solution)) → p ≡ q
     → OneOrOutOfMemory (AreAllRows max_rows (solutions p default name quads)) result → OneOrOutOfMemory (AreAllRows max_rows (solutions q default name quads)) result
 same_rows max_rows p q default name quads result e h = subst (λ (x : Pattern). OneOrOutOfMemory (AreAllRows max_rows (solutions x default name quads)) result) e h
+
+-- all solutions are answered by solutions, in no other form
+module _ (p : Pattern) (all : List Solution) (max_rows : ℕ) where
+  pub no_truth : (b : Bool) → OneOrOutOfMemory (IsAllSolutions p all max_rows) (Ok (Truth b)) → ⊥
+  no_truth b (inl x) = let k : Ok (Truth b) ≡ Err TooManyRows = x.1 in cc
+  no_truth b (inr x) = let k : Ok (Truth b) ≡ Ok (Solutions p.names x.1) = x.3 in cc
+
+  pub no_graph : (quads : List Statement) → OneOrOutOfMemory (IsAllSolutions p all max_rows) (Ok (Graph quads)) → ⊥
+  no_graph quads (inl x) = let k : Ok (Graph quads) ≡ Err TooManyRows = x.1 in cc
+  no_graph quads (inr x) = let k : Ok (Graph quads) ≡ Ok (Solutions p.names x.1) = x.3 in cc

@@ -105,6 +105,7 @@ fn lent_rows<'a>(alloc: Global, rows: &'a [Row]) -> Result<Vec<&'a Row>, AllocEr
 }
 
 // All solutions of a WHERE over the draft, in any order.
+#[tactic(auto, using(crate::proofs::Under::no_truth, crate::proofs::Under::no_graph))]
 fn all_solutions(
     alloc: Global,
     pattern: &Pattern,
@@ -117,8 +118,8 @@ fn all_solutions(
     let answer = solutions(alloc, pattern, draft, with, max_rows)?;
     match answer {
         Answer::Solutions { vars: _, rows } => Ok(rows),
-        Answer::Truth(_) => Ok(Items::new(alloc)),
-        Answer::Graph(_) => Ok(Items::new(alloc)),
+        Answer::Truth(_) => unreachable!(),
+        Answer::Graph(_) => unreachable!(),
     }
 }
 

@@ -342,3 +342,32 @@ fn keeps_the_limits(rt: HostRuntime) {
         assert!(rt; matches!(is_right, Ok(true)), "row {row}");
     }
 }
+
+/// A query by GET and an update by POST.
+const CUT: &[(&[u8], End)] = &[
+    (
+        b"GET /query?query=ASK%7B%3Fs+%3Fp+%3Fo%7D HTTP/1.1\r\nHost: e\r\n\r\n",
+        End::Query("ASK{?s ?p ?o}"),
+    ),
+    (
+        b"POST /update HTTP/1.1\r\nHost: e\r\nContent-Type: application/sparql-update\r\nContent-Length: 54\r\n\r\nINSERT DATA { <http://e/a> <http://e/p> <http://e/b> }",
+        End::Update("INSERT DATA { <http://e/a> <http://e/p> <http://e/b> }"),
+    ),
+];
+
+/// Whether each front that lacks bytes wants more, and the whole is read.
+fn wants_the_last(alloc: Global, bytes: &[u8], end: End) -> bool {
+    for len in 0..bytes.len() {
+        if !comes_to(alloc, &bytes[..len], bytes.len(), End::More) {
+            return false;
+        }
+    }
+    comes_to(alloc, bytes, bytes.len(), end)
+}
+
+#[test]
+fn each_front_wants_more(rt: HostRuntime) {
+    for (bytes, end) in CUT {
+        assert!(rt; wants_the_last(rt.alloc(), bytes, *end));
+    }
+}

@@ -52,10 +52,10 @@ fn count_of(slot: &Slot) -> Option<u64> {
 }
 
 impl Counts for Known {
-    fn about(&self, _look: &Look, pattern: &TriplePattern, limit: u64) -> u64 {
+    fn about(&self, _look: &Look, pattern: &TriplePattern) -> u64 {
         match count_of(&pattern.object) {
             Some(count) => count,
-            None => count_of(&pattern.predicate).unwrap_or(limit),
+            None => count_of(&pattern.predicate).unwrap_or(u64::MAX),
         }
     }
 }
@@ -87,7 +87,7 @@ const PLANS: &[(&str, &str)] = &[
         "SELECT * { ?a <u:p> ?b . ?b <u:p> ?c . ?c <u:p> ?d . ?d <u:rare> ?e }",
         "triple ?3 <u:rare> ?4\ntriple ?2 <u:p> ?3\ntriple ?1 <u:p> ?2\ntriple ?0 <u:p> ?1\n",
     ),
-    // a star: 409 triples are counted of each, and of those with as many the first of the text comes first
+    // a star: by the counts, and of those with as many the first of the text comes first
     (
         "SELECT * { ?x <u:n1> ?a . ?x <u:n2> ?b . ?x <u:n3> ?c . ?x <u:n4> ?d . ?x <u:n5> ?e . ?x <u:n6> ?f . ?x <u:n7> ?g . ?x <u:n8> ?h . ?x <u:n9> ?i . ?x <u:n10> ?j }",
         "triple ?0 <u:n4> ?4\ntriple ?0 <u:n8> ?8\ntriple ?0 <u:n2> ?2\ntriple ?0 <u:n7> ?7\ntriple ?0 <u:n6> ?6\ntriple ?0 <u:n10> ?10\ntriple ?0 <u:n1> ?1\ntriple ?0 <u:n3> ?3\ntriple ?0 <u:n5> ?5\ntriple ?0 <u:n9> ?9\n",
@@ -128,16 +128,21 @@ const PLANS: &[(&str, &str)] = &[
         "SELECT * { ?a <u:p>+ ?b . ?b <u:q> ?c }",
         "triple ?1 <u:q> ?2\npath ?0 <u:p>+ ?1\n",
     ),
-    // triples that share no variable with those before them are evaluated by themselves, once, if a filter reads variables of theirs alone
+    // a triple that shares no variable with those before it is evaluated by itself, once, if a filter reads variables of it alone
+    (
+        "SELECT * { ?a <u:type> <u:Small> . ?b <u:p> ?c FILTER(?c != ?b && ?a != ?b) }",
+        "triple ?0 <u:type> <u:Small>\njoin\n  triple ?1 <u:p> ?2\n  filter (!= ?2 ?1)\nfilter (!= ?0 ?1)\n",
+    ),
+    // but not if it takes another triple to have the variables of the filter
     (
         "SELECT * { ?a <u:type> <u:Small> . ?b <u:type> <u:Middle> . ?b <u:p> ?c FILTER(?c != ?b) }",
-        "triple ?0 <u:type> <u:Small>\njoin\n  triple ?1 <u:type> <u:Middle>\n  triple ?1 <u:p> ?2\n  filter (!= ?2 ?1)\n",
+        "triple ?0 <u:type> <u:Small>\ntriple ?1 <u:type> <u:Middle>\ntriple ?1 <u:p> ?2\nfilter (!= ?2 ?1)\n",
     ),
     (
         "SELECT * { ?a <u:type> <u:Small> . ?b <u:type> <u:Middle> FILTER(?a != ?b) }",
         "triple ?0 <u:type> <u:Small>\ntriple ?1 <u:type> <u:Middle>\nfilter (!= ?0 ?1)\n",
     ),
-    // but not where their rows may be too many to keep
+    // nor where its rows may be too many to keep
     (
         "SELECT * { ?a <u:type> <u:Small> . ?b <u:other> ?c FILTER(?c != ?b) }",
         "triple ?0 <u:type> <u:Small>\ntriple ?1 <u:other> ?2\nfilter (!= ?2 ?1)\n",
@@ -159,7 +164,7 @@ const PLANS: &[(&str, &str)] = &[
     // a table without a variable of the others comes last
     (
         "SELECT * { VALUES ?z { <u:x> } ?a <u:p> ?b . ?b <u:q> ?c }",
-        "triple ?1 <u:p> ?2\ntriple ?2 <u:q> ?3\nvalues ?0, rows: 1\n",
+        "triple ?2 <u:q> ?3\ntriple ?1 <u:p> ?2\nvalues ?0, rows: 1\n",
     ),
     // a union has as many as its branches together, and is ordered inside when it has its place
     (
@@ -177,7 +182,7 @@ const PLANS: &[(&str, &str)] = &[
     // a union without a variable of the others comes last
     (
         "SELECT * { { ?z <u:rare> <u:x> } UNION { ?z <u:rare> <u:y> } ?a <u:p> ?b . ?b <u:q> ?c }",
-        "triple ?1 <u:p> ?2\ntriple ?2 <u:q> ?3\nunion\n  branch\n    triple ?0 <u:rare> <u:x>\n  branch\n    triple ?0 <u:rare> <u:y>\n",
+        "triple ?2 <u:q> ?3\ntriple ?1 <u:p> ?2\nunion\n  branch\n    triple ?0 <u:rare> <u:x>\n  branch\n    triple ?0 <u:rare> <u:y>\n",
     ),
     // what is bound before the run counts as bound
     (

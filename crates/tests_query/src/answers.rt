@@ -70,7 +70,8 @@ const ANSWERED: &[(&str, &str)] = &[
     ),
 ];
 
-fn written_answer(alloc: Global, answer: Result<Answer, QFault>, line: &str) -> Outcome {
+/// Whether the answer is written as this line.
+pub fn written_answer(alloc: Global, answer: Result<Answer, QFault>, line: &str) -> Outcome {
     match answer {
         Ok(answer) => {
             let text = match &answer {
@@ -151,8 +152,9 @@ fn put(store: &mut Store, quads: &[Quad], next: u64) -> Outcome {
     }
 }
 
-fn put_data(alloc: Global, hasher: RandomState, store: &mut Store) -> Outcome {
-    match read_hashed(alloc, hasher, DATA, 0) {
+/// Puts the quads of the data into an empty store.
+pub fn put_data(alloc: Global, hasher: RandomState, store: &mut Store, data: &[u8]) -> Outcome {
+    match read_hashed(alloc, hasher, data, 0) {
         Ok((quads, next)) => {
             let outcome = put(store, quads.as_slice(), next);
             drop(quads);
@@ -175,7 +177,7 @@ fn full_outcome(alloc: Global, store: &mut Store) -> Outcome {
 }
 
 fn stored_outcome(alloc: Global, hasher: RandomState, store: &mut Store) -> Outcome {
-    let outcome = match put_data(alloc, hasher, store) {
+    let outcome = match put_data(alloc, hasher, store, DATA) {
         Outcome::Whole => answered_outcome(alloc, &*store),
         other => other,
     };

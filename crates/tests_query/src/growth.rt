@@ -2,7 +2,7 @@
 //! out of memory for an answer, but no other.
 
 use crate::outcome::Outcome;
-use crate::{answers, lines, operations, patterns, quads, tokens, written};
+use crate::{answers, lines, operations, patterns, quads, queries, tokens, written};
 use std::hash::RandomState;
 
 #[test]
@@ -73,4 +73,14 @@ fn written_strict(rt: HostRuntime) {
 #[test]
 fn written_tolerant(rt: HostRuntime) {
     assert!(rt; written::outcome(rt.alloc(), RandomState::new(&rt).ok()) != Outcome::Wrong);
+}
+
+#[test]
+fn queries_strict(rt: HostRuntime) {
+    assert!(rt; queries::outcome(rt.alloc(), RandomState::new(&rt).ok()) == Outcome::Whole);
+}
+
+#[test]
+fn queries_tolerant(rt: HostRuntime) {
+    assert!(rt; queries::outcome(rt.alloc(), RandomState::new(&rt).ok()) != Outcome::Wrong);
 }

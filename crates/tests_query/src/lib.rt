@@ -7,9 +7,13 @@
 #![tactic(auto)]
 
 #[cfg(test)]
+mod allowed;
+#[cfg(test)]
 mod answers;
 #[cfg(test)]
 mod expressions;
+#[cfg(test)]
+mod fronts;
 #[cfg(test)]
 mod growth;
 #[cfg(test)]
@@ -22,6 +26,8 @@ mod outcome;
 mod patterns;
 #[cfg(test)]
 mod quads;
+#[cfg(test)]
+mod queries;
 #[cfg(test)]
 mod rows;
 #[cfg(test)]

@@ -1,5 +1,6 @@
-//! How many entries a scan looks at, in indexes of four sizes.
+//! How many entries a scan looks at, and how many are counted, in indexes of four sizes.
 
+use qs_index::pages::Pages;
 use qs_index::{Index, PagePosition, Scan, count_named};
 use std::alloc::{AllocError, Global};
 
@@ -56,10 +57,20 @@ fn looks_of_all(index: &Index, size: u32) -> u128 {
     looks
 }
 
+/// Whether the entries of all, of one predicate, of one entry and of nothing are counted. The sizes fill their pages but the last.
+fn are_counted(index: &Index, size: u32, first: u32) -> bool {
+    index.about(0, None, None, None) == u64::from(size)
+        && index.about(0, None, Some(0), None) == u64::from(first)
+        && index.about(0, Some(0), Some(0), Some(0)) == 1
+        && index.about(1, None, None, None) == 0
+        && index.about_named(None, None, None) == 0
+}
+
 fn is_bound(alloc: Global, size: u32, first: u32, bound: u128) -> bool {
     let mut index = Index::new(alloc);
     let is_few = fill(&mut index, size, alloc).is_ok()
         && are_few(&index, size, first, bound)
+        && are_counted(&index, size, first)
         && looks_of_all(&index, size) <= u128::from(size).saturating_mul(4);
     drop(index);
     is_few
@@ -70,4 +81,26 @@ fn scans_look_at_few_entries(rt: HostRuntime) {
     for (size, first, bound) in BOUNDS {
         assert!(rt; is_bound(rt.alloc(), *size, *first, *bound));
     }
+}
+
+/// Whether a look at the one entry of some pages makes a count of six one of seven.
+fn counts_a_look(alloc: Global) -> Result<bool, AllocError> {
+    let mut pages = Pages::new(alloc);
+    pages.set_aside(1)?;
+    pages.put_last([0, 1, 2, 3]);
+    let mut looked = 6;
+    let entry = *pages.look(PagePosition { page: 0, at: 0 }, &mut looked);
+    Ok(entry == [0, 1, 2, 3] && looked == 7)
+}
+
+fn is_counted(alloc: Global) -> bool {
+    match counts_a_look(alloc) {
+        Ok(is_right) => is_right,
+        Err(_) => false,
+    }
+}
+
+#[test]
+fn a_look_is_counted(rt: HostRuntime) {
+    assert!(rt; is_counted(rt.alloc()));
 }

@@ -1,6 +1,6 @@
-use Rattle.std.proofs.Common.{◌≤◌, [], length, take}
+use Rattle.std.proofs.Common.{[], take}
 use Rattle.qs_plan.specs.inner.Certain.{SameFrom}
 use Rattle.qs_plan.proofs.parts.+parted.Given as goal
 
 abbrev pub invariant-parted_stages-loop-at : goal.invariant-parted_stages-loop-at
-invariant-parted_stages-loop-at g l = (l.at ≤ l.past) × ((l.past ≤ length l.stages) × SameFrom l.size [] l.done (take l.past l.stages))
+invariant-parted_stages-loop-at g l = SameFrom l.size [] l.done (take l.at-counter l.stages)

@@ -1,6 +1,7 @@
-use Rattle.std.proofs.Common.{Contains, take}
+use Rattle.std.proofs.Common.{take}
+use Rattle.qs_store.specs.inner.Missing.{MayBeMissing}
 use Rattle.qs_store.specs.Layers.{IsPartOf}
 use Rattle.qs_store.proofs.layers.missing.Given as goal
 
 abbrev pub invariant-loop-entry : goal.invariant-loop-entry
-invariant-loop-entry l = IsPartOf (take l.entry-index l.entries) l.part.items (λ x. ¬ Contains l.index.entries x)
+invariant-loop-entry l = IsPartOf (take l.entry-index l.entries) l.part.items (MayBeMissing l.index.entries l.removed.entries l.taken)

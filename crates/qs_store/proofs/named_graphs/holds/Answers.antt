@@ -1,13 +1,23 @@
-use Rattle.qs_store.specs.Layers.{drafted}
-use Rattle.qs_store.proofs.Holding.{triple_tells, none_tells}
+use Rattle.std.proofs.Common.{refl}
+use Rattle.qs_store.proofs.Out.{added_holds, four_of_added, holds_added, removal}
 use Rattle.qs_store.proofs.named_graphs.holds.Goals as goal
 
-pub returns-in-None-clause-empty : goal.returns-in-None-clause-empty
-returns-in-None-clause-empty c =
+pub are_out-requires-clause-removal : goal.are_out-requires-clause-removal
+are_out-requires-clause-removal c =
     let a = c.args in
-    λ h. absurd (none_tells a.graph (drafted a.index.now.entries a.removed.now.entries a.added.now.entries) c.of_draft-triples.result c.requires.four c.of_draft-triples.ensures c.in-None.ensures.steps.0 h)
+    removal a.index.now.entries a.removed.now.entries a.added.now.entries c.requires.draft
 
-pub returns-in-Some-clause-held : goal.returns-in-Some-clause-held
-returns-in-Some-clause-held c =
+pub has-requires : goal.has-requires
+has-requires c =
     let a = c.args in
-    λ h. triple_tells a.graph (drafted a.index.now.entries a.removed.now.entries a.added.now.entries) c.of_draft-triples.result c.next.new.self c.in-Some.field-0 c.of_draft-triples.ensures c.in-Some.ensures.steps
+    record { four = four_of_added a.index.now.entries a.removed.now.entries a.added.now.entries c.requires.four }
+
+pub returns-then-are_out-clause-held : goal.returns-then-are_out-clause-held
+returns-then-are_out-clause-held c =
+    let a = c.args in
+    λ h. holds_added a.graph a.index.now.entries a.removed.now.entries a.added.now.entries (c.has.ensures.held h)
+
+pub returns-then-are_out-clause-empty : goal.returns-then-are_out-clause-empty
+returns-then-are_out-clause-empty c =
+    let a = c.args in
+    λ h. c.has.ensures.empty (added_holds a.graph a.index.now.entries a.removed.now.entries a.added.now.entries (c.if-are_out.ensures refl) h)

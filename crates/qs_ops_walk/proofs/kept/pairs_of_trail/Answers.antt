@@ -3,7 +3,7 @@ use Rattle.qs_ops_scans.proofs.FedPairs.{serve_all}
 use Rattle.qs_ops_scans.specs.Paths.{row_ends}
 use Rattle.qs_ops_walk.specs.inner.Setting.{known_of}
 use Rattle.qs_ops_walk.proofs.Still.{end_pairs_still, pairs_still}
-use Rattle.qs_ops_walk.proofs.walk.pairs_of_trail.Goals as goal
+use Rattle.qs_ops_walk.proofs.kept.pairs_of_trail.Goals as goal
 
 pub returns-then-are_bound-clause-kept : goal.returns-then-are_bound-clause-kept
 returns-then-are_bound-clause-kept g c =

@@ -1,6 +1,6 @@
 use Rattle.std.proofs.Common.{arith}
 use Rattle.qs_index.proofs.Looks.{start_fits}
-use Rattle.qs_index.proofs.order.Order.first.Goals as goal
+use Rattle.qs_index.proofs.order.Order.place_from.Goals as goal
 
 pub find-requires-clause-countable : goal.find-requires-clause-countable
 find-requires-clause-countable c =

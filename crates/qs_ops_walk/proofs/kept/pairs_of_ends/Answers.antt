@@ -1,5 +1,5 @@
 use Rattle.qs_ops_walk.proofs.Still.{end_pairs_made}
-use Rattle.qs_ops_walk.proofs.walk.pairs_of_ends.Goals as goal
+use Rattle.qs_ops_walk.proofs.kept.pairs_of_ends.Goals as goal
 
 pub returns-clause-last : goal.returns-clause-last
 returns-clause-last g c =
