@@ -11,7 +11,7 @@ use crate::translation::{in_graph, unfiltered};
 use qs_algebra_patterns::{Pattern, PatternNode, Step};
 use qs_syntax_ast::term::{VarOrIri, Variable};
 use qs_syntax_ast::update::QuadBlock;
-use qs_syntax_scope::{NameList, numbered};
+use qs_syntax_scope::{NameList, number_names};
 use qs_terms::QFault;
 use sqlite_items::Items;
 use std::alloc::{AllocError, Global};
@@ -64,7 +64,7 @@ fn blocks_pattern(
 ) -> Result<PatternNode, AllocError>
     ensures { IfOk result (λ p. p ≡ spec.unfiltered (map (spec.block_step (first.names_of variables.now)) blocks.now)) }
 {
-    let names = numbered(alloc, variables)?;
+    let names = number_names(alloc, variables)?;
     let steps = block_steps(alloc, &names, blocks)?;
     unfiltered(alloc, steps)
 }

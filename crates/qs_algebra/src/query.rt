@@ -19,7 +19,7 @@ use qs_base::keep_beside;
 use qs_syntax_ast::pattern::{Group, InlineData};
 use qs_syntax_ast::query::{Construct, Projection, Query, QueryForm, SelectItem};
 use qs_syntax_ast::term::Variable;
-use qs_syntax_scope::{NameList, group_variables, numbered};
+use qs_syntax_scope::{NameList, group_variables, number_names};
 use qs_terms::{QFault, Text};
 use sqlite_items::Items;
 use std::alloc::{AllocError, Global};
@@ -169,7 +169,7 @@ pub fn named(
 fn query_pattern(alloc: Global, query: &Query) -> Result<PatternNode, AllocError>
     ensures { IfOk result (λ p. p ≡ spec.query_pattern query.now) }
 {
-    let names = numbered(alloc, query.variables.as_slice())?;
+    let names = number_names(alloc, query.variables.as_slice())?;
     let pattern = form_pattern(alloc, &names, &query.form)?;
     let pattern = with_steps(alloc, &names, query, pattern)?;
     Ok(pattern)
@@ -196,7 +196,7 @@ fn where_pattern(
 ) -> Result<PatternNode, AllocError>
     ensures { IfOk result (λ p. p ≡ spec.group_pattern (first.names_of variables.now) group.now) }
 {
-    let names = numbered(alloc, variables)?;
+    let names = number_names(alloc, variables)?;
     let pattern = group_pattern(alloc, &names, group)?;
     Ok(pattern)
 }

@@ -84,7 +84,7 @@ impl Row {
     }
 
     /// The terms of these variables alone, in their order (SPARQL 1.1 Query, 18.5: Project).
-    pub fn projected(&self, alloc: Global, columns: &[usize]) -> Result<Row, AllocError>
+    pub fn project(&self, alloc: Global, columns: &[usize]) -> Result<Row, AllocError>
         ensures { IfOk result (λ r. r ≡ projected columns.now self.now) }
     {
         let mut cells = Vec::with_capacity(alloc, columns.len())?;

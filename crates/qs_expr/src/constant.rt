@@ -10,7 +10,7 @@ ghost use Rattle.qs_expr_values.specs.Values as of_terms;
 ghost use Rattle.qs_expr.specs.inner.Against.{ordered, satisfies, with_constant};
 
 use qs_expr_meaning::{Comparison, Expr};
-use qs_expr_values::{Value, Worth, compared, worth_of};
+use qs_expr_values::{Value, Worth, compare, worth_of};
 use qs_terms::Term;
 use std::cmp::Ordering;
 
@@ -94,9 +94,9 @@ impl<'e> AgainstConstant<'e> {
     {
         let value = Value::Term(term);
         if self.first {
-            compared(self.worth, worth_of(&value))
+            compare(self.worth, worth_of(&value))
         } else {
-            compared(worth_of(&value), self.worth)
+            compare(worth_of(&value), self.worth)
         }
     }
 

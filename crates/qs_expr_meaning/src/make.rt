@@ -13,7 +13,7 @@ use crate::bindings::Bindings;
 use crate::evaluate::{truth, value};
 use crate::expr::Expr;
 use crate::fault::ExprFault;
-use qs_expr_values::{Key, Value, made};
+use qs_expr_values::{Key, Value, make_term};
 use qs_terms::Term;
 use std::alloc::{AllocError, Global};
 
@@ -22,7 +22,7 @@ pub fn eval_terms<B: Bindings>(alloc: Global, expr: &Expr, bindings: &B) -> Resu
     ensures { Comes (makes expr.now || is_some (meaning (B.solution bindings.now) expr.now)) (meaning (B.solution bindings.now) expr.now) result }
 {
     let value = value(alloc, expr, bindings)?;
-    match made(alloc, value) {
+    match make_term(alloc, value) {
         Ok(term) => Ok(term),
         Err(_) => Err(ExprFault::Memory),
     }

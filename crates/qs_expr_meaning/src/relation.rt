@@ -9,13 +9,13 @@ ghost use Rattle.qs_expr_meaning.specs.Calls.{integer_of_worth};
 ghost use Rattle.qs_expr_meaning.specs.Meaning as spec;
 
 use crate::operator::{Comparison, Sign};
-use qs_expr_values::{Value, Worth, added, equal, multiplied, negated, subtracted, worth_of};
+use qs_expr_values::{Value, Worth, add, equal, multiply, negate, subtract, worth_of};
 use std::cmp::Ordering;
 
 fn order(a: &Value<'_>, b: &Value<'_>) -> Option<Ordering>
     ensures { result ≡ of.compare (of.worth (term_of a.entry.now)) (of.worth (term_of b.entry.now)) }
 {
-    qs_expr_values::compared(worth_of(a), worth_of(b))
+    qs_expr_values::compare(worth_of(a), worth_of(b))
 }
 
 /// `=`, `!=`, `<`, `>`, `<=`, `>=`; none is an error.
@@ -62,8 +62,8 @@ pub(crate) fn with_part(sign: Sign, sum: i128, part: i128) -> Option<i128>
     ensures { result ≡ spec.applied (spec.by_sign sign) (Some sum) (Some part) }
 {
     match sign {
-        Sign::Plus => added(sum, part),
-        Sign::Minus => subtracted(sum, part),
+        Sign::Plus => add(sum, part),
+        Sign::Minus => subtract(sum, part),
     }
 }
 
@@ -71,7 +71,7 @@ pub(crate) fn with_part(sign: Sign, sum: i128, part: i128) -> Option<i128>
 pub(crate) fn with_factor(product: i128, factor: i128) -> Option<i128>
     ensures { result ≡ spec.applied spec.times (Some product) (Some factor) }
 {
-    multiplied(product, factor)
+    multiply(product, factor)
 }
 
 /// The number after a sign.
@@ -80,6 +80,6 @@ pub(crate) fn with_sign(sign: Sign, number: i128) -> Option<i128>
 {
     match sign {
         Sign::Plus => Some(number),
-        Sign::Minus => negated(number),
+        Sign::Minus => negate(number),
     }
 }

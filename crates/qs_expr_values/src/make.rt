@@ -72,7 +72,7 @@ fn tagged(alloc: Global, form: Text, lit: &Lit) -> Result<Term, AllocError>
         None => string(alloc, form),
         Some(tag) => {
             let tag = Text::new(alloc, tag)?;
-            let lit = of_lawful(Lit::tagged(alloc, form, tag))?;
+            let lit = of_lawful(Lit::with_tag(alloc, form, tag))?;
             Ok(Term::Literal(lit))
         }
     }
@@ -85,7 +85,7 @@ fn datatype(alloc: Global, datatype: Datatype<'_>) -> Result<Term, AllocError>
 }
 
 /// The term of a value.
-pub fn made(alloc: Global, value: Value<'_>) -> Result<Term, AllocError>
+pub fn make_term(alloc: Global, value: Value<'_>) -> Result<Term, AllocError>
     ensures { IfOk result (λ t. t ≡ term_of value.entry) }
 {
     match value {

@@ -92,7 +92,7 @@ pub(crate) fn is_not_zero(form: &str) -> bool
 
 /// The sum, unless it is out of the range.
 #[tactic(auto, using(crate::proofs::Numbers::checked))]
-pub fn added(a: i128, b: i128) -> Option<i128>
+pub fn add(a: i128, b: i128) -> Option<i128>
     ensures { result ≡ spec.in_range (Some (a +ℤ b)) }
 {
     a.checked_add(b)
@@ -100,7 +100,7 @@ pub fn added(a: i128, b: i128) -> Option<i128>
 
 /// The difference, unless it is out of the range.
 #[tactic(auto, using(crate::proofs::Numbers::checked))]
-pub fn subtracted(a: i128, b: i128) -> Option<i128>
+pub fn subtract(a: i128, b: i128) -> Option<i128>
     ensures { result ≡ spec.in_range (Some (a -ℤ b)) }
 {
     a.checked_sub(b)
@@ -108,7 +108,7 @@ pub fn subtracted(a: i128, b: i128) -> Option<i128>
 
 /// The product, unless it is out of the range.
 #[tactic(auto, using(crate::proofs::Numbers::checked))]
-pub fn multiplied(a: i128, b: i128) -> Option<i128>
+pub fn multiply(a: i128, b: i128) -> Option<i128>
     ensures { result ≡ spec.in_range (Some (a *ℤ b)) }
 {
     a.checked_mul(b)
@@ -116,7 +116,7 @@ pub fn multiplied(a: i128, b: i128) -> Option<i128>
 
 /// The number with the other sign, unless it is out of the range.
 #[tactic(auto, using(crate::proofs::Numbers::checked))]
-pub fn negated(a: i128) -> Option<i128>
+pub fn negate(a: i128) -> Option<i128>
     ensures { result ≡ spec.in_range (Some (neg_ℤ a)) }
 {
     a.checked_neg()

@@ -10,7 +10,7 @@ ghost use Rattle.qs_expr_values.specs.Value.{term_of};
 use crate::datatype::Datatype;
 use crate::number::{is_not_zero, is_other_than_zero};
 use crate::same::is_same;
-use crate::worth::{boolean_of, compared, worth_of};
+use crate::worth::{boolean_of, compare, worth_of};
 use arrayvec::ArrayString;
 use itoa::Buffer;
 use qs_terms::{Lit, Term, Text as OwnedText};
@@ -127,7 +127,7 @@ fn equal_terms(a: &Value<'_>, b: &Value<'_>) -> Option<bool>
 pub fn equal(a: &Value<'_>, b: &Value<'_>) -> Option<bool>
     ensures { result ≡ spec.equal (term_of a.entry.now) (term_of b.entry.now) }
 {
-    match compared(worth_of(a), worth_of(b)) {
+    match compare(worth_of(a), worth_of(b)) {
         Some(order) => Some(order.is_eq()),
         None => equal_terms(a, b),
     }

@@ -93,7 +93,7 @@ pub fn worth_of<'a>(value: &'a Value<'_>) -> Worth<'a>
 }
 
 /// How two values of one kind stand to each other.
-pub fn compared(a: Worth<'_>, b: Worth<'_>) -> Option<Ordering>
+pub fn compare(a: Worth<'_>, b: Worth<'_>) -> Option<Ordering>
     ensures { result ≡ spec.compare (seen a.entry) (seen b.entry) }
 {
     match (a, b) {

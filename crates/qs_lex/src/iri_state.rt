@@ -10,7 +10,7 @@ use crate::letter::is_iri_char;
 use crate::token::Class;
 use qs_lex_regular::character::is_iri_scalar;
 use qs_lex_regular::hex_digits::HexDigits;
-use qs_lex_regular::push::{Pushed, push};
+use qs_lex_regular::push::{PushResult, push};
 
 /// What has been read of an IRI, or of a mark that begins with `<`.
 #[derive(Clone, Copy)]
@@ -67,15 +67,15 @@ impl IriState {
             }
             IriState::Hex(escape) => {
                 match push(escape, c) {
-                    Pushed::Digit(next) => Some(IriState::Hex(next)),
-                    Pushed::Whole(value) => {
+                    PushResult::Digit(next) => Some(IriState::Hex(next)),
+                    PushResult::Whole(value) => {
                         if is_iri_scalar(value) {
                             Some(IriState::Body)
                         } else {
                             None
                         }
                     }
-                    Pushed::Other => None,
+                    PushResult::Other => None,
                 }
             }
             IriState::Done => None,

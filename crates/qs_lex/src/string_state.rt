@@ -8,7 +8,7 @@ use crate::quote::Quote;
 use crate::token::Class;
 use qs_lex_regular::character::{is_escaped, is_scalar};
 use qs_lex_regular::hex_digits::HexDigits;
-use qs_lex_regular::push::{Pushed, push};
+use qs_lex_regular::push::{PushResult, push};
 
 /// What has been read of a string.
 #[derive(Clone, Copy)]
@@ -96,15 +96,15 @@ impl StringState {
             }
             StringState::ShortHex(quote, escape) => {
                 match push(escape, c) {
-                    Pushed::Digit(next) => Some(StringState::ShortHex(quote, next)),
-                    Pushed::Whole(value) => {
+                    PushResult::Digit(next) => Some(StringState::ShortHex(quote, next)),
+                    PushResult::Whole(value) => {
                         if is_scalar(value) {
                             Some(StringState::Short(quote))
                         } else {
                             None
                         }
                     }
-                    Pushed::Other => None,
+                    PushResult::Other => None,
                 }
             }
             StringState::Long(quote) => {
@@ -147,15 +147,15 @@ impl StringState {
             }
             StringState::LongHex(quote, escape) => {
                 match push(escape, c) {
-                    Pushed::Digit(next) => Some(StringState::LongHex(quote, next)),
-                    Pushed::Whole(value) => {
+                    PushResult::Digit(next) => Some(StringState::LongHex(quote, next)),
+                    PushResult::Whole(value) => {
                         if is_scalar(value) {
                             Some(StringState::Long(quote))
                         } else {
                             None
                         }
                     }
-                    Pushed::Other => None,
+                    PushResult::Other => None,
                 }
             }
             StringState::Done => None,

@@ -4,7 +4,7 @@ ghost use Rattle.std.specs.Prelude.{◌≡◌, ◌<◌, ◌≤◌, ◌+◌, ◌-
 ghost use Rattle.qs_lex_escapes.specs.Escape.{hex_number, uchar, echar_of, string_escape, escape};
 
 use qs_lex_regular::hex_digits::HexDigits;
-use qs_lex_regular::push::{Pushed, push};
+use qs_lex_regular::push::{PushResult, push};
 
 /// A character, and how many bytes after the backslash name it.
 #[derive(Clone, Copy)]
@@ -29,9 +29,9 @@ fn hex_number(digits: HexDigits, bytes: &[u8]) -> Option<u32>
     let mut digits = digits;
     for &byte in bytes {
         match push(digits, char::from(byte)) {
-            Pushed::Digit(next) => digits = next,
-            Pushed::Whole(value) => return Some(value),
-            Pushed::Other => return None,
+            PushResult::Digit(next) => digits = next,
+            PushResult::Whole(value) => return Some(value),
+            PushResult::Other => return None,
         }
     }
     None

@@ -3,7 +3,7 @@
 //! `Decoded.antt` and `Piece.antt`, and those of the laws in `Backslashes.antt` and `StandsFor.antt`.
 #![tactic(auto)]
 
-pub mod decoded;
+pub mod decode;
 pub mod escape;
 pub mod laws;
 pub mod piece;

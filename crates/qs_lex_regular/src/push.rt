@@ -6,7 +6,7 @@ use crate::hex_digits::HexDigits;
 
 /// What a character makes of an escape.
 #[derive(Clone, Copy)]
-pub enum Pushed {
+pub enum PushResult {
     /// One digit more, and not the last.
     Digit(HexDigits),
     /// The last digit, with the value of them all.
@@ -17,20 +17,20 @@ pub enum Pushed {
 
 /// What the next character makes of an escape.
 #[tactic(auto, unfolding(crate::specs::Character::is_hex, crate::specs::Character::hex_value), using(crate::proofs::HexDigits::pushed, crate::proofs::HexDigits::pushed_fits))]
-pub fn push(digits: HexDigits, c: char) -> Pushed
+pub fn push(digits: HexDigits, c: char) -> PushResult
     ensures { IsPushed digits c result }
 {
     if !c.is_ascii_hexdigit() {
-        return Pushed::Other;
+        return PushResult::Other;
     }
     let Some(digit) = c.to_digit(16) else {
-        return Pushed::Other;
+        return PushResult::Other;
     };
     let value = digits.value * 16 + digit;
     if digits.after == 0 {
-        Pushed::Whole(value)
+        PushResult::Whole(value)
     } else {
-        Pushed::Digit(HexDigits {
+        PushResult::Digit(HexDigits {
             after: digits.after - 1,
             value,
         })

@@ -14,7 +14,7 @@ use crate::fault::NqFaultKind;
 use crate::labels::Labels;
 use crate::statement_state::StatementState;
 use qs_lex_escapes::Escapes;
-use qs_lex_escapes::decoded::decoded;
+use qs_lex_escapes::decode::decode;
 use qs_lex_escapes::piece::piece;
 use qs_terms::{Iri, IriCache, TermFault, Text};
 use std::alloc::Global;
@@ -84,7 +84,7 @@ fn blank(
 fn new_iri(alloc: Global, recent: &mut IriCache, text: &str) -> Result<Part, NqFaultKind>
     ensures { (n : Numbering) → WithOrOutOfMemory Memory (iri_part n (checked_iri (decoded_text uchar text.now))) result n }
 {
-    let text = decoded(alloc, text, Escapes::Codepoints)?;
+    let text = decode(alloc, text, Escapes::Codepoints)?;
     match Iri::new(alloc, text) {
         Ok(iri) => {
             recent.note("", iri.text(), &iri)?;
@@ -123,7 +123,7 @@ pub fn part_of(
     match class {
         Class::Iri => iri(alloc, recent, inside(token)),
         Class::String => {
-            let form = decoded(alloc, inside(token), Escapes::Strings)?;
+            let form = decode(alloc, inside(token), Escapes::Strings)?;
             Ok(Part::Form(form))
         }
         Class::Tag => {

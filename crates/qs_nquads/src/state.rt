@@ -12,7 +12,7 @@ use qs_lex_regular::character::{
     is_scalar,
 };
 use qs_lex_regular::hex_digits::HexDigits;
-use qs_lex_regular::push::{Pushed, push};
+use qs_lex_regular::push::{PushResult, push};
 
 /// What has been read of a front.
 #[derive(Clone, Copy)]
@@ -111,15 +111,15 @@ fn in_iri_escape(digits: HexDigits, c: char) -> Option<State>
     ensures { MatchOption result (advance (left (state.IriHex digits)) c ≡ []) (λ next. advance (left (state.IriHex digits)) c ≡ left next) }
 {
     match push(digits, c) {
-        Pushed::Digit(next) => Some(State::IriHex(next)),
-        Pushed::Whole(value) => {
+        PushResult::Digit(next) => Some(State::IriHex(next)),
+        PushResult::Whole(value) => {
             if is_scalar(value) {
                 Some(State::Iri)
             } else {
                 None
             }
         }
-        Pushed::Other => None,
+        PushResult::Other => None,
     }
 }
 
@@ -157,15 +157,15 @@ fn in_string_escape(digits: HexDigits, c: char) -> Option<State>
     ensures { MatchOption result (advance (left (state.StringHex digits)) c ≡ []) (λ next. advance (left (state.StringHex digits)) c ≡ left next) }
 {
     match push(digits, c) {
-        Pushed::Digit(next) => Some(State::StringHex(next)),
-        Pushed::Whole(value) => {
+        PushResult::Digit(next) => Some(State::StringHex(next)),
+        PushResult::Whole(value) => {
             if is_scalar(value) {
                 Some(State::String)
             } else {
                 None
             }
         }
-        Pushed::Other => None,
+        PushResult::Other => None,
     }
 }
 

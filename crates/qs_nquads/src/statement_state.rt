@@ -181,7 +181,7 @@ fn at_form(
     ensures { MatchResult result (λ next. GoesOn (Rattle.qs_nquads.specs.StatementState.at_form subject predicate form part) next place.new) (λ fault. fault ≢ Memory → Rattle.qs_nquads.specs.StatementState.at_form subject predicate form part ≡ Err fault) }
 {
     match part {
-        Part::Tag(tag) => match Lit::tagged(alloc, form, tag) {
+        Part::Tag(tag) => match Lit::with_tag(alloc, form, tag) {
             Ok(literal) => {
                 set(
                     place,
@@ -215,7 +215,7 @@ fn at_typed(
     ensures { MatchResult result (λ next. GoesOn (Rattle.qs_nquads.specs.StatementState.at_typed subject predicate form part) next place.new) (λ fault. fault ≢ Memory → Rattle.qs_nquads.specs.StatementState.at_typed subject predicate form part ≡ Err fault) }
 {
     match part {
-        Part::Iri(datatype) => match Lit::typed(alloc, form, datatype) {
+        Part::Iri(datatype) => match Lit::with_datatype(alloc, form, datatype) {
             Ok(literal) => {
                 set(
                     place,

@@ -13,12 +13,12 @@ use std::marker::Model;
 
 /// Rows that are kept, to be met by other rows. Contracts see the rows, and the variables by which they are found.
 #[derive(Drop)]
-pub struct Kept {
+pub struct KeptTable {
     rows: Vec<Row>,
     index: Index,
 }
 
-impl Model for Kept {
+impl Model for KeptTable {
     ghost use Rattle.qs_ops_tables.specs.Tables.{KeptRows};
 
     ghost Value = { KeptRows };
@@ -30,17 +30,17 @@ impl Model for Kept {
     ghost invariant = { λ k. IsIndex k.index.key.items k.index.mask k.rows.items k.index.heads.items k.index.links.items };
 }
 
-impl Kept {
+impl KeptTable {
     /// The rows, in this order. They are found by the variables that each of them and the row `first` bind, so that a row which binds
     /// what `first` does goes over few of them.
     ///
     /// # Errors
     /// Out of memory.
-    pub fn new(alloc: Global, rows: Vec<Row>, first: &Row) -> Result<Kept, AllocError>
+    pub fn new(alloc: Global, rows: Vec<Row>, first: &Row) -> Result<KeptTable, AllocError>
         ensures { IfOk result (λ k. k.rows ≡ rows.items) }
     {
         let index = index_of(alloc, rows.as_slice(), first)?;
-        Ok(Kept { rows, index })
+        Ok(KeptTable { rows, index })
     }
 
     /// The hash of the row's first `width` variables.

@@ -3,7 +3,7 @@
 ghost use Rattle.std.specs.Prelude.{◌≡◌, [], ◌∷◌, IfOk, OnErr, MatchOption};
 ghost use Rattle.qs_ops_tables.specs.Tables.{FitsMerges, GivesMerges, merges_cells};
 
-use crate::kept::Kept;
+use crate::kept::KeptTable;
 use qs_base::Shared;
 use qs_expr::Row;
 use std::alloc::{AllocError, Global};
@@ -12,7 +12,7 @@ use std::marker::Model;
 /// The merges of a row with the kept rows that it is compatible with, one after another. Contracts see those that are still to come.
 #[derive(Drop)]
 pub struct Probe {
-    kept: Shared<Kept>,
+    kept: Shared<KeptTable>,
     row: Row,
     hash: Option<u32>,
     at: usize,
@@ -33,7 +33,7 @@ impl Model for Probe {
 
 impl Probe {
     /// The merges of the row with the kept rows, in their order (SPARQL 1.1 Query, 18.5).
-    pub fn new(kept: Shared<Kept>, row: Row) -> Probe
+    pub fn new(kept: Shared<KeptTable>, row: Row) -> Probe
         ensures cells { result ≡ merges_cells kept.rows row }
         ensures terms { GivesMerges kept.rows row result }
         ensures fits { FitsMerges kept.rows row result }

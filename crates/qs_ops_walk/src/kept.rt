@@ -16,7 +16,7 @@ use qs_algebra_patterns::PathPattern;
 use qs_base::Shared;
 use qs_expr::{Row, Scratch};
 use qs_ops_scans::{PathPairs, RowEnds, graph_numbers, row_ends};
-use qs_ops_tables::{Kept, table_rows};
+use qs_ops_tables::{KeptTable, table_rows};
 use qs_store::{Active, View};
 use std::alloc::AllocError;
 
@@ -27,7 +27,7 @@ pub(crate) fn rows_of_values<V: View>(
     scratch: &mut Scratch,
     values: &mut TableRows<'_>,
     row: &Row,
-) -> Result<Shared<Kept>, AllocError>
+) -> Result<Shared<KeptTable>, AllocError>
     requires table { IsTable (known_of reader.now) scratch.old }
     requires kept { IfValues reader.now scratch.old values.old.table.now values.old.kept }
     ensures grows { Grows (known_of reader.now) scratch.old scratch.new }
@@ -46,7 +46,7 @@ pub(crate) fn rows_of_values<V: View>(
         values.table,
         reader.width,
     )?;
-    let made = Kept::new(reader.alloc, rows, row)?;
+    let made = KeptTable::new(reader.alloc, rows, row)?;
     let made = Shared::new(reader.alloc, made)?;
     let own = made.share()?;
     values.kept = Some(made);

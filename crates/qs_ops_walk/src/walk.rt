@@ -29,7 +29,7 @@ use qs_base::Shared;
 use qs_expr::{Cell, Row, Scratch};
 use qs_ops_program::compile;
 use qs_ops_scans::{PreparedLook, PreparedTriple, path_rows};
-use qs_ops_tables::{Kept, Probe};
+use qs_ops_tables::{KeptTable, Probe};
 use qs_plan_meaning::{Group, Stage};
 use qs_store::View;
 use std::alloc::{AllocError, Global};
@@ -157,7 +157,7 @@ fn aside_of<'a, V: View>(
     let Some(rows) = found else {
         return Ok(None);
     };
-    let kept = Kept::new(reader.alloc, rows, row)?;
+    let kept = KeptTable::new(reader.alloc, rows, row)?;
     let kept = Shared::new(reader.alloc, kept)?;
     Ok(Some(Aside {
         cells: row.width(),
@@ -203,7 +203,7 @@ fn rows_of_right<'a, V: View>(
     scratch: &mut Scratch,
     right: &mut Right<'a>,
     row: &Row,
-) -> Result<Shared<Kept>, AllocError>
+) -> Result<Shared<KeptTable>, AllocError>
     requires table { IsTable (known_of reader.now) scratch.old }
     requires row { FitsRow (known_of reader.now) scratch.old row.now }
     requires right { IsRight reader.now scratch.old right.old }
@@ -233,7 +233,7 @@ fn rows_of_feed<'a, V: View>(
     group: &'a Group,
     row: &Row,
     spare: &mut Vec<Row>,
-) -> Result<Shared<Kept>, AllocError>
+) -> Result<Shared<KeptTable>, AllocError>
     requires table { IsTable (known_of reader.now) scratch.old }
     requires row { FitsRow (known_of reader.now) scratch.old row.now }
     ensures grows { Grows (known_of reader.now) scratch.old scratch.new }
@@ -243,14 +243,14 @@ fn rows_of_feed<'a, V: View>(
     let own = row.copy(reader.alloc, spare)?;
     let found = rows_of_group(reader, scratch, group.stages.as_slice(), own, None)?;
     let Some(rows) = found else { unreachable!() };
-    let kept = Kept::new(reader.alloc, rows, row)?;
+    let kept = KeptTable::new(reader.alloc, rows, row)?;
     let kept = Shared::new(reader.alloc, kept)?;
     Ok(kept)
 }
 
 fn attempt<'a>(
     alloc: Global,
-    kept: Shared<Kept>,
+    kept: Shared<KeptTable>,
     conditions: &Shared<Conditions<'a>>,
     row: Row,
     spare: &mut Vec<Row>,

@@ -16,7 +16,7 @@ use qs_ops_program::Instr;
 use qs_ops_scans::{
     PathPairs, PreparedLook, PreparedTriple, RowEnds, is_named_graph, prepare_look, prepare_triple,
 };
-use qs_ops_tables::Kept;
+use qs_ops_tables::KeptTable;
 use qs_plan::is_fed_alike;
 use qs_plan_meaning::{Group, Stage};
 use qs_store::{Active, View};
@@ -27,7 +27,7 @@ use std::alloc::{AllocError, Global};
 pub(crate) struct Aside {
     pub(crate) cells: usize,
     pub(crate) name: Option<Cell>,
-    pub(crate) kept: Shared<Kept>,
+    pub(crate) kept: Shared<KeptTable>,
 }
 
 /// A right side that is evaluated by itself.
@@ -70,7 +70,7 @@ pub(crate) struct Feed<'a> {
 #[derive(Drop)]
 pub(crate) struct TableRows<'a> {
     pub(crate) table: &'a Table,
-    pub(crate) kept: Option<Shared<Kept>>,
+    pub(crate) kept: Option<Shared<KeptTable>>,
 }
 
 /// The pairs of a path in a graph.
@@ -163,7 +163,7 @@ impl<'a> Right<'a> {
     }
 
     /// The kept rows, if there are any for rows like this one.
-    pub(crate) fn kept_for(&self, row: &Row) -> Option<&Shared<Kept>>
+    pub(crate) fn kept_for(&self, row: &Row) -> Option<&Shared<KeptTable>>
         ensures { IfSome result (λ k. Serves self.now row.now k.now) }
     {
         let Some(aside) = &self.kept else {

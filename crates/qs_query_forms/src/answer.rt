@@ -16,8 +16,8 @@ use crate::construction::Construction;
 use crate::request::{Request, request_of};
 use crate::selection::Selection;
 use crate::sequence::{
-    enough, enough_for_slice, listed_rows, needed, needed_to_select, projected, put_in_order,
-    sliced,
+    enough, enough_for_slice, listed_rows, needed_count, needed_to_select, project_rows,
+    put_in_order, slice_rows,
 };
 use crate::unordered::part_of;
 use qs_algebra::Pattern;
@@ -40,11 +40,11 @@ fn rows_of(
     ensures { OneOrOutOfMemory (in_order.IsRowsOf asked.now max_rows (lent all.entry.items)) result }
 {
     let listed = listed_rows(alloc, asked, all)?;
-    let part = sliced(listed.as_slice(), asked.slice);
+    let part = slice_rows(listed.as_slice(), asked.slice);
     if part.len() as u64 > max_rows {
         return Err(QFault::TooManyRows);
     }
-    let rows = projected(alloc, part, asked.columns.as_slice())?;
+    let rows = project_rows(alloc, part, asked.columns.as_slice())?;
     Ok(Items::from_vec(rows))
 }
 
@@ -156,7 +156,7 @@ fn graph_of_rows(
 ) -> Result<Answer, QFault>
     ensures { OneOrOutOfMemory (in_order.IsGraphOf asked.now next_blank max_rows (lent all.now)) result }
 {
-    let part = sliced(all, asked.slice);
+    let part = slice_rows(all, asked.slice);
     if part.len() as u64 > max_rows {
         return Err(QFault::TooManyRows);
     }
@@ -175,7 +175,7 @@ fn constructed<V: View>(
 {
     let most = enough_for_slice(asked.slice, asked.order.as_slice(), max_rows);
     let all = some_solutions(alloc, &asked.pattern, view, active, most)?;
-    let count = needed(asked.slice);
+    let count = needed_count(asked.slice);
     let front = put_in_order(alloc, asked.order.as_slice(), all.as_slice(), count)?;
     graph_of_rows(alloc, asked, view.next_blank(), front.as_slice(), max_rows)
 }

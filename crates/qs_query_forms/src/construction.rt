@@ -13,7 +13,7 @@ use qs_query_template::{Template, template_of};
 use qs_syntax_ast::pattern::Triple;
 use qs_syntax_ast::query::{Construct, Query};
 use qs_syntax_ast::term::Variable;
-use qs_syntax_scope::numbered;
+use qs_syntax_scope::number_names;
 use qs_terms::QFault;
 use sqlite_items::Items;
 use std::alloc::{AllocError, Global};
@@ -35,7 +35,7 @@ fn template(
 ) -> Result<Template, AllocError>
     ensures { IfOk result (λ t. t ≡ made.template_of (names_of variables.now) triples.now) }
 {
-    let names = numbered(alloc, variables)?;
+    let names = number_names(alloc, variables)?;
     template_of(alloc, &names, triples)
 }
 

@@ -8,7 +8,7 @@ use qs_algebra::expr_of;
 use qs_query_order::OrderCondition;
 use qs_syntax_ast::query::{OrderCondition as WrittenCondition, SolutionModifiers};
 use qs_syntax_ast::term::Variable;
-use qs_syntax_scope::{NameList, numbered};
+use qs_syntax_scope::{NameList, number_names};
 use sqlite_items::Items;
 use std::alloc::{AllocError, Global};
 
@@ -70,6 +70,6 @@ pub fn order_of<'a>(
 ) -> Result<Items<OrderCondition>, AllocError>
     ensures { IfOk result (λ all. all ≡ spec.order_of (names_of variables.now) modifiers.now) }
 {
-    let names = numbered(alloc, variables)?;
+    let names = number_names(alloc, variables)?;
     conditions_of(alloc, &names, modifiers.order.as_slice())
 }

@@ -15,7 +15,7 @@ use qs_query_order::OrderCondition;
 use qs_syntax_ast::pattern::{Group, InlineData};
 use qs_syntax_ast::query::{Projection, Query, Select, SelectItem};
 use qs_syntax_ast::term::Variable;
-use qs_syntax_scope::{NameList, first_variables, in_scope, numbered};
+use qs_syntax_scope::{NameList, first_variables, in_scope, number_names};
 use qs_syntax_tree::query::Duplicates;
 use qs_terms::{QFault, Text};
 use sqlite_items::Items;
@@ -167,7 +167,7 @@ fn columns<'a>(
 ) -> Result<Items<usize>, AllocError>
     ensures { IfOk result (λ columns. columns ≡ map (place_of (names_of variables.now)) vars.now) }
 {
-    let names = numbered(alloc, variables)?;
+    let names = number_names(alloc, variables)?;
     numbers(alloc, &names, vars)
 }
 

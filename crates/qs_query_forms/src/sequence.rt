@@ -11,11 +11,11 @@ use crate::distinct::firsts;
 use crate::modifiers::Slice;
 use crate::selection::Selection;
 use qs_algebra_solutions::Row;
-use qs_query_order::{OrderCondition, first_ordered, ordered};
+use qs_query_order::{OrderCondition, first_ordered, order_rows};
 use std::alloc::{AllocError, Global};
 
 /// How many of the solutions in order suffice for the slice, where not all are needed.
-pub fn needed(slice: Slice) -> Option<u64>
+pub fn needed_count(slice: Slice) -> Option<u64>
     ensures { Suffices slice result }
 {
     match slice.limit {
@@ -31,7 +31,7 @@ pub fn needed_to_select(asked: &Selection) -> Option<u64>
     if asked.is_distinct {
         return None;
     }
-    needed(asked.slice)
+    needed_count(asked.slice)
 }
 
 fn allows_more(limit: Option<u64>, max_rows: u64) -> bool
@@ -79,7 +79,7 @@ pub fn put_in_order<'a>(
     ensures { IfOk result (λ front. IsFront conditions.now rows.now needed (lent front.items)) }
 {
     match needed {
-        None => ordered(alloc, conditions, rows),
+        None => order_rows(alloc, conditions, rows),
         Some(count) => first_ordered(alloc, conditions, rows, count),
     }
 }
@@ -111,7 +111,7 @@ fn limited<'r, 'a>(rows: &'r [&'a Row], limit: Option<u64>) -> &'r [&'a Row]
 }
 
 /// The part of the rows: so many are left out at their front, and so many are left of the rest.
-pub fn sliced<'r, 'a>(rows: &'r [&'a Row], slice: Slice) -> &'r [&'a Row]
+pub fn slice_rows<'r, 'a>(rows: &'r [&'a Row], slice: Slice) -> &'r [&'a Row]
     ensures { result.now ≡ spec.sliced slice rows.now }
 {
     let first = slice.offset.min(rows.len() as u64);
@@ -119,12 +119,12 @@ pub fn sliced<'r, 'a>(rows: &'r [&'a Row], slice: Slice) -> &'r [&'a Row]
 }
 
 /// The rows with the terms of these variables alone.
-pub fn projected(alloc: Global, rows: &[&Row], columns: &[usize]) -> Result<Vec<Row>, AllocError>
+pub fn project_rows(alloc: Global, rows: &[&Row], columns: &[usize]) -> Result<Vec<Row>, AllocError>
     ensures { IfOk result (λ all. all.items ≡ map (projected columns.now) (lent rows.now)) }
 {
     let mut all = Vec::new(alloc);
     for &row in rows {
-        let row = row.projected(alloc, columns)?;
+        let row = row.project(alloc, columns)?;
         all.push(row)?;
     }
     Ok(all)

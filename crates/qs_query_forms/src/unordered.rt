@@ -40,7 +40,7 @@ fn project(
         row.truncate(columns.len());
         return Ok(());
     }
-    let own = row.projected(alloc, columns)?;
+    let own = row.project(alloc, columns)?;
     *row = own;
     Ok(())
 }

@@ -11,7 +11,7 @@ ghost use Rattle.qs_query_order.specs.inner.Keyed.{lent, row_of, is_lower, AreIn
 ghost use Rattle.qs_query_order.specs.Order.{AreFirst};
 
 use crate::condition::OrderCondition;
-use crate::keyed::{Keyed, lent_rows, order_of, ordered, rows_of, sort};
+use crate::keyed::{Keyed, lent_rows, order_of, order_rows, rows_of, sort};
 use crate::keys::keys_of;
 use qs_algebra_solutions::Row;
 use qs_expr_values::laws::keys_are_ordered;
@@ -116,7 +116,7 @@ pub fn first_ordered<'a>(
     ensures { IfOk result (λ first. AreFirst conditions.now rows.now count (lent first.items)) }
 {
     if count >= rows.len() as u64 {
-        return ordered(alloc, conditions, rows);
+        return order_rows(alloc, conditions, rows);
     }
     let count = count as usize;
     if conditions.is_empty() {

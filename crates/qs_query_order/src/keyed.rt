@@ -89,7 +89,7 @@ fn sorted<'a>(
 
 /// The rows in an order of the conditions; ties stand in any order. It takes time by their count and its logarithm, and evaluates each
 /// condition once a row.
-pub fn ordered<'a>(
+pub fn order_rows<'a>(
     alloc: Global,
     conditions: &[OrderCondition],
     rows: &'a [Row],

@@ -10,4 +10,4 @@ mod keys;
 
 pub use condition::OrderCondition;
 pub use first::first_ordered;
-pub use keyed::ordered;
+pub use keyed::order_rows;

@@ -39,7 +39,7 @@ fn made(alloc: Global, status: u16, media: Media, buffer: Vec<u8>) -> Result<Rep
         StatusCode::INTERNAL_SERVER_ERROR
     };
     let reply = ReplyBuffer::new(alloc, code, media, buffer)?;
-    Ok(Reply::made(status, reply))
+    Ok(Reply::from_buffer(status, reply))
 }
 
 /// The reply of a fault.

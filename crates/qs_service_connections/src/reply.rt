@@ -33,7 +33,7 @@ impl Reply {
     ghost use Rattle.qs_service_connections.specs.Message.{fixed_message};
 
     /// A reply of that status and these bytes.
-    pub fn made(status: u16, reply: ReplyBuffer) -> Reply
+    pub fn from_buffer(status: u16, reply: ReplyBuffer) -> Reply
         ensures { result ≡ record { status = status; bytes = reply } }
     {
         Reply {

@@ -19,7 +19,7 @@ mod table;
 
 pub use endpoint::Endpoint;
 pub use limits::Limits;
-pub use network::{Network, Waited};
+pub use network::{Network, WaitResult};
 pub use observer::Observer;
 pub use reactor::serve_events;
 pub use sockets::Sockets;

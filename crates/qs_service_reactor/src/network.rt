@@ -9,7 +9,7 @@ use std::time::Duration;
 
 /// What a wait reports.
 #[derive(Clone, Copy, Debug, PartialEq, Eq)]
-pub struct Waited {
+pub struct WaitResult {
     /// Whether somebody may be waiting to be accepted.
     pub arrival: bool,
     /// How long the wait took.
@@ -63,6 +63,6 @@ pub trait Network {
     ///
     /// # Errors
     /// That of the system, or of its clock.
-    fn wait(&mut self, timeout: Option<Duration>, ready: &mut [bool]) -> io::Result<Waited>
+    fn wait(&mut self, timeout: Option<Duration>, ready: &mut [bool]) -> io::Result<WaitResult>
         ensures { Logs (log self.old) (log self.new) [] };
 }

@@ -2,7 +2,7 @@
 
 ghost use Rattle.std.specs.Prelude.{None};
 
-use crate::network::{Network, Waited};
+use crate::network::{Network, WaitResult};
 use mio::net::TcpStream;
 use mio::unix::SourceFd;
 use mio::{Events, Interest, Poll, Token};
@@ -144,7 +144,7 @@ impl<C: Clock> Network for Sockets<'_, C> {
         }
     }
 
-    fn wait(&mut self, timeout: Option<Duration>, ready: &mut [bool]) -> io::Result<Waited> {
+    fn wait(&mut self, timeout: Option<Duration>, ready: &mut [bool]) -> io::Result<WaitResult> {
         let before = Instant::now(self.clock)?;
         let polled = self.poll.poll(&mut self.events, timeout);
         let elapsed = before.elapsed(self.clock)?;
@@ -153,7 +153,7 @@ impl<C: Clock> Network for Sockets<'_, C> {
             // (a signal ended the wait, and nothing is told)
             Err(error) if error.kind() == ErrorKind::Interrupted => {
                 let arrival = false;
-                return Ok(Waited { arrival, elapsed });
+                return Ok(WaitResult { arrival, elapsed });
             }
             Err(error) => return Err(error),
         }
@@ -166,6 +166,6 @@ impl<C: Clock> Network for Sockets<'_, C> {
                 arrival = true;
             }
         }
-        Ok(Waited { arrival, elapsed })
+        Ok(WaitResult { arrival, elapsed })
     }
 }

@@ -12,7 +12,7 @@ use crate::arrivals::{Arrivals, arrivals_after};
 use crate::connection::{Cause, Connection};
 use crate::endpoint::Endpoint;
 use crate::limits::Limits;
-use crate::network::{Network, Waited};
+use crate::network::{Network, WaitResult};
 use std::alloc::{AllocError, Global};
 use std::io;
 use std::time::Duration;
@@ -123,7 +123,7 @@ impl Table {
     }
 
     /// Takes note of what a wait reported.
-    pub fn note(&mut self, waited: Waited)
+    pub fn note(&mut self, waited: WaitResult)
         ensures connections { self.new.connections.items ≡ self.old.connections.items }
         ensures accepted { self.new.accepted ≡ self.old.accepted }
     {

@@ -16,6 +16,6 @@ mod script_event;
 mod told;
 
 pub use laws::scripts_are_unique;
-pub use run::{ReplayEnd, Replayed, replay};
+pub use run::{ReplayEnd, ReplayResult, replay};
 pub use script::{ScriptFault, read_script};
 pub use script_event::ScriptEvent;

@@ -26,7 +26,7 @@ pub enum ReplayEnd {
 
 /// How a run of events ended, and how many bytes the sink took.
 #[derive(Clone, Copy)]
-pub struct Replayed {
+pub struct ReplayResult {
     pub end: ReplayEnd,
     pub written: u128,
 }
@@ -38,7 +38,7 @@ pub fn replay<M: Meaning, S: Sink>(
     connections: &mut Connections<M>,
     events: &[ScriptEvent],
     out: &mut S,
-) -> Replayed
+) -> ReplayResult
     ensures replayed { IsReplayed M.carries connections.old (map event_of events.now) (S.taken out.old) (S.taken out.new) (S.faults out.old) (S.faults out.new) connections.new result.end result.written }
     ensures fits { result.written < 2 ^ 127 }
 {
@@ -46,7 +46,7 @@ pub fn replay<M: Meaning, S: Sink>(
     for (i, event) in events.iter().enumerate() {
         let line = match told(alloc, connections, i + 1, event) {
             Ok(line) => line,
-            Err(_) => return Replayed {
+            Err(_) => return ReplayResult {
                 end: ReplayEnd::OutOfMemory,
                 written,
             },
@@ -55,13 +55,13 @@ pub fn replay<M: Meaning, S: Sink>(
         let taken = put_all(out, bytes);
         written += taken as u128;
         if taken < bytes.len() {
-            return Replayed {
+            return ReplayResult {
                 end: ReplayEnd::SinkFailed,
                 written,
             };
         }
     }
-    Replayed {
+    ReplayResult {
         end: ReplayEnd::All,
         written,
     }

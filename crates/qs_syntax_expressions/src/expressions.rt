@@ -29,10 +29,13 @@ pub fn expression(parser: Parser, tokens: &mut Tokens<'_>) -> Result<Expression,
 }
 
 /// An expression in parentheses ([120]).
-pub fn parenthesized(parser: Parser, tokens: &mut Tokens<'_>) -> Result<Expression, Fault>
+pub fn parenthesized_expression(
+    parser: Parser,
+    tokens: &mut Tokens<'_>,
+) -> Result<Expression, Fault>
     ensures { Reads (read grammar parser.depth rules.parenthesized tokens.old) result tokens.new }
 {
-    Operators { parser, expression }.parenthesized(tokens)
+    Operators { parser, expression }.parenthesized_expression(tokens)
 }
 
 /// A call of a function ([121]).

@@ -19,7 +19,7 @@ use qs_syntax_tokens::kinds::{CALLS, COMPARISONS, EXPRESSIONS, RELATIONS, UNARY_
 use qs_syntax_tokens::parser::Parser;
 use qs_syntax_tokens::tokens::Tokens;
 use qs_syntax_tokens::trees::{
-    all_of, and, binary_call, conditional, or, product, related, sum, unary_call,
+    all_of, and, binary_call, conditional, or, product, sum, unary_call, with_relation,
 };
 use qs_syntax_tree::expression::{Addend, Call, Expression, Operand, Relation, Sign};
 use qs_syntax_tree::kind::Kind;
@@ -42,7 +42,7 @@ impl<F: Fn(Parser, &mut Tokens<'_>) -> Result<Expression, Fault>> Operators<F> {
     }
 
     #[tactic(auto, unfolding(qs_syntax_tree::specs::Rules::parenthesized))]
-    pub fn parenthesized(&self, tokens: &mut Tokens<'_>) -> Result<Expression, Fault>
+    pub fn parenthesized_expression(&self, tokens: &mut Tokens<'_>) -> Result<Expression, Fault>
         requires { Nests self.now.parser (F.pre self.now.expression) (F.post self.now.expression) }
         ensures { Reads (read grammar self.now.parser.depth rules.parenthesized tokens.old) result tokens.new }
     {
@@ -158,7 +158,7 @@ impl<F: Fn(Parser, &mut Tokens<'_>) -> Result<Expression, Fault>> Operators<F> {
         }
         if tokens.peek_is(&UNARY_FUNCTIONS) {
             let function = self.parser.unary_function(tokens)?;
-            let argument = self.parenthesized(tokens)?;
+            let argument = self.parenthesized_expression(tokens)?;
             return Ok(unary_call(self.parser.alloc, function, argument)?);
         }
         let function = self.parser.binary_function(tokens)?;
@@ -172,7 +172,7 @@ impl<F: Fn(Parser, &mut Tokens<'_>) -> Result<Expression, Fault>> Operators<F> {
         ensures { Reads (read grammar self.now.parser.depth rules.atom tokens.old) result tokens.new }
     {
         if tokens.peek_is(&[Kind::LeftParen]) {
-            return self.parenthesized(tokens);
+            return self.parenthesized_expression(tokens);
         }
         if tokens.peek_is(&CALLS) {
             return Ok(Expression::Call(self.call(tokens)?));
@@ -336,7 +336,7 @@ impl<F: Fn(Parser, &mut Tokens<'_>) -> Result<Expression, Fault>> Operators<F> {
     {
         let first = self.additive(tokens)?;
         let (first, relation) = keep_beside(first, self.relation_after(tokens))?;
-        Ok(related(self.parser.alloc, first, relation)?)
+        Ok(with_relation(self.parser.alloc, first, relation)?)
     }
 
     fn more_relationals(&self, tokens: &mut Tokens<'_>) -> Result<Items<Operand>, Fault>

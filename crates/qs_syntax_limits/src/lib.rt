@@ -5,7 +5,7 @@
 pub mod bracket;
 mod expression;
 pub mod laws;
-pub mod omitted;
+pub mod omission;
 mod path;
 mod pattern;
 mod place;
@@ -15,6 +15,6 @@ pub mod update;
 mod words;
 
 pub use crate::bracket::brackets;
-pub use crate::omitted::left_out;
+pub use crate::omission::left_out;
 pub use crate::query::large_query;
 pub use crate::update::large_update;

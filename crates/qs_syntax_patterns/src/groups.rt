@@ -8,7 +8,7 @@ ghost use Rattle.qs_syntax_tree.specs.Sparql as name;
 ghost use Rattle.qs_syntax_tree.specs.Table.{grammar};
 
 use qs_base::keep_beside;
-use qs_syntax_expressions::expressions::{call, expression, parenthesized};
+use qs_syntax_expressions::expressions::{call, expression, parenthesized_expression};
 use qs_syntax_grammar::fault::Fault;
 use qs_syntax_tokens::kinds::{ELEMENTS, NODES};
 use qs_syntax_tokens::parser::Parser;
@@ -29,7 +29,7 @@ pub fn constraint(parser: Parser, tokens: &mut Tokens<'_>) -> Result<Expression,
     ensures { Reads (read grammar parser.depth rules.constraint tokens.old) result tokens.new }
 {
     if tokens.peek_is(&[Kind::LeftParen]) {
-        return parenthesized(parser, tokens);
+        return parenthesized_expression(parser, tokens);
     }
     Ok(Expression::Call(call(parser, tokens)?))
 }

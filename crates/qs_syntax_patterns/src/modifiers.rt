@@ -7,7 +7,7 @@ ghost use Rattle.qs_syntax_tree.specs.Table.{grammar};
 
 use crate::groups::constraint;
 use qs_base::keep_beside;
-use qs_syntax_expressions::expressions::parenthesized;
+use qs_syntax_expressions::expressions::parenthesized_expression;
 use qs_syntax_grammar::fault::Fault;
 use qs_syntax_tokens::kinds::{CONSTRAINTS, ORDERS};
 use qs_syntax_tokens::parser::Parser;
@@ -25,7 +25,7 @@ fn order(parser: Parser, tokens: &mut Tokens<'_>) -> Result<OrderCondition, Faul
 {
     if tokens.peek_is(&[Kind::Asc]) {
         tokens.expect(Kind::Asc)?;
-        let key = parenthesized(parser, tokens)?;
+        let key = parenthesized_expression(parser, tokens)?;
         return Ok(OrderCondition {
             direction: Direction::Ascending,
             key,
@@ -33,7 +33,7 @@ fn order(parser: Parser, tokens: &mut Tokens<'_>) -> Result<OrderCondition, Faul
     }
     if tokens.peek_is(&[Kind::Desc]) {
         tokens.expect(Kind::Desc)?;
-        let key = parenthesized(parser, tokens)?;
+        let key = parenthesized_expression(parser, tokens)?;
         return Ok(OrderCondition {
             direction: Direction::Descending,
             key,

@@ -10,7 +10,7 @@ ghost use Rattle.qs_syntax_resolve.specs.Names.{full, is_colon};
 
 use crate::piece::inside;
 use qs_lex_escapes::Escapes;
-use qs_lex_escapes::decoded::{decoded, joined};
+use qs_lex_escapes::decode::{decode, join};
 use qs_syntax_tree::token::Span;
 use qs_terms::{Iri, IriCache, QFault, TermFault, Text};
 use std::alloc::Global;
@@ -48,7 +48,7 @@ fn new_full_iri(
 ) -> Result<Iri, QFault>
     ensures { OrOutOfMemory (Rattle.qs_syntax_resolve.specs.Names.absolute place (checked_iri (decoded_text uchar written.now))) result }
 {
-    let text = decoded(alloc, written, Escapes::Codepoints)?;
+    let text = decode(alloc, written, Escapes::Codepoints)?;
     let iri = absolute(alloc, place, text)?;
     recent.note("", written, &iri)?;
     Ok(iri)
@@ -81,7 +81,7 @@ fn new_expanded(
 ) -> Result<Iri, QFault>
     ensures { OrOutOfMemory (Rattle.qs_syntax_resolve.specs.Names.joined place (Some start.now) local.now) result }
 {
-    let text = joined(alloc, start.text(), local)?;
+    let text = join(alloc, start.text(), local)?;
     let iri = absolute_behind(alloc, place, start, text)?;
     recent.note(start.text(), local, &iri)?;
     Ok(iri)

@@ -12,7 +12,7 @@ ghost use Rattle.qs_syntax_resolve.specs.Names.{marks};
 
 use crate::piece::{inside, whole};
 use qs_lex_escapes::Escapes;
-use qs_lex_escapes::decoded::decoded;
+use qs_lex_escapes::decode::decode;
 use qs_syntax_tree::token::Span;
 use qs_terms::{Iri, Lit, QFault, TermFault, Text};
 use std::alloc::{AllocError, Global};
@@ -33,7 +33,7 @@ pub(crate) fn string(alloc: Global, text: &str, span: Span) -> Result<Text, Allo
     ensures { IfOk result (λ t. t ≡ Rattle.qs_syntax_resolve.specs.Names.string text.now span) }
 {
     let marks = marks(whole(text, span));
-    decoded(alloc, inside(text, span, marks), Escapes::Strings)
+    decode(alloc, inside(text, span, marks), Escapes::Strings)
 }
 
 // A literal, or none where its parts make none.
@@ -81,7 +81,7 @@ pub(crate) fn boolean(alloc: Global, value: bool) -> Result<Option<Lit>, QFault>
 pub(crate) fn with_datatype(alloc: Global, form: Text, datatype: Iri) -> Result<Option<Lit>, QFault>
     ensures { OrOutOfMemory (Ok (result_ok (checked_typed form datatype))) result }
 {
-    unless_refused(Lit::typed(alloc, form, datatype))
+    unless_refused(Lit::with_datatype(alloc, form, datatype))
 }
 
 /// The language-tagged string of the form, if the tag is one.
@@ -90,5 +90,5 @@ pub(crate) fn tagged(alloc: Global, form: Text, tag: &str) -> Result<Option<Lit>
     ensures { OrOutOfMemory (Ok (result_ok (checked_tagged form tag.now))) result }
 {
     let tag = Text::new(alloc, tag)?;
-    unless_refused(Lit::tagged(alloc, form, tag))
+    unless_refused(Lit::with_tag(alloc, form, tag))
 }

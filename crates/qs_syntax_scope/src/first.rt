@@ -44,12 +44,15 @@ pub fn first_of_names(alloc: Global, names: &NameList<'_>) -> Result<Items<Varia
 pub fn first_variables(alloc: Global, variables: &[Variable]) -> Result<Items<Variable>, AllocError>
     ensures { IfOk result (λ found. found ≡ firsts variables.now) }
 {
-    let names = numbered(alloc, variables)?;
+    let names = number_names(alloc, variables)?;
     first_of_names(alloc, &names)
 }
 
 /// The names of the variables, numbered by their places.
-pub fn numbered<'a>(alloc: Global, variables: &'a [Variable]) -> Result<NameList<'a>, AllocError>
+pub fn number_names<'a>(
+    alloc: Global,
+    variables: &'a [Variable],
+) -> Result<NameList<'a>, AllocError>
     ensures { IfOk result (λ names. names ≡ names_of variables.now) }
 {
     let mut names = NameList::new(alloc);

@@ -4,7 +4,7 @@ ghost use Rattle.std.specs.Prelude.{◌≡◌, ◌++◌, OnOk, IfOk};
 ghost use Rattle.std.specs.List.{flat_map};
 ghost use Rattle.qs_syntax_scope.specs.VariablesIn as spec;
 
-use crate::first::{first_of_names, numbered};
+use crate::first::{first_of_names, number_names};
 use crate::in_expression::push_expression;
 use crate::in_group::push_group;
 use crate::name_list::NameList;
@@ -118,7 +118,7 @@ fn push_query<'a>(names: &mut NameList<'a>, query: &'a Query) -> Result<(), Allo
 pub fn query_variables(alloc: Global, query: &Query) -> Result<Items<Variable>, AllocError>
     ensures { IfOk result (λ found. found ≡ spec.query_variables query.now) }
 {
-    let mut names = numbered(alloc, query.variables.as_slice())?;
+    let mut names = number_names(alloc, query.variables.as_slice())?;
     push_query(&mut names, query)?;
     first_of_names(alloc, &names)
 }

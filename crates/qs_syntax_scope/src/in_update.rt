@@ -3,7 +3,7 @@
 ghost use Rattle.std.specs.Prelude.{◌≡◌, ◌++◌, OnOk, IfOk};
 ghost use Rattle.qs_syntax_scope.specs.VariablesIn as spec;
 
-use crate::first::{first_of_names, numbered};
+use crate::first::{first_of_names, number_names};
 use crate::in_group::push_group;
 use crate::name_list::NameList;
 use crate::scope::{push_graph, push_triples};
@@ -71,7 +71,7 @@ fn push_update<'a>(names: &mut NameList<'a>, update: &'a Update) -> Result<(), A
 pub fn update_variables(alloc: Global, update: &Update) -> Result<Items<Variable>, AllocError>
     ensures { IfOk result (λ found. found ≡ spec.update_variables update.now) }
 {
-    let mut names = numbered(alloc, update.variables.as_slice())?;
+    let mut names = number_names(alloc, update.variables.as_slice())?;
     push_update(&mut names, update)?;
     first_of_names(alloc, &names)
 }

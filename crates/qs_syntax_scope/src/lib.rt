@@ -21,7 +21,7 @@ mod selected;
 mod tables;
 mod update;
 
-pub use first::{first_variables, numbered};
+pub use first::{first_variables, number_names};
 pub use in_group::group_variables;
 pub use in_query::query_variables;
 pub use in_update::update_variables;

@@ -185,7 +185,7 @@ pub fn binary_call(
 }
 
 /// A comparison, or the operand alone.
-pub fn related(
+pub fn with_relation(
     alloc: Global,
     first: Expression,
     relation: Option<Relation>,

@@ -115,7 +115,7 @@ impl Lit {
     }
 
     /// The literal of a form and a datatype other than rdf:langString. A refusal takes no memory.
-    pub fn typed(alloc: Global, form: Text, datatype: Iri) -> Result<Lit, TermFault>
+    pub fn with_datatype(alloc: Global, form: Text, datatype: Iri) -> Result<Lit, TermFault>
         ensures { ValueOrOutOfMemory Memory (checked_typed form datatype) result }
     {
         let datatype = Datatype::of_iri(datatype)?;
@@ -123,7 +123,7 @@ impl Lit {
     }
 
     /// The language-tagged string of a form and a tag, which is put into lower case.
-    pub fn tagged(alloc: Global, form: Text, tag: Text) -> Result<Lit, TermFault>
+    pub fn with_tag(alloc: Global, form: Text, tag: Text) -> Result<Lit, TermFault>
         ensures { ValueOrOutOfMemory Memory (checked_tagged form tag) result }
     {
         if !is_tag(tag.as_str().as_bytes()) {
@@ -153,7 +153,7 @@ impl Lit {
         }
         let form = Text::new(alloc, form)?;
         let tag = Text::new(alloc, tag)?;
-        Lit::tagged(alloc, form, tag)
+        Lit::with_tag(alloc, form, tag)
     }
 
     /// The lexical form.

@@ -23,7 +23,7 @@ use qs_query_template::{Template, instances, next_after};
 use qs_store::Draft;
 use qs_syntax_ast::term::Variable;
 use qs_syntax_ast::update::{Modify, QuadBlock};
-use qs_syntax_scope::numbered;
+use qs_syntax_scope::number_names;
 use qs_terms::{Iri, QFault, Term};
 use sqlite_items::Items;
 use std::alloc::{AllocError, Global};
@@ -60,7 +60,7 @@ fn modified_by(
 ) -> Result<Effect, QFault>
     ensures { OrOutOfMemory (spec.modified (made.template_in with.now (made.template_of_blocks (names_of variables.now) delete.now)) (made.template_in with.now (made.template_of_blocks (names_of variables.now) insert.now)) next (lent rows.now)) result }
 {
-    let names = numbered(alloc, variables)?;
+    let names = number_names(alloc, variables)?;
     let delete = template_with(alloc, &names, with, delete)?;
     let insert = template_with(alloc, &names, with, insert)?;
     modified(alloc, delete, &insert, next, rows)

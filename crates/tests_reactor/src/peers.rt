@@ -2,7 +2,7 @@
 
 ghost use Rattle.std.specs.Prelude.{◌≤◌, length, IfOk};
 
-use qs_service_reactor::Waited;
+use qs_service_reactor::WaitResult;
 use std::alloc::{AllocError, Global};
 use std::io;
 use std::io::ErrorKind;
@@ -269,13 +269,17 @@ impl Peers {
     }
 
     /// Waits.
-    pub fn wait(&mut self, timeout: Option<Duration>, ready: &mut [bool]) -> io::Result<Waited> {
+    pub fn wait(
+        &mut self,
+        timeout: Option<Duration>,
+        ready: &mut [bool],
+    ) -> io::Result<WaitResult> {
         let before = self.now;
         let arrival = self.announce();
         let any = self.wake(ready);
         if arrival || any {
             let elapsed = Duration::ZERO;
-            return Ok(Waited { arrival, elapsed });
+            return Ok(WaitResult { arrival, elapsed });
         }
         self.now = match (timeout, self.next_at()) {
             (Some(time), Some(at)) => before.saturating_add(time).min(at),
@@ -286,6 +290,6 @@ impl Peers {
         let arrival = self.announce();
         self.wake(ready);
         let elapsed = self.now.saturating_sub(before);
-        Ok(Waited { arrival, elapsed })
+        Ok(WaitResult { arrival, elapsed })
     }
 }

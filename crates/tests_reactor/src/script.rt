@@ -4,7 +4,7 @@ ghost use Rattle.std.specs.Prelude.{◌≡◌, Some, map};
 
 use crate::entry::{Entry, add};
 use crate::peers::Peers;
-use qs_service_reactor::{Network, Waited};
+use qs_service_reactor::{Network, WaitResult};
 use std::alloc::{AllocError, Global};
 use std::io;
 use std::io::ErrorKind;
@@ -95,7 +95,7 @@ impl Network for Script {
         self.peers.close(place);
     }
 
-    fn wait(&mut self, timeout: Option<Duration>, ready: &mut [bool]) -> io::Result<Waited> {
+    fn wait(&mut self, timeout: Option<Duration>, ready: &mut [bool]) -> io::Result<WaitResult> {
         self.call()?;
         self.peers.wait(timeout, ready)
     }

@@ -3,7 +3,7 @@
 
 use qs_base::Shared;
 use qs_expr::{Cell, Row};
-use qs_ops_tables::{Kept, Probe};
+use qs_ops_tables::{KeptTable, Probe};
 use std::alloc::{AllocError, Global};
 
 fn row(alloc: Global, bound: &[(usize, u32)]) -> Result<Row, AllocError> {
@@ -14,13 +14,13 @@ fn row(alloc: Global, bound: &[(usize, u32)]) -> Result<Row, AllocError> {
     Ok(row)
 }
 
-fn kept(alloc: Global, first: &Row) -> Result<Kept, AllocError> {
+fn kept(alloc: Global, first: &Row) -> Result<KeptTable, AllocError> {
     let mut rows = Vec::new(alloc);
     for i in 0..12u32 {
         let one = row(alloc, &[(0, i % 5), (1, i)])?;
         rows.push(one)?;
     }
-    Kept::new(alloc, rows, first)
+    KeptTable::new(alloc, rows, first)
 }
 
 /// Whether the row binds these variables, and no other.
@@ -49,7 +49,7 @@ fn gives(
 }
 
 /// Whether a row that binds the variable 0 to 3 meets the two rows that do.
-fn meets_two(alloc: Global, kept: &Shared<Kept>) -> Result<bool, AllocError> {
+fn meets_two(alloc: Global, kept: &Shared<KeptTable>) -> Result<bool, AllocError> {
     let mut spare = Vec::new(alloc);
     let third = row(alloc, &[(0, 3), (2, 9)])?;
     let mut probe = Probe::new(kept.share()?, third);
@@ -61,7 +61,7 @@ fn meets_two(alloc: Global, kept: &Shared<Kept>) -> Result<bool, AllocError> {
 }
 
 /// Whether a row that shares no variable with the kept rows meets all.
-fn meets_all(alloc: Global, kept: &Shared<Kept>) -> Result<bool, AllocError> {
+fn meets_all(alloc: Global, kept: &Shared<KeptTable>) -> Result<bool, AllocError> {
     let mut spare = Vec::new(alloc);
     let open = row(alloc, &[(2, 9)])?;
     let mut probe = Probe::new(kept.share()?, open);
@@ -74,7 +74,7 @@ fn meets_all(alloc: Global, kept: &Shared<Kept>) -> Result<bool, AllocError> {
 }
 
 /// Whether a row of another key meets none.
-fn meets_none(alloc: Global, kept: &Shared<Kept>) -> Result<bool, AllocError> {
+fn meets_none(alloc: Global, kept: &Shared<KeptTable>) -> Result<bool, AllocError> {
     let mut spare = Vec::new(alloc);
     let apart = row(alloc, &[(0, 7)])?;
     let mut probe = Probe::new(kept.share()?, apart);
@@ -84,7 +84,7 @@ fn meets_none(alloc: Global, kept: &Shared<Kept>) -> Result<bool, AllocError> {
 /// Whether the row that binds these variables is excluded, by its first `width` variables.
 fn excludes(
     alloc: Global,
-    kept: &Kept,
+    kept: &KeptTable,
     bound: &[(usize, u32)],
     width: usize,
 ) -> Result<bool, AllocError> {
@@ -103,7 +103,7 @@ const EXCLUDED: &[(&[(usize, u32)], usize, bool)] = &[
     (&[(1, 11), (2, 9)], 3, true),
 ];
 
-fn are_excluded(alloc: Global, kept: &Kept) -> Result<bool, AllocError> {
+fn are_excluded(alloc: Global, kept: &KeptTable) -> Result<bool, AllocError> {
     for (bound, width, due) in EXCLUDED {
         if excludes(alloc, kept, bound, *width)? != *due {
             return Ok(false);

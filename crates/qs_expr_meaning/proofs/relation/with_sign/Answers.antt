@@ -13,6 +13,6 @@ returns-in-Plus c =
 
 pub returns-in-Minus : goal.returns-in-Minus
 returns-in-Minus c =
-    c.negated.ensures
+    c.negate.ensures
     ∙ (ap (λ y. in_range (Some (neg_ℤ y))) (to_z-of_z w128 c.args.number c.ranges.number)
     ∙ ap (λ s. in_range (Some (with_sign s c.args.number))) (sym c.in-Minus.is))

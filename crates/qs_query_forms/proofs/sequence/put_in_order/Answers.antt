@@ -7,9 +7,9 @@ use Rattle.qs_query_forms.proofs.sequence.put_in_order.Goals as goal
 
 pub returns-in-None : goal.returns-in-None
 returns-in-None c =
-    IfOk-weaker c.ordered.result (λ all. SameBag (lent all.items) c.args.rows.now × IsOrdered c.args.conditions.now (lent all.items)) _
+    IfOk-weaker c.order_rows.result (λ all. SameBag (lent all.items) c.args.rows.now × IsOrdered c.args.conditions.now (lent all.items)) _
     (λ all h. all_are_front c.args.conditions.now c.args.rows.now (lent all.items) c.args.needed c.in-None.is h)
-    c.ordered.ensures
+    c.order_rows.ensures
 
 pub returns-in-Some : goal.returns-in-Some
 returns-in-Some c =

@@ -41,18 +41,18 @@ fn has_backslash(text: &str) -> bool
 
 /// The text with its escapes decoded.
 #[tactic(auto, using(crate::proofs::Backslashes::decoded_free))]
-pub fn decoded(alloc: Global, text: &str, kind: Escapes) -> Result<Text, AllocError>
+pub fn decode(alloc: Global, text: &str, kind: Escapes) -> Result<Text, AllocError>
     ensures { IfOk result (λ t. t ≡ decoded (escape kind) text.now) }
 {
     if !has_backslash(text) {
         return Text::new(alloc, text);
     }
-    decoded_by_runs(alloc, text, kind)
+    decode_by_runs(alloc, text, kind)
 }
 
 // The text that a text with escapes denotes, run by run between the escapes.
 #[tactic(auto, using(crate::proofs::EscapeEnds::boundary, crate::proofs::Backslashes::decoded_step, crate::proofs::Backslashes::decoded_plain))]
-fn decoded_by_runs(alloc: Global, text: &str, kind: Escapes) -> Result<Text, AllocError>
+fn decode_by_runs(alloc: Global, text: &str, kind: Escapes) -> Result<Text, AllocError>
     ensures { IfOk result (λ t. t ≡ decoded (escape kind) text.now) }
 {
     let mut out = String::with_capacity(alloc, text.len())?;
@@ -68,7 +68,7 @@ fn decoded_by_runs(alloc: Global, text: &str, kind: Escapes) -> Result<Text, All
 
 /// The text, and a local name after it without the backslashes of its escapes.
 #[tactic(auto, using(crate::proofs::Backslashes::dropped_step, crate::proofs::Backslashes::dropped_plain))]
-pub fn joined(alloc: Global, front: &str, local: &str) -> Result<Text, AllocError>
+pub fn join(alloc: Global, front: &str, local: &str) -> Result<Text, AllocError>
     ensures { IfOk result (λ t. t ≡ front.now ++ unescaped local.now) }
 {
     let mut out = String::with_capacity(alloc, front.len().saturating_add(local.len()))?;

@@ -4,7 +4,7 @@ use denote.Shadow.{shadow}
 use denote.Text.{Utf8}
 use Rattle.qs_lex_escapes.specs.Decoded.{decoded}
 use Rattle.qs_lex_escapes.specs.Escape.{escape}
-use Rattle.qs_lex_escapes.proofs.decoded.decoded_by_runs.Given as goal
+use Rattle.qs_lex_escapes.proofs.decode.decode_by_runs.Given as goal
 
 abbrev pub invariant-loop-run : goal.invariant-loop-run
 invariant-loop-run l = (string_bytes l.out ++ decoded (escape l.fn.kind) l.left ≡ decoded (escape l.fn.kind) l.fn.text) × shadow (Utf8 l.left)

@@ -7,7 +7,7 @@ use Rattle.qs_lex_escapes.specs.Escape.{escape}
 use Rattle.qs_lex_escapes.specs.Decoded.{is_backslash}
 use Rattle.qs_lex_escapes.proofs.Backslashes.{turned}
 use Rattle.qs_lex_escapes.proofs.EscapeEnds.{boundary, rest_is_text}
-use Rattle.qs_lex_escapes.proofs.decoded.decoded_by_runs.Goals as goal
+use Rattle.qs_lex_escapes.proofs.decode.decode_by_runs.Goals as goal
 
 pub push_escape-requires : goal.push_escape-requires
 push_escape-requires c =

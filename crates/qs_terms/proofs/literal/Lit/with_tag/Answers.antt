@@ -4,7 +4,7 @@ use Rattle.std.proofs.lemmas.Slice.Eq.{bytes_eq-Decides}
 use Rattle.qs_terms.specs.Literal.{rdf_lang_string}
 use Rattle.qs_terms.specs.Tag.{is_tag}
 use Rattle.qs_terms.proofs.Lowered.{both_true, is_lower_tag-lowered}
-use Rattle.qs_terms.proofs.literal.Lit.tagged.Goals as goal
+use Rattle.qs_terms.proofs.literal.Lit.with_tag.Goals as goal
 
 pub of_parts-requires : goal.of_parts-requires
 of_parts-requires c =

@@ -3,7 +3,7 @@ use Rattle.std.proofs.Common.{◌≡◌, ◌++◌, length, string_bytes}
 use denote.Shadow.{shadow}
 use denote.Text.{Utf8}
 use Rattle.qs_lex_escapes.specs.Decoded.{unescaped}
-use Rattle.qs_lex_escapes.proofs.decoded.joined.Given as goal
+use Rattle.qs_lex_escapes.proofs.decode.join.Given as goal
 
 abbrev pub invariant-loop-run : goal.invariant-loop-run
 invariant-loop-run l = (string_bytes l.out ++ unescaped l.left ≡ l.fn.front ++ unescaped l.fn.local) × shadow (Utf8 l.left)

@@ -1,6 +1,6 @@
 use Rattle.std.proofs.Common.{◌≡◌, ◌-◌, length, drop}
 use Rattle.qs_ops_tables.specs.Tables.{partners}
-use Rattle.qs_ops_tables.proofs.kept.Kept.partner_from.Given as goal
+use Rattle.qs_ops_tables.proofs.kept.KeptTable.partner_from.Given as goal
 
 abbrev pub invariant-loop-other : goal.invariant-loop-other
 invariant-loop-other l = partners (drop l.at l.rows) l.row ≡ partners (drop l.place l.rows) l.row
