@@ -4,12 +4,16 @@ ghost use Rattle.std.specs.Prelude.{◌≡◌};
 ghost use Rattle.qs_expr_meaning.specs.declared.fault.ExprFault.TheVariants as fault;
 
 use std::alloc::AllocError;
+use thiserror::Error;
 
-#[derive(Clone, Copy, PartialEq, Eq)]
+/// Why an expression gives no value.
+#[derive(Clone, Copy, Debug, PartialEq, Eq, Error)]
 pub enum ExprFault {
     /// The expression errs (SPARQL 1.1 Query, 17.2 and 17.3).
+    #[error("the expression has a type error")]
     TypeError,
     /// Running out of memory.
+    #[error("out of memory")]
     Memory,
 }
 

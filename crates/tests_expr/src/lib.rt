@@ -9,6 +9,8 @@ mod conditions;
 #[cfg(test)]
 mod expressions;
 #[cfg(test)]
+mod faults;
+#[cfg(test)]
 mod growth;
 #[cfg(test)]
 mod outcome;
