@@ -343,7 +343,7 @@ impl Order {
     }
 
     /// About how many entries begin with the first `given` numbers of `prefix`, by two searches. It is their count where these lead to pages
-    /// that are at most 64 apart.
+    /// that are at most 64 apart, and the last of the numbers isn't the greatest `u32`. Where it is, all later entries are counted too.
     pub fn about(&self, prefix: [u32; 4], given: usize) -> u64
         requires { given ≤ 4 }
     {
