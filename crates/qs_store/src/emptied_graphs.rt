@@ -1,7 +1,8 @@
 //! The graphs of which a draft has removed all entries of its store.
 //!
-//! No reader of a draft goes over the store's entries of such a graph. Of the default graph, of all named graphs and of all graphs the
-//! counts of entries tell it. Other graphs are noted once they were emptied: an entry that is removed stays so until the end of the draft.
+//! No reader of a draft goes over the store's entries of a graph that is known to be one. Of the default graph, of all named graphs and of
+//! all graphs the counts of entries tell it. Another graph is noted when CLEAR, DROP, COPY or MOVE empties it; one that DELETE empties
+//! isn't. An entry that is removed stays so until the end of the draft.
 
 ghost use Rattle.std.specs.Prelude.{◌≡◌, ◌↔◌, [], IsTrue, OnOk, OnErr, Contains};
 ghost use Rattle.std.specs.BTreeSet.{insert_key};
