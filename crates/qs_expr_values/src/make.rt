@@ -45,7 +45,7 @@ fn string_of_copy(alloc: Global, form: &str) -> Result<Term, AllocError>
     string(alloc, form)
 }
 
-// The only fault that lawful parts can have.
+// Lawful parts have one fault, running out of memory. As no proof says that these are lawful, each fault is answered as that one.
 fn of_lawful<T: Drop>(made: Result<T, TermFault>) -> Result<T, AllocError>
     ensures { IfOk result (λ t. made ≡ Ok t) }
 {
