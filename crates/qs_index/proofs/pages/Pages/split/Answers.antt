@@ -35,8 +35,8 @@ overflow_sub-self c =
     let whole : length (page_at pages m) ≡ 256 = ap (λ r. length (page_at r m)) same ∙ c.requires.full in
     let f = over-split pages m within whole in omega (arith, c.self.invariant.above)
 
-pub returns-in-Some-clause-pages : goal.returns-in-Some-clause-pages
-returns-in-Some-clause-pages c =
+pub returns-clause-pages : goal.returns-clause-pages
+returns-clause-pages c =
     let i = c.self.invariant in
     let pages = c.self.inside.pages.items in
     let m = c.args.page in
