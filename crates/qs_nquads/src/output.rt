@@ -22,7 +22,7 @@ use thiserror::Error;
 #[derive(Clone, Copy, Debug, PartialEq, Eq, Error)]
 pub enum WriteFault {
     /// The device failed after the first `written` bytes of the text.
-    #[error("the device failed behind {written} bytes")]
+    #[error("the device failed after {written} bytes")]
     Io { written: u128 },
     /// Memory ran out before a byte went out.
     #[error("out of memory")]
