@@ -167,10 +167,13 @@ in_operation other = []
 abbrev pub in_update : Update → List Name
 in_update update = flat_map in_operation update.operations
 
--- ---- those of a group, each once, in the order in which they first appear
+-- ---- those of a group, and those of an operation, each once, in the order in which they first appear
 
 unfoldable pub group_variables : Group → List Variable
 group_variables group = firsts (with_names (in_group group))
+
+unfoldable pub operation_variables : Operation → List Variable
+operation_variables operation = firsts (with_names (in_operation operation))
 
 -- ---- those that are listed already and then those that stand there, each once, in the order in which they first appear
 

@@ -57,6 +57,22 @@ fn push_operation<'a>(names: &mut NameList<'a>, operation: &'a Operation) -> Res
     }
 }
 
+/// The variables that stand anywhere in the operation, each once, in the order in which they first appear: those of its templates first.
+///
+/// # Errors
+/// `AllocError` where memory runs out.
+#[tactic(auto, unfolding(crate::specs::VariablesIn::operation_variables))]
+pub fn operation_variables(
+    alloc: Global,
+    operation: &Operation,
+) -> Result<Items<Variable>, AllocError>
+    ensures { IfOk result (λ found. found ≡ spec.operation_variables operation.now) }
+{
+    let mut names = NameList::new(alloc);
+    push_operation(&mut names, operation)?;
+    first_of_names(alloc, &names)
+}
+
 fn push_update<'a>(names: &mut NameList<'a>, update: &'a Update) -> Result<(), AllocError>
     ensures { OnOk result (names.new ≡ names.old ++ spec.in_update update.now) }
 {

@@ -24,7 +24,7 @@ mod update;
 pub use first::{first_variables, number_names};
 pub use in_group::group_variables;
 pub use in_query::query_variables;
-pub use in_update::update_variables;
+pub use in_update::{operation_variables, update_variables};
 pub use name_list::NameList;
 pub use query::query_keeps_scope;
 pub use scope::in_scope;
