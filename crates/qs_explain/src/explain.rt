@@ -15,6 +15,7 @@ use qs_syntax::{drop_query, drop_update, parse_query, parse_update};
 use qs_syntax_ast::query::Query;
 use qs_syntax_ast::term::Variable;
 use qs_syntax_ast::update::{Modify, Operation, QuadBlock, Update};
+use qs_syntax_scope::operation_variables;
 use qs_terms::{Iri, QFault, Term, Text};
 use std::alloc::{AllocError, Global};
 
@@ -128,7 +129,6 @@ fn put_operation_line(
 /// Writes the operation with this number, and the plan of its WHERE, if it has one.
 fn put_operation<V: View>(
     alloc: Global,
-    variables: &[Variable],
     number: usize,
     operation: &Operation,
     view: &V,
@@ -139,9 +139,13 @@ fn put_operation<V: View>(
     put_operation_line(number, operation, text)?;
     match operation {
         Operation::DeleteWhere(blocks) => {
-            put_blocks(alloc, variables, blocks.as_slice(), view, text)
+            let variables = operation_variables(alloc, operation)?;
+            put_blocks(alloc, variables.as_slice(), blocks.as_slice(), view, text)
         }
-        Operation::Modify(modify) => put_modify(alloc, variables, modify, view, text),
+        Operation::Modify(modify) => {
+            let variables = operation_variables(alloc, operation)?;
+            put_modify(alloc, variables.as_slice(), modify, view, text)
+        }
         _ => Ok(()),
     }
 }
@@ -150,10 +154,9 @@ fn update_text<V: View>(alloc: Global, update: &Update, view: &V) -> Result<Text
     ensures { IfErr result (λ f. f ≡ Memory) }
 {
     let mut text = String::new(alloc);
-    let variables = update.variables.as_slice();
     let operations = update.operations.as_slice();
     for at in 0..operations.len() {
-        put_operation(alloc, variables, at + 1, &operations[at], view, &mut text)?;
+        put_operation(alloc, at + 1, &operations[at], view, &mut text)?;
     }
     Ok(Text::from(text))
 }

@@ -23,6 +23,7 @@ use Rattle.qs_syntax_ast.specs.declared.update.QuadBlock.{QuadBlock}
 use Rattle.qs_syntax_ast.specs.declared.update.Transfer.{Transfer}
 use Rattle.qs_syntax_scope.specs.Firsts.{names_of}
 use Rattle.qs_syntax_scope.specs.Names.{Name}
+use Rattle.qs_syntax_scope.specs.VariablesIn.{operation_variables}
 use Rattle.qs_algebra_solutions.specs.Solution.{Solution, unbound}
 use Rattle.qs_algebra_patterns.specs.Eval.{eval}
 use Rattle.qs_algebra_patterns.specs.declared.pattern.PatternNode.{PatternNode}
@@ -171,7 +172,7 @@ data_lawful made delete insert next =
     modified_lawful next (template_of_blocks [] delete) (template_of_blocks [] insert) (unbound 0 ∷ [])
     (made None [] insert next (unbound 0 ∷ []) (All-from_recursion (λ (m : Solution). is_solution_below next m ≡ true) (unbound 0 ∷ []) (refl, tt)))
 
-module _ (bound : Bound) (made : Made) (wheres : Wheres) (blocks : Blocks) (max_rows : ℕ) (variables : List Variable) (default : DefaultGraph) where
+module _ (bound : Bound) (made : Made) (wheres : Wheres) (blocks : Blocks) (max_rows : ℕ) (default : DefaultGraph) where
   rows_below : (next : ℕ) (quads : List Statement) (pattern : Pattern) (name : Option Term) → has_no_blank pattern.root ≡ true → is_above_blanks next quads ≡ true → have_iri_predicates quads ≡ true
       → AreBelow next (solutions pattern default name quads)
   rows_below next quads pattern name h above iris =
@@ -180,15 +181,17 @@ module _ (bound : Bound) (made : Made) (wheres : Wheres) (blocks : Blocks) (max_
       (all_once predicate_is_iri same_statement (visible default quads) (seen_iris default quads iris))
 
   pub operation_lawful : (o : Operation) (quads : List Statement) (next : ℕ) (outcome : Outcome Effect) → is_above_blanks next quads ≡ true → have_iri_predicates quads ≡ true → operation_values_have_no_blank o ≡ true
-      → IsEffect max_rows variables default o quads next outcome → IfOk outcome (IsLawful next)
+      → IsEffect max_rows default o quads next outcome → IfOk outcome (IsLawful next)
   operation_lawful (operation.InsertData b) quads next outcome above iris values e = due next outcome (of_data [] b next) e (data_lawful made [] b next)
   operation_lawful (operation.DeleteData b) quads next outcome above iris values e = due next outcome (of_data b [] next) e (data_lawful made b [] next)
   operation_lawful (operation.DeleteWhere b) quads next outcome above iris values e =
+      let variables = operation_variables (operation.DeleteWhere b) in
       let names = names_of variables in
       let pattern = translated_blocks variables b in
       under_lawful next max_rows (template_of_blocks names b) (template_of_blocks names []) (solutions pattern default None quads) outcome
       (made None names [] next) (rows_below next quads pattern None (blocks variables b) above iris) e
   operation_lawful (operation.Modify m) quads next outcome above iris values e =
+      let variables = operation_variables (operation.Modify m) in
       let names = names_of variables in
       let pattern = translated_where variables m.pattern in
       let name = option_map value.Iri m.with in

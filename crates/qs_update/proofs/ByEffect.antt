@@ -5,13 +5,17 @@ use Rattle.qs_terms.specs.Statement.{Statement, same_graph}
 use Rattle.qs_terms.specs.declared.fault.QFault.{QFault}
 use Rattle.qs_terms.specs.declared.term.Term.{Term}
 use Rattle.qs_syntax_ast.specs.declared.term.Variable.{Variable}
+use Rattle.qs_syntax_ast.specs.declared.update.Modify.{Modify}
 use Rattle.qs_syntax_ast.specs.declared.update.Operation.{Operation}
+use Rattle.qs_syntax_ast.specs.declared.update.Operation.TheVariants as operation
+use Rattle.qs_syntax_ast.specs.declared.update.QuadBlock.{QuadBlock}
 use Rattle.qs_syntax_ast.specs.declared.update.Transfer.{Transfer}
+use Rattle.qs_syntax_scope.specs.VariablesIn.{operation_variables}
 use Rattle.qs_store.specs.Content.{Content, Held}
 use Rattle.qs_store.specs.Same.{SameSet}
 use Rattle.qs_store.specs.declared.removal.Removal.{Removal}
 use Rattle.qs_update.specs.inner.Carried.{BecomesOne}
-use Rattle.qs_update.specs.Effect.{put_over, removed_by, transferred, IsEffect}
+use Rattle.qs_update.specs.Effect.{put_over, removed_by, transferred, IsDeletedWhere, IsModifiedWhere, IsEffect}
 use Rattle.qs_update.specs.Graphs.{copies, exists, graph_name}
 use Rattle.qs_update.specs.Request.{bounds_of, IsCarriedOut, IsOperation}
 use Rattle.qs_update.specs.declared.effect.Effect.{Effect}
@@ -27,12 +31,12 @@ transferred_there removal t quads next from to f g h =
     let there : exists (graph_name t.from) quads ≡ true = subst (λ x. exists x quads ≡ true) f h in
     rw (there, f, g) refl
 
-module _ (max_rows : ℕ) (variables : List Variable) (held : Held) where
+module _ (max_rows : ℕ) (held : Held) where
   abbrev Becomes : Operation → Outcome (Unit {0}) → Content → Type 0
-  Becomes o result new = BecomesOne (IsOperation (bounds_of max_rows held) variables o held.draft) result new
+  Becomes o result new = BecomesOne (IsOperation (bounds_of max_rows held) o held.draft) result new
 
   abbrev Does : Operation → Outcome Effect → Type 0
-  Does o effect = IsEffect max_rows variables held.default_graph o held.draft.quads held.draft.next effect
+  Does o effect = IsEffect max_rows held.default_graph o held.draft.quads held.draft.next effect
 
   same : SameSet held.draft.quads held.draft.quads
   same q = (λ c. c, λ c. c)
@@ -41,6 +45,16 @@ module _ (max_rows : ℕ) (variables : List Variable) (held : Held) where
   pub done : (o : Operation) (effect : Outcome Effect) (result : Outcome (Unit {0})) (new : Content) → Does o effect → BecomesOne (IsCarriedOut held.limit held.draft effect) result new → Becomes o result new
   done o effect (Ok u) new e k = (held.draft.quads, same, (effect, e, k))
   done o effect (Err f) new e k = λ n. (held.draft.quads, same, (effect, e, k n))
+
+  -- what an operation with a WHERE does with its own variables
+  pub deleted : (variables : List Variable) (blocks : List QuadBlock) (outcome : Outcome Effect) → variables ≡ operation_variables (operation.DeleteWhere blocks)
+      → OneOrOutOfMemory (IsDeletedWhere max_rows variables held.default_graph blocks held.draft.quads held.draft.next) outcome → OneOrOutOfMemory (Does (operation.DeleteWhere blocks)) outcome
+  deleted variables blocks outcome e h =
+      subst (λ (v : List Variable). OneOrOutOfMemory (IsDeletedWhere max_rows v held.default_graph blocks held.draft.quads held.draft.next) outcome) e h
+
+  pub changed : (variables : List Variable) (m : Modify) (outcome : Outcome Effect) → variables ≡ operation_variables (operation.Modify m)
+      → OneOrOutOfMemory (IsModifiedWhere max_rows variables held.default_graph m held.draft.quads held.draft.next) outcome → OneOrOutOfMemory (Does (operation.Modify m)) outcome
+  changed variables m outcome e h = subst (λ (v : List Variable). OneOrOutOfMemory (IsModifiedWhere max_rows v held.default_graph m held.draft.quads held.draft.next) outcome) e h
 
   -- or the fault that is due is told
   pub refused : (o : Operation) (f : QFault) (new : Content) → OneOrOutOfMemory (Does o) (Err f) → Becomes o (Err f) new

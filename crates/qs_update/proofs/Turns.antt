@@ -4,7 +4,6 @@ use Rattle.std.proofs.lemmas.List.{take_more, take-append-drop}
 use Rattle.qs_terms.specs.Outcome.{Outcome}
 use Rattle.qs_terms.specs.Statement.{Statement}
 use Rattle.qs_terms.specs.declared.fault.QFault.{QFault}
-use Rattle.qs_syntax_ast.specs.declared.term.Variable.{Variable}
 use Rattle.qs_syntax_ast.specs.declared.update.Operation.{Operation}
 use Rattle.qs_store.specs.Change.{IsChanged, KnowsTermsOf, with_terms_of}
 use Rattle.qs_store.specs.Content.{Content, Held}
@@ -27,11 +26,11 @@ applied limit old new e removed added r a room quads next known = record {
   known = subst (λ (l : List Statement). KnowsTermsOf old.known l new.known) a known;
 }
 
-module _ (bounds : Bounds) (variables : List Variable) where
+module _ (bounds : Bounds) where
   -- ---- one after another
 
   abbrev Are : List Operation → Content → Outcome Content → Type 0
-  Are operations old outcome = AreOperations bounds variables operations old outcome
+  Are operations old outcome = AreOperations bounds operations old outcome
 
   ended : (outcome : Outcome Content) → IsBehind (Are []) outcome outcome
   ended (Ok c) = refl
@@ -43,8 +42,8 @@ module _ (bounds : Bounds) (variables : List Variable) where
   behind_first operations o c outcome (Err f) others h = absurd (let e : Ok c ≡ Err f = h in cc)
 
   -- one more operation after others that succeed
-  behind : (operations : List Operation) (o : Operation) (c : Content) (outcome : Outcome Content) → IsOperation bounds variables o c outcome → (old : Content) → Are operations old (Ok c) → Are (operations ++ o ∷ []) old outcome
-  behind [] o c outcome k old h = (outcome, subst (λ (x : Content). IsOperation bounds variables o x outcome) (let e : Ok c ≡ Ok old = h in cc) k, ended outcome)
+  behind : (operations : List Operation) (o : Operation) (c : Content) (outcome : Outcome Content) → IsOperation bounds o c outcome → (old : Content) → Are operations old (Ok c) → Are (operations ++ o ∷ []) old outcome
+  behind [] o c outcome k old h = (outcome, subst (λ (x : Content). IsOperation bounds o x outcome) (let e : Ok c ≡ Ok old = h in cc) k, ended outcome)
   behind (p ∷ operations) o c outcome k old h = (h.0, h.1, behind_first operations o c outcome h.0 (λ d l. behind operations o c outcome k d l) h.2)
 
   before_first : (operations more : List Operation) (f : QFault) (first : Outcome Content)
@@ -58,12 +57,12 @@ module _ (bounds : Bounds) (variables : List Variable) where
   before (p ∷ operations) more f old h = (h.0, h.1, before_first operations more f h.0 (λ d l. before operations more f d l) h.2)
 
   one_more : (operations : List Operation) (i : ℕ) (o : Operation) (old c : Content) (outcome : Outcome Content) → i < length operations → o ≡ get_or operations i o → Are (take i operations) old (Ok c)
-      → IsOperation bounds variables o c outcome → Are (take (i + 1) operations) old outcome
+      → IsOperation bounds o c outcome → Are (take (i + 1) operations) old outcome
   one_more operations i o old c outcome lt is h k =
       subst (λ (l : List Operation). Are l old outcome) (sym (take_more operations i o lt ∙ ap (λ (x : Operation). take i operations ++ x ∷ []) (sym is))) (behind (take i operations) o c outcome k old h)
 
   stopped : (operations : List Operation) (i : ℕ) (o : Operation) (old c : Content) (f : QFault) → i < length operations → o ≡ get_or operations i o → Are (take i operations) old (Ok c)
-      → IsOperation bounds variables o c (Err f) → Are operations old (Err f)
+      → IsOperation bounds o c (Err f) → Are operations old (Err f)
   stopped operations i o old c f lt is h k =
       subst (λ (l : List Operation). Are l old (Err f)) (take-append-drop (i + 1) operations) (before (take (i + 1) operations) (drop (i + 1) operations) f old (one_more operations i o old c (Err f) lt is h k))
 
@@ -75,37 +74,35 @@ same_bounds max_rows a b l d =
     let with_graph : DefaultGraph → Bounds = λ g. record { terms = b.limit; rows = max_rows; default_graph = g } in
     ap with_terms l ∙ ap with_graph d
 
-module _ (max_rows : ℕ) (variables : List Variable) (operations : List Operation) where
-  module _ (i : ℕ) (o : Operation) (old now : Held) (lt : i < length operations) (is : o ≡ get_or operations i o) (h : Standing max_rows variables (take i operations) old now) where
-    there : (outcome : Outcome Content) → IsOperation (bounds_of max_rows now) variables o now.draft outcome → IsOperation (bounds_of max_rows old) variables o now.draft outcome
-    there outcome k = subst (λ (b : Bounds). IsOperation b variables o now.draft outcome) (same_bounds max_rows now old h.limit h.default_graph) k
+module _ (max_rows : ℕ) (operations : List Operation) where
+  module _ (i : ℕ) (o : Operation) (old now : Held) (lt : i < length operations) (is : o ≡ get_or operations i o) (h : Standing max_rows (take i operations) old now) where
+    there : (outcome : Outcome Content) → IsOperation (bounds_of max_rows now) o now.draft outcome → IsOperation (bounds_of max_rows old) o now.draft outcome
+    there outcome k = subst (λ (b : Bounds). IsOperation b o now.draft outcome) (same_bounds max_rows now old h.limit h.default_graph) k
 
-    pub stands : (new : Held) → new.base ≡ now.base → new.limit ≡ now.limit → new.default_graph ≡ now.default_graph → IsOperation (bounds_of max_rows now) variables o now.draft (Ok new.draft)
-        → Standing max_rows variables (take (i + 1) operations) old new
+    pub stands : (new : Held) → new.base ≡ now.base → new.limit ≡ now.limit → new.default_graph ≡ now.default_graph → IsOperation (bounds_of max_rows now) o now.draft (Ok new.draft)
+        → Standing max_rows (take (i + 1) operations) old new
     stands new b l d k = record {
       base = b ∙ h.base;
       limit = l ∙ h.limit;
       default_graph = d ∙ h.default_graph;
-      outcome = one_more (bounds_of max_rows old) variables operations i o old.draft now.draft (Ok new.draft) lt is h.outcome (there (Ok new.draft) k);
+      outcome = one_more (bounds_of max_rows old) operations i o old.draft now.draft (Ok new.draft) lt is h.outcome (there (Ok new.draft) k);
     }
 
-    pub refused : (f : QFault) → IsOperation (bounds_of max_rows now) variables o now.draft (Err f) → AreOperations (bounds_of max_rows old) variables operations old.draft (Err f)
-    refused f k = stopped (bounds_of max_rows old) variables operations i o old.draft now.draft f lt is h.outcome (there (Err f) k)
+    pub refused : (f : QFault) → IsOperation (bounds_of max_rows now) o now.draft (Err f) → AreOperations (bounds_of max_rows old) operations old.draft (Err f)
+    refused f k = stopped (bounds_of max_rows old) operations i o old.draft now.draft f lt is h.outcome (there (Err f) k)
 
--- the same of the same lists
-pub same_operations : (bounds : Bounds) (variables variables2 : List Variable) (operations operations2 : List Operation) (old : Content) (outcome : Outcome Content) → variables ≡ variables2 → operations ≡ operations2
-    → AreOperations bounds variables operations old outcome → AreOperations bounds variables2 operations2 old outcome
-same_operations bounds variables variables2 operations operations2 old outcome v o h =
-    subst (λ (l : List Operation). AreOperations bounds variables2 l old outcome) o (subst (λ (l : List Variable). AreOperations bounds l operations old outcome) v h)
+-- the same of the same list
+pub same_operations : (bounds : Bounds) (operations operations2 : List Operation) (old : Content) (outcome : Outcome Content) → operations ≡ operations2 → AreOperations bounds operations old outcome → AreOperations bounds operations2 old outcome
+same_operations bounds operations operations2 old outcome e h = subst (λ (l : List Operation). AreOperations bounds l old outcome) e h
 
 -- ---- a request
 
 module _ (max_rows : ℕ) (held start : Held) (at : start.draft ≡ held.base) (l : start.limit ≡ held.limit) (d : start.default_graph ≡ held.default_graph) where
   -- the draft began as the store
-  pub rebased : (variables : List Variable) (operations : List Operation) (outcome : Outcome Content) → AreOperations (bounds_of max_rows start) variables operations start.draft outcome → AreOperations (bounds_of max_rows held) variables operations held.base outcome
-  rebased variables operations outcome h =
-      subst (λ (b : Bounds). AreOperations b variables operations held.base outcome) (same_bounds max_rows start held l d)
-      (subst (λ (c : Content). AreOperations (bounds_of max_rows start) variables operations c outcome) at h)
+  pub rebased : (operations : List Operation) (outcome : Outcome Content) → AreOperations (bounds_of max_rows start) operations start.draft outcome → AreOperations (bounds_of max_rows held) operations held.base outcome
+  rebased operations outcome h =
+      subst (λ (b : Bounds). AreOperations b operations held.base outcome) (same_bounds max_rows start held l d)
+      (subst (λ (c : Content). AreOperations (bounds_of max_rows start) operations c outcome) at h)
 
 -- the same content, where one of the two has the quads of a third
 pub same_content : (new made : Content) (quads : List Statement) → quads ≡ new.quads → SameSet quads made.quads → new.next ≡ made.next → new.known ≡ made.known → IsSameContent new made

@@ -3,6 +3,8 @@
 -- COPY, MOVE and ADD of a graph to itself do nothing once the graph is there. CLEAR and DROP do the same with and without SILENT.
 -- DELETE WHERE has a basic graph pattern for each block of its quads: an empty GRAPH has a solution only where there is such a
 -- graph.
+-- The variables of an operation are those that stand in it. Its solutions are those of its own WHERE (3.1.3), so which variables the
+-- other operations of a request name doesn't matter.
 use Rattle.std.specs.Prelude.{◌≡◌, ◌⊎◌, ◌<◌, ◌≤◌, ℕ, List, [], ◌∷◌, length, Option, Some, None, option_map, Ok, Err, if◌then◌else◌}
 use Rattle.std.specs.List.{filter}
 use Rattle.qs_terms.specs.Bag.{SameBag, once}
@@ -23,6 +25,7 @@ use Rattle.qs_syntax_ast.specs.declared.update.Operation.TheVariants as operatio
 use Rattle.qs_syntax_ast.specs.declared.update.QuadBlock.{QuadBlock}
 use Rattle.qs_syntax_ast.specs.declared.update.Transfer.{Transfer}
 use Rattle.qs_syntax_scope.specs.Firsts.{names_of}
+use Rattle.qs_syntax_scope.specs.VariablesIn.{operation_variables}
 use Rattle.qs_algebra_solutions.specs.Solution.{Solution, unbound}
 use Rattle.qs_query_template.specs.Instances.{instances, made, next_after}
 use Rattle.qs_query_template.specs.Template.{template_of_blocks, template_in}
@@ -66,12 +69,12 @@ IsModified max_rows delete insert next all outcome =
     ((max_rows < length all) × (outcome ≡ Err fault.TooManyRows))
     ⊎ ((length all ≤ max_rows) × (rows : List Solution) × SameBag rows all × (outcome ≡ modified delete insert next rows))
 
--- DELETE WHERE (3.1.3.3): its quads are pattern and template
+-- DELETE WHERE (3.1.3.3): its quads are pattern and template, and these are its variables
 abbrev pub IsDeletedWhere : ℕ → List Variable → DefaultGraph → List QuadBlock → List Statement → ℕ → Outcome Effect → Type 0
 IsDeletedWhere max_rows variables default blocks quads next outcome =
     IsModified max_rows (template_of_blocks (names_of variables) blocks) (template_of_blocks (names_of variables) []) next (solutions (translated_blocks variables blocks) default None quads) outcome
 
--- DELETE and INSERT with a WHERE (3.1.3): WITH names the default graph of the WHERE and of both templates
+-- DELETE and INSERT with a WHERE (3.1.3), and these variables: WITH names the default graph of the WHERE and of both templates
 abbrev pub IsModifiedWhere : ℕ → List Variable → DefaultGraph → Modify → List Statement → ℕ → Outcome Effect → Type 0
 IsModifiedWhere max_rows variables default m quads next outcome =
     IsModified max_rows
@@ -109,15 +112,15 @@ transferred removal t quads next =
 
 -- ---- operations
 
--- what the operation does over these quads, where this is the next blank node's number, and these are the variables of the text
-abbrev pub IsEffect : ℕ → List Variable → DefaultGraph → Operation → List Statement → ℕ → Outcome Effect → Type 0
-IsEffect max_rows variables default (operation.InsertData blocks) quads next outcome = outcome ≡ of_data [] blocks next
-IsEffect max_rows variables default (operation.DeleteData blocks) quads next outcome = outcome ≡ of_data blocks [] next
-IsEffect max_rows variables default (operation.DeleteWhere blocks) quads next outcome = IsDeletedWhere max_rows variables default blocks quads next outcome
-IsEffect max_rows variables default (operation.Modify m) quads next outcome = IsModifiedWhere max_rows variables default m quads next outcome
-IsEffect max_rows variables default (operation.Clear _ target) quads next outcome = outcome ≡ Ok (cleared target quads next)
-IsEffect max_rows variables default (operation.Drop _ target) quads next outcome = outcome ≡ Ok (cleared target quads next)
-IsEffect max_rows variables default (operation.Create on_exists name) quads next outcome = outcome ≡ created on_exists name quads next
-IsEffect max_rows variables default (operation.Add t) quads next outcome = outcome ≡ transferred removal.Nothing t quads next
-IsEffect max_rows variables default (operation.Move t) quads next outcome = outcome ≡ transferred removal.Both t quads next
-IsEffect max_rows variables default (operation.Copy t) quads next outcome = outcome ≡ transferred removal.Target t quads next
+-- what the operation does over these quads, where this is the next blank node's number
+abbrev pub IsEffect : ℕ → DefaultGraph → Operation → List Statement → ℕ → Outcome Effect → Type 0
+IsEffect max_rows default (operation.InsertData blocks) quads next outcome = outcome ≡ of_data [] blocks next
+IsEffect max_rows default (operation.DeleteData blocks) quads next outcome = outcome ≡ of_data blocks [] next
+IsEffect max_rows default (operation.DeleteWhere blocks) quads next outcome = IsDeletedWhere max_rows (operation_variables (operation.DeleteWhere blocks)) default blocks quads next outcome
+IsEffect max_rows default (operation.Modify m) quads next outcome = IsModifiedWhere max_rows (operation_variables (operation.Modify m)) default m quads next outcome
+IsEffect max_rows default (operation.Clear _ target) quads next outcome = outcome ≡ Ok (cleared target quads next)
+IsEffect max_rows default (operation.Drop _ target) quads next outcome = outcome ≡ Ok (cleared target quads next)
+IsEffect max_rows default (operation.Create on_exists name) quads next outcome = outcome ≡ created on_exists name quads next
+IsEffect max_rows default (operation.Add t) quads next outcome = outcome ≡ transferred removal.Nothing t quads next
+IsEffect max_rows default (operation.Move t) quads next outcome = outcome ≡ transferred removal.Both t quads next
+IsEffect max_rows default (operation.Copy t) quads next outcome = outcome ≡ transferred removal.Target t quads next

@@ -9,7 +9,7 @@ use Rattle.qs_update.specs.Request.{Bounds, AreOperations}
 
 -- a text without fault makes what its operations make
 abbrev pub IsOutcomeOfParsed : Bounds → Outcome Update → Content → Outcome Content → Type 0
-IsOutcomeOfParsed bounds (Ok update) old outcome = AreOperations bounds update.variables update.operations old outcome
+IsOutcomeOfParsed bounds (Ok update) old outcome = AreOperations bounds update.operations old outcome
 IsOutcomeOfParsed bounds (Err f) old outcome = outcome ≡ Err f
 
 abbrev pub IsOutcomeOfText : Bounds → List ℕ → Content → Outcome Content → Type 0

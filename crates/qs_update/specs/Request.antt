@@ -3,7 +3,6 @@ use Rattle.std.specs.Prelude.{◌≡◌, ◌<◌, ◌≤◌, ℕ, List, [], ◌�
 use Rattle.qs_terms.specs.Outcome.{Outcome}
 use Rattle.qs_terms.specs.Statement.{Statement}
 use Rattle.qs_terms.specs.declared.fault.QFault.TheVariants.{Full}
-use Rattle.qs_syntax_ast.specs.declared.term.Variable.{Variable}
 use Rattle.qs_syntax_ast.specs.declared.update.Operation.{Operation}
 use Rattle.qs_store.specs.Change.{IsChanged, KnowsTermsOf, with_terms_of}
 use Rattle.qs_store.specs.Content.{Content, Held}
@@ -38,10 +37,10 @@ IsCarriedOut limit old (Err g) (Ok new) = ⊥
 IsCarriedOut limit old (Err g) (Err f) = f ≡ g
 
 -- what an operation makes of a content, whose quads have no order: some list of them is read
-abbrev pub IsOperation : Bounds → List Variable → Operation → Content → Outcome Content → Type 0
-IsOperation bounds variables operation old outcome =
+abbrev pub IsOperation : Bounds → Operation → Content → Outcome Content → Type 0
+IsOperation bounds operation old outcome =
     (quads : List Statement) × SameSet quads old.quads
-    × ((effect : Outcome Effect) × IsEffect bounds.rows variables bounds.default_graph operation quads old.next effect × IsCarriedOut bounds.terms old effect outcome)
+    × ((effect : Outcome Effect) × IsEffect bounds.rows bounds.default_graph operation quads old.next effect × IsCarriedOut bounds.terms old effect outcome)
 
 -- what is done with the content that stands, or the fault that was due before
 abbrev pub IsBehind : (Content → Outcome Content → Type 0) → Outcome Content → Outcome Content → Type 0
@@ -49,7 +48,7 @@ IsBehind Rest (Ok c) outcome = Rest c outcome
 IsBehind Rest (Err f) outcome = outcome ≡ Err f
 
 -- the operations one after another, each over what those before it left; the first fault is that of all
-abbrev pub AreOperations : Bounds → List Variable → List Operation → Content → Outcome Content → Type 0
-AreOperations bounds variables [] old outcome = outcome ≡ Ok old
-AreOperations bounds variables (operation ∷ operations) old outcome =
-    (first : Outcome Content) × IsOperation bounds variables operation old first × IsBehind (AreOperations bounds variables operations) first outcome
+abbrev pub AreOperations : Bounds → List Operation → Content → Outcome Content → Type 0
+AreOperations bounds [] old outcome = outcome ≡ Ok old
+AreOperations bounds (operation ∷ operations) old outcome =
+    (first : Outcome Content) × IsOperation bounds operation old first × IsBehind (AreOperations bounds operations) first outcome

@@ -3,6 +3,7 @@
 ghost use Rattle.std.specs.Prelude.{◌≡◌, IsTrue};
 ghost use Rattle.qs_terms.specs.Dataset.{is_above_blanks};
 ghost use Rattle.qs_syntax_ast.specs.declared.update.Operation.TheVariants as operation;
+ghost use Rattle.qs_syntax_scope.specs.VariablesIn as scope;
 ghost use Rattle.qs_update_laws.specs.Below.{have_iri_predicates};
 ghost use Rattle.qs_update_laws.specs.Written.{operation_values_have_no_blank, update_values_have_no_blank, values_have_no_blank};
 ghost use Rattle.qs_update.specs.inner.Carried.{BecomesOne};
@@ -16,6 +17,7 @@ use crate::whole_graphs::{clear, create, transfer};
 use qs_store::{Draft, Removal};
 use qs_syntax_ast::term::Variable;
 use qs_syntax_ast::update::{Modify, Operation, QuadBlock, Update};
+use qs_syntax_scope::operation_variables;
 use qs_terms::QFault;
 use qs_update_laws::laws::quads_are_told_one_by_one;
 use std::alloc::Global;
@@ -50,7 +52,7 @@ fn next_blank(draft: &Draft<'_>) -> u64
     draft.next_blank()
 }
 
-// DELETE WHERE.
+// DELETE WHERE, with its variables.
 fn delete_where(
     alloc: Global,
     variables: &[Variable],
@@ -58,11 +60,12 @@ fn delete_where(
     draft: &mut Draft<'_>,
     max_rows: u64,
 ) -> Result<(), QFault>
+    requires { variables.now ≡ scope.operation_variables (operation.DeleteWhere blocks.now) }
     ensures same_reference { draft.new.store.ghost_name ≡ draft.old.store.ghost_name }
     ensures base { draft.new.store.now.base ≡ draft.old.store.now.base }
     ensures limit { draft.new.store.now.limit ≡ draft.old.store.now.limit }
     ensures default_graph { draft.new.store.now.default_graph ≡ draft.old.store.now.default_graph }
-    ensures outcome { BecomesOne (IsOperation (bounds_of max_rows draft.old.store.now) variables.now (operation.DeleteWhere blocks.now) draft.old.store.now.draft) result draft.new.store.now.draft }
+    ensures outcome { BecomesOne (IsOperation (bounds_of max_rows draft.old.store.now) (operation.DeleteWhere blocks.now) draft.old.store.now.draft) result draft.new.store.now.draft }
 {
     effects_are_lawful();
     next_blank(draft);
@@ -70,7 +73,7 @@ fn delete_where(
     apply_operation(draft, &effect)
 }
 
-// DELETE and INSERT with a WHERE.
+// DELETE and INSERT with a WHERE, and their variables.
 fn modify_where(
     alloc: Global,
     variables: &[Variable],
@@ -78,12 +81,13 @@ fn modify_where(
     draft: &mut Draft<'_>,
     max_rows: u64,
 ) -> Result<(), QFault>
-    requires { IsTrue (values_have_no_blank modify.now.pattern) }
+    requires variables { variables.now ≡ scope.operation_variables (operation.Modify modify.now) }
+    requires values { IsTrue (values_have_no_blank modify.now.pattern) }
     ensures same_reference { draft.new.store.ghost_name ≡ draft.old.store.ghost_name }
     ensures base { draft.new.store.now.base ≡ draft.old.store.now.base }
     ensures limit { draft.new.store.now.limit ≡ draft.old.store.now.limit }
     ensures default_graph { draft.new.store.now.default_graph ≡ draft.old.store.now.default_graph }
-    ensures outcome { BecomesOne (IsOperation (bounds_of max_rows draft.old.store.now) variables.now (operation.Modify modify.now) draft.old.store.now.draft) result draft.new.store.now.draft }
+    ensures outcome { BecomesOne (IsOperation (bounds_of max_rows draft.old.store.now) (operation.Modify modify.now) draft.old.store.now.draft) result draft.new.store.now.draft }
 {
     effects_are_lawful();
     next_blank(draft);
@@ -91,9 +95,9 @@ fn modify_where(
     apply_operation(draft, &effect)
 }
 
+// Only an operation with a WHERE has variables, so they are listed for no other.
 fn operate(
     alloc: Global,
-    variables: &[Variable],
     operation: &Operation,
     draft: &mut Draft<'_>,
     max_rows: u64,
@@ -103,15 +107,25 @@ fn operate(
     ensures base { draft.new.store.now.base ≡ draft.old.store.now.base }
     ensures limit { draft.new.store.now.limit ≡ draft.old.store.now.limit }
     ensures default_graph { draft.new.store.now.default_graph ≡ draft.old.store.now.default_graph }
-    ensures outcome { BecomesOne (IsOperation (bounds_of max_rows draft.old.store.now) variables.now operation.now draft.old.store.now.draft) result draft.new.store.now.draft }
+    ensures outcome { BecomesOne (IsOperation (bounds_of max_rows draft.old.store.now) operation.now draft.old.store.now.draft) result draft.new.store.now.draft }
 {
     match operation {
         Operation::InsertData(blocks) => change_data(alloc, &[], blocks.as_slice(), draft),
         Operation::DeleteData(blocks) => change_data(alloc, blocks.as_slice(), &[], draft),
         Operation::DeleteWhere(blocks) => {
-            delete_where(alloc, variables, blocks.as_slice(), draft, max_rows)
+            let variables = operation_variables(alloc, operation)?;
+            delete_where(
+                alloc,
+                variables.as_slice(),
+                blocks.as_slice(),
+                draft,
+                max_rows,
+            )
         }
-        Operation::Modify(modify) => modify_where(alloc, variables, modify, draft, max_rows),
+        Operation::Modify(modify) => {
+            let variables = operation_variables(alloc, operation)?;
+            modify_where(alloc, variables.as_slice(), modify, draft, max_rows)
+        }
         Operation::Clear(_, target) => clear(target, draft),
         Operation::Drop(_, target) => clear(target, draft),
         Operation::Create(on_exists, name) => create(alloc, *on_exists, name, draft),
@@ -140,12 +154,11 @@ pub fn operate_all(
     ensures base { draft.new.store.now.base ≡ draft.old.store.now.base }
     ensures limit { draft.new.store.now.limit ≡ draft.old.store.now.limit }
     ensures default_graph { draft.new.store.now.default_graph ≡ draft.old.store.now.default_graph }
-    ensures outcome { BecomesOne (AreOperations (bounds_of max_rows draft.old.store.now) update.now.variables update.now.operations draft.old.store.now.draft) result draft.new.store.now.draft }
+    ensures outcome { BecomesOne (AreOperations (bounds_of max_rows draft.old.store.now) update.now.operations draft.old.store.now.draft) result draft.new.store.now.draft }
 {
-    let variables = update.variables.as_slice();
     let operations = update.operations.as_slice();
     for operation in operations {
-        operate(alloc, variables, operation, draft, max_rows)?;
+        operate(alloc, operation, draft, max_rows)?;
     }
     Ok(())
 }

@@ -18,9 +18,9 @@ use std::alloc::Global;
 // The operations of an update, all or none.
 fn taken(alloc: Global, update: &Update, store: &mut Store, max_rows: u64) -> Result<(), QFault>
     requires { IsTrue (update_values_have_no_blank update.now) }
-    ensures accepted { OnOk result (AreTaken (bounds_of max_rows store.old) update.now.variables update.now.operations store.old.base store.new.base) }
+    ensures accepted { OnOk result (AreTaken (bounds_of max_rows store.old) update.now.operations store.old.base store.new.base) }
     ensures refused { OnErr result (store.new.base ≡ store.old.base) }
-    ensures fault { IfErr result (λ f. f ≢ Memory → AreOperations (bounds_of max_rows store.old) update.now.variables update.now.operations store.old.base (Err f)) }
+    ensures fault { IfErr result (λ f. f ≢ Memory → AreOperations (bounds_of max_rows store.old) update.now.operations store.old.base (Err f)) }
     ensures limit { store.new.limit ≡ store.old.limit }
     ensures default_graph { store.new.default_graph ≡ store.old.default_graph }
 {

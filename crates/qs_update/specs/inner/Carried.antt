@@ -3,7 +3,6 @@ use Rattle.std.specs.Prelude.{◌≡◌, ◌≢◌, ℕ, List, Ok, Err}
 use Rattle.qs_terms.specs.Outcome.{Outcome}
 use Rattle.qs_terms.specs.declared.fault.QFault.{QFault}
 use Rattle.qs_terms.specs.declared.fault.QFault.TheVariants as fault
-use Rattle.qs_syntax_ast.specs.declared.term.Variable.{Variable}
 use Rattle.qs_syntax_ast.specs.declared.update.Operation.{Operation}
 use Rattle.qs_store.specs.Content.{Content, Held}
 use Rattle.qs_store.specs.declared.fault.StoreFault.{StoreFault}
@@ -22,12 +21,12 @@ BecomesOne Due (Ok done) new = Due (Ok new)
 BecomesOne Due (Err f) new = f ≢ fault.Memory → Due (Err f)
 
 -- a store with a draft of which the first operations were carried out, where it was `old` before them
-pub record Standing (max_rows : ℕ) (variables : List Variable) (operations : List Operation) (old new : Held) : Type 0 where
+pub record Standing (max_rows : ℕ) (operations : List Operation) (old new : Held) : Type 0 where
   pub base : new.base ≡ old.base
   pub limit : new.limit ≡ old.limit
   pub default_graph : new.default_graph ≡ old.default_graph
-  pub outcome : AreOperations (bounds_of max_rows old) variables operations old.draft (Ok new.draft)
+  pub outcome : AreOperations (bounds_of max_rows old) operations old.draft (Ok new.draft)
 
 -- the store holds what operations make of what it held
-abbrev pub AreTaken : Bounds → List Variable → List Operation → Content → Content → Type 0
-AreTaken bounds variables operations old new = (c : Content) × AreOperations bounds variables operations old (Ok c) × IsSameContent new c
+abbrev pub AreTaken : Bounds → List Operation → Content → Content → Type 0
+AreTaken bounds operations old new = (c : Content) × AreOperations bounds operations old (Ok c) × IsSameContent new c

@@ -5,5 +5,5 @@ use Rattle.qs_update.proofs.draft.operate_all.Given as goal
 abbrev pub invariant-loop-operation : goal.invariant-loop-operation
 invariant-loop-operation l = record {
   same_reference : l.draft.store.ghost_name ≡ l.fn.draft.store.ghost_name;
-  standing : Standing l.max_rows l.variables (take l.operation-index l.operations) l.fn.draft.store.now l.draft.store.now;
+  standing : Standing l.max_rows (take l.operation-index l.operations) l.fn.draft.store.now l.draft.store.now;
 }

@@ -1,4 +1,4 @@
-use Rattle.std.proofs.Common.{rules, ◌≡◌, true, sym, ◌∙◌, subst}
+use Rattle.std.proofs.Common.{rules, ◌≡◌, true, subst}
 use Rattle.std.specs.Option.{option_copied}
 use Rattle.qs_update.specs.Graphs.{exists, graph_name}
 use Rattle.qs_update.specs.Request.{IsCarriedOut}
