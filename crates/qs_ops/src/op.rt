@@ -1,6 +1,6 @@
 //! The evaluation of a plan, row by row.
 
-ghost use Rattle.std.specs.Prelude.{◌≡◌, None, Some, IfOk, IfErr, IfSome, OnErr};
+ghost use Rattle.std.specs.Prelude.{◌≡◌, None, Some, true, Ok, IfOk, IfErr, IfSome, OnErr};
 ghost use Rattle.qs_terms.specs.declared.fault.QFault.TheVariants.{Memory};
 ghost use Rattle.qs_store.specs.ActiveGraph.{active_graph};
 ghost use Rattle.qs_store.specs.declared.active.Active.TheVariants.{Default};
@@ -19,8 +19,8 @@ use qs_terms::{QFault, Term};
 use std::alloc::Global;
 use std::marker::Model;
 
-/// The evaluation of a plan over a view; contracts see the solutions that are still to come, the terms of the dictionary, and those of the
-/// scratch table. A row that it answers has one cell for each named variable.
+/// The evaluation of a plan over a view; contracts see the solutions that are still to come, whether the end was reached, the terms of the
+/// dictionary, and those of the scratch table. A row that it answers has one cell for each named variable.
 #[derive(Drop)]
 pub struct Op<'a, V: View> {
     cursor: Cursor<'a, V>,
@@ -69,7 +69,8 @@ impl<'a, V: View> Op<'a, V> {
         Ok(Op { cursor })
     }
 
-    /// The next solution, as a row; none where no solution is left. A row that was answered keeps its solution while the table grows.
+    /// The next solution, as a row; none where no solution is left, and then each further call answers none. A row that was answered keeps its
+    /// solution while the table grows.
     ///
     /// # Errors
     /// `QFault::Memory` where memory runs out; each further call answers the same.
@@ -79,6 +80,8 @@ impl<'a, V: View> Op<'a, V> {
         ensures fits { IfOk result (λ o. IfSome o (λ m. FitsRow self.new.known self.new.table m)) }
         ensures fault { IfErr result (λ f. f ≡ Memory) }
         ensures failed { OnErr result (self.new.rows ≡ None) }
+        ensures ends { result ≡ Ok None → self.new.is_over ≡ true }
+        ensures over { self.old.is_over ≡ true → result ≡ Ok None }
         ensures known { self.new.known ≡ self.old.known }
         ensures grows { Grows self.old.known self.old.table self.new.table }
     {
@@ -101,6 +104,7 @@ impl<'a, V: View> Op<'a, V> {
         requires { FitsRow self.old.known self.old.table row.now }
         ensures value { Evaluates self.old.known self.old.table self.new.table row.now expr.now result }
         ensures rows { self.new.rows ≡ self.old.rows }
+        ensures over { self.new.is_over ≡ self.old.is_over }
         ensures known { self.new.known ≡ self.old.known }
         ensures grows { Grows self.old.known self.old.table self.new.table }
     {

@@ -44,7 +44,7 @@ failed_op s t0 t1 ps ls g = record { each_once = g.table; walk = tt }
 
 module _ (s : Setting) (t0 t1 : List Term) (ps qs : List Place) (ls now : List Level) (e : code_of qs ≡ code_of ps) where
   gives_named : (o : Option Cells) → GivesNamed s (code_of ps) t0 ls o t1 now → GivesOne (Some (named_coming s (code_of ps) t0 ls)) (solution_if (known_of s) t1 o) (Some (named_coming s (code_of qs) t1 now))
-  gives_named None h = (h.0, ap (λ (c : List Instruction). named_coming s c t1 now) e ∙ h.1)
+  gives_named None h = (h.0, ap (named_coming s (code_of qs) t1) h.1)
   gives_named (Some m) h = subst (λ (c : List Instruction). SameBag (named_coming s (code_of ps) t0 ls) (row_solution (known_of s) t1 m ∷ named_coming s c t1 now)) (sym e) h.0
 
   pub gives_left : (failed : Bool) → failed ≡ false → (o : Option Cells) → GivesNamed s (code_of ps) t0 ls o t1 now → GivesOne (rows_left failed s t0 ps ls) (solution_if (known_of s) t1 o) (rows_left failed s t1 qs now)

@@ -39,7 +39,7 @@ take_fits known table w m h = record { each = λ v c e. h.each v c (taken w m v 
 -- ---- one row of a walk
 module _ (s : Setting) (code : List Instruction) (t0 t1 : List Term) (old new : List Level) where
   pub named_none : GivesRow s code t0 old None t1 new → GivesNamed s code t0 old None t1 new
-  named_none h = (ap (map (take s.width)) h.0, ap (map (take s.width)) h.1)
+  named_none h = (ap (map (take s.width)) h.0, h.1)
 
   pub named_some : (m r : Cells) → r ≡ take s.width m → GivesRow s code t0 old (Some m) t1 new → GivesNamed s code t0 old (Some r) t1 new
   named_some m r e h =

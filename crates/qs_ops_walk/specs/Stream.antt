@@ -5,9 +5,11 @@ use Rattle.qs_terms.specs.declared.term.Term.{Term}
 use Rattle.qs_algebra_solutions.specs.Solution.{Solution}
 use Rattle.qs_expr.specs.Cell.{Cells, row_solution}
 
--- the solutions that are still to come, none after an error; the terms of the dictionary; and those of the scratch table
+-- the solutions that are still to come, none after an error; whether the end was reached, after which each answer is that none is left; the
+-- terms of the dictionary; and those of the scratch table
 pub record Stream : Type 0 where
   pub rows : Option (List Solution)
+  pub is_over : Bool
   pub known : List Term
   pub table : List Term
 

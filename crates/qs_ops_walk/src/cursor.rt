@@ -1,6 +1,6 @@
 //! The evaluation of stages, row by row.
 
-ghost use Rattle.std.specs.Prelude.{◌≡◌, None, Some, IfOk, IfErr, IfSome, OnErr, map, take};
+ghost use Rattle.std.specs.Prelude.{◌≡◌, None, Some, true, Ok, IfOk, IfErr, IfSome, OnErr, map, take};
 ghost use Rattle.qs_terms.specs.declared.fault.QFault.TheVariants.{Memory};
 ghost use Rattle.qs_store.specs.ActiveGraph.{active_graph};
 ghost use Rattle.qs_expr.specs.Cell.{denoted, FitsCell, FitsRow};
@@ -21,8 +21,8 @@ use qs_terms::{QFault, Term};
 use std::alloc::Global;
 use std::marker::Model;
 
-/// The evaluation of stages over a view; contracts see the solutions that are still to come, the terms of the dictionary, and those of the
-/// scratch table. A row that it answers has one cell for each named variable.
+/// The evaluation of stages over a view; contracts see the solutions that are still to come, whether the end was reached, the terms of the
+/// dictionary, and those of the scratch table. A row that it answers has one cell for each named variable.
 #[derive(Drop)]
 pub struct Cursor<'a, V: View> {
     reader: Reader<'a, V>,
@@ -33,12 +33,12 @@ pub struct Cursor<'a, V: View> {
 
 impl<'a, V: View> Model for Cursor<'a, V> {
     ghost use Rattle.qs_ops_walk.specs.Stream.{Stream};
-    ghost use Rattle.qs_ops_walk.specs.inner.Cursor.{IsOp, rows_left};
+    ghost use Rattle.qs_ops_walk.specs.inner.Cursor.{IsOp, is_done, rows_left};
     ghost use Rattle.qs_ops_walk.specs.inner.Setting.{known_of};
 
     ghost Value = { Stream };
 
-    ghost view = { λ o. record { rows = rows_left o.failed o.reader o.scratch o.walk.places.items o.walk.levels.items; known = known_of o.reader; table = o.scratch } };
+    ghost view = { λ o. record { rows = rows_left o.failed o.reader o.scratch o.walk.places.items o.walk.levels.items; is_over = is_done o.failed o.walk.levels.items; known = known_of o.reader; table = o.scratch } };
 
     ghost invariant = { λ o. IsOp o.failed o.reader o.scratch o.walk.places.items o.walk.levels.items };
 }
@@ -79,7 +79,8 @@ impl<'a, V: View> Cursor<'a, V> {
         })
     }
 
-    /// The next solution, as a row; none where no solution is left. A row that was answered keeps its solution while the table grows.
+    /// The next solution, as a row; none where no solution is left, and then each further call answers none. A row that was answered keeps its
+    /// solution while the table grows.
     ///
     /// # Errors
     /// `QFault::Memory` where memory runs out; each further call answers the same.
@@ -89,11 +90,16 @@ impl<'a, V: View> Cursor<'a, V> {
         ensures fits { IfOk result (λ o. IfSome o (λ m. FitsRow self.new.known self.new.table m)) }
         ensures fault { IfErr result (λ f. f ≡ Memory) }
         ensures failed { OnErr result (self.new.rows ≡ None) }
+        ensures ends { result ≡ Ok None → self.new.is_over ≡ true }
+        ensures over { self.old.is_over ≡ true → result ≡ Ok None }
         ensures known { self.new.known ≡ self.old.known }
         ensures grows { Grows self.old.known self.old.table self.new.table }
     {
         if self.failed {
             return Err(QFault::Memory);
+        }
+        if self.walk.levels.is_empty() {
+            return Ok(None);
         }
         match next_named(&self.reader, &mut self.scratch, &mut self.walk) {
             Ok(row) => Ok(row),
@@ -120,6 +126,7 @@ impl<'a, V: View> Cursor<'a, V> {
         requires { FitsRow self.old.known self.old.table row.now }
         ensures value { Evaluates self.old.known self.old.table self.new.table row.now expr.now result }
         ensures rows { self.new.rows ≡ self.old.rows }
+        ensures over { self.new.is_over ≡ self.old.is_over }
         ensures known { self.new.known ≡ self.old.known }
         ensures grows { Grows self.old.known self.old.table self.new.table }
     {

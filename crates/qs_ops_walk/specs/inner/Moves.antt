@@ -212,7 +212,7 @@ pub record IsQuadsOpened (s : Setting) (each : Each) (m : Cells) (levels now : L
 
 -- one move
 abbrev pub IsStep : Setting → List Instruction → List Term → List Level → Step → List Term → List Level → Type 0
-IsStep s code old levels Done new now = (coming s code old levels ≡ []) × (coming s code new now ≡ [])
+IsStep s code old levels Done new now = (coming s code old levels ≡ []) × (now ≡ [])
 IsStep s code old levels Moved new now = SameBag (coming s code old levels) (coming s code new now) × (moves s code new now < moves s code old levels)
 IsStep s code old levels (Gave row) new now = SameBag (coming s code old levels) (row_solution (known_of s) new row ∷ coming s code new now) × FitsRow (known_of s) new row
 
@@ -228,7 +228,7 @@ abbrev pub Finishes : List Level → Option Cells → List Level → Type 0
 Finishes old None now = now ≡ old
 Finishes old (Some m) now = TakesFinished old m now
 
--- the answer is one of the solutions to come, and the others are left
+-- the answer is one of the solutions to come, and the others are left; it is none where none was left, and then no level is
 abbrev pub GivesRow : Setting → List Instruction → List Term → List Level → Option Cells → List Term → List Level → Type 0
-GivesRow s code old levels None new now = (coming s code old levels ≡ []) × (coming s code new now ≡ [])
+GivesRow s code old levels None new now = (coming s code old levels ≡ []) × (now ≡ [])
 GivesRow s code old levels (Some row) new now = SameBag (coming s code old levels) (row_solution (known_of s) new row ∷ coming s code new now) × FitsRow (known_of s) new row
