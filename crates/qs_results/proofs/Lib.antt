@@ -2,3 +2,4 @@ mod Floats
 mod Rows
 pub mod Sorted
 pub mod Tokens
+pub mod Utf8

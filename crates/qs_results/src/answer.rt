@@ -3,7 +3,7 @@
 //! `json_after` and `ntriples_after`, as `text_after` of `qs_nquads`, write after the bytes of a buffer, so that a reply's body
 //! is written where it goes out from.
 
-ghost use Rattle.std.specs.Prelude.{◌≡◌, ◌++◌, IfOk, true, string_bytes};
+ghost use Rattle.std.specs.Prelude.{◌≡◌, ◌++◌, IfOk, IsUtf8, true, string_bytes};
 ghost use Rattle.serde_json.specs.Written.{compact_text};
 ghost use Rattle.qs_results.specs.Json.{has_json, json_of};
 ghost use Rattle.qs_algebra_solutions.specs.declared.answer.Answer.TheVariants.{Solutions, Truth};
@@ -24,7 +24,8 @@ fn truth_text(truth: bool) -> &'static str
 }
 
 fn truth_after(before: Vec<u8>, truth: bool) -> Result<Vec<u8>, AllocError>
-    ensures { IfOk result (λ out. out.items ≡ before.items ++ compact_text (json_of (Truth truth))) }
+    ensures text { IfOk result (λ out. out.items ≡ before.items ++ compact_text (json_of (Truth truth))) }
+    ensures utf8 { IfOk result (λ out. IsUtf8 before.items → IsUtf8 out.items) }
 {
     let mut out = before;
     out.extend_from_slice(truth_text(truth).as_bytes())?;
@@ -37,7 +38,8 @@ fn solutions_after(
     vars: &[Text],
     rows: &[Row],
 ) -> Result<Vec<u8>, AllocError>
-    ensures { IfOk result (λ out. out.items ≡ before.items ++ compact_text (json_of (Solutions vars.now rows.now))) }
+    ensures text { IfOk result (λ out. out.items ≡ before.items ++ compact_text (json_of (Solutions vars.now rows.now))) }
+    ensures utf8 { IfOk result (λ out. IsUtf8 before.items → IsUtf8 out.items) }
 {
     let names = names_text(alloc, vars)?;
     let mut out = before;
@@ -54,7 +56,8 @@ fn solutions_after(
 /// truth alone. The one error is running out of memory.
 pub fn json_after(alloc: Global, before: Vec<u8>, answer: &Answer) -> Result<Vec<u8>, AllocError>
     requires { has_json answer.now ≡ true }
-    ensures { IfOk result (λ out. out.items ≡ before.items ++ compact_text (json_of answer.now)) }
+    ensures text { IfOk result (λ out. out.items ≡ before.items ++ compact_text (json_of answer.now)) }
+    ensures utf8 { IfOk result (λ out. IsUtf8 before.items → IsUtf8 out.items) }
 {
     match answer {
         Answer::Solutions { vars, rows } => solutions_after(
@@ -74,8 +77,8 @@ pub fn json(alloc: Global, answer: &Answer) -> Result<String, AllocError>
     ensures { IfOk result (λ s. string_bytes s ≡ compact_text (json_of answer.now)) }
 {
     let bytes = json_after(alloc, Vec::new(alloc), answer)?;
-    let Ok(text) = String::from_utf8(bytes) else {
-        return Err(AllocError);
-    };
-    Ok(text)
+    match String::from_utf8(bytes) {
+        Ok(text) => Ok(text),
+        Err(_) => unreachable!(),
+    }
 }

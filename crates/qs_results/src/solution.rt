@@ -4,7 +4,7 @@
 //! A solution is written a token at a time, by the writer of the kit's `json`. A value of the whole answer would take several
 //! times the memory of its text, and one of each row several times the time.
 
-ghost use Rattle.std.specs.Prelude.{◌≡◌, ◌++◌, false, map, IfOk, IsTrue, string_bytes};
+ghost use Rattle.std.specs.Prelude.{◌≡◌, ◌++◌, false, map, IfOk, IsTrue, IsUtf8, string_bytes};
 ghost use Rattle.std.specs.Option.{ForSome};
 ghost use Rattle.serde_json.specs.Data.{object};
 ghost use Rattle.serde_json.specs.View.{view, items_of};
@@ -48,7 +48,8 @@ fn with_row(
     row: &Row,
     before: Vec<u8>,
 ) -> Result<Vec<u8>, AllocError>
-    ensures { IfOk result (λ out. out.items ≡ before.items ++ compact_text (object (members_of columns.now row.now))) }
+    ensures text { IfOk result (λ out. out.items ≡ before.items ++ compact_text (object (members_of columns.now row.now))) }
+    ensures utf8 { IfOk result (λ out. IsUtf8 before.items → IsUtf8 out.items) }
 {
     let mut out = Writer::new(before);
     out.begin_object()?;
@@ -68,7 +69,8 @@ fn with_next(
     before: Vec<u8>,
 ) -> Result<Vec<u8>, AllocError>
     requires { ForSome columns.now (λ all. AreColumns vars.now all.items) }
-    ensures { IfOk result (λ out. out.items ≡ before.items ++ compact_text (binding_data vars.now row.now)) }
+    ensures text { IfOk result (λ out. out.items ≡ before.items ++ compact_text (binding_data vars.now row.now)) }
+    ensures utf8 { IfOk result (λ out. IsUtf8 before.items → IsUtf8 out.items) }
 {
     match columns {
         Some(columns) => with_row(alloc, columns.as_slice(), row, before),
@@ -88,8 +90,9 @@ fn with_each(
     before: Vec<u8>,
 ) -> Result<Vec<u8>, AllocError>
     requires { ForSome columns.now (λ all. AreColumns vars.now all.items) }
-    ensures { IfOk result (λ out. out.items
+    ensures text { IfOk result (λ out. out.items
         ≡ before.items ++ items_text false (items_of (map (binding_data vars.now) rows.now))) }
+    ensures utf8 { IfOk result (λ out. IsUtf8 before.items → IsUtf8 out.items) }
 {
     let mut out = before;
     let mut later = false;
@@ -111,8 +114,9 @@ pub(crate) fn with_rows(
     rows: &[Row],
     before: Vec<u8>,
 ) -> Result<Vec<u8>, AllocError>
-    ensures { IfOk result (λ out. out.items
+    ensures text { IfOk result (λ out. out.items
         ≡ before.items ++ items_text false (items_of (map (binding_data vars.now) rows.now))) }
+    ensures utf8 { IfOk result (λ out. IsUtf8 before.items → IsUtf8 out.items) }
 {
     let columns = columns_of(alloc, vars)?;
     with_each(alloc, vars, &columns, rows, before)

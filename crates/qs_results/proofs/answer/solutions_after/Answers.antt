@@ -1,10 +1,12 @@
-use Rattle.std.proofs.Common.{◌≡◌, ℕ, List, ◌++◌, codes, false, map, append_assoc, ap, ◌∙◌}
+use Rattle.std.proofs.Common.{◌≡◌, ℕ, List, ◌++◌, codes, false, map, append_assoc, IsUtf8, refl, sym, ap, ◌∙◌, subst}
+use Rattle.std.proofs.lemmas.Str.{IsUtf8-string_bytes}
 use Rattle.serde_json.specs.View.{items_of}
 use Rattle.serde_json.specs.Written.{compact_text, items_text}
 use Rattle.serde_json.proofs.OnLiterals.{serde_json_on_literals}
 use Rattle.qs_algebra_solutions.specs.Solution.{Solution}
 use Rattle.qs_algebra_solutions.specs.declared.answer.Answer.TheVariants.{Solutions}
 use Rattle.qs_results.specs.Json.{names_data, binding_data, json_of}
+use Rattle.qs_results.proofs.Utf8.{utf8_after, literal_after}
 use Rattle.qs_results.proofs.answer.solutions_after.Goals as goal
 
 regroup : (a n b r e : List ℕ) → (((a ++ n) ++ (e ++ b)) ++ r) ++ (e ++ e) ≡ a ++ ((n ++ e) ++ (b ++ ((r ++ e) ++ e)))
@@ -30,7 +32,15 @@ joined names rows before head vars bindings bytes end text e1 e2 e3 e4 e5 e6 =
     (after before (codes "{\"head\":{\"vars\":") (compact_text (names_data names)) (codes "},\"results\":{\"bindings\":[") (items_text false (items_of (map (binding_data names) rows))) (codes "}}")
     ∙ ap (λ (l : List ℕ). before ++ l) (whole names rows))
 
-pub returns : goal.returns
-returns c =
+pub returns-clause-text : goal.returns-clause-text
+returns-clause-text c =
     joined _ _ c.args.before.items _ _ _ _ _ _ c.in_ok-extend_from_slice.ensures.items (c.as_bytes.ensures.value ∙ c.in_ok-names.ensures) c.in_ok-extend_from_slice-2.ensures.items c.in_ok-extend_from_slice-3.ensures.items
-    c.in_ok-text.ensures c.in_ok-extend_from_slice-4.ensures.items
+    c.in_ok-text.ensures.text c.in_ok-extend_from_slice-4.ensures.items
+
+pub returns-clause-utf8 : goal.returns-clause-utf8
+returns-clause-utf8 c before =
+    let head = literal_after _ (codes "{\"head\":{\"vars\":") _ c.in_ok-extend_from_slice.ensures.items refl before in
+    let names = subst IsUtf8 (sym c.as_bytes.ensures.value) (IsUtf8-string_bytes c.in_ok-names.names) in
+    let vars = utf8_after _ _ _ c.in_ok-extend_from_slice-2.ensures.items names head in
+    let bindings = literal_after _ (codes "},\"results\":{\"bindings\":[") _ c.in_ok-extend_from_slice-3.ensures.items refl vars in
+    literal_after _ (codes "}}") _ c.in_ok-extend_from_slice-4.ensures.items refl (c.in_ok-text.ensures.utf8 bindings)

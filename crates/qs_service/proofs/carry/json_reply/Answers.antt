@@ -10,4 +10,4 @@ pub returns : goal.returns
 returns c =
     let many : length c.in_ok-room.room.items ≡ 160 = omega arith in
     subst (λ (l : List ℕ). IfOk c.made.result (λ reply. reply ≡ message 200 Results l))
-    (after_room 160 c.in_ok-room.room.items (compact_text (json_of c.args.answer.now)) c.in_ok-body.body.items many c.in_ok-body.ensures) c.made.ensures
+    (after_room 160 c.in_ok-room.room.items (compact_text (json_of c.args.answer.now)) c.in_ok-body.body.items many c.in_ok-body.ensures.text) c.made.ensures
