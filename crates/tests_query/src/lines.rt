@@ -18,6 +18,14 @@ fn is_displayed(alloc: Global, fault: &impl Display, line: &str) -> bool {
     written(format!(in alloc; "{fault}"), line) == Outcome::Whole
 }
 
+// Whether a line is that of the fault, and what the fault is displayed as.
+fn line_outcome(alloc: Global, fault: &QFault, line: &str) -> Outcome {
+    match written(fault_line(alloc, fault), line) {
+        Outcome::Whole => written(format!(in alloc; "{fault}"), line),
+        other => other,
+    }
+}
+
 /// Whether what was made of a text has the fault of this line, or none where the line is empty.
 pub fn comes_to<T: Drop>(alloc: Global, made: Result<T, QFault>, line: &str) -> Outcome {
     match made.err() {
@@ -62,8 +70,7 @@ const LINES: &[&str] = &[
 
 fn is_printed(alloc: Global, number: usize, line: &str) -> bool {
     let fault = fault(number);
-    let is_printed = written(fault_line(alloc, &fault), line) == Outcome::Whole
-        && is_displayed(alloc, &fault, line);
+    let is_printed = line_outcome(alloc, &fault, line) == Outcome::Whole;
     drop(fault);
     is_printed
 }
@@ -104,7 +111,7 @@ pub fn outcome(alloc: Global) -> Outcome {
     match Text::new(alloc, "OPTIONAL") {
         Ok(word) => {
             let fault = QFault::LeftOut { word };
-            let outcome = written(fault_line(alloc, &fault), "F4 left out: OPTIONAL");
+            let outcome = line_outcome(alloc, &fault, "F4 left out: OPTIONAL");
             drop(fault);
             outcome
         }

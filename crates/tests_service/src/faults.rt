@@ -1,6 +1,7 @@
 //! How faults are printed.
 
 use qs_service::{ServeFault, ServiceFault};
+use qs_service_replay::ScriptFault;
 use std::alloc::Global;
 use std::fmt::Display;
 
@@ -37,7 +38,16 @@ const SERVE_FAULTS: &[(ServeFault, &str)] = &[
     ),
 ];
 
+const SCRIPT_FAULTS: &[(ScriptFault, &str)] = &[
+    (ScriptFault::Line(3), "script line 3"),
+    (ScriptFault::Memory, "out of memory"),
+];
+
 #[test]
 fn prints_faults(rt: HostRuntime) {
-    assert!(rt; are_printed(rt.alloc(), SERVICE_FAULTS) && are_printed(rt.alloc(), SERVE_FAULTS));
+    assert!(rt;
+        are_printed(rt.alloc(), SERVICE_FAULTS)
+            && are_printed(rt.alloc(), SERVE_FAULTS)
+            && are_printed(rt.alloc(), SCRIPT_FAULTS)
+    );
 }
