@@ -6,6 +6,7 @@ import importlib.machinery
 import importlib.util
 import os
 import shutil
+import statistics
 import subprocess
 import sys
 import time
@@ -360,27 +361,51 @@ def by_processor(server, request):
     return reply, 1000 * (server.busy() - before)
 
 
-def least_of(servers, requests, runs, timed=by_clock):
-    """Returns of each request the first reply of each server, and the least milliseconds. They are asked in turn, in so many runs: in ten times as
-    many where one of them takes less than a millisecond."""
-    replies, least, end = [], [], time.perf_counter() + LONGEST
+def turns_of(servers, requests, runs, timed=by_clock, among=None):
+    """Returns of each request the first reply of each server, and of each turn the milliseconds of each request by each server. There are so many
+    turns: ten times as many where one of the requests, or one of the first `among`, takes less than a millisecond."""
+    replies, turns, least, end = [], [], [], time.perf_counter() + LONGEST
     for at in range(10 * runs):
-        if at and (time.perf_counter() > end or at >= runs and min(map(min, least)) >= 1):
+        if at and (time.perf_counter() > end or at >= runs and min(map(min, least[:among])) >= 1):
             break
         new = [[timed(server, request) for server in servers] for request in requests]
-        times = [[taken for _, taken in each] for each in new]
         replies = replies or [[reply for reply, _ in each] for each in new]
-        least = [[*map(min, *each)] for each in zip(least, times)] if at else times
-    return [*zip(replies, least)]
+        turns.append([[taken for _, taken in each] for each in new])
+        least = [[*map(min, *each)] for each in zip(least, turns[-1])] if at else turns[-1]
+    return replies, turns
+
+
+def least_of(servers, requests, *how):
+    """Returns of each request the first reply of each server, and the least milliseconds. How they are taken turns_of() says."""
+    replies, turns = turns_of(servers, requests, *how)
+    return [*zip(replies, least_times(turns))]
+
+
+def least_times(turns):
+    """Returns of each request the least milliseconds of each server."""
+    return [[min(times) for times in zip(*each)] for each in zip(*turns)]
 
 
 def compared(lines, servers, *how):
-    """Yields the figure of each line. How times are taken least_of() says."""
+    """Yields the figure of each line. How times are taken turns_of() says."""
     for line in lines:
-        [(replies, least)] = least_of(servers, [query(line.text)], *how)
-        faults = [fault_of(reply) for reply in replies]
-        least = [None if fault else item for fault, item in zip(faults, least)]
-        yield Figure(line.name, *(refusal(faults) if any(faults) else difference(line, servers, replies)), least)
+        [found] = least_of(servers, [query(line.text)], *how)
+        yield figure_of(line, servers, *found)
+
+
+def compared_less(lines, servers, *how):
+    """Yields the figure of each line, and by how many milliseconds each server takes longer than for `ASK {}`. This is asked in each turn too, as
+    a machine is faster at times; the median of the differences counts."""
+    for line in lines:
+        replies, turns = turns_of(servers, [query(line.text), query("ASK {}")], *how, among=1)
+        less = [statistics.median(whole[at] - nothing[at] for whole, nothing in turns) for at in range(len(servers))]
+        yield figure_of(line, servers, replies[0], least_times(turns)[0]), less
+
+
+def figure_of(line, servers, replies, least):
+    faults = [fault_of(reply) for reply in replies]
+    least = [None if fault else item for fault, item in zip(faults, least)]
+    return Figure(line.name, *(refusal(faults) if any(faults) else difference(line, servers, replies)), least)
 
 
 def refusal(faults):
