@@ -122,6 +122,16 @@ class Generator:
     def negated(self):
         return Negated(*(tuple(self.rng.sample(PREDICATES, self.rng.choice((0, 1, 1, 2)))) for _ in "fi"))
 
+    def path_triple(self, sign):
+        """Returns a triple with a path of the form that has this sign (9.1); many of them match a triple of the graph."""
+        subject, verb, object = self.rng.choice(self.active or [(NODES[0], PREDICATES[0], self.rng.choice(self.terms))])
+        self.labels += 1
+        ends = [self.end(term, f"_:n{self.labels}") for term in (subject, object)]
+        one, other = self.path(verb, 1), self.path(self.rng.choice(PREDICATES), 1)
+        made = {"!": self.negated, "^": lambda: Inverse(one), "|": lambda: Alternative(one, other), "/": lambda: Sequence(one, other)}
+        path = made[sign]() if sign in made else Closure(one, sign)
+        return (ends[1], path, ends[0]) if sign == "^" else (ends[0], path, ends[1])
+
     def verb(self, term):
         kind = self.rng.random()
         return self.var_for(term) if kind < 0.15 else self.path(term, self.rng.choice((1, 2, 2, 3))) if kind < 0.38 else term

@@ -1,4 +1,5 @@
 """Requests of all forms of queries and updates: random trees over quads, each with what is due by the model."""
+import itertools
 from dataclasses import is_dataclass, replace
 from operator import is_
 
@@ -74,12 +75,22 @@ def changed(tree, change):
     return change(tree if all(map(is_, new.values(), old.values())) else type(tree)(**new))
 
 
+def kinds_of(tree):
+    """Yields the kinds of a tree's nodes, each as often as there are such nodes."""
+    if isinstance(tree, tuple) and not isinstance(tree, Term):
+        for part in tree:
+            yield from kinds_of(part)
+    elif is_dataclass(tree):
+        yield type(tree)
+        yield from kinds_of(tuple(vars(tree).values()))
+
+
 def left_out(kind):
-    return lambda value: None if isinstance(value, kind) else value
+    return of_kind(kind, lambda value: None)
 
 
 def of_kind(kind, call):
-    return lambda value: call(value) if isinstance(value, kind) else value
+    return kind, lambda value: call(value) if isinstance(value, kind) else value
 
 
 CHANGES = [
@@ -99,9 +110,14 @@ CHANGES = [
     of_kind(Triples, lambda value: Triples(tuple((s, v, iri("a") if is_label(o) else o) for s, v, o in value.triples))),
     of_kind(Query, lambda value: replace(value, items=tuple((iri("a") if is_label(s) else s, v, o) for s, v, o in value.items)) if made(value) else value),
 ]
-"""What a tree becomes where a form is left out or is another one. A query whose answer isn't the same then tells something of that form."""
-TRIES = 60
-"""How many queries are made at most to find one that tells something of a form."""
+"""What a tree becomes where a form is left out or is another one, each with the kind of node that it changes. A query whose answer isn't the same
+then tells something of that form."""
+OF_PATHS = dict(zip(range(8, 14), "**!^|/"))
+"""The numbers of the changes of paths, each with the sign of a path that it changes."""
+DISTINCT, LABELS = 15, len(CHANGES) - 1
+"""The number of the change that keeps repeated solutions, and of that of blank nodes that are made."""
+TREES, FORMS = 8, 4
+"""How many queries are made at most to find one that tells something of a form, and of how many of its forms each is tried."""
 
 
 def is_label(term):
@@ -120,13 +136,20 @@ def said(due):
     return [sorted(item, key=str) for item in due.sets] if isinstance(due, Statements) else getattr(due, "due", None)
 
 
-def tells(tree, quads, change):
-    """Returns whether the answer is another one where the tree is changed."""
-    other = changed(tree, change)
-    if other == tree or breaks_scope(tree) or breaks_scope(other):
-        return False
-    due = answer(tree, quads)
-    return not isinstance(due, Lawful) and said(due) != said(answer(other, quads))
+def answered(tree, quads):
+    """Returns what the answer of a query says, or None where it has none, or the model can't say in time."""
+    due = None if breaks_scope(tree) else answer(tree, quads)
+    return None if isinstance(due, Lawful) else said(due)
+
+
+def told_by(tree, quads, changes):
+    """Returns the first of these numbers of changes with which a query has another answer, or None."""
+    own = answered(tree, quads)
+    for change in changes if own is not None else ():
+        other = changed(tree, CHANGES[change][1])
+        if other != tree and not breaks_scope(other) and own != said(answer(other, quads)):
+            return change
+    return None
 
 
 # ---- random requests
@@ -142,7 +165,7 @@ class Forms:
     """Makes the sound requests of a round: most of them of all forms, over the quads that are stored if they are carried out in this order."""
 
     def __init__(self, rng, quads, is_union):
-        self.rng, self.quads, self.is_union, self.number = rng, quads, is_union, 0
+        self.rng, self.quads, self.is_union, self.number, self.told = rng, quads, is_union, 0, [0] * len(CHANGES)
         bound_joins(FEW)
 
     def sound(self, rng):
@@ -155,21 +178,36 @@ class Forms:
         return Generator(self.rng, dataset_of(self.quads))
 
     def query(self):
-        """Most queries tell something of a form that is drawn first, if one is found soon."""
-        change, left = self.rng.choice(CHANGES), TRIES
-        while True:
-            tree, left = self.tree(change), left - 1
-            if tells(tree, self.quads, change) or left <= 0 and not isinstance(answer(tree, self.quads), Lawful):
+        """Most queries tell something of a form: of those that a tree has, one of which few queries have told so far."""
+        for left in itertools.count(TREES, -1):
+            tree = self.tree(self.few(range(len(CHANGES)))[0])
+            told = told_by(tree, self.quads, self.few(self.forms(tree))[:FORMS])
+            if told is not None:
+                self.told[told] += 1
+            if told is not None or left <= 1 and not isinstance(answer(tree, self.quads), Lawful):
                 return "a query of all forms", Request(self.rng, "query", text_of(tree)), query_meaning(tree)
 
+    def few(self, changes):
+        """Returns the numbers of changes, first those of which the fewest queries have told so far."""
+        return sorted(changes, key=lambda change: (self.told[change], self.rng.random()))
+
+    def forms(self, tree):
+        """Returns the numbers of the changes that may change a tree."""
+        kinds = {*kinds_of(tree)}
+        return [change for change, (kind, _) in enumerate(CHANGES) if kind in kinds]
+
     def tree(self, change):
-        """Returns a query. Where MINUS is to be told it has one at its end, since most take away nothing; where blank nodes are that are made, it is a
-        CONSTRUCT."""
+        """Returns a query that has the form of a change more often than most: a MINUS at its end, since most take away nothing; a path of the form in
+        front; DISTINCT; a CONSTRUCT for blank nodes that are made."""
         generator = self.generator()
         tree = generator.query()
-        if change == CHANGES[0]:
+        if change in OF_PATHS:
+            tree = replace(tree, where=Group((Triples((generator.path_triple(OF_PATHS[change]),)), *tree.where.elements)))
+        if change == DISTINCT and tree.form == "SELECT":
+            tree = replace(tree, distinct="DISTINCT")
+        if change == 0:
             tree = replace(tree, where=Group((*tree.where.elements, Minus(generator.side(0, self.rng.random() < 0.3)))))
-        if change == CHANGES[-1] and tree.form == "SELECT":
+        if change == LABELS and tree.form == "SELECT":
             tree = replace(tree, form="CONSTRUCT", items=(*generator.template(), (var("_:t"), iri("p"), generator.var())), distinct="")
         return tree
 
