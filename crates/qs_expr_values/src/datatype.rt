@@ -1,6 +1,7 @@
 //! Datatypes of values.
 
-ghost use Rattle.std.specs.Prelude.{◌≡◌};
+ghost use Rattle.std.specs.Prelude.{◌≡◌, IsTrue};
+ghost use Rattle.qs_terms.specs.Iri.{is_iri_text};
 ghost use Rattle.qs_expr_values.specs.Value.{datatype_text};
 
 use qs_terms::{Lit, datatype};
@@ -17,12 +18,18 @@ pub enum Datatype<'a> {
 }
 
 impl<'a> Datatype<'a> {
-    /// The IRI's text.
+    /// The IRI's text, which is lawful.
+    #[tactic(auto, using(crate::proofs::Lawful::datatype_is_iri, crate::proofs::Lawful::string_is_iri, crate::proofs::Lawful::integer_is_iri, crate::proofs::Lawful::boolean_is_iri, crate::proofs::Lawful::lang_string_is_iri))]
     pub fn text(&self) -> &'a str
-        ensures { result.now ≡ datatype_text self.now }
+        ensures text { result.now ≡ datatype_text self.now }
+        ensures lawful { IsTrue (is_iri_text result.now) }
     {
         match self {
-            Datatype::Of(lit) => lit.datatype(),
+            // reading the form tells that the literal is lawful
+            Datatype::Of(lit) => {
+                let _form = lit.form();
+                lit.datatype()
+            }
             Datatype::String => datatype::string(),
             Datatype::Integer => datatype::integer(),
             Datatype::Boolean => datatype::boolean(),

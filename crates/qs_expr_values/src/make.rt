@@ -1,8 +1,9 @@
 //! Terms of values.
 
-ghost use Rattle.std.specs.Prelude.{◌≡◌, IfOk, ℕ, List, Ok, Some};
+ghost use Rattle.std.specs.Prelude.{◌≡◌, IfErr, IfOk, IsTrue, ℕ, List, Ok, Some};
 ghost use Rattle.std.specs.Option.{option_copied};
-ghost use Rattle.qs_terms.specs.Tag.{lowered};
+ghost use Rattle.qs_terms.specs.Tag.{is_tag, lowered};
+ghost use Rattle.qs_terms.specs.declared.fault.TermFault.TheVariants.{Memory};
 ghost use Rattle.qs_terms.specs.declared.term.Term.TheVariants as rdf;
 ghost use Rattle.qs_expr_values.specs.Values as spec;
 ghost use Rattle.qs_expr_values.specs.Value.{term_of, datatype_text};
@@ -45,26 +46,30 @@ fn string_of_copy(alloc: Global, form: &str) -> Result<Term, AllocError>
     string(alloc, form)
 }
 
-// Lawful parts have one fault, running out of memory. As no proof says that these are lawful, each fault is answered as that one.
+// What was made of lawful parts: these have one fault, running out of memory.
 fn of_lawful<T: Drop>(made: Result<T, TermFault>) -> Result<T, AllocError>
+    requires { IfErr made (λ fault. fault ≡ Memory) }
     ensures { IfOk result (λ t. made ≡ Ok t) }
 {
     match made {
         Ok(made) => Ok(made),
-        Err(_) => Err(AllocError),
+        Err(TermFault::Memory) => Err(AllocError),
+        Err(_) => unreachable!(),
     }
 }
 
-// The tag of a literal. Where the form is read, it is known that the literal is lawful, and so that its tag is in lower case.
-#[tactic(auto, using(crate::proofs::Lawful::tag_as_kept))]
+// The tag of a literal. Reading the form tells that the literal is lawful, and so that its tag is one and in lower case.
+#[tactic(auto, using(crate::proofs::Lawful::tag_as_kept, crate::proofs::Lawful::tag_is_tag))]
 fn kept_tag(lit: &Lit) -> Option<&str>
     ensures tag { option_copied result ≡ lit.now.tag }
+    ensures lawful { (t : List ℕ) → lit.now.tag ≡ Some t → IsTrue (is_tag t) }
     ensures kept { (t : List ℕ) → lit.now.tag ≡ Some t → lowered t ≡ t }
 {
     let _form = lit.form();
     lit.tag()
 }
 
+#[tactic(auto, using(crate::proofs::Lawful::tagged_or_memory))]
 fn tagged(alloc: Global, form: Text, lit: &Lit) -> Result<Term, AllocError>
     ensures { IfOk result (λ t. t ≡ spec.strung lit.now.tag form) }
 {
@@ -78,6 +83,7 @@ fn tagged(alloc: Global, form: Text, lit: &Lit) -> Result<Term, AllocError>
     }
 }
 
+#[tactic(auto, using(crate::proofs::Lawful::iri_or_memory))]
 fn datatype(alloc: Global, datatype: Datatype<'_>) -> Result<Term, AllocError>
     ensures { IfOk result (λ t. t ≡ rdf.Iri (datatype_text datatype.entry)) }
 {
