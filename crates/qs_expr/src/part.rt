@@ -1,6 +1,6 @@
 //! The parts of a prepared condition.
 
-ghost use Rattle.std.specs.Prelude.{◌≡◌, List, Bool, Some, true, false, not, slice_get, IfOk, OnErr};
+ghost use Rattle.std.specs.Prelude.{◌≡◌, ℕ, List, Bool, Some, true, false, not, is_some, slice_get, IfOk, IsTrue, OnErr};
 ghost use Rattle.qs_terms.specs.Term.{same_term};
 ghost use Rattle.qs_terms.specs.declared.term.Term.{Term as TermValue};
 ghost use Rattle.qs_dict.specs.Dict.{number_of};
@@ -10,6 +10,7 @@ ghost use Rattle.qs_expr_meaning.specs.Meaning as spec;
 ghost use Rattle.qs_expr.specs.Cell.{denoted, FitsRow};
 ghost use Rattle.qs_expr.specs.Evaluated.{holds_at};
 ghost use Rattle.qs_expr.specs.Scratch.{IsTable};
+ghost use Rattle.qs_expr.specs.declared.cell.Cell.TheVariants as cells;
 ghost use Rattle.qs_expr.specs.inner.Against.{has_term};
 
 use crate::cell::{Cell, is_same};
@@ -60,10 +61,11 @@ pub(crate) enum Part<'e> {
 impl<'e> HasTerm<'e> {
     // Whether the term at the place is this one.
     fn is_at(&self, place: u64, scratch: &Scratch) -> bool
+        requires { IsTrue (is_some (slice_get scratch.now place)) }
         ensures { (x : TermValue) → slice_get scratch.now place ≡ Some x → result ≡ same_term x self.now.term.now }
     {
         let Some(term) = scratch.get(place) else {
-            return false;
+            unreachable!()
         };
         term.is_same(self.term)
     }
@@ -71,6 +73,7 @@ impl<'e> HasTerm<'e> {
     // Whether the cell is the term's: by the numbers alone, where the dictionary has the term or the cell's.
     #[tactic(auto, using(crate::proofs::Numbered::known_is, crate::proofs::Numbered::known_is_not, crate::proofs::Numbered::scratch_is_not))]
     fn is_it(&self, cell: Cell, scratch: &Scratch) -> bool
+        requires { (k : ℕ) → cell ≡ cells.Scratch k → IsTrue (is_some (slice_get scratch.now k)) }
         ensures { (known : List TermValue) (x : TermValue) → IsTable known scratch.now → self.now.number ≡ number_of known self.now.term.now → denoted known scratch.now cell ≡ Some x → result ≡ same_term x self.now.term.now }
     {
         match (cell, self.number) {
@@ -82,6 +85,7 @@ impl<'e> HasTerm<'e> {
     }
 
     /// Whether it is true of the row.
+    #[tactic(auto, using(crate::proofs::Numbered::scratch_fits))]
     fn holds<V: View>(&self, row: &Row, view: &V, scratch: &Scratch) -> bool
         requires table { IsTable (V.content view.now).known scratch.now }
         requires row { FitsRow (V.content view.now).known scratch.now row.now }

@@ -19,6 +19,7 @@ use qs_base::drop_value;
 use qs_expr::{Cell, Row, Scratch, intern, is_same};
 use qs_paths::{Pairs, pairs};
 use qs_store::{Active, View};
+use qs_terms::QFault;
 use std::alloc::{AllocError, Global};
 use std::marker::Model;
 
@@ -66,14 +67,15 @@ fn take_next<V: View>(
 ) -> Result<bool, AllocError>
     ensures { IfOk result (λ taken. IsTaken V.content V.default_seen repeated pairs.old kept.old.items taken pairs.new kept.new.items) }
 {
-    let Some(answer) = pairs.next() else {
-        return Ok(false);
-    };
-    let Ok(cells) = answer else {
-        return Err(AllocError);
-    };
-    keep(kept, repeated, cells)?;
-    Ok(true)
+    match pairs.next() {
+        None => Ok(false),
+        Some(Ok(cells)) => {
+            keep(kept, repeated, cells)?;
+            Ok(true)
+        }
+        Some(Err(QFault::Memory)) => Err(AllocError),
+        Some(Err(_)) => unreachable!(),
+    }
 }
 
 /// All pairs that are still to come, where they were found whole, and both ends needn't be one term.

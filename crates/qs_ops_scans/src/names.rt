@@ -14,7 +14,7 @@ use crate::bind::bind_cell;
 use crate::lawful::content_is_lawful;
 use qs_base::Shared;
 use qs_expr::{Cell, Row};
-use qs_store::{Active, View};
+use qs_store::{Active, StoreFault, View};
 use qs_terms::Term;
 use sqlite_items::at;
 use std::alloc::{AllocError, Global};
@@ -59,7 +59,8 @@ pub fn graph_numbers<V: View>(view: &V) -> Result<Vec<u32>, AllocError>
 {
     match view.graphs() {
         Ok(numbers) => Ok(numbers),
-        Err(_) => Err(AllocError),
+        Err(StoreFault::Memory) => Err(AllocError),
+        Err(StoreFault::Full) => unreachable!(),
     }
 }
 

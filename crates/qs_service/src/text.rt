@@ -10,7 +10,7 @@ ghost use Rattle.qs_update.specs.Request.{bounds_of};
 use qs_algebra_solutions::Answer;
 use qs_nquads::text_after;
 use qs_query::answer;
-use qs_store::{Store, same_set_is_an_equivalence};
+use qs_store::{Store, StoreFault, same_set_is_an_equivalence};
 use qs_terms::{QFault, Quad};
 use qs_update::update;
 use std::alloc::{AllocError, Global};
@@ -55,7 +55,8 @@ fn quads_of(store: &Store) -> Result<Vec<Quad>, AllocError>
     same_set_is_an_equivalence();
     match store.quads() {
         Ok(quads) => Ok(quads),
-        Err(_) => Err(AllocError),
+        Err(StoreFault::Memory) => Err(AllocError),
+        Err(StoreFault::Full) => unreachable!(),
     }
 }
 

@@ -9,7 +9,7 @@ ghost use Rattle.quads.specs.inner.Update.{BecomesUpdated, AreQuadsAfter};
 
 use crate::result::{JobResult, MAX_ROWS, load_refusal, text_of};
 use qs_base::drop_value;
-use qs_store::{Store, same_set_is_an_equivalence};
+use qs_store::{Store, StoreFault, same_set_is_an_equivalence};
 use qs_store_load::LoadFault;
 use qs_terms::{QFault, Quad};
 use qs_update::update;
@@ -33,7 +33,8 @@ fn quads_of(store: &Store) -> Result<Vec<Quad>, QFault>
     same_set_is_an_equivalence();
     match store.quads() {
         Ok(quads) => Ok(quads),
-        Err(_) => Err(QFault::Memory),
+        Err(StoreFault::Memory) => Err(QFault::Memory),
+        Err(StoreFault::Full) => unreachable!(),
     }
 }
 
