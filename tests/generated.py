@@ -127,10 +127,16 @@ class Generator:
         subject, verb, object = self.rng.choice(self.active or [(NODES[0], PREDICATES[0], self.rng.choice(self.terms))])
         self.labels += 1
         ends = [self.end(term, f"_:n{self.labels}") for term in (subject, object)]
-        one, other = self.path(verb, 1), self.path(self.rng.choice(PREDICATES), 1)
-        made = {"!": self.negated, "^": lambda: Inverse(one), "|": lambda: Alternative(one, other), "/": lambda: Sequence(one, other)}
-        path = made[sign]() if sign in made else Closure(one, sign)
-        return (ends[1], path, ends[0]) if sign == "^" else (ends[0], path, ends[1])
+        if sign == "!":
+            return ends[0], self.negated(), ends[1]
+        part = self.path(verb, 1)
+        if sign == "^":
+            return ends[1], Inverse(part), ends[0]
+        if sign in "|/":
+            path = (Alternative if sign == "|" else Sequence)(part, self.path(self.rng.choice(PREDICATES), 1))
+        else:
+            path = Closure(part, sign)
+        return ends[0], path, ends[1]
 
     def verb(self, term):
         kind = self.rng.random()

@@ -1,5 +1,6 @@
 """Requests of all forms of queries and updates: random trees over quads, each with what is due by the model."""
 import itertools
+from collections import Counter
 from dataclasses import is_dataclass, replace
 from operator import is_
 
@@ -93,29 +94,35 @@ def of_kind(kind, call):
     return kind, lambda value: call(value) if isinstance(value, kind) else value
 
 
+MINUS = left_out(Minus)
+DISTINCT = of_kind(Query, lambda value: replace(value, distinct=""))
+NEW_LABELS = of_kind(
+    Query, lambda value: replace(value, items=tuple((iri("a") if is_label(s) else s, v, o) for s, v, o in value.items)) if made(value) else value
+)
+SIGNS = {
+    of_kind(Closure, lambda value: Closure(value.path, "?")): "*",
+    of_kind(Closure, lambda value: Closure(value.path, "+")): "*",
+    of_kind(Negated, lambda value: Negated(value.forward, ())): "!",
+    of_kind(Inverse, lambda value: value.path): "^",
+    of_kind(Alternative, lambda value: value.second): "|",
+    of_kind(Sequence, lambda value: value.second): "/",
+}
+"""The changes of paths, each with the sign of a path that it changes."""
 CHANGES = [
-    *map(left_out, (Minus, Optional, Filter, Bind, Values)),
+    MINUS,
+    *map(left_out, (Optional, Filter, Bind, Values)),
     of_kind(Union, lambda value: Union(value.groups[:1])),
     of_kind(Values, lambda value: Values(value.names, value.rows[:1])),
     of_kind(Graph, lambda value: value.group),
-    of_kind(Closure, lambda value: Closure(value.path, "?")),
-    of_kind(Closure, lambda value: Closure(value.path, "+")),
-    of_kind(Negated, lambda value: Negated(value.forward, ())),
-    of_kind(Inverse, lambda value: value.path),
-    of_kind(Alternative, lambda value: value.second),
-    of_kind(Sequence, lambda value: value.second),
+    *SIGNS,
     of_kind(Query, lambda value: replace(value, order=tuple((key, not is_down) for key, is_down in value.order))),
-    of_kind(Query, lambda value: replace(value, distinct="")),
+    DISTINCT,
     of_kind(Query, lambda value: replace(value, offset=0, limit=None)),
     of_kind(Triples, lambda value: Triples(tuple((s, v, iri("a") if is_label(o) else o) for s, v, o in value.triples))),
-    of_kind(Query, lambda value: replace(value, items=tuple((iri("a") if is_label(s) else s, v, o) for s, v, o in value.items)) if made(value) else value),
+    NEW_LABELS,
 ]
 """What a tree becomes where a form is left out or is another one, each with the kind of node that it changes. A query whose answer isn't the same
 then tells something of that form."""
-OF_PATHS = dict(zip(range(8, 14), "**!^|/"))
-"""The numbers of the changes of paths, each with the sign of a path that it changes."""
-DISTINCT, LABELS = 15, len(CHANGES) - 1
-"""The number of the change that keeps repeated solutions, and of that of blank nodes that are made."""
 TREES, FORMS = 8, 4
 """How many queries are made at most to find one that tells something of a form, and of how many of its forms each is tried."""
 
@@ -143,10 +150,10 @@ def answered(tree, quads):
 
 
 def told_by(tree, quads, changes):
-    """Returns the first of these numbers of changes with which a query has another answer, or None."""
+    """Returns the first of these changes with which a query has another answer, or None."""
     own = answered(tree, quads)
     for change in changes if own is not None else ():
-        other = changed(tree, CHANGES[change][1])
+        other = changed(tree, change[1])
         if other != tree and not breaks_scope(other) and own != said(answer(other, quads)):
             return change
     return None
@@ -165,7 +172,7 @@ class Forms:
     """Makes the sound requests of a round: most of them of all forms, over the quads that are stored if they are carried out in this order."""
 
     def __init__(self, rng, quads, is_union):
-        self.rng, self.quads, self.is_union, self.number, self.told = rng, quads, is_union, 0, [0] * len(CHANGES)
+        self.rng, self.quads, self.is_union, self.number, self.told = rng, quads, is_union, 0, Counter()
         bound_joins(FEW)
 
     def sound(self, rng):
@@ -180,34 +187,30 @@ class Forms:
     def query(self):
         """Most queries tell something of a form: of those that a tree has, one of which few queries have told so far."""
         for left in itertools.count(TREES, -1):
-            tree = self.tree(self.few(range(len(CHANGES)))[0])
-            told = told_by(tree, self.quads, self.few(self.forms(tree))[:FORMS])
+            tree = self.tree(self.few(CHANGES)[0])
+            kinds = {*kinds_of(tree)}
+            told = told_by(tree, self.quads, self.few(change for change in CHANGES if change[0] in kinds)[:FORMS])
             if told is not None:
                 self.told[told] += 1
             if told is not None or left <= 1 and not isinstance(answer(tree, self.quads), Lawful):
                 return "a query of all forms", Request(self.rng, "query", text_of(tree)), query_meaning(tree)
 
     def few(self, changes):
-        """Returns the numbers of changes, first those of which the fewest queries have told so far."""
+        """Returns the changes, first those of which the fewest queries have told so far."""
         return sorted(changes, key=lambda change: (self.told[change], self.rng.random()))
-
-    def forms(self, tree):
-        """Returns the numbers of the changes that may change a tree."""
-        kinds = {*kinds_of(tree)}
-        return [change for change, (kind, _) in enumerate(CHANGES) if kind in kinds]
 
     def tree(self, change):
         """Returns a query that has the form of a change more often than most: a MINUS at its end, since most take away nothing; a path of the form in
         front; DISTINCT; a CONSTRUCT for blank nodes that are made."""
         generator = self.generator()
         tree = generator.query()
-        if change in OF_PATHS:
-            tree = replace(tree, where=Group((Triples((generator.path_triple(OF_PATHS[change]),)), *tree.where.elements)))
+        if change in SIGNS:
+            tree = replace(tree, where=Group((Triples((generator.path_triple(SIGNS[change]),)), *tree.where.elements)))
         if change == DISTINCT and tree.form == "SELECT":
             tree = replace(tree, distinct="DISTINCT")
-        if change == 0:
+        if change == MINUS:
             tree = replace(tree, where=Group((*tree.where.elements, Minus(generator.side(0, self.rng.random() < 0.3)))))
-        if change == LABELS and tree.form == "SELECT":
+        if change == NEW_LABELS and tree.form == "SELECT":
             tree = replace(tree, form="CONSTRUCT", items=(*generator.template(), (var("_:t"), iri("p"), generator.var())), distinct="")
         return tree
 
