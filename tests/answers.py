@@ -1,7 +1,7 @@
 """Whether answers are due: how solutions and statements are compared where blank nodes may have other names (RDF 1.1 Concepts, 3.6; SPARQL 1.1
 Query, 15)."""
 import itertools
-from collections import Counter
+from collections import Counter, defaultdict
 
 from model import TooLarge
 from trees import Term, nquads_of
@@ -52,6 +52,42 @@ def refined(rows, colours):
     return {item: (colours[item], frozenset(some.items())) for item, some in places.items()}
 
 
+def parts_of(rows, colours):
+    """Returns the rows of each set of blank nodes that stand in rows with one another, as bags. A node whose colour no other has is no link."""
+    shared = {colour for colour, size in Counter(colours.values()).items() if size > 1}
+    above = {node: node for node, colour in colours.items() if colour in shared}
+
+    def top(node):
+        while above[node] != node:
+            above[node] = node = above[above[node]]
+        return node
+
+    linked = [(row, [item for item in row if item in above]) for row in rows]
+    for _, nodes in linked:
+        for node in nodes[1:]:
+            above[top(node)] = top(nodes[0])
+    parts = defaultdict(dict)
+    for row, nodes in linked:
+        if nodes:
+            parts[top(nodes[0])][row] = rows[row]
+    return [*parts.values()]
+
+
+def are_parts_alike(some, others, colours, other_colours):
+    """Returns whether each of the parts is like one of the others, one for one."""
+    left = defaultdict(list)
+    for part in others:
+        left[frozenset(coloured(part, other_colours).items())].append(part)
+    for part in some:
+        tried = left[frozenset(coloured(part, colours).items())]
+        own = {node: colours[node] for node in blanks(part)}
+        at = next((at for at, item in enumerate(tried) if are_alike(part, item, own, {node: other_colours[node] for node in blanks(item)})), None)
+        if at is None:
+            return False
+        del tried[at]
+    return True
+
+
 def are_alike(some, others, colours, other_colours):
     """Returns whether blank nodes can be mapped one for one, each to one with its colour, so that one bag of rows becomes the other."""
     while True:
@@ -71,6 +107,11 @@ def are_alike(some, others, colours, other_colours):
     size, colour = min(((size, item) for item, size in Counter(colours.values()).items() if size > 1), default=(1, None))
     if size == 1:
         return True
+    parts, other_parts = parts_of(some, colours), parts_of(others, other_colours)
+    if len(parts) != len(other_parts):
+        return False
+    if len(parts) > 1:
+        return are_parts_alike(parts, other_parts, colours, other_colours)
     node = next(item for item in colours if colours[item] == colour)
     tried = [item for item in other_colours if other_colours[item] == colour]
     return any(are_alike(some, others, {**colours, node: -1}, {**other_colours, item: -1}) for item in tried)
