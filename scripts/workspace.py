@@ -11,7 +11,7 @@ EACH = 3_000_000_000
 """The memory that the check of one crate may take, in bytes."""
 
 LONG = 180
-"""From how many seconds on two jobs may share the proof of a crate."""
+"""From how many seconds on two jobs may share the proof of a crate, where a processor is idle."""
 
 PROGRAM = "quads_main"
 """The crate of the program."""
@@ -174,8 +174,8 @@ def build(root, crates, folder, words_of, tell):
     """Builds the crates, each after those that it names, and first those with the longest chain of others above them. A crate's
     command is words_of(crate), its log stands in the folder. Returns the first crate that was not built, or None.
 
-    A long crate gets two jobs where there are four processors and no crate that is left has a longer chain above it; each other crate gets
-    one. A further job loads all that is below once more: of a short crate high in the chain it takes longer than it saves."""
+    A long crate gets a second job where no crate that is left has a longer chain above it and a processor would be idle; each other crate gets one.
+    A further job loads all that is below once more, and takes up to half as much again: where other crates wait, their checks are worth more."""
     effort = {item: seconds(root, item) for item in crates}
     behind = dict.fromkeys(crates, 0)
     for crate in reversed([*crates]):
@@ -184,9 +184,9 @@ def build(root, crates, folder, words_of, tell):
             behind[entry] = max(behind[entry], behind[crate])
     left, running, done, most = sorted(crates, key=lambda value: -behind[value]), {}, set(), lanes()
 
-    def jobs_of(crate):
+    def jobs_of(crate, idle):
         others = [behind[item] for item in left]
-        return 2 if most >= 4 and effort[crate] >= LONG and behind[crate] >= max(others, default=0) else 1
+        return 2 if idle and effort[crate] >= LONG and behind[crate] >= max(others, default=0) else 1
 
     def prove(crate, jobs):
         with open(f"{folder}/{crate}.log", "wb") as log:
@@ -200,12 +200,17 @@ def build(root, crates, folder, words_of, tell):
     with ThreadPoolExecutor(most) as pool:
         while left or running:
             ready = [item for item in left if done.issuperset(crates[item])]
-            for crate in ready[: most - len(running)]:
+            free = most - sum(jobs for _, jobs in running.values())
+            for at, crate in enumerate(ready):
+                if free < 1:
+                    break
                 left.remove(crate)
                 tell(crate, len(left))
-                running[pool.submit(prove, crate, jobs_of(crate))] = crate
+                jobs = jobs_of(crate, free > len(ready) - at)
+                running[pool.submit(prove, crate, jobs)] = crate, jobs
+                free -= jobs
             for each in wait(running, return_when=FIRST_COMPLETED).done:
-                crate = running.pop(each)
+                crate, _ = running.pop(each)
                 if each.result():
                     wait(running)
                     return crate
