@@ -144,6 +144,9 @@ def apart(root, crate):
     no two work side by side. It holds the crates below with their libraries; the crate's own out/ stays there for the next time."""
     top = f"{trees(root)}/{crate}"
     os.makedirs(f"{top}/.git", exist_ok=True)
+    # (rt ci looks for crates in all folders but those that have such a file)
+    with open(f"{trees(root)}/MODULE.bazel", "a", encoding="utf-8"):
+        pass
     needed = below(root, crate)
     put_lists(root, top, needed)
     for name in set(os.listdir(f"{top}/crates") if os.path.isdir(f"{top}/crates") else []) - set(needed):
