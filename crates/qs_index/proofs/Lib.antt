@@ -15,7 +15,9 @@ pub mod Turned
 pub mod Graphs
 pub mod Unions
 pub mod Differences
+pub mod Leaving
 pub mod NamedOrders
+pub mod Those
 pub mod Parted
 pub mod Filled
 pub mod Prefixes

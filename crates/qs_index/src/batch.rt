@@ -7,7 +7,7 @@ ghost use Rattle.qs_index.specs.Entry.{IsEntry};
 ghost use Rattle.qs_index.specs.Graph.{is_named, named_entries};
 ghost use Rattle.qs_index.specs.Permutation.{turned};
 
-use crate::entry::is_named;
+use crate::entry::{is_named, key};
 use crate::order::Order;
 use crate::permutation::Permutation;
 
@@ -20,7 +20,7 @@ pub fn insert_turned(order: &mut Order, permutation: Permutation, entries: &mut 
     ensures permutation { IsPermutation entries.old entries.new }
 {
     permutation.turn_all(entries);
-    entries.sort_unstable();
+    entries.sort_unstable_by_key(|entry| key(entry));
     order.insert_all(entries);
     permutation.restore_all(entries);
 }
@@ -32,7 +32,7 @@ pub fn remove_turned(order: &mut Order, permutation: Permutation, entries: &mut 
     ensures permutation { IsPermutation entries.old entries.new }
 {
     permutation.turn_all(entries);
-    entries.sort_unstable();
+    entries.sort_unstable_by_key(|entry| key(entry));
     order.remove_all(entries);
     permutation.restore_all(entries);
 }

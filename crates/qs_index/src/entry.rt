@@ -26,6 +26,13 @@ pub fn is_less(entry: &[u32; 4], other: &[u32; 4]) -> bool
     joint(c, d) < joint(r, s)
 }
 
+/// The entry as one number of 128 bits: entries are ordered as these are.
+#[inline(always)]
+pub fn key(entry: &[u32; 4]) -> u128 {
+    let [a, b, c, d] = *entry;
+    u128::from(joint(a, b)) * 0x1_0000_0000_0000_0000 + u128::from(joint(c, d))
+}
+
 /// Whether `entry` begins with `prefix`.
 #[inline(always)]
 #[tactic(auto, using(crate::proofs::CompareSteps::compare_steps))]

@@ -157,10 +157,42 @@ impl Index {
         ensures named_spare { self.old.named_spare ≤ self.new.named_spare }
         ensures permutation { IsPermutation entries.old entries.new }
     {
+        if self.gspo.len() == 0 {
+            return;
+        }
         remove_turned(&mut self.gspo, Permutation::Gspo, entries);
         remove_turned(&mut self.gpos, Permutation::Gpos, entries);
         remove_turned(&mut self.gosp, Permutation::Gosp, entries);
         self.named.remove_all(entries);
+    }
+
+    /// Puts all entries of another index in, by way of `batch`: as these stand in each order already, nothing is sorted. It takes no memory,
+    /// and asks that there is room.
+    pub fn insert_those(&mut self, other: &Index, batch: &mut [[u32; 4]])
+        requires batch { length other.now.entries ≤ length batch.old }
+        requires room { length other.now.entries ≤ self.old.spare }
+        requires named_room { length (named_entries other.now.entries) ≤ self.old.named_spare }
+        ensures union { IsUnion self.old.entries other.now.entries self.new.entries }
+        ensures spare { self.old.spare ≤ self.new.spare + length other.now.entries }
+        ensures named_spare { self.old.named_spare ≤ self.new.named_spare + length (named_entries other.now.entries) }
+    {
+        self.gspo.insert_those(&other.gspo, batch);
+        self.gpos.insert_those(&other.gpos, batch);
+        self.gosp.insert_those(&other.gosp, batch);
+        self.named.insert_those(&other.named, batch);
+    }
+
+    /// Takes all entries of another index out that are there, as `insert_those` puts them in. It leaves no less room than there was.
+    pub fn remove_those(&mut self, other: &Index, batch: &mut [[u32; 4]])
+        requires { length other.now.entries ≤ length batch.old }
+        ensures difference { IsDifference self.old.entries other.now.entries self.new.entries }
+        ensures spare { self.old.spare ≤ self.new.spare }
+        ensures named_spare { self.old.named_spare ≤ self.new.named_spare }
+    {
+        self.gspo.remove_those(&other.gspo, batch);
+        self.gpos.remove_those(&other.gpos, batch);
+        self.gosp.remove_those(&other.gosp, batch);
+        self.named.remove_those(&other.named, batch);
     }
 
     /// How many entries there are, which is below 2^72, as pages are counted in 64 bits and have 256 entries at most. It takes no
@@ -185,6 +217,14 @@ impl Index {
         ensures { IsTrue result ↔ Contains self.now.entries entry.now }
     {
         self.gspo.contains(entry)
+    }
+
+    /// Whether an entry is there, which is looked for about `from` first. Where many are looked for that ascend, the next one is best looked
+    /// for about the place that is left there. It takes no memory.
+    pub fn contains_from(&self, from: &mut PagePosition, entry: &[u32; 4]) -> bool
+        ensures { IsTrue result ↔ Contains self.now.entries entry.now }
+    {
+        self.gspo.contains_from(from, entry)
     }
 
     /// All entries, each once, ascending in the order GSPO. It takes no memory.

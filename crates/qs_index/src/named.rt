@@ -143,4 +143,30 @@ impl Named {
         let (_, named) = entries.split_at_mut(first);
         self.remove_each(named);
     }
+
+    /// Puts the entries of other such orders in, by way of `batch`.
+    pub fn insert_those(&mut self, other: &Named, batch: &mut [[u32; 4]])
+        requires subject { length other.now.by_subject ≤ min (length batch.old) self.old.spare }
+        requires predicate { length other.now.by_predicate ≤ min (length batch.old) self.old.spare }
+        requires object { length other.now.by_object ≤ min (length batch.old) self.old.spare }
+        ensures orders { (xs ds ys : List (List ℕ)) → IsUnion xs ds ys → AreNamedOf ds other.now → AreNamedOf xs self.old → AreNamedOf ys self.new }
+        ensures spare { (n : ℕ) → length other.now.by_subject ≤ n → length other.now.by_predicate ≤ n → length other.now.by_object ≤ n → self.old.spare ≤ self.new.spare + n }
+    {
+        self.spog.insert_those(&other.spog, batch);
+        self.posg.insert_those(&other.posg, batch);
+        self.ospg.insert_those(&other.ospg, batch);
+    }
+
+    /// Takes the entries of other such orders out, by way of `batch`.
+    pub fn remove_those(&mut self, other: &Named, batch: &mut [[u32; 4]])
+        requires subject { length other.now.by_subject ≤ length batch.old }
+        requires predicate { length other.now.by_predicate ≤ length batch.old }
+        requires object { length other.now.by_object ≤ length batch.old }
+        ensures orders { (xs ds ys : List (List ℕ)) → IsDifference xs ds ys → AreNamedOf ds other.now → AreNamedOf xs self.old → AreNamedOf ys self.new }
+        ensures spare { self.old.spare ≤ self.new.spare }
+    {
+        self.spog.remove_those(&other.spog, batch);
+        self.posg.remove_those(&other.posg, batch);
+        self.ospg.remove_those(&other.ospg, batch);
+    }
 }

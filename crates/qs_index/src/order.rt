@@ -53,10 +53,17 @@ fn make_room(pages: &mut Pages, place: PagePosition) -> PagePosition
     }
 }
 
-// Whether an entry was put in or taken out, and a place to go on from after it.
+// Whether an entry was put in, and a place to go on from after it.
 #[derive(Clone, Copy)]
 struct Edited {
     is_done: bool,
+    place: PagePosition,
+}
+
+// How many entries were taken out or weren't there, and a place to go on from after them.
+#[derive(Clone, Copy)]
+struct Passed {
+    count: usize,
     place: PagePosition,
 }
 
@@ -206,38 +213,6 @@ impl Order {
         self.insert_each(&entries[read..]);
     }
 
-    // Takes an entry out, looked for from an earlier place on.
-    fn remove_from(&mut self, from: PagePosition, entry: [u32; 4]) -> Edited
-        ensures stood { IsTrue result.is_done ↔ Contains self.old.entries entry }
-        ensures taken { OnTrue result.is_done (self.new.entries ≡ without_entry entry self.old.entries) }
-        ensures kept { OnFalse result.is_done (self.new.entries ≡ self.old.entries) }
-        ensures ascending { IsAscending self.new.entries }
-        ensures spare { self.old.spare ≤ self.new.spare }
-    {
-        let count = self.pages.len();
-        if count == 0 {
-            return Edited {
-                is_done: false,
-                place: from,
-            };
-        }
-        let Ok(place) = locate_from(&self.pages, from, &entry) else {
-            return Edited {
-                is_done: false,
-                place: from,
-            };
-        };
-        self.pages.take_out(place);
-        self.count -= 1;
-        Edited {
-            is_done: true,
-            place: PagePosition {
-                page: place.page,
-                at: place.at.saturating_sub(1),
-            },
-        }
-    }
-
     /// Takes an entry out, and tells whether it was there.
     pub fn remove(&mut self, entry: [u32; 4]) -> bool
         ensures stood { IsTrue result ↔ Contains self.old.entries entry }
@@ -246,21 +221,101 @@ impl Order {
         ensures ascending { IsAscending self.new.entries }
         ensures spare { self.old.spare ≤ self.new.spare }
     {
-        let edited = self.remove_from(NOWHERE, entry);
-        edited.is_done
+        let count = self.pages.len();
+        if count == 0 {
+            return false;
+        }
+        let Ok(place) = locate(&self.pages, &entry) else {
+            return false;
+        };
+        self.pages.take_out(place);
+        self.count -= 1;
+        true
     }
 
-    /// Takes all of `entries` out. Ascending ones are taken out fastest.
+    // Takes the first of `entries` out, looked for from an earlier place on, and those that follow it as far as they are met in its page.
+    fn remove_met(&mut self, from: PagePosition, entries: &[[u32; 4]]) -> Passed
+        requires { 0 < length entries.now }
+        ensures some { 0 < result.count }
+        ensures within { result.count ≤ length entries.now }
+        ensures difference { IsDifference self.old.entries (take result.count entries.now) self.new.entries }
+        ensures spare { self.old.spare ≤ self.new.spare }
+    {
+        let count = self.pages.len();
+        if count == 0 {
+            return Passed {
+                count: 1,
+                place: from,
+            };
+        }
+        let Ok(place) = locate_from(&self.pages, from, &entries[0]) else {
+            return Passed {
+                count: 1,
+                place: from,
+            };
+        };
+        let met = self.pages.take_met(place, entries);
+        self.count -= met as u128;
+        Passed {
+            count: met,
+            place: PagePosition {
+                page: place.page,
+                at: place.at.saturating_sub(1),
+            },
+        }
+    }
+
+    /// Takes all of `entries` out. Ascending ones are taken out fastest: those of a page by one pass over it.
     pub fn remove_all(&mut self, entries: &[[u32; 4]])
         ensures difference { IsDifference self.old.entries entries.now self.new.entries }
         ensures spare { self.old.spare ≤ self.new.spare }
     {
         let _count = self.pages.len();
         let mut from = NOWHERE;
-        for entry in entries {
-            let edited = self.remove_from(from, *entry);
-            from = edited.place;
+        let mut done = 0;
+        while done < entries.len() {
+            let passed = self.remove_met(from, &entries[done..]);
+            done += passed.count;
+            from = passed.place;
         }
+    }
+
+    /// Writes the entries to the front of `batch`, in order, and tells how many they are.
+    pub fn copy_to(&self, batch: &mut [[u32; 4]]) -> usize
+        requires { length self.now.entries ≤ length batch.old }
+        ensures entries { take result batch.new ≡ self.now.entries }
+        ensures within { result ≤ length batch.new }
+        ensures long { length batch.new ≡ length batch.old }
+    {
+        let mut count: usize = 0;
+        for entry in self.scan(NOWHERE, [0, 0, 0, 0], 0) {
+            batch[count] = entry;
+            count += 1;
+        }
+        count
+    }
+
+    /// Puts the entries of another order in, by way of `batch`.
+    pub fn insert_those(&mut self, other: &Order, batch: &mut [[u32; 4]])
+        requires batch { length other.now.entries ≤ length batch.old }
+        requires room { length other.now.entries ≤ self.old.spare }
+        ensures union { IsUnion self.old.entries other.now.entries self.new.entries }
+        ensures spare { self.old.spare ≤ self.new.spare + length other.now.entries }
+        ensures long { length batch.new ≡ length batch.old }
+    {
+        let count = other.copy_to(batch);
+        self.insert_all(&batch[..count]);
+    }
+
+    /// Takes the entries of another order out, by way of `batch`.
+    pub fn remove_those(&mut self, other: &Order, batch: &mut [[u32; 4]])
+        requires { length other.now.entries ≤ length batch.old }
+        ensures difference { IsDifference self.old.entries other.now.entries self.new.entries }
+        ensures spare { self.old.spare ≤ self.new.spare }
+        ensures long { length batch.new ≡ length batch.old }
+    {
+        let count = other.copy_to(batch);
+        self.remove_all(&batch[..count]);
     }
 
     /// How many entries there are: pages are counted in 64 bits, and have 256 entries at most.
@@ -283,6 +338,26 @@ impl Order {
         match locate(&self.pages, entry) {
             Ok(_) => true,
             Err(_) => false,
+        }
+    }
+
+    /// Whether an entry is there, which is looked for about `from` first. The next one is best looked for about the place that is left there.
+    pub fn contains_from(&self, from: &mut PagePosition, entry: &[u32; 4]) -> bool
+        ensures { IsTrue result ↔ Contains self.now.entries entry.now }
+    {
+        let count = self.pages.len();
+        if count == 0 {
+            return false;
+        }
+        match locate_from(&self.pages, *from, entry) {
+            Ok(place) => {
+                *from = place;
+                true
+            }
+            Err(place) => {
+                *from = place;
+                false
+            }
         }
     }
 

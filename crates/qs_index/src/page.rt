@@ -2,6 +2,7 @@
 ghost use Rattle.std.specs.Prelude.{◌≡◌, ℕ, ◌-◌, ◌<◌, ◌≤◌, List, [], length, take, drop, IfOk, slice_index_or, vec_capacity};
 ghost use Rattle.std.specs.List.{insert, remove};
 ghost use Rattle.qs_index.specs.Layout.{IsPage, IsLastOf};
+ghost use Rattle.qs_index.specs.inner.Leaving.{met, left_from};
 
 use std::alloc::{AllocError, Global};
 use std::marker::Model;
@@ -91,6 +92,28 @@ impl Page {
     {
         let taken = self.entries.remove(at);
         self.last = last_of(&self.entries, taken);
+    }
+
+    // Takes those of `entries` out that are met from a place on, and tells how many they are.
+    pub fn take_met(&mut self, from: usize, entries: &[[u32; 4]]) -> usize
+        requires { from ≤ length self.old }
+        ensures met { result ≡ met (drop from self.old) entries.now }
+        ensures left { self.new ≡ left_from from self.old entries.now }
+    {
+        let mut met = 0;
+        let mut kept = from;
+        for at in from..self.entries.len() {
+            let entry = self.entries[at];
+            if met < entries.len() && entry == entries[met] {
+                met += 1;
+            } else {
+                self.entries[kept] = entry;
+                kept += 1;
+            }
+        }
+        self.entries.truncate(kept);
+        self.last = last_of(&self.entries, self.last);
+        met
     }
 
     // Moves the upper half of a full page into an empty one.

@@ -6,6 +6,7 @@ ghost use Rattle.std.specs.Prelude.{◌≡◌, ℕ, ◌+◌, ◌-◌, ◌*◌, �
 ghost use Rattle.std.specs.List.{insert, remove};
 ghost use Rattle.std.specs.VecDeque.{deque_capacity};
 ghost use Rattle.qs_index.specs.Layout.{page_at};
+ghost use Rattle.qs_index.specs.inner.Leaving.{met, left_from};
 ghost use Rattle.qs_index.specs.inner.PageBlocks.{PageBlock, flat, block_at, gap_at, HasGap, IsBlock, IsTiered};
 
 use crate::page::Page;
@@ -80,6 +81,16 @@ impl Block {
     {
         let held = &mut self.pages[page];
         held.remove(at);
+    }
+
+    fn take_met(&mut self, page: usize, from: usize, entries: &[[u32; 4]]) -> usize
+        requires page { page < length self.old }
+        requires from { from ≤ length (page_at self.old page) }
+        ensures met { result ≡ met (drop from (page_at self.old page)) entries.now }
+        ensures left { self.new ≡ slice_set self.old page (left_from from (page_at self.old page) entries.now) }
+    {
+        let held = &mut self.pages[page];
+        held.take_met(from, entries)
     }
 
     fn split_into(&mut self, page: usize, upper: &mut Page)
@@ -257,6 +268,18 @@ impl PageBlocks {
     {
         let block = &mut self.blocks[page / BLOCK];
         block.take_out(page % BLOCK, at);
+    }
+
+    /// Takes those of `entries` out of a page that are met from a place on, and tells how many they are.
+    pub fn take_met(&mut self, page: usize, from: usize, entries: &[[u32; 4]]) -> usize
+        requires page { page < length self.old.items }
+        requires from { from ≤ length (page_at self.old.items page) }
+        ensures met { result ≡ met (drop from (page_at self.old.items page)) entries.now }
+        ensures items { self.new.items ≡ slice_set self.old.items page (left_from from (page_at self.old.items page) entries.now) }
+        ensures room { self.new.room ≡ self.old.room }
+    {
+        let block = &mut self.blocks[page / BLOCK];
+        block.take_met(page % BLOCK, from, entries)
     }
 
     /// Moves the upper half of a full page into an empty one.

@@ -2,8 +2,9 @@
 //!
 //! An entry that a draft removed and gets again stays removed, and is added: so the removed ones only grow until the draft's end.
 //!
-//! Each change of a draft makes a buffer long enough and sets room aside. A commit moves its entries by way of the buffer, so
-//! that it takes no memory and still sorts them for each order. The buffer is given back at the end of the draft.
+//! Each change of a draft makes a buffer long enough and sets room aside. A commit copies the entries of each order to the buffer, and from
+//! there into the same order of the store or out of it: so it takes no memory, and nothing is sorted. The buffer is given back at the end of the
+//! draft.
 
 ghost use Rattle.std.specs.Prelude.{◌≡◌, ℕ, ◌≤◌, ◌+◌, ◌++◌, ◌∷◌, ◌↔◌, Bool, List, [], length, map, take, IsTrue, IfOk, OnOk, OnErr, Contains, cond};
 ghost use Rattle.std.specs.Str.{bytes_eq};
@@ -25,7 +26,7 @@ use crate::graphs::Graphs;
 use crate::named_graphs::{graphs_in, graphs_in_draft, holds};
 use crate::named_quads::NamedQuads;
 use crate::triples::Triples;
-use qs_index::{Index, count_named};
+use qs_index::{Index, PagePosition, count_named};
 use std::alloc::{AllocError, Global};
 use std::marker::Model;
 
@@ -55,6 +56,9 @@ impl Model for Layers {
 
     ghost invariant = { λ l. AreLayers l.index l.removed l.added l.emptied (length l.batch.items) };
 }
+
+/// Where a look for the first of some entries begins.
+const FRONT: PagePosition = PagePosition { page: 0, at: 0 };
 
 /// How many entries there are, and how many of them are of named graphs.
 #[derive(Clone, Copy)]
@@ -104,20 +108,6 @@ fn reserve(index: &mut Index, counts: Counts) -> Result<(), AllocError>
     index.reserve_for(counts.all as u64, counts.named as u64)
 }
 
-/// Writes the entries of the index to the front of `batch`, and tells how many they are.
-fn fill(batch: &mut [[u32; 4]], index: &Index) -> usize
-    requires { length index.now.entries ≤ length batch.old }
-    ensures entries { take result batch.new ≡ index.now.entries }
-    ensures count { result ≤ length batch.new }
-{
-    let mut count: usize = 0;
-    for entry in index.entries() {
-        batch[count] = entry;
-        count += 1;
-    }
-    count
-}
-
 /// Takes the entries of `removed` out of the index, by way of `batch`.
 fn take_all(index: &mut Index, removed: &Index, batch: &mut [[u32; 4]])
     requires { length removed.now.entries ≤ length batch.old }
@@ -125,8 +115,7 @@ fn take_all(index: &mut Index, removed: &Index, batch: &mut [[u32; 4]])
     ensures spare { index.old.spare ≤ index.new.spare }
     ensures named_spare { index.old.named_spare ≤ index.new.named_spare }
 {
-    let count = fill(batch, removed);
-    index.remove_all(&mut batch[..count]);
+    index.remove_those(removed, batch);
 }
 
 /// Puts the entries of `added` into the index, which has room for them, by way of `batch`.
@@ -138,8 +127,7 @@ fn put_all(index: &mut Index, added: &Index, batch: &mut [[u32; 4]])
     ensures spare { index.old.spare ≤ index.new.spare + length added.now.entries }
     ensures named_spare { index.old.named_spare ≤ index.new.named_spare + length (named_entries added.now.entries) }
 {
-    let count = fill(batch, added);
-    index.insert_all(&mut batch[..count]);
+    index.insert_those(added, batch);
 }
 
 /// Makes the index what a draft of it would make it, by way of `batch`, and puts the entries in, too. Where it is refused the entries of
@@ -179,26 +167,33 @@ fn standing(alloc: Global, index: &Index, entries: &[[u32; 4]]) -> Result<Vec<[u
     ensures { IfOk result (λ part. IsPartOf entries.now part.items (Contains index.now.entries)) }
 {
     let mut part = Vec::new(alloc);
+    let mut from = FRONT;
     for entry in entries {
-        if index.contains(entry) {
+        if index.contains_from(&mut from, entry) {
             part.push(*entry)?;
         }
     }
     Ok(part)
 }
 
-/// Whether the index lacks the entry, or it is removed.
-fn is_missing(index: &Index, removed: &Index, entry: &[u32; 4]) -> bool
+/// Whether the index lacks the entry, which is looked for about `from` first, or it is removed.
+fn is_missing(index: &Index, removed: &Index, from: &mut PagePosition, entry: &[u32; 4]) -> bool
     ensures { IsTrue result ↔ IsMissing index.now.entries removed.now.entries entry.now }
 {
-    !index.contains(entry) || removed.contains(entry)
+    !index.contains_from(from, entry) || removed.contains(entry)
 }
 
 /// Whether the entry may be missing once those that are `taken` are removed, too: any may where there are such.
-fn may_be_missing(index: &Index, removed: &Index, taken: &[[u32; 4]], entry: &[u32; 4]) -> bool
+fn may_be_missing(
+    index: &Index,
+    removed: &Index,
+    taken: &[[u32; 4]],
+    from: &mut PagePosition,
+    entry: &[u32; 4],
+) -> bool
     ensures { IsTrue result ↔ MayBeMissing index.now.entries removed.now.entries taken.now entry.now }
 {
-    !taken.is_empty() || is_missing(index, removed, entry)
+    !taken.is_empty() || is_missing(index, removed, from, entry)
 }
 
 /// Those of the entries that may be missing once those that are `taken` are removed, too.
@@ -212,8 +207,9 @@ fn missing(
     ensures { IfOk result (λ part. IsPartOf entries.now part.items (MayBeMissing index.now.entries removed.now.entries taken.now)) }
 {
     let mut part = Vec::new(alloc);
+    let mut from = FRONT;
     for entry in entries {
-        if may_be_missing(index, removed, taken, entry) {
+        if may_be_missing(index, removed, taken, &mut from, entry) {
             part.push(*entry)?;
         }
     }
@@ -227,8 +223,9 @@ fn gather(batch: &mut [[u32; 4]], index: &Index, removed: &Index, entries: &[[u3
     ensures count { result ≤ length batch.new }
 {
     let mut count: usize = 0;
+    let mut from = FRONT;
     for entry in entries {
-        if is_missing(index, removed, entry) {
+        if is_missing(index, removed, &mut from, entry) {
             batch[count] = *entry;
             count += 1;
         }

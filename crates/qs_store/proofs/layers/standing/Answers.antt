@@ -3,17 +3,17 @@ use Rattle.std.proofs.lemmas.Bool.{false≢true}
 use Rattle.qs_store.specs.Layers.{IsPartOf}
 use Rattle.qs_store.proofs.Drafted.{part_takes, part_leaves}
 use Rattle.qs_store.proofs.layers.standing.Goals as goal
-use Rattle.qs_store.proofs.layers.standing.Goals.{then-contains+in_ok-push, else-contains}
+use Rattle.qs_store.proofs.layers.standing.Goals.{then-contains_from+in_ok-push, else-contains_from}
 
 pub loop-entry-preserved : goal.loop-entry-preserved
 loop-entry-preserved c =
     let xs = c.args.entries.now in
     let i = c.loop-entry.entry-index in
-    elim c.if-contains.branch [
-      | then-contains+in_ok-push w ↦
+    elim c.if-contains_from.branch [
+      | then-contains_from+in_ok-push w ↦
           subst (λ l. IsPartOf (take (i + 1) xs) l (Contains c.args.index.now.entries)) (sym (ap (λ v. v.items) w.part-is ∙ w.in_ok-push.ensures.items))
-          (part_takes (Contains c.args.index.now.entries) xs c.loop-entry.part.items i c.loop-entry-test.true (w.if-contains.ensures.0 refl) c.loop-entry.invariant)
-      | else-contains w ↦
+          (part_takes (Contains c.args.index.now.entries) xs c.loop-entry.part.items i c.loop-entry-test.true (w.if-contains_from.ensures.0 refl) c.loop-entry.invariant)
+      | else-contains_from w ↦
           subst (λ l. IsPartOf (take (i + 1) xs) l (Contains c.args.index.now.entries)) (sym (ap (λ v. v.items) w.part-is))
-          (part_leaves (Contains c.args.index.now.entries) xs c.loop-entry.part.items i c.loop-entry-test.true (λ m. false≢true (w.if-contains.ensures.1 m)) c.loop-entry.invariant)
+          (part_leaves (Contains c.args.index.now.entries) xs c.loop-entry.part.items i c.loop-entry-test.true (λ m. false≢true (w.if-contains_from.ensures.1 m)) c.loop-entry.invariant)
     ]

@@ -5,7 +5,7 @@ use Rattle.qs_index.specs.Entry.{IsAscending, without_entry}
 use Rattle.qs_index.proofs.EntryEdits.{IsAscending-without}
 use Rattle.qs_index.proofs.Members.{member_of_without, length-without}
 use Rattle.qs_index.proofs.Removals.{taken_entries, taken_room}
-use Rattle.qs_index.proofs.order.Order.remove_from.Goals as goal
+use Rattle.qs_index.proofs.order.Order.remove.Goals as goal
 
 pub overflow_sub-self : goal.overflow_sub-self
 overflow_sub-self c =
