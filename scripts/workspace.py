@@ -178,7 +178,7 @@ def build(root, crates, folder, words_of, tell):
     command is words_of(crate), its log stands in the folder. Returns the first crate that was not built, or None.
 
     A long crate gets a second job where no crate that is left has a longer chain above it and a processor would be idle; each other crate gets one.
-    A further job loads all that is below once more, and takes up to half as much again: where other crates wait, their checks are worth more."""
+    A further job loads all that is below once more, which can take the processor nearly twice as long: where crates wait, their checks are worth more."""
     effort = {item: seconds(root, item) for item in crates}
     behind = dict.fromkeys(crates, 0)
     for crate in reversed([*crates]):
