@@ -1,5 +1,5 @@
 -- Entries that leave a page together.
-use Rattle.std.proofs.Common.{◌≡◌, ◌⊎◌, ℕ, ◌+◌, ◌-◌, ◌<◌, ◌≤◌, Bool, true, false, List, [], ◌∷◌, ◌++◌, length, get_or, take, drop, set, suc, zero, refl, ap, sym, ◌∙◌, subst, arith, inl, inr, ⊎_elim, append-nil, append_assoc, length-append, add-one}
+use Rattle.std.proofs.Common.{◌≡◌, ◌⊎◌, ℕ, ◌+◌, ◌-◌, ◌<◌, ◌≤◌, Bool, true, false, List, [], ◌∷◌, ◌++◌, length, get_or, take, drop, set, suc, zero, refl, ap, sym, ◌∙◌, subst, arith, inl, inr, ⊎_elim, append-nil, append_assoc, drop-set-lt, length-append, add-one}
 use Rattle.std.specs.Prelude.{if◌then◌else◌}
 use Rattle.std.specs.List.{Contains, remove}
 use Rattle.std.specs.Str.{bytes_eq}
@@ -110,12 +110,6 @@ met_none : (ps : List (List ℕ)) → met ps [] ≡ 0
 met_none [] = refl
 met_none (p ∷ ps) = refl
 
-drop_set_low : (xs : List (List ℕ)) (k n : ℕ) (x : List ℕ) → k < n → drop n (set xs k x) ≡ drop n xs
-drop_set_low [] k n x h = refl
-drop_set_low (y ∷ xs) k zero x h = absurd (omega (arith, h))
-drop_set_low (y ∷ xs) zero (suc n) x h = refl
-drop_set_low (y ∷ xs) (suc k) (suc n) x h = drop_set_low xs k n x (omega (arith, h))
-
 -- what holds of a page in which some places were passed: so many entries were met, and so many others were kept in front
 pub record IsPassing (from : ℕ) (old entries : List (List ℕ)) (at kept count : ℕ) (now : List (List ℕ)) : Type 0 where
   pub long : length now ≡ length old
@@ -170,7 +164,7 @@ passing_over from old es at kept count now u h miss same =
       long = length-set now kept x ∙ u.long;
       kept_in = omega (arith, u.kept_in);
       few = u.few;
-      rest = drop_set_low now kept (at + 1) x (omega (arith, u.kept_in)) ∙ drop_more_same now old at u.rest;
+      rest = drop-set-lt (at + 1) now kept x (omega (arith, u.kept_in)) ∙ drop_more_same now old at u.rest;
       left = ap (λ r. r ++ rest) (take_more_set now kept x (omega (arith, h, u.kept_in))) ∙ append_assoc (take kept now) (x ∷ []) rest ∙ ap (λ r. take kept now ++ r ∷ rest) read ∙ ap (λ r. take kept now ++ r) (sym miss) ∙ u.left;
       sum = omega (arith, u.sum);
     }
@@ -280,22 +274,6 @@ IsDifference-then xs a b ys zs u v = record {
   gone = λ y c d. ⊎_elim (λ l. u.gone y (v.only y c) l) (λ r. v.gone y c r) (Contains-append_cases a b y d);
   only = λ y c. u.only y (v.only y c);
 }
-
-take_of_none : (n : ℕ) → take {A = List ℕ} n [] ≡ []
-take_of_none zero = refl
-take_of_none (suc n) = refl
-
-drop_of_none : (n : ℕ) → drop {A = List ℕ} n [] ≡ []
-drop_of_none zero = refl
-drop_of_none (suc n) = refl
-
-sum_next : (n k : ℕ) → suc n + k ≡ suc (n + k)
-sum_next n k = omega arith
-
-pub take_sum : (n k : ℕ) (xs : List (List ℕ)) → take (n + k) xs ≡ take n xs ++ take k (drop n xs)
-take_sum n k [] = rw (take_of_none (n + k), take_of_none n, drop_of_none n, take_of_none k) refl
-take_sum zero k (x ∷ xs) = ap (λ j. take j (x ∷ xs)) (omega arith)
-take_sum (suc n) k (x ∷ xs) = ap (λ j. take j (x ∷ xs)) (sum_next n k) ∙ ap (λ r. x ∷ r) (take_sum n k xs)
 
 -- an entry that isn't there
 pub difference_of_missing : (xs es : List (List ℕ)) (e : List ℕ) → IsAscending xs → e ≡ get_or es 0 [] → 0 < length es → (Contains xs e → ⊥) → IsDifference xs (take 1 es) xs

@@ -16,8 +16,9 @@ pub mod Graphs
 pub mod Unions
 pub mod Differences
 pub mod Leaving
+pub mod Extending
 pub mod NamedOrders
-pub mod Those
+pub mod OtherOrders
 pub mod Parted
 pub mod Filled
 pub mod Prefixes

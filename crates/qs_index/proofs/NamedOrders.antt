@@ -20,8 +20,6 @@ use Rattle.qs_index.specs.declared.permutation.Permutation.TheVariants.{Spog, Po
 use Rattle.qs_index.proofs.Distinct.{IsAscending-filter, member_of_filter, filter_has}
 use Rattle.qs_index.proofs.Members.{member_of_with, with_has_it, with_has_old, member_of_without, skip_of_member, without_has_other, without_lacks_it}
 use Rattle.qs_index.proofs.Turned.{IsOrderOf-nil, order_added, order_removed, found_agree, begins-named}
-use Rattle.qs_index.proofs.Unions.{IsOrderOf-union}
-use Rattle.qs_index.proofs.Differences.{IsOrderOf-difference}
 
 -- an order depends on the members alone
 pub IsOrderOf-members : (permutation : Permutation) (xs zs ys : List (List ℕ)) → ((x : List ℕ) → Contains zs x → Contains xs x) → ((x : List ℕ) → Contains xs x → Contains zs x) → IsOrderOf permutation xs ys → IsOrderOf permutation zs ys
@@ -125,21 +123,6 @@ AreNamedOf-without_none orders x xs h u s a = record {
   subject = named_without_none Spog x xs orders.by_subject h u s a.subject;
   predicate = named_without_none Posg x xs orders.by_predicate h u s a.predicate;
   object = named_without_none Ospg x xs orders.by_object h u s a.object;
-}
-
--- lists
-pub AreNamedOf-union : (old new : NamedOrders) (xs ys named : List (List ℕ)) → IsUnion (named_entries xs) named (named_entries ys) → IsUnion old.by_subject (map (turned Spog) named) new.by_subject → IsUnion old.by_predicate (map (turned Posg) named) new.by_predicate → IsUnion old.by_object (map (turned Ospg) named) new.by_object → AreNamedOf xs old → AreNamedOf ys new
-AreNamedOf-union old new xs ys named u s p o a = record {
-  subject = IsOrderOf-union Spog (named_entries xs) old.by_subject named (named_entries ys) new.by_subject a.subject u s;
-  predicate = IsOrderOf-union Posg (named_entries xs) old.by_predicate named (named_entries ys) new.by_predicate a.predicate u p;
-  object = IsOrderOf-union Ospg (named_entries xs) old.by_object named (named_entries ys) new.by_object a.object u o;
-}
-
-pub AreNamedOf-difference : (old new : NamedOrders) (xs ys named : List (List ℕ)) → IsDifference (named_entries xs) named (named_entries ys) → IsDifference old.by_subject (map (turned Spog) named) new.by_subject → IsDifference old.by_predicate (map (turned Posg) named) new.by_predicate → IsDifference old.by_object (map (turned Ospg) named) new.by_object → AreNamedOf xs old → AreNamedOf ys new
-AreNamedOf-difference old new xs ys named u s p o a = record {
-  subject = IsOrderOf-difference Spog (named_entries xs) old.by_subject named (named_entries ys) new.by_subject a.subject u s;
-  predicate = IsOrderOf-difference Posg (named_entries xs) old.by_predicate named (named_entries ys) new.by_predicate a.predicate u p;
-  object = IsOrderOf-difference Ospg (named_entries xs) old.by_object named (named_entries ys) new.by_object a.object u o;
 }
 
 -- the order that a scan uses has all entries, or those of named graphs

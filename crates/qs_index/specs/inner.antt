@@ -2,3 +2,4 @@
 pub mod PageBlocks
 pub mod PagePosition
 pub mod Leaving
+pub mod Extending

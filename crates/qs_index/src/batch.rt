@@ -1,18 +1,22 @@
 //! Lists of entries that are put into an order or taken out of it, and the entries of named graphs among them.
-ghost use Rattle.std.specs.Prelude.{◌≡◌, ◌+◌, ◌≤◌, true, false, length, map, take, drop};
+//!
+//! An order of all entries and one of those of named graphs are filled in turn where they agree but for the place of the graph: a list of one
+//! graph stands sorted for the second already.
+ghost use Rattle.std.specs.Prelude.{◌≡◌, ℕ, ◌+◌, ◌≤◌, List, true, false, length, map, take, drop};
 ghost use Rattle.std.specs.List.{All};
 ghost use Rattle.std.specs.List.Sorted.{IsPermutation};
 ghost use Rattle.qs_index.specs.Entries.{IsUnion, IsDifference};
 ghost use Rattle.qs_index.specs.Entry.{IsEntry};
 ghost use Rattle.qs_index.specs.Graph.{is_named, named_entries};
+ghost use Rattle.qs_index.specs.OrderOf.{IsOrderOf};
 ghost use Rattle.qs_index.specs.Permutation.{turned};
 
 use crate::entry::{is_named, key};
 use crate::order::Order;
 use crate::permutation::Permutation;
 
-/// Puts entries into an order, turned and sorted.
-pub fn insert_turned(order: &mut Order, permutation: Permutation, entries: &mut [[u32; 4]])
+// Puts entries into an order, turned and sorted.
+fn insert_turned(order: &mut Order, permutation: Permutation, entries: &mut [[u32; 4]])
     requires { length entries.old ≤ order.old.spare }
     ensures union { IsUnion order.old.entries (map (turned permutation) entries.old) order.new.entries }
     ensures entries { All IsEntry (map (turned permutation) entries.old) }
@@ -25,8 +29,8 @@ pub fn insert_turned(order: &mut Order, permutation: Permutation, entries: &mut 
     permutation.restore_all(entries);
 }
 
-/// Takes entries out of an order, turned and sorted.
-pub fn remove_turned(order: &mut Order, permutation: Permutation, entries: &mut [[u32; 4]])
+// Takes entries out of an order, turned and sorted.
+fn remove_turned(order: &mut Order, permutation: Permutation, entries: &mut [[u32; 4]])
     ensures difference { IsDifference order.old.entries (map (turned permutation) entries.old) order.new.entries }
     ensures spare { order.old.spare ≤ order.new.spare }
     ensures permutation { IsPermutation entries.old entries.new }
@@ -37,8 +41,8 @@ pub fn remove_turned(order: &mut Order, permutation: Permutation, entries: &mut 
     permutation.restore_all(entries);
 }
 
-/// Moves the entries of the default graph to the front, and tells how many there are.
-pub fn default_first(entries: &mut [[u32; 4]]) -> usize
+// Moves the entries of the default graph to the front, and tells how many there are.
+fn default_first(entries: &mut [[u32; 4]]) -> usize
     ensures within { result ≤ length entries.new }
     ensures default { All (λ entry. is_named entry ≡ false) (take result entries.new) }
     ensures named { All (λ entry. is_named entry ≡ true) (drop result entries.new) }
@@ -65,4 +69,66 @@ pub fn count_named(entries: &[[u32; 4]]) -> usize
         }
     }
     count
+}
+
+// Puts those of the entries that are of named graphs into an order of such, and leaves all in some order.
+fn insert_named(order: &mut Order, permutation: Permutation, entries: &mut [[u32; 4]])
+    requires { length (named_entries entries.old) ≤ order.old.spare }
+    ensures order { (xs ys : List (List ℕ)) → IsUnion xs entries.old ys → IsOrderOf permutation (named_entries xs) order.old.entries → IsOrderOf permutation (named_entries ys) order.new.entries }
+    ensures spare { order.old.spare ≤ order.new.spare + length (named_entries entries.old) }
+    ensures permutation { IsPermutation entries.old entries.new }
+{
+    let first = default_first(entries);
+    let (_, named) = entries.split_at_mut(first);
+    insert_turned(order, permutation, named);
+}
+
+// Takes those of the entries that are of named graphs out of an order of such, and leaves all in some order.
+fn remove_named(order: &mut Order, permutation: Permutation, entries: &mut [[u32; 4]])
+    ensures order { (xs ys : List (List ℕ)) → IsDifference xs entries.old ys → IsOrderOf permutation (named_entries xs) order.old.entries → IsOrderOf permutation (named_entries ys) order.new.entries }
+    ensures spare { order.old.spare ≤ order.new.spare }
+    ensures permutation { IsPermutation entries.old entries.new }
+{
+    let first = default_first(entries);
+    let (_, named) = entries.split_at_mut(first);
+    remove_turned(order, permutation, named);
+}
+
+/// Puts entries into an order of all, and those of named graphs into an order of such. It leaves them in some order.
+pub fn insert_both(
+    order: &mut Order,
+    permutation: Permutation,
+    named: &mut Order,
+    named_permutation: Permutation,
+    entries: &mut [[u32; 4]],
+)
+    requires room { length entries.old ≤ order.old.spare }
+    requires named_room { length (named_entries entries.old) ≤ named.old.spare }
+    ensures union { IsUnion order.old.entries (map (turned permutation) entries.old) order.new.entries }
+    ensures entries { All IsEntry (map (turned permutation) entries.old) }
+    ensures named { (xs ys : List (List ℕ)) → IsUnion xs entries.old ys → IsOrderOf named_permutation (named_entries xs) named.old.entries → IsOrderOf named_permutation (named_entries ys) named.new.entries }
+    ensures spare { order.old.spare ≤ order.new.spare + length entries.old }
+    ensures named_spare { named.old.spare ≤ named.new.spare + length (named_entries entries.old) }
+    ensures permutation { IsPermutation entries.old entries.new }
+{
+    insert_turned(order, permutation, entries);
+    insert_named(named, named_permutation, entries);
+}
+
+/// Takes entries out of an order of all, and those of named graphs out of an order of such. It leaves them in some order.
+pub fn remove_both(
+    order: &mut Order,
+    permutation: Permutation,
+    named: &mut Order,
+    named_permutation: Permutation,
+    entries: &mut [[u32; 4]],
+)
+    ensures difference { IsDifference order.old.entries (map (turned permutation) entries.old) order.new.entries }
+    ensures named { (xs ys : List (List ℕ)) → IsDifference xs entries.old ys → IsOrderOf named_permutation (named_entries xs) named.old.entries → IsOrderOf named_permutation (named_entries ys) named.new.entries }
+    ensures spare { order.old.spare ≤ order.new.spare }
+    ensures named_spare { named.old.spare ≤ named.new.spare }
+    ensures permutation { IsPermutation entries.old entries.new }
+{
+    remove_turned(order, permutation, entries);
+    remove_named(named, named_permutation, entries);
 }

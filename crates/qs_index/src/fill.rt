@@ -3,12 +3,13 @@
 //! A list put into an empty order fills pages whole as far as it ascends. Only an empty order is filled so: after pages that
 //! aren't full, a page would cost more room than its entry. A reserve counts half a page for the first, so the room falls by no
 //! more than the entries.
-ghost use Rattle.std.specs.Prelude.{◌≡◌, ◌+◌, ◌-◌, ◌<◌, ◌≤◌, [], length, take};
+ghost use Rattle.std.specs.Prelude.{◌≡◌, ◌+◌, ◌-◌, ◌<◌, ◌≤◌, [], length, take, slice_set};
 ghost use Rattle.qs_index.specs.Entries.{HaveFour, IsUnion};
 ghost use Rattle.qs_index.specs.Entry.{skip_before, with_entry};
+ghost use Rattle.qs_index.specs.inner.Extending.{extended, taken_in};
 ghost use Rattle.qs_index.specs.Layout.{joined, page_at, room_of, used_of};
 
-use crate::entry::is_less;
+use crate::entry::{is_less, is_same};
 use crate::pages::{PAGE, PagePosition, Pages};
 
 // Puts an entry after all others: into the last page, or into a new one where that is full.
@@ -28,6 +29,22 @@ fn append(pages: &mut Pages, entry: [u32; 4])
         return;
     }
     pages.put_last(entry);
+}
+
+// Puts entries after the last one of the last page, which is `last`, as far as there is room and they ascend.
+fn extend(pages: &mut Pages, last: &[u32; 4], entries: &[[u32; 4]]) -> Filled
+    requires { 0 < length pages.old.pages }
+    ensures read { result.read ≡ taken_in last.now (page_at pages.old.pages (length pages.old.pages - 1)) entries.now }
+    ensures pages { pages.new.pages ≡ slice_set pages.old.pages (length pages.old.pages - 1) (extended last.now (page_at pages.old.pages (length pages.old.pages - 1)) entries.now) }
+    ensures count { result.count + length (page_at pages.old.pages (length pages.old.pages - 1)) ≡ length (extended last.now (page_at pages.old.pages (length pages.old.pages - 1)) entries.now) }
+    ensures spare { pages.new.spare ≡ pages.old.spare }
+{
+    let page = pages.len() - 1;
+    let before = pages.page_len(page);
+    let read = pages.extend(page, last, entries);
+    let after = pages.page_len(page);
+    let count = after as u128 - before as u128;
+    Filled { read, count }
 }
 
 /// How many entries of a list were read, and how many were put in.
@@ -54,16 +71,20 @@ pub fn fill(pages: &mut Pages, entries: &[[u32; 4]]) -> Filled
     let mut last = entries[0];
     pages.put_last(last);
     let mut count: u128 = 1;
-    for read in 1..entries.len() {
+    let mut read = 1;
+    while read < entries.len() {
         let entry = entries[read];
         if is_less(&last, &entry) {
             append(pages, entry);
-            last = entry;
-            count += 1;
-        } else if entry != last {
+            let more = extend(pages, &entry, &entries[read + 1..]);
+            read += 1 + more.read;
+            count += 1 + more.count;
+            last = entries[read - 1];
+        } else if is_same(&entry, &last) {
+            read += 1;
+        } else {
             return Filled { read, count };
         }
     }
-    let read = entries.len();
     Filled { read, count }
 }

@@ -17,7 +17,7 @@ ghost use Rattle.qs_index.specs.Named.{held_by};
 ghost use Rattle.qs_index.specs.OrderOf.{IsOrderOf};
 ghost use Rattle.qs_index.specs.Permutation.{order_used, named_order_used, turned};
 
-use crate::batch::{insert_turned, remove_turned};
+use crate::batch::{insert_both, remove_both};
 use crate::named::Named;
 use crate::order::Order;
 use crate::pages::PagePosition;
@@ -124,10 +124,32 @@ impl Index {
         ensures named_spare { self.old.named_spare ≤ self.new.named_spare + length (named_entries entries.old) }
         ensures permutation { IsPermutation entries.old entries.new }
     {
-        insert_turned(&mut self.gspo, Permutation::Gspo, entries);
-        insert_turned(&mut self.gpos, Permutation::Gpos, entries);
-        insert_turned(&mut self.gosp, Permutation::Gosp, entries);
-        self.named.insert_all(entries);
+        let _count = self.gspo.len();
+        if entries.is_empty() {
+            return;
+        }
+        let named = &mut self.named;
+        insert_both(
+            &mut self.gspo,
+            Permutation::Gspo,
+            &mut named.spog,
+            Permutation::Spog,
+            entries,
+        );
+        insert_both(
+            &mut self.gpos,
+            Permutation::Gpos,
+            &mut named.posg,
+            Permutation::Posg,
+            entries,
+        );
+        insert_both(
+            &mut self.gosp,
+            Permutation::Gosp,
+            &mut named.ospg,
+            Permutation::Ospg,
+            entries,
+        );
     }
 
     /// Takes an entry out, and tells whether it stood there. It takes no memory, and leaves no less room than there was.
@@ -160,15 +182,36 @@ impl Index {
         if self.gspo.len() == 0 {
             return;
         }
-        remove_turned(&mut self.gspo, Permutation::Gspo, entries);
-        remove_turned(&mut self.gpos, Permutation::Gpos, entries);
-        remove_turned(&mut self.gosp, Permutation::Gosp, entries);
-        self.named.remove_all(entries);
+        if entries.is_empty() {
+            return;
+        }
+        let named = &mut self.named;
+        remove_both(
+            &mut self.gspo,
+            Permutation::Gspo,
+            &mut named.spog,
+            Permutation::Spog,
+            entries,
+        );
+        remove_both(
+            &mut self.gpos,
+            Permutation::Gpos,
+            &mut named.posg,
+            Permutation::Posg,
+            entries,
+        );
+        remove_both(
+            &mut self.gosp,
+            Permutation::Gosp,
+            &mut named.ospg,
+            Permutation::Ospg,
+            entries,
+        );
     }
 
     /// Puts all entries of another index in, by way of `batch`: as these stand in each order already, nothing is sorted. It takes no memory,
     /// and asks that there is room.
-    pub fn insert_those(&mut self, other: &Index, batch: &mut [[u32; 4]])
+    pub fn insert_all_of(&mut self, other: &Index, batch: &mut [[u32; 4]])
         requires batch { length other.now.entries ≤ length batch.old }
         requires room { length other.now.entries ≤ self.old.spare }
         requires named_room { length (named_entries other.now.entries) ≤ self.old.named_spare }
@@ -176,23 +219,23 @@ impl Index {
         ensures spare { self.old.spare ≤ self.new.spare + length other.now.entries }
         ensures named_spare { self.old.named_spare ≤ self.new.named_spare + length (named_entries other.now.entries) }
     {
-        self.gspo.insert_those(&other.gspo, batch);
-        self.gpos.insert_those(&other.gpos, batch);
-        self.gosp.insert_those(&other.gosp, batch);
-        self.named.insert_those(&other.named, batch);
+        self.gspo.insert_all_of(&other.gspo, batch);
+        self.gpos.insert_all_of(&other.gpos, batch);
+        self.gosp.insert_all_of(&other.gosp, batch);
+        self.named.insert_all_of(&other.named, batch);
     }
 
-    /// Takes all entries of another index out that are there, as `insert_those` puts them in. It leaves no less room than there was.
-    pub fn remove_those(&mut self, other: &Index, batch: &mut [[u32; 4]])
+    /// Takes all entries of another index out that are there, as `insert_all_of` puts them in. It leaves no less room than there was.
+    pub fn remove_all_of(&mut self, other: &Index, batch: &mut [[u32; 4]])
         requires { length other.now.entries ≤ length batch.old }
         ensures difference { IsDifference self.old.entries other.now.entries self.new.entries }
         ensures spare { self.old.spare ≤ self.new.spare }
         ensures named_spare { self.old.named_spare ≤ self.new.named_spare }
     {
-        self.gspo.remove_those(&other.gspo, batch);
-        self.gpos.remove_those(&other.gpos, batch);
-        self.gosp.remove_those(&other.gosp, batch);
-        self.named.remove_those(&other.named, batch);
+        self.gspo.remove_all_of(&other.gspo, batch);
+        self.gpos.remove_all_of(&other.gpos, batch);
+        self.gosp.remove_all_of(&other.gosp, batch);
+        self.named.remove_all_of(&other.named, batch);
     }
 
     /// How many entries there are, which is below 2^72, as pages are counted in 64 bits and have 256 entries at most. It takes no

@@ -1,7 +1,6 @@
 //! The orders of the named graphs.
 //!
-//! A list is split once, the entries of named graphs last, so that no other is turned and sorted for these orders. The bound on
-//! looks of a scan of all named graphs counts the entries of its order: it is that of the other scans or a smaller one.
+//! The bound on looks of a scan of all named graphs counts the entries of its order: it is that of the other scans or a smaller one.
 ghost use Rattle.std.specs.Prelude.{◌≡◌, ℕ, ◌+◌, ◌<◌, ◌≤◌, ◌^◌, min, List, [], true, length, map};
 ghost use Rattle.std.specs.Result.{OnOk};
 ghost use Rattle.std.specs.List.{Contains};
@@ -13,7 +12,6 @@ ghost use Rattle.qs_index.specs.Named.{NamedOrders, AreNamedOf};
 ghost use Rattle.qs_index.specs.Permutation.{turned};
 ghost use Rattle.qs_index.specs.declared.permutation.Permutation.TheVariants.{Spog, Posg, Ospg};
 
-use crate::batch::{default_first, insert_turned, remove_turned};
 use crate::entry::is_named;
 use crate::order::Order;
 use crate::permutation::Permutation;
@@ -94,79 +92,29 @@ impl Named {
         self.ospg.remove(Permutation::Ospg.turn(entry));
     }
 
-    // Puts entries of named graphs into each order.
-    fn insert_each(&mut self, entries: &mut [[u32; 4]])
-        requires { length entries.old ≤ self.old.spare }
-        ensures subject { IsUnion self.old.by_subject (map (turned Spog) entries.old) self.new.by_subject }
-        ensures predicate { IsUnion self.old.by_predicate (map (turned Posg) entries.old) self.new.by_predicate }
-        ensures object { IsUnion self.old.by_object (map (turned Ospg) entries.old) self.new.by_object }
-        ensures spare { self.old.spare ≤ self.new.spare + length entries.old }
-        ensures permutation { IsPermutation entries.old entries.new }
-    {
-        insert_turned(&mut self.spog, Permutation::Spog, entries);
-        insert_turned(&mut self.posg, Permutation::Posg, entries);
-        insert_turned(&mut self.ospg, Permutation::Ospg, entries);
-    }
-
-    /// Puts those of `entries` in that are of named graphs, and leaves all in some order.
-    pub fn insert_all(&mut self, entries: &mut [[u32; 4]])
-        requires { length (named_entries entries.old) ≤ self.old.spare }
-        ensures orders { (xs ys : List (List ℕ)) → IsUnion xs entries.old ys → AreNamedOf xs self.old → AreNamedOf ys self.new }
-        ensures spare { self.old.spare ≤ self.new.spare + length (named_entries entries.old) }
-        ensures permutation { IsPermutation entries.old entries.new }
-    {
-        let first = default_first(entries);
-        let (_, named) = entries.split_at_mut(first);
-        self.insert_each(named);
-    }
-
-    // Takes entries of named graphs out of each order.
-    fn remove_each(&mut self, entries: &mut [[u32; 4]])
-        ensures subject { IsDifference self.old.by_subject (map (turned Spog) entries.old) self.new.by_subject }
-        ensures predicate { IsDifference self.old.by_predicate (map (turned Posg) entries.old) self.new.by_predicate }
-        ensures object { IsDifference self.old.by_object (map (turned Ospg) entries.old) self.new.by_object }
-        ensures spare { self.old.spare ≤ self.new.spare }
-        ensures permutation { IsPermutation entries.old entries.new }
-    {
-        remove_turned(&mut self.spog, Permutation::Spog, entries);
-        remove_turned(&mut self.posg, Permutation::Posg, entries);
-        remove_turned(&mut self.ospg, Permutation::Ospg, entries);
-    }
-
-    /// Takes those of `entries` out that are of named graphs, and leaves all in some order.
-    pub fn remove_all(&mut self, entries: &mut [[u32; 4]])
-        ensures orders { (xs ys : List (List ℕ)) → IsDifference xs entries.old ys → AreNamedOf xs self.old → AreNamedOf ys self.new }
-        ensures spare { self.old.spare ≤ self.new.spare }
-        ensures permutation { IsPermutation entries.old entries.new }
-    {
-        let first = default_first(entries);
-        let (_, named) = entries.split_at_mut(first);
-        self.remove_each(named);
-    }
-
     /// Puts the entries of other such orders in, by way of `batch`.
-    pub fn insert_those(&mut self, other: &Named, batch: &mut [[u32; 4]])
+    pub fn insert_all_of(&mut self, other: &Named, batch: &mut [[u32; 4]])
         requires subject { length other.now.by_subject ≤ min (length batch.old) self.old.spare }
         requires predicate { length other.now.by_predicate ≤ min (length batch.old) self.old.spare }
         requires object { length other.now.by_object ≤ min (length batch.old) self.old.spare }
         ensures orders { (xs ds ys : List (List ℕ)) → IsUnion xs ds ys → AreNamedOf ds other.now → AreNamedOf xs self.old → AreNamedOf ys self.new }
         ensures spare { (n : ℕ) → length other.now.by_subject ≤ n → length other.now.by_predicate ≤ n → length other.now.by_object ≤ n → self.old.spare ≤ self.new.spare + n }
     {
-        self.spog.insert_those(&other.spog, batch);
-        self.posg.insert_those(&other.posg, batch);
-        self.ospg.insert_those(&other.ospg, batch);
+        self.spog.insert_all_of(&other.spog, batch);
+        self.posg.insert_all_of(&other.posg, batch);
+        self.ospg.insert_all_of(&other.ospg, batch);
     }
 
     /// Takes the entries of other such orders out, by way of `batch`.
-    pub fn remove_those(&mut self, other: &Named, batch: &mut [[u32; 4]])
+    pub fn remove_all_of(&mut self, other: &Named, batch: &mut [[u32; 4]])
         requires subject { length other.now.by_subject ≤ length batch.old }
         requires predicate { length other.now.by_predicate ≤ length batch.old }
         requires object { length other.now.by_object ≤ length batch.old }
         ensures orders { (xs ds ys : List (List ℕ)) → IsDifference xs ds ys → AreNamedOf ds other.now → AreNamedOf xs self.old → AreNamedOf ys self.new }
         ensures spare { self.old.spare ≤ self.new.spare }
     {
-        self.spog.remove_those(&other.spog, batch);
-        self.posg.remove_those(&other.posg, batch);
-        self.ospg.remove_those(&other.ospg, batch);
+        self.spog.remove_all_of(&other.spog, batch);
+        self.posg.remove_all_of(&other.posg, batch);
+        self.ospg.remove_all_of(&other.ospg, batch);
     }
 }

@@ -233,7 +233,8 @@ impl Order {
         true
     }
 
-    // Takes the first of `entries` out, looked for from an earlier place on, and those that follow it as far as they are met in its page.
+    // Takes the first of `entries` out, looked for from an earlier place on, and those that follow it as far as one pass over its page meets
+    // them.
     fn remove_met(&mut self, from: PagePosition, entries: &[[u32; 4]]) -> Passed
         requires { 0 < length entries.now }
         ensures some { 0 < result.count }
@@ -296,7 +297,7 @@ impl Order {
     }
 
     /// Puts the entries of another order in, by way of `batch`.
-    pub fn insert_those(&mut self, other: &Order, batch: &mut [[u32; 4]])
+    pub fn insert_all_of(&mut self, other: &Order, batch: &mut [[u32; 4]])
         requires batch { length other.now.entries ≤ length batch.old }
         requires room { length other.now.entries ≤ self.old.spare }
         ensures union { IsUnion self.old.entries other.now.entries self.new.entries }
@@ -308,7 +309,7 @@ impl Order {
     }
 
     /// Takes the entries of another order out, by way of `batch`.
-    pub fn remove_those(&mut self, other: &Order, batch: &mut [[u32; 4]])
+    pub fn remove_all_of(&mut self, other: &Order, batch: &mut [[u32; 4]])
         requires { length other.now.entries ≤ length batch.old }
         ensures difference { IsDifference self.old.entries other.now.entries self.new.entries }
         ensures spare { self.old.spare ≤ self.new.spare }
@@ -331,14 +332,8 @@ impl Order {
     pub fn contains(&self, entry: &[u32; 4]) -> bool
         ensures { IsTrue result ↔ Contains self.now.entries entry.now }
     {
-        let count = self.pages.len();
-        if count == 0 {
-            return false;
-        }
-        match locate(&self.pages, entry) {
-            Ok(_) => true,
-            Err(_) => false,
-        }
+        let mut from = NOWHERE;
+        self.contains_from(&mut from, entry)
     }
 
     /// Whether an entry is there, which is looked for about `from` first. The next one is best looked for about the place that is left there.

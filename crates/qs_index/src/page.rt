@@ -2,8 +2,10 @@
 ghost use Rattle.std.specs.Prelude.{◌≡◌, ℕ, ◌-◌, ◌<◌, ◌≤◌, List, [], length, take, drop, IfOk, slice_index_or, vec_capacity};
 ghost use Rattle.std.specs.List.{insert, remove};
 ghost use Rattle.qs_index.specs.Layout.{IsPage, IsLastOf};
+ghost use Rattle.qs_index.specs.inner.Extending.{extended, taken_in};
 ghost use Rattle.qs_index.specs.inner.Leaving.{met, left_from};
 
+use crate::entry::{is_less, is_same};
 use std::alloc::{AllocError, Global};
 use std::marker::Model;
 
@@ -36,6 +38,28 @@ fn last_of(entries: &Vec<[u32; 4]>, none: [u32; 4]) -> [u32; 4]
         Some(last) => *last,
         None => none,
     }
+}
+
+// Puts entries after the last one of a list, as far as there is room and they ascend, and equal ones once. It tells how many were read.
+fn extend(list: &mut Vec<[u32; 4]>, last: &[u32; 4], entries: &[[u32; 4]]) -> usize
+    requires room { 256 ≤ vec_capacity list.old }
+    ensures taken { result ≡ taken_in last.now list.old.items entries.now }
+    ensures items { list.new.items ≡ extended last.now list.old.items entries.now }
+    ensures capacity { vec_capacity list.old ≤ vec_capacity list.new }
+{
+    let mut last = *last;
+    let mut read = 0;
+    while read < entries.len() && list.len() < PAGE {
+        let entry = entries[read];
+        if is_less(&last, &entry) {
+            let _ = list.push(entry);
+            last = entry;
+        } else if !is_same(&entry, &last) {
+            return read;
+        }
+        read += 1;
+    }
+    read
 }
 
 impl Page {
@@ -94,7 +118,19 @@ impl Page {
         self.last = last_of(&self.entries, taken);
     }
 
-    // Takes those of `entries` out that are met from a place on, and tells how many they are.
+    // Puts entries after the last one, which is `last`, as far as there is room and they ascend, and equal ones once. It tells how many
+    // were read.
+    #[tactic(auto, using(crate::proofs::Extending::extended_small))]
+    pub fn extend(&mut self, last: &[u32; 4], entries: &[[u32; 4]]) -> usize
+        ensures taken { result ≡ taken_in last.now self.old entries.now }
+        ensures items { self.new ≡ extended last.now self.old entries.now }
+    {
+        let read = extend(&mut self.entries, last, entries);
+        self.last = last_of(&self.entries, self.last);
+        read
+    }
+
+    // Goes over the page from a place on, takes out each entry that is the next of `entries`, and tells how many of these it met.
     pub fn take_met(&mut self, from: usize, entries: &[[u32; 4]]) -> usize
         requires { from ≤ length self.old }
         ensures met { result ≡ met (drop from self.old) entries.now }
@@ -104,7 +140,7 @@ impl Page {
         let mut kept = from;
         for at in from..self.entries.len() {
             let entry = self.entries[at];
-            if met < entries.len() && entry == entries[met] {
+            if met < entries.len() && is_same(&entry, &entries[met]) {
                 met += 1;
             } else {
                 self.entries[kept] = entry;

@@ -6,6 +6,7 @@ ghost use Rattle.std.specs.Prelude.{◌≡◌, ℕ, ◌+◌, ◌-◌, ◌*◌, �
 ghost use Rattle.std.specs.List.{insert, remove};
 ghost use Rattle.std.specs.VecDeque.{deque_capacity};
 ghost use Rattle.qs_index.specs.Layout.{page_at};
+ghost use Rattle.qs_index.specs.inner.Extending.{extended, taken_in};
 ghost use Rattle.qs_index.specs.inner.Leaving.{met, left_from};
 ghost use Rattle.qs_index.specs.inner.PageBlocks.{PageBlock, flat, block_at, gap_at, HasGap, IsBlock, IsTiered};
 
@@ -91,6 +92,15 @@ impl Block {
     {
         let held = &mut self.pages[page];
         held.take_met(from, entries)
+    }
+
+    fn extend(&mut self, page: usize, last: &[u32; 4], entries: &[[u32; 4]]) -> usize
+        requires { page < length self.old }
+        ensures taken { result ≡ taken_in last.now (page_at self.old page) entries.now }
+        ensures items { self.new ≡ slice_set self.old page (extended last.now (page_at self.old page) entries.now) }
+    {
+        let held = &mut self.pages[page];
+        held.extend(last, entries)
     }
 
     fn split_into(&mut self, page: usize, upper: &mut Page)
@@ -280,6 +290,18 @@ impl PageBlocks {
     {
         let block = &mut self.blocks[page / BLOCK];
         block.take_met(page % BLOCK, from, entries)
+    }
+
+    /// Puts entries after the last one of a page, which is `last`, as far as there is room and they ascend, and equal ones once. It tells
+    /// how many were read.
+    pub fn extend(&mut self, page: usize, last: &[u32; 4], entries: &[[u32; 4]]) -> usize
+        requires { page < length self.old.items }
+        ensures taken { result ≡ taken_in last.now (page_at self.old.items page) entries.now }
+        ensures items { self.new.items ≡ slice_set self.old.items page (extended last.now (page_at self.old.items page) entries.now) }
+        ensures room { self.new.room ≡ self.old.room }
+    {
+        let block = &mut self.blocks[page / BLOCK];
+        block.extend(page % BLOCK, last, entries)
     }
 
     /// Moves the upper half of a full page into an empty one.

@@ -9,6 +9,7 @@ ghost use Rattle.qs_index.specs.Layout.{Layout, Reading, joined, page_at, rest_a
 ghost use Rattle.qs_index.specs.Entry.{is_before, IsAscending, skip_before};
 ghost use Rattle.qs_index.specs.inner.PagePosition.{IsPlaceFor, IsPlaceOf, IsFound, IsReached};
 
+use crate::entry::is_same;
 use crate::pages::{PagePosition, Pages, Reader};
 use crate::prefix::Prefix;
 
@@ -283,7 +284,7 @@ fn locate_in(
         let at = reader.page_len(last);
         return Err(PagePosition { page: last, at });
     };
-    if found.entry == *entry {
+    if is_same(&found.entry, entry) {
         return Ok(found.place);
     }
     Err(found.place)

@@ -2,9 +2,9 @@
 //!
 //! An entry that a draft removed and gets again stays removed, and is added: so the removed ones only grow until the draft's end.
 //!
-//! Each change of a draft makes a buffer long enough and sets room aside. A commit copies the entries of each order to the buffer, and from
-//! there into the same order of the store or out of it: so it takes no memory, and nothing is sorted. The buffer is given back at the end of the
-//! draft.
+//! Each change of a draft makes a buffer long enough and sets room aside. A commit copies the draft's entries of each order to the buffer, and
+//! from there into the same order of the store or out of it: so it takes no memory, and sorts none of them. The buffer is given back at the end
+//! of the draft.
 
 ghost use Rattle.std.specs.Prelude.{◌≡◌, ℕ, ◌≤◌, ◌+◌, ◌++◌, ◌∷◌, ◌↔◌, Bool, List, [], length, map, take, IsTrue, IfOk, OnOk, OnErr, Contains, cond};
 ghost use Rattle.std.specs.Str.{bytes_eq};
@@ -115,7 +115,7 @@ fn take_all(index: &mut Index, removed: &Index, batch: &mut [[u32; 4]])
     ensures spare { index.old.spare ≤ index.new.spare }
     ensures named_spare { index.old.named_spare ≤ index.new.named_spare }
 {
-    index.remove_those(removed, batch);
+    index.remove_all_of(removed, batch);
 }
 
 /// Puts the entries of `added` into the index, which has room for them, by way of `batch`.
@@ -127,7 +127,7 @@ fn put_all(index: &mut Index, added: &Index, batch: &mut [[u32; 4]])
     ensures spare { index.old.spare ≤ index.new.spare + length added.now.entries }
     ensures named_spare { index.old.named_spare ≤ index.new.named_spare + length (named_entries added.now.entries) }
 {
-    index.insert_those(added, batch);
+    index.insert_all_of(added, batch);
 }
 
 /// Makes the index what a draft of it would make it, by way of `batch`, and puts the entries in, too. Where it is refused the entries of

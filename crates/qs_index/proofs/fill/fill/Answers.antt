@@ -1,12 +1,12 @@
-use Rattle.std.proofs.Common.{◌≤◌, [], length, get_or, refl, arith, rules, ap, sym, ◌∙◌, subst}
+use Rattle.std.proofs.Common.{◌+◌, ◌-◌, ◌≤◌, [], length, get_or, take, drop, refl, arith, rules, ap, sym, ◌∙◌, subst}
 use Rattle.std.specs.Cmp.Lexicographic.{bytes_decides}
+use Rattle.std.proofs.lemmas.List.{take_rest}
 use Rattle.qs_index.specs.Entries.{HaveFour, IsUnion}
 use Rattle.qs_index.specs.Layout.{joined, room_of}
 use Rattle.qs_index.proofs.Distinct.{nothing_in_nil}
-use Rattle.qs_index.proofs.Filled.{filling_first, filling_behind, filling_more, filling_same, filling_spare, some_of, from_not}
+use Rattle.qs_index.proofs.Filled.{Filling, filling_first, filling_behind, filling_both, filling_same, filling_spare, some_of}
 use Rattle.qs_index.proofs.Spares.{spare_for_first}
 use Rattle.qs_index.proofs.Unions.{IsUnion-nil}
-use Rattle.qs_index.proofs.fill.fill.Goals.{then-is_less, else-is_less+else-ne}
 use Rattle.qs_index.proofs.fill.fill.Goals as goal
 
 pub returns-then-is_empty-clause-union : goal.returns-then-is_empty-clause-union
@@ -40,13 +40,51 @@ append-requires c =
     }
 
 pub loop-read-preserved : goal.loop-read-preserved
-loop-read-preserved c =
+loop-read-preserved c = record {
+  filling = filling_same c.args.entries.now c.args.pages.now.spare c.loop-read.read c.loop-read.count c.loop-read.pages.spare c.loop-read.last (get_or c.args.entries.now c.loop-read.read []) c.loop-read.pages.pages c.loop-read.invariant.filling c.loop-read-test.true refl ((bytes_decides _ _).0 (sym c.if-is_same.ensures));
+}
+
+pub loop-read-preserved-then-is_less : goal.loop-read-preserved-then-is_less
+loop-read-preserved-then-is_less c =
     let u = c.loop-read.invariant.filling in
-    elim c.if-is_less.branch [
-      | then-is_less w ↦ rw (w.pages-is, w.last-is, w.count-is) record {
-        filling = filling_more c.args.entries.now c.args.pages.now.spare c.loop-read.read c.loop-read.count c.loop-read.pages.spare w.append.new.pages.spare c.loop-read.last (get_or c.args.entries.now c.loop-read.read []) c.loop-read.pages.pages w.append.new.pages.pages u (omega (arith, c.loop-read-test.true)) refl (search rules) (sym w.if-is_less.ensures) w.append.ensures.some w.append.ensures.entries w.append.ensures.used w.append.ensures.all;
-      }
-      | else-is_less+else-ne w ↦ rw (w.pages-is, w.last-is, w.count-is) record {
-        filling = filling_same c.args.entries.now c.args.pages.now.spare c.loop-read.read c.loop-read.count c.loop-read.pages.spare c.loop-read.last (get_or c.args.entries.now c.loop-read.read []) c.loop-read.pages.pages u (omega (arith, c.loop-read-test.true)) refl ((bytes_decides _ _).0 (from_not _ w.if-ne.ensures));
-      }
-    ]
+    let f = filling_both c.args.entries.now c.args.pages.now.spare c.loop-read.read c.loop-read.count c.loop-read.pages.spare c.append.new.pages.spare c.loop-read.last c.loop-read.pages.pages c.append.new.pages.pages c.extend-more.new.pages.pages (take (length c.args.entries.now - (c.loop-read.read + 1)) (drop (c.loop-read.read + 1) c.args.entries.now)) c.extend-more.result.read c.extend-more.result.count (take_rest c.args.entries.now (c.loop-read.read + 1)) u c.loop-read-test.true (λ k h. search rules) (sym c.if-is_less.ensures) c.append.ensures.some c.append.ensures.entries c.append.ensures.used c.append.ensures.all c.extend-more.ensures.read c.extend-more.ensures.pages c.extend-more.ensures.count in
+    record { filling = subst (Filling c.args.entries.now c.args.pages.now.spare (c.loop-read.read + (1 + c.extend-more.result.read)) (c.loop-read.count + (1 + c.extend-more.result.count)) (get_or c.args.entries.now (c.loop-read.read + (1 + c.extend-more.result.read) - 1) []) c.extend-more.new.pages.pages) (sym c.extend-more.ensures.spare) f }
+
+pub overflow_add-count : goal.overflow_add-count
+overflow_add-count c =
+    let u = c.loop-read.invariant.filling in
+    let f = filling_both c.args.entries.now c.args.pages.now.spare c.loop-read.read c.loop-read.count c.loop-read.pages.spare c.append.new.pages.spare c.loop-read.last c.loop-read.pages.pages c.append.new.pages.pages c.extend-more.new.pages.pages (take (length c.args.entries.now - (c.loop-read.read + 1)) (drop (c.loop-read.read + 1) c.args.entries.now)) c.extend-more.result.read c.extend-more.result.count (take_rest c.args.entries.now (c.loop-read.read + 1)) u c.loop-read-test.true (λ k h. search rules) (sym c.if-is_less.ensures) c.append.ensures.some c.append.ensures.entries c.append.ensures.used c.append.ensures.all c.extend-more.ensures.read c.extend-more.ensures.pages c.extend-more.ensures.count in
+    omega (arith, f.within, f.few)
+
+pub bounds-entries-read-then-is_less : goal.bounds-entries-read-then-is_less
+bounds-entries-read-then-is_less c =
+    let u = c.loop-read.invariant.filling in
+    let f = filling_both c.args.entries.now c.args.pages.now.spare c.loop-read.read c.loop-read.count c.loop-read.pages.spare c.append.new.pages.spare c.loop-read.last c.loop-read.pages.pages c.append.new.pages.pages c.extend-more.new.pages.pages (take (length c.args.entries.now - (c.loop-read.read + 1)) (drop (c.loop-read.read + 1) c.args.entries.now)) c.extend-more.result.read c.extend-more.result.count (take_rest c.args.entries.now (c.loop-read.read + 1)) u c.loop-read-test.true (λ k h. search rules) (sym c.if-is_less.ensures) c.append.ensures.some c.append.ensures.entries c.append.ensures.used c.append.ensures.all c.extend-more.ensures.read c.extend-more.ensures.pages c.extend-more.ensures.count in
+    omega (arith, f.within, f.few)
+
+pub overflow_add-read-then-is_less : goal.overflow_add-read-then-is_less
+overflow_add-read-then-is_less c =
+    let u = c.loop-read.invariant.filling in
+    let f = filling_both c.args.entries.now c.args.pages.now.spare c.loop-read.read c.loop-read.count c.loop-read.pages.spare c.append.new.pages.spare c.loop-read.last c.loop-read.pages.pages c.append.new.pages.pages c.extend-more.new.pages.pages (take (length c.args.entries.now - (c.loop-read.read + 1)) (drop (c.loop-read.read + 1) c.args.entries.now)) c.extend-more.result.read c.extend-more.result.count (take_rest c.args.entries.now (c.loop-read.read + 1)) u c.loop-read-test.true (λ k h. search rules) (sym c.if-is_less.ensures) c.append.ensures.some c.append.ensures.entries c.append.ensures.used c.append.ensures.all c.extend-more.ensures.read c.extend-more.ensures.pages c.extend-more.ensures.count in
+    omega (arith, f.within, f.few)
+
+pub overflow_add-read-then-is_less-2 : goal.overflow_add-read-then-is_less-2
+overflow_add-read-then-is_less-2 c =
+    let u = c.loop-read.invariant.filling in
+    let f = filling_both c.args.entries.now c.args.pages.now.spare c.loop-read.read c.loop-read.count c.loop-read.pages.spare c.append.new.pages.spare c.loop-read.last c.loop-read.pages.pages c.append.new.pages.pages c.extend-more.new.pages.pages (take (length c.args.entries.now - (c.loop-read.read + 1)) (drop (c.loop-read.read + 1) c.args.entries.now)) c.extend-more.result.read c.extend-more.result.count (take_rest c.args.entries.now (c.loop-read.read + 1)) u c.loop-read-test.true (λ k h. search rules) (sym c.if-is_less.ensures) c.append.ensures.some c.append.ensures.entries c.append.ensures.used c.append.ensures.all c.extend-more.ensures.read c.extend-more.ensures.pages c.extend-more.ensures.count in
+    omega (arith, f.within, f.few)
+
+pub overflow_add-count-then-is_less : goal.overflow_add-count-then-is_less
+overflow_add-count-then-is_less c =
+    let u = c.loop-read.invariant.filling in
+    let f = filling_both c.args.entries.now c.args.pages.now.spare c.loop-read.read c.loop-read.count c.loop-read.pages.spare c.append.new.pages.spare c.loop-read.last c.loop-read.pages.pages c.append.new.pages.pages c.extend-more.new.pages.pages (take (length c.args.entries.now - (c.loop-read.read + 1)) (drop (c.loop-read.read + 1) c.args.entries.now)) c.extend-more.result.read c.extend-more.result.count (take_rest c.args.entries.now (c.loop-read.read + 1)) u c.loop-read-test.true (λ k h. search rules) (sym c.if-is_less.ensures) c.append.ensures.some c.append.ensures.entries c.append.ensures.used c.append.ensures.all c.extend-more.ensures.read c.extend-more.ensures.pages c.extend-more.ensures.count in
+    omega (arith, f.within, f.few)
+
+pub offset_bounds-entries-read-then-is_less-2 : goal.offset_bounds-entries-read-then-is_less-2
+offset_bounds-entries-read-then-is_less-2 c =
+    let u = c.loop-read.invariant.filling in
+    let f = filling_both c.args.entries.now c.args.pages.now.spare c.loop-read.read c.loop-read.count c.loop-read.pages.spare c.append.new.pages.spare c.loop-read.last c.loop-read.pages.pages c.append.new.pages.pages c.extend-more.new.pages.pages (take (length c.args.entries.now - (c.loop-read.read + 1)) (drop (c.loop-read.read + 1) c.args.entries.now)) c.extend-more.result.read c.extend-more.result.count (take_rest c.args.entries.now (c.loop-read.read + 1)) u c.loop-read-test.true (λ k h. search rules) (sym c.if-is_less.ensures) c.append.ensures.some c.append.ensures.entries c.append.ensures.used c.append.ensures.all c.extend-more.ensures.read c.extend-more.ensures.pages c.extend-more.ensures.count in
+    omega (arith, f.within, f.few)
+
+pub returns-clause-within : goal.returns-clause-within
+returns-clause-within c = c.loop-read.invariant.filling.within

@@ -1,5 +1,5 @@
 use Rattle.std.proofs.Common.{refl, ap, ◌∙◌}
-use Rattle.qs_index.proofs.Those.{beginning_with_none}
+use Rattle.qs_index.proofs.OtherOrders.{beginning_with_none}
 use Rattle.qs_index.proofs.order.Order.copy_to.Goals as goal
 
 pub loop-entry-init : goal.loop-entry-init

@@ -1,9 +1,0 @@
-use Rattle.std.proofs.Common.{sym, subst}
-use Rattle.qs_index.specs.Named.{AreNamedOf}
-use Rattle.qs_index.proofs.Those.{AreNamedOf-with_those}
-use Rattle.qs_index.proofs.named.Named.insert_those.Goals as goal
-
-pub returns-clause-orders : goal.returns-clause-orders
-returns-clause-orders c =
-    λ xs ds ys u d a.
-    AreNamedOf-with_those _ _ _ xs ds ys c.insert_those.ensures.union c.insert_those-2.ensures.union c.insert_those-3.ensures.union u (subst (AreNamedOf ds) (sym c.other.view_is) d) (subst (AreNamedOf xs) (sym c.self.view_is) a)
