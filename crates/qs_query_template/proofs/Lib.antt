@@ -3,3 +3,4 @@ pub mod Once
 pub mod Fresh
 pub mod Named
 pub mod Counted
+pub mod DataBlocks

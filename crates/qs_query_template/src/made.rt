@@ -12,7 +12,7 @@ use qs_algebra_solutions::Row;
 use qs_terms::{QFault, Quad, Term};
 use std::alloc::{AllocError, Global};
 
-fn fresh(blanks: usize, first: u64, number: usize) -> Option<Term>
+pub(crate) fn fresh(blanks: usize, first: u64, number: usize) -> Option<Term>
     requires { first + blanks < 2 ^ 64 }
     ensures { result ≡ spec.fresh blanks first number }
 {
@@ -71,7 +71,7 @@ fn lawful(graph: Option<Term>, subject: Term, predicate: Term, object: Term) -> 
 }
 
 // the quad, where each place has a term
-fn quad_of(
+pub(crate) fn quad_of(
     graph: Option<Option<Term>>,
     subject: Option<Term>,
     predicate: Option<Term>,

@@ -1,4 +1,5 @@
 pub mod Under
+pub mod OfData
 pub mod Quads
 mod Tested
 mod AboveBlanks

@@ -19,7 +19,7 @@ use crate::templates::{deletion, template_with};
 use qs_algebra::{Pattern, drop_pattern, translate_blocks, translate_where_with};
 use qs_algebra_solutions::{Answer, Row};
 use qs_query_forms::solutions;
-use qs_query_template::{Template, instances, next_after};
+use qs_query_template::{Template, instances, next_after, quads_to_delete, quads_to_insert};
 use qs_store::Draft;
 use qs_syntax_ast::term::Variable;
 use qs_syntax_ast::update::{Modify, QuadBlock};
@@ -67,6 +67,7 @@ fn modified_by(
 }
 
 // What blocks of quads without variables do.
+#[tactic(auto, using(crate::proofs::OfData::not_changed))]
 fn changed_by_data(
     alloc: Global,
     delete: &[QuadBlock],
@@ -75,8 +76,13 @@ fn changed_by_data(
 ) -> Result<Effect, QFault>
     ensures { OrOutOfMemory (spec.of_data delete.now insert.now next) result }
 {
-    let row = Row::unbound(alloc, 0)?;
-    modified_by(alloc, &[], &None, delete, insert, next, &[&row])
+    let inserted = quads_to_insert(alloc, insert, next)?;
+    let removed = quads_to_delete(alloc, delete)?;
+    Ok(Effect {
+        removed,
+        added: inserted.quads,
+        next: inserted.next_blank,
+    })
 }
 
 /// What INSERT DATA and DELETE DATA do. They read no quads, so the number after is above the blank nodes of the added ones, whichever it
