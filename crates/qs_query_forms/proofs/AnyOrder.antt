@@ -1,6 +1,6 @@
 -- Some of the solutions suffice for a sequence without conditions, also where duplicates are eliminated.
-use Rattle.std.proofs.Common.{◌≡◌, ◌<◌, ◌≤◌, ◌⊎◌, ℕ, Bool, true, false, true≢false, not, nat_lt, List, [], ◌∷◌, ◌++◌, length, map, Option, Some, None, Ok, Err, refl, sym, ap, ◌∙◌, subst, arith, length-append, inl, inr}
-use Rattle.std.proofs.lemmas.List.{length-map, map-append}
+use Rattle.std.proofs.Common.{◌≡◌, ◌<◌, ◌≤◌, ◌⊎◌, ℕ, Bool, true, false, true≢false, not, nat_lt, List, [], ◌∷◌, ◌++◌, length, map, drop, Option, Some, None, Ok, Err, refl, sym, ap, ◌∙◌, subst, arith, length-append, inl, inr}
+use Rattle.std.proofs.lemmas.List.{drop-map, length-map, map-append}
 use Rattle.std.proofs.lemmas.Bool.Decides.{nat_tests}
 use Rattle.std.proofs.lemmas.Bool.{leb-true, ltb-true, ltb-false}
 use Rattle.std.proofs.lemmas.List.Sorted.{IsPermutation-sym}
@@ -13,12 +13,11 @@ use Rattle.qs_terms.proofs.FirstOnes.{filter-append}
 use Rattle.qs_algebra_solutions.specs.Solution.{Solution, projected, same_solution}
 use Rattle.qs_algebra_solutions.specs.Some.{AreSome, AreSomeDistinct, is_enough}
 use Rattle.qs_query_forms.specs.inner.InOrder.{AreListed, ByLimit, IsRows, IsRowsOf, bounded, projected_where}
-use Rattle.qs_query_forms.specs.Sequence.{sliced, once_where, listed_rows, count}
-use Rattle.qs_query_forms.specs.declared.modifiers.Slice.{Slice}
+use Rattle.qs_query_forms.specs.Sequence.{limited, sliced, once_where, listed_rows, count}
 use Rattle.qs_query_forms.specs.declared.selection.Selection.{Selection}
 use Rattle.qs_query_forms.proofs.Enough.{part_same, same_of_all, too_many, unordered, weaker}
 use Rattle.qs_query_forms.proofs.Lengths.{counts_agree}
-use Rattle.qs_query_forms.proofs.Ordered.{map_sliced, rows_in_order}
+use Rattle.qs_query_forms.proofs.Ordered.{rows_in_order}
 
 -- ---- what more solutions list is after what some list
 
@@ -126,24 +125,26 @@ module _ (asked : Selection) (most : Option ℕ) (rows solutions : List Solution
 
 -- ---- the part
 
-where_sliced : (distinct : Bool) (columns : List ℕ) (slice : Slice) (rows : List Solution) → projected_where distinct columns (sliced slice rows) ≡ sliced slice (projected_where distinct columns rows)
-where_sliced true columns slice rows = refl
-where_sliced false columns slice rows = map_sliced (projected columns) slice rows
+sure : {A : Type 0} (o due : Outcome A) → o ≡ due → OneOrOutOfMemory (λ x. x ≡ due) o
+sure (Ok a) due h = h
+sure (Err e) due h = λ other. h
 
-module _ (asked : Selection) (rows part : List Solution) (max_rows : ℕ) (is : part ≡ sliced asked.slice rows) where
-  abbrev whole_part : List Solution
-  whole_part = sliced asked.slice (projected_where asked.is_distinct asked.columns rows)
+-- rows without duplicates are projected already
+pub part_listed : (asked : Selection) (rows : List Solution) (max_rows : ℕ) (outcome : Outcome (List Solution)) → asked.is_distinct ≡ true → outcome ≡ bounded max_rows (sliced asked.slice rows) → OneOrOutOfMemory (λ o. o ≡ bounded max_rows (sliced asked.slice (projected_where asked.is_distinct asked.columns rows))) outcome
+part_listed asked rows max_rows outcome is e =
+    sure outcome (bounded max_rows (sliced asked.slice (projected_where asked.is_distinct asked.columns rows)))
+    (e ∙ sym (ap (λ (b : Bool). bounded max_rows (sliced asked.slice (projected_where b asked.columns rows))) is))
 
-  same_part : projected_where asked.is_distinct asked.columns part ≡ whole_part
-  same_part = ap (projected_where asked.is_distinct asked.columns) is ∙ where_sliced asked.is_distinct asked.columns asked.slice rows
+-- and others were projected after the OFFSET
+pub part_after : (asked : Selection) (some rows : List Solution) (max_rows : ℕ) (outcome : Outcome (List Solution)) → asked.is_distinct ≡ false → rows ≡ map (projected asked.columns) (drop asked.slice.offset some) → outcome ≡ bounded max_rows (limited asked.slice.limit rows) → OneOrOutOfMemory (λ o. o ≡ bounded max_rows (sliced asked.slice (projected_where asked.is_distinct asked.columns some))) outcome
+part_after asked some rows max_rows outcome is r e =
+    let after : rows ≡ drop asked.slice.offset (map (projected asked.columns) some) = r ∙ sym (drop-map (projected asked.columns) asked.slice.offset some) in
+    sure outcome (bounded max_rows (sliced asked.slice (projected_where asked.is_distinct asked.columns some)))
+    (e ∙ (ap (λ (l : List Solution). bounded max_rows (limited asked.slice.limit l)) after
+    ∙ sym (ap (λ (b : Bool). bounded max_rows (sliced asked.slice (projected_where b asked.columns some))) is)))
 
-  same_length : length whole_part ≡ length part
-  same_length = ap length (sym same_part) ∙ length_where asked.is_distinct asked.columns part
+pub many_rows : (rows : List Solution) (max_rows : ℕ) → max_rows < length rows → Err TooManyRows ≡ bounded max_rows rows
+many_rows rows max_rows h = let t : nat_lt max_rows (length rows) ≡ true = grind (arith, nat_tests, h) in rw t refl
 
-  pub many_rows : max_rows < length part → Err TooManyRows ≡ bounded max_rows whole_part
-  many_rows h = let t : nat_lt max_rows (length whole_part) ≡ true = grind (arith, nat_tests, h, same_length) in rw t refl
-
-  pub few_rows : (new : List Solution) → length part ≤ max_rows → new ≡ projected_where asked.is_distinct asked.columns part → Ok new ≡ bounded max_rows whole_part
-  few_rows new h e =
-      let t : nat_lt max_rows (length whole_part) ≡ false = grind (arith, nat_tests, h, same_length) in
-      ap Ok (e ∙ same_part) ∙ sym (ap (λ (b : Bool). if b then Err TooManyRows else Ok whole_part) t)
+pub few_rows : (rows : List Solution) (max_rows : ℕ) → length rows ≤ max_rows → Ok rows ≡ bounded max_rows rows
+few_rows rows max_rows h = let t : nat_lt max_rows (length rows) ≡ false = grind (arith, nat_tests, h) in rw t refl

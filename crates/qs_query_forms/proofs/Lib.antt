@@ -7,4 +7,3 @@ pub mod Ordered
 pub mod Rows
 pub mod Enough
 pub mod AnyOrder
-pub mod Columns

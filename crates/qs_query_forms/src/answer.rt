@@ -1,6 +1,6 @@
 //! Queries over a view of the store.
 
-ghost use Rattle.std.specs.Prelude.{◌≡◌, [], IfOk, Ok};
+ghost use Rattle.std.specs.Prelude.{◌≡◌, [], true, IfOk, Ok};
 ghost use Rattle.std.specs.Option.{option_copied};
 ghost use Rattle.qs_base.specs.Lent.{lent};
 ghost use Rattle.qs_terms.specs.Bag.{SameBag, once};
@@ -19,10 +19,10 @@ use crate::sequence::{
     enough, enough_for_slice, listed_rows, needed_count, needed_to_select, project_rows,
     put_in_order, slice_rows,
 };
-use crate::unordered::part_of;
+use crate::unordered::{first_of, part_of};
 use qs_algebra::Pattern;
 use qs_algebra_solutions::{Answer, Row};
-use qs_query_solutions::{distinct_solutions, some_solutions};
+use qs_query_solutions::{distinct_solutions, solutions_after, some_solutions};
 use qs_query_template::{each_once, instances};
 use qs_store::View;
 use qs_syntax_ast::query::Query;
@@ -65,7 +65,7 @@ fn ordered<V: View>(
     rows_of(alloc, asked, front, max_rows)
 }
 
-// some of the solutions, projected and without duplicates where these are eliminated: all, or as many rows as suffice
+// some of the solutions, projected and without duplicates: all, or as many rows as suffice
 fn listed<V: View>(
     alloc: Global,
     asked: &Selection,
@@ -73,14 +73,11 @@ fn listed<V: View>(
     active: Option<&Term>,
     most: Option<u64>,
 ) -> Result<Vec<Row>, AllocError>
+    requires { asked.now.is_distinct ≡ true }
     ensures { IfOk result (λ rows. let set = visible_quads (V.content view.now) (V.default_seen view.now) in in_order.AreListed asked.now most rows.items (whole asked.now.pattern set (graph_of set (option_copied active.entry)))) }
 {
-    if asked.is_distinct {
-        let columns = asked.columns.as_slice();
-        let rows = distinct_solutions(alloc, &asked.pattern, view, active, columns, most)?;
-        return Ok(rows);
-    }
-    let rows = some_solutions(alloc, &asked.pattern, view, active, most)?;
+    let columns = asked.columns.as_slice();
+    let rows = distinct_solutions(alloc, &asked.pattern, view, active, columns, most)?;
     Ok(rows)
 }
 
@@ -96,8 +93,14 @@ fn unordered<V: View>(
     ensures { let set = visible_quads (V.content view.now) (V.default_seen view.now) in OneOrOutOfMemory (in_order.IsRows asked.now (whole asked.now.pattern set (graph_of set (option_copied active.entry))) max_rows) result }
 {
     let most = enough_for_slice(asked.slice, asked.order.as_slice(), max_rows);
-    let rows = listed(alloc, asked, view, active, most)?;
-    part_of(alloc, asked, rows, max_rows)
+    if asked.is_distinct {
+        let rows = listed(alloc, asked, view, active, most)?;
+        return part_of(rows, asked.slice, max_rows);
+    }
+    let offset = asked.slice.offset;
+    let columns = asked.columns.as_slice();
+    let rows = solutions_after(alloc, &asked.pattern, view, active, columns, offset, most)?;
+    first_of(rows, asked.slice.limit, max_rows)
 }
 
 fn sequence<V: View>(

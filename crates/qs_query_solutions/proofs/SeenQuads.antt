@@ -34,8 +34,8 @@ use Rattle.qs_algebra_patterns.specs.declared.named_pattern.Pattern.{Pattern}
 use Rattle.qs_plan.specs.Plans.{IsPlanOf, plan_list}
 use Rattle.qs_plan.specs.declared.plan_type.Plan.{Plan}
 use Rattle.qs_store.specs.Visible.{visible, visible_quads}
-use Rattle.qs_query_solutions.specs.inner.Collected.{Collection, Collects}
-use Rattle.qs_query_solutions.proofs.Collecting.{collects_same}
+use Rattle.qs_query_solutions.specs.inner.Collected.{Collection, CollectsAfter}
+use Rattle.qs_query_solutions.proofs.Collecting.{after_same}
 
 -- ---- the elements of a list, each once
 
@@ -366,13 +366,13 @@ active_none c lawful knows d name h =
 -- ---- solutions
 
 -- what is collected of the solutions of a plan of the pattern is collected of the pattern's over what queries see
-pub collected_are_seen : (c : Content) → IsContent c → (d : DefaultGraph) (plan : Plan) (pattern : Pattern) → IsPlanOf plan pattern → (name : Option Term) (active : Active) → IsActiveFor c d name active → (old new : Collection)
-    → Collects old new (plan_list plan c.quads (active_graph c d active)) → Collects old new (eval (length pattern.names) (visible_quads c d) pattern.root (graph_of (visible_quads c d) name))
-collected_are_seen c lawful d plan pattern law name active is old new k =
+pub collected_are_seen : (c : Content) → IsContent c → (d : DefaultGraph) (plan : Plan) (pattern : Pattern) → IsPlanOf plan pattern → (name : Option Term) (active : Active) → IsActiveFor c d name active → (offset : ℕ) (old new : Collection)
+    → CollectsAfter offset old new (plan_list plan c.quads (active_graph c d active)) → CollectsAfter offset old new (eval (length pattern.names) (visible_quads c d) pattern.root (graph_of (visible_quads c d) name))
+collected_are_seen c lawful d plan pattern law name active is offset old new k =
     let planned : List Solution = plan_list plan c.quads (active_graph c d active) in
     let evaluated : List Solution = eval (length pattern.names) c.quads pattern.root (active_graph c d active) in
     let once : Distinct same_triple (active_graph c d active) =
     subst (Distinct same_triple) (sym is) (graph_distinct name (visible_quads c d) (once_distinct same_statement same_statement-Decides (visible d c.quads))) in
     let same : SameBag planned evaluated = law.same c.quads (active_graph c d active) lawful.quads_once once in
-    subst (Collects old new) (ap (eval (length pattern.names) c.quads pattern.root) is ∙ sym (eval_seen c lawful (length pattern.names) d pattern.root (graph_of (visible_quads c d) name)))
-    (collects_same old new planned evaluated (IsPermutation-sym planned evaluated same) k)
+    subst (CollectsAfter offset old new) (ap (eval (length pattern.names) c.quads pattern.root) is ∙ sym (eval_seen c lawful (length pattern.names) d pattern.root (graph_of (visible_quads c d) name)))
+    (after_same offset old new planned evaluated (IsPermutation-sym planned evaluated same) k)

@@ -1,4 +1,4 @@
-//! Solutions that are collected, with or without duplicates.
+//! Solutions that are collected, whole or projected, with or without duplicates.
 
 ghost use Rattle.std.specs.Prelude.{◌≡◌, [], ◌∷◌, ◌++◌, length, None, Some, OnOk};
 ghost use Rattle.std.specs.Option.{option_copied};
@@ -19,13 +19,14 @@ use std::alloc::{AllocError, Global};
 use std::collections::BTreeSet;
 use std::marker::Model;
 
-/// The solutions so far. Where columns are given they are the terms at these alone, and no two are the same: so a DISTINCT without ORDER BY
-/// keeps the first of each kind that is found, while solutions are searched.
+/// The solutions so far. Where columns are given they are the terms at these alone: no others are made. Of distinct ones no two are the same:
+/// so a DISTINCT without ORDER BY keeps the first of each kind that is found, while solutions are searched.
 #[derive(Drop)]
 pub(crate) struct Collected<'c> {
     rows: Vec<Solution>,
     known: BTreeSet<Hashed<Vec<Option<Term>>>>,
     columns: Option<&'c [usize]>,
+    is_distinct: bool,
     most: Option<u64>,
 }
 
@@ -35,9 +36,9 @@ impl<'c> Model for Collected<'c> {
 
     ghost Value = { Collection };
 
-    ghost view = { λ c. record { rows = c.rows.items; columns = option_copied c.columns; most = c.most } };
+    ghost view = { λ c. record { rows = c.rows.items; columns = option_copied c.columns; distinct = c.is_distinct; most = c.most } };
 
-    ghost invariant = { λ c. KnowsThem (option_copied c.columns) c.known.keys c.rows.items };
+    ghost invariant = { λ c. KnowsThem (option_copied c.columns) c.is_distinct c.known.keys c.rows.items };
 }
 
 /// Puts the terms of these variables in the row after the others.
@@ -86,13 +87,19 @@ fn push_new<V: View>(
 
 impl<'c> Collected<'c> {
     /// No solutions yet. Where `most` is given, so many suffice.
-    pub fn new(alloc: Global, columns: Option<&'c [usize]>, most: Option<u64>) -> Collected<'c>
-        ensures { result ≡ nothing (option_copied columns.entry) most }
+    pub fn new(
+        alloc: Global,
+        columns: Option<&'c [usize]>,
+        is_distinct: bool,
+        most: Option<u64>,
+    ) -> Collected<'c>
+        ensures { result ≡ nothing (option_copied columns.entry) is_distinct most }
     {
         Collected {
             rows: Vec::new(alloc),
             known: BTreeSet::new(alloc),
             columns,
+            is_distinct,
             most,
         }
     }
@@ -107,7 +114,8 @@ impl<'c> Collected<'c> {
         }
     }
 
-    /// Puts the solution that the row denotes after the others; where columns are given, its terms at these, unless they are there.
+    /// Puts the solution that the row denotes after the others; where columns are given, its terms at these; of distinct ones, unless they
+    /// are there.
     pub fn put<V: View>(
         &mut self,
         alloc: Global,
@@ -123,7 +131,12 @@ impl<'c> Collected<'c> {
                 self.rows.push(solution)?;
                 Ok(())
             }
-            Some(columns) => { push_new(alloc, op, row, columns, &mut self.rows, &mut self.known) }
+            Some(columns) => {
+                if self.is_distinct {
+                    return push_new(alloc, op, row, columns, &mut self.rows, &mut self.known);
+                }
+                push(alloc, op, row, columns, &mut self.rows)
+            }
         }
     }
 

@@ -15,4 +15,4 @@ mod terms;
 pub use active::active_of;
 pub use counts::ViewCounts;
 pub use planned::plan_over;
-pub use solutions::{distinct_solutions, some_solutions};
+pub use solutions::{distinct_solutions, solutions_after, some_solutions};

@@ -1,5 +1,5 @@
 -- The sequence of solutions that stand in some order already.
-use Rattle.std.specs.Prelude.{◌≡◌, ◌⊎◌, ◌<◌, ◌≤◌, ℕ, ◌+◌, Bool, true, false, nat_lt, List, [], ◌++◌, length, map, get_or, Option, Some, None, Ok, Err, if◌then◌else◌}
+use Rattle.std.specs.Prelude.{◌≡◌, ◌⊎◌, ◌<◌, ◌≤◌, ℕ, ◌+◌, Bool, true, false, nat_lt, List, [], ◌++◌, length, map, Option, Some, None, Ok, Err, if◌then◌else◌}
 use Rattle.qs_terms.specs.Bag.{SameBag}
 use Rattle.qs_terms.specs.Outcome.{Outcome, and_then}
 use Rattle.qs_terms.specs.declared.fault.QFault.TheVariants.{TooManyRows}
@@ -74,10 +74,6 @@ abbrev pub AreFew : List Solution → ℕ → Outcome (List Solution) → Type 0
 AreFew solutions max_rows outcome = (all : List Solution) × SameBag all solutions × (outcome ≡ bounded max_rows all)
 
 -- ---- without conditions
-
--- the variables are the first ones, in order
-abbrev pub AreFirstColumns : List ℕ → Type 0
-AreFirstColumns columns = (i : ℕ) → i < length columns → get_or columns i 0 ≡ i
 
 -- the rows with the terms of the variables of the answer alone, which rows without duplicates are already
 abbrev pub projected_where : Bool → List ℕ → List Solution → List Solution
