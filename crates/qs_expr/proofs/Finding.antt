@@ -73,7 +73,7 @@ starts known d = record { one = at }
 
 -- ---- a term that is put into the table
 
-pub stands : (xs : List Term) (t : Term) (k : ℕ) → slice_get xs k ≡ Some t → list_any (same_term t) xs ≡ true
+stands : (xs : List Term) (t : Term) (k : ℕ) → slice_get xs k ≡ Some t → list_any (same_term t) xs ≡ true
 stands [] t k e = absurd (none-some t e)
 stands (x ∷ xs) t zero e = ap (λ b. b || list_any (same_term t) xs) ((same_term-Decides t x).1 (sym (same_Some x t e)))
 stands (x ∷ xs) t (suc k) e = or_second (same_term t x) (list_any (same_term t) xs) (stands xs t k e)
@@ -95,10 +95,6 @@ at_end [] t u zero h = inr (refl, same_Some t u h)
 at_end [] t u (suc k) h = inl h
 at_end (x ∷ xs) t u zero h = inl h
 at_end (x ∷ xs) t u (suc k) h = elim (at_end xs t u k h) [ inl e ↦ inl e | inr e ↦ inr (ap suc e.0, e.1) ]
-
-pub last_there : (xs : List Term) (t : Term) → slice_get (xs ++ t ∷ []) (length xs) ≡ Some t
-last_there [] t = refl
-last_there (x ∷ xs) t = last_there xs t
 
 module _ (known table : List Term) (t : Term) (h : IsTable known table) (unknown : list_any (same_term t) known ≡ false) (new : list_any (same_term t) table ≡ false) where
   pub still_one : IsTable known (table ++ t ∷ [])

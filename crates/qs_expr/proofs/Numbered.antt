@@ -1,5 +1,5 @@
 -- What the numbers of cells say of their terms.
-use Rattle.std.proofs.Common.{◌≡◌, ℕ, ◌==◌, Bool, true, false, List, Option, Some, None, refl, sym, ◌∙◌, ap}
+use Rattle.std.proofs.Common.{◌≡◌, ℕ, ◌==◌, Bool, true, false, List, Some, None, refl, sym, ◌∙◌, ap}
 use Rattle.std.specs.Prelude.{is_some, slice_get}
 use Rattle.qs_terms.specs.declared.term.Term.{Term}
 use Rattle.qs_terms.specs.Term.{same_term}

@@ -1,5 +1,4 @@
 -- What serves proofs alone: no promise of the product is read by it.
-pub mod Places
 pub mod Against
 pub mod Parts
 pub mod Compact

@@ -1,27 +1,26 @@
 //! The scratch table.
 
-ghost use Rattle.std.specs.Prelude.{◌≡◌, ◌<◌, ◌++◌, ◌∷◌, [], length, slice_get, false, Some, IfOk, OnOk, OnErr};
-ghost use Rattle.std.specs.List.{list_any};
+ghost use Rattle.std.specs.Prelude.{◌≡◌, ◌<◌, [], length, slice_get, Some, IfOk, OnOk, OnErr};
+ghost use Rattle.std.specs.Option.{option_copied};
 ghost use Rattle.qs_terms.specs.Bag.{with_new};
 ghost use Rattle.qs_terms.specs.Term.{same_term};
 ghost use Rattle.qs_expr.specs.Cell.{denoted, FitsCell};
-ghost use Rattle.qs_expr.specs.inner.Places.{place_of};
 ghost use Rattle.qs_expr.specs.Scratch.{IsTable, Grows, with_term};
 
 use crate::cell::Cell;
-use qs_base::{Hashed, drop_value};
+use indexmap::IndexSet;
+use qs_base::drop_value;
 use qs_store::View;
 use qs_terms::Term;
 use std::alloc::{AllocError, Global};
-use std::collections::BTreeMap;
+use std::hash::RandomState;
 use std::marker::Model;
 
-/// Terms that the dictionary lacks, each once, in the order of their places. The table only grows. Terms are found by their hashes; a
-/// table whose hashes are all equal is searched in the order of terms.
+/// Terms that the dictionary lacks, each once, in the order of their places. The table only grows. The terms are hashed by the view's
+/// hasher, since strangers choose them.
 #[derive(Drop)]
 pub struct Scratch {
-    terms: Vec<Term>,
-    places: BTreeMap<Hashed<Term>, u64>,
+    terms: IndexSet<Term, RandomState>,
 }
 
 impl Model for Scratch {
@@ -30,24 +29,19 @@ impl Model for Scratch {
 
     ghost Value = { List Term };
 
-    ghost use Rattle.qs_expr.specs.inner.Places.{IsIndexOf};
-
-    ghost view = { λ s. s.terms.items };
-
-    ghost invariant = { λ s. IsIndexOf s.places.entries s.terms.items };
+    ghost view = { λ s. s.terms.keys };
 }
 
 impl Scratch {
     /// A table of no terms, beside the dictionary of a view. It takes no memory.
-    #[tactic(auto, using(crate::proofs::Finding::starts, crate::proofs::Places::nothing_indexed))]
+    #[tactic(auto, using(crate::proofs::Finding::starts))]
     pub fn new<V: View>(alloc: Global, view: &V) -> Scratch
         ensures empty { result ≡ [] }
         ensures table { IsTable (V.content view.now).known result }
     {
         let _count = view.count();
         Scratch {
-            terms: Vec::new(alloc),
-            places: BTreeMap::new(alloc),
+            terms: IndexSet::with_hasher(alloc, view.hasher()),
         }
     }
 
@@ -61,35 +55,9 @@ impl Scratch {
 
     /// The term at the place, if there is one.
     pub(crate) fn get(&self, place: u64) -> Option<&Term>
-        ensures { Rattle.std.specs.Option.option_copied result ≡ slice_get self.now place }
+        ensures { option_copied result ≡ slice_get self.now place }
     {
-        self.terms.as_slice().get(place as usize)
-    }
-
-    // Puts a new term at the end.
-    fn push(&mut self, key: Hashed<Term>) -> Result<u64, AllocError>
-        requires { list_any (same_term key) self.old ≡ false }
-        ensures terms { OnOk result (self.new ≡ self.old ++ key ∷ []) }
-        ensures place { IfOk result (λ k. k ≡ length self.old) }
-        ensures refused { OnErr result (self.new ≡ self.old) }
-    {
-        let place = self.terms.len() as u64;
-        let term = key.get().try_clone()?;
-        self.terms.push(term)?;
-        match self.places.insert(key, place) {
-            Ok(_) => Ok(place),
-            Err(_) => {
-                self.terms.pop();
-                Err(AllocError)
-            }
-        }
-    }
-
-    // The place of the term, if the table has it.
-    fn find(&self, key: &Hashed<Term>) -> Option<u64>
-        ensures { result ≡ place_of key.now self.now }
-    {
-        self.places.get(key).copied()
+        self.terms.get_index(place as usize)
     }
 
     // The place of the term, which is put at the end where it is new.
@@ -98,17 +66,8 @@ impl Scratch {
         ensures place { IfOk result (λ k. slice_get self.new k ≡ Some term) }
         ensures refused { OnErr result (self.new ≡ self.old) }
     {
-        let key = Hashed::new(term);
-        match self.find(&key) {
-            Some(place) => {
-                drop_value(key);
-                Ok(place)
-            }
-            None => {
-                let place = self.push(key)?;
-                Ok(place)
-            }
-        }
+        let (place, _) = self.terms.insert_full(term)?;
+        Ok(place as u64)
     }
 }
 

@@ -19,6 +19,7 @@ pub mod Leaving
 pub mod Extending
 pub mod NamedOrders
 pub mod OtherOrders
+pub mod GraphParts
 pub mod Parted
 pub mod Filled
 pub mod Prefixes

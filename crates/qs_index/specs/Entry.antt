@@ -1,10 +1,14 @@
-use Rattle.std.specs.Prelude.{◌≡◌, ℕ, ◌<◌, ◌^◌, Bool, true, false, cond, nat_lt, ◌==◌, List, [], ◌∷◌, ◌++◌, drop, length, ◌≢◌}
+use Rattle.std.specs.Prelude.{◌≡◌, ℕ, ◌+◌, ◌*◌, ◌<◌, ◌^◌, Bool, true, false, cond, nat_lt, ◌==◌, List, [], ◌∷◌, ◌++◌, drop, length, ◌≢◌, slice_index_or}
 use Rattle.std.specs.List.{All, filter}
 
 -- four numbers of 32 bits: graph, subject, predicate, object
 pub record IsEntry (entry : List ℕ) : Type 0 where
   pub four : length entry ≡ 4
   pub fits : All (λ number. number < 2 ^ 32) entry
+
+-- the entry as one number of 128 bits, of which its first number is the greatest part
+abbrev pub number_of : List ℕ → ℕ
+number_of entry = (slice_index_or entry 0 0 * 2 ^ 32 + slice_index_or entry 1 0) * 2 ^ 64 + (slice_index_or entry 2 0 * 2 ^ 32 + slice_index_or entry 3 0)
 
 -- whether `entry` stands before each list that begins with `prefix`; at a `prefix` of full length, whether it is less
 abbrev pub is_before : List ℕ → List ℕ → Bool

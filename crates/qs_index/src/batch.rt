@@ -4,9 +4,9 @@
 //! graph stands sorted for the second already.
 ghost use Rattle.std.specs.Prelude.{◌≡◌, ℕ, ◌+◌, ◌≤◌, List, true, false, length, map, take, drop};
 ghost use Rattle.std.specs.List.{All};
-ghost use Rattle.std.specs.List.Sorted.{IsPermutation};
+ghost use Rattle.std.specs.List.Sorted.{IsPermutation, IsNonDecreasingBy};
 ghost use Rattle.qs_index.specs.Entries.{IsUnion, IsDifference};
-ghost use Rattle.qs_index.specs.Entry.{IsEntry};
+ghost use Rattle.qs_index.specs.Entry.{IsEntry, number_of};
 ghost use Rattle.qs_index.specs.Graph.{is_named, named_entries};
 ghost use Rattle.qs_index.specs.OrderOf.{IsOrderOf};
 ghost use Rattle.qs_index.specs.Permutation.{turned};
@@ -14,6 +14,14 @@ ghost use Rattle.qs_index.specs.Permutation.{turned};
 use crate::entry::{is_named, key};
 use crate::order::Order;
 use crate::permutation::Permutation;
+
+/// Sorts the entries in the order GSPO, in which they are looked for fastest one after another. It takes no memory.
+pub fn sort(entries: &mut [[u32; 4]])
+    ensures permutation { IsPermutation entries.old entries.new }
+    ensures ascending { IsNonDecreasingBy number_of entries.new }
+{
+    entries.sort_unstable_by_key(|entry| key(entry));
+}
 
 // Puts entries into an order, turned and sorted.
 fn insert_turned(order: &mut Order, permutation: Permutation, entries: &mut [[u32; 4]])
@@ -24,7 +32,7 @@ fn insert_turned(order: &mut Order, permutation: Permutation, entries: &mut [[u3
     ensures permutation { IsPermutation entries.old entries.new }
 {
     permutation.turn_all(entries);
-    entries.sort_unstable_by_key(|entry| key(entry));
+    sort(entries);
     order.insert_all(entries);
     permutation.restore_all(entries);
 }
@@ -36,7 +44,7 @@ fn remove_turned(order: &mut Order, permutation: Permutation, entries: &mut [[u3
     ensures permutation { IsPermutation entries.old entries.new }
 {
     permutation.turn_all(entries);
-    entries.sort_unstable_by_key(|entry| key(entry));
+    sort(entries);
     order.remove_all(entries);
     permutation.restore_all(entries);
 }

@@ -1,7 +1,7 @@
 //! Comparisons of entries with one another.
-ghost use Rattle.std.specs.Prelude.{◌≡◌, ◌+◌, ◌*◌, ◌^◌, ◌≤◌, length, slice_index_or};
+ghost use Rattle.std.specs.Prelude.{◌≡◌, ◌+◌, ◌*◌, ◌^◌, ◌≤◌, length};
 ghost use Rattle.std.specs.Str.{bytes_eq};
-ghost use Rattle.qs_index.specs.Entry.{is_before, begins};
+ghost use Rattle.qs_index.specs.Entry.{number_of, is_before, begins};
 ghost use Rattle.qs_index.specs.Graph.{is_named};
 
 // Two numbers as one of 64 bits, the first before the second.
@@ -30,7 +30,7 @@ pub fn is_less(entry: &[u32; 4], other: &[u32; 4]) -> bool
 /// The entry as one number of 128 bits, of which its first number is the greatest part: entries are ordered as these are.
 #[inline(always)]
 pub fn key(entry: &[u32; 4]) -> u128
-    ensures { result ≡ (slice_index_or entry.now 0 0 * 2 ^ 32 + slice_index_or entry.now 1 0) * 2 ^ 64 + (slice_index_or entry.now 2 0 * 2 ^ 32 + slice_index_or entry.now 3 0) }
+    ensures { result ≡ number_of entry.now }
 {
     let [a, b, c, d] = *entry;
     u128::from(joint(a, b)) * 0x1_0000_0000_0000_0000 + u128::from(joint(c, d))

@@ -3,7 +3,7 @@
 //! `insert_all` sorts its slice for each order in place, without memory, since single inserts can ascend in one order alone. A
 //! reserve whose count of pages passes 64 bits answers out of memory, as std's does. The count of entries is below 2^72, so the
 //! count of a draft fits 128 bits.
-ghost use Rattle.std.specs.Prelude.{◌≡◌, ℕ, ◌+◌, ◌<◌, ◌≤◌, ◌^◌, ◌↔◌, min, Bool, true, false, List, [], ◌∷◌, length, map, IsTrue, IfSome, IfNone};
+ghost use Rattle.std.specs.Prelude.{◌≡◌, ℕ, ◌+◌, ◌<◌, ◌≤◌, ◌^◌, ◌↔◌, min, Bool, true, false, List, [], ◌∷◌, length, map, None, IsTrue, IfSome, IfNone};
 ghost use Rattle.std.specs.Bool.{OnTrue, OnFalse};
 ghost use Rattle.std.specs.Result.{OnOk};
 ghost use Rattle.std.specs.List.{All, Contains};
@@ -236,6 +236,22 @@ impl Index {
         self.gpos.remove_all_of(&other.gpos, batch);
         self.gosp.remove_all_of(&other.gosp, batch);
         self.named.remove_all_of(&other.named, batch);
+    }
+
+    /// Puts the entries of a graph of another index in, as `insert_all_of` puts all of them in.
+    pub fn insert_graph_of(&mut self, other: &Index, graph: u32, batch: &mut [[u32; 4]])
+        requires batch { length (agreeing graph None None None other.now.entries) ≤ length batch.old }
+        requires room { length (agreeing graph None None None other.now.entries) ≤ self.old.spare }
+        requires named_room { 0 < graph → length (agreeing graph None None None other.now.entries) ≤ self.old.named_spare }
+        ensures union { IsUnion self.old.entries (agreeing graph None None None other.now.entries) self.new.entries }
+        ensures spare { self.old.spare ≤ self.new.spare + length (agreeing graph None None None other.now.entries) }
+        ensures named_spare { self.old.named_spare ≤ self.new.named_spare + length (agreeing graph None None None other.now.entries) }
+    {
+        self.gspo.insert_graph(&other.gspo, graph, batch);
+        self.gpos.insert_graph(&other.gpos, graph, batch);
+        self.gosp.insert_graph(&other.gosp, graph, batch);
+        self.named
+            .insert_graph(&other.gspo, &other.gpos, &other.gosp, graph, batch);
     }
 
     /// How many entries there are, which is below 2^72, as pages are counted in 64 bits and have 256 entries at most. It takes no

@@ -18,7 +18,7 @@ pub mod prefix;
 mod scan;
 mod search;
 
-pub use batch::count_named;
+pub use batch::{count_named, sort};
 pub use index::Index;
 pub use pages::PagePosition;
 pub use scan::Scan;

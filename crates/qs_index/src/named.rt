@@ -1,16 +1,17 @@
 //! The orders of the named graphs.
 //!
 //! The bound on looks of a scan of all named graphs counts the entries of its order: it is that of the other scans or a smaller one.
-ghost use Rattle.std.specs.Prelude.{◌≡◌, ℕ, ◌+◌, ◌<◌, ◌≤◌, ◌^◌, min, List, [], true, length, map};
+ghost use Rattle.std.specs.Prelude.{◌≡◌, ℕ, ◌+◌, ◌<◌, ◌≤◌, ◌^◌, min, List, [], ◌∷◌, true, length, map};
 ghost use Rattle.std.specs.Result.{OnOk};
 ghost use Rattle.std.specs.List.{Contains};
 ghost use Rattle.std.specs.List.Sorted.{IsPermutation};
-ghost use Rattle.qs_index.specs.Entries.{IsUnion, IsDifference};
-ghost use Rattle.qs_index.specs.Entry.{IsAscending, with_entry, without_entry};
+ghost use Rattle.qs_index.specs.Entries.{HaveFour, IsUnion, IsDifference};
+ghost use Rattle.qs_index.specs.Entry.{IsAscending, beginning, with_entry, without_entry};
 ghost use Rattle.qs_index.specs.Graph.{is_named, named_entries};
 ghost use Rattle.qs_index.specs.Named.{NamedOrders, AreNamedOf};
+ghost use Rattle.qs_index.specs.OrderOf.{IsOrderOf};
 ghost use Rattle.qs_index.specs.Permutation.{turned};
-ghost use Rattle.qs_index.specs.declared.permutation.Permutation.TheVariants.{Spog, Posg, Ospg};
+ghost use Rattle.qs_index.specs.declared.permutation.Permutation.TheVariants.{Gspo, Gpos, Gosp, Spog, Posg, Ospg};
 
 use crate::entry::is_named;
 use crate::order::Order;
@@ -103,6 +104,29 @@ impl Named {
         self.spog.insert_all_of(&other.spog, batch);
         self.posg.insert_all_of(&other.posg, batch);
         self.ospg.insert_all_of(&other.ospg, batch);
+    }
+
+    /// Puts the entries of a graph in, from three orders of them by graphs, by way of `batch`. Those of the default graph have no place here.
+    pub fn insert_graph(
+        &mut self,
+        gspo: &Order,
+        gpos: &Order,
+        gosp: &Order,
+        graph: u32,
+        batch: &mut [[u32; 4]],
+    )
+        requires subject { 0 < graph → length (beginning (graph ∷ []) gspo.now.entries) ≤ min (length batch.old) self.old.spare }
+        requires predicate { 0 < graph → length (beginning (graph ∷ []) gpos.now.entries) ≤ min (length batch.old) self.old.spare }
+        requires object { 0 < graph → length (beginning (graph ∷ []) gosp.now.entries) ≤ min (length batch.old) self.old.spare }
+        ensures orders { (xs ys : List (List ℕ)) → HaveFour gspo.now.entries → IsOrderOf Gspo gspo.now.entries gspo.now.entries → IsOrderOf Gpos gspo.now.entries gpos.now.entries → IsOrderOf Gosp gspo.now.entries gosp.now.entries → IsUnion xs (beginning (graph ∷ []) gspo.now.entries) ys → AreNamedOf xs self.old → AreNamedOf ys self.new }
+        ensures spare { (n : ℕ) → length (beginning (graph ∷ []) gspo.now.entries) ≤ n → length (beginning (graph ∷ []) gpos.now.entries) ≤ n → length (beginning (graph ∷ []) gosp.now.entries) ≤ n → self.old.spare ≤ self.new.spare + n }
+    {
+        if graph == 0 {
+            return;
+        }
+        self.spog.insert_graph_last(gspo, graph, batch);
+        self.posg.insert_graph_last(gpos, graph, batch);
+        self.ospg.insert_graph_last(gosp, graph, batch);
     }
 
     /// Takes the entries of other such orders out, by way of `batch`.

@@ -1,15 +1,18 @@
 //! One order of the entries: sorted pages seen as one ascending list.
-ghost use Rattle.std.specs.Prelude.{◌≡◌, ℕ, ◌+◌, ◌-◌, ◌<◌, ◌≤◌, ◌^◌, List, [], ◌∷◌, length, take, drop, IsTrue, ◌↔◌, MatchOption};
+ghost use Rattle.std.specs.Prelude.{◌≡◌, ℕ, ◌+◌, ◌-◌, ◌<◌, ◌≤◌, ◌^◌, List, [], ◌∷◌, length, map, take, drop, IsTrue, ◌↔◌, MatchOption};
 ghost use Rattle.std.specs.Bool.{OnTrue, OnFalse};
 ghost use Rattle.std.specs.Result.{OnOk};
 ghost use Rattle.std.specs.List.{Contains};
 ghost use Rattle.qs_index.specs.Layout.{Layout, joined, page_at, rest_at, room_of};
 ghost use Rattle.qs_index.specs.Entries.{Entries, IsUnion, IsDifference, IsOrdered};
 ghost use Rattle.qs_index.specs.Entry.{IsAscending, skip_before, with_entry, without_entry, beginning};
+ghost use Rattle.qs_index.specs.Permutation.{turned};
+ghost use Rattle.qs_index.specs.declared.permutation.Permutation.TheVariants.{Spog};
 
 use crate::fill::fill;
 use crate::order_scan::OrderScan;
 use crate::pages::{HALF, PAGE, PagePosition, Pages, Reader};
+use crate::permutation::Permutation;
 use crate::prefix::Prefix;
 use crate::search::{NOWHERE, find, locate, locate_from};
 use std::alloc::{AllocError, Global};
@@ -65,6 +68,21 @@ struct Edited {
 struct Passed {
     count: usize,
     place: PagePosition,
+}
+
+// Writes what a scan gives to the front of `batch`, and tells how many entries it gave.
+fn copy(scan: OrderScan<'_>, batch: &mut [[u32; 4]]) -> usize
+    requires { length scan.rest ≤ length batch.old }
+    ensures entries { take result batch.new ≡ scan.entry.rest }
+    ensures within { result ≤ length batch.new }
+    ensures long { length batch.new ≡ length batch.old }
+{
+    let mut count: usize = 0;
+    for entry in scan {
+        batch[count] = entry;
+        count += 1;
+    }
+    count
 }
 
 // So many pages are counted one by one.
@@ -282,18 +300,50 @@ impl Order {
     }
 
     /// Writes the entries to the front of `batch`, in order, and tells how many they are.
+    #[tactic(auto, using(crate::proofs::OtherOrders::beginning_with_none))]
     pub fn copy_to(&self, batch: &mut [[u32; 4]]) -> usize
         requires { length self.now.entries ≤ length batch.old }
         ensures entries { take result batch.new ≡ self.now.entries }
         ensures within { result ≤ length batch.new }
         ensures long { length batch.new ≡ length batch.old }
     {
-        let mut count: usize = 0;
-        for entry in self.scan(NOWHERE, [0, 0, 0, 0], 0) {
-            batch[count] = entry;
-            count += 1;
-        }
-        count
+        copy(self.scan(NOWHERE, [0, 0, 0, 0], 0), batch)
+    }
+
+    /// Writes the entries that begin with the number of a graph to the front of `batch`, in order, and tells how many they are.
+    pub fn copy_graph(&self, graph: u32, batch: &mut [[u32; 4]]) -> usize
+        requires { length (beginning (graph ∷ []) self.now.entries) ≤ length batch.old }
+        ensures entries { take result batch.new ≡ beginning (graph ∷ []) self.now.entries }
+        ensures within { result ≤ length batch.new }
+        ensures long { length batch.new ≡ length batch.old }
+    {
+        copy(self.scan(NOWHERE, [graph, 0, 0, 0], 1), batch)
+    }
+
+    /// Puts the entries of another order in that begin with the number of a graph, by way of `batch`.
+    pub fn insert_graph(&mut self, other: &Order, graph: u32, batch: &mut [[u32; 4]])
+        requires batch { length (beginning (graph ∷ []) other.now.entries) ≤ length batch.old }
+        requires room { length (beginning (graph ∷ []) other.now.entries) ≤ self.old.spare }
+        ensures union { IsUnion self.old.entries (beginning (graph ∷ []) other.now.entries) self.new.entries }
+        ensures spare { self.old.spare ≤ self.new.spare + length (beginning (graph ∷ []) other.now.entries) }
+        ensures long { length batch.new ≡ length batch.old }
+    {
+        let count = other.copy_graph(graph, batch);
+        self.insert_all(&batch[..count]);
+    }
+
+    /// Puts the entries of another order in that begin with the number of a graph, with that number in the last place, by way of `batch`.
+    pub fn insert_graph_last(&mut self, other: &Order, graph: u32, batch: &mut [[u32; 4]])
+        requires batch { length (beginning (graph ∷ []) other.now.entries) ≤ length batch.old }
+        requires room { length (beginning (graph ∷ []) other.now.entries) ≤ self.old.spare }
+        ensures union { IsUnion self.old.entries (map (turned Spog) (beginning (graph ∷ []) other.now.entries)) self.new.entries }
+        ensures spare { self.old.spare ≤ self.new.spare + length (beginning (graph ∷ []) other.now.entries) }
+        ensures long { length batch.new ≡ length batch.old }
+    {
+        let count = other.copy_graph(graph, batch);
+        let entries = &mut batch[..count];
+        Permutation::Spog.turn_all(entries);
+        self.insert_all(entries);
     }
 
     /// Puts the entries of another order in, by way of `batch`.

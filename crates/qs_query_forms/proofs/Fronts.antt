@@ -7,8 +7,6 @@ use Rattle.qs_terms.specs.Outcome.{Outcome, OneOrOutOfMemory}
 use Rattle.qs_terms.specs.declared.fault.QFault.TheVariants.{TooManyRows}
 use Rattle.qs_algebra_solutions.specs.Solution.{Solution, projected}
 use Rattle.qs_algebra_solutions.specs.declared.answer.Answer.{Answer}
-use Rattle.qs_query_order.specs.Order.{IsOrdered, AreFirst}
-use Rattle.qs_query_order.specs.declared.condition.OrderCondition.{OrderCondition}
 use Rattle.qs_query_template.specs.Instances.{made}
 use Rattle.qs_query_forms.specs.inner.InOrder.{IsFront, Suffices, SufficesToSelect, IsRowsOf, IsRows, IsGraphOf}
 use Rattle.qs_query_forms.specs.Outcome.{IsBuilt, IsConstructed}
@@ -40,16 +38,6 @@ enough_to_select asked count e h xs =
     ∙ ap (sliced asked.slice) (map_limited (projected asked.columns) count xs)
     ∙ h (rows xs)
     ∙ sym (ap (λ (b : Bool). sliced asked.slice (once_where b (rows xs))) e)
-
-module _ (conditions : List OrderCondition) (solutions front : List Solution) (count : Option ℕ) where
-  front_at : {c : Option ℕ} → count ≡ c → IsFront conditions solutions c front → IsFront conditions solutions count front
-  front_at e h = subst (λ (c : Option ℕ). IsFront conditions solutions c front) (sym e) h
-
-  pub first_are_front : (n : ℕ) → count ≡ Some n → AreFirst conditions solutions n front → IsFront conditions solutions count front
-  first_are_front n e h = front_at e (h.0, (h.1, h.2), h.3)
-
-  pub all_are_front : count ≡ None → SameBag front solutions × IsOrdered conditions front → IsFront conditions solutions count front
-  all_are_front e h = front_at e (front, h, refl)
 
 -- what becomes of the front becomes of all
 pub rows_from_front : (asked : Selection) (solutions found front : List Solution) (count : Option ℕ) (max_rows : ℕ) (rows : Outcome (List Solution)) → IsFront asked.order found count front → SameBag found solutions → SufficesToSelect asked count

@@ -1,5 +1,7 @@
 pub mod Cells
 pub mod Fronts
+pub mod Grouped
+pub mod Places
 pub mod Known
 pub mod Lengths
 pub mod Once

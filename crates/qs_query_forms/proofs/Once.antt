@@ -20,7 +20,7 @@ module _ {X : Type 0} (same : X → X → Bool) (exact : (a b : X) → Decides (
   turned a b = turned_at a b (same a b) (same b a) refl refl
 
   -- an element stands there once, where it stands in the list at all
-  times-once : (a : X) (xs : List X) → times same a (once same xs) ≡ min 1 (times same a xs)
+  pub times-once : (a : X) (xs : List X) → times same a (once same xs) ≡ min 1 (times same a xs)
   times-once a [] = omega arith
   times-once a (x ∷ xs) =
       ap (λ n. cond (same a x) 1 0 + n)

@@ -9,20 +9,25 @@ ghost use Rattle.qs_terms.specs.Outcome.{OneOrOutOfMemory};
 ghost use Rattle.qs_terms.specs.Statement.{same_statement};
 ghost use Rattle.qs_store.specs.Visible.{visible, visible_quads};
 ghost use Rattle.qs_query_forms.specs.inner.InOrder as in_order;
+ghost use Rattle.qs_query_forms.specs.inner.Placed.{ArePlaced};
 ghost use Rattle.qs_query_forms.specs.Outcome.{IsSelected, IsBuilt, IsConstructed, IsAsked, IsAllSolutions, IsOutcomeOfQuery};
 ghost use Rattle.qs_query_forms.specs.Sequence.{dataset_of, whole};
 
 use crate::construction::Construction;
+use crate::placed::{placed, sorted};
 use crate::request::{Request, request_of};
 use crate::selection::Selection;
 use crate::sequence::{
-    enough, enough_for_slice, listed_rows, needed_count, needed_to_select, project_rows,
-    put_in_order, slice_rows,
+    enough_for_slice, lent_rows, listed_rows, needed_count, project_rows, slice_rows,
 };
-use crate::unordered::{first_of, part_of};
+use crate::unordered::{first_of, limit, part_of};
 use qs_algebra::Pattern;
 use qs_algebra_solutions::{Answer, Row};
-use qs_query_solutions::{distinct_solutions, solutions_after, some_solutions};
+use qs_expr_values::laws::keys_are_ordered;
+use qs_query_order::OrderCondition;
+use qs_query_solutions::{
+    OrderedPart, distinct_solutions, ordered_solutions, solutions_after, some_solutions,
+};
 use qs_query_template::{each_once, instances};
 use qs_store::View;
 use qs_syntax_ast::query::Query;
@@ -48,6 +53,72 @@ fn rows_of(
     Ok(Items::from_vec(rows))
 }
 
+// DISTINCT with ORDER BY: any solution may give a duplicate, so all are put in order
+fn all_ordered_once<V: View>(
+    alloc: Global,
+    asked: &Selection,
+    view: &V,
+    active: Option<&Term>,
+    max_rows: u64,
+) -> Result<Items<Row>, QFault>
+    ensures { let set = visible_quads (V.content view.now) (V.default_seen view.now) in OneOrOutOfMemory (in_order.IsRows asked.now (whole asked.now.pattern set (graph_of set (option_copied active.entry))) max_rows) result }
+{
+    let part = OrderedPart {
+        conditions: asked.order.as_slice(),
+        columns: None,
+        offset: 0,
+        count: None,
+        most: None,
+    };
+    let all = ordered_solutions(alloc, &asked.pattern, view, active, part)?;
+    let all = lent_rows(alloc, all.as_slice())?;
+    rows_of(alloc, asked, all, max_rows)
+}
+
+// DISTINCT with ORDER BY, where each condition is a variable of the answer: the distinct rows are put in order
+fn rows_ordered_once<V: View>(
+    alloc: Global,
+    asked: &Selection,
+    conditions: &[OrderCondition],
+    view: &V,
+    active: Option<&Term>,
+    max_rows: u64,
+) -> Result<Items<Row>, QFault>
+    requires distinct { asked.now.is_distinct ≡ true }
+    requires placed { ArePlaced asked.now.columns asked.now.order conditions.now }
+    ensures { let set = visible_quads (V.content view.now) (V.default_seen view.now) in OneOrOutOfMemory (in_order.IsRows asked.now (whole asked.now.pattern set (graph_of set (option_copied active.entry))) max_rows) result }
+{
+    keys_are_ordered();
+    let columns = asked.columns.as_slice();
+    let rows = distinct_solutions(alloc, &asked.pattern, view, active, columns, None)?;
+    let rows = sorted(alloc, conditions, rows, needed_count(asked.slice))?;
+    part_of(rows, asked.slice, max_rows)
+}
+
+// DISTINCT with ORDER BY
+fn ordered_once<V: View>(
+    alloc: Global,
+    asked: &Selection,
+    view: &V,
+    active: Option<&Term>,
+    max_rows: u64,
+) -> Result<Items<Row>, QFault>
+    requires { asked.now.is_distinct ≡ true }
+    ensures { let set = visible_quads (V.content view.now) (V.default_seen view.now) in OneOrOutOfMemory (in_order.IsRows asked.now (whole asked.now.pattern set (graph_of set (option_copied active.entry))) max_rows) result }
+{
+    match placed(alloc, asked.columns.as_slice(), asked.order.as_slice())? {
+        Some(conditions) => rows_ordered_once(
+            alloc,
+            asked,
+            conditions.as_slice(),
+            view,
+            active,
+            max_rows,
+        ),
+        None => all_ordered_once(alloc, asked, view, active, max_rows),
+    }
+}
+
 // the solutions in an order of the conditions
 fn ordered<V: View>(
     alloc: Global,
@@ -58,11 +129,18 @@ fn ordered<V: View>(
 ) -> Result<Items<Row>, QFault>
     ensures { let set = visible_quads (V.content view.now) (V.default_seen view.now) in OneOrOutOfMemory (in_order.IsRows asked.now (whole asked.now.pattern set (graph_of set (option_copied active.entry))) max_rows) result }
 {
-    let most = enough(asked, max_rows);
-    let all = some_solutions(alloc, &asked.pattern, view, active, most)?;
-    let count = needed_to_select(asked);
-    let front = put_in_order(alloc, asked.order.as_slice(), all.as_slice(), count)?;
-    rows_of(alloc, asked, front, max_rows)
+    if asked.is_distinct {
+        return ordered_once(alloc, asked, view, active, max_rows);
+    }
+    let part = OrderedPart {
+        conditions: asked.order.as_slice(),
+        columns: Some(asked.columns.as_slice()),
+        offset: asked.slice.offset,
+        count: needed_count(asked.slice),
+        most: enough_for_slice(asked.slice, asked.order.as_slice(), max_rows),
+    };
+    let rows = ordered_solutions(alloc, &asked.pattern, view, active, part)?;
+    first_of(rows, asked.slice.limit, max_rows)
 }
 
 // some of the solutions, projected and without duplicates: all, or as many rows as suffice
@@ -99,7 +177,15 @@ fn unordered<V: View>(
     }
     let offset = asked.slice.offset;
     let columns = asked.columns.as_slice();
-    let rows = solutions_after(alloc, &asked.pattern, view, active, columns, offset, most)?;
+    let rows = solutions_after(
+        alloc,
+        &asked.pattern,
+        view,
+        active,
+        Some(columns),
+        offset,
+        most,
+    )?;
     first_of(rows, asked.slice.limit, max_rows)
 }
 
@@ -148,23 +234,58 @@ fn graph(quads: Vec<Quad>) -> Answer
     Answer::Graph(Items::from_vec(each_once(quads)))
 }
 
-// The graph that the template makes of the solutions in this order. Too many solutions are told before numbers that don't suffice, and are
-// counted as those of a SELECT, whatever quads they make.
+// The graph that the template makes of the solutions that are left after the OFFSET. Too many are told before numbers that don't suffice, and
+// are counted as those of a SELECT, whatever quads they make.
 fn graph_of_rows(
     alloc: Global,
     asked: &Construction,
     next_blank: u64,
-    all: &[&Row],
+    mut rows: Vec<Row>,
     max_rows: u64,
 ) -> Result<Answer, QFault>
-    ensures { OneOrOutOfMemory (in_order.IsGraphOf asked.now next_blank max_rows (lent all.now)) result }
+    ensures { OneOrOutOfMemory (in_order.IsGraphOfRest asked.now next_blank max_rows rows.items) result }
 {
-    let part = slice_rows(all, asked.slice);
-    if part.len() as u64 > max_rows {
+    limit(&mut rows, asked.slice.limit);
+    if rows.len() as u64 > max_rows {
         return Err(QFault::TooManyRows);
     }
-    let quads = instances(alloc, &asked.template, part, next_blank)?;
+    let part = lent_rows(alloc, rows.as_slice())?;
+    let quads = instances(alloc, &asked.template, part.as_slice(), next_blank)?;
     Ok(graph(quads))
+}
+
+// the solutions that a CONSTRUCT takes after its OFFSET, in an order of the conditions if there are any
+fn solutions_to_construct<V: View>(
+    alloc: Global,
+    asked: &Construction,
+    view: &V,
+    active: Option<&Term>,
+    max_rows: u64,
+) -> Result<Vec<Row>, AllocError>
+    ensures { IfOk result (λ rows. let set = visible_quads (V.content view.now) (V.default_seen view.now) in in_order.AreRest asked.now max_rows rows.items (whole asked.now.pattern set (graph_of set (option_copied active.entry)))) }
+{
+    let conditions = asked.order.as_slice();
+    let slice = asked.slice;
+    let most = enough_for_slice(slice, conditions, max_rows);
+    if conditions.is_empty() {
+        return solutions_after(
+            alloc,
+            &asked.pattern,
+            view,
+            active,
+            None,
+            slice.offset,
+            most,
+        );
+    }
+    let part = OrderedPart {
+        conditions,
+        columns: None,
+        offset: slice.offset,
+        count: needed_count(slice),
+        most,
+    };
+    ordered_solutions(alloc, &asked.pattern, view, active, part)
 }
 
 fn constructed<V: View>(
@@ -176,11 +297,8 @@ fn constructed<V: View>(
 ) -> Result<Answer, QFault>
     ensures { let set = visible_quads (V.content view.now) (V.default_seen view.now) in OneOrOutOfMemory (IsConstructed asked.now (V.content view.now).next (whole asked.now.pattern set (graph_of set (option_copied active.entry))) max_rows) result }
 {
-    let most = enough_for_slice(asked.slice, asked.order.as_slice(), max_rows);
-    let all = some_solutions(alloc, &asked.pattern, view, active, most)?;
-    let count = needed_count(asked.slice);
-    let front = put_in_order(alloc, asked.order.as_slice(), all.as_slice(), count)?;
-    graph_of_rows(alloc, asked, view.next_blank(), front.as_slice(), max_rows)
+    let rows = solutions_to_construct(alloc, asked, view, active, max_rows)?;
+    graph_of_rows(alloc, asked, view.next_blank(), rows, max_rows)
 }
 
 fn truth<V: View>(

@@ -1,8 +1,7 @@
 //! SELECT, CONSTRUCT and ASK over a view of the store (SPARQL 1.1 Query, 15, 16 and 18).
 //!
-//! `request` has what a query asks for by its form, `selection` and `construction` what a SELECT and a CONSTRUCT do, and
-//! `sequence` what becomes of the solutions that are put in order, and `unordered` of the
-//! others.
+//! `request` has what a query asks for by its form, and `selection` and `construction` what a SELECT and a CONSTRUCT do. `sequence` has how many
+//! solutions suffice, and what becomes of them in order. `placed` puts distinct rows in order, and `unordered` slices rows in place.
 #![tactic(auto)]
 
 mod answer;
@@ -10,6 +9,7 @@ mod construction;
 mod distinct;
 pub mod laws;
 mod modifiers;
+mod placed;
 mod request;
 mod selection;
 mod sequence;

@@ -4,14 +4,14 @@
 ghost use Rattle.std.specs.Prelude.{◌≡◌, true, length, map, take, drop, min, IfOk, IfSome};
 ghost use Rattle.qs_algebra_solutions.specs.Solution.{projected};
 ghost use Rattle.qs_base.specs.Lent.{lent};
-ghost use Rattle.qs_query_forms.specs.inner.InOrder.{AllowsMore, AreEnough, ByLimit, IsFront, Suffices, SufficesToSelect};
+ghost use Rattle.qs_query_forms.specs.inner.InOrder.{AllowsMore, ByLimit, Suffices};
 ghost use Rattle.qs_query_forms.specs.Sequence as spec;
 
 use crate::distinct::firsts;
 use crate::modifiers::Slice;
 use crate::selection::Selection;
 use qs_algebra_solutions::Row;
-use qs_query_order::{OrderCondition, first_ordered, order_rows};
+use qs_query_order::OrderCondition;
 use std::alloc::{AllocError, Global};
 
 /// How many of the solutions in order suffice for the slice, where not all are needed.
@@ -22,16 +22,6 @@ pub fn needed_count(slice: Slice) -> Option<u64>
         None => None,
         Some(limit) => slice.offset.checked_add(limit),
     }
-}
-
-/// How many of the solutions in order suffice for the SELECT, where not all are needed. With DISTINCT all are: any may be a duplicate.
-pub fn needed_to_select(asked: &Selection) -> Option<u64>
-    ensures { SufficesToSelect asked.now result }
-{
-    if asked.is_distinct {
-        return None;
-    }
-    needed_count(asked.slice)
 }
 
 fn allows_more(limit: Option<u64>, max_rows: u64) -> bool
@@ -58,30 +48,15 @@ pub fn enough_for_slice(slice: Slice, conditions: &[OrderCondition], max_rows: u
     slice.offset.checked_add(limit)
 }
 
-/// How many of the solutions suffice for a SELECT that puts them in order, where not all are needed. With DISTINCT all are: any may be a
-/// duplicate.
-pub fn enough(asked: &Selection, max_rows: u64) -> Option<u64>
-    ensures { IfSome result (AreEnough asked.now max_rows) }
+/// The rows, lent.
+pub fn lent_rows<'a>(alloc: Global, rows: &'a [Row]) -> Result<Vec<&'a Row>, AllocError>
+    ensures { IfOk result (λ all. lent all.items ≡ rows.now) }
 {
-    if asked.is_distinct {
-        return None;
+    let mut all = Vec::with_capacity(alloc, rows.len())?;
+    for row in rows {
+        all.push(row)?;
     }
-    enough_for_slice(asked.slice, asked.order.as_slice(), max_rows)
-}
-
-/// The rows in an order of the conditions: all, or so many of the first ones.
-pub fn put_in_order<'a>(
-    alloc: Global,
-    conditions: &[OrderCondition],
-    rows: &'a [Row],
-    needed: Option<u64>,
-) -> Result<Vec<&'a Row>, AllocError>
-    ensures { IfOk result (λ front. IsFront conditions.now rows.now needed (lent front.items)) }
-{
-    match needed {
-        None => order_rows(alloc, conditions, rows),
-        Some(count) => first_ordered(alloc, conditions, rows, count),
-    }
+    Ok(all)
 }
 
 /// The rows that are listed of those in order: all, or without duplicates the first ones. They aren't projected yet.

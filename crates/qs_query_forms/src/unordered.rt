@@ -1,5 +1,4 @@
-//! The rows of a SELECT whose solutions no conditions put in order. They have the terms of the variables of the answer alone, and are sliced in
-//! place, which takes no memory.
+//! Rows of the answer alone, which are sliced in place. That takes no memory.
 
 ghost use Rattle.std.specs.Prelude.{◌≡◌, drop};
 ghost use Rattle.qs_query_forms.specs.inner.InOrder.{bounded};
@@ -20,8 +19,8 @@ fn leave_out(rows: &mut Vec<Row>, offset: u64)
     rows.truncate(left);
 }
 
-// drops the rows after so many
-fn limit(rows: &mut Vec<Row>, limit: Option<u64>)
+/// Drops the rows after so many.
+pub fn limit(rows: &mut Vec<Row>, limit: Option<u64>)
     ensures { rows.new.items ≡ spec.limited limit rows.old.items }
 {
     if let Some(limit) = limit {

@@ -1,5 +1,4 @@
 pub mod Total
-pub mod Sorted
 pub mod Whole
-pub mod FirstRows
 pub mod Cut
+pub mod Keeping

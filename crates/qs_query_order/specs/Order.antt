@@ -1,5 +1,5 @@
 -- The order of solutions by the conditions of ORDER BY (SPARQL 1.1 Query, 15.1 and 18.5: OrderBy).
-use Rattle.std.specs.Prelude.{◌≡◌, ◌<◌, ℕ, false, List, [], ◌∷◌, take, length, slice_index_or}
+use Rattle.std.specs.Prelude.{◌≡◌, ◌<◌, ℕ, false, List, [], ◌∷◌, take, length, slice_index_or, Option, Some, None}
 use Rattle.std.specs.declared.cmp.Ordering.{Ordering}
 use Rattle.std.specs.declared.cmp.Ordering.TheVariants.{Equal}
 use Rattle.std.specs.Ordering.{is_lt, ordering_then}
@@ -37,3 +37,8 @@ IsOrdered conditions ms =
 -- the first n of the solutions in such an order, or all where they are fewer
 abbrev pub AreFirst : List OrderCondition → List Solution → ℕ → List Solution → Type 0
 AreFirst conditions solutions n first = (all : List Solution) × SameBag all solutions × IsOrdered conditions all × (first ≡ take n all)
+
+-- all in such an order, or the first of it where so many are asked for
+abbrev pub AreFirstIf : List OrderCondition → Option ℕ → List Solution → List Solution → Type 0
+AreFirstIf conditions None solutions first = SameBag first solutions × IsOrdered conditions first
+AreFirstIf conditions (Some n) solutions first = AreFirst conditions solutions n first

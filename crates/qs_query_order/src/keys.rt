@@ -8,20 +8,22 @@ ghost use Rattle.qs_query_order.specs.inner.Keys as spec;
 ghost use Rattle.qs_query_order.specs.Order as order;
 
 use crate::condition::OrderCondition;
-use qs_algebra_solutions::Row;
-use qs_expr_meaning::order_key_terms;
+use qs_expr_meaning::{Bindings, order_key_terms};
 use qs_expr_values::Key;
 use qs_syntax_tree::query::Direction;
 use std::alloc::{AllocError, Global};
 use std::cmp::Ordering;
 
-/// The keys of the solution.
-pub fn keys_of(
+/// The keys of the solution that the row denotes.
+///
+/// # Errors
+/// Out of memory.
+pub fn keys_of<B: Bindings>(
     alloc: Global,
     conditions: &[OrderCondition],
-    row: &Row,
+    row: &B,
 ) -> Result<Vec<Key>, AllocError>
-    ensures { IfOk result (λ keys. keys.items ≡ spec.keys_of conditions.now row.now) }
+    ensures { IfOk result (λ keys. keys.items ≡ spec.keys_of conditions.now (B.solution row.now)) }
 {
     let mut keys = Vec::with_capacity(alloc, conditions.len())?;
     for condition in conditions {

@@ -11,7 +11,7 @@ use Rattle.std.specs.declared.cmp.Ordering.{Ordering}
 use Rattle.std.specs.declared.cmp.Ordering.TheVariants.{Less, Equal, Greater}
 use Rattle.std.proofs.lemmas.List.Sorted.{IsPermutation-refl, IsPermutation-trans, IsPermutation-append_right, length_permutation}
 use Rattle.std.proofs.lemmas.Bool.{le-leb, leb-true}
-use Rattle.std.proofs.lemmas.List.{length-map, map-append, nil_from_length, drop_at, drop_all}
+use Rattle.std.proofs.lemmas.List.{length-map, map-append, map-id, nil_from_length, drop_at, drop_all}
 use Rattle.std.specs.Hash as fed
 use Rattle.qs_base.specs.Hashed.{hash_of}
 use Rattle.qs_base.proofs.HashTests as hashed
@@ -23,7 +23,7 @@ use Rattle.qs_algebra_solutions.specs.Solution.{Solution, projected, same_cell, 
 use Rattle.qs_algebra_solutions.proofs.TermOrder.{cmp, tells}
 use Rattle.qs_algebra_solutions.proofs.Same.{same_solution-Decides}
 use Rattle.qs_algebra_solutions.specs.Some.{AreSome, AreSomeDistinct, is_enough}
-use Rattle.qs_query_solutions.specs.After.{AreSomeAfter}
+use Rattle.qs_query_solutions.specs.After.{AreSomeAfter, projected_if}
 use Rattle.qs_query_solutions.specs.inner.Collected.{Collection, Collects, CollectsAfter, IsPart, KnowsAll, most_left, nothing, with_row, with_rows}
 use Rattle.qs_algebra_solutions.proofs.KnownKeys.{knows_more, has_test, new_at}
 
@@ -180,14 +180,18 @@ more_than_left : (most : Option ℕ) (offset n long : ℕ) → offset + n ≡ lo
 more_than_left None offset n long e h = h
 more_than_left (Some m) offset n long e h = le-leb m long (let l = leb-true (m - offset) n h in omega (arith, l, e))
 
-pub are_after : (columns : List ℕ) (offset : ℕ) (most : Option ℕ) (new : Collection) (all rows : List Solution) → rows ≡ new.rows → CollectsAfter offset (nothing (Some columns) false (most_left most offset)) new all → AreSomeAfter columns offset most rows all
+kept_if : (columns : Option (List ℕ)) (rows xs : List Solution) → fold (with_row columns false) rows xs ≡ rows ++ map (projected_if columns) xs
+kept_if None rows xs = plain rows xs ∙ ap (λ l. rows ++ l) (sym (map-id xs))
+kept_if (Some columns) rows xs = kept columns rows xs
+
+pub are_after : (columns : Option (List ℕ)) (offset : ℕ) (most : Option ℕ) (new : Collection) (all rows : List Solution) → rows ≡ new.rows → CollectsAfter offset (nothing columns false (most_left most offset)) new all → AreSomeAfter columns offset most rows all
 are_after columns offset most new all rows e k =
     let passed = k.0 in
     let left = k.1 in
     let found = k.3.0 in
     let rest = k.3.1 in
-    let p : Solution → Solution = projected columns in
-    let is : rows ≡ map p found = e ∙ (ap (λ (c : Collection). c.rows) k.3.3 ∙ kept columns [] found) in
+    let p : Solution → Solution = projected_if columns in
+    let is : rows ≡ map p found = e ∙ (ap (λ (c : Collection). c.rows) k.3.3 ∙ kept_if columns [] found) in
     let bag : SameBag all ((passed ++ found) ++ rest) = subst (SameBag all) (sym (append_assoc passed found rest)) (IsPermutation-trans all (passed ++ left) (passed ++ (found ++ rest)) k.2.0 (IsPermutation-append_right passed left (found ++ rest) k.3.2)) in
     let long : length new.rows ≡ length found = ap length (sym e ∙ is) ∙ length-map found p in
     elim k.2.1 as (λ _. AreSomeAfter columns offset most rows all) [

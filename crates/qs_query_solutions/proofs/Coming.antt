@@ -16,16 +16,16 @@ pub at_start : (old : Collection) (start : Option (List Solution)) → IsOnTheWa
 at_start old start all e = (all, e, begun old all)
 
 -- what is left after one more
-record Left (xs : List Solution) (m : Solution) (q : Option (List Solution)) : Type 0 where
+pub record Left (xs : List Solution) (m : Solution) (q : Option (List Solution)) : Type 0 where
   pub rest : List Solution
   pub is : q ≡ Some rest
   pub bag : SameBag xs (m ∷ rest)
 
-left_of : (xs : List Solution) (m : Solution) (q : Option (List Solution)) → GivesOne (Some xs) (Some m) q → Left xs m q
+pub left_of : (xs : List Solution) (m : Solution) (q : Option (List Solution)) → GivesOne (Some xs) (Some m) q → Left xs m q
 left_of xs m None g = absurd g
 left_of xs m (Some ys) g = record { rest = ys; is = refl; bag = g }
 
-none_of : (xs : List Solution) (q : Option (List Solution)) → GivesOne (Some xs) None q → xs ≡ []
+pub none_of : (xs : List Solution) (q : Option (List Solution)) → GivesOne (Some xs) None q → xs ≡ []
 none_of xs None g = absurd g
 none_of xs (Some ys) g = g.0
 

@@ -23,7 +23,7 @@ use Rattle.qs_store.specs.declared.active.Active.TheVariants.{Default}
 use Rattle.qs_store.specs.declared.active.Active.TheVariants as active
 use Rattle.qs_store.specs.declared.default_graph.DefaultGraph.{DefaultGraph}
 use Rattle.qs_store.specs.declared.default_graph.DefaultGraph.TheVariants.{Stored, Union}
-use Rattle.qs_algebra_solutions.specs.Solution.{Solution, binding}
+use Rattle.qs_algebra_solutions.specs.Solution.{binding}
 use Rattle.qs_algebra_solutions.specs.Operators as of
 use Rattle.qs_algebra_patterns.specs.Basic.{Graph as Triples}
 use Rattle.qs_algebra_patterns.specs.Eval.{Found, Stepped, eval, eval_level, step_level, in_each}
@@ -365,14 +365,18 @@ active_none c lawful knows d name h =
 
 -- ---- solutions
 
--- what is collected of the solutions of a plan of the pattern is collected of the pattern's over what queries see
-pub collected_are_seen : (c : Content) → IsContent c → (d : DefaultGraph) (plan : Plan) (pattern : Pattern) → IsPlanOf plan pattern → (name : Option Term) (active : Active) → IsActiveFor c d name active → (offset : ℕ) (old new : Collection)
-    → CollectsAfter offset old new (plan_list plan c.quads (active_graph c d active)) → CollectsAfter offset old new (eval (length pattern.names) (visible_quads c d) pattern.root (graph_of (visible_quads c d) name))
-collected_are_seen c lawful d plan pattern law name active is offset old new k =
-    let planned : List Solution = plan_list plan c.quads (active_graph c d active) in
-    let evaluated : List Solution = eval (length pattern.names) c.quads pattern.root (active_graph c d active) in
-    let once : Distinct same_triple (active_graph c d active) =
-    subst (Distinct same_triple) (sym is) (graph_distinct name (visible_quads c d) (once_distinct same_statement same_statement-Decides (visible d c.quads))) in
-    let same : SameBag planned evaluated = law.same c.quads (active_graph c d active) lawful.quads_once once in
-    subst (CollectsAfter offset old new) (ap (eval (length pattern.names) c.quads pattern.root) is ∙ sym (eval_seen c lawful (length pattern.names) d pattern.root (graph_of (visible_quads c d) name)))
-    (after_same offset old new planned evaluated (IsPermutation-sym planned evaluated same) k)
+module _ (c : Content) (lawful : IsContent c) (d : DefaultGraph) (plan : Plan) (pattern : Pattern) (law : IsPlanOf plan pattern) (name : Option Term) (active : Active) (is : IsActiveFor c d name active) where
+  -- a plan of the pattern has the solutions of the pattern over what queries see
+  pub planned_as_seen : SameBag (plan_list plan c.quads (active_graph c d active)) (eval (length pattern.names) (visible_quads c d) pattern.root (graph_of (visible_quads c d) name))
+  planned_as_seen =
+      let once : Distinct same_triple (active_graph c d active) =
+      subst (Distinct same_triple) (sym is) (graph_distinct name (visible_quads c d) (once_distinct same_statement same_statement-Decides (visible d c.quads))) in
+      subst (SameBag (plan_list plan c.quads (active_graph c d active))) (ap (eval (length pattern.names) c.quads pattern.root) is ∙ sym (eval_seen c lawful (length pattern.names) d pattern.root (graph_of (visible_quads c d) name)))
+      (law.same c.quads (active_graph c d active) lawful.quads_once once)
+
+  -- what is collected of the solutions of the plan is collected of the pattern's over what queries see
+  pub collected_are_seen : (offset : ℕ) (old new : Collection) → CollectsAfter offset old new (plan_list plan c.quads (active_graph c d active))
+      → CollectsAfter offset old new (eval (length pattern.names) (visible_quads c d) pattern.root (graph_of (visible_quads c d) name))
+  collected_are_seen offset old new k =
+      after_same offset old new (plan_list plan c.quads (active_graph c d active)) (eval (length pattern.names) (visible_quads c d) pattern.root (graph_of (visible_quads c d) name))
+      (IsPermutation-sym (plan_list plan c.quads (active_graph c d active)) (eval (length pattern.names) (visible_quads c d) pattern.root (graph_of (visible_quads c d) name)) planned_as_seen) k

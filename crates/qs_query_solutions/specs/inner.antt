@@ -1,3 +1,4 @@
 -- What serves proofs alone: no promise of the product is read by it.
 pub mod Collected
 pub mod Front
+pub mod SoFar

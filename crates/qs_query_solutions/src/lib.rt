@@ -2,17 +2,20 @@
 //!
 //! `active` tells which graph is read, `counts` what a plan is ordered by, and `planned` makes the plan that is run. `terms` makes the terms
 //! of a row of cells, `collected` keeps them, with or without duplicates, and `solutions` asks the plan of the pattern for one solution after
-//! another, until the caller has enough.
+//! another, until the caller has enough. `ordered` keeps rows of cells with their keys, where they are asked for in an order.
 #![tactic(auto)]
 
 mod active;
 mod collected;
 mod counts;
+mod ordered;
 mod planned;
+mod reading;
 mod solutions;
 mod terms;
 
 pub use active::active_of;
 pub use counts::ViewCounts;
+pub use ordered::{OrderedPart, ordered_solutions};
 pub use planned::plan_over;
 pub use solutions::{distinct_solutions, solutions_after, some_solutions};

@@ -110,7 +110,7 @@ fn collect_all<V: View>(
 }
 
 /// Running out of memory, which is the one fault of an evaluation.
-fn out_of_memory(fault: QFault) -> AllocError {
+pub(crate) fn out_of_memory(fault: QFault) -> AllocError {
     drop_value(fault);
     AllocError
 }
@@ -146,8 +146,8 @@ fn most_left(most: Option<u64>, offset: u64) -> Option<u64>
     }
 }
 
-/// The terms of these variables in some of the solutions of the pattern as `some_solutions` has them, without the first `offset` of these:
-/// they are passed over. No other terms are made.
+/// Some of the solutions of the pattern as `some_solutions` has them, without the first `offset` of these: they are passed over. Where columns
+/// are given, the terms of these variables alone are made.
 ///
 /// # Errors
 /// `AllocError` where memory runs out.
@@ -156,13 +156,13 @@ pub fn solutions_after<V: View>(
     pattern: &Pattern,
     view: &V,
     name: Option<&Term>,
-    columns: &[usize],
+    columns: Option<&[usize]>,
     offset: u64,
     most: Option<u64>,
 ) -> Result<Vec<Solution>, AllocError>
-    ensures { IfOk result (λ rows. AreSomeAfter columns.now offset most rows.items (eval (length pattern.now.names) (visible_quads (V.content view.now) (V.default_seen view.now)) pattern.now.root (graph_of (visible_quads (V.content view.now) (V.default_seen view.now)) (option_copied name.entry)))) }
+    ensures { IfOk result (λ rows. AreSomeAfter (option_copied columns.entry) offset most rows.items (eval (length pattern.now.names) (visible_quads (V.content view.now) (V.default_seen view.now)) pattern.now.root (graph_of (visible_quads (V.content view.now) (V.default_seen view.now)) (option_copied name.entry)))) }
 {
-    let mut found = Collected::new(alloc, Some(columns), false, most_left(most, offset));
+    let mut found = Collected::new(alloc, columns, false, most_left(most, offset));
     match collect_all(alloc, pattern, view, name, offset, &mut found) {
         Ok(()) => Ok(found.into_rows()),
         Err(fault) => Err(out_of_memory(fault)),

@@ -15,7 +15,7 @@ use std::alloc::{AllocError, Global};
 
 /// The term of a variable; none where it isn't bound.
 #[tactic(auto, using(crate::proofs::Fronts::term_read, crate::proofs::Fronts::none_read))]
-fn term<'a, V: View>(op: &'a Op<'_, V>, row: &Row, variable: usize) -> Option<&'a Term>
+pub(crate) fn term<'a, V: View>(op: &'a Op<'_, V>, row: &Row, variable: usize) -> Option<&'a Term>
     requires { FitsRow op.now.known op.now.table row.now }
     ensures { option_copied result ≡ term_at (row_solution op.now.known op.now.table row.now) variable }
 {

@@ -5,7 +5,7 @@ use Rattle.std.specs.Option.{unwrap_or}
 use Rattle.std.proofs.lemmas.Bool.{le-ltb}
 use Rattle.std.proofs.lemmas.Grind.{flat_map-append}
 use Rattle.std.proofs.lemmas.List.{append-nil}
-use Rattle.qs_terms.specs.Outcome.{Outcome, and_then}
+use Rattle.qs_terms.specs.Outcome.{Outcome}
 use Rattle.qs_terms.specs.Statement.{Statement}
 use Rattle.qs_terms.specs.declared.fault.QFault.{QFault}
 use Rattle.qs_terms.specs.declared.fault.QFault.TheVariants.{Full}
@@ -24,7 +24,6 @@ use Rattle.qs_query_template.specs.Blanks.{number_in, blocks_blanks, firsts}
 use Rattle.qs_query_template.specs.Instances.{fresh, slot_term, graph_term, quad_of, instance, instances, within}
 use Rattle.qs_query_template.specs.Template.{term_slot, verb_slot, graph_slot, quad_with, template_of_blocks}
 use Rattle.qs_query_template.specs.Template as template
-use Rattle.qs_query_template.specs.declared.data_blocks.QuadsToInsert.{QuadsToInsert}
 use Rattle.qs_query_template.specs.inner.DataBlocks.{inserted, deleted, node_term, verb_term, graph_name, triple_quads, block_quads}
 
 -- blank nodes and numbers of a template, and those without one, that make the same terms
@@ -85,8 +84,8 @@ of_insert blocks next =
     let blanks = firsts (blocks_blanks blocks) in
     append-nil _ ∙ same_blocks blanks (length blanks) next blanks next (same_term blanks next) blocks
 
-abbrev numbered : ℕ → List Statement → Outcome QuadsToInsert
-numbered after quads = Ok (record { quads = quads; next_blank = after })
+abbrev numbered : ℕ → List Statement → Outcome (ℕ × List Statement)
+numbered after quads = Ok (after, quads)
 
 -- one more than the last number of the fresh blank nodes, or a fault
 abbrev number : ℕ → Outcome ℕ
@@ -95,25 +94,24 @@ number n = Ok n
 abbrev fault : QFault → Outcome ℕ
 fault f = Err f
 
-ok_by : (b : Bool) (n after : ℕ) (made quads : List Statement) → made ≡ quads → (if b then Err Full else Ok n) ≡ number after
-    → and_then (if b then Err Full else Ok made) (numbered n) ≡ numbered after quads
+ok_by : (b : Bool) (n after : ℕ) (made quads : List Statement) → made ≡ quads → (if b then Err Full else Ok n) ≡ number after → (if b then Err Full else numbered n made) ≡ numbered after quads
 ok_by true n after made quads e h = let k : fault Full ≡ number after = h in cc
 ok_by false n after made quads e h = let k : number n ≡ number after = h in let l : n ≡ after = cc in ap (numbered n) e ∙ ap (λ (x : ℕ). numbered x quads) l
 
-err_by : (b : Bool) (n : ℕ) (f : QFault) (made : List Statement) → (if b then Err Full else Ok n) ≡ fault f → and_then (if b then Err Full else Ok made) (numbered n) ≡ Err f
+err_by : (b : Bool) (n : ℕ) (f : QFault) (made : List Statement) → (if b then Err Full else Ok n) ≡ fault f → (if b then Err Full else numbered n made) ≡ Err f
 err_by true n f made h = let k : fault Full ≡ fault f = h in let l : Full ≡ f = cc in ap Err l
 err_by false n f made h = let k : number n ≡ fault f = h in cc
 
 same_after : (next : ℕ) (found blanks : List BlankNode) → found ≡ blanks → next + length blanks * 1 ≡ next + length found
 same_after next found blanks e = let k : length found ≡ length blanks = ap length e in omega arith
 
-module _ (blocks : List QuadBlock) (next : ℕ) (found : List BlankNode) (is : found ≡ firsts (blocks_blanks blocks)) where
-  pub inserted_ok : (after : ℕ) (quads : List Statement) → within (next + length found) (next + length found) ≡ Ok after → quads ≡ flat_map (block_quads found next) blocks → inserted blocks next ≡ numbered after quads
+module _ (others : List Statement) (blocks : List QuadBlock) (next : ℕ) (found : List BlankNode) (is : found ≡ firsts (blocks_blanks blocks)) where
+  pub inserted_ok : (after : ℕ) (quads : List Statement) → within (next + length found) (next + length found) ≡ Ok after → quads ≡ others ++ flat_map (block_quads found next) blocks → inserted others blocks next ≡ numbered after quads
   inserted_ok after quads h e =
-      let made : instances (template_of_blocks [] blocks) next (unbound 0 ∷ []) ≡ quads = of_insert blocks next ∙ sym (e ∙ ap (λ (bs : List BlankNode). flat_map (block_quads bs next) blocks) is) in
+      let made : others ++ instances (template_of_blocks [] blocks) next (unbound 0 ∷ []) ≡ quads = ap (λ (l : List Statement). others ++ l) (of_insert blocks next) ∙ sym (e ∙ ap (λ (bs : List BlankNode). others ++ flat_map (block_quads bs next) blocks) is) in
       rw (same_after next found (firsts (blocks_blanks blocks)) is) (ok_by (nat_lt 18446744073709551615 (next + length found)) (next + length found) after _ quads made h)
 
-  pub inserted_err : (f : QFault) → within (next + length found) (next + length found) ≡ Err f → inserted blocks next ≡ Err f
+  pub inserted_err : (f : QFault) → within (next + length found) (next + length found) ≡ Err f → inserted others blocks next ≡ Err f
   inserted_err f h = rw (same_after next found (firsts (blocks_blanks blocks)) is) (err_by (nat_lt 18446744073709551615 (next + length found)) (next + length found) f _ h)
 
 -- ---- DELETE DATA
@@ -128,7 +126,7 @@ no_blank blanks next (term.Iri i) = refl
 no_blank blanks next (term.Literal l) = refl
 no_blank blanks next (term.Blank b) = none_fresh next (unwrap_or (number_in blanks b) (length blanks)) ∙ sym (none_fresh 0 0)
 
-pub deleted_is : (blocks : List QuadBlock) (found : List BlankNode) (quads : List Statement) (next : ℕ) → found ≡ [] → quads ≡ flat_map (block_quads found 0) blocks → quads ≡ deleted blocks next
-deleted_is blocks found quads next none e =
+pub deleted_is : (blocks : List QuadBlock) (found : List BlankNode) (others quads : List Statement) (next : ℕ) → found ≡ [] → quads ≡ others ++ flat_map (block_quads found 0) blocks → quads ≡ others ++ deleted blocks next
+deleted_is blocks found others quads next none e =
     let blanks = firsts (blocks_blanks blocks) in
-    e ∙ (ap (λ (bs : List BlankNode). flat_map (block_quads bs 0) blocks) none ∙ sym (append-nil _ ∙ same_blocks blanks 0 next [] 0 (no_blank blanks next) blocks))
+    e ∙ (ap (λ (bs : List BlankNode). others ++ flat_map (block_quads bs 0) blocks) none ∙ ap (λ (l : List Statement). others ++ l) (sym (append-nil _ ∙ same_blocks blanks 0 next [] 0 (no_blank blanks next) blocks)))

@@ -1,11 +1,12 @@
 //! The quads of INSERT DATA and DELETE DATA (SPARQL 1.1 Update, 3.1.1 and 3.1.2).
 //!
 //! They are the instances of the template of the blocks under the one solution, which binds nothing. Here they are made of the blocks,
-//! without a template.
+//! without a template, and put into a list that may have others.
 
 ghost use Rattle.std.specs.Prelude.{◌≡◌, ◌+◌, ◌^◌, ◌<◌, ◌++◌, ℕ, length, IfOk, OnOk};
 ghost use Rattle.std.specs.List.{flat_map};
-ghost use Rattle.qs_terms.specs.Outcome.{OrOutOfMemory};
+ghost use Rattle.qs_terms.specs.OrOutOf.{WithOrOutOfMemory};
+ghost use Rattle.qs_terms.specs.declared.fault.QFault.TheVariants.{Memory};
 ghost use Rattle.qs_query_template.specs.Instances as instances;
 ghost use Rattle.qs_query_template.specs.inner.DataBlocks as spec;
 
@@ -17,15 +18,6 @@ use qs_syntax_ast::update::QuadBlock;
 use qs_terms::{QFault, Quad, Term};
 use sqlite_items::Items;
 use std::alloc::{AllocError, Global};
-
-/// The quads of INSERT DATA.
-#[derive(Drop)]
-pub struct QuadsToInsert {
-    /// In the order of the text. A quad may stand there more than once.
-    pub quads: Items<Quad>,
-    /// The number after those of their fresh blank nodes.
-    pub next_blank: u64,
-}
 
 fn blank_term<'a>(blanks: &Blanks<'a>, first: u64, blank: &'a BlankNode) -> Option<Term>
     requires { first + length blanks.now < 2 ^ 64 }
@@ -109,20 +101,20 @@ fn put_block<'a>(
     Ok(())
 }
 
-fn quads_of<'a>(
-    alloc: Global,
+// Puts the quads of blocks after the others.
+fn put_blocks<'a>(
     blanks: &Blanks<'a>,
     first: u64,
     blocks: &'a [QuadBlock],
-) -> Result<Items<Quad>, AllocError>
+    quads: &mut Items<Quad>,
+) -> Result<(), AllocError>
     requires { first + length blanks.now < 2 ^ 64 }
-    ensures { IfOk result (λ quads. quads ≡ flat_map (spec.block_quads blanks.now first) blocks.now) }
+    ensures { OnOk result (quads.new ≡ quads.old ++ flat_map (spec.block_quads blanks.now first) blocks.now) }
 {
-    let mut quads = Items::new(alloc);
     for block in blocks {
-        put_block(blanks, first, block, &mut quads)?;
+        put_block(blanks, first, block, quads)?;
     }
-    Ok(quads)
+    Ok(())
 }
 
 fn after_blanks(next: u64, blanks: usize) -> Result<u64, QFault>
@@ -134,37 +126,41 @@ fn after_blanks(next: u64, blanks: usize) -> Result<u64, QFault>
     }
 }
 
-/// The quads of INSERT DATA (SPARQL 1.1 Update, 3.1.1), in the order of the text. Its blank nodes are fresh ones, with the numbers from
-/// `next_blank` on. They are the instances of the template of the blocks under the solution that binds nothing.
+/// Puts the quads of INSERT DATA (SPARQL 1.1 Update, 3.1.1) after the others, in the order of the text, and returns the number after those
+/// of their fresh blank nodes, which have the numbers from `next_blank` on. They are the instances of the template of the blocks under the
+/// solution that binds nothing. A quad may stand there more than once.
 ///
 /// # Errors
-/// `QFault::Full` where the numbers of blank nodes don't suffice; `QFault::Memory` where memory runs out.
+/// `QFault::Full` where the numbers of blank nodes don't suffice; `QFault::Memory` where memory runs out, which may leave some of the quads
+/// after the others.
 #[tactic(auto, using(crate::proofs::DataBlocks::inserted_ok, crate::proofs::DataBlocks::inserted_err))]
-pub fn quads_to_insert(
+pub fn put_quads_to_insert(
     alloc: Global,
     blocks: &[QuadBlock],
     next_blank: u64,
-) -> Result<QuadsToInsert, QFault>
-    ensures { OrOutOfMemory (spec.inserted blocks.now next_blank) result }
+    quads: &mut Items<Quad>,
+) -> Result<u64, QFault>
+    ensures { WithOrOutOfMemory Memory (spec.inserted quads.old blocks.now next_blank) result quads.new }
 {
     let blanks = blanks_of_blocks(alloc, blocks)?;
     let after = after_blanks(next_blank, blanks.len())?;
-    let quads = quads_of(alloc, &blanks, next_blank, blocks)?;
-    Ok(QuadsToInsert {
-        quads,
-        next_blank: after,
-    })
+    put_blocks(&blanks, next_blank, blocks, quads)?;
+    Ok(after)
 }
 
-/// The quads of DELETE DATA (SPARQL 1.1 Update, 3.1.2), in the order of the text. A triple with a blank node is left out: by the grammar
-/// there is none. They are the instances of the template of the blocks under the solution that binds nothing, where it takes no fresh
-/// blank nodes, whichever number is the next.
+/// Puts the quads of DELETE DATA (SPARQL 1.1 Update, 3.1.2) after the others, in the order of the text. A triple with a blank node is left
+/// out: by the grammar there is none. They are the instances of the template of the blocks under the solution that binds nothing, where it
+/// takes no fresh blank nodes, whichever number is the next.
 ///
 /// # Errors
-/// `AllocError` where memory runs out.
-pub fn quads_to_delete(alloc: Global, blocks: &[QuadBlock]) -> Result<Items<Quad>, AllocError>
-    ensures { IfOk result (λ quads. (next : ℕ) → quads ≡ spec.deleted blocks.now next) }
+/// `AllocError` where memory runs out, which may leave some of the quads after the others.
+pub fn put_quads_to_delete(
+    alloc: Global,
+    blocks: &[QuadBlock],
+    quads: &mut Items<Quad>,
+) -> Result<(), AllocError>
+    ensures { OnOk result ((next : ℕ) → quads.new ≡ quads.old ++ spec.deleted blocks.now next) }
 {
     let blanks = Blanks::new(alloc);
-    quads_of(alloc, &blanks, 0, blocks)
+    put_blocks(&blanks, 0, blocks, quads)
 }

@@ -13,7 +13,7 @@ mod set;
 mod template;
 mod with;
 
-pub use data_blocks::{QuadsToInsert, quads_to_delete, quads_to_insert};
+pub use data_blocks::{put_quads_to_delete, put_quads_to_insert};
 pub use made::{instances, next_after};
 pub use set::each_once;
 pub use template::{QuadTemplate, Slot, Template, template_of, template_of_blocks};

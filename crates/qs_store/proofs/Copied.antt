@@ -6,6 +6,8 @@ use Rattle.std.proofs.Math.Seq.{take-length}
 use Rattle.std.proofs.lemmas.Bool.{false≢true}
 use Rattle.std.proofs.lemmas.List.{map-append, take_more}
 use Rattle.std.proofs.lemmas.List.Elements.{Contains-append_left, Contains-append_right, Contains-append_cases}
+use Rattle.std.specs.List.Sorted.{IsPermutation}
+use Rattle.std.proofs.lemmas.List.Sorted.{Contains-permutation, IsPermutation-sym}
 use Rattle.std.proofs.lemmas.Option.{same_Some, none-some}
 use Rattle.qs_terms.specs.Bag.{Distinct}
 use Rattle.qs_terms.specs.Term.{same_term}
@@ -17,7 +19,7 @@ use Rattle.qs_index.specs.Agreeing.{agrees}
 use Rattle.qs_index.specs.Entries.{HaveFour}
 use Rattle.qs_index.specs.Graph.{graph_of}
 use Rattle.qs_store.specs.Change.{IsChanged}
-use Rattle.qs_store.specs.inner.Copied.{AreCopies, AreInGraphs, AreNamed, AreEntriesOf}
+use Rattle.qs_store.specs.inner.Copied.{AreCopies, AreInGraphs, AreNamed, AreEntriesOf, IsWithoutGraph}
 use Rattle.qs_store.specs.Entries.{said, statement_of, graph_number, AreEntries, IsEntryOf}
 use Rattle.qs_store.specs.inner.Holding.{HasGraph, AreGraphsOf}
 use Rattle.qs_store.specs.Same.{SameSet}
@@ -100,7 +102,7 @@ whole : (x : List ℕ) → length x ≡ 4 → graph_of x ∷ triple_of x ≡ x
 whole [] h = absurd (omega arith)
 whole (g ∷ xs) h = refl
 
-graph_read : (g : ℕ) (x : List ℕ) → agrees g None None None x ≡ true → graph_of x ≡ g
+pub graph_read : (g : ℕ) (x : List ℕ) → agrees g None None None x ≡ true → graph_of x ≡ g
 graph_read g x h = let p = places_in g None None None x h in ap graph_of {y = p.places.graph ∷ p.places.at_s ∷ p.places.at_p ∷ p.places.at_o ∷ []} p.places.is ∙ p.same
 
 -- the triples of a graph, put into another
@@ -172,12 +174,30 @@ module _ (terms : List Term) (u : Distinct same_term terms) where
 pub entries_changed : (terms : List Term) (old outs ins new : Entries) → AreEntries terms old → AreEntries terms ins → IsChanged old outs ins new → AreEntries terms new
 entries_changed terms old outs ins new a b w x c = ⊎_elim (λ o. a x o.0) (λ i. b x i) ((w x).0 c)
 
+pub entries_left : (terms : List Term) (g : ℕ) (old new : Entries) → AreEntries terms old → IsWithoutGraph g old new → AreEntries terms new
+entries_left terms g old new a w x c = a x ((w x).0 c).0
+
+-- no quads of a graph are taken out where there are none
+pub none_cleared : (quads : List Statement) (name : Option Term) → in_graph name quads ≡ [] → IsChanged quads (in_graph name quads) [] quads
+none_cleared quads name e q = (
+  λ c. inl (c, λ r. nothing q (subst (λ l. Contains l q) e r)),
+  λ c. ⊎_elim (λ o. o.0) (λ i. absurd (nothing q i)) c,
+)
+
 -- the same sets are removed and added
 pub changed_by : {X : Type 0} (old outs ins new removed added : List X) → SameSet outs removed → SameSet ins added → IsChanged old outs ins new → IsChanged old removed added new
 changed_by old outs ins new removed added r a w q = (
   λ c. ⊎_elim (λ o. inl (o.0, λ m. o.1 ((r q).1 m))) (λ i. inr ((a q).0 i)) ((w q).0 c),
   λ c. (w q).1 (⊎_elim (λ o. inl (o.0, λ m. o.1 ((r q).0 m))) (λ i. inr ((a q).1 i)) c),
 )
+
+-- the same entries in another order
+pub changed_permuted : (old outs ins sorted_outs sorted_ins new : Entries) → IsPermutation outs sorted_outs → IsPermutation ins sorted_ins → IsChanged old sorted_outs sorted_ins new → IsChanged old outs ins new
+changed_permuted old outs ins sorted_outs sorted_ins new p q w =
+    changed_by old sorted_outs sorted_ins new outs ins (same outs sorted_outs p) (same ins sorted_ins q) w
+  where
+    same : (xs ys : Entries) → IsPermutation xs ys → SameSet ys xs
+    same xs ys r x = (λ c. Contains-permutation ys xs x (IsPermutation-sym xs ys r) c, λ c. Contains-permutation xs ys x r c)
 
 -- ---- the quads of graphs
 
@@ -236,6 +256,23 @@ module _ (terms : List Term) (u : Distinct same_term terms) (entries : Entries) 
             subst (Contains (said terms found)) m.says (said_has terms m.entry found ((own_copies entries found g four w m.entry).1 (m.stands, in_said m.entry (all m.entry m.stands) (ap (is_in name) m.says ∙ f.1)))),
       );
     }
+
+    -- a draft that has lost the entries of a graph has lost its quads
+    pub cleared_said : (new : Entries) → IsWithoutGraph g entries new → IsChanged (said terms entries) (in_graph name (said terms entries)) [] (said terms new)
+    cleared_said new w q = (
+      λ c. let m = member_of_said terms q new c in
+          let o = (w m.entry).0 m.stands in
+          inl (
+            subst (Contains (said terms entries)) m.says (said_has terms m.entry entries o.0),
+            λ r. o.1 (in_said m.entry (all m.entry o.0) (ap (is_in name) m.says ∙ (member_of_filter (is_in name) q (said terms entries) r).1)),
+          ),
+      λ c. ⊎_elim
+          (λ o. let m = member_of_said terms q entries o.0 in
+          subst (Contains (said terms new)) m.says
+          (said_has terms m.entry new ((w m.entry).1 (m.stands, λ e. o.1 (filter_has (is_in name) q (said terms entries) o.0 (ap (is_in name) (sym m.says) ∙ said_in m.entry (all m.entry m.stands) e))))))
+          (λ i. absurd (nothing q i))
+          c,
+    )
 
     -- a graph with an entry has a quad
     pub held_said : HasGraph entries g → exists name (said terms entries) ≡ true

@@ -167,6 +167,19 @@ pub written : (n : ℕ) (front rest : Entries) → n ≡ length front → take n
 written n front rest e = ap (λ k. take k (front ++ rest)) e ∙ take-append-le (length front) front rest (omega arith) ∙ take-length front
 
 -- those of the front of a list that are missing are put in
+pub all_put_in : (i r a entries new : Entries) → ((x : List ℕ) → Contains entries x → IsMissing i r x) → IsUnion a entries new → IsUnionWith a entries (IsMissing i r) new
+all_put_in i r a entries new all u = record {
+  ascending = u.ascending;
+  has_old = u.has_old;
+  has_more = λ x c m. u.has_added x c;
+  only = λ x c. ⊎_elim (λ o. inl o) (λ n. inr (n, all x n)) (u.only x c);
+}
+
+-- where none were taken out, all that may be missing are
+pub none_taken : (i r r0 s1 r1 i0 taken put p1 : Entries) (x : List ℕ) → i0 ≡ i → r0 ≡ r → p1 ≡ put → IsUnion r0 s1 r1 → ((y : List ℕ) → Contains put y → MayBeMissing i r taken y) → length taken ≡ 0 → Contains p1 x → IsMissing i0 r1 x
+none_taken i r r0 s1 r1 i0 taken put p1 x ei er ep u all none m =
+    λ k. ⊎_elim (λ l. absurd (omega (arith, l, none))) (λ n. u.has_old x (subst (λ l. Contains l x) (sym er) (n (subst (λ l. Contains l x) ei k)))) (all x (subst (λ l. Contains l x) ep m))
+
 pub put_in : (i r a entries front new : Entries) → IsPartOf entries front (IsMissing i r) → IsUnion a front new → IsUnionWith a entries (IsMissing i r) new
 put_in i r a entries front new p u = record {
   ascending = u.ascending;

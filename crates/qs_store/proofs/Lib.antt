@@ -17,3 +17,4 @@ pub mod Copied
 pub mod CopiedTerms
 pub mod Emptied
 pub mod Out
+pub mod Cleared

@@ -29,6 +29,7 @@ use crate::removal::Removal;
 use crate::store::Store;
 use crate::triples::Triples;
 use qs_terms::{Quad, Term};
+use std::hash::RandomState;
 
 /// A store with quads added and removed, which has to be spent by `commit` or `abandon`.
 pub struct Draft<'a> {
@@ -174,6 +175,12 @@ impl<'a> Draft<'a> {
         store.default_graph()
     }
 
+    /// What terms are hashed by.
+    pub fn hasher(&self) -> RandomState {
+        let store: &Store = self.store;
+        store.hasher()
+    }
+
     /// The next blank node's number of the draft, which is above those of all blank nodes of its quads.
     pub fn next_blank(&self) -> u64
         ensures next { result ≡ self.now.store.now.draft.next }
@@ -183,8 +190,8 @@ impl<'a> Draft<'a> {
         store.draft_next_blank()
     }
 
-    /// Changes the draft as `Store::change` does the store, and makes each growth that a commit will need. Where it is refused the draft
-    /// stays as it was, its known terms included.
+    /// Changes the draft as `Store::change` does the store, and makes each growth that a commit will need. The new terms are known in the
+    /// order in which they first stand in `add`. Where it is refused the draft stays as it was, its known terms included.
     pub fn change(&mut self, remove: &[Quad], add: &[Quad], next: u64) -> Result<(), StoreFault>
         requires next { self.old.store.now.draft.next ≤ next }
         requires above { IsTrue (is_above_blanks next add.now) }
@@ -193,6 +200,7 @@ impl<'a> Draft<'a> {
         ensures quads { OnOk result (IsChanged self.old.store.now.draft.quads remove.now add.now self.new.store.now.draft.quads) }
         ensures next { OnOk result (self.new.store.now.draft.next ≡ next) }
         ensures known { OnOk result (KnowsTermsOf self.old.store.now.draft.known add.now self.new.store.now.draft.known) }
+        ensures in_turn { OnOk result (self.new.store.now.draft.known ≡ with_terms_of self.old.store.now.draft.known add.now) }
         ensures full { IsFullExactly self.old.store.now.limit (length (with_terms_of self.old.store.now.draft.known add.now)) result }
         ensures refused { OnErr result (self.new.store.now.draft ≡ self.old.store.now.draft) }
         ensures limit { self.new.store.now.limit ≡ self.old.store.now.limit }

@@ -6,16 +6,18 @@
 //! from there into the same order of the store or out of it: so it takes no memory, and sorts none of them. The buffer is given back at the end
 //! of the draft.
 
-ghost use Rattle.std.specs.Prelude.{◌≡◌, ℕ, ◌≤◌, ◌+◌, ◌++◌, ◌∷◌, ◌↔◌, Bool, List, [], length, map, take, IsTrue, IfOk, OnOk, OnErr, Contains, cond};
+ghost use Rattle.std.specs.Prelude.{◌≡◌, ℕ, ◌<◌, ◌≤◌, ◌+◌, ◌++◌, ◌∷◌, ◌↔◌, Bool, List, [], length, map, take, None, IsTrue, IfOk, OnOk, OnErr, Contains, cond};
 ghost use Rattle.std.specs.Str.{bytes_eq};
 ghost use Rattle.qs_terms.specs.Bag.{Distinct};
+ghost use Rattle.std.specs.List.Sorted.{IsPermutation};
+ghost use Rattle.qs_index.specs.Agreeing.{agreeing};
 ghost use Rattle.qs_index.specs.Entries.{HaveFour, IsUnion, IsDifference};
 ghost use Rattle.qs_index.specs.Entry.{IsAscending};
 ghost use Rattle.qs_index.specs.Graph.{named_entries};
 ghost use Rattle.qs_store.specs.Change.{IsChanged};
-ghost use Rattle.qs_store.specs.inner.Copied.{AreCopies, AreNamed};
+ghost use Rattle.qs_store.specs.inner.Copied.{AreCopies, AreNamed, IsWithoutGraph};
 ghost use Rattle.qs_store.specs.inner.Holding.{AreGraphsOf, HasGraph};
-ghost use Rattle.qs_store.specs.inner.Emptied.{IsRemoval};
+ghost use Rattle.qs_store.specs.inner.Emptied.{AreEmptied, IsRemoval, RemovesGraph};
 ghost use Rattle.qs_store.specs.inner.Missing.{IsMissing, IsUnionWith, MayBeMissing};
 ghost use Rattle.qs_store.specs.Layers.{drafted, IsPartOf};
 ghost use Rattle.qs_store.specs.Same.{SameSet};
@@ -26,7 +28,7 @@ use crate::graphs::Graphs;
 use crate::named_graphs::{graphs_in, graphs_in_draft, holds};
 use crate::named_quads::NamedQuads;
 use crate::triples::Triples;
-use qs_index::{Index, PagePosition, count_named};
+use qs_index::{Index, PagePosition, Scan, count_named, sort};
 use std::alloc::{AllocError, Global};
 use std::marker::Model;
 
@@ -233,19 +235,25 @@ fn gather(batch: &mut [[u32; 4]], index: &Index, removed: &Index, entries: &[[u3
     count
 }
 
-/// Puts those of the entries that are missing into `added`, which has room for them, by way of `batch`.
+/// Puts those of the entries that are missing into `added`, which has room for them, by way of `batch`; all, where all are known to be.
 fn put_missing(
     added: &mut Index,
     index: &Index,
     removed: &Index,
     batch: &mut [[u32; 4]],
-    entries: &[[u32; 4]],
+    entries: &mut [[u32; 4]],
+    are_missing: bool,
 )
-    requires batch { length entries.now ≤ length batch.old }
-    requires spare { length entries.now ≤ added.old.spare }
-    requires named_spare { length (named_entries entries.now) ≤ added.old.named_spare }
-    ensures union { IsUnionWith added.old.entries entries.now (IsMissing index.now.entries removed.now.entries) added.new.entries }
+    requires batch { length entries.old ≤ length batch.old }
+    requires spare { length entries.old ≤ added.old.spare }
+    requires named_spare { length (named_entries entries.old) ≤ added.old.named_spare }
+    requires missing { IsTrue are_missing → (x : List ℕ) → Contains entries.old x → IsMissing index.now.entries removed.now.entries x }
+    ensures union { IsUnionWith added.old.entries entries.old (IsMissing index.now.entries removed.now.entries) added.new.entries }
 {
+    if are_missing {
+        added.insert_all(entries);
+        return;
+    }
     let count = gather(batch, index, removed, entries);
     added.insert_all(&mut batch[..count]);
 }
@@ -303,6 +311,26 @@ fn about(
     }
 }
 
+/// What a scan gives.
+fn listed(alloc: Global, scan: Scan<'_>) -> Result<Vec<[u32; 4]>, AllocError>
+    ensures { IfOk result (λ found. found.items ≡ scan.entry.rest) }
+{
+    let mut found = Vec::new(alloc);
+    for entry in scan {
+        found.push(entry)?;
+    }
+    Ok(found)
+}
+
+/// The entries of a graph in the index.
+fn graph_entries(alloc: Global, index: &Index, graph: u32) -> Result<Vec<[u32; 4]>, AllocError>
+    ensures same { IfOk result (λ found. IsPermutation (agreeing graph None None None index.now.entries) found.items) }
+    ensures four { HaveFour index.now.entries }
+{
+    let _each = index.entries();
+    listed(alloc, index.scan(graph, None, None, None))
+}
+
 /// Makes `batch` no shorter than `n`.
 fn lengthen(batch: &mut Vec<[u32; 4]>, n: usize) -> Result<(), AllocError>
     ensures kept { length batch.old.items ≤ length batch.new.items }
@@ -311,6 +339,46 @@ fn lengthen(batch: &mut Vec<[u32; 4]>, n: usize) -> Result<(), AllocError>
     if batch.len() < n {
         batch.resize(n, [0; 4])?;
     }
+    Ok(())
+}
+
+/// So many entries of a graph as counts of entries.
+fn counts_of_graph(graph: u32, all: usize) -> Counts
+    ensures all { result.all ≡ all }
+    ensures named { 0 < graph → result.named ≡ all }
+{
+    if graph == 0 {
+        return Counts { all, named: 0 };
+    }
+    Counts { all, named: all }
+}
+
+/// Puts all entries of a graph that the index has among the removed ones, unless they are known to be there, and makes `batch` no shorter than
+/// these.
+fn remove_graph(
+    alloc: Global,
+    index: &Index,
+    removed: &mut Index,
+    emptied: &Emptied,
+    batch: &mut Vec<[u32; 4]>,
+    graph: u32,
+) -> Result<(), AllocError>
+    requires removal { IsRemoval index.now.entries removed.old.entries }
+    requires emptied { AreEmptied index.now.entries removed.old.entries emptied.now }
+    ensures removes { OnOk result (RemovesGraph graph index.now.entries removed.old.entries removed.new.entries) }
+    ensures refused { OnErr result (removed.new.entries ≡ removed.old.entries) }
+    ensures room { OnOk result (length removed.old.entries ≤ length batch.old.items → length removed.new.entries ≤ length batch.new.items) }
+    ensures kept { length batch.old.items ≤ length batch.new.items }
+{
+    if are_out(index, removed, emptied, Graphs::One(graph)) {
+        return Ok(());
+    }
+    let mut taken = graph_entries(alloc, index, graph)?;
+    let more = counts_of_graph(graph, taken.len());
+    let most = with_more(removed, more)?;
+    lengthen(batch, most.all)?;
+    reserve(removed, more)?;
+    removed.insert_graph_of(index, graph, taken.as_mut_slice());
     Ok(())
 }
 
@@ -585,15 +653,26 @@ impl Layers {
         }
     }
 
-    /// Takes the first entries out of the draft, which leaves them in some order, and puts the others in. Where it is refused the draft
+    /// Takes the first entries out of the draft, and puts the others in; both are left in some order. Where it is refused the draft
     /// stays as it was.
-    pub fn change(&mut self, outs: &mut [[u32; 4]], ins: &[[u32; 4]]) -> Result<(), AllocError>
+    pub fn change(&mut self, outs: &mut [[u32; 4]], ins: &mut [[u32; 4]]) -> Result<(), AllocError>
+        ensures base { self.new.base ≡ self.old.base }
+        ensures draft { OnOk result (IsChanged self.old.draft outs.old ins.old self.new.draft) }
+        ensures refused { OnErr result (self.new.draft ≡ self.old.draft) }
+    {
+        sort(outs);
+        sort(ins);
+        self.change_sorted(outs, ins)
+    }
+
+    // Makes a change of entries, which are looked for fastest where they ascend.
+    fn change_sorted(&mut self, outs: &mut [[u32; 4]], ins: &[[u32; 4]]) -> Result<(), AllocError>
         ensures base { self.new.base ≡ self.old.base }
         ensures draft { OnOk result (IsChanged self.old.draft outs.old ins.now self.new.draft) }
         ensures refused { OnErr result (self.new.draft ≡ self.old.draft) }
     {
         let mut taken = standing(self.alloc, &self.index, outs)?;
-        let put = missing(self.alloc, &self.index, &self.removed, &taken, ins)?;
+        let mut put = missing(self.alloc, &self.index, &self.removed, &taken, ins)?;
         let more_removed = count(&taken);
         let more_added = count(&put);
         let most_removed = with_more(&self.removed, more_removed)?;
@@ -610,8 +689,28 @@ impl Layers {
             &self.index,
             &self.removed,
             self.batch.as_mut_slice(),
-            &put,
+            put.as_mut_slice(),
+            more_removed.all == 0,
         );
+        Ok(())
+    }
+
+    /// Takes the entries of a graph out of the draft, in a time that goes by these. Where it is refused the draft stays as it was.
+    pub fn clear_graph(&mut self, graph: u32) -> Result<(), AllocError>
+        ensures base { self.new.base ≡ self.old.base }
+        ensures draft { OnOk result (IsWithoutGraph graph self.old.draft self.new.draft) }
+        ensures refused { OnErr result (self.new.draft ≡ self.old.draft) }
+    {
+        let mut outs = graph_entries(self.alloc, &self.added, graph)?;
+        remove_graph(
+            self.alloc,
+            &self.index,
+            &mut self.removed,
+            &self.emptied,
+            &mut self.batch,
+            graph,
+        )?;
+        self.added.remove_all(outs.as_mut_slice());
         Ok(())
     }
 

@@ -38,7 +38,7 @@ use crate::numbers::{entries_of, entry_of, numbered, numbered_all};
 use crate::quads::quads_of;
 use crate::removal::Removal;
 use crate::triples::Triples;
-use crate::whole_graphs::{entries_in, entries_named, filled, note, remove, transfer};
+use crate::whole_graphs::{clear, entries_named, filled, remove, transfer};
 use qs_dict::Dict;
 use qs_terms::{Quad, Term};
 use std::alloc::Global;
@@ -53,6 +53,7 @@ pub struct Store {
     dict: Dict,
     layers: Layers,
     default_graph: DefaultGraph,
+    hasher: RandomState,
     known: u32,
     next: u64,
     draft_next: u64,
@@ -96,9 +97,9 @@ fn change(
     ensures limit { dict.new.limit ≡ dict.old.limit }
     ensures base { layers.new.base ≡ layers.old.base }
 {
-    let ins = numbered_all(alloc, dict, add)?;
+    let mut ins = numbered_all(alloc, dict, add)?;
     let mut outs = entries_of(alloc, dict, remove)?;
-    layers.change(outs.as_mut_slice(), &ins)?;
+    layers.change(outs.as_mut_slice(), ins.as_mut_slice())?;
     Ok(())
 }
 
@@ -122,6 +123,7 @@ impl Store {
             dict: Dict::new(alloc, term_limit, hasher),
             layers: Layers::new(alloc),
             default_graph,
+            hasher,
             known: 0,
             next: 0,
             draft_next: 0,
@@ -144,6 +146,11 @@ impl Store {
         ensures { result ≡ self.now.default_graph }
     {
         self.default_graph
+    }
+
+    /// What terms are hashed by.
+    pub fn hasher(&self) -> RandomState {
+        self.hasher
     }
 
     /// How many quads there are. It takes no memory, and goes over none.
@@ -485,6 +492,7 @@ impl Store {
         ensures quads { OnOk result (IsChanged self.old.draft.quads remove.now add.now self.new.draft.quads) }
         ensures next { OnOk result (self.new.draft.next ≡ next) }
         ensures known { OnOk result (KnowsTermsOf self.old.draft.known add.now self.new.draft.known) }
+        ensures in_turn { OnOk result (self.new.draft.known ≡ with_terms_of self.old.draft.known add.now) }
         ensures full { IsFullExactly self.old.limit (length (with_terms_of self.old.draft.known add.now)) result }
         ensures refused { OnErr result (self.new.draft ≡ self.old.draft) }
         ensures limit { self.new.limit ≡ self.old.limit }
@@ -525,9 +533,7 @@ impl Store {
         ensures limit { self.new.limit ≡ self.old.limit }
         ensures default_graph { self.new.default_graph ≡ self.old.default_graph }
     {
-        let mut outs = entries_in(self.alloc, &self.dict, &self.layers, name)?;
-        remove(&self.dict, &mut self.layers, outs.as_mut_slice())?;
-        note(&self.dict, &mut self.layers, name);
+        clear(&self.dict, &mut self.layers, name)?;
         Ok(())
     }
 

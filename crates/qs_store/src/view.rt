@@ -24,6 +24,7 @@ use crate::named_quads::NamedQuads;
 use crate::store::Store;
 use crate::triples::Triples;
 use qs_terms::{Quad, Term};
+use std::hash::RandomState;
 
 /// What a reader sees of a store or of a draft: its content, and which default graph queries see.
 pub trait View {
@@ -34,6 +35,9 @@ pub trait View {
     /// Which default graph queries see.
     fn default_graph(&self) -> DefaultGraph
         ensures { result ≡ default_seen self.now };
+
+    /// What terms are hashed by, since strangers choose them.
+    fn hasher(&self) -> RandomState;
 
     /// The next blank node's number, which is above those of all blank nodes of the quads.
     fn next_blank(&self) -> u64
@@ -119,6 +123,10 @@ impl View for Store {
         Store::default_graph(self)
     }
 
+    fn hasher(&self) -> RandomState {
+        Store::hasher(self)
+    }
+
     fn next_blank(&self) -> u64 {
         Store::next_blank(self)
     }
@@ -197,6 +205,10 @@ impl<'a> View for Draft<'a> {
 
     fn default_graph(&self) -> DefaultGraph {
         Draft::default_graph(self)
+    }
+
+    fn hasher(&self) -> RandomState {
+        Draft::hasher(self)
     }
 
     fn next_blank(&self) -> u64 {

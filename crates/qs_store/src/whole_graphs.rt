@@ -38,7 +38,7 @@ pub fn filled(dict: &Dict, layers: &Layers, name: Option<&Term>) -> Option<u32>
 }
 
 /// The entries of the quads in a graph.
-pub fn entries_in(
+fn entries_in(
     alloc: Global,
     dict: &Dict,
     layers: &Layers,
@@ -113,7 +113,7 @@ fn entries_copied(
 }
 
 /// Notes a graph whose quads were removed.
-pub fn note(dict: &Dict, layers: &mut Layers, name: Option<&Term>)
+fn note(dict: &Dict, layers: &mut Layers, name: Option<&Term>)
     ensures base { layers.new.base ≡ layers.old.base }
     ensures draft { layers.new.draft ≡ layers.old.draft }
 {
@@ -165,10 +165,10 @@ pub fn transfer(
     ensures limit { dict.new.limit ≡ dict.old.limit }
     ensures base { layers.new.base ≡ layers.old.base }
 {
-    let ins = entries_copied(alloc, dict, layers, from, to)?;
+    let mut ins = entries_copied(alloc, dict, layers, from, to)?;
     let _count = dict.len();
     let mut outs = entries_removed(alloc, dict, layers, removal, from, to)?;
-    layers.change(outs.as_mut_slice(), &ins)?;
+    layers.change(outs.as_mut_slice(), ins.as_mut_slice())?;
     note_removed(dict, layers, removal, from, to);
     Ok(())
 }
@@ -184,5 +184,23 @@ pub fn remove(dict: &Dict, layers: &mut Layers, outs: &mut [[u32; 4]]) -> Result
     ensures base { layers.new.base ≡ layers.old.base }
 {
     let _count = dict.len();
-    layers.change(outs, &[])
+    layers.change(outs, &mut [])
+}
+
+/// Takes the entries of the quads in a graph out of the draft. Where it is refused the draft's entries stay.
+pub fn clear(dict: &Dict, layers: &mut Layers, name: Option<&Term>) -> Result<(), AllocError>
+    requires { AreEntries dict.now.terms layers.old.draft }
+    ensures quads { OnOk result (IsChanged (said dict.now.terms layers.old.draft) (in_graph (option_copied name.entry) (said dict.now.terms layers.old.draft)) [] (said dict.now.terms layers.new.draft)) }
+    ensures entries { OnOk result (AreEntries dict.now.terms layers.new.draft) }
+    ensures lawful { IsDictionary dict.now }
+    ensures refused { OnErr result (layers.new.draft ≡ layers.old.draft) }
+    ensures base { layers.new.base ≡ layers.old.base }
+{
+    let _count = dict.len();
+    let Some(graph) = graph_number(dict, name) else {
+        return Ok(());
+    };
+    layers.clear_graph(graph)?;
+    layers.note(graph);
+    Ok(())
 }

@@ -1,5 +1,5 @@
 -- The steps of a load, from one statement to the next.
-use Rattle.std.proofs.Common.{◌≡◌, ◌≤◌, ℕ, List, [], ◌∷◌, ◌++◌, append_assoc, length, refl, ap, sym, ◌∙◌, subst, arith}
+use Rattle.std.proofs.Common.{◌≡◌, ◌≤◌, ℕ, List, [], ◌∷◌, ◌++◌, append_assoc, length, Result, IfErr, refl, ap, sym, ◌∙◌, subst, arith}
 use Rattle.qs_terms.specs.Statement.{Statement}
 use Rattle.qs_terms.specs.declared.term.Term.{Term}
 use Rattle.qs_nquads.specs.Nquads.{IsNquads}
@@ -10,7 +10,7 @@ use Rattle.qs_store.specs.Entries.{IsSaidBehind, said}
 use Rattle.qs_store.specs.declared.fault.StoreFault.{StoreFault}
 use Rattle.qs_store.specs.declared.fault.StoreFault.TheVariants as store_fault
 use Rattle.qs_store_load.specs.Load.{IsLoaded, IsLoadFault}
-use Rattle.qs_store_load.specs.inner.Loading.{AreNumbered, IsTold, IsToldFor, Learns, Say}
+use Rattle.qs_store_load.specs.inner.Loading.{AreNumbered, IsNumbered, IsTold, IsToldFor, Learns, Say}
 use Rattle.qs_store_load.specs.declared.fault.LoadFault.{LoadFault}
 use Rattle.qs_store_load.specs.declared.fault.LoadFault.TheVariants.{Text, Store}
 
@@ -55,19 +55,23 @@ refused_for store_fault.Full limit bytes first known quads q f h t = told_for li
 refused_for store_fault.Memory limit bytes first known quads q f h t = subst (λ g. IsLoadFault limit bytes first known g) (sym t) tt
 
 -- a store with the entries of a text put in is loaded
-pub loaded : (limit room : ℕ) (bytes text : List ℕ) (old begun drafted new : Content) (first next : ℕ) (entries lent : List (List ℕ))
-    → AreNumbered text first next begun.known drafted.known entries → text ≡ bytes → first ≡ old.next → begun ≡ old → drafted.quads ≡ begun.quads → lent ≡ entries → IsChanged drafted.quads [] (said drafted.known lent) new.quads → new.next ≡ next
-    → new.known ≡ drafted.known → length new.known ≤ room → room ≡ limit → ((known : List Term) (quads : List Statement) → KnowsTermsOf known quads (with_terms_of known quads)) → IsLoaded limit bytes old new
-loaded limit room bytes text old begun drafted new first next entries lent n same_text is_first is_begun same_quads is_lent changed is_next is_known fits is_room law =
-    let knows : new.known ≡ with_terms_of old.known n.quads = is_known ∙ (n.say.known_is ∙ ap (λ (c : Content). with_terms_of c.known n.quads) is_begun) in
-    let said_is : said drafted.known lent ≡ n.quads = ap (said drafted.known) is_lent ∙ n.say.says in
+pub loaded : (bytes : List ℕ) (next : ℕ) (held : Held) (new : Content) (entries lent : List (List ℕ))
+    → IsNumbered bytes next held entries → lent ≡ entries → IsChanged held.draft.quads [] (said held.draft.known lent) new.quads → new.next ≡ next → new.known ≡ held.draft.known → length new.known ≤ held.limit
+    → ((known : List Term) (quads : List Statement) → KnowsTermsOf known quads (with_terms_of known quads)) → IsLoaded held.limit bytes held.base new
+loaded bytes next held new entries lent n is_lent changed is_next is_known fits law =
+    let of : AreNumbered bytes held.base.next next held.base.known held.draft.known entries = n.numbered in
+    let knows : new.known ≡ with_terms_of held.base.known of.quads = is_known ∙ of.say.known_is in
+    let said_is : said held.draft.known lent ≡ of.quads = ap (said held.draft.known) is_lent ∙ of.say.says in
     record {
-      quads = n.quads;
-      reads = subst (λ b. IsNquads b old.next n.quads new.next) same_text (subst (λ f. IsNquads text f n.quads new.next) is_first (subst (λ m. IsNquads text first n.quads m) (sym is_next) n.reads));
-      changed = subst (λ q. IsChanged q [] n.quads new.quads) (same_quads ∙ ap (λ (c : Content). c.quads) is_begun) (subst (λ q. IsChanged drafted.quads [] q new.quads) said_is changed);
-      known = subst (λ k. KnowsTermsOf old.known n.quads k) (sym knows) (law old.known n.quads);
-      room = subst (λ r. length (with_terms_of old.known n.quads) ≤ r) is_room (subst (λ k. length k ≤ room) knows fits);
+      quads = of.quads;
+      reads = subst (λ m. IsNquads bytes held.base.next of.quads m) (sym is_next) of.reads;
+      changed = subst (λ q. IsChanged q [] of.quads new.quads) n.same_quads (subst (λ q. IsChanged held.draft.quads [] q new.quads) said_is changed);
+      known = subst (λ k. KnowsTermsOf held.base.known of.quads k) (sym knows) (law held.base.known of.quads);
+      room = subst (λ k. length k ≤ held.limit) knows fits;
     }
 
-pub loaded_same : (limit : ℕ) (bytes : List ℕ) (old same new : Content) → same ≡ new → IsLoaded limit bytes old new → IsLoaded limit bytes old same
-loaded_same limit bytes old same new e h = subst (λ c. IsLoaded limit bytes old c) (sym e) h
+-- a fault of a load is one of equal bytes into an equal store
+pub same_fault : (text bytes : List ℕ) (old new : Content) (limit room : ℕ) (r : Result ℕ LoadFault) → text ≡ bytes → old ≡ new → limit ≡ room → IfErr r (λ f. IsLoadFault limit text old.next old.known f) → IfErr r (λ f. IsLoadFault room bytes new.next new.known f)
+same_fault text bytes old new limit room r same e f h =
+    subst (λ n. IfErr r (λ f. IsLoadFault n bytes new.next new.known f)) f
+    (subst (λ (c : Content). IfErr r (λ f. IsLoadFault limit bytes c.next c.known f)) e (subst (λ b. IfErr r (λ f. IsLoadFault limit b old.next old.known f)) same h))

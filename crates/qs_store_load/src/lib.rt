@@ -6,4 +6,4 @@ mod fault;
 mod nquads;
 
 pub use crate::fault::LoadFault;
-pub use crate::nquads::load;
+pub use crate::nquads::{load, load_owned};

@@ -5,7 +5,7 @@ use Rattle.std.proofs.lemmas.List.Elements.{All-from_recursion}
 use Rattle.std.proofs.lemmas.List.Sorted.{All-permutation, IsPermutation-sym}
 use Rattle.qs_terms.specs.Bag.{once}
 use Rattle.qs_terms.specs.Dataset.{is_term_below, is_graph_below, is_statement_below, is_above_blanks, graph_of}
-use Rattle.qs_terms.specs.Outcome.{Outcome, and_then, OrOutOfMemory}
+use Rattle.qs_terms.specs.Outcome.{Outcome, and_then}
 use Rattle.qs_terms.specs.Statement.{Statement, same_graph, same_statement, is_iri}
 use Rattle.qs_terms.specs.declared.fault.QFault.{QFault}
 use Rattle.qs_terms.specs.declared.fault.QFault.TheVariants as fault
@@ -203,9 +203,3 @@ module _ (bound : Bound) (made : Made) (wheres : Wheres) (blocks : Blocks) (max_
   operation_lawful (operation.Add t) quads next outcome above iris values e = due next outcome (transferred removal.Nothing t quads next) e (transferred_lawful next removal.Nothing t quads above)
   operation_lawful (operation.Move t) quads next outcome above iris values e = due next outcome (transferred removal.Both t quads next) e (transferred_lawful next removal.Both t quads above)
   operation_lawful (operation.Copy t) quads next outcome above iris values e = due next outcome (transferred removal.Target t quads next) e (transferred_lawful next removal.Target t quads above)
-
--- ---- answers
-
-pub due_lawful : (o : Outcome Effect) (next : ℕ) (result : Outcome Effect) → IfOk o (IsLawful next) → OrOutOfMemory o result → IfOk result (IsLawful next)
-due_lawful o next (Ok e) h k = due next (Ok e) o (sym k) h
-due_lawful o next (Err f) h k = tt

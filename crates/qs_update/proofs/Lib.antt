@@ -1,5 +1,5 @@
 pub mod Under
-pub mod OfData
+pub mod DataRun
 pub mod Quads
 mod Tested
 mod AboveBlanks

@@ -1,5 +1,6 @@
 -- Tests that all elements of a list pass, and so all of what is made of it.
-use Rattle.std.proofs.Common.{◌≡◌, Bool, true, false, ◌&&◌, cond, not, List, [], ◌∷◌, ◌++◌, map, refl}
+use Rattle.std.proofs.Common.{◌≡◌, ℕ, Bool, true, false, ◌&&◌, cond, not, List, [], ◌∷◌, ◌++◌, map, take, drop, refl, sym, subst}
+use Rattle.std.proofs.lemmas.List.{take-append-drop}
 use Rattle.std.specs.List.{filter, list_all}
 use Rattle.qs_terms.specs.Bag.{once}
 
@@ -30,6 +31,13 @@ module _ {X : Type 0} (test : X → Bool) where
   pub all_appended : (xs ys : List X) → list_all test xs ≡ true → list_all test ys ≡ true → list_all test (xs ++ ys) ≡ true
   all_appended [] ys h k = k
   all_appended (x ∷ xs) ys h k = let l = both_hold (test x) (list_all test xs) h in and_both (test x) (list_all test (xs ++ ys)) l.0 (all_appended xs ys l.1 k)
+
+  all_behind : (xs ys : List X) → list_all test (xs ++ ys) ≡ true → list_all test ys ≡ true
+  all_behind [] ys h = h
+  all_behind (x ∷ xs) ys h = all_behind xs ys (both_hold (test x) (list_all test (xs ++ ys)) h).1
+
+  pub all_dropped : (n : ℕ) (xs : List X) → list_all test xs ≡ true → list_all test (drop n xs) ≡ true
+  all_dropped n xs h = all_behind (take n xs) (drop n xs) (subst (λ (l : List X). list_all test l ≡ true) (sym (take-append-drop n xs)) h)
 
   pub all_mapped : (f : X → X) → ((x : X) → test x ≡ true → test (f x) ≡ true) → (xs : List X) → list_all test xs ≡ true → list_all test (map f xs) ≡ true
   all_mapped f h [] k = refl

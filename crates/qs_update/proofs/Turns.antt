@@ -1,6 +1,6 @@
 -- Operations over a draft, one after another.
-use Rattle.std.proofs.Common.{◌≡◌, ◌<◌, ◌≤◌, ◌+◌, ℕ, List, [], ◌∷◌, ◌++◌, length, take, drop, get_or, Ok, Err, refl, sym, subst, ap, ◌∙◌}
-use Rattle.std.proofs.lemmas.List.{take_more, take-append-drop}
+use Rattle.std.proofs.Common.{◌≡◌, ◌≤◌, ℕ, List, [], ◌∷◌, ◌++◌, length, take, drop, Ok, Err, refl, subst, ap, ◌∙◌}
+use Rattle.std.proofs.lemmas.List.{take-append-drop}
 use Rattle.qs_terms.specs.Outcome.{Outcome}
 use Rattle.qs_terms.specs.Statement.{Statement}
 use Rattle.qs_terms.specs.declared.fault.QFault.{QFault}
@@ -9,7 +9,7 @@ use Rattle.qs_store.specs.Change.{IsChanged, KnowsTermsOf, with_terms_of}
 use Rattle.qs_store.specs.Content.{Content, Held}
 use Rattle.qs_store.specs.Same.{SameSet}
 use Rattle.qs_store.specs.declared.default_graph.DefaultGraph.{DefaultGraph}
-use Rattle.qs_update.specs.inner.Carried.{Standing}
+use Rattle.qs_update.specs.inner.Carried.{Remaining}
 use Rattle.qs_update.specs.Outcome.{IsSameContent}
 use Rattle.qs_update.specs.Request.{Bounds, bounds_of, IsApplied, IsOperation, AreOperations, IsBehind}
 use Rattle.qs_update.specs.declared.effect.Effect.{Effect}
@@ -36,15 +36,18 @@ module _ (bounds : Bounds) where
   ended (Ok c) = refl
   ended (Err f) = refl
 
-  behind_first : (operations : List Operation) (o : Operation) (c : Content) (outcome first : Outcome Content)
-      → ((d : Content) → Are operations d (Ok c) → Are (operations ++ o ∷ []) d outcome) → IsBehind (Are operations) first (Ok c) → IsBehind (Are (operations ++ o ∷ [])) first outcome
-  behind_first operations o c outcome (Ok d) others h = others d h
-  behind_first operations o c outcome (Err f) others h = absurd (let e : Ok c ≡ Err f = h in cc)
+  pub alone : (o : Operation) (old : Content) (outcome : Outcome Content) → IsOperation bounds o old outcome → Are (o ∷ []) old outcome
+  alone o old outcome k = (outcome, k, ended outcome)
 
-  -- one more operation after others that succeed
-  behind : (operations : List Operation) (o : Operation) (c : Content) (outcome : Outcome Content) → IsOperation bounds o c outcome → (old : Content) → Are operations old (Ok c) → Are (operations ++ o ∷ []) old outcome
-  behind [] o c outcome k old h = (outcome, subst (λ (x : Content). IsOperation bounds o x outcome) (let e : Ok c ≡ Ok old = h in cc) k, ended outcome)
-  behind (p ∷ operations) o c outcome k old h = (h.0, h.1, behind_first operations o c outcome h.0 (λ d l. behind operations o c outcome k d l) h.2)
+  then_more : (operations more : List Operation) (c : Content) (outcome first : Outcome Content)
+      → ((d : Content) → Are operations d (Ok c) → Are (operations ++ more) d outcome) → IsBehind (Are operations) first (Ok c) → IsBehind (Are (operations ++ more)) first outcome
+  then_more operations more c outcome (Ok d) others h = others d h
+  then_more operations more c outcome (Err f) others h = absurd (let e : Ok c ≡ Err f = h in cc)
+
+  -- more operations after others that succeed
+  pub in_turn : (operations more : List Operation) (old c : Content) (outcome : Outcome Content) → Are operations old (Ok c) → Are more c outcome → Are (operations ++ more) old outcome
+  in_turn [] more old c outcome h k = subst (λ (x : Content). Are more x outcome) (let e : Ok c ≡ Ok old = h in cc) k
+  in_turn (p ∷ operations) more old c outcome h k = (h.0, h.1, then_more operations more c outcome h.0 (λ d l. in_turn operations more d c outcome l k) h.2)
 
   before_first : (operations more : List Operation) (f : QFault) (first : Outcome Content)
       → ((d : Content) → Are operations d (Err f) → Are (operations ++ more) d (Err f)) → IsBehind (Are operations) first (Err f) → IsBehind (Are (operations ++ more)) first (Err f)
@@ -52,19 +55,17 @@ module _ (bounds : Bounds) where
   before_first operations more f (Err g) others h = h
 
   -- a fault is that of whichever operations come after
-  before : (operations more : List Operation) (f : QFault) (old : Content) → Are operations old (Err f) → Are (operations ++ more) old (Err f)
+  pub before : (operations more : List Operation) (f : QFault) (old : Content) → Are operations old (Err f) → Are (operations ++ more) old (Err f)
   before [] more f old h = absurd (let e : Err f ≡ Ok old = h in cc)
   before (p ∷ operations) more f old h = (h.0, h.1, before_first operations more f h.0 (λ d l. before operations more f d l) h.2)
 
-  one_more : (operations : List Operation) (i : ℕ) (o : Operation) (old c : Content) (outcome : Outcome Content) → i < length operations → o ≡ get_or operations i o → Are (take i operations) old (Ok c)
-      → IsOperation bounds o c outcome → Are (take (i + 1) operations) old outcome
-  one_more operations i o old c outcome lt is h k =
-      subst (λ (l : List Operation). Are l old outcome) (sym (take_more operations i o lt ∙ ap (λ (x : Operation). take i operations ++ x ∷ []) (sym is))) (behind (take i operations) o c outcome k old h)
+  -- the first so many operations, and the others
+  pub split : (n : ℕ) (operations : List Operation) (old c : Content) (outcome : Outcome Content) → Are (take n operations) old (Ok c) → Are (drop n operations) c outcome → Are operations old outcome
+  split n operations old c outcome h k =
+      subst (λ (l : List Operation). Are l old outcome) (take-append-drop n operations) (in_turn (take n operations) (drop n operations) old c outcome h k)
 
-  stopped : (operations : List Operation) (i : ℕ) (o : Operation) (old c : Content) (f : QFault) → i < length operations → o ≡ get_or operations i o → Are (take i operations) old (Ok c)
-      → IsOperation bounds o c (Err f) → Are operations old (Err f)
-  stopped operations i o old c f lt is h k =
-      subst (λ (l : List Operation). Are l old (Err f)) (take-append-drop (i + 1) operations) (before (take (i + 1) operations) (drop (i + 1) operations) f old (one_more operations i o old c (Err f) lt is h k))
+  pub stopped : (n : ℕ) (operations : List Operation) (old : Content) (f : QFault) → Are (take n operations) old (Err f) → Are operations old (Err f)
+  stopped n operations old f h = subst (λ (l : List Operation). Are l old (Err f)) (take-append-drop n operations) (before (take n operations) (drop n operations) f old h)
 
 -- ---- over a draft
 
@@ -74,26 +75,19 @@ same_bounds max_rows a b l d =
     let with_graph : DefaultGraph → Bounds = λ g. record { terms = b.limit; rows = max_rows; default_graph = g } in
     ap with_terms l ∙ ap with_graph d
 
-module _ (max_rows : ℕ) (operations : List Operation) where
-  module _ (i : ℕ) (o : Operation) (old now : Held) (lt : i < length operations) (is : o ≡ get_or operations i o) (h : Standing max_rows (take i operations) old now) where
-    there : (outcome : Outcome Content) → IsOperation (bounds_of max_rows now) o now.draft outcome → IsOperation (bounds_of max_rows old) o now.draft outcome
-    there outcome k = subst (λ (b : Bounds). IsOperation b o now.draft outcome) (same_bounds max_rows now old h.limit h.default_graph) k
+module _ (max_rows : ℕ) (operations rest : List Operation) (old now : Held) (r : Remaining max_rows operations rest old now) where
+  there : (others : List Operation) (outcome : Outcome Content) → AreOperations (bounds_of max_rows now) others now.draft outcome → AreOperations (bounds_of max_rows old) others now.draft outcome
+  there others outcome h = subst (λ (b : Bounds). AreOperations b others now.draft outcome) (same_bounds max_rows now old r.limit r.default_graph) h
 
-    pub stands : (new : Held) → new.base ≡ now.base → new.limit ≡ now.limit → new.default_graph ≡ now.default_graph → IsOperation (bounds_of max_rows now) o now.draft (Ok new.draft)
-        → Standing max_rows (take (i + 1) operations) old new
-    stands new b l d k = record {
-      base = b ∙ h.base;
-      limit = l ∙ h.limit;
-      default_graph = d ∙ h.default_graph;
-      outcome = one_more (bounds_of max_rows old) operations i o old.draft now.draft (Ok new.draft) lt is h.outcome (there (Ok new.draft) k);
-    }
-
-    pub refused : (f : QFault) → IsOperation (bounds_of max_rows now) o now.draft (Err f) → AreOperations (bounds_of max_rows old) operations old.draft (Err f)
-    refused f k = stopped (bounds_of max_rows old) operations i o old.draft now.draft f lt is h.outcome (there (Err f) k)
-
--- the same of the same list
-pub same_operations : (bounds : Bounds) (operations operations2 : List Operation) (old : Content) (outcome : Outcome Content) → operations ≡ operations2 → AreOperations bounds operations old outcome → AreOperations bounds operations2 old outcome
-same_operations bounds operations operations2 old outcome e h = subst (λ (l : List Operation). AreOperations bounds l old outcome) e h
+  -- after the first so many of the rest
+  pub remain : (n : ℕ) (new : Held) → new.base ≡ now.base → new.limit ≡ now.limit → new.default_graph ≡ now.default_graph → AreOperations (bounds_of max_rows now) (take n rest) now.draft (Ok new.draft)
+      → Remaining max_rows operations (drop n rest) old new
+  remain n new b l d h = record {
+    base = b ∙ r.base;
+    limit = l ∙ r.limit;
+    default_graph = d ∙ r.default_graph;
+    outcome = λ outcome k. r.outcome outcome (split (bounds_of max_rows old) n rest now.draft new.draft outcome (there (take n rest) (Ok new.draft) h) k);
+  }
 
 -- ---- a request
 

@@ -2,3 +2,4 @@
 pub mod Lawful
 pub mod Rows
 pub mod Carried
+pub mod DataRun

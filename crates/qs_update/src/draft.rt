@@ -1,18 +1,20 @@
 //! Operations over a draft of a store (SPARQL 1.1 Update, 3 and 4.3).
 
-ghost use Rattle.std.specs.Prelude.{◌≡◌, IsTrue};
+ghost use Rattle.std.specs.Prelude.{◌≡◌, ◌<◌, ◌≤◌, false, length, IsTrue, IfOk};
+ghost use Rattle.std.specs.List.{list_all};
 ghost use Rattle.qs_terms.specs.Dataset.{is_above_blanks};
 ghost use Rattle.qs_syntax_ast.specs.declared.update.Operation.TheVariants as operation;
 ghost use Rattle.qs_syntax_scope.specs.VariablesIn as scope;
 ghost use Rattle.qs_update_laws.specs.Below.{have_iri_predicates};
 ghost use Rattle.qs_update_laws.specs.Written.{operation_values_have_no_blank, update_values_have_no_blank, values_have_no_blank};
-ghost use Rattle.qs_update.specs.inner.Carried.{BecomesOne};
-ghost use Rattle.qs_update.specs.Effect.{of_data};
-ghost use Rattle.qs_update.specs.Request.{bounds_of, IsCarriedOut, IsOperation, AreOperations};
+ghost use Rattle.qs_update.specs.inner.Carried.{BecomesOne, BecomesFirst};
+ghost use Rattle.qs_update.specs.inner.DataRun.{is_data};
+ghost use Rattle.qs_update.specs.Request.{bounds_of, IsOperation, AreOperations};
 
 use crate::carried::apply_operation;
+use crate::data::data_run;
 use crate::lawful::effects_are_lawful;
-use crate::modified::{data, deleted_where, modified_where};
+use crate::modified::{deleted_where, modified_where};
 use crate::whole_graphs::{clear, create, transfer};
 use qs_store::{Draft, Removal};
 use qs_syntax_ast::term::Variable;
@@ -21,24 +23,6 @@ use qs_syntax_scope::operation_variables;
 use qs_terms::QFault;
 use qs_update_laws::laws::quads_are_told_one_by_one;
 use std::alloc::Global;
-
-// INSERT DATA and DELETE DATA. They read no quads, so that their time doesn't grow with the store.
-fn change_data(
-    alloc: Global,
-    delete: &[QuadBlock],
-    insert: &[QuadBlock],
-    draft: &mut Draft<'_>,
-) -> Result<(), QFault>
-    ensures same_reference { draft.new.store.ghost_name ≡ draft.old.store.ghost_name }
-    ensures base { draft.new.store.now.base ≡ draft.old.store.now.base }
-    ensures limit { draft.new.store.now.limit ≡ draft.old.store.now.limit }
-    ensures default_graph { draft.new.store.now.default_graph ≡ draft.old.store.now.default_graph }
-    ensures outcome { BecomesOne (IsCarriedOut draft.old.store.now.limit draft.old.store.now.draft (of_data delete.now insert.now draft.old.store.now.draft.next)) result draft.new.store.now.draft }
-{
-    let next = draft.next_blank();
-    let effect = data(alloc, delete, insert, next)?;
-    apply_operation(draft, &effect)
-}
 
 // The next blank node's number of the draft. The predicates of its quads are IRIs. An operation is defined over some list of the quads, each
 // once, since the bag of a WHERE's solutions doesn't depend on their order: here it is the draft's own list.
@@ -95,14 +79,15 @@ fn modify_where(
     apply_operation(draft, &effect)
 }
 
-// Only an operation with a WHERE has variables, so they are listed for no other.
+// An operation that isn't INSERT DATA or DELETE DATA. Only one with a WHERE has variables, so they are listed for no other.
 fn operate(
     alloc: Global,
     operation: &Operation,
     draft: &mut Draft<'_>,
     max_rows: u64,
 ) -> Result<(), QFault>
-    requires { IsTrue (operation_values_have_no_blank operation.now) }
+    requires values { IsTrue (operation_values_have_no_blank operation.now) }
+    requires no_data { is_data operation.now ≡ false }
     ensures same_reference { draft.new.store.ghost_name ≡ draft.old.store.ghost_name }
     ensures base { draft.new.store.now.base ≡ draft.old.store.now.base }
     ensures limit { draft.new.store.now.limit ≡ draft.old.store.now.limit }
@@ -110,8 +95,8 @@ fn operate(
     ensures outcome { BecomesOne (IsOperation (bounds_of max_rows draft.old.store.now) operation.now draft.old.store.now.draft) result draft.new.store.now.draft }
 {
     match operation {
-        Operation::InsertData(blocks) => change_data(alloc, &[], blocks.as_slice(), draft),
-        Operation::DeleteData(blocks) => change_data(alloc, blocks.as_slice(), &[], draft),
+        Operation::InsertData(_) => unreachable!(),
+        Operation::DeleteData(_) => unreachable!(),
         Operation::DeleteWhere(blocks) => {
             let variables = operation_variables(alloc, operation)?;
             delete_where(
@@ -135,6 +120,31 @@ fn operate(
     }
 }
 
+// Carries the first operations out that one change can make, and says how many: a run of INSERT DATA and DELETE DATA, or one other.
+fn operate_first(
+    alloc: Global,
+    operations: &[Operation],
+    draft: &mut Draft<'_>,
+    max_rows: u64,
+) -> Result<usize, QFault>
+    requires some { 0 < length operations.now }
+    requires values { IsTrue (list_all operation_values_have_no_blank operations.now) }
+    ensures same_reference { draft.new.store.ghost_name ≡ draft.old.store.ghost_name }
+    ensures base { draft.new.store.now.base ≡ draft.old.store.now.base }
+    ensures limit { draft.new.store.now.limit ≡ draft.old.store.now.limit }
+    ensures default_graph { draft.new.store.now.default_graph ≡ draft.old.store.now.default_graph }
+    ensures count { IfOk result (λ count. (0 < count) × (count ≤ length operations.now)) }
+    ensures outcome { BecomesFirst (bounds_of max_rows draft.old.store.now) operations.now draft.old.store.now.draft result draft.new.store.now.draft }
+{
+    let run = data_run(alloc, operations, draft.next_blank())?;
+    if run.count > 0 {
+        apply_operation(draft, &run.effect)?;
+        return Ok(run.count);
+    }
+    operate(alloc, &operations[0], draft, max_rows)?;
+    Ok(1)
+}
+
 /// Carries the operations of an update out, each over what those before it left, up to the first that is refused. No row of a VALUES in
 /// it has a blank node. The store below the draft stays as it was.
 ///
@@ -156,9 +166,10 @@ pub fn operate_all(
     ensures default_graph { draft.new.store.now.default_graph ≡ draft.old.store.now.default_graph }
     ensures outcome { BecomesOne (AreOperations (bounds_of max_rows draft.old.store.now) update.now.operations draft.old.store.now.draft) result draft.new.store.now.draft }
 {
-    let operations = update.operations.as_slice();
-    for operation in operations {
-        operate(alloc, operation, draft, max_rows)?;
+    let mut rest = update.operations.as_slice();
+    while !rest.is_empty() {
+        let count = operate_first(alloc, rest, draft, max_rows)?;
+        rest = rest.split_at(count).1;
     }
     Ok(())
 }

@@ -9,17 +9,15 @@ ghost use Rattle.qs_query_template.specs.inner.Lent.{lent};
 ghost use Rattle.qs_query_template.specs.Template as made;
 ghost use Rattle.qs_algebra.specs.Translation.{translated_where, translated_blocks};
 ghost use Rattle.qs_update.specs.Effect as spec;
-ghost use Rattle.qs_update.specs.inner.Lawful.{IsLawful};
 ghost use Rattle.qs_update.specs.inner.Rows.{AreAllRows};
 
 use crate::effect::Effect;
 use crate::graphs::iri_term;
-use crate::lawful::effects_are_lawful;
 use crate::templates::{deletion, template_with};
 use qs_algebra::{Pattern, drop_pattern, translate_blocks, translate_where_with};
 use qs_algebra_solutions::{Answer, Row};
 use qs_query_forms::solutions;
-use qs_query_template::{Template, instances, next_after, quads_to_delete, quads_to_insert};
+use qs_query_template::{Template, instances, next_after};
 use qs_store::Draft;
 use qs_syntax_ast::term::Variable;
 use qs_syntax_ast::update::{Modify, QuadBlock};
@@ -64,40 +62,6 @@ fn modified_by(
     let delete = template_with(alloc, &names, with, delete)?;
     let insert = template_with(alloc, &names, with, insert)?;
     modified(alloc, delete, &insert, next, rows)
-}
-
-// What blocks of quads without variables do.
-#[tactic(auto, using(crate::proofs::OfData::not_changed))]
-fn changed_by_data(
-    alloc: Global,
-    delete: &[QuadBlock],
-    insert: &[QuadBlock],
-    next: u64,
-) -> Result<Effect, QFault>
-    ensures { OrOutOfMemory (spec.of_data delete.now insert.now next) result }
-{
-    let inserted = quads_to_insert(alloc, insert, next)?;
-    let removed = quads_to_delete(alloc, delete)?;
-    Ok(Effect {
-        removed,
-        added: inserted.quads,
-        next: inserted.next_blank,
-    })
-}
-
-/// What INSERT DATA and DELETE DATA do. They read no quads, so the number after is above the blank nodes of the added ones, whichever it
-/// was before.
-pub fn data(
-    alloc: Global,
-    delete: &[QuadBlock],
-    insert: &[QuadBlock],
-    next: u64,
-) -> Result<Effect, QFault>
-    ensures effect { OrOutOfMemory (spec.of_data delete.now insert.now next) result }
-    ensures lawful { IfOk result (IsLawful next) }
-{
-    effects_are_lawful();
-    changed_by_data(alloc, delete, insert, next)
 }
 
 fn lent_rows<'a>(alloc: Global, rows: &'a [Row]) -> Result<Vec<&'a Row>, AllocError>

@@ -1,9 +1,9 @@
 //! A store of the data of a file, and a service over it.
 
-ghost use Rattle.std.specs.Prelude.{◌≡◌, IfOk, MatchResult};
+ghost use Rattle.std.specs.Prelude.{◌≡◌, Ok, Err, IfOk, MatchResult};
 ghost use Rattle.qs_terms.specs.declared.fault.QFault.TheVariants.{Memory};
 ghost use Rattle.quads.specs.Due as spec;
-ghost use Rattle.quads.specs.Due.{max_terms};
+ghost use Rattle.quads.specs.Due.{empty, max_terms};
 ghost use Rattle.quads.specs.Service.{BecomesService};
 ghost use Rattle.quads.specs.declared.refusal.Refusal.TheVariants.{Fault};
 ghost use Rattle.quads.specs.inner.Load.{BecomesStored};
@@ -13,7 +13,7 @@ use crate::result::MAX_ROWS;
 use qs_base::drop_value;
 use qs_service::{OverStore, Service};
 use qs_store::{DefaultGraph, Store};
-use qs_store_load::{LoadFault, load};
+use qs_store_load::{LoadFault, load, load_owned};
 use qs_terms::QFault;
 use std::alloc::Global;
 use std::hash::RandomState;
@@ -21,6 +21,28 @@ use std::hash::RandomState;
 /// The most terms that the store knows: as many as there are numbers for them. Data with more are refused as full, before a fault of the text
 /// of the job.
 const MAX_TERMS: u32 = 4_294_967_295;
+
+// A store without quads.
+fn new_store(alloc: Global, hasher: RandomState, default_graph: DefaultGraph) -> Store
+    ensures base { result.base ≡ empty }
+    ensures limit { result.limit ≡ max_terms }
+    ensures default_graph { result.default_graph ≡ default_graph }
+{
+    Store::with_default(alloc, MAX_TERMS, hasher, default_graph)
+}
+
+// The store where its load succeeded, or the fault of the load.
+fn loaded_store(store: Store, loaded: Result<(), LoadFault>) -> Result<Store, LoadFault>
+    ensures { MatchResult loaded (λ _. result ≡ Ok store) (λ fault. result ≡ Err fault) }
+{
+    match loaded {
+        Ok(()) => Ok(store),
+        Err(fault) => {
+            drop_value(store);
+            Err(fault)
+        }
+    }
+}
 
 /// Returns a store of the quads of the file with this default graph.
 ///
@@ -36,17 +58,13 @@ pub fn load_store(
     ensures becomes { BecomesStored default_graph file.now result }
     ensures limit { IfOk result (λ store. store.limit ≡ max_terms) }
 {
-    let mut store = Store::with_default(alloc, MAX_TERMS, hasher, default_graph);
-    match load(alloc, hasher, &mut store, file) {
-        Ok(()) => Ok(store),
-        Err(fault) => {
-            drop_value(store);
-            Err(fault)
-        }
-    }
+    let mut store = new_store(alloc, hasher, default_graph);
+    let loaded = load(alloc, hasher, &mut store, file);
+    loaded_store(store, loaded)
 }
 
-/// Returns a store of the quads of the file, whose bytes are dropped.
+/// Returns a store of the quads of the file. Its bytes are dropped once they are read, before the store takes the memory that it needs
+/// for their quads.
 ///
 /// # Errors
 ///
@@ -60,9 +78,9 @@ pub fn load_owned_store(
     ensures becomes { BecomesStored default_graph file.items result }
     ensures limit { IfOk result (λ store. store.limit ≡ max_terms) }
 {
-    let loaded = load_store(alloc, hasher, default_graph, file.as_slice());
-    drop(file);
-    loaded
+    let mut store = new_store(alloc, hasher, default_graph);
+    let loaded = load_owned(alloc, hasher, &mut store, file);
+    loaded_store(store, loaded)
 }
 
 // A service over the store, with no connection.

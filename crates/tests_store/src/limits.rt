@@ -64,6 +64,14 @@ const SOLUTIONS: &[Row] = &[
 /// From the next number 2^64 - 2 one number is left that has one after it: two solutions would take two.
 const NUMBERS: &[Row] = &[
     Row {
+        text: "INSERT DATA { <e:a> <e:q> _:n } ; INSERT DATA { <e:a> <e:q> _:m }",
+        most: 9,
+        end: End::Full,
+        quads: 2,
+        terms: 5,
+        next: 18_446_744_073_709_551_614,
+    },
+    Row {
         text: "INSERT { ?s <e:q> _:n } WHERE { ?s <e:p> ?o }",
         most: 9,
         end: End::Full,
@@ -83,6 +91,14 @@ const NUMBERS: &[Row] = &[
 
 /// Three terms are allowed: a removal knows no new one, and a request needs room for all that its operations insert.
 const TERMS: &[Row] = &[
+    Row {
+        text: "INSERT DATA { <e:a> <e:p> <e:b> } ; INSERT DATA { <e:b> <e:p> <e:c> } ; INSERT DATA { <e:a> <e:p> <e:a> }",
+        most: 9,
+        end: End::Full,
+        quads: 0,
+        terms: 0,
+        next: 0,
+    },
     Row {
         text: "INSERT DATA { <e:a> <e:p> <e:b> }",
         most: 9,

@@ -1,10 +1,10 @@
 -- The sequence of solutions that stand in some order already.
-use Rattle.std.specs.Prelude.{◌≡◌, ◌⊎◌, ◌<◌, ◌≤◌, ℕ, ◌+◌, Bool, true, false, nat_lt, List, [], ◌++◌, length, map, Option, Some, None, Ok, Err, if◌then◌else◌}
+use Rattle.std.specs.Prelude.{◌≡◌, ◌⊎◌, ◌<◌, ◌≤◌, ℕ, ◌+◌, Bool, true, false, nat_lt, List, [], ◌++◌, drop, length, map, Option, Some, None, Ok, Err, IfSome, if◌then◌else◌}
 use Rattle.qs_terms.specs.Bag.{SameBag}
 use Rattle.qs_terms.specs.Outcome.{Outcome, and_then}
 use Rattle.qs_terms.specs.declared.fault.QFault.TheVariants.{TooManyRows}
 use Rattle.qs_algebra_solutions.specs.Solution.{Solution, projected}
-use Rattle.qs_algebra_solutions.specs.Some.{is_enough}
+use Rattle.qs_algebra_solutions.specs.Some.{AreSome, is_enough}
 use Rattle.qs_algebra_solutions.specs.declared.answer.Answer.{Answer}
 use Rattle.qs_algebra_solutions.specs.declared.answer.Answer.TheVariants.{Solutions}
 use Rattle.qs_query_order.specs.declared.condition.OrderCondition.{OrderCondition}
@@ -60,6 +60,18 @@ abbrev pub IsGraphOf : Construction → ℕ → ℕ → List Solution → Outcom
 IsGraphOf asked next max_rows all outcome =
     ((max_rows < length (sliced asked.slice all)) × (outcome ≡ Err TooManyRows))
     ⊎ ((length (sliced asked.slice all) ≤ max_rows) × IsBuilt (made asked.template next (sliced asked.slice all)) outcome)
+
+-- the same of those that are left after the OFFSET
+abbrev pub IsGraphOfRest : Construction → ℕ → ℕ → List Solution → Outcome Answer → Type 0
+IsGraphOfRest asked next max_rows rest outcome =
+    let part = limited asked.slice.limit rest in
+    ((max_rows < length part) × (outcome ≡ Err TooManyRows)) ⊎ ((length part ≤ max_rows) × IsBuilt (made asked.template next part) outcome)
+
+-- the rows are those after the OFFSET of the front of some solutions in order, as many as suffice
+abbrev pub AreRest : Construction → ℕ → List Solution → List Solution → Type 0
+AreRest asked max_rows rows solutions =
+    (count most : Option ℕ) × (some front : List Solution) × AreSome most some solutions × IfSome most (ByLimit asked.slice asked.order max_rows)
+    × IsFront asked.order some count front × Suffices asked.slice count × (rows ≡ drop asked.slice.offset front)
 
 -- the rows with their variables
 abbrev pub with_vars : List Name → Outcome (List Solution) → Outcome Answer

@@ -1,9 +1,9 @@
 -- INSERT DATA and DELETE DATA (SPARQL 1.1 Update, 3.1.1 and 3.1.2): the instances of the template of their blocks under the one
 -- solution, which binds nothing, and the same made of the blocks without a template.
-use Rattle.std.specs.Prelude.{ℕ, List, [], ◌∷◌, length, Option, Some, None, Ok}
+use Rattle.std.specs.Prelude.{ℕ, List, [], ◌∷◌, ◌++◌, length, Option, Some, None}
 use Rattle.std.specs.List.{flat_map}
 use Rattle.std.specs.Option.{unwrap_or}
-use Rattle.qs_terms.specs.Outcome.{Outcome, and_then}
+use Rattle.qs_terms.specs.Outcome.{Outcome}
 use Rattle.qs_terms.specs.Statement.{Statement}
 use Rattle.qs_terms.specs.declared.term.Term.{Term}
 use Rattle.qs_terms.specs.declared.term.Term.TheVariants as value
@@ -18,15 +18,15 @@ use Rattle.qs_syntax_ast.specs.declared.term.VarOrIri.TheVariants as name
 use Rattle.qs_syntax_ast.specs.declared.update.QuadBlock.{QuadBlock}
 use Rattle.qs_algebra_solutions.specs.Solution.{unbound}
 use Rattle.qs_query_template.specs.Blanks.{number_in}
-use Rattle.qs_query_template.specs.Instances.{fresh, quad_of, instances, made, next_after}
+use Rattle.qs_query_template.specs.Instances.{fresh, quad_of, instances, next_after, within}
 use Rattle.qs_query_template.specs.Template.{template_of_blocks}
-use Rattle.qs_query_template.specs.declared.data_blocks.QuadsToInsert.{QuadsToInsert}
 
--- the quads, and the number after those of their fresh blank nodes; or the fault that these don't suffice
-abbrev pub inserted : List QuadBlock → ℕ → Outcome QuadsToInsert
-inserted blocks next =
+-- the number after those of the fresh blank nodes, and these quads with the new ones after them; or the fault that the numbers don't suffice
+abbrev pub inserted : List Statement → List QuadBlock → ℕ → Outcome (ℕ × List Statement)
+inserted quads blocks next =
     let t = template_of_blocks [] blocks in
-    and_then (made t next (unbound 0 ∷ [])) (λ quads. Ok (record { quads = quads; next_blank = next_after t next 1 }))
+    let after = next_after t next 1 in
+    within after (after, quads ++ instances t next (unbound 0 ∷ []))
 
 -- the quads to remove, of a template that takes no fresh blank nodes
 abbrev pub deleted : List QuadBlock → ℕ → List Statement

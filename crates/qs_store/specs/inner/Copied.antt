@@ -1,5 +1,5 @@
 -- Entries of whole graphs.
-use Rattle.std.specs.Prelude.{◌≡◌, ◌↔◌, ℕ, ◌<◌, List, ◌∷◌}
+use Rattle.std.specs.Prelude.{◌≡◌, ◌≢◌, ◌↔◌, ℕ, ◌<◌, List, ◌∷◌}
 use Rattle.std.specs.List.{Contains}
 use Rattle.qs_index.specs.Graph.{graph_of}
 use Rattle.qs_terms.specs.Statement.{Statement}
@@ -28,6 +28,10 @@ pub record AreInGraphs (entries : List (List ℕ)) (graphs : List ℕ) (found : 
 -- the entries of all named graphs
 abbrev pub AreNamed : List (List ℕ) → List (List ℕ) → Type 0
 AreNamed entries found = (x : List ℕ) → Contains found x ↔ (Contains entries x × (0 < graph_of x))
+
+-- the entries of a list that are of other graphs
+abbrev pub IsWithoutGraph : ℕ → List (List ℕ) → List (List ℕ) → Type 0
+IsWithoutGraph graph old new = (x : List ℕ) → Contains new x ↔ (Contains old x × (graph_of x ≢ graph))
 
 -- entries over these terms, which say the quads of a list
 pub record AreEntriesOf (terms : List Term) (quads : List Statement) (found : List (List ℕ)) : Type 0 where

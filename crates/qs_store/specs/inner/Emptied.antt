@@ -1,5 +1,5 @@
 -- Graphs of which a draft has removed all entries of its store.
-use Rattle.std.specs.Prelude.{◌≡◌, ℕ, true, List}
+use Rattle.std.specs.Prelude.{◌≡◌, ◌⊎◌, ℕ, true, List}
 use Rattle.std.specs.List.{All, Contains}
 use Rattle.qs_index.specs.Entry.{IsAscending}
 use Rattle.qs_index.specs.Graph.{graph_of, is_named}
@@ -24,3 +24,10 @@ AreEmptied index removed graphs = All (λ graph. AreOut (One graph) index remove
 pub record IsRemoval (index removed : List (List ℕ)) : Type 0 where
   pub once : IsAscending removed
   pub taken : (x : List ℕ) → Contains removed x → Contains index x
+
+-- the removed entries, with all of a graph that stand
+pub record RemovesGraph (graph : ℕ) (index old new : List (List ℕ)) : Type 0 where
+  pub once : IsAscending new
+  pub kept : (x : List ℕ) → Contains old x → Contains new x
+  pub all : (x : List ℕ) → Contains index x → graph_of x ≡ graph → Contains new x
+  pub only : (x : List ℕ) → Contains new x → Contains old x ⊎ (Contains index x × (graph_of x ≡ graph))

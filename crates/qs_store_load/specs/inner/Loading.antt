@@ -53,3 +53,9 @@ pub record AreNumbered (bytes : List ℕ) (first next : ℕ) (old known : List T
   pub quads : List Statement
   pub reads : IsNquads bytes first quads next
   pub say : Say old known entries quads
+
+-- the same of a draft that has learnt the terms of the text alone, and is otherwise the store
+pub record IsNumbered (bytes : List ℕ) (next : ℕ) (held : Held) (entries : List (List ℕ)) : Type 0 where
+  pub same_quads : held.draft.quads ≡ held.base.quads
+  pub same_next : held.draft.next ≡ held.base.next
+  pub numbered : AreNumbered bytes held.base.next next held.base.known held.draft.known entries

@@ -12,7 +12,7 @@ use Rattle.qs_index.proofs.batch.insert_turned.Goals as goal
 
 pub returns-clause-union : goal.returns-clause-union
 returns-clause-union c =
-    subst (λ k. IsUnion c.args.order.now.entries k c.insert_all.new.self.entries) c.turn_all.ensures.turned (IsUnion-permutation c.args.order.now.entries c.turn_all.new.entries c.sort_unstable_by_key.new.self c.insert_all.new.self.entries c.sort_unstable_by_key.ensures.permutation c.insert_all.ensures.union)
+    subst (λ k. IsUnion c.args.order.now.entries k c.insert_all.new.self.entries) c.turn_all.ensures.turned (IsUnion-permutation c.args.order.now.entries c.turn_all.new.entries c.sort.new.entries c.insert_all.new.self.entries c.sort.ensures.permutation c.insert_all.ensures.union)
 
 pub returns-clause-entries : goal.returns-clause-entries
 returns-clause-entries c = subst (All IsEntry) c.turn_all.ensures.turned c.turn_all.ensures.entries
@@ -21,4 +21,4 @@ pub returns-clause-permutation : goal.returns-clause-permutation
 returns-clause-permutation c =
     let back = restored c.args.permutation in
     let same = ap (map back) c.turn_all.ensures.turned ∙ map-map (turned c.args.permutation) back (restored-turned c.args.permutation) c.args.entries.now in
-    subst (IsPermutation c.args.entries.now) (sym c.restore_all.ensures) (subst (λ k. IsPermutation k (map back c.sort_unstable_by_key.new.self)) same (IsPermutation-map back c.turn_all.new.entries c.sort_unstable_by_key.new.self c.sort_unstable_by_key.ensures.permutation))
+    subst (IsPermutation c.args.entries.now) (sym c.restore_all.ensures) (subst (λ k. IsPermutation k (map back c.sort.new.entries)) same (IsPermutation-map back c.turn_all.new.entries c.sort.new.entries c.sort.ensures.permutation))

@@ -1,6 +1,7 @@
-use Rattle.qs_query_forms.proofs.Enough.{rows_from_some}
+use Rattle.qs_query_forms.proofs.AnyOrder.{ordered_rows}
 use Rattle.qs_query_forms.proofs.answer.ordered.Goals as goal
 
 pub returns : goal.returns
 returns g c =
-    rows_from_some c.args.asked.now _ _ _ _ _ c.args.max_rows c.rows_of.result (rw (c.as_slice.ensures, c.as_slice-2.ensures.value) at c.in_ok-front.ensures) c.in_ok-all.ensures c.enough-most.ensures c.needed_to_select-count.ensures c.rows_of.ensures
+    ordered_rows c.args.asked.now _ c.in_ok-rows.rows.items c.args.max_rows c.first_of.result c.needed_count.result c.enough_for_slice.result c.if-asked.false
+    (rw (c.as_slice.ensures, c.as_slice-2.ensures) at c.in_ok-rows.ensures) c.needed_count.ensures (rw c.as_slice-3.ensures at c.enough_for_slice.ensures) c.first_of.ensures

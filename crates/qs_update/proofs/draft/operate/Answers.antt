@@ -1,27 +1,15 @@
-use Rattle.std.proofs.Common.{◌∙◌, [], Ok, refl, sym, ap}
+use Rattle.std.proofs.Common.{◌∙◌, Ok, refl, sym, ap}
 use Rattle.qs_syntax_ast.specs.declared.update.Operation.TheVariants as operation
 use Rattle.qs_store.specs.declared.removal.Removal.TheVariants as removal
-use Rattle.qs_update.specs.Effect.{of_data, cleared, created, transferred}
+use Rattle.qs_update.specs.Effect.{cleared, created, transferred}
 use Rattle.qs_update.proofs.ByEffect.{operated, operated_by}
 use Rattle.qs_update.proofs.draft.operate.Goals as goal
-
-pub returns-in-InsertData-clause-outcome : goal.returns-in-InsertData-clause-outcome
-returns-in-InsertData-clause-outcome c =
-    let held = c.args.draft.now.store.now in
-    operated_by c.args.max_rows held c.args.operation.now _ (of_data [] c.as_slice.result.now held.draft.next) c.change_data.result c.change_data.new.draft.store.now.draft c.in-InsertData.is
-    (ap (λ b. of_data [] b held.draft.next) c.as_slice.ensures) c.change_data.ensures.outcome
-
-pub returns-in-DeleteData-clause-outcome : goal.returns-in-DeleteData-clause-outcome
-returns-in-DeleteData-clause-outcome c =
-    let held = c.args.draft.now.store.now in
-    operated_by c.args.max_rows held c.args.operation.now _ (of_data c.as_slice-in-DeleteData.result.now [] held.draft.next) c.change_data-in-DeleteData.result c.change_data-in-DeleteData.new.draft.store.now.draft c.in-DeleteData.is
-    (ap (λ b. of_data b [] held.draft.next) c.as_slice-in-DeleteData.ensures) c.change_data-in-DeleteData.ensures.outcome
 
 pub returns-in_ok-variables-in-DeleteWhere-clause-outcome : goal.returns-in_ok-variables-in-DeleteWhere-clause-outcome
 returns-in_ok-variables-in-DeleteWhere-clause-outcome c =
     let held = c.args.draft.now.store.now in
-    operated c.args.max_rows held c.args.operation.now (operation.DeleteWhere c.as_slice-in-DeleteWhere-2.result.now) c.delete_where.result c.delete_where.new.draft.store.now.draft
-    (c.in-DeleteWhere.is ∙ ap operation.DeleteWhere (sym c.as_slice-in-DeleteWhere-2.ensures)) c.delete_where.ensures.outcome
+    operated c.args.max_rows held c.args.operation.now (operation.DeleteWhere c.as_slice-in-DeleteWhere.result.now) c.delete_where.result c.delete_where.new.draft.store.now.draft
+    (c.in-DeleteWhere.is ∙ ap operation.DeleteWhere (sym c.as_slice-in-DeleteWhere.ensures)) c.delete_where.ensures.outcome
 
 pub returns-in_ok-variables-in-Modify-clause-outcome : goal.returns-in_ok-variables-in-Modify-clause-outcome
 returns-in_ok-variables-in-Modify-clause-outcome c =

@@ -1,21 +1,16 @@
 use Rattle.std.proofs.Common.{◌∙◌}
-use Rattle.quads.proofs.Loads.{is_empty, loaded, not_loaded}
+use Rattle.quads.specs.inner.Load.{BecomesStored}
+use Rattle.quads.proofs.Loads.{becomes, stored_limit}
 use Rattle.quads.proofs.load.load_store.Goals as goal
 
-pub returns-in-Ok-clause-becomes : goal.returns-in-Ok-clause-becomes
-returns-in-Ok-clause-becomes c =
-    let store = c.with_default-store.result in
-    let made = c.with_default-store.ensures in (
-      loaded store.limit c.args.file.now store.base made.limit (is_empty store.base made.quads made.next made.known) c.load.new.store.base c.in-Ok.ensures.loaded,
-      c.in-Ok.ensures.limit ∙ made.limit,
-      c.in-Ok.ensures.default_graph ∙ made.default_graph,
-    )
+pub returns-clause-becomes : goal.returns-clause-becomes
+returns-clause-becomes c =
+    let made = c.new_store-store.ensures in
+    let done = c.load-loaded.ensures in
+    becomes c.new_store-store.result.limit c.args.file.now c.new_store-store.result.base made.limit made.base c.args.default_graph c.load-loaded.new.store c.load-loaded.result c.loaded_store.result
+    done.loaded done.fault done.limit (done.default_graph ∙ made.default_graph) c.loaded_store.ensures
 
-pub returns-in-Ok-clause-limit : goal.returns-in-Ok-clause-limit
-returns-in-Ok-clause-limit c = c.in-Ok.ensures.limit ∙ c.with_default-store.ensures.limit
-
-pub returns-in-Err-clause-becomes : goal.returns-in-Err-clause-becomes
-returns-in-Err-clause-becomes c =
-    let store = c.with_default-store.result in
-    let made = c.with_default-store.ensures in
-    not_loaded store.limit c.args.file.now store.base made.limit (is_empty store.base made.quads made.next made.known) c.in-Err.fault c.in-Err.ensures.fault
+pub returns-clause-limit : goal.returns-clause-limit
+returns-clause-limit c =
+    let is : BecomesStored c.args.default_graph c.args.file.now c.loaded_store.result = returns-clause-becomes c in
+    stored_limit c.args.default_graph c.args.file.now c.loaded_store.result is
