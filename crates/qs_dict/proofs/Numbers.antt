@@ -2,6 +2,7 @@
 use Rattle.std.proofs.Common.{◌≡◌, ◌↔◌, ℕ, zero, suc, ◌-◌, get_or, ◌+◌, ◌<◌, ◌≤◌, Bool, true, false, List, [], ◌∷◌, ◌++◌, length, take, Option, Some, None, slice_get, if◌then◌else◌, refl, sym, ap, ◌∙◌, arith, add-one}
 use Rattle.std.specs.List.{IsDistinct, list_any, position}
 use Rattle.std.specs.Option.{option_map}
+use Rattle.std.proofs.lemmas.Bool.{false≢true}
 use Rattle.std.proofs.lemmas.Option.{same_Some, none-some, slice_get_read}
 use Rattle.indexmap.specs.IndexSet.{insert_key}
 use Rattle.qs_terms.specs.Bag.{Distinct, with_new}
@@ -53,6 +54,16 @@ with_known terms term (suc i) e = rw (any_at_place (same_term term) terms i term
 -- what the set makes of its keys
 pub keys_with : (terms : List Term) (term : Term) → insert_key equ.ghosts.eq terms term ≡ with_new same_term terms term
 keys_with terms term = ap (λ p. if list_any p terms then terms else terms ++ term ∷ []) (eq_term term)
+
+-- a term that is there leaves the keys
+pub keys_stay : (terms new : List Term) (term : Term) (n : ℕ) → new ≡ insert_key equ.ghosts.eq terms term → number_of terms term ≡ Some n → new ≡ terms
+keys_stay terms new term n k e = k ∙ (keys_with terms term ∙ sym (with_known terms term n e))
+
+-- what the set lacks has no number
+pub no_number : (terms : List Term) (term : Term) (n : ℕ) → number_of terms term ≡ Some n → list_any (equ.ghosts.eq term) terms ≡ false → ⊥
+no_number terms term zero e a = number_at_zero _ e
+no_number terms term (suc i) e a =
+    false≢true (sym a ∙ (ap (λ p. list_any p terms) (eq_term term) ∙ any_at_place (same_term term) terms i term (place_of_number _ i e)))
 
 keeps_at : (terms more : List Term) (n : ℕ) → n ≤ length terms → term_at (terms ++ more) n ≡ term_at terms n
 keeps_at terms more zero h = refl

@@ -1,7 +1,7 @@
 //! A dictionary of terms.
 //!
-//! An unknown term is hashed twice, to look for it and to put it in. The set has no entry by reference, and finds a term by a
-//! term and not by its parts. `Dict::new` takes no memory, and `cut` past the end leaves all, so neither can fail.
+//! A term is looked for and put in by one call, so that a new one is hashed once: its texts are shared, and a copy takes no memory.
+//! `Dict::new` takes no memory, and `cut` past the end leaves all, so neither can fail.
 
 ghost use Rattle.std.specs.Prelude.{◌≡◌, ◌↔◌, ◌<◌, ◌≤◌, ℕ, None, Some, Ok, Err, [], length, take, IfOk, IfErr, OnOk, OnErr, IfSome, IsTrue};
 ghost use Rattle.qs_terms.specs.Bag.{with_new};
@@ -63,6 +63,9 @@ impl Dict {
         ensures place { result ≡ number_of self.now.terms term.now }
         ensures exact { (n : ℕ) → (result ≡ Some n) ↔ (term_at self.now.terms n ≡ Some term.now) }
     {
+        if let Some(number) = self.recent(term) {
+            return Some(number);
+        }
         let place = self.terms.get_index_of(term)?;
         Some(place as u32 + 1)
     }
@@ -103,32 +106,29 @@ impl Dict {
         }
     }
 
-    // The number of the term, where it is there. A new one finds no room where the limit is reached.
-    fn known(&self, term: &Term) -> Result<Option<u32>, DictFault>
-        ensures known { IfOk result (λ known. known ≡ number_of self.now.terms term.now) }
-        ensures room { result ≡ Ok None → length self.now.terms < self.now.limit }
-        ensures full { IfErr result (λ fault. (fault ≡ Full) × (number_of self.now.terms term.now ≡ None) × (length self.now.terms ≡ self.now.limit)) }
+    // The number of the term, where it is there, or else the fault.
+    fn known(&self, term: &Term, fault: DictFault) -> Result<u32, DictFault>
+        ensures known { IfOk result (λ n. number_of self.now.terms term.now ≡ Some n) }
+        ensures same { OnOk result (self.now.terms ≡ with_new same_term self.now.terms term.now) }
+        ensures absent { IfErr result (λ f. (f ≡ fault) × (number_of self.now.terms term.now ≡ None)) }
         ensures lawful { IsDictionary self.now }
     {
-        let len = self.len();
-        if let Some(number) = self.find(term) {
-            return Ok(Some(number));
+        let _count = self.len();
+        match self.find(term) {
+            Some(number) => Ok(number),
+            None => Err(fault),
         }
-        if len == self.limit {
-            return Err(DictFault::Full);
-        }
-        Ok(None)
     }
 
-    // Puts a new term last.
+    // The number of the term, which is put last where it is new. Only a new one may be refused.
     fn put(&mut self, term: Term) -> Result<u32, DictFault>
-        requires new { number_of self.old.terms term ≡ None }
         requires room { length self.old.terms < self.old.limit }
         ensures number { IfOk result (λ n. number_of self.new.terms term ≡ Some n) }
         ensures terms { OnOk result (self.new.terms ≡ with_new same_term self.old.terms term) }
         ensures limit { self.new.limit ≡ self.old.limit }
         ensures lawful { IsDictionary self.new }
         ensures refused { OnErr result (self.new ≡ self.old) }
+        ensures present { (n : ℕ) → number_of self.old.terms term ≡ Some n → (result ≡ Ok n) × (self.new ≡ self.old) }
         ensures memory { IfErr result (λ fault. fault ≡ Memory) }
         ensures kept { KeepsNumbers (length self.old.terms) self.old.terms self.new.terms }
     {
@@ -136,7 +136,7 @@ impl Dict {
         Ok(place as u32 + 1)
     }
 
-    // The number of the term, by its hash.
+    // The number of the term, which is hashed once. Its texts are shared, so that one that is there is compared by a copy.
     fn number_hashed(&mut self, term: &Term) -> Result<u32, DictFault>
         ensures number { IfOk result (λ n. number_of self.new.terms term.now ≡ Some n) }
         ensures terms { OnOk result (self.new.terms ≡ with_new same_term self.old.terms term.now) }
@@ -147,11 +147,14 @@ impl Dict {
         ensures full { (result ≡ Err Full) ↔ ((number_of self.old.terms term.now ≡ None) × (length self.old.terms ≡ self.old.limit)) }
         ensures kept { KeepsNumbers (length self.old.terms) self.old.terms self.new.terms }
     {
-        if let Some(number) = self.known(term)? {
-            return Ok(number);
+        let len = self.len();
+        if len == self.limit {
+            return self.known(term, DictFault::Full);
         }
-        let own = term.try_clone()?;
-        self.put(own)
+        match term.try_clone() {
+            Ok(own) => self.put(own),
+            Err(_) => self.known(term, DictFault::Memory),
+        }
     }
 
     /// The number of the term, which is put last where it is new, and has its texts in common with this one. Only a new term takes

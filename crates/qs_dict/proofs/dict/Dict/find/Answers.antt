@@ -1,4 +1,4 @@
-use Rattle.std.proofs.Common.{arith, Some, None, add-one}
+use Rattle.std.proofs.Common.{arith, Some, None, add-one, sym, ◌∙◌}
 use Rattle.qs_dict.proofs.Numbers.{place_number, exact_number}
 use Rattle.qs_dict.proofs.dict.Dict.find.Goals as goal
 
@@ -22,3 +22,9 @@ returns-clause-place c =
 
 pub returns-clause-exact : goal.returns-clause-exact
 returns-clause-exact c n = rw (returns-clause-place c, ← c.self.view_is) (exact_number _ _ c.self.invariant.distinct n)
+
+pub returns-in-Some-clause-exact : goal.returns-in-Some-clause-exact
+returns-in-Some-clause-exact c n =
+    let there = c.in-Some.ensures.number in
+    let exact = exact_number c.args.self.now.terms c.args.term.now c.recent.ensures.lawful.distinct n in
+    (λ e. exact.0 (there ∙ e), λ e. sym there ∙ exact.1 e)

@@ -1,6 +1,0 @@
-use Rattle.std.proofs.Common.{sym, ◌∙◌}
-use Rattle.qs_dict.proofs.Numbers.{with_known}
-use Rattle.qs_dict.proofs.dict.Dict.number_hashed.Goals as goal
-
-pub returns-in-Some-clause-terms : goal.returns-in-Some-clause-terms
-returns-in-Some-clause-terms c = with_known c.args.self.now.terms c.args.term.now c.in-Some.number (sym c.in_ok-number.ensures.known ∙ c.in-Some.is)
