@@ -8,21 +8,24 @@ ghost use Rattle.std.specs.List.{position};
 ghost use Rattle.qs_nquads.specs.declared.state.State.TheVariants as state;
 ghost use Rattle.qs_nquads.specs.inner.Run.{ends_in_iri, ends_in_string, HasRun};
 
-use crate::state::{State, is_string_char};
-use qs_lex_regular::character::is_iri_char;
+use crate::state::State;
 
-#[tactic(auto, unfolding(crate::specs::inner::Run::ends_in_iri))]
+// (One `match` becomes two tests of bits.)
+#[tactic(auto, unfolding(crate::specs::inner::Run::ends_in_iri, qs_lex_regular::specs::Character::is_iri_char))]
 fn ends_in_iri(b: u8) -> bool
     ensures { result ≡ ends_in_iri b }
 {
-    !(b < 0x80 && is_iri_char(b as char))
+    matches!(
+        b,
+        0..=b' ' | b'"' | b'<' | b'>' | b'\\' | b'^' | b'`' | b'{'..=b'}' | 128..=255
+    )
 }
 
-#[tactic(auto, unfolding(crate::specs::inner::Run::ends_in_string))]
+#[tactic(auto, unfolding(crate::specs::inner::Run::ends_in_string, crate::specs::Table::is_string_char))]
 fn ends_in_string(b: u8) -> bool
     ensures { result ≡ ends_in_string b }
 {
-    !(b < 0x80 && is_string_char(b as char))
+    matches!(b, b'"' | b'\\' | b'\n' | b'\r' | 128..=255)
 }
 
 // The place of the first byte that ends a run within an IRI.

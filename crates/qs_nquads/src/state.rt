@@ -60,7 +60,7 @@ pub enum State {
 }
 
 #[tactic(auto, unfolding(crate::specs::Table::is_string_char))]
-pub(crate) fn is_string_char(c: char) -> bool
+fn is_string_char(c: char) -> bool
     ensures { result ≡ is_string_char c }
 {
     c != '"' && c != '\\' && c != '\n' && c != '\r'
