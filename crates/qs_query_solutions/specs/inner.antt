@@ -2,3 +2,4 @@
 pub mod Collected
 pub mod Front
 pub mod SoFar
+pub mod Distinct

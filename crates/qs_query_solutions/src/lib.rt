@@ -1,13 +1,16 @@
 //! The solutions of a pattern over what queries see of a view: as many as suffice, or all.
 //!
 //! `active` tells which graph is read, `counts` what a plan is ordered by, and `planned` makes the plan that is run. `terms` makes the terms
-//! of a row of cells, `collected` keeps them, with or without duplicates, and `solutions` asks the plan of the pattern for one solution after
-//! another, until the caller has enough. `ordered` keeps rows of cells with their keys, where they are asked for in an order.
+//! of a row of cells, `collected` keeps them, and `solutions` asks the plan of the pattern for one solution after another, until the caller has
+//! enough. `distinct` keeps distinct rows of cells (`distinct_rows`). `ordered` keeps rows of cells with their keys, where they are asked for in
+//! an order.
 #![tactic(auto)]
 
 mod active;
 mod collected;
 mod counts;
+mod distinct;
+mod distinct_rows;
 mod ordered;
 mod planned;
 mod reading;
@@ -16,6 +19,7 @@ mod terms;
 
 pub use active::active_of;
 pub use counts::ViewCounts;
+pub use distinct::distinct_solutions;
 pub use ordered::{OrderedPart, ordered_solutions};
 pub use planned::plan_over;
-pub use solutions::{distinct_solutions, solutions_after, some_solutions};
+pub use solutions::{solutions_after, some_solutions};

@@ -6,7 +6,7 @@ ghost use Rattle.qs_terms.specs.Dataset.{graph_of};
 ghost use Rattle.qs_store.specs.ActiveGraph.{active_graph};
 ghost use Rattle.qs_store.specs.Visible.{visible_quads};
 ghost use Rattle.qs_algebra_solutions.specs.Solution.{Solution as Solved};
-ghost use Rattle.qs_algebra_solutions.specs.Some.{AreSome, AreSomeDistinct};
+ghost use Rattle.qs_algebra_solutions.specs.Some.{AreSome};
 ghost use Rattle.qs_algebra_patterns.specs.Eval.{eval};
 ghost use Rattle.qs_plan.specs.Plans.{plan_list};
 ghost use Rattle.qs_query_solutions.specs.After.{AreSomeAfter};
@@ -129,7 +129,7 @@ pub fn some_solutions<V: View>(
 ) -> Result<Vec<Solution>, AllocError>
     ensures { IfOk result (λ rows. AreSome most rows.items (eval (length pattern.now.names) (visible_quads (V.content view.now) (V.default_seen view.now)) pattern.now.root (graph_of (visible_quads (V.content view.now) (V.default_seen view.now)) (option_copied name.entry)))) }
 {
-    let mut found = Collected::new(alloc, None, false, most);
+    let mut found = Collected::new(alloc, None, most);
     match collect_all(alloc, pattern, view, name, 0, &mut found) {
         Ok(()) => Ok(found.into_rows()),
         Err(fault) => Err(out_of_memory(fault)),
@@ -162,31 +162,8 @@ pub fn solutions_after<V: View>(
 ) -> Result<Vec<Solution>, AllocError>
     ensures { IfOk result (λ rows. AreSomeAfter (option_copied columns.entry) offset most rows.items (eval (length pattern.now.names) (visible_quads (V.content view.now) (V.default_seen view.now)) pattern.now.root (graph_of (visible_quads (V.content view.now) (V.default_seen view.now)) (option_copied name.entry)))) }
 {
-    let mut found = Collected::new(alloc, columns, false, most_left(most, offset));
+    let mut found = Collected::new(alloc, columns, most_left(most, offset));
     match collect_all(alloc, pattern, view, name, offset, &mut found) {
-        Ok(()) => Ok(found.into_rows()),
-        Err(fault) => Err(out_of_memory(fault)),
-    }
-}
-
-/// The terms of these variables in some of the solutions of the pattern, each once: as many as suffice, or all (SPARQL 1.1 Query, 18.5:
-/// Project and Distinct). No two that are the same are kept, and no solution is asked for beyond those that suffice. The graph of the name
-/// is active, or the default graph where none is given.
-///
-/// # Errors
-/// `AllocError` where memory runs out.
-pub fn distinct_solutions<V: View>(
-    alloc: Global,
-    pattern: &Pattern,
-    view: &V,
-    name: Option<&Term>,
-    columns: &[usize],
-    most: Option<u64>,
-) -> Result<Vec<Solution>, AllocError>
-    ensures { IfOk result (λ rows. AreSomeDistinct columns.now most rows.items (eval (length pattern.now.names) (visible_quads (V.content view.now) (V.default_seen view.now)) pattern.now.root (graph_of (visible_quads (V.content view.now) (V.default_seen view.now)) (option_copied name.entry)))) }
-{
-    let mut found = Collected::new(alloc, Some(columns), true, most);
-    match collect_all(alloc, pattern, view, name, 0, &mut found) {
         Ok(()) => Ok(found.into_rows()),
         Err(fault) => Err(out_of_memory(fault)),
     }

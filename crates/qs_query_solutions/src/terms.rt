@@ -26,7 +26,11 @@ pub(crate) fn term<'a, V: View>(op: &'a Op<'_, V>, row: &Row, variable: usize) -
 }
 
 /// Binds the variable to an equal term of its own, if there is one.
-fn bind(solution: &mut Solution, variable: usize, term: Option<&Term>) -> Result<(), AllocError>
+pub(crate) fn bind(
+    solution: &mut Solution,
+    variable: usize,
+    term: Option<&Term>,
+) -> Result<(), AllocError>
     ensures { OnOk result (solution.new ≡ with_term solution.old variable (option_copied term.entry)) }
 {
     if let Some(term) = term {
@@ -52,37 +56,6 @@ pub(crate) fn solution<V: View>(
         bind(&mut solution, variable, term(op, row, variable))?;
     }
     Ok(solution)
-}
-
-/// An equal term of its own, if there is one.
-fn copied(term: Option<&Term>) -> Result<Option<Term>, AllocError>
-    ensures { IfOk result (λ t. t ≡ option_copied term.entry) }
-{
-    match term {
-        Some(term) => {
-            let term = term.try_clone()?;
-            Ok(Some(term))
-        }
-        None => Ok(None),
-    }
-}
-
-/// The terms of these variables in the row.
-pub(crate) fn terms<V: View>(
-    alloc: Global,
-    op: &Op<'_, V>,
-    row: &Row,
-    columns: &[usize],
-) -> Result<Vec<Option<Term>>, AllocError>
-    requires { FitsRow op.now.known op.now.table row.now }
-    ensures { IfOk result (λ terms. terms.items ≡ projected columns.now (row_solution op.now.known op.now.table row.now)) }
-{
-    let mut terms = Vec::with_capacity(alloc, columns.len())?;
-    for column in columns {
-        let term = copied(term(op, row, *column))?;
-        terms.push(term)?;
-    }
-    Ok(terms)
 }
 
 /// The solution of the terms of these variables in the row (SPARQL 1.1 Query, 18.5: Project).
