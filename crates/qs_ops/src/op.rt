@@ -4,10 +4,10 @@ ghost use Rattle.std.specs.Prelude.{◌≡◌, None, Some, true, Ok, IfOk, IfErr
 ghost use Rattle.qs_terms.specs.declared.fault.QFault.TheVariants.{Memory};
 ghost use Rattle.qs_store.specs.ActiveGraph.{active_graph};
 ghost use Rattle.qs_store.specs.declared.active.Active.TheVariants.{Default};
-ghost use Rattle.qs_expr.specs.Cell.{denoted, FitsCell, FitsRow};
+ghost use Rattle.qs_expr.specs.Cell.{denoted, row_solution, FitsCell, FitsRow};
 ghost use Rattle.qs_expr.specs.Evaluated.{Evaluates};
 ghost use Rattle.qs_expr.specs.Scratch.{IsTable, Grows};
-ghost use Rattle.qs_ops_walk.specs.Stream.{AreToCome, GivesOne, solution_if};
+ghost use Rattle.qs_ops_walk.specs.Stream.{AreToCome, GivesOne, PassesAlike, solution_if};
 ghost use Rattle.qs_plan.specs.Plans.{plan_list};
 
 use qs_expr::{Cell, Row, Scratch};
@@ -86,6 +86,18 @@ impl<'a, V: View> Op<'a, V> {
         ensures grows { Grows self.old.known self.old.table self.new.table }
     {
         self.cursor.next()
+    }
+
+    /// Passes over solutions to come that have the row's terms at these variables, as far as that is known without making them. No row is
+    /// made, and none of another term is passed over. So a caller who asks for distinct terms goes over fewer rows.
+    pub fn skip_alike(&mut self, columns: &[usize], row: &Row)
+        requires { FitsRow self.old.known self.old.table row.now }
+        ensures rows { PassesAlike columns.now (row_solution self.old.known self.old.table row.now) self.old.rows self.new.rows }
+        ensures over { self.old.is_over ≡ true → self.new.is_over ≡ true }
+        ensures known { self.new.known ≡ self.old.known }
+        ensures table { self.new.table ≡ self.old.table }
+    {
+        self.cursor.skip_alike(columns, row);
     }
 
     /// The term of a cell that a row has.

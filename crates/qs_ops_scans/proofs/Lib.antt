@@ -19,3 +19,4 @@ pub mod GraphNodes
 pub mod Feeding
 pub mod FedPairs
 pub mod Served
+pub mod Common

@@ -1,6 +1,8 @@
 //! The ends of a path pattern, and what a pair of cells makes of a row.
 
-ghost use Rattle.std.specs.Prelude.{◌≡◌};
+ghost use Rattle.std.specs.Prelude.{◌≡◌, true};
+ghost use Rattle.qs_expr.specs.Cell.{Cells, cell_at};
+ghost use Rattle.qs_expr.specs.declared.cell.Cell.{Cell as CellValue};
 ghost use Rattle.qs_algebra_patterns.specs.Basic.{is_repeated};
 ghost use Rattle.qs_ops_scans.specs.inner.Ends.{act_agrees, act_bound, acts_agree, acts_bound, binds_end, bound_cell, end_acts, ends_of, object_act, open_act, subject_act, variable_of};
 
@@ -163,4 +165,22 @@ pub(crate) fn bind_pair(row: &mut Row, acts: &EndActs, cells: &(Cell, Cell))
 {
     bind_end(row, acts.subject, cells.0);
     bind_end(row, acts.object, cells.1);
+}
+
+/// Whether the act leaves the variable as it is.
+#[tactic(auto, using(crate::proofs::Common::set_other))]
+fn act_leaves(act: EndAct, variable: usize) -> bool
+    ensures { result ≡ true → (c : CellValue) (m : Cells) → cell_at (act_bound act c m) variable ≡ cell_at m variable }
+{
+    match act {
+        EndAct::Bind(other) => other != variable,
+        _ => true,
+    }
+}
+
+/// Whether no pair binds the variable.
+pub(crate) fn leaves(acts: &EndActs, variable: usize) -> bool
+    ensures { result ≡ true → (cells : CellValue × CellValue) (m : Cells) → cell_at (acts_bound acts.now cells m) variable ≡ cell_at m variable }
+{
+    act_leaves(acts.subject, variable) && act_leaves(acts.object, variable)
 }

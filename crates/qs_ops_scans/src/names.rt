@@ -1,10 +1,11 @@
 //! The names of graphs.
 
-ghost use Rattle.std.specs.Prelude.{◌≡◌, IfOk, OnErr};
-ghost use Rattle.std.specs.List.{list_any};
+ghost use Rattle.std.specs.Prelude.{◌≡◌, Some, IfOk, IfSome, OnErr};
+ghost use Rattle.std.specs.List.{AllByRecursion, list_any};
 ghost use Rattle.qs_terms.specs.Dataset.{names_of};
 ghost use Rattle.qs_terms.specs.Term.{same_term};
 ghost use Rattle.qs_store.specs.Graphs.{AreGraphs};
+ghost use Rattle.qs_expr.specs.Cell.{cell_at};
 ghost use Rattle.qs_plan_meaning.specs.Stages.{each_named};
 ghost use Rattle.qs_ops_scans.specs.Each.{NamesGraph};
 ghost use Rattle.qs_ops_scans.specs.Makes.{GivesFirst, Makes};
@@ -100,6 +101,16 @@ impl NameRows {
         bind_cell(&mut row, self.register, Cell::Known(*number));
         self.at += 1;
         Ok(Some(row))
+    }
+
+    /// The cell that all rows have at the variable, if the row of which they are made has one there.
+    pub fn common_cell(&self, variable: usize) -> Option<Cell>
+        ensures { IfSome result (λ c. AllByRecursion (λ m. cell_at m variable ≡ Some c) self.now) }
+    {
+        if variable == self.register {
+            return None;
+        }
+        self.row.cell(variable)
     }
 
     /// The row of which the others were made, for its memory.

@@ -1,7 +1,8 @@
 //! What a scan leaves to be tested and bound for a row.
 
-ghost use Rattle.std.specs.Prelude.{◌≡◌, ◌∷◌, []};
-ghost use Rattle.qs_ops_scans.specs.inner.Opened.{act_passes, acts_of, binds, given_cell, given_of, givens, if_open, object_act, passes, predicate_act, subject_act};
+ghost use Rattle.std.specs.Prelude.{◌≡◌, ◌∷◌, [], ℕ, List, true};
+ghost use Rattle.qs_expr.specs.Cell.{Cells, cell_at};
+ghost use Rattle.qs_ops_scans.specs.inner.Opened.{act_bound, act_passes, acts_of, binds, bound, given_cell, given_of, givens, if_open, object_act, passes, predicate_act, subject_act};
 
 use crate::pattern::{Place, PreparedTriple};
 use qs_expr::{Cell, Row};
@@ -162,4 +163,24 @@ pub(crate) fn passes(acts: &Acts, triple: &[u32; 3]) -> bool
     ensures { result ≡ passes acts.now triple.now }
 {
     act_passes(acts.predicate, triple, triple[1]) && act_passes(acts.object, triple, triple[2])
+}
+
+/// Whether the act leaves the variable as it is.
+#[tactic(auto, using(crate::proofs::Common::set_other))]
+fn act_leaves(act: Act, variable: usize) -> bool
+    ensures { result ≡ true → (n : ℕ) (m : Cells) → cell_at (act_bound act n m) variable ≡ cell_at m variable }
+{
+    match act {
+        Act::Bind(other) => other != variable,
+        _ => true,
+    }
+}
+
+/// Whether no triple binds the variable.
+pub(crate) fn leaves(acts: &Acts, variable: usize) -> bool
+    ensures { result ≡ true → (x : List ℕ) (m : Cells) → cell_at (bound acts.now x m) variable ≡ cell_at m variable }
+{
+    act_leaves(acts.subject, variable)
+        && act_leaves(acts.predicate, variable)
+        && act_leaves(acts.object, variable)
 }

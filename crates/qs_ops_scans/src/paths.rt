@@ -1,17 +1,18 @@
 //! The rows that the pairs of a path make of a row. A path is followed from an end that the row binds, and its pairs serve the next row with
 //! the same cells at its ends.
 
-ghost use Rattle.std.specs.Prelude.{◌≡◌, List, take, OnErr};
+ghost use Rattle.std.specs.Prelude.{◌≡◌, List, Some, take, IfSome, OnErr};
+ghost use Rattle.std.specs.List.{AllByRecursion};
 ghost use Rattle.qs_terms.specs.declared.term.Term.{Term};
 ghost use Rattle.qs_algebra_patterns.specs.Basic.{Graph};
-ghost use Rattle.qs_expr.specs.Cell.{Cells, FitsRow};
+ghost use Rattle.qs_expr.specs.Cell.{Cells, cell_at, FitsRow};
 ghost use Rattle.qs_expr.specs.Scratch.{IsTable};
 ghost use Rattle.qs_plan_meaning.specs.Scans.{path_extensions, path_pairs};
 ghost use Rattle.qs_ops_scans.specs.Makes.{AreMade, GivesFirst};
 ghost use Rattle.qs_ops_scans.specs.Paths.{ArePairs, Serve, row_ends};
 ghost use Rattle.qs_ops_scans.specs.inner.Ends.{IsNextPair};
 
-use crate::ends::{EndActs, bind_pair, end_acts, ends_of, pair_agrees};
+use crate::ends::{EndActs, bind_pair, end_acts, ends_of, leaves, pair_agrees};
 use crate::kept::{PathPairs, span_for};
 use qs_algebra_patterns::PathPattern;
 use qs_base::Shared;
@@ -80,6 +81,16 @@ impl PathRows {
         bind_pair(&mut row, &self.acts, &pair);
         self.at = after;
         Ok(Some(row))
+    }
+
+    /// The cell that all rows have at the variable, if the row of which they are made has one there.
+    pub fn common_cell(&self, variable: usize) -> Option<Cell>
+        ensures { IfSome result (λ c. AllByRecursion (λ m. cell_at m variable ≡ Some c) self.now) }
+    {
+        if !leaves(&self.acts, variable) {
+            return None;
+        }
+        self.row.cell(variable)
     }
 
     /// The row of which the others were made, for its memory.

@@ -1,8 +1,8 @@
 //! The rows that a triple pattern makes of a row in all named graphs.
 
-ghost use Rattle.std.specs.Prelude.{◌≡◌, ◌<◌, ◌≤◌, ℕ, true, None, drop, length, OnErr};
+ghost use Rattle.std.specs.Prelude.{◌≡◌, ◌<◌, ◌≤◌, ℕ, true, false, None, Some, drop, length, IfSome, OnErr};
 ghost use Rattle.std.specs.Iterator.{YieldsFirst};
-ghost use Rattle.std.specs.List.{filter};
+ghost use Rattle.std.specs.List.{AllByRecursion, filter};
 ghost use Rattle.qs_algebra_patterns.specs.declared.pattern.TriplePattern.{TriplePattern};
 ghost use Rattle.qs_expr.specs.Cell.{cell_at};
 ghost use Rattle.qs_ops_scans.specs.Each.{each_extension, each_joined, misses, place_misses};
@@ -13,7 +13,7 @@ ghost use Rattle.qs_ops_scans.specs.inner.Quads.{AreScanned, also_bound, is_narr
 
 use crate::bind::{bind_cell, bind_triple};
 use crate::lawful::content_is_lawful;
-use crate::opened::{Acts, acts_of, givens, passes};
+use crate::opened::{Acts, acts_of, givens, leaves, passes};
 use crate::pattern::{Place, PreparedTriple};
 use qs_expr::{Cell, Row};
 use qs_store::{NamedQuads, View};
@@ -59,6 +59,16 @@ fn bind_also(row: &mut Row, variable: Option<usize>, number: u32)
     }
 }
 
+/// Whether this variable is bound as well.
+fn is_also(also: Option<usize>, variable: usize) -> bool
+    ensures { result ≡ false → also ≡ Some variable → ⊥ }
+{
+    match also {
+        Some(other) => other == variable,
+        None => false,
+    }
+}
+
 /// The next quad of the scan whose triple passes.
 #[inline(always)]
 fn next_quad(scan: &mut NamedQuads<'_>, acts: &Acts) -> Option<[u32; 4]>
@@ -91,6 +101,19 @@ impl<'a> QuadRows<'a> {
         bind_cell(&mut row, self.register, Cell::Known(quad[0]));
         bind_also(&mut row, self.variable, quad[0]);
         Ok(Some(row))
+    }
+
+    /// The cell that all rows have at the variable, if the row of which they are made has one there.
+    pub fn common_cell(&self, variable: usize) -> Option<Cell>
+        ensures { IfSome result (λ c. AllByRecursion (λ m. cell_at m variable ≡ Some c) self.now) }
+    {
+        if variable == self.register || is_also(self.variable, variable) {
+            return None;
+        }
+        if !leaves(&self.acts, variable) {
+            return None;
+        }
+        self.row.cell(variable)
     }
 
     /// The row of which the others were made, for its memory.

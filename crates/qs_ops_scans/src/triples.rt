@@ -1,10 +1,11 @@
 //! The rows that a triple pattern makes of a row.
 
-ghost use Rattle.std.specs.Prelude.{◌≡◌, ℕ, List, drop, OnErr};
+ghost use Rattle.std.specs.Prelude.{◌≡◌, ℕ, List, Some, drop, IfSome, OnErr};
 ghost use Rattle.std.specs.Iterator.{YieldsFirst};
-ghost use Rattle.std.specs.List.{filter};
+ghost use Rattle.std.specs.List.{AllByRecursion, filter};
 ghost use Rattle.qs_store.specs.ActiveGraph.{active_graph};
 ghost use Rattle.qs_algebra_patterns.specs.declared.pattern.TriplePattern.{TriplePattern};
+ghost use Rattle.qs_expr.specs.Cell.{cell_at};
 ghost use Rattle.qs_plan_meaning.specs.declared.stage.Look.{Look};
 ghost use Rattle.qs_plan_meaning.specs.Scans.{extensions};
 ghost use Rattle.qs_plan_meaning.specs.Stages.{looked};
@@ -17,9 +18,9 @@ ghost use Rattle.qs_ops_scans.specs.inner.Opened.{IsAsked, IsScanned, IsScannedB
 use crate::bind::bind_triple;
 use crate::lawful::content_is_lawful;
 use crate::look::{PreparedLook, graph_of_look};
-use crate::opened::{Acts, Given, acts_of, givens, passes};
+use crate::opened::{Acts, Given, acts_of, givens, leaves, passes};
 use crate::pattern::PreparedTriple;
-use qs_expr::Row;
+use qs_expr::{Cell, Row};
 use qs_store::{Active, Triples, View};
 use std::alloc::{AllocError, Global};
 use std::marker::Model;
@@ -79,6 +80,16 @@ impl<'a> TripleRows<'a> {
         let mut row = self.row.copy(alloc, spare)?;
         bind_triple(&mut row, &self.acts, &triple);
         Ok(Some(row))
+    }
+
+    /// The cell that all rows have at the variable, if the row of which they are made has one there.
+    pub fn common_cell(&self, variable: usize) -> Option<Cell>
+        ensures { IfSome result (λ c. AllByRecursion (λ m. cell_at m variable ≡ Some c) self.now) }
+    {
+        if !leaves(&self.acts, variable) {
+            return None;
+        }
+        self.row.cell(variable)
     }
 
     /// The row of which the others were made, for its memory.

@@ -4,3 +4,4 @@ pub mod Keyed
 pub mod Excluding
 pub mod Solutions
 pub mod TableRows
+pub mod Common

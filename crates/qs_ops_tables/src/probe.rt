@@ -1,11 +1,13 @@
 //! A row's merges with kept rows.
 
-ghost use Rattle.std.specs.Prelude.{◌≡◌, [], ◌∷◌, IfOk, OnErr, MatchOption};
+ghost use Rattle.std.specs.Prelude.{◌≡◌, [], ◌∷◌, Some, IfOk, IfSome, OnErr, MatchOption};
+ghost use Rattle.std.specs.List.{AllByRecursion};
+ghost use Rattle.qs_expr.specs.Cell.{cell_at};
 ghost use Rattle.qs_ops_tables.specs.Tables.{FitsMerges, GivesMerges, merges_cells};
 
 use crate::kept::KeptTable;
 use qs_base::Shared;
-use qs_expr::Row;
+use qs_expr::{Cell, Row};
 use std::alloc::{AllocError, Global};
 use std::marker::Model;
 
@@ -64,6 +66,13 @@ impl Probe {
         let merged = self.row.merged_in(alloc, spare, other)?;
         self.at = next;
         Ok(Some(merged))
+    }
+
+    /// The cell that all merges have at the variable, if the row has one there.
+    pub fn common_cell(&self, variable: usize) -> Option<Cell>
+        ensures { IfSome result (λ c. AllByRecursion (λ m. cell_at m variable ≡ Some c) self.now) }
+    {
+        self.row.cell(variable)
     }
 
     /// The row, for its memory.

@@ -21,3 +21,4 @@ mod OpensName
 mod Begins
 mod Settling
 mod Cursors
+mod AlikeRows

@@ -1,8 +1,9 @@
 -- An evaluation as its caller sees it.
-use Rattle.std.specs.Prelude.{◌≡◌, Bool, true, false, List, [], ◌∷◌, Option, Some, None}
+use Rattle.std.specs.Prelude.{◌≡◌, ℕ, Bool, true, false, List, [], ◌∷◌, ◌++◌, Option, Some, None}
+use Rattle.std.specs.List.{AllByRecursion}
 use Rattle.qs_terms.specs.Bag.{SameBag}
 use Rattle.qs_terms.specs.declared.term.Term.{Term}
-use Rattle.qs_algebra_solutions.specs.Solution.{Solution}
+use Rattle.qs_algebra_solutions.specs.Solution.{Solution, projected}
 use Rattle.qs_expr.specs.Cell.{Cells, row_solution}
 
 -- the solutions that are still to come, none after an error; whether the end was reached, after which each answer is that none is left; the
@@ -29,6 +30,14 @@ GivesOne None o new = ⊥
 GivesOne (Some xs) o None = ⊥
 GivesOne (Some xs) None (Some ys) = (xs ≡ []) × (ys ≡ [])
 GivesOne (Some xs) (Some m) (Some ys) = SameBag xs (m ∷ ys)
+
+-- some of the solutions that were to come are left; each of the others has the terms of m at these variables
+abbrev pub PassesAlike : List ℕ → Solution → Option (List Solution) → Option (List Solution) → Type 0
+PassesAlike columns m None None = Unit {0}
+PassesAlike columns m None (Some ys) = ⊥
+PassesAlike columns m (Some xs) None = ⊥
+PassesAlike columns m (Some xs) (Some ys) =
+    (passed : List Solution) × SameBag xs (passed ++ ys) × AllByRecursion (λ n. projected columns n ≡ projected columns m) passed
 
 -- none after an error
 abbrev pub rows_unless : Bool → List Solution → Option (List Solution)

@@ -6,3 +6,4 @@ pub mod Moves
 pub mod After
 pub mod Cursor
 pub mod Gathered
+pub mod Alike

@@ -3,13 +3,14 @@
 ghost use Rattle.std.specs.Prelude.{◌≡◌, None, Some, true, Ok, IfOk, IfErr, IfSome, OnErr, map, take};
 ghost use Rattle.qs_terms.specs.declared.fault.QFault.TheVariants.{Memory};
 ghost use Rattle.qs_store.specs.ActiveGraph.{active_graph};
-ghost use Rattle.qs_expr.specs.Cell.{denoted, FitsCell, FitsRow};
+ghost use Rattle.qs_expr.specs.Cell.{denoted, row_solution, FitsCell, FitsRow};
 ghost use Rattle.qs_expr.specs.Evaluated.{Evaluates};
 ghost use Rattle.qs_expr.specs.Scratch.{IsTable, Grows};
 ghost use Rattle.qs_algebra_solutions.specs.Solution.{unbound};
 ghost use Rattle.qs_plan_meaning.specs.Stages.{through};
-ghost use Rattle.qs_ops_walk.specs.Stream.{AreToCome, GivesOne, solution_if};
+ghost use Rattle.qs_ops_walk.specs.Stream.{AreToCome, GivesOne, PassesAlike, solution_if};
 
+use crate::alike::skip_alike;
 use crate::reader::Reader;
 use crate::spare::keep;
 use crate::walk::{Walk, next_named, start};
@@ -108,6 +109,21 @@ impl<'a, V: View> Cursor<'a, V> {
                 Err(QFault::Memory)
             }
         }
+    }
+
+    /// Passes over solutions to come that have the row's terms at these variables, as far as that is known without making them. No row is
+    /// made, and none of another term is passed over.
+    pub fn skip_alike(&mut self, columns: &[usize], row: &Row)
+        requires { FitsRow self.old.known self.old.table row.now }
+        ensures rows { PassesAlike columns.now (row_solution self.old.known self.old.table row.now) self.old.rows self.new.rows }
+        ensures over { self.old.is_over ≡ true → self.new.is_over ≡ true }
+        ensures known { self.new.known ≡ self.old.known }
+        ensures table { self.new.table ≡ self.old.table }
+    {
+        if self.failed || self.walk.levels.is_empty() {
+            return;
+        }
+        skip_alike(&mut self.walk, columns, self.reader.width, row);
     }
 
     /// The term of a cell that a row has.

@@ -8,6 +8,7 @@
 #![tactic(auto)]
 
 mod after_names;
+mod alike;
 mod cursor;
 mod kept;
 mod levels;

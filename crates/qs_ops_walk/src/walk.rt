@@ -556,7 +556,7 @@ fn open_level<'a, V: View>(
 
 /// Takes the last level away, and keeps the memory of its rows.
 #[inline(never)]
-fn end_last<'a>(levels: &mut Vec<Level<'a>>, spare: &mut Vec<Row>)
+pub(crate) fn end_last<'a>(levels: &mut Vec<Level<'a>>, spare: &mut Vec<Row>)
     ensures { levels.new.items ≡ take (vec_len levels.old - 1) levels.old.items }
 {
     let Some(level) = levels.pop() else {

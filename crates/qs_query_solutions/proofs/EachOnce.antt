@@ -1,8 +1,9 @@
 -- Distinct rows of cells, while solutions are searched.
-use Rattle.std.proofs.Common.{◌≡◌, ◌⊎◌, inl, inr, ℕ, zero, suc, Bool, true, false, ◌&&◌, ◌||◌, if◌then◌else◌, List, [], ◌∷◌, ◌++◌, length, map, Option, Some, None, refl, sym, ◌∙◌, ap, subst, append_assoc}
+use Rattle.std.proofs.Common.{◌≡◌, ◌⊎◌, inl, inr, ℕ, zero, suc, ◌≤◌, Bool, true, false, ◌&&◌, ◌||◌, if◌then◌else◌, List, [], ◌∷◌, ◌++◌, length, map, Option, Some, None, refl, sym, ◌∙◌, ap, subst, append-nil, append_assoc, length-append, unwrap_or, arith}
 use Rattle.std.specs.List.{AllByRecursion, list_any}
 use Rattle.std.proofs.lemmas.List.{length-map, map-append}
-use Rattle.std.proofs.lemmas.List.Sorted.{IsPermutation-refl, IsPermutation-sym, IsPermutation-trans, IsPermutation-append_right}
+use Rattle.std.proofs.lemmas.List.Folds.{list_any-append}
+use Rattle.std.proofs.lemmas.List.Sorted.{length_permutation, IsPermutation-refl, IsPermutation-sym, IsPermutation-trans, IsPermutation-append_right}
 use Rattle.qs_terms.specs.Bag.{SameBag, once, with_new}
 use Rattle.qs_terms.specs.Term.{same_term}
 use Rattle.qs_terms.specs.declared.term.Term.{Term}
@@ -17,7 +18,7 @@ use Rattle.qs_expr.proofs.Finding.{same_cells, term_there}
 use Rattle.qs_expr.proofs.Growth.{same_row, still_row}
 use Rattle.qs_expr.proofs.RowTerms.{term_at_row}
 use Rattle.qs_expr.proofs.Rows.{fits_first, fits_rest}
-use Rattle.qs_ops_walk.specs.Stream.{AreToCome, GivesOne}
+use Rattle.qs_ops_walk.specs.Stream.{AreToCome, GivesOne, PassesAlike}
 use Rattle.qs_query_solutions.specs.inner.Distinct as distinct
 use Rattle.qs_query_solutions.specs.inner.Distinct.{AreDistinctOf, CollectsDistinct, IsDistinctWay, same_if}
 use Rattle.qs_query_solutions.proofs.Coming.{Left, left_of, none_of}
@@ -153,6 +154,81 @@ module _ (known table : List Term) (t : IsTable known table) (columns : List ℕ
   none_more most next g all s =
       let k = w all s in
       (k.0, k.2, inl (none_of k.0 next (subst (λ (o : Option (List Solution)). GivesOne o None next) k.1 g)))
+
+-- ---- rows that are passed over
+
+known_again : (xs : List Solution) (x q : Solution) → list_any (same_solution q) xs ≡ true → x ≡ q → with_new same_solution xs x ≡ xs
+known_again xs x q has e = ap (with_new same_solution xs) e ∙ ap (λ (b : Bool). if b then xs else xs ++ q ∷ []) has
+
+has_new : (xs : List Solution) (q : Solution) → list_any (same_solution q) (with_new same_solution xs q) ≡ true
+has_new xs q = at (list_any (same_solution q) xs) refl
+  where
+    last : (b : Bool) → same_solution q q ≡ true → (b || (same_solution q q || false)) ≡ true
+    last true h = refl
+    last false h = ap (λ (b : Bool). b || false) h
+
+    at : (b : Bool) → list_any (same_solution q) xs ≡ b → list_any (same_solution q) (if b then xs else xs ++ q ∷ []) ≡ true
+    at true e = e
+    at false e = list_any-append (same_solution q) xs (q ∷ []) ∙ last (list_any (same_solution q) xs) ((same_solution-Decides q q).1 refl)
+
+module _ (columns : List ℕ) (q : Solution) where
+  stays_once : (ms ds : List Solution) → list_any (same_solution q) (once same_solution (map (projected columns) ms)) ≡ true → AllByRecursion (λ (d : Solution). projected columns d ≡ q) ds
+      → once same_solution (map (projected columns) (ms ++ ds)) ≡ once same_solution (map (projected columns) ms)
+  stays_once ms [] has h = ap (λ l. once same_solution (map (projected columns) l)) (append-nil ms)
+  stays_once ms (d ∷ ds) has h =
+      let p : Solution → Solution = projected columns in
+      let one : once same_solution (map p (ms ++ d ∷ [])) ≡ once same_solution (map p ms) =
+      ap (once same_solution) (map-append p ms (d ∷ [])) ∙ (once_with same_solution same_solution-Decides (map p ms) (p d) ∙ known_again (once same_solution (map p ms)) (p d) q has h.0) in
+      ap (λ l. once same_solution (map p l)) (sym (append_assoc ms (d ∷ []) ds)) ∙ (stays_once (ms ++ d ∷ []) ds (ap (list_any (same_solution q)) one ∙ has) h.1 ∙ one)
+
+-- what is left after those that are passed over
+record LeftAlike (columns : List ℕ) (m : Solution) (xs : List Solution) (next : Option (List Solution)) : Type 0 where
+  pub passed : List Solution
+  pub rest : List Solution
+  pub is : next ≡ Some rest
+  pub bag : SameBag xs (passed ++ rest)
+  pub alike : AllByRecursion (λ (d : Solution). projected columns d ≡ projected columns m) passed
+
+left_alike : (columns : List ℕ) (m : Solution) (xs : List Solution) (next : Option (List Solution)) → PassesAlike columns m (Some xs) next → LeftAlike columns m xs next
+left_alike columns m xs None h = absurd h
+left_alike columns m xs (Some ys) h = record { passed = h.0; rest = ys; is = refl; bag = h.1; alike = h.2 }
+
+module _ (known table : List Term) (t : IsTable known table) (columns : List ℕ) (rows : List Cells) (fit : AllByRecursion (FitsRow known table) rows) (m : Cells) (h : FitsRow known table m) (new : List Cells) (e : new ≡ with_new distinct.same_cells rows (at_columns known table columns m)) where
+  abbrev n : Solution
+  n = row_solution known table m
+
+  -- the row was put
+  there : list_any (same_solution (projected columns n)) (map (row_solution known table) new) ≡ true
+  there =
+      ap (λ (l : List Cells). list_any (same_solution (projected columns n)) (map (row_solution known table) l)) e
+      ∙ (ap (list_any (same_solution (projected columns n))) (put_tells known table t (at_columns known table columns m) (columns_fit known table columns m h) rows fit)
+      ∙ (ap (λ (x : Solution). list_any (same_solution (projected columns n)) (with_new same_solution (map (row_solution known table) rows) x)) (columns_denote known table columns m)
+      ∙ has_new (map (row_solution known table) rows) (projected columns n)))
+
+  pub alike_passed : (start now next : Option (List Solution)) → IsDistinctWay known table columns start new now → PassesAlike columns n now next → IsDistinctWay known table columns start new next
+  alike_passed start now next w g all s =
+      let k = w all s in
+      let l : LeftAlike columns n k.0 next = left_alike columns n k.0 next (subst (λ (o : Option (List Solution)). PassesAlike columns n o next) k.1 g) in
+      let p : Solution → Solution = projected columns in
+      let has : list_any (same_solution (p n)) (once same_solution (map p k.2.some)) ≡ true = ap (list_any (same_solution (p n))) (sym k.2.are) ∙ there in (
+        l.rest,
+        l.is,
+        record {
+          some = k.2.some ++ l.passed;
+          bag = subst (SameBag all) (sym (append_assoc k.2.some l.passed l.rest)) (IsPermutation-trans all (k.2.some ++ k.0) (k.2.some ++ (l.passed ++ l.rest)) k.2.bag (IsPermutation-append_right k.2.some k.0 (l.passed ++ l.rest) l.bag));
+          are = k.2.are ∙ sym (stays_once columns (p n) k.2.some l.passed has l.alike);
+        },
+      )
+
+-- there are no more of them than were to come
+pub no_more : (columns : List ℕ) (m : Solution) (o q : Option (List Solution)) → PassesAlike columns m o q → length (unwrap_or q []) ≤ length (unwrap_or o [])
+no_more columns m None None h = omega arith
+no_more columns m None (Some ys) h = absurd h
+no_more columns m (Some xs) None h = absurd h
+no_more columns m (Some xs) (Some ys) h =
+    let e : length (h.0 ++ ys) ≡ length xs = length_permutation xs (h.0 ++ ys) h.1 in
+    let w = length-append h.0 ys in
+    omega (arith, e, w)
 
 -- ---- the answer
 

@@ -1,5 +1,6 @@
 //! About how many triples of a view agree with a triple pattern, by which a plan is ordered.
 
+use crate::parts::Parts;
 use qs_algebra_patterns::{Slot, TriplePattern};
 use qs_plan::{Counts, Look};
 use qs_store::{Active, View};
@@ -78,5 +79,26 @@ impl<'v, V: View> Counts for ViewCounts<'v, V> {
             }
             Look::Register(_) => count_named(self.view, pattern),
         }
+    }
+}
+
+/// So many triples are told more of a part that comes late.
+const LATE: u64 = 1 << 48;
+
+/// What is counted, where the terms of some columns are asked for, each once: of the parts without a column more, so that they come last.
+#[derive(Drop)]
+pub(crate) struct DistinctCounts<'v, V: View> {
+    pub(crate) counts: ViewCounts<'v, V>,
+    pub(crate) parts: Parts,
+}
+
+impl<'v, V: View> Counts for DistinctCounts<'v, V> {
+    /// A triple of one row or none comes first in any case.
+    fn about(&self, look: &Look, pattern: &TriplePattern) -> u64 {
+        let count = self.counts.about(look, pattern);
+        if count > 1 && self.parts.is_late(pattern) {
+            return count.saturating_add(LATE);
+        }
+        count
     }
 }

@@ -19,7 +19,7 @@ ghost use Rattle.qs_query_solutions.specs.inner.Distinct.{CollectsDistinct};
 use crate::active::active_of;
 use crate::collected::is_enough;
 use crate::distinct_rows::DistinctRows;
-use crate::planned::plan_over;
+use crate::planned::distinct_plan_over;
 use crate::solutions::out_of_memory;
 use qs_algebra_patterns::Pattern;
 use qs_algebra_solutions::Row as Solution;
@@ -29,7 +29,8 @@ use qs_store::{Active, View};
 use qs_terms::{QFault, Term};
 use std::alloc::{AllocError, Global};
 
-/// Puts rows of the evaluation, one after another, until the distinct ones suffice or none is left.
+/// Puts rows of the evaluation, one after another, until the distinct ones suffice or none is left. After each, rows to come that give the same
+/// columns are passed over, as far as that is known without making them.
 fn collect<V: View>(
     alloc: Global,
     op: &mut Op<'_, V>,
@@ -47,6 +48,7 @@ fn collect<V: View>(
             return Ok(rows);
         };
         rows.put(alloc, &row, columns)?;
+        op.skip_alike(columns, &row);
         op.give_back(row);
     }
     Ok(rows)
@@ -99,7 +101,7 @@ fn distinct_all<V: View>(
 {
     let _count = view.count();
     let active = active_of(view, name);
-    let plan = plan_over(alloc, pattern, view, active)?;
+    let plan = distinct_plan_over(alloc, pattern, view, active, columns)?;
     let rows = distinct_planned(alloc, &plan, view, active, columns, most);
     drop_plan(plan);
     rows
