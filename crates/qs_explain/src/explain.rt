@@ -5,12 +5,13 @@ ghost use Rattle.qs_terms.specs.Outcome.{OneOrOutOfMemory};
 ghost use Rattle.qs_terms.specs.declared.fault.QFault.TheVariants.{Memory};
 ghost use Rattle.qs_explain.specs.Explained.{IsExplainedQuery, IsExplainedUpdate};
 
+use crate::columns::distinct_columns;
 use crate::lines::{Place, put_plan};
 use crate::operation::operation_words;
 use qs_algebra::{Pattern, drop_pattern, translate, translate_blocks, translate_where_with};
-use qs_plan::drop_plan;
-use qs_query_solutions::{ViewCounts, active_of, plan_over};
-use qs_store::View;
+use qs_plan::{Plan, drop_plan};
+use qs_query_solutions::{ViewCounts, active_of, distinct_plan_over, plan_over};
+use qs_store::{Active, View};
 use qs_syntax::{drop_query, drop_update, parse_query, parse_update};
 use qs_syntax_ast::query::Query;
 use qs_syntax_ast::term::Variable;
@@ -19,21 +20,44 @@ use qs_syntax_scope::operation_variables;
 use qs_terms::{Iri, QFault, Term, Text};
 use std::alloc::{AllocError, Global};
 
-/// Writes the plan of the pattern over the view, where the graph of this name is active.
+/// What is asked of a pattern.
+#[derive(Clone, Copy)]
+struct Asked<'q> {
+    /// The name of the graph that is active, or none where that is the default graph.
+    name: Option<&'q Term>,
+    /// The columns whose distinct terms are asked for, if that is so.
+    columns: Option<&'q [usize]>,
+}
+
+/// The plan that is run. It is proved that it has the solutions of its pattern. No clause says which plan it is, so none says what is printed.
+fn plan_of<V: View>(
+    alloc: Global,
+    pattern: &Pattern,
+    view: &V,
+    active: Active,
+    columns: Option<&[usize]>,
+) -> Result<Plan, QFault>
+    ensures { IfErr result (λ f. f ≡ Memory) }
+{
+    match columns {
+        None => plan_over(alloc, pattern, view, active),
+        Some(columns) => distinct_plan_over(alloc, pattern, view, active, columns),
+    }
+}
+
+/// Writes the plan of the pattern over the view.
 fn put_pattern<V: View>(
     alloc: Global,
     pattern: &Pattern,
     view: &V,
-    name: Option<&Term>,
+    asked: Asked<'_>,
     depth: usize,
     text: &mut String,
 ) -> Result<(), QFault>
     ensures { IfErr result (λ f. f ≡ Memory) }
 {
-    let active = active_of(view, name);
-    // The plan that is run is made by this call too. It is proved that it has the solutions of its pattern. No clause says which plan it is,
-    // so none says what is printed.
-    let plan = plan_over(alloc, pattern, view, active)?;
+    let active = active_of(view, asked.name);
+    let plan = plan_of(alloc, pattern, view, active, asked.columns)?;
     let place = Place {
         names: pattern.names.as_slice(),
         counts: ViewCounts { view, active },
@@ -49,9 +73,14 @@ fn put_pattern<V: View>(
 fn query_text<V: View>(alloc: Global, query: &Query, view: &V) -> Result<Text, QFault>
     ensures { IfErr result (λ f. f ≡ Memory) }
 {
+    let columns = distinct_columns(alloc, query)?;
     let pattern = translate(alloc, query)?;
     let mut text = String::new(alloc);
-    let outcome = put_pattern(alloc, &pattern, view, None, 0, &mut text);
+    let asked = Asked {
+        name: None,
+        columns: columns.as_ref().map(|columns| columns.as_slice()),
+    };
+    let outcome = put_pattern(alloc, &pattern, view, asked, 0, &mut text);
     drop_pattern(pattern);
     outcome?;
     Ok(Text::from(text))
@@ -84,7 +113,11 @@ fn put_blocks<V: View>(
     ensures { IfErr result (λ f. f ≡ Memory) }
 {
     let pattern = translate_blocks(alloc, variables, blocks)?;
-    let outcome = put_pattern(alloc, &pattern, view, None, 1, text);
+    let asked = Asked {
+        name: None,
+        columns: None,
+    };
+    let outcome = put_pattern(alloc, &pattern, view, asked, 1, text);
     drop_pattern(pattern);
     outcome
 }
@@ -107,7 +140,11 @@ fn put_modify<V: View>(
 {
     let with = with_term(&modify.with)?;
     let pattern = translate_where_with(alloc, variables, &modify.pattern)?;
-    let outcome = put_pattern(alloc, &pattern, view, with.as_ref(), 1, text);
+    let asked = Asked {
+        name: with.as_ref(),
+        columns: None,
+    };
+    let outcome = put_pattern(alloc, &pattern, view, asked, 1, text);
     drop_pattern(pattern);
     outcome
 }
