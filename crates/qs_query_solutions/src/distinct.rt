@@ -13,13 +13,14 @@ ghost use Rattle.qs_algebra_solutions.specs.Some.{AreSomeDistinct};
 ghost use Rattle.qs_algebra_patterns.specs.Eval.{eval};
 ghost use Rattle.qs_expr.specs.Cell.{FitsRow};
 ghost use Rattle.qs_expr.specs.Scratch.{IsTable};
-ghost use Rattle.qs_plan.specs.Plans.{plan_list};
+ghost use Rattle.qs_plan.specs.Plans.{plan_list, IsPlanOf};
 ghost use Rattle.qs_query_solutions.specs.inner.Distinct.{CollectsDistinct};
 
 use crate::active::active_of;
 use crate::collected::is_enough;
 use crate::distinct_rows::DistinctRows;
-use crate::planned::distinct_plan_over;
+use crate::parts::parts_of;
+use crate::planned::{distinct_plan_over, plan_over};
 use crate::solutions::out_of_memory;
 use qs_algebra_patterns::Pattern;
 use qs_algebra_solutions::Row as Solution;
@@ -89,6 +90,45 @@ fn distinct_planned<V: View>(
     found
 }
 
+/// Whether the plan has a row.
+fn has_row<V: View>(alloc: Global, plan: &Plan, view: &V, active: Active) -> Result<bool, QFault> {
+    let mut op = Op::start_in(alloc, plan, view, active)?;
+    let row = op.next();
+    op.end();
+    Ok(row?.is_some())
+}
+
+/// Whether the pattern has a solution, by the plan that looks at the parts with few triples first.
+fn has_solution<V: View>(
+    alloc: Global,
+    pattern: &Pattern,
+    view: &V,
+    active: Active,
+) -> Result<bool, QFault> {
+    let plan = plan_over(alloc, pattern, view, active)?;
+    let found = has_row(alloc, &plan, view, active);
+    drop_plan(plan);
+    found
+}
+
+/// The plan that is run. If there are parts without a column, it is asked first whether there is a solution: else such a part would be asked
+/// for one again and again.
+fn plan_to_run<V: View>(
+    alloc: Global,
+    pattern: &Pattern,
+    view: &V,
+    active: Active,
+    columns: &[usize],
+) -> Result<Plan, QFault>
+    ensures { IfOk result (λ p. IsPlanOf p pattern.now) }
+{
+    let parts = parts_of(alloc, pattern, columns)?;
+    if parts.has_late() && !has_solution(alloc, pattern, view, active)? {
+        return plan_over(alloc, pattern, view, active);
+    }
+    distinct_plan_over(alloc, pattern, view, active, columns)
+}
+
 fn distinct_all<V: View>(
     alloc: Global,
     pattern: &Pattern,
@@ -101,7 +141,7 @@ fn distinct_all<V: View>(
 {
     let _count = view.count();
     let active = active_of(view, name);
-    let plan = distinct_plan_over(alloc, pattern, view, active, columns)?;
+    let plan = plan_to_run(alloc, pattern, view, active, columns)?;
     let rows = distinct_planned(alloc, &plan, view, active, columns, most);
     drop_plan(plan);
     rows

@@ -190,8 +190,20 @@ pub(crate) struct Parts {
     homes: BTreeMap<usize, usize>,
     /// The parts with a column, or with a variable that a condition reads.
     early: BTreeSet<usize>,
+    /// Whether there is another part, which comes late.
+    has_late: bool,
     /// How many variables have a name.
     width: usize,
+}
+
+/// Whether there is a part that isn't among these.
+fn has_other(members: &[Vec<usize>], homes: &BTreeSet<usize>) -> bool {
+    for home in 0..members.len() {
+        if !members[home].is_empty() && !homes.contains(&home) {
+            return true;
+        }
+    }
+    false
 }
 
 /// The parts of these variables.
@@ -220,21 +232,32 @@ pub(crate) fn parts_of(
         tested: Vec::new(alloc),
     };
     join_node(alloc, &mut joined, &pattern.root, None)?;
-    let Joined { homes, tested, .. } = joined;
+    let Joined {
+        homes,
+        members,
+        tested,
+    } = joined;
     let mut early = BTreeSet::new(alloc);
     homes_of(&homes, columns, &mut early)?;
     // A part that a condition makes small may be evaluated by itself, by its count.
     if !early.is_empty() {
         homes_of(&homes, tested.as_slice(), &mut early)?;
     }
+    let has_late = !early.is_empty() && has_other(members.as_slice(), &early);
     Ok(Parts {
         homes,
         early,
+        has_late,
         width: pattern.names.len(),
     })
 }
 
 impl Parts {
+    /// Whether there are parts with a column and others, which come late.
+    pub(crate) fn has_late(&self) -> bool {
+        self.has_late
+    }
+
     /// Whether the place has a named variable of a part that comes late. The hidden variables of a plan have numbers of their own.
     fn is_late_at(&self, slot: &Slot) -> bool {
         let Slot::Variable(variable) = slot else {

@@ -12,8 +12,8 @@ use qs_store::{Active, View};
 use qs_terms::QFault;
 use std::alloc::Global;
 
-/// The plan that `some_solutions`, `solutions_after` and `ordered_solutions` run for the pattern over the view, where this graph is active. It has the solutions
-/// of the pattern over each dataset (SPARQL 1.1 Query, 18.5 and 18.6); the triples of the view decide its order alone.
+/// The plan that `some_solutions`, `solutions_after` and `ordered_solutions` run for the pattern over the view, where this graph is active. It has
+/// the solutions of the pattern over each dataset (SPARQL 1.1 Query, 18.5 and 18.6); the triples of the view decide its order alone.
 ///
 /// # Errors
 /// `QFault::Memory` where memory runs out; no other fault.
@@ -32,7 +32,7 @@ pub fn plan_over<V: View>(
 
 /// The plan that `distinct_solutions` runs for the pattern over the view, where this graph is active and the terms of these columns are asked for,
 /// each once. It is that of `plan_over`, but for triples that share no variable with a column, also not by others: they come last, if no
-/// condition reads them.
+/// condition reads them. If there are such triples and no solution, the plan of `plan_over` is run instead.
 ///
 /// # Errors
 /// `QFault::Memory` where memory runs out; no other fault.
