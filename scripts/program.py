@@ -13,10 +13,6 @@ from workspace import PROGRAM, below, build, made_of, program_path, sources_sum
 
 CACHE = ".out/release"
 """The folder that the program of release/ is unpacked to. git ignores it."""
-TUNABLES = "GLIBC_TUNABLES"
-KEPT_PIECES = {"glibc.malloc.tcache_count": 10_000, "glibc.malloc.tcache_max": 504}
-"""How many freed pieces of memory of each size the C library keeps at hand for the next request, up to pieces of so many bytes. By itself it keeps
-seven of each up to 1 KB, but a request of many triples frees thousands at once. All that are kept take 84 MB at most, of all sizes."""
 
 
 def say(text):
@@ -188,14 +184,6 @@ def runnable(root):
     """Returns where the program stands that ./quads runs, and builds it first if it must; None where that fails."""
     program, why = released(root)
     return program or built(root, why)
-
-
-def environment():
-    """Returns the environment in which the program is run: the present one, with `KEPT_PIECES` unless it says anything of these."""
-    present = os.environ.get(TUNABLES, "")
-    if any(name in present for name in KEPT_PIECES):
-        return {**os.environ}
-    return {**os.environ, TUNABLES: ":".join([present] * bool(present) + [f"{name}={value}" for name, value in KEPT_PIECES.items()])}
 
 
 def asked(root, named):
