@@ -1,3 +1,4 @@
 pub mod Places
 pub mod Numbers
+pub mod Table
 mod Rows

@@ -1,5 +1,5 @@
 -- Number and term of a dictionary agree.
-use Rattle.std.proofs.Common.{◌≡◌, ◌↔◌, ℕ, zero, suc, ◌-◌, get_or, ◌+◌, ◌<◌, ◌≤◌, Bool, true, false, List, [], ◌∷◌, ◌++◌, length, take, Option, Some, None, slice_get, if◌then◌else◌, refl, sym, ap, ◌∙◌, arith, add-one}
+use Rattle.std.proofs.Common.{◌≡◌, ◌↔◌, ℕ, zero, suc, ◌-◌, get_or, ◌+◌, ◌<◌, ◌≤◌, Bool, true, false, List, [], ◌∷◌, ◌++◌, length, take, Option, Some, None, slice_get, if◌then◌else◌, refl, sym, ap, ◌∙◌, arith, add-one, length-append}
 use Rattle.std.specs.List.{IsDistinct, list_any, position}
 use Rattle.std.specs.Option.{option_map}
 use Rattle.std.proofs.lemmas.Bool.{false≢true}
@@ -93,3 +93,19 @@ place_at terms term place u h =
 pub at_most_one : (old new : ℕ) (added : Bool) → new ≡ old + (if added then 1 else 0) → new ≤ old + 1
 at_most_one old new true e = omega arith
 at_most_one old new false e = omega arith
+
+-- what the set lacks has none
+pub unnumbered : (terms : List Term) (term : Term) → list_any (equ.ghosts.eq term) terms ≡ false → number_of terms term ≡ None
+unnumbered terms term a = by (number_of terms term) refl
+  where
+    by : (o : Option ℕ) → number_of terms term ≡ o → o ≡ None
+    by None e = refl
+    by (Some n) e = absurd (no_number terms term n e a)
+
+more_at_most : (terms : List Term) (term : Term) (b : Bool) → length (if b then terms else terms ++ term ∷ []) ≤ length terms + 1
+more_at_most terms term true = omega arith
+more_at_most terms term false = omega (arith, length-append terms (term ∷ []))
+
+-- one term at most is put
+pub more_by_one : (terms : List Term) (term : Term) → length (with_new same_term terms term) ≤ length terms + 1
+more_by_one terms term = more_at_most terms term (list_any (same_term term) terms)

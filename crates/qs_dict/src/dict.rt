@@ -4,14 +4,18 @@
 //! `Dict::new` takes no memory, and `cut` past the end leaves all, so neither can fail.
 
 ghost use Rattle.std.specs.Prelude.{◌≡◌, ◌↔◌, ◌<◌, ◌≤◌, ℕ, None, Some, Ok, Err, [], length, take, IfOk, IfErr, OnOk, OnErr, IfSome, IsTrue};
+ghost use Rattle.std.specs.Option.{option_map};
 ghost use Rattle.qs_terms.specs.Bag.{with_new};
 ghost use Rattle.qs_terms.specs.Term.{same_term};
+ghost use Rattle.qs_expr_values.specs.TermValue.{term_value};
 ghost use Rattle.qs_dict.specs.declared.fault.DictFault.TheVariants.{Full, Memory};
 ghost use Rattle.qs_dict.specs.Dict.{IsDictionary, IsInUse, KeepsNumbers, term_at, number_of};
 
 use crate::fault::DictFault;
 use crate::number_cache::NumberCache;
+use crate::values;
 use indexmap::IndexSet;
+use qs_expr_values::TermValue;
 use qs_terms::Term;
 use std::alloc::Global;
 use std::hash::RandomState;
@@ -21,18 +25,22 @@ use std::marker::Model;
 #[derive(Drop)]
 pub struct Dict {
     terms: IndexSet<Term, RandomState>,
+    // Of each term its value, at the term's place.
+    values: Vec<TermValue>,
     limit: u32,
     recent: NumberCache,
 }
 
 impl Model for Dict {
+    ghost use Rattle.std.specs.Prelude.{◌≡◌, map};
+    ghost use Rattle.qs_expr_values.specs.TermValue.{term_value};
     ghost use Rattle.qs_dict.specs.Dict.{Dictionary, IsDictionary};
 
     ghost Value = { Dictionary };
 
     ghost view = { λ d. record { terms = d.terms.keys; limit = d.limit } };
 
-    ghost invariant = { λ d. IsDictionary (record { terms = d.terms.keys; limit = d.limit }) };
+    ghost invariant = { λ d. IsDictionary (record { terms = d.terms.keys; limit = d.limit }) × (d.values.items ≡ map term_value d.terms.keys) };
 }
 
 impl Dict {
@@ -45,6 +53,7 @@ impl Dict {
     {
         Dict {
             terms: IndexSet::with_hasher(alloc, hasher),
+            values: Vec::new(alloc),
             limit,
             recent: NumberCache::new(),
         }
@@ -77,6 +86,14 @@ impl Dict {
         ensures found { number_of self.now.terms result.now ≡ Some number }
     {
         &self.terms.as_slice()[number as usize - 1]
+    }
+
+    /// What the term with the number, which is in use, is worth. The term's text isn't read.
+    pub fn value(&self, number: u32) -> TermValue
+        requires { IsInUse self.now.terms number }
+        ensures { option_map term_value (term_at self.now.terms number) ≡ Some result }
+    {
+        self.values.as_slice()[number as usize - 1]
     }
 
     // Whether the term has this number.
@@ -132,7 +149,7 @@ impl Dict {
         ensures memory { IfErr result (λ fault. fault ≡ Memory) }
         ensures kept { KeepsNumbers (length self.old.terms) self.old.terms self.new.terms }
     {
-        let (place, _) = self.terms.insert_full(term)?;
+        let place = values::put(&mut self.terms, &mut self.values, term)?;
         Ok(place as u32 + 1)
     }
 
@@ -187,5 +204,6 @@ impl Dict {
         ensures kept { KeepsNumbers len self.old.terms self.new.terms }
     {
         self.terms.truncate(len as usize);
+        self.values.truncate(len as usize);
     }
 }

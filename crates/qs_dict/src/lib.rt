@@ -4,6 +4,7 @@
 mod dict;
 mod fault;
 mod number_cache;
+mod values;
 
 pub use dict::Dict;
 pub use fault::DictFault;

@@ -58,9 +58,14 @@ fn put_pattern<V: View>(
 {
     let active = active_of(view, asked.name);
     let plan = plan_of(alloc, pattern, view, active, asked.columns)?;
+    let columns: &[usize] = match asked.columns {
+        Some(columns) => columns,
+        None => &[],
+    };
     let place = Place {
         names: pattern.names.as_slice(),
         counts: ViewCounts { view, active },
+        columns,
     };
     let outcome = put_plan(alloc, &place, &plan, depth, text);
     drop_plan(plan);

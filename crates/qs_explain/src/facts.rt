@@ -2,9 +2,10 @@
 //! triples agree with its terms.
 
 use crate::bound::{Bound, bound_at, is_given};
+use crate::lines::Place;
 use crate::words::put_variable;
 use qs_algebra_patterns::{PathPattern, Slot, TriplePattern};
-use qs_index::permutation::{Lookup, Permutation};
+use qs_index::permutation::{Lead, Lookup, Permutation};
 use qs_plan::{Counts, Look, Stage};
 use qs_query_solutions::ViewCounts;
 use qs_store::{Active, DefaultGraph, View};
@@ -90,9 +91,29 @@ fn is_in_all(open: Option<OpenRegister>, look: &Look, pattern: &TriplePattern) -
     look.register() == Some(open.register) && !is_named
 }
 
+/// Whether the variable is one of the columns.
+fn is_column(columns: &[usize], variable: Option<usize>) -> bool {
+    match variable {
+        Some(variable) => columns.contains(&variable),
+        None => false,
+    }
+}
+
+/// The place that is in front in the order of a scan to which no place is given: one of a column whose distinct terms are asked for.
+fn lead_of(columns: &[usize], variables: [Option<usize>; 3]) -> Lead {
+    let [subject, predicate, object] = variables;
+    if is_column(columns, object) && !is_column(columns, predicate) {
+        return Lead::Object;
+    }
+    if is_column(columns, predicate) && !is_column(columns, subject) {
+        return Lead::Predicate;
+    }
+    Lead::Subject
+}
+
 /// The order of the index in which the scan of the pattern finds its triples.
 fn order_used<V: View>(
-    counts: &ViewCounts<'_, V>,
+    place: &Place<'_, V>,
     open: Option<OpenRegister>,
     look: &Look,
     pattern: &TriplePattern,
@@ -102,10 +123,11 @@ fn order_used<V: View>(
     let predicate = given(known, &pattern.predicate);
     let object = given(known, &pattern.object);
     let is_any = subject.is_some() || predicate.is_some() || object.is_some();
-    if is_of_union(counts, look) || is_any && is_in_all(open, look, pattern) {
-        return Lookup::of_named(subject, predicate, object).permutation;
+    let lead = lead_of(place.columns, variables_of(pattern));
+    if is_of_union(&place.counts, look) || is_any && is_in_all(open, look, pattern) {
+        return Lookup::named_with_lead(lead, subject, predicate, object).permutation;
     }
-    Lookup::new(0, subject, predicate, object).permutation
+    Lookup::with_lead(lead, 0, subject, predicate, object).permutation
 }
 
 // ---- what is bound
@@ -122,6 +144,14 @@ fn other_variable(slot: &Slot, first: Option<usize>, second: Option<usize>) -> O
             variable
         }
     }
+}
+
+/// The variables of the pattern by their places, each where it first stands.
+fn variables_of(pattern: &TriplePattern) -> [Option<usize>; 3] {
+    let subject = other_variable(&pattern.subject, None, None);
+    let predicate = other_variable(&pattern.predicate, subject, None);
+    let object = other_variable(&pattern.object, subject, predicate);
+    [subject, predicate, object]
 }
 
 /// How the variable is bound; never, where there is none.
@@ -192,21 +222,17 @@ fn put_count<V: View>(
 
 /// Writes what is told of a triple, where the register is open and the variables are known to be bound before it.
 pub(crate) fn put_triple_facts<V: View>(
-    names: &[Text],
-    counts: &ViewCounts<'_, V>,
+    place: &Place<'_, V>,
     open: Option<OpenRegister>,
     look: &Look,
     pattern: &TriplePattern,
     known: &[Bound],
     text: &mut String,
 ) -> Result<(), AllocError> {
-    let order = order_word(order_used(counts, open, look, pattern, known));
+    let order = order_word(order_used(place, open, look, pattern, known));
     write!(text, ", order: {order}")?;
-    let subject = other_variable(&pattern.subject, None, None);
-    let predicate = other_variable(&pattern.predicate, subject, None);
-    let object = other_variable(&pattern.object, subject, predicate);
-    put_bindings(names, known, [subject, predicate, object], text)?;
-    put_count(counts, look, pattern, text)
+    put_bindings(place.names, known, variables_of(pattern), text)?;
+    put_count(&place.counts, look, pattern, text)
 }
 
 /// Writes the variable that the next stage joins with the register's name, if each row binds it.

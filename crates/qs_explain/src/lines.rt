@@ -10,11 +10,12 @@ use qs_store::View;
 use qs_terms::Text;
 use std::alloc::{AllocError, Global};
 
-/// What stages are explained over: the names of the variables, and what is counted.
+/// What stages are explained over: the names of the variables, what is counted, and the columns whose distinct terms are asked for.
 #[derive(Drop)]
 pub(crate) struct Place<'a, V: View> {
     pub names: &'a [Text],
     pub counts: ViewCounts<'a, V>,
+    pub columns: &'a [usize],
 }
 
 /// Blanks, two for each level.
@@ -37,7 +38,7 @@ fn put_facts<V: View>(
 ) -> Result<(), AllocError> {
     match stage {
         Stage::Triple(look, pattern) => {
-            put_triple_facts(place.names, &place.counts, open, look, pattern, known, text)
+            put_triple_facts(place, open, look, pattern, known, text)
         }
         Stage::Names(register) => put_names_facts(place.names, *register, next, known, text),
         Stage::Path(_, pattern) => put_path_facts(place.names, pattern, known, text),

@@ -3,6 +3,11 @@ use Rattle.std.proofs.Common.{◌≡◌, ℕ, Bool, false, not, if◌then◌else
 use Rattle.std.proofs.Math.ListN.{get_or-map}
 use Rattle.qs_terms.specs.declared.term.Term.{Term}
 use Rattle.qs_terms.specs.Term.{same_term}
+use Rattle.std.specs.Option.{option_map}
+use Rattle.std.proofs.lemmas.Option.{same_Some}
+use Rattle.qs_expr_values.specs.TermValue.{term_value}
+use Rattle.qs_expr_values.specs.declared.term_value.TermValue.{TermValue}
+use Rattle.qs_dict.specs.Dict as dict
 use Rattle.qs_algebra_solutions.specs.Solution.{term_at}
 use Rattle.qs_expr_meaning.specs.Meaning.{meaning}
 use Rattle.qs_expr_meaning.specs.declared.expr.Expr.{Expr}
@@ -46,3 +51,7 @@ module _ (known table : List Term) (m : Cells) where
 
   pub has_nowhere : (v : ℕ) (t : Term) (apart : Bool) → None ≡ cell_at m v → has_term apart t (term_at (row_solution known table m) v) ≡ false
   has_nowhere v t apart k = ap (has_term apart t) (sym (none_read v k))
+
+-- what is kept of a known term is that of the term
+pub value_of_term : (terms : List Term) (n : ℕ) (t : Term) (v : TermValue) → dict.term_at terms n ≡ Some t → option_map term_value (dict.term_at terms n) ≡ Some v → v ≡ term_value t
+value_of_term terms n t v there kept = sym (same_Some _ _ (ap (option_map term_value) (sym there) ∙ kept))

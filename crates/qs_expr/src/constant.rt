@@ -5,7 +5,7 @@ ghost use Rattle.std.specs.declared.cmp.Ordering.{Ordering as OrderingValue};
 ghost use Rattle.qs_terms.specs.declared.term.Term.{Term as TermValue};
 ghost use Rattle.qs_algebra_solutions.specs.Solution.{Solution, term_at};
 ghost use Rattle.qs_expr_meaning.specs.Meaning as spec;
-ghost use Rattle.qs_expr_values.specs.Value.{seen};
+ghost use Rattle.qs_expr_values.specs.Value.{seen, term_of};
 ghost use Rattle.qs_expr_values.specs.Values as of_terms;
 ghost use Rattle.qs_expr.specs.inner.Against.{ordered, satisfies, with_constant};
 
@@ -88,23 +88,22 @@ impl<'e> AgainstConstant<'e> {
         }
     }
 
-    // How the term compares with the constant, or the constant with the term where the constant is the first operand.
-    fn order(&self, term: &Term) -> Option<Ordering>
-        ensures { result ≡ ordered self.now.first (seen self.now.worth) (of_terms.worth term.now) }
+    // How the value compares with the constant, or the constant with the value where the constant is the first operand.
+    fn order(&self, value: &Value<'_>) -> Option<Ordering>
+        ensures { result ≡ ordered self.now.first (seen self.now.worth) (of_terms.worth (term_of value.entry.now)) }
     {
-        let value = Value::Term(term);
         if self.first {
-            compare(self.worth, worth_of(&value))
+            compare(self.worth, worth_of(value))
         } else {
-            compare(worth_of(&value), self.worth)
+            compare(worth_of(value), self.worth)
         }
     }
 
-    /// Whether the comparison is true of the term, where both are worth something of one kind.
-    pub(crate) fn compare(&self, term: &Term) -> Option<bool>
-        ensures { (m : Solution) (b : Bool) → term_at m self.now.variable ≡ Some term.now → result ≡ Some b → spec.holds m self.now.expr.now ≡ b }
+    /// Whether the comparison is true of the value, where both are worth something of one kind.
+    pub(crate) fn compare(&self, value: &Value<'_>) -> Option<bool>
+        ensures { (m : Solution) (b : Bool) → term_at m self.now.variable ≡ Some (term_of value.entry.now) → result ≡ Some b → spec.holds m self.now.expr.now ≡ b }
     {
-        match self.order(term) {
+        match self.order(value) {
             Some(order) => Some(satisfies(self.comparison, order)),
             None => None,
         }

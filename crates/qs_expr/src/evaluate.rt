@@ -12,9 +12,9 @@ ghost use Rattle.qs_expr.specs.Scratch.{IsTable, Grows};
 use crate::cell::Cell;
 use crate::reading::Reading;
 use crate::row::Row;
-use crate::scratch::{Scratch, intern_owned, term};
+use crate::scratch::{Scratch, intern_owned, term, value};
 use qs_expr_meaning::{Expr, ExprFault, ebv_terms, eval_terms};
-use qs_expr_values::{Key, Value};
+use qs_expr_values::Key;
 use qs_store::View;
 use std::alloc::{AllocError, Global};
 
@@ -96,8 +96,8 @@ pub fn order_key<V: View>(
 {
     match cell {
         Some(cell) => {
-            let value = Value::Term(term(cell, view, scratch));
-            qs_expr_values::order_key(alloc, Some(&value))
+            let term = value(cell, view, scratch);
+            qs_expr_values::order_key(alloc, Some(&term))
         }
         None => qs_expr_values::order_key(alloc, None),
     }

@@ -27,4 +27,4 @@ pub use evaluate::{ebv, eval, holds, order_key};
 pub use qs_expr_meaning::{Expr, ExprFault};
 pub use qs_expr_values::Key;
 pub use row::Row;
-pub use scratch::{Scratch, intern, intern_owned, term};
+pub use scratch::{Scratch, intern, intern_owned, term, value};

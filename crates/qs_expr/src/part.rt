@@ -17,7 +17,7 @@ use crate::cell::{Cell, is_same};
 use crate::constant::AgainstConstant;
 use crate::evaluate::holds;
 use crate::row::Row;
-use crate::scratch::{Scratch, term};
+use crate::scratch::{Scratch, value};
 use qs_expr_meaning::Expr;
 use qs_store::View;
 use qs_terms::Term;
@@ -154,7 +154,7 @@ fn is_against<V: View>(
     ensures memory { OnErr result (makes against.now.expr.now ≡ true) }
 {
     if let Some(cell) = row.cell(against.variable) {
-        if let Some(truth) = against.compare(term(cell, view, scratch)) {
+        if let Some(truth) = against.compare(&value(cell, view, scratch)) {
             return Ok(truth);
         }
     }

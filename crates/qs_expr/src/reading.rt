@@ -4,8 +4,9 @@ ghost use Rattle.std.specs.Prelude.{◌≡◌};
 ghost use Rattle.qs_expr.specs.Cell.{row_solution, FitsRow};
 
 use crate::row::Row;
-use crate::scratch::{Scratch, term};
+use crate::scratch::{Scratch, term, value};
 use qs_expr_meaning::Bindings;
+use qs_expr_values::Value;
 use qs_store::View;
 use qs_terms::Term;
 use std::marker::Model;
@@ -46,6 +47,14 @@ impl<'r, V: View> Bindings for Reading<'r, V> {
     fn term(&self, variable: usize) -> Option<&Term> {
         match self.row.cell(variable) {
             Some(cell) => Some(term(cell, self.view, self.scratch)),
+            None => None,
+        }
+    }
+
+    #[tactic(auto, using(crate::proofs::RowTerms::term_read, crate::proofs::RowTerms::none_read))]
+    fn value(&self, variable: usize) -> Option<Value<'_>> {
+        match self.row.cell(variable) {
+            Some(cell) => Some(value(cell, self.view, self.scratch)),
             None => None,
         }
     }

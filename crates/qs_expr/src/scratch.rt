@@ -4,12 +4,15 @@ ghost use Rattle.std.specs.Prelude.{◌≡◌, ◌<◌, [], length, slice_get, S
 ghost use Rattle.std.specs.Option.{option_copied};
 ghost use Rattle.qs_terms.specs.Bag.{with_new};
 ghost use Rattle.qs_terms.specs.Term.{same_term};
+ghost use Rattle.qs_expr_values.specs.Value.{term_of};
+ghost use Rattle.qs_dict.specs.Dict.{IsInUse, term_at};
 ghost use Rattle.qs_expr.specs.Cell.{denoted, FitsCell};
 ghost use Rattle.qs_expr.specs.Scratch.{IsTable, Grows, with_term};
 
 use crate::cell::Cell;
 use indexmap::IndexSet;
 use qs_base::drop_value;
+use qs_expr_values::{KnownTerm, Value};
 use qs_store::View;
 use qs_terms::Term;
 use std::alloc::{AllocError, Global};
@@ -79,6 +82,26 @@ pub fn term<'a, V: View>(cell: Cell, view: &'a V, scratch: &'a Scratch) -> &'a T
     match cell {
         Cell::Known(number) => view.term(number),
         Cell::Scratch(place) => scratch.term(place),
+    }
+}
+
+// A term of the dictionary with what the view has read of it.
+#[tactic(auto, using(crate::proofs::RowTerms::value_of_term))]
+fn known<'a, V: View>(number: u32, view: &'a V) -> KnownTerm<'a>
+    requires { IsInUse (V.content view.now).known number }
+    ensures { term_at (V.content view.now).known number ≡ Some result }
+{
+    KnownTerm::new(view.term(number), view.value(number))
+}
+
+/// The term of a cell as a value. What a term of the dictionary is worth was read when it was put there.
+pub fn value<'a, V: View>(cell: Cell, view: &'a V, scratch: &'a Scratch) -> Value<'a>
+    requires { FitsCell (V.content view.now).known scratch.now cell }
+    ensures { denoted (V.content view.now).known scratch.now cell ≡ Some (term_of result) }
+{
+    match cell {
+        Cell::Known(number) => Value::Known(known(number, view)),
+        Cell::Scratch(place) => Value::Term(scratch.term(place)),
     }
 }
 

@@ -18,13 +18,34 @@ use qs_expr_values::{
 };
 use qs_terms::{Lit, Term};
 
+fn is_iri_term(term: &Term) -> bool
+    ensures { result ≡ spec.is_iri term.now }
+{
+    match term {
+        Term::Iri(_) => true,
+        Term::Blank(_) => false,
+        Term::Literal(_) => false,
+    }
+}
+
 fn is_iri(value: &Value<'_>) -> bool
     ensures { result ≡ spec.is_iri (term_of value.entry.now) }
 {
     match value {
-        Value::Term(Term::Iri(_)) => true,
+        Value::Term(term) => is_iri_term(term),
+        Value::Known(known) => is_iri_term(known.term()),
         Value::Datatype(_) => true,
         _ => false,
+    }
+}
+
+fn is_blank_term(term: &Term) -> bool
+    ensures { result ≡ spec.is_blank term.now }
+{
+    match term {
+        Term::Iri(_) => false,
+        Term::Blank(_) => true,
+        Term::Literal(_) => false,
     }
 }
 
@@ -32,7 +53,8 @@ fn is_blank(value: &Value<'_>) -> bool
     ensures { result ≡ spec.is_blank (term_of value.entry.now) }
 {
     match value {
-        Value::Term(Term::Blank(_)) => true,
+        Value::Term(term) => is_blank_term(term),
+        Value::Known(known) => is_blank_term(known.term()),
         _ => false,
     }
 }
@@ -53,16 +75,23 @@ fn form_of_term(term: &Term) -> Option<&str>
     }
 }
 
+fn text_value<'a>(text: Option<&'a str>) -> Option<Value<'a>>
+    ensures { option_map term_of result ≡ option_map of.text_term (option_copied text.entry) }
+{
+    match text {
+        Some(text) => Some(Value::Text(text)),
+        None => None,
+    }
+}
+
 /// STR
 #[tactic(auto, using(crate::proofs::Strings::form_strung))]
 fn form<'a>(value: Value<'a>) -> Option<Value<'a>>
     ensures { option_map term_of result ≡ spec.form_of (term_of value.entry) }
 {
     match value {
-        Value::Term(term) => match form_of_term(term) {
-            Some(text) => Some(Value::Text(text)),
-            None => None,
-        },
+        Value::Term(term) => text_value(form_of_term(term)),
+        Value::Known(known) => text_value(form_of_term(known.term())),
         Value::Boolean(truth) => Some(Value::Text(boolean_form(truth))),
         Value::Integer(number) => Some(Value::Digits(digits(number))),
         Value::Text(text) => Some(Value::Text(text)),
@@ -98,10 +127,8 @@ fn tag<'a>(value: &Value<'a>) -> Option<Value<'a>>
     ensures { option_map term_of result ≡ spec.tag_of (term_of value.entry.now) }
 {
     match value {
-        Value::Term(term) => match tag_of_term(term) {
-            Some(tag) => Some(Value::Text(tag)),
-            None => None,
-        },
+        Value::Term(term) => text_value(tag_of_term(term)),
+        Value::Known(known) => text_value(tag_of_term(known.term())),
         Value::Tagged(_, lit) => Some(Value::Text(tag_or_empty(lit))),
         Value::Datatype(_) => None,
         _ => Some(Value::Text("")),
@@ -127,16 +154,23 @@ fn datatype_of_tagged<'a>(lit: &Lit) -> Datatype<'a>
     }
 }
 
+fn datatype_value<'a>(datatype: Option<Datatype<'a>>) -> Option<Value<'a>>
+    ensures { option_map term_of result ≡ option_map iri_of datatype.entry }
+{
+    match datatype {
+        Some(datatype) => Some(Value::Datatype(datatype)),
+        None => None,
+    }
+}
+
 /// DATATYPE
 #[tactic(auto, using(crate::proofs::Strings::datatype_strung))]
 fn datatype<'a>(value: &Value<'a>) -> Option<Value<'a>>
     ensures { option_map term_of result ≡ spec.datatype_of (term_of value.entry.now) }
 {
     match value {
-        Value::Term(term) => match datatype_of_term(term) {
-            Some(datatype) => Some(Value::Datatype(datatype)),
-            None => None,
-        },
+        Value::Term(term) => datatype_value(datatype_of_term(term)),
+        Value::Known(known) => datatype_value(datatype_of_term(known.term())),
         Value::Boolean(_) => Some(Value::Datatype(Datatype::Boolean)),
         Value::Integer(_) => Some(Value::Datatype(Datatype::Integer)),
         Value::Tagged(_, lit) => Some(Value::Datatype(datatype_of_tagged(lit))),
@@ -172,6 +206,7 @@ pub(crate) fn string_of<'a>(value: &'a Value<'_>) -> Option<(&'a str, Option<&'a
 {
     match value {
         Value::Term(term) => string_of_term(term),
+        Value::Known(known) => string_of_term(known.term()),
         Value::Text(text) => Some((text, None)),
         Value::Digits(text) => Some((text.as_str(), None)),
         Value::Made(text) => Some((text.as_str(), None)),

@@ -72,8 +72,8 @@ pub fn value<'a, B: Bindings>(
     ensures { ComesAs (makes expr.entry.now) (spec.meaning (B.solution bindings.entry.now) expr.entry.now) result }
 {
     match expr {
-        Expr::Variable(variable) => match bindings.term(*variable) {
-            Some(term) => Ok(Value::Term(term)),
+        Expr::Variable(variable) => match bindings.value(*variable) {
+            Some(value) => Ok(value),
             None => Err(ExprFault::TypeError),
         },
         Expr::Term(term) => Ok(Value::Term(term)),
@@ -92,8 +92,8 @@ fn composed<'a, B: Bindings>(
     ensures { ComesAs (makes expr.entry.now) (spec.meaning (B.solution bindings.entry.now) expr.entry.now) result }
 {
     match expr {
-        Expr::Variable(variable) => match bindings.term(*variable) {
-            Some(term) => Ok(Value::Term(term)),
+        Expr::Variable(variable) => match bindings.value(*variable) {
+            Some(value) => Ok(value),
             None => Err(ExprFault::TypeError),
         },
         Expr::Term(term) => Ok(Value::Term(term)),

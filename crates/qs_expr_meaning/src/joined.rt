@@ -28,6 +28,7 @@ fn tag_of<'a>(value: &Value<'a>) -> Option<&'a Lit>
 {
     match value {
         Value::Term(term) => literal_of(term),
+        Value::Known(known) => literal_of(known.term()),
         Value::Tagged(_, lit) => Some(lit),
         _ => None,
     }

@@ -1,6 +1,7 @@
 pub mod Numbers
 pub mod Reading
 pub mod Terms
+pub mod Kept
 pub mod Texts
 pub mod Characters
 pub mod CodePoints

@@ -12,7 +12,7 @@ use Rattle.qs_expr_values.specs.declared.same.Parts.TheVariants as parts
 use Rattle.qs_expr_values.specs.declared.worth.Worth.{Worth as SeenWorth}
 use Rattle.qs_expr_values.specs.declared.worth.Worth.TheVariants as kind
 use Rattle.qs_expr_values.specs.declared.value.Value.{Value}
-use Rattle.qs_expr_values.specs.declared.value.Value.TheVariants.{Term, Boolean, Integer, Text, Digits, Made, Tagged, Datatype}
+use Rattle.qs_expr_values.specs.declared.value.Value.TheVariants.{Term, Known, Boolean, Integer, Text, Digits, Made, Tagged, Datatype}
 
 -- the IRI of a datatype
 abbrev pub datatype_text : SeenDatatype → List ℕ
@@ -25,6 +25,7 @@ datatype_text datatype.LangString = rdf_lang_string
 -- the term that a value denotes
 abbrev pub term_of : Value → RdfTerm
 term_of (Term t) = t.now
+term_of (Known t) = t
 term_of (Boolean b) = boolean_term b
 term_of (Integer z) = integer_term z
 term_of (Text s) = text_term s.now

@@ -3,7 +3,8 @@
 ghost use Rattle.std.specs.Prelude.{◌≡◌, IfOk, OnErr, IsTrue};
 ghost use Rattle.std.specs.Option.{option_copied, option_map};
 ghost use Rattle.qs_expr_values.specs.Sorting as spec;
-ghost use Rattle.qs_expr_values.specs.Value.{term_of, parts_of, seen};
+ghost use Rattle.qs_expr_values.specs.Value.{term_of, parts_of};
+ghost use Rattle.qs_expr_values.specs.Values.{worth};
 
 use crate::same::{Parts, taken_apart};
 use crate::value::Value;
@@ -61,20 +62,31 @@ fn other_key(
     Ok(Key::Other(datatype, form, tag))
 }
 
-// The key of a term of these parts that is worth so much.
-fn key_of(alloc: Global, worth: Worth<'_>, parts: Parts<'_>) -> Result<Key, AllocError>
-    ensures key { IfOk result (λ k. k ≡ spec.key_by_worth (seen worth.entry) (parts_of parts.entry)) }
-    ensures memory { OnErr result (IsTrue (spec.has_text (spec.key_by_worth (seen worth.entry) (parts_of parts.entry)))) }
+// The key of a term of these parts that is worth nothing.
+fn plain_key(alloc: Global, parts: Parts<'_>) -> Result<Key, AllocError>
+    ensures key { IfOk result (λ k. k ≡ spec.plain_key (parts_of parts.entry)) }
+    ensures memory { OnErr result (IsTrue (spec.has_text (spec.plain_key (parts_of parts.entry)))) }
 {
-    match worth {
+    match parts {
+        Parts::Iri(text) => Ok(Key::Iri(Text::new(alloc, text)?)),
+        Parts::Blank(number) => Ok(Key::Blank(number)),
+        Parts::Literal(form, datatype, tag) => other_key(alloc, form, datatype, tag),
+    }
+}
+
+// The key of a value. Of a boolean and of an integer nothing but the worth is read.
+fn key_of(alloc: Global, value: &Value<'_>) -> Result<Key, AllocError>
+    ensures key { IfOk result (λ k. k ≡ spec.key_by_worth (worth (term_of value.entry.now)) (term_of value.entry.now)) }
+    ensures memory { OnErr result (IsTrue (spec.has_text (spec.key_by_worth (worth (term_of value.entry.now)) (term_of value.entry.now)))) }
+{
+    match worth_of(value) {
         Worth::Boolean(truth) => Ok(Key::Boolean(truth)),
         Worth::Integer(number) => Ok(Key::Integer(number)),
         Worth::Text(form) => Ok(Key::String(Text::new(alloc, form)?)),
-        Worth::Other => match parts {
-            Parts::Iri(text) => Ok(Key::Iri(Text::new(alloc, text)?)),
-            Parts::Blank(number) => Ok(Key::Blank(number)),
-            Parts::Literal(form, datatype, tag) => other_key(alloc, form, datatype, tag),
-        },
+        Worth::Other => {
+            let mut buffer = Buffer::new();
+            plain_key(alloc, taken_apart(value, &mut buffer))
+        }
     }
 }
 
@@ -85,9 +97,6 @@ pub fn order_key(alloc: Global, value: Option<&Value<'_>>) -> Result<Key, AllocE
 {
     match value {
         None => Ok(Key::Unbound),
-        Some(value) => {
-            let mut buffer = Buffer::new();
-            key_of(alloc, worth_of(value), taken_apart(value, &mut buffer))
-        }
+        Some(value) => key_of(alloc, value),
     }
 }

@@ -96,6 +96,7 @@ pub fn make_term(alloc: Global, value: Value<'_>) -> Result<Term, AllocError>
 {
     match value {
         Value::Term(term) => term.try_clone(),
+        Value::Known(known) => known.term().try_clone(),
         Value::Boolean(truth) => boolean(alloc, truth),
         Value::Integer(number) => integer(alloc, number),
         Value::Text(form) => string_of_copy(alloc, form),

@@ -45,6 +45,7 @@ pub(crate) fn taken_apart<'a>(value: &'a Value<'_>, buffer: &'a mut Buffer) -> P
 {
     match value {
         Value::Term(term) => parts_of_term(term),
+        Value::Known(known) => parts_of_term(known.term()),
         Value::Boolean(truth) => Parts::Literal(boolean_form(*truth), datatype::boolean(), None),
         Value::Integer(number) => Parts::Literal(buffer.format(*number), datatype::integer(), None),
         Value::Text(text) => Parts::Literal(text, datatype::string(), None),

@@ -8,6 +8,7 @@ ghost use Rattle.qs_expr_values.specs.Values as spec;
 ghost use Rattle.qs_expr_values.specs.Value.{term_of};
 
 use crate::datatype::Datatype;
+use crate::known_term::KnownTerm;
 use crate::number::{is_not_zero, is_other_than_zero};
 use crate::same::is_same;
 use crate::worth::{boolean_of, compare, worth_of};
@@ -19,6 +20,8 @@ use qs_terms::{Lit, Term, Text as OwnedText};
 #[derive(Drop)]
 pub enum Value<'a> {
     Term(&'a Term),
+    /// A term whose value was read before.
+    Known(KnownTerm<'a>),
     Boolean(bool),
     /// An integer of the range.
     Integer(i128),
@@ -54,7 +57,7 @@ fn ebv_of_literal(lit: &Lit) -> Option<bool>
     }
 }
 
-fn ebv_of_term(term: &Term) -> Option<bool>
+pub(crate) fn ebv_of_term(term: &Term) -> Option<bool>
     ensures { result ≡ spec.ebv term.now }
 {
     match term {
@@ -71,6 +74,7 @@ pub fn ebv(value: &Value<'_>) -> Option<bool>
 {
     match value {
         Value::Term(term) => ebv_of_term(term),
+        Value::Known(known) => known.ebv(),
         Value::Boolean(truth) => Some(*truth),
         Value::Integer(number) => Some(is_other_than_zero(*number)),
         Value::Text(text) => Some(is_not_empty(text)),
@@ -99,13 +103,23 @@ pub fn digits(number: i128) -> ArrayString<40>
     text
 }
 
+fn is_literal_term(term: &Term) -> bool
+    ensures { result ≡ spec.is_literal term.now }
+{
+    match term {
+        Term::Iri(_) => false,
+        Term::Blank(_) => false,
+        Term::Literal(_) => true,
+    }
+}
+
 /// Whether the value is a literal.
 pub fn is_literal(value: &Value<'_>) -> bool
     ensures { result ≡ spec.is_literal (term_of value.entry.now) }
 {
     match value {
-        Value::Term(Term::Iri(_)) => false,
-        Value::Term(Term::Blank(_)) => false,
+        Value::Term(term) => is_literal_term(term),
+        Value::Known(known) => is_literal_term(known.term()),
         Value::Datatype(_) => false,
         _ => true,
     }

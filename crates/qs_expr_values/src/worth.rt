@@ -54,7 +54,7 @@ pub(crate) fn worth_of_lit(lit: &Lit) -> Worth<'_>
 }
 
 /// What the term is worth.
-fn worth_of_term(term: &Term) -> Worth<'_>
+pub(crate) fn worth_of_term(term: &Term) -> Worth<'_>
     ensures { seen result ≡ spec.worth term.now }
 {
     match term {
@@ -82,6 +82,7 @@ pub fn worth_of<'a>(value: &'a Value<'_>) -> Worth<'a>
 {
     match value {
         Value::Term(term) => worth_of_term(term),
+        Value::Known(known) => known.worth(),
         Value::Boolean(truth) => Worth::Boolean(*truth),
         Value::Integer(number) => Worth::Integer(*number),
         Value::Text(text) => Worth::Text(text),

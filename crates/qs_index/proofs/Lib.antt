@@ -24,3 +24,6 @@ pub mod Parted
 pub mod Filled
 pub mod Prefixes
 pub mod ScanSteps
+pub mod Seeking
+pub mod Passing
+pub mod Led

@@ -6,6 +6,8 @@ pub mod Prefix
 pub mod Scan
 pub mod OrderScan
 pub mod Permutation
+pub mod Lead
+pub mod Passed
 pub mod Graph
 pub mod Agreeing
 pub mod OrderOf

@@ -12,6 +12,7 @@ ghost use Rattle.qs_index.specs.Agreeing.{agreeing, agreeing_named};
 ghost use Rattle.qs_index.specs.Entries.{IsUnion, IsDifference};
 ghost use Rattle.qs_index.specs.Entry.{IsEntry, IsAscending, with_entry, without_entry};
 ghost use Rattle.qs_index.specs.Graph.{graph_of, is_named, named_entries, IsNextGraph};
+ghost use Rattle.qs_index.specs.Lead.{order_led, named_order_led};
 ghost use Rattle.qs_index.specs.Index.{IndexState, IsOneSet, spare_of};
 ghost use Rattle.qs_index.specs.Named.{held_by};
 ghost use Rattle.qs_index.specs.OrderOf.{IsOrderOf};
@@ -21,7 +22,7 @@ use crate::batch::{insert_both, remove_both};
 use crate::named::Named;
 use crate::order::Order;
 use crate::pages::PagePosition;
-use crate::permutation::{Lookup, Permutation};
+use crate::permutation::{Lead, Lookup, Permutation};
 use crate::prefix::Prefix;
 use crate::scan::Scan;
 use crate::search::NOWHERE;
@@ -392,6 +393,49 @@ impl Index {
         let order = self.order(lookup.permutation);
         Scan::new(
             order.scan(from, lookup.prefix, lookup.given),
+            lookup.permutation,
+        )
+    }
+
+    /// The entries that `scan` gives. Where no place is given they ascend in the order that has this place in front: GSPO, GPOS or GOSP.
+    pub fn scan_led(
+        &self,
+        lead: Lead,
+        graph: u32,
+        subject: Option<u32>,
+        predicate: Option<u32>,
+        object: Option<u32>,
+    ) -> Scan<'_>
+        ensures agreeing { IsPermutation (agreeing graph subject predicate object self.now.entries) result.rest }
+        ensures ascending { IsAscending (map (turned (order_led subject predicate object lead)) result.rest) }
+        ensures handed { result.handed ≡ 0 }
+        ensures size { result.size ≡ length self.now.entries }
+    {
+        let lookup = Lookup::with_lead(lead, graph, subject, predicate, object);
+        let order = self.order(lookup.permutation);
+        Scan::new(
+            order.scan(NOWHERE, lookup.prefix, lookup.given),
+            lookup.permutation,
+        )
+    }
+
+    /// The entries that `scan_named` gives. Where no place is given they ascend in the order that has this place in front: SPOG, POSG or OSPG.
+    pub fn scan_named_led(
+        &self,
+        lead: Lead,
+        subject: Option<u32>,
+        predicate: Option<u32>,
+        object: Option<u32>,
+    ) -> Scan<'_>
+        ensures agreeing { IsPermutation (agreeing_named subject predicate object self.now.entries) result.rest }
+        ensures ascending { IsAscending (map (turned (named_order_led subject predicate object lead)) result.rest) }
+        ensures handed { result.handed ≡ 0 }
+        ensures size { result.size ≡ length (named_entries self.now.entries) }
+    {
+        let lookup = Lookup::named_with_lead(lead, subject, predicate, object);
+        let order = self.order(lookup.permutation);
+        Scan::new(
+            order.scan(NOWHERE, lookup.prefix, lookup.given),
             lookup.permutation,
         )
     }

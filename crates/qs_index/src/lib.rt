@@ -4,6 +4,7 @@
 #![tactic(auto)]
 
 mod batch;
+mod depth;
 mod entry;
 mod fill;
 mod index;
@@ -19,6 +20,7 @@ mod scan;
 mod search;
 
 pub use batch::{count_named, sort};
+pub use depth::agrees;
 pub use index::Index;
 pub use pages::PagePosition;
 pub use scan::Scan;

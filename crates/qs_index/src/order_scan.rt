@@ -2,14 +2,15 @@
 //!
 //! How many entries were given is a part of a scan's value that each step raises by one, beside those that are left. So no body
 //! can loosen the bound on looks by changing what the scan asks for.
-ghost use Rattle.std.specs.Prelude.{◌≡◌, ℕ, ◌+◌, ◌*◌, ◌^◌, ◌<◌, ◌≤◌, List, [], length, true, slice_index_or};
+ghost use Rattle.std.specs.Prelude.{◌≡◌, ℕ, ◌+◌, ◌*◌, ◌^◌, ◌<◌, ◌≤◌, List, [], ◌∷◌, length, drop, true, slice_index_or};
 ghost use Rattle.std.specs.Iterator.{item_count};
+ghost use Rattle.std.specs.Option.{MatchOption};
 ghost use Rattle.qs_index.specs.Digits.{digits};
 ghost use Rattle.qs_index.specs.Layout.{Reading, joined, page_at, rest_at};
 ghost use Rattle.qs_index.specs.Entries.{HaveFour};
-ghost use Rattle.qs_index.specs.Entry.{begins, beginning, run_of, IsAscending};
+ghost use Rattle.qs_index.specs.Entry.{begins, beginning, run_of, skip_before, IsAscending};
 ghost use Rattle.qs_index.specs.Scan.{ScanState, NextOfScan};
-ghost use Rattle.qs_index.specs.OrderScan.{state_of, waiting, IsHead, IsSound};
+ghost use Rattle.qs_index.specs.OrderScan.{left_from, state_of, waiting, IsHead, IsSound};
 
 use crate::pages::{PagePosition, Reader};
 use crate::prefix::Prefix;
@@ -66,6 +67,8 @@ fn step(reader: &Reader<'_>, prefix: &Prefix, place: PagePosition) -> PagePositi
 pub struct OrderScan<'a> {
     reader: Reader<'a>,
     prefix: Prefix,
+    // Where the count of the entries that are handed out begins.
+    start: PagePosition,
     page: usize,
     at: usize,
     // The first entry until it is handed out, as the search has looked at it.
@@ -77,9 +80,9 @@ pub struct OrderScan<'a> {
 impl<'a> Model for OrderScan<'a> {
     ghost Value = { ScanState };
 
-    ghost view = { λ s. state_of s.reader.pages s.prefix s.page s.at s.reader.looked };
+    ghost view = { λ s. state_of s.reader.pages s.prefix s.start.page s.start.at s.page s.at s.reader.looked };
 
-    ghost invariant = { λ s. IsSound s.reader.pages s.prefix s.page s.at s.head s.reader.looked };
+    ghost invariant = { λ s. IsSound s.reader.pages s.prefix (length (left_from s.reader.pages s.prefix s.start.page s.start.at)) s.page s.at s.head s.reader.looked };
 }
 
 impl<'a> OrderScan<'a> {
@@ -98,6 +101,7 @@ impl<'a> OrderScan<'a> {
             return OrderScan {
                 reader,
                 prefix,
+                start: PagePosition { page: held, at: 0 },
                 page: held,
                 at: 0,
                 head: None,
@@ -107,6 +111,7 @@ impl<'a> OrderScan<'a> {
         OrderScan {
             reader,
             prefix,
+            start: found.place,
             page: found.place.page,
             at: found.place.at,
             head: Some(found.entry),
@@ -123,6 +128,67 @@ impl<'a> OrderScan<'a> {
             };
         }
         self.seen
+    }
+
+    /// The entry that comes next, which stays to be handed out.
+    pub fn peek(&mut self) -> Option<[u32; 4]>
+        ensures next { MatchOption result (self.old.rest ≡ []) (λ e. self.old.rest ≡ e ∷ drop 1 self.old.rest) }
+        ensures rest { self.new.rest ≡ self.old.rest }
+        ensures handed { self.new.handed ≡ self.old.handed }
+        ensures size { self.new.size ≡ self.old.size }
+        ensures ascending { IsAscending self.old.rest }
+        ensures entries { HaveFour self.old.rest }
+    {
+        if self.page >= self.reader.len() {
+            return None;
+        }
+        let place = PagePosition {
+            page: self.page,
+            at: self.at,
+        };
+        let entry = read(&mut self.reader, self.head, place);
+        self.head = Some(entry);
+        if !self.prefix.begins(&entry) {
+            return None;
+        }
+        Some(entry)
+    }
+
+    /// Goes on at the first entry that isn't before `to`, by a search from where the scan stands, and begins to count anew.
+    pub fn seek(&mut self, to: &Prefix)
+        ensures rest { self.new.rest ≡ skip_before to.now self.old.rest }
+        ensures handed { self.new.handed ≡ 0 }
+        ensures size { self.new.size ≡ self.old.size }
+    {
+        let held = self.reader.len();
+        let place = PagePosition {
+            page: self.page,
+            at: self.at,
+        };
+        self.start = place;
+        self.reader.restart();
+        if self.page >= held {
+            self.head = None;
+            return;
+        }
+        let entry = self.reader.look(place);
+        self.head = Some(entry);
+        if !self.prefix.begins(&entry) || !to.is_after(&entry) {
+            return;
+        }
+        self.reader.restart();
+        let Some(found) = find_from(&mut self.reader, place, to) else {
+            let end = PagePosition { page: held, at: 0 };
+            self.page = end.page;
+            self.at = end.at;
+            self.start = end;
+            self.head = None;
+            return;
+        };
+        self.page = found.place.page;
+        self.at = found.place.at;
+        self.start = found.place;
+        self.head = Some(found.entry);
     }
 
     /// How many entries were looked at since the scan began: those handed out, and few more.

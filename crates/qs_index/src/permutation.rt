@@ -2,6 +2,7 @@
 ghost use Rattle.std.specs.Prelude.{◌≡◌, ◌≤◌, take, map};
 ghost use Rattle.std.specs.List.{All};
 ghost use Rattle.qs_index.specs.Entry.{IsEntry};
+ghost use Rattle.qs_index.specs.Lead.{order_led, named_order_led};
 ghost use Rattle.qs_index.specs.Permutation.{turned, restored, order_used, prefix_of, named_order_used, named_prefix_of};
 
 /// An order of the places of an entry: graph, subject, predicate and object, by their first letters. Orders with the graph in the last
@@ -72,6 +73,14 @@ impl Permutation {
     }
 }
 
+/// The place of an entry that a scan has in front where no place is given to it: which values follow one another.
+#[derive(Debug, Clone, Copy)]
+pub enum Lead {
+    Subject,
+    Predicate,
+    Object,
+}
+
 /// What a scan looks up: an order, and the numbers that its entries begin with there.
 #[derive(Clone, Copy)]
 pub struct Lookup {
@@ -128,6 +137,57 @@ impl Lookup {
             permutation,
             prefix,
             given,
+        }
+    }
+
+    /// What `new` gives, in the order that has the place in front where none is given.
+    pub fn with_lead(
+        lead: Lead,
+        graph: u32,
+        subject: Option<u32>,
+        predicate: Option<u32>,
+        object: Option<u32>,
+    ) -> Lookup
+        ensures permutation { result.permutation ≡ order_led subject predicate object lead }
+        ensures short { result.given ≤ 4 }
+        ensures prefix { take result.given result.prefix ≡ prefix_of graph subject predicate object }
+    {
+        match (subject, predicate, object) {
+            (None, None, None) => Lookup {
+                permutation: match lead {
+                    Lead::Subject => Permutation::Gspo,
+                    Lead::Predicate => Permutation::Gpos,
+                    Lead::Object => Permutation::Gosp,
+                },
+                prefix: [graph, 0, 0, 0],
+                given: 1,
+            },
+            _ => Lookup::new(graph, subject, predicate, object),
+        }
+    }
+
+    /// What `of_named` gives, in the order that has the place in front where none is given.
+    pub fn named_with_lead(
+        lead: Lead,
+        subject: Option<u32>,
+        predicate: Option<u32>,
+        object: Option<u32>,
+    ) -> Lookup
+        ensures permutation { result.permutation ≡ named_order_led subject predicate object lead }
+        ensures short { result.given ≤ 4 }
+        ensures prefix { take result.given result.prefix ≡ named_prefix_of subject predicate object }
+    {
+        match (subject, predicate, object) {
+            (None, None, None) => Lookup {
+                permutation: match lead {
+                    Lead::Subject => Permutation::Spog,
+                    Lead::Predicate => Permutation::Posg,
+                    Lead::Object => Permutation::Ospg,
+                },
+                prefix: [0, 0, 0, 0],
+                given: 0,
+            },
+            _ => Lookup::of_named(subject, predicate, object),
         }
     }
 }

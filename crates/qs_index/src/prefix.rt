@@ -1,6 +1,7 @@
 //! What the entries of a scan begin with.
-ghost use Rattle.std.specs.Prelude.{◌≡◌, ℕ, ◌<◌, ◌≤◌, ◌==◌, List, length, take};
+ghost use Rattle.std.specs.Prelude.{◌≡◌, ℕ, ◌<◌, ◌≤◌, ◌==◌, List, length, take, IfSome};
 ghost use Rattle.qs_index.specs.Entry.{is_before, begins};
+ghost use Rattle.qs_index.specs.Passed.{IsFollowed};
 ghost use Rattle.qs_index.specs.Prefix.{IsFilled};
 
 use crate::entry::{begins, is_less};
@@ -50,6 +51,29 @@ impl Prefix {
                 filled: numbers,
                 given,
             },
+        }
+    }
+
+    /// The prefix that comes after all entries which begin with the first `given` numbers of `entry`. None where that number isn't 1 to 3, or the
+    /// last of these is the greatest.
+    pub fn following(entry: [u32; 4], given: usize) -> Option<Prefix>
+        ensures { IfSome result (IsFollowed (take given entry)) }
+    {
+        let [a, b, c, _] = entry;
+        match given {
+            1 => {
+                let next = a.checked_add(1)?;
+                Some(Prefix::new([next, 0, 0, 0], 1))
+            }
+            2 => {
+                let next = b.checked_add(1)?;
+                Some(Prefix::new([a, next, 0, 0], 2))
+            }
+            3 => {
+                let next = c.checked_add(1)?;
+                Some(Prefix::new([a, b, next, 0], 3))
+            }
+            _ => None,
         }
     }
 

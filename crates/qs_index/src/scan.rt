@@ -1,13 +1,17 @@
 //! A scan of the index.
-ghost use Rattle.std.specs.Prelude.{◌≡◌, ℕ, ◌+◌, ◌*◌, ◌≤◌, List, map};
+ghost use Rattle.std.specs.Prelude.{◌≡◌, ℕ, ◌+◌, ◌*◌, ◌≤◌, List, map, true};
 ghost use Rattle.std.specs.Iterator.{item_count};
+ghost use Rattle.qs_index.specs.Agreeing.{agrees_anywhere};
 ghost use Rattle.qs_index.specs.Digits.{digits};
+ghost use Rattle.qs_index.specs.Passed.{IsPassed};
 ghost use Rattle.qs_index.specs.Permutation.{restored};
 ghost use Rattle.qs_index.specs.Scan.{ScanState, NextOfScan};
 
+use crate::depth::{agrees, depth};
 use crate::order_scan::OrderScan;
 use crate::pages::PagePosition;
 use crate::permutation::Permutation;
+use crate::prefix::Prefix;
 use std::marker::Model;
 
 /// The entries of an index that agree with the places that are given, ascending in the order used, each once. It takes no memory.
@@ -34,6 +38,26 @@ impl<'a> Scan<'a> {
     /// that has to begin near after finds its first entry from there with few looks.
     pub fn place(&self) -> PagePosition {
         self.inner.place()
+    }
+
+    /// Passes over entries that come next and have the subject, predicate and object that are given, and begins to count anew. Where these places are
+    /// in front in the order, all such entries are passed over by one search; elsewhere those that begin as the next one does, up to the last
+    /// of these places. No other entry is passed over.
+    pub fn pass(&mut self, subject: Option<u32>, predicate: Option<u32>, object: Option<u32>)
+        ensures passed { IsPassed (λ x. agrees_anywhere subject predicate object x ≡ true) self.old.rest self.new.rest }
+        ensures size { self.new.size ≡ self.old.size }
+    {
+        let Some(next) = self.inner.peek() else {
+            return;
+        };
+        if !agrees(self.permutation.restore(next), subject, predicate, object) {
+            return;
+        }
+        let front = depth(self.permutation, subject, predicate, object);
+        let Some(to) = Prefix::following(next, front) else {
+            return;
+        };
+        self.inner.seek(&to);
     }
 
     /// How many entries were looked at since the scan began: compared or handed out. At every moment they are at least those

@@ -4,6 +4,7 @@ ghost use Rattle.std.specs.Prelude.{◌≡◌, None, Some, true, Ok, IfOk, IfErr
 ghost use Rattle.qs_terms.specs.declared.fault.QFault.TheVariants.{Memory};
 ghost use Rattle.qs_store.specs.ActiveGraph.{active_graph};
 ghost use Rattle.qs_store.specs.declared.active.Active.TheVariants.{Default};
+ghost use Rattle.qs_expr_values.specs.Value.{term_of};
 ghost use Rattle.qs_expr.specs.Cell.{denoted, row_solution, FitsCell, FitsRow};
 ghost use Rattle.qs_expr.specs.Evaluated.{Evaluates};
 ghost use Rattle.qs_expr.specs.Scratch.{IsTable, Grows};
@@ -12,6 +13,7 @@ ghost use Rattle.qs_plan.specs.Plans.{plan_list};
 
 use qs_expr::{Cell, Row, Scratch};
 use qs_expr_meaning::{Expr, ExprFault};
+use qs_expr_values::Value;
 use qs_ops_walk::Cursor;
 use qs_plan::Plan;
 use qs_store::{Active, View};
@@ -64,8 +66,29 @@ impl<'a, V: View> Op<'a, V> {
         ensures table { IfOk result (λ o. IsTable o.known o.table) }
         ensures fault { IfErr result (λ f. f ≡ Memory) }
     {
+        let op = Op::start_led(alloc, plan, view, active, &[])?;
+        Ok(op)
+    }
+
+    /// The evaluation of the plan where this graph is active, for a caller who asks for distinct terms of these variables: rows that have the same
+    /// follow one another where an order of the store has them so, and `skip_alike` passes over them (SPARQL 1.1 Query, 18.5 and 18.6).
+    ///
+    /// # Errors
+    /// `QFault::Memory` where memory runs out.
+    pub fn start_led(
+        alloc: Global,
+        plan: &'a Plan,
+        view: &'a V,
+        active: Active,
+        columns: &'a [usize],
+    ) -> Result<Op<'a, V>, QFault>
+        ensures rows { IfOk result (λ o. AreToCome (plan_list plan.now (V.content view.now).quads (active_graph (V.content view.now) (V.default_seen view.now) active)) o.rows) }
+        ensures known { IfOk result (λ o. o.known ≡ (V.content view.now).known) }
+        ensures table { IfOk result (λ o. IsTable o.known o.table) }
+        ensures fault { IfErr result (λ f. f ≡ Memory) }
+    {
         let stages = plan.stages.as_slice();
-        let cursor = Cursor::start(alloc, stages, plan.width, plan.cells, view, active)?;
+        let cursor = Cursor::start(alloc, stages, plan.width, plan.cells, view, active, columns)?;
         Ok(Op { cursor })
     }
 
@@ -106,6 +129,14 @@ impl<'a, V: View> Op<'a, V> {
         ensures { denoted self.now.known self.now.table cell ≡ Some result.now }
     {
         self.cursor.term(cell)
+    }
+
+    /// The term of a cell that a row has, as a value. What a term of the dictionary is worth was read when it was put there.
+    pub fn value(&self, cell: Cell) -> Value<'_>
+        requires { FitsCell self.now.known self.now.table cell }
+        ensures { denoted self.now.known self.now.table cell ≡ Some (term_of result) }
+    {
+        self.cursor.value(cell)
     }
 
     /// The cell of the expression's value at the row (SPARQL 1.1 Query, 17). The solutions to come stay as they are.

@@ -10,7 +10,7 @@ module _ (test : List ℕ → Bool) (row : List ℕ → Cells) where
   abbrev made : List ℕ → Option Cells
   made x = if test x then Some (row x) else None
 
-  rows_are : (xs : List (List ℕ)) → filter_map made xs ≡ map row (filter test xs)
+  pub rows_are : (xs : List (List ℕ)) → filter_map made xs ≡ map row (filter test xs)
   rows_are [] = refl
   rows_are (x ∷ xs) = at (test x) refl (rows_are xs)
     where

@@ -11,12 +11,11 @@ use Rattle.qs_terms.proofs.Counts.{times-flat_map, times-same, total-same, total
 use Rattle.qs_terms.proofs.FirstOnes.{distinct_kept}
 use Rattle.qs_dict.specs.Dict.{term_at}
 use Rattle.qs_index.specs.Entry.{IsAscending}
-use Rattle.qs_index.specs.Permutation.{order_used}
 use Rattle.qs_index.specs.declared.permutation.Permutation.{Permutation}
 use Rattle.qs_store.specs.ActiveGraph.{IsSeen, active_graph}
 use Rattle.qs_store.specs.Content.{Content, HasKnownTerms}
 use Rattle.qs_store.specs.Entries.{or_blank}
-use Rattle.qs_store.specs.Triples.{IsActive, IsMatch, IsTriple, AreTriples, turned_triple}
+use Rattle.qs_store.specs.Triples.{IsActive, IsMatch, IsTriple, AreTriplesAnyhow, turned_triple}
 use Rattle.qs_store.specs.declared.active.Active.{Active}
 use Rattle.qs_store.specs.declared.active.Active.TheVariants as active
 use Rattle.qs_store.specs.declared.default_graph.DefaultGraph.{DefaultGraph}
@@ -116,7 +115,7 @@ module _ (c : Content) (seen : IsSeen c) (table : List Term) (is_table : IsTable
 
     -- ---- a scan with what is given
 
-    module _ (g : Given) (entries : List (List ℕ)) (are : GivenAre (prepared_triple c.known q) m g) (l : AreTriples c d a g.subject g.predicate g.object entries) where
+    module _ (g : Given) (entries : List (List ℕ)) (are : GivenAre (prepared_triple c.known q) m g) (l : AreTriplesAnyhow c d a g.subject g.predicate g.object entries) where
       -- a triple of the graph that may agree is among those that were handed out
       handed_out : (quad : Statement) → Contains c.quads quad → IsActive c.known d a quad.graph → may_match sol q (triple_of quad) ≡ true → Contains (map (said c.known) entries) (triple_of quad)
       handed_out quad stands read h =
@@ -137,16 +136,16 @@ module _ (c : Content) (seen : IsSeen c) (table : List Term) (is_table : IsTable
             object_given = f.object;
           } in
           let x : List ℕ = s.number ∷ p.number ∷ o.number ∷ [] in
-          subst (Contains (map (said c.known) entries)) (said_is c.known x quad s.is p.is o.is) (map_has (said c.known) x entries (l.has x match))
+          subst (Contains (map (said c.known) entries)) (said_is c.known x quad s.is p.is o.is) (map_has (said c.known) x entries (l.in_order.has x match))
 
       same_agreeing : SameBag (filter (may_match sol q) (map (said c.known) entries)) (filter (may_match sol q) graph)
       same_agreeing =
           let test : Triple → Bool = may_match sol q in
           let out : List Triple = map (said c.known) entries in
           same_members same_triple same_triple-Decides (filter test out) (filter test graph)
-          (distinct_kept same_triple same_triple-Decides test out (scanned_once c d a seen _ _ _ (order_used g.subject g.predicate g.object) entries l.only l.ascending))
+          (distinct_kept same_triple same_triple-Decides test out (scanned_once c d a seen _ _ _ l.order entries l.in_order.only l.in_order.ascending))
           (distinct_kept same_triple same_triple-Decides test graph (active_once c d a seen.lawful))
-          (λ t h. let f = member_of_filter test t out h in let e = member_of_map (said c.known) t entries f.0 in filter_has test t graph (subst (Contains graph) e.is (in_active c d a seen _ _ _ e.of (l.only e.of e.stands))) f.1)
+          (λ t h. let f = member_of_filter test t out h in let e = member_of_map (said c.known) t entries f.0 in filter_has test t graph (subst (Contains graph) e.is (in_active c d a seen _ _ _ e.of (l.in_order.only e.of e.stands))) f.1)
           (λ t h. let f = member_of_filter test t graph h in let i = active_only c d a t f.0 in filter_has test t out (subst (Contains out) i.is (handed_out i.quad i.stands i.read (subst (λ (u : Triple). test u ≡ true) (sym i.is) f.1))) f.1)
 
       extensions_same : SameBag (extensions q (map (said c.known) entries) sol) (extensions q graph sol)
@@ -189,7 +188,7 @@ module _ (c : Content) (seen : IsSeen c) (table : List Term) (is_table : IsTable
 
       scan_made : AreMade c.known table (extensions q graph) m (filter_map made entries)
       scan_made =
-          let w = all_made entries l.only in
+          let w = all_made entries l.in_order.only in
           record {
             same = subst (λ (xs : List Solution). SameBag xs (extensions q graph sol)) (sym w.is) extensions_same;
             fit = w.fit;

@@ -1,4 +1,5 @@
 pub mod Makes
+pub mod Passed
 pub mod Each
 pub mod Prepared
 pub mod Paths

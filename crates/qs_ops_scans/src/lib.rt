@@ -15,6 +15,7 @@ mod look;
 mod names;
 mod nodes;
 mod opened;
+mod pass;
 mod paths;
 mod pattern;
 mod quads;

@@ -10,6 +10,7 @@ ghost use Rattle.qs_plan_meaning.specs.declared.stage.Look.{Look};
 ghost use Rattle.qs_plan_meaning.specs.Scans.{extensions};
 ghost use Rattle.qs_plan_meaning.specs.Stages.{looked};
 ghost use Rattle.qs_ops_scans.specs.Makes.{GivesFirst, Makes};
+ghost use Rattle.qs_ops_scans.specs.Passed.{PassesRows};
 ghost use Rattle.qs_ops_scans.specs.Prepared.{prepared_look, prepared_triple};
 ghost use Rattle.qs_store.specs.Content.{Content};
 ghost use Rattle.qs_store.specs.declared.default_graph.DefaultGraph.{DefaultGraph};
@@ -19,8 +20,10 @@ use crate::bind::bind_triple;
 use crate::lawful::content_is_lawful;
 use crate::look::{PreparedLook, graph_of_look};
 use crate::opened::{Acts, Given, acts_of, givens, leaves, passes};
+use crate::pass::{all_tell, lead_of, wanted_of};
 use crate::pattern::PreparedTriple;
 use qs_expr::{Cell, Row};
+use qs_index::permutation::Lead;
 use qs_store::{Active, Triples, View};
 use std::alloc::{AllocError, Global};
 use std::marker::Model;
@@ -92,6 +95,20 @@ impl<'a> TripleRows<'a> {
         self.row.cell(variable)
     }
 
+    /// Passes over rows to come that have the row's cells at these variables, as far as one search finds their end: where the triples with these
+    /// terms follow one another, all of them are passed over. No other row is, and none is made.
+    #[tactic(auto, using(crate::proofs::Passing::rows_passed, crate::proofs::Passing::none_passed))]
+    pub fn pass(&mut self, columns: &[usize], row: &Row)
+        ensures { PassesRows columns.now row.now self.old self.new }
+    {
+        let wanted = wanted_of(&self.acts, columns, row);
+        if !all_tell(&self.acts, &self.row, wanted, columns, row) {
+            return;
+        }
+        self.scan
+            .pass(wanted.subject, wanted.predicate, wanted.object);
+    }
+
     /// The row of which the others were made, for its memory.
     pub fn into_row(self) -> Row {
         let TripleRows {
@@ -119,42 +136,47 @@ fn scan_of<'a, V: View>(
     graph: Active,
     pattern: &PreparedTriple,
     row: &Row,
+    lead: Lead,
 ) -> Triples<'a>
     ensures { IsScanned (V.content view.now) (V.default_seen view.now) graph pattern.now row.now result }
 {
     // One call, so that a scan, which is large, isn't moved where two branches meet.
     let (graph, given) = asked(graph, givens(pattern, row));
-    view.scan(graph, given.subject, given.predicate, given.object)
+    view.scan_led(lead, graph, given.subject, given.predicate, given.object)
 }
 
-/// The rows that the pattern makes of the row over the triples of the graph (SPARQL 1.1 Query, 18.3.1).
+/// The rows that the pattern makes of the row over the triples of the graph (SPARQL 1.1 Query, 18.3.1). Where no place is given to the scan, those
+/// with the same terms at the wanted variables follow one another, as far as an order of the store has their places in front.
 pub fn triple_rows<'a, V: View>(
     view: &'a V,
     graph: Active,
     pattern: &PreparedTriple,
     row: Row,
+    wanted: &[usize],
 ) -> TripleRows<'a>
     ensures { (p : TriplePattern) → pattern.now ≡ prepared_triple (V.content view.now).known p
         → Makes (V.content view.now).known (extensions p (active_graph (V.content view.now) (V.default_seen view.now) graph)) row result }
 {
     content_is_lawful(view);
     let acts = acts_of(pattern, &row);
-    let scan = scan_of(view, graph, pattern, &row);
+    let scan = scan_of(view, graph, pattern, &row, lead_of(&acts, wanted));
     TripleRows { scan, acts, row }
 }
 
-/// The rows that the stage of a triple pattern makes of the row, where `active` is the graph that is active (SPARQL 1.1 Query, 18.5).
+/// The rows that the stage of a triple pattern makes of the row, where `active` is the graph that is active (SPARQL 1.1 Query, 18.5), as
+/// `triple_rows` gives them.
 pub fn open_triple<'a, V: View>(
     view: &'a V,
     active: Active,
     look: PreparedLook,
     pattern: &PreparedTriple,
     row: Row,
+    wanted: &[usize],
 ) -> TripleRows<'a>
     ensures { (place : Look) (p : TriplePattern) → look ≡ prepared_look (V.content view.now).known place
         → pattern.now ≡ prepared_triple (V.content view.now).known p
         → Makes (V.content view.now).known (λ m. extensions p (looked (V.content view.now).quads (active_graph (V.content view.now) (V.default_seen view.now) active) place m) m) row result }
 {
     let graph = graph_of_look(view, look, &row, active);
-    triple_rows(view, graph, pattern, row)
+    triple_rows(view, graph, pattern, row, wanted)
 }

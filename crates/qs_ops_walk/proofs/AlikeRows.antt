@@ -36,7 +36,7 @@ use Rattle.qs_ops_walk.proofs.Walks.{coming_at}
 -- ---- lists
 
 module _ {X : Type 0} (P Q : X → Type 0) (f : (x : X) → P x → Q x) where
-  all_weaker : (xs : List X) → AllByRecursion P xs → AllByRecursion Q xs
+  pub all_weaker : (xs : List X) → AllByRecursion P xs → AllByRecursion Q xs
   all_weaker [] h = tt
   all_weaker (x ∷ xs) h = (f x h.0, all_weaker xs h.1)
 
@@ -224,7 +224,7 @@ module _ (s : Setting) (table : List Term) (columns : List ℕ) (m : Cells) (fit
       more_shared s.width (row_solution (known_of s) table m) v vs (flows s code (level_items s table l)) h.0.named
       (flows_alike s table m v h.0.cell h.0.is fits code forward (first_kept v vs k) l h.0.common) (level_shares l vs (rest_kept v vs k) h.1)
 
-  level_passed : (l : Level) → KeptBy columns → IsSourceAlike s.width columns m l.source → AllByRecursion (SharesTerms s.width columns (row_solution (known_of s) table m)) (flows s code (level_items s table l))
+  pub level_passed : (l : Level) → KeptBy columns → IsSourceAlike s.width columns m l.source → AllByRecursion (SharesTerms s.width columns (row_solution (known_of s) table m)) (flows s code (level_items s table l))
   level_passed l k (inl e) = subst (λ (x : Source). AllByRecursion (SharesTerms s.width columns (row_solution (known_of s) table m)) (flows s code (source_items s table l.next x))) (sym e) tt
   level_passed l k (inr h) = level_shares l columns k h
 
@@ -246,7 +246,7 @@ module _ (s : Setting) (table : List Term) (columns : List ℕ) (m : Cells) (fit
 abbrev KeptIn : List ℕ → List Place → Type 0
 KeptIn columns ps = AllByRecursion (λ (p : Place). KeepsAll columns p.instr.stage) ps
 
-kept_code : (columns : List ℕ) (ps : List Place) → KeptIn columns ps → AllByRecursion (λ (i : Instruction). KeepsAll columns i.stage) (code_of ps)
+pub kept_code : (columns : List ℕ) (ps : List Place) → KeptIn columns ps → AllByRecursion (λ (i : Instruction). KeepsAll columns i.stage) (code_of ps)
 kept_code columns [] h = tt
 kept_code columns (p ∷ ps) h = (h.0, kept_code columns ps h.1)
 

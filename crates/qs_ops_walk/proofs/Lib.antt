@@ -22,3 +22,4 @@ mod Begins
 mod Settling
 mod Cursors
 mod AlikeRows
+mod PassedRows

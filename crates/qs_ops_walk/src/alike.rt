@@ -1,12 +1,13 @@
 //! Rows to come that are passed over: they have the same terms at some variables as a row that was given. A source binds what the row binds of
 //! which it was opened, and no stage changes it. So where that row has the terms, all rows of the source have them, whatever comes of them.
+//! Of a triple pattern's rows those that bind the terms are passed over by a search, where the triples that make them follow one another.
 
-ghost use Rattle.std.specs.Prelude.{◌≡◌, true, false, Some, IfSome};
+ghost use Rattle.std.specs.Prelude.{◌≡◌, ◌<◌, true, false, Some, IfSome};
 ghost use Rattle.std.specs.List.{AllByRecursion};
 ghost use Rattle.qs_ops_program.specs.inner.Flow.{is_union};
 ghost use Rattle.qs_plan.specs.inner.Certain.{Keeps};
 ghost use Rattle.qs_ops_walk.specs.declared.source.Source.TheVariants as origin;
-ghost use Rattle.qs_ops_walk.specs.inner.Alike.{HasCommon, IsLastAlike, IsSourceAlike, KeepsAll, SharesCell, SkipsAlike};
+ghost use Rattle.qs_ops_walk.specs.inner.Alike.{HasCommon, IsLastAlike, IsSourceAlike, KeepsAll, PassesLast, SharesCell, SkipsAlike};
 
 use crate::source::{Attempt, Level, Source};
 use crate::walk::{Walk, end_last};
@@ -153,15 +154,65 @@ fn end_alike(walk: &mut Walk<'_>, columns: &[usize], width: usize, row: &Row)
     }
 }
 
+// ---- rows of the last level that are passed over
+
+fn is_last_of_triples(levels: &[Level<'_>]) -> bool {
+    match levels.last() {
+        Some(level) => match &level.source {
+            Source::Triple(_) => true,
+            _ => false,
+        },
+        None => false,
+    }
+}
+
+fn are_named(columns: &[usize], width: usize) -> bool
+    ensures { result ≡ true → AllByRecursion (λ v. v < width) columns.now }
+{
+    for column in columns {
+        if width <= *column {
+            return false;
+        }
+    }
+    true
+}
+
+/// Passes over rows that the last level gives, where it is of a triple pattern: some that have the row's cells at these variables.
+fn pass_last(levels: &mut Vec<Level<'_>>, columns: &[usize], row: &Row)
+    ensures { PassesLast columns.now row.now levels.old.items levels.new.items }
+{
+    let Some(level) = levels.last_mut() else {
+        return;
+    };
+    if let Source::Triple(rows) = &mut level.source {
+        rows.pass(columns, row);
+    }
+}
+
+/// Passes over rows that the last level gives and that have the row's cells at these variables, if these are named.
+fn pass_alike(walk: &mut Walk<'_>, columns: &[usize], width: usize, row: &Row)
+    requires { AllByRecursion (λ p. KeepsAll columns.now p.instr.stage) walk.old.places.items }
+    ensures places { walk.new.places ≡ walk.old.places }
+    ensures skips { SkipsAlike width walk.old.places.items columns.now row.now walk.old.levels.items walk.new.levels.items }
+{
+    if are_named(columns, width) {
+        pass_last(&mut walk.levels, columns, row);
+    }
+}
+
 /// Passes over rows to come that have the row's terms at these variables, where the sources tell so. No row is made.
 pub(crate) fn skip_alike(walk: &mut Walk<'_>, columns: &[usize], width: usize, row: &Row)
     ensures places { walk.new.places ≡ walk.old.places }
     ensures skips { SkipsAlike width walk.old.places.items columns.now row.now walk.old.levels.items walk.new.levels.items }
 {
-    // The stages are looked at where a level can be passed over alone.
-    if is_last_alike(walk.levels.as_slice(), columns, width, row)
-        && are_kept(walk.places.as_slice(), columns)
-    {
-        end_alike(walk, columns, width, row);
+    // The stages are looked at where rows can be passed over alone.
+    let levels = walk.levels.as_slice();
+    if !is_last_of_triples(levels) && !is_last_alike(levels, columns, width, row) {
+        return;
     }
+    if !are_kept(walk.places.as_slice(), columns) {
+        return;
+    }
+    end_alike(walk, columns, width, row);
+    pass_alike(walk, columns, width, row);
 }

@@ -3,6 +3,7 @@
 ghost use Rattle.std.specs.Prelude.{◌≡◌, None, Some, true, Ok, IfOk, IfErr, IfSome, OnErr, map, take};
 ghost use Rattle.qs_terms.specs.declared.fault.QFault.TheVariants.{Memory};
 ghost use Rattle.qs_store.specs.ActiveGraph.{active_graph};
+ghost use Rattle.qs_expr_values.specs.Value.{term_of};
 ghost use Rattle.qs_expr.specs.Cell.{denoted, row_solution, FitsCell, FitsRow};
 ghost use Rattle.qs_expr.specs.Evaluated.{Evaluates};
 ghost use Rattle.qs_expr.specs.Scratch.{IsTable, Grows};
@@ -16,6 +17,7 @@ use crate::spare::keep;
 use crate::walk::{Walk, next_named, start};
 use qs_expr::{Cell, Row, Scratch};
 use qs_expr_meaning::{Expr, ExprFault};
+use qs_expr_values::Value;
 use qs_plan_meaning::Stage;
 use qs_store::{Active, View};
 use qs_terms::{QFault, Term};
@@ -46,7 +48,8 @@ impl<'a, V: View> Model for Cursor<'a, V> {
 
 impl<'a, V: View> Cursor<'a, V> {
     /// The evaluation of stages for a row of so many cells that binds none, where this graph is active (SPARQL 1.1 Query, 18.5 and 18.6). So
-    /// many variables of a row are named.
+    /// many variables of a row are named. Rows with the same terms at the wanted variables follow one another where an order of the store has
+    /// them so; nothing else depends on these.
     ///
     /// # Errors
     /// `QFault::Memory` where memory runs out.
@@ -57,6 +60,7 @@ impl<'a, V: View> Cursor<'a, V> {
         cells: usize,
         view: &'a V,
         active: Active,
+        wanted: &'a [usize],
     ) -> Result<Cursor<'a, V>, QFault>
         ensures rows { IfOk result (λ c. AreToCome (map (take width) (through width (V.content view.now).quads (active_graph (V.content view.now) (V.default_seen view.now) active) stages.now (unbound cells))) c.rows) }
         ensures known { IfOk result (λ c. c.known ≡ (V.content view.now).known) }
@@ -69,6 +73,7 @@ impl<'a, V: View> Cursor<'a, V> {
             view,
             active,
             width,
+            wanted,
         };
         let row = Row::unbound(alloc, cells)?;
         let walk = start(&reader, stages, row)?;
@@ -132,6 +137,14 @@ impl<'a, V: View> Cursor<'a, V> {
         ensures { denoted self.now.known self.now.table cell ≡ Some result.now }
     {
         qs_expr::term(cell, self.reader.view, &self.scratch)
+    }
+
+    /// The term of a cell that a row has, as a value. What a term of the dictionary is worth was read when it was put there.
+    pub fn value(&self, cell: Cell) -> Value<'_>
+        requires { FitsCell self.now.known self.now.table cell }
+        ensures { denoted self.now.known self.now.table cell ≡ Some (term_of result) }
+    {
+        qs_expr::value(cell, self.reader.view, &self.scratch)
     }
 
     /// The cell of the expression's value at the row (SPARQL 1.1 Query, 17). The solutions to come stay as they are.

@@ -40,6 +40,8 @@ pub(crate) struct Reader<'a, V: View> {
     pub(crate) view: &'a V,
     pub(crate) active: Active,
     pub(crate) width: usize,
+    // The variables whose distinct terms are asked for: a hint for the order of a scan.
+    pub(crate) wanted: &'a [usize],
 }
 
 impl<'a, V: View> Model for Reader<'a, V> {
@@ -61,7 +63,7 @@ impl<'a, V: View> Reader<'a, V> {
         ensures { (place : Look) (p : TriplePattern) → look ≡ prepared_look (known_of self.now) place → pattern.now ≡ prepared_triple (known_of self.now) p
             → Makes (known_of self.now) (λ m. extensions p (looked self.now.content.quads (graph_in self.now) place m) m) row result }
     {
-        open_triple(self.view, self.active, look, pattern, row)
+        open_triple(self.view, self.active, look, pattern, row, self.wanted)
     }
 
     /// The rows that a triple pattern makes of the row in each named graph, whose name the register holds.

@@ -83,7 +83,7 @@ fn distinct_planned<V: View>(
 ) -> Result<Vec<Solution>, QFault>
     ensures { IfOk result (λ rows. AreSomeDistinct columns.now most rows.items (plan_list plan.now (V.content view.now).quads (active_graph (V.content view.now) (V.default_seen view.now) active))) }
 {
-    let mut op = Op::start_in(alloc, plan, view, active)?;
+    let mut op = Op::start_led(alloc, plan, view, active, columns)?;
     let rows = DistinctRows::new(alloc, view);
     let found = distinct(alloc, &mut op, columns, most, rows);
     op.end();

@@ -3,9 +3,10 @@
 ghost use Rattle.std.specs.Prelude.{◌≡◌};
 ghost use Rattle.qs_expr.specs.Cell.{row_solution, FitsRow};
 
-use crate::terms::term;
+use crate::terms::{term, value};
 use qs_expr::Row;
 use qs_expr_meaning::Bindings;
+use qs_expr_values::Value;
 use qs_ops::Op;
 use qs_store::View;
 use qs_terms::Term;
@@ -44,5 +45,9 @@ impl<'r, 'a, V: View> Bindings for Reading<'r, 'a, V> {
 
     fn term(&self, variable: usize) -> Option<&Term> {
         term(self.op, self.row, variable)
+    }
+
+    fn value(&self, variable: usize) -> Option<Value<'_>> {
+        value(self.op, self.row, variable)
     }
 }

@@ -1,13 +1,15 @@
 //! The terms of the rows of an evaluation.
 
 ghost use Rattle.std.specs.Prelude.{◌≡◌, IfOk, OnOk};
-ghost use Rattle.std.specs.Option.{option_copied};
+ghost use Rattle.std.specs.Option.{option_copied, option_map};
 ghost use Rattle.qs_algebra_solutions.specs.Solution.{projected, term_at};
+ghost use Rattle.qs_expr_values.specs.Value.{term_of};
 ghost use Rattle.qs_expr.specs.Cell.{row_solution, FitsRow};
 ghost use Rattle.qs_query_solutions.specs.inner.Front.{with_term};
 
 use qs_algebra_solutions::Row as Solution;
 use qs_expr::Row;
+use qs_expr_values::Value;
 use qs_ops::Op;
 use qs_store::View;
 use qs_terms::Term;
@@ -21,6 +23,18 @@ pub(crate) fn term<'a, V: View>(op: &'a Op<'_, V>, row: &Row, variable: usize) -
 {
     match row.cell(variable) {
         Some(cell) => Some(op.term(cell)),
+        None => None,
+    }
+}
+
+/// The term of a variable as a value; none where it isn't bound.
+#[tactic(auto, using(crate::proofs::Fronts::term_read, crate::proofs::Fronts::none_read))]
+pub(crate) fn value<'a, V: View>(op: &'a Op<'_, V>, row: &Row, variable: usize) -> Option<Value<'a>>
+    requires { FitsRow op.now.known op.now.table row.now }
+    ensures { option_map term_of result ≡ term_at (row_solution op.now.known op.now.table row.now) variable }
+{
+    match row.cell(variable) {
+        Some(cell) => Some(op.value(cell)),
         None => None,
     }
 }

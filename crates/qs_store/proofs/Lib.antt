@@ -18,3 +18,4 @@ pub mod CopiedTerms
 pub mod Emptied
 pub mod Out
 pub mod Cleared
+pub mod Passing

@@ -11,13 +11,16 @@ use Rattle.std.proofs.lemmas.Slice.Eq.{bytes_eq-Decides}
 use Rattle.qs_index.specs.Agreeing.{agrees, agreeing, agrees_anywhere, agreeing_named, fits}
 use Rattle.qs_index.specs.Entry.{IsAscending, is_before}
 use Rattle.qs_index.specs.Graph.{is_named, named_entries}
+use Rattle.qs_index.specs.Lead.{order_led, named_order_led}
 use Rattle.qs_index.specs.Permutation.{turned, order_used, named_order_used}
+use Rattle.qs_index.specs.declared.permutation.Lead.{Lead}
+use Rattle.qs_index.specs.declared.permutation.Lead.TheVariants.{Subject, Predicate, Object}
 use Rattle.qs_index.specs.declared.permutation.Permutation.{Permutation}
 use Rattle.qs_index.proofs.Ascending.{before_trans}
 use Rattle.qs_index.proofs.Turned.{turned_same}
 use Rattle.qs_store.specs.Layers.{drafted, IsDraft}
 use Rattle.qs_store.specs.Triples.{turned_triple}
-use Rattle.qs_store.specs.Scans.{IsRead, order_in, IsScanOf, without, merged, triple_of, is_last, unrepeated, AreTriplesOf}
+use Rattle.qs_store.specs.Scans.{IsRead, order_in, IsScanOf, without, merged, triple_of, is_last, unrepeated, AreTriplesIn, AreTriplesOf, AreTriplesOfAnyhow}
 use Rattle.qs_store.specs.declared.graphs.Graphs.{Graphs}
 use Rattle.qs_store.specs.declared.graphs.Graphs.TheVariants.{Nothing, One, Named}
 use Rattle.qs_store.proofs.Drafted.{parts, stays, is_added}
@@ -25,15 +28,15 @@ use Rattle.qs_store.proofs.Members.{Entries, nothing, here, there, head_or_tail,
 use Rattle.qs_store.proofs.Merging.{Key, each_before, before_each, without_only, without_has, without_gone, ascending_without, merged_only, merged_has, ascending_merged}
 
 -- the scan of one graph, and of all named ones
-pub scan_of_one : (graph : ℕ) (s p o : Option ℕ) (entries rest : Entries) → IsPermutation (agreeing graph s p o entries) rest → IsAscending (map (turned (order_used s p o)) rest) → IsScanOf (IsRead (One graph) s p o) (turned (order_in (One graph) s p o)) entries rest
-scan_of_one graph s p o entries rest m u = record {
+scan_in_one : (order : Permutation) (graph : ℕ) (s p o : Option ℕ) (entries rest : Entries) → IsPermutation (agreeing graph s p o entries) rest → IsAscending (map (turned order) rest) → IsScanOf (IsRead (One graph) s p o) (turned order) entries rest
+scan_in_one order graph s p o entries rest m u = record {
   ascending = u;
   has = λ x c r. Contains-permutation (agreeing graph s p o entries) rest x m (filter_has (agrees graph s p o) x entries c r);
   only = λ x c. member_of_filter (agrees graph s p o) x entries (Contains-permutation rest (agreeing graph s p o entries) x (IsPermutation-sym (agreeing graph s p o entries) rest m) c);
 }
 
-pub scan_of_named : (s p o : Option ℕ) (entries rest : Entries) → IsPermutation (agreeing_named s p o entries) rest → IsAscending (map (turned (named_order_used s p o)) rest) → IsScanOf (IsRead Named s p o) (turned (order_in Named s p o)) entries rest
-scan_of_named s p o entries rest m u = record {
+scan_in_named : (order : Permutation) (s p o : Option ℕ) (entries rest : Entries) → IsPermutation (agreeing_named s p o entries) rest → IsAscending (map (turned order) rest) → IsScanOf (IsRead Named s p o) (turned order) entries rest
+scan_in_named order s p o entries rest m u = record {
   ascending = u;
   has = λ x c r. Contains-permutation (agreeing_named s p o entries) rest x m (filter_has (agrees_anywhere s p o) x (named_entries entries) (filter_has is_named x entries c r.0) r.1);
   only = λ x c.
@@ -41,6 +44,12 @@ scan_of_named s p o entries rest m u = record {
       let n = member_of_filter is_named x entries f.0 in
       (n.0, (n.1, f.1));
 }
+
+pub scan_of_one : (graph : ℕ) (s p o : Option ℕ) (entries rest : Entries) → IsPermutation (agreeing graph s p o entries) rest → IsAscending (map (turned (order_used s p o)) rest) → IsScanOf (IsRead (One graph) s p o) (turned (order_in (One graph) s p o)) entries rest
+scan_of_one graph s p o entries rest m u = scan_in_one (order_used s p o) graph s p o entries rest m u
+
+pub scan_of_named : (s p o : Option ℕ) (entries rest : Entries) → IsPermutation (agreeing_named s p o entries) rest → IsAscending (map (turned (named_order_used s p o)) rest) → IsScanOf (IsRead Named s p o) (turned (order_in Named s p o)) entries rest
+scan_of_named s p o entries rest m u = scan_in_named (named_order_used s p o) s p o entries rest m u
 
 -- the scans of a draft's entries: of the store's, the removed and the added
 pub scan_of_draft : (P : List ℕ → Type 0) (order : Permutation) (i r a xs ys zs : Entries) → IsDraft i r a → IsScanOf P (turned order) i xs → IsScanOf P (turned order) r ys → IsScanOf P (turned order) a zs → IsScanOf P (turned order) (drafted i r a) (merged (turned order) (without xs ys) zs)
@@ -156,17 +165,17 @@ triple_stands (y ∷ ys) x c =
     (λ m. there (triple_of y) (triple_of x) (map triple_of ys) (triple_stands ys x m)) (head_or_tail y ys x c)
 
 -- in one graph triples ascend as their entries do
-same_order : (graph : ℕ) (s p o : Option ℕ) (x y : List ℕ) → agrees graph s p o x ≡ true → agrees graph s p o y ≡ true → is_before (turned (order_used s p o) x) (turned (order_used s p o) y) ≡ true → is_before (turned_triple (order_used s p o) (triple_of x)) (turned_triple (order_used s p o) (triple_of y)) ≡ true
-same_order graph s p o x y h k b =
-    let order = order_used s p o in
+same_order : (graph : ℕ) (s p o q1 q2 q3 : Option ℕ) (x y : List ℕ) → agrees graph s p o x ≡ true → agrees graph s p o y ≡ true → is_before (turned (order_used q1 q2 q3) x) (turned (order_used q1 q2 q3) y) ≡ true → is_before (turned_triple (order_used q1 q2 q3) (triple_of x)) (turned_triple (order_used q1 q2 q3) (triple_of y)) ≡ true
+same_order graph s p o q1 q2 q3 x y h k b =
+    let order = order_used q1 q2 q3 in
     let u = places_in graph s p o x h in
     let v = places_in graph s p o y k in
     let ux = u.places in
     let vy = v.places in
     let tx : List ℕ = turned_triple order (ux.at_s ∷ ux.at_p ∷ ux.at_o ∷ []) in
     let ty : List ℕ = turned_triple order (vy.at_s ∷ vy.at_p ∷ vy.at_o ∷ []) in
-    let kx : turned order x ≡ graph ∷ tx = ap (turned order) ux.is ∙ turned_one s p o ux.graph ux.at_s ux.at_p ux.at_o ∙ ap (λ g. g ∷ tx) u.same in
-    let ky : turned order y ≡ graph ∷ ty = ap (turned order) vy.is ∙ turned_one s p o vy.graph vy.at_s vy.at_p vy.at_o ∙ ap (λ g. g ∷ ty) v.same in
+    let kx : turned order x ≡ graph ∷ tx = ap (turned order) ux.is ∙ turned_one q1 q2 q3 ux.graph ux.at_s ux.at_p ux.at_o ∙ ap (λ g. g ∷ tx) u.same in
+    let ky : turned order y ≡ graph ∷ ty = ap (turned order) vy.is ∙ turned_one q1 q2 q3 vy.graph vy.at_s vy.at_p vy.at_o ∙ ap (λ g. g ∷ ty) v.same in
     ap (λ e. is_before (turned_triple order (triple_of e)) (turned_triple order (triple_of y))) ux.is
     ∙ ap (λ e. is_before tx (turned_triple order (triple_of e))) vy.is
     ∙ sym (before_behind graph tx ty)
@@ -174,21 +183,21 @@ same_order graph s p o x y h k b =
     ∙ ap (λ e. is_before (turned order x) e) (sym ky)
     ∙ b
 
-triples_ascend : (graph : ℕ) (s p o : Option ℕ) (entries : Entries) → ((x : List ℕ) → Contains entries x → agrees graph s p o x ≡ true) → IsAscending (map (turned (order_used s p o)) entries) → IsAscending (map (turned_triple (order_used s p o)) (map triple_of entries))
-triples_ascend graph s p o [] h u = tt
-triples_ascend graph s p o (x ∷ xs) h u =
-    let order = order_used s p o in (
+triples_ascend : (graph : ℕ) (s p o q1 q2 q3 : Option ℕ) (entries : Entries) → ((x : List ℕ) → Contains entries x → agrees graph s p o x ≡ true) → IsAscending (map (turned (order_used q1 q2 q3)) entries) → IsAscending (map (turned_triple (order_used q1 q2 q3)) (map triple_of entries))
+triples_ascend graph s p o q1 q2 q3 [] h u = tt
+triples_ascend graph s p o q1 q2 q3 (x ∷ xs) h u =
+    let order = order_used q1 q2 q3 in (
       each_before (turned_triple order) (turned_triple order (triple_of x)) (map triple_of xs) (λ t m.
           let f = origin xs t m in
           subst (λ v. is_before (turned_triple order (triple_of x)) (turned_triple order v) ≡ true) f.is
-          (same_order graph s p o x f.entry (h x (here x xs)) (h f.entry (there x f.entry xs f.stands)) (before_each (turned order) (turned order x) xs u.0 f.entry f.stands))),
-      triples_ascend graph s p o xs (λ y m. h y (there x y xs m)) u.1,
+          (same_order graph s p o q1 q2 q3 x f.entry (h x (here x xs)) (h f.entry (there x f.entry xs f.stands)) (before_each (turned order) (turned order x) xs u.0 f.entry f.stands))),
+      triples_ascend graph s p o q1 q2 q3 xs (λ y m. h y (there x y xs m)) u.1,
     )
 
 -- the triples of one graph
-pub triples_of_one : (graph : ℕ) (s p o : Option ℕ) (entries rest : Entries) → IsScanOf (IsRead (One graph) s p o) (turned (order_in (One graph) s p o)) entries rest → AreTriplesOf (One graph) s p o entries (map triple_of rest)
-triples_of_one graph s p o entries rest f = record {
-  ascending = triples_ascend graph s p o rest (λ x m. (f.only x m).1) f.ascending;
+pub triples_of_one : (graph : ℕ) (s p o q1 q2 q3 : Option ℕ) (entries rest : Entries) → IsScanOf (IsRead (One graph) s p o) (turned (order_used q1 q2 q3)) entries rest → AreTriplesIn (order_used q1 q2 q3) (One graph) s p o entries (map triple_of rest)
+triples_of_one graph s p o q1 q2 q3 entries rest f = record {
+  ascending = triples_ascend graph s p o q1 q2 q3 rest (λ x m. (f.only x m).1) f.ascending;
   has = λ x c r. triple_stands rest x (f.has x c r);
   only = λ t c. let m = origin rest t c in let n = f.only m.entry m.stands in record { entry = m.entry; stands = n.0; read = n.1; is = m.is };
 }
@@ -291,37 +300,37 @@ longer_by None None (Some o) a b c d e f g h k = before_longer c a b f d e g h k
 longer_by (Some s) None (Some o) a b c d e f g h k = before_longer c a b f d e g h k
 
 -- in the orders of the named graphs triples ascend or repeat
-rises : (s p o : Option ℕ) (x y : List ℕ) → agrees_anywhere s p o x ≡ true → agrees_anywhere s p o y ≡ true → is_before (turned (named_order_used s p o) x) (turned (named_order_used s p o) y) ≡ true → (is_before (turned_triple (order_used s p o) (triple_of x)) (turned_triple (order_used s p o) (triple_of y)) ≡ true) ⊎ (triple_of x ≡ triple_of y)
-rises s p o x y h k b =
-    let order = order_used s p o in
-    let named = named_order_used s p o in
+rises : (s p o q1 q2 q3 : Option ℕ) (x y : List ℕ) → agrees_anywhere s p o x ≡ true → agrees_anywhere s p o y ≡ true → is_before (turned (named_order_used q1 q2 q3) x) (turned (named_order_used q1 q2 q3) y) ≡ true → (is_before (turned_triple (order_used q1 q2 q3) (triple_of x)) (turned_triple (order_used q1 q2 q3) (triple_of y)) ≡ true) ⊎ (triple_of x ≡ triple_of y)
+rises s p o q1 q2 q3 x y h k b =
+    let order = order_used q1 q2 q3 in
+    let named = named_order_used q1 q2 q3 in
     let u = places_anywhere s p o x h in
     let v = places_anywhere s p o y k in
     let tx : List ℕ = u.at_s ∷ u.at_p ∷ u.at_o ∷ [] in
     let ty : List ℕ = v.at_s ∷ v.at_p ∷ v.at_o ∷ [] in
-    let kx : turned named x ≡ turned_triple order tx ++ u.graph ∷ [] = ap (turned named) u.is ∙ turned_named s p o u.graph u.at_s u.at_p u.at_o in
-    let ky : turned named y ≡ turned_triple order ty ++ v.graph ∷ [] = ap (turned named) v.is ∙ turned_named s p o v.graph v.at_s v.at_p v.at_o in
-    let l = longer_by s p o u.at_s u.at_p u.at_o v.at_s v.at_p v.at_o u.graph v.graph (ap (λ e. is_before e (turned_triple order ty ++ v.graph ∷ [])) (sym kx) ∙ ap (λ e. is_before (turned named x) e) (sym ky) ∙ b) in
+    let kx : turned named x ≡ turned_triple order tx ++ u.graph ∷ [] = ap (turned named) u.is ∙ turned_named q1 q2 q3 u.graph u.at_s u.at_p u.at_o in
+    let ky : turned named y ≡ turned_triple order ty ++ v.graph ∷ [] = ap (turned named) v.is ∙ turned_named q1 q2 q3 v.graph v.at_s v.at_p v.at_o in
+    let l = longer_by q1 q2 q3 u.at_s u.at_p u.at_o v.at_s v.at_p v.at_o u.graph v.graph (ap (λ e. is_before e (turned_triple order ty ++ v.graph ∷ [])) (sym kx) ∙ ap (λ e. is_before (turned named x) e) (sym ky) ∙ b) in
     ⊎_elim
     (λ m. inl (ap (λ e. is_before (turned_triple order (triple_of e)) (turned_triple order (triple_of y))) u.is ∙ ap (λ e. is_before (turned_triple order tx) (turned_triple order (triple_of e))) v.is ∙ m))
-    (λ e. inr (ap triple_of u.is ∙ turned_back s p o u.at_s u.at_p u.at_o v.at_s v.at_p v.at_o e ∙ ap triple_of (sym v.is))) l
+    (λ e. inr (ap triple_of u.is ∙ turned_back q1 q2 q3 u.at_s u.at_p u.at_o v.at_s v.at_p v.at_o e ∙ ap triple_of (sym v.is))) l
 
-triples_rise : (s p o : Option ℕ) (entries : Entries) → ((x : List ℕ) → Contains entries x → agrees_anywhere s p o x ≡ true) → IsAscending (map (turned (named_order_used s p o)) entries) → IsRising (turned_triple (order_used s p o)) (map triple_of entries)
-triples_rise s p o [] h u = tt
-triples_rise s p o (x ∷ xs) h u =
-    let order = order_used s p o in
-    let named = named_order_used s p o in (
+triples_rise : (s p o q1 q2 q3 : Option ℕ) (entries : Entries) → ((x : List ℕ) → Contains entries x → agrees_anywhere s p o x ≡ true) → IsAscending (map (turned (named_order_used q1 q2 q3)) entries) → IsRising (turned_triple (order_used q1 q2 q3)) (map triple_of entries)
+triples_rise s p o q1 q2 q3 [] h u = tt
+triples_rise s p o q1 q2 q3 (x ∷ xs) h u =
+    let order = order_used q1 q2 q3 in
+    let named = named_order_used q1 q2 q3 in (
       λ t m.
           let f = origin xs t m in
           subst (λ v. (is_before (turned_triple order (triple_of x)) (turned_triple order v) ≡ true) ⊎ (triple_of x ≡ v)) f.is
-          (rises s p o x f.entry (h x (here x xs)) (h f.entry (there x f.entry xs f.stands)) (before_each (turned named) (turned named x) xs u.0 f.entry f.stands)),
-      triples_rise s p o xs (λ y m. h y (there x y xs m)) u.1,
+          (rises s p o q1 q2 q3 x f.entry (h x (here x xs)) (h f.entry (there x f.entry xs f.stands)) (before_each (turned named) (turned named x) xs u.0 f.entry f.stands)),
+      triples_rise s p o q1 q2 q3 xs (λ y m. h y (there x y xs m)) u.1,
     )
 
 -- the triples of all named graphs, each once
-pub triples_of_named : (s p o : Option ℕ) (entries rest : Entries) → IsScanOf (IsRead Named s p o) (turned (order_in Named s p o)) entries rest → AreTriplesOf Named s p o entries (unrepeated None (map triple_of rest))
-triples_of_named s p o entries rest f = record {
-  ascending = unrepeated_ascends (turned_triple (order_used s p o)) None (map triple_of rest) (triples_rise s p o rest (λ x m. (f.only x m).1.1) f.ascending);
+pub triples_of_named : (s p o q1 q2 q3 : Option ℕ) (entries rest : Entries) → IsScanOf (IsRead Named s p o) (turned (named_order_used q1 q2 q3)) entries rest → AreTriplesIn (order_used q1 q2 q3) Named s p o entries (unrepeated None (map triple_of rest))
+triples_of_named s p o q1 q2 q3 entries rest f = record {
+  ascending = unrepeated_ascends (turned_triple (order_used q1 q2 q3)) None (map triple_of rest) (triples_rise s p o q1 q2 q3 rest (λ x m. (f.only x m).1.1) f.ascending);
   has = λ x c r. unrepeated_has None (map triple_of rest) (triple_of x) (triple_stands rest x (f.has x c r)) (λ e. none-some (triple_of x) e);
   only = λ t c. let m = origin rest t (unrepeated_only None (map triple_of rest) t c) in let n = f.only m.entry m.stands in record { entry = m.entry; stands = n.0; read = n.1; is = m.is };
 }
@@ -329,20 +338,64 @@ triples_of_named s p o entries rest f = record {
 -- what is handed out of a store, and of a draft
 pub stored_one : (graphs : Graphs) (graph : ℕ) (s p o : Option ℕ) (entries rest triples : Entries) → graphs ≡ One graph → IsPermutation (agreeing graph s p o entries) rest → IsAscending (map (turned (order_used s p o)) rest) → triples ≡ map triple_of rest → AreTriplesOf graphs s p o entries triples
 stored_one graphs graph s p o entries rest triples g m u e =
-    subst (λ k. AreTriplesOf k s p o entries triples) (sym g) (subst (AreTriplesOf (One graph) s p o entries) (sym e) (triples_of_one graph s p o entries rest (scan_of_one graph s p o entries rest m u)))
+    subst (λ k. AreTriplesOf k s p o entries triples) (sym g) (subst (AreTriplesOf (One graph) s p o entries) (sym e) (triples_of_one graph s p o s p o entries rest (scan_of_one graph s p o entries rest m u)))
 
 pub stored_named : (graphs : Graphs) (s p o : Option ℕ) (entries rest triples : Entries) → graphs ≡ Named → IsPermutation (agreeing_named s p o entries) rest → IsAscending (map (turned (named_order_used s p o)) rest) → triples ≡ unrepeated None (map triple_of rest) → AreTriplesOf graphs s p o entries triples
 stored_named graphs s p o entries rest triples g m u e =
-    subst (λ k. AreTriplesOf k s p o entries triples) (sym g) (subst (AreTriplesOf Named s p o entries) (sym e) (triples_of_named s p o entries rest (scan_of_named s p o entries rest m u)))
+    subst (λ k. AreTriplesOf k s p o entries triples) (sym g) (subst (AreTriplesOf Named s p o entries) (sym e) (triples_of_named s p o s p o entries rest (scan_of_named s p o entries rest m u)))
 
 pub drafted_one : (graphs : Graphs) (graph : ℕ) (s p o : Option ℕ) (order : Permutation) (i r a xs ys zs all triples : Entries) → graphs ≡ One graph → IsDraft i r a → IsScanOf (IsRead (One graph) s p o) (turned (order_used s p o)) i xs → IsScanOf (IsRead (One graph) s p o) (turned (order_used s p o)) r ys → IsScanOf (IsRead (One graph) s p o) (turned (order_used s p o)) a zs → order ≡ order_used s p o → all ≡ merged (turned order) (without xs ys) zs → triples ≡ map triple_of all → AreTriplesOf graphs s p o (drafted i r a) triples
 drafted_one graphs graph s p o order i r a xs ys zs all triples g d f h k n m e =
     let whole = scan_of_draft (IsRead (One graph) s p o) (order_used s p o) i r a xs ys zs d f h k in
     let same : triples ≡ map triple_of (merged (turned (order_used s p o)) (without xs ys) zs) = e ∙ ap (map triple_of) (m ∙ ap (λ w. merged (turned w) (without xs ys) zs) n) in
-    subst (λ w. AreTriplesOf w s p o (drafted i r a) triples) (sym g) (subst (AreTriplesOf (One graph) s p o (drafted i r a)) (sym same) (triples_of_one graph s p o (drafted i r a) (merged (turned (order_used s p o)) (without xs ys) zs) whole))
+    subst (λ w. AreTriplesOf w s p o (drafted i r a) triples) (sym g) (subst (AreTriplesOf (One graph) s p o (drafted i r a)) (sym same) (triples_of_one graph s p o s p o (drafted i r a) (merged (turned (order_used s p o)) (without xs ys) zs) whole))
 
 pub drafted_named : (graphs : Graphs) (s p o : Option ℕ) (order : Permutation) (i r a xs ys zs all triples : Entries) → graphs ≡ Named → IsDraft i r a → IsScanOf (IsRead Named s p o) (turned (named_order_used s p o)) i xs → IsScanOf (IsRead Named s p o) (turned (named_order_used s p o)) r ys → IsScanOf (IsRead Named s p o) (turned (named_order_used s p o)) a zs → order ≡ named_order_used s p o → all ≡ merged (turned order) (without xs ys) zs → triples ≡ unrepeated None (map triple_of all) → AreTriplesOf graphs s p o (drafted i r a) triples
 drafted_named graphs s p o order i r a xs ys zs all triples g d f h k n m e =
     let whole = scan_of_draft (IsRead Named s p o) (named_order_used s p o) i r a xs ys zs d f h k in
     let same : triples ≡ unrepeated None (map triple_of (merged (turned (named_order_used s p o)) (without xs ys) zs)) = e ∙ ap (λ l. unrepeated None (map triple_of l)) (m ∙ ap (λ w. merged (turned w) (without xs ys) zs) n) in
-    subst (λ w. AreTriplesOf w s p o (drafted i r a) triples) (sym g) (subst (AreTriplesOf Named s p o (drafted i r a)) (sym same) (triples_of_named s p o (drafted i r a) (merged (turned (named_order_used s p o)) (without xs ys) zs) whole))
+    subst (λ w. AreTriplesOf w s p o (drafted i r a) triples) (sym g) (subst (AreTriplesOf Named s p o (drafted i r a)) (sym same) (triples_of_named s p o s p o (drafted i r a) (merged (turned (named_order_used s p o)) (without xs ys) zs) whole))
+
+-- ---- a scan whose order has a place in front
+
+-- its order is one that a scan uses to which numbers are given
+record LedAs (s p o : Option ℕ) (lead : Lead) : Type 0 where
+  q1 : Option ℕ
+  q2 : Option ℕ
+  q3 : Option ℕ
+  is : order_led s p o lead ≡ order_used q1 q2 q3
+  is_named : named_order_led s p o lead ≡ named_order_used q1 q2 q3
+
+led_as : (s p o : Option ℕ) (lead : Lead) → LedAs s p o lead
+led_as (Some s) p o lead = record { q1 = Some s; q2 = p; q3 = o; is = refl; is_named = refl }
+led_as None (Some p) o lead = record { q1 = None; q2 = Some p; q3 = o; is = refl; is_named = refl }
+led_as None None (Some o) lead = record { q1 = None; q2 = None; q3 = Some o; is = refl; is_named = refl }
+led_as None None None Subject = record { q1 = None; q2 = None; q3 = None; is = refl; is_named = refl }
+led_as None None None Predicate = record { q1 = None; q2 = Some 0; q3 = None; is = refl; is_named = refl }
+led_as None None None Object = record { q1 = None; q2 = None; q3 = Some 0; is = refl; is_named = refl }
+
+pub led_one : (graphs : Graphs) (graph : ℕ) (s p o : Option ℕ) (lead : Lead) (entries rest triples : Entries) → graphs ≡ One graph → IsPermutation (agreeing graph s p o entries) rest → IsAscending (map (turned (order_led s p o lead)) rest) → triples ≡ map triple_of rest → AreTriplesOfAnyhow graphs s p o entries triples
+led_one graphs graph s p o lead entries rest triples g m u e =
+    let l = led_as s p o lead in
+    let order = order_used l.q1 l.q2 l.q3 in
+    let scan = scan_in_one order graph s p o entries rest m (subst (λ k. IsAscending (map (turned k) rest)) l.is u) in
+    record {
+      order = order;
+      in_order = subst (λ k. AreTriplesIn order k s p o entries triples) (sym g) (subst (AreTriplesIn order (One graph) s p o entries) (sym e) (triples_of_one graph s p o l.q1 l.q2 l.q3 entries rest scan));
+    }
+
+pub led_named : (graphs : Graphs) (s p o : Option ℕ) (lead : Lead) (entries rest triples : Entries) → graphs ≡ Named → IsPermutation (agreeing_named s p o entries) rest → IsAscending (map (turned (named_order_led s p o lead)) rest) → triples ≡ unrepeated None (map triple_of rest) → AreTriplesOfAnyhow graphs s p o entries triples
+led_named graphs s p o lead entries rest triples g m u e =
+    let l = led_as s p o lead in
+    let order = order_used l.q1 l.q2 l.q3 in
+    let scan = scan_in_named (named_order_used l.q1 l.q2 l.q3) s p o entries rest m (subst (λ k. IsAscending (map (turned k) rest)) l.is_named u) in
+    record {
+      order = order;
+      in_order = subst (λ k. AreTriplesIn order k s p o entries triples) (sym g) (subst (AreTriplesIn order Named s p o entries) (sym e) (triples_of_named s p o l.q1 l.q2 l.q3 entries rest scan));
+    }
+
+pub led_nothing : (graphs : Graphs) (s p o : Option ℕ) (entries triples : Entries) → graphs ≡ Nothing → triples ≡ [] → AreTriplesOfAnyhow graphs s p o entries triples
+led_nothing graphs s p o entries triples g e = record {
+  order = order_used s p o;
+  in_order = subst (λ k. AreTriplesOf k s p o entries triples) (sym g) (subst (AreTriplesOf Nothing s p o entries) (sym e) (no_triples s p o entries));
+}

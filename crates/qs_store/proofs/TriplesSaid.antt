@@ -12,9 +12,11 @@ use Rattle.qs_dict.specs.Dict.{term_at}
 use Rattle.qs_dict.proofs.Numbers.{exact_number}
 use Rattle.qs_index.specs.Agreeing.{fits}
 use Rattle.qs_index.specs.Graph.{is_named}
+use Rattle.qs_index.specs.Permutation.{order_used}
+use Rattle.qs_index.specs.declared.permutation.Permutation.{Permutation}
 use Rattle.qs_store.specs.Entries.{said, statement_of, term_or, AreEntries, IsEntryOf, IsPlaced}
-use Rattle.qs_store.specs.Scans.{graphs_of, IsRead, triple_of, HasTriple, AreTriplesOf}
-use Rattle.qs_store.specs.Triples.{IsGraphNumber, IsActive, IsMatch, IsTriple, AreTriples}
+use Rattle.qs_store.specs.Scans.{graphs_of, IsRead, triple_of, HasTriple, AreTriplesIn, AreTriplesOf, AreTriplesOfAnyhow}
+use Rattle.qs_store.specs.Triples.{IsGraphNumber, IsActive, IsMatch, IsTriple, AreTriples, AreTriplesBy, AreTriplesAnyhow}
 use Rattle.qs_store.specs.declared.active.Active.{Active}
 use Rattle.qs_store.specs.declared.active.Active.TheVariants.{Default, Graph, Empty}
 use Rattle.qs_store.specs.declared.default_graph.DefaultGraph.{DefaultGraph}
@@ -136,29 +138,43 @@ found terms quads next default_graph active s p o a b c (g ∷ i ∷ j ∷ k ∷
       is = ap (λ v. v ∷ j ∷ k ∷ []) x ∙ ap (λ v. a ∷ v ∷ k ∷ []) y ∙ ap (λ v. a ∷ b ∷ v ∷ []) z;
     }
 
-triple_found : (terms : List Term) (entries triples : List (List ℕ)) (next : ℕ) (default_graph : DefaultGraph) (active : Active) (s p o : Option ℕ) (t : List ℕ) → Distinct same_term terms → AreEntries terms entries → AreTriplesOf (graphs_of default_graph active) s p o entries triples → IsTriple (content (said terms entries) next terms) default_graph active s p o t → Contains triples t
-triple_found terms entries triples next default_graph active s p o [] u all w m = absurd m
-triple_found terms entries triples next default_graph active s p o (a ∷ []) u all w m = absurd m
-triple_found terms entries triples next default_graph active s p o (a ∷ b ∷ []) u all w m = absurd m
-triple_found terms entries triples next default_graph active s p o (a ∷ b ∷ c ∷ d ∷ rest) u all w m = absurd m
-triple_found terms entries triples next default_graph active s p o (a ∷ b ∷ c ∷ []) u all w m =
+triple_found : (order : Permutation) (terms : List Term) (entries triples : List (List ℕ)) (next : ℕ) (default_graph : DefaultGraph) (active : Active) (s p o : Option ℕ) (t : List ℕ) → Distinct same_term terms → AreEntries terms entries → AreTriplesIn order (graphs_of default_graph active) s p o entries triples → IsTriple (content (said terms entries) next terms) default_graph active s p o t → Contains triples t
+triple_found order terms entries triples next default_graph active s p o [] u all w m = absurd m
+triple_found order terms entries triples next default_graph active s p o (a ∷ []) u all w m = absurd m
+triple_found order terms entries triples next default_graph active s p o (a ∷ b ∷ []) u all w m = absurd m
+triple_found order terms entries triples next default_graph active s p o (a ∷ b ∷ c ∷ d ∷ rest) u all w m = absurd m
+triple_found order terms entries triples next default_graph active s p o (a ∷ b ∷ c ∷ []) u all w m =
     let f = member_of_said terms m.quad entries m.stands in
     let r = found terms (said terms entries) next default_graph active s p o a b c f.entry u (all f.entry f.stands) m f.says in
     subst (Contains triples) r.is (w.has f.entry f.stands r.read)
 
-pub triples_said : (terms : List Term) (entries triples : List (List ℕ)) (next : ℕ) (default_graph : DefaultGraph) (active : Active) (s p o : Option ℕ) → Distinct same_term terms → AreEntries terms entries → AreTriplesOf (graphs_of default_graph active) s p o entries triples → AreTriples (content (said terms entries) next terms) default_graph active s p o triples
-triples_said terms entries triples next default_graph active s p o u all w = record {
+pub triples_said : (order : Permutation) (terms : List Term) (entries triples : List (List ℕ)) (next : ℕ) (default_graph : DefaultGraph) (active : Active) (s p o : Option ℕ) → Distinct same_term terms → AreEntries terms entries → AreTriplesIn order (graphs_of default_graph active) s p o entries triples → AreTriplesBy order (content (said terms entries) next terms) default_graph active s p o triples
+triples_said order terms entries triples next default_graph active s p o u all w = record {
   ascending = w.ascending;
-  has = λ t m. triple_found terms entries triples next default_graph active s p o t u all w m;
+  has = λ t m. triple_found order terms entries triples next default_graph active s p o t u all w m;
   only = λ t c. triple_is_read terms entries next default_graph active s p o t all (w.only t c);
 }
 
 -- the triples of a draft, and of a store, which knows the first of the terms
+draft_triples_by : (order : Permutation) (terms : List Term) (entries triples : List (List ℕ)) (next : ℕ) (default_graph : DefaultGraph) (graphs : Graphs) (active : Active) (s p o : Option ℕ) → Distinct same_term terms → AreEntries terms entries → graphs ≡ graphs_of default_graph active → AreTriplesIn order graphs s p o entries triples → AreTriplesBy order (content (said terms entries) next terms) default_graph active s p o triples
+draft_triples_by order terms entries triples next default_graph graphs active s p o u all g w =
+    triples_said order terms entries triples next default_graph active s p o u all (subst (λ k. AreTriplesIn order k s p o entries triples) g w)
+
+store_triples_by : (order : Permutation) (terms : List Term) (entries triples : List (List ℕ)) (known next : ℕ) (default_graph : DefaultGraph) (graphs : Graphs) (active : Active) (s p o : Option ℕ) → Distinct same_term terms → known ≤ length terms → AreEntries (take known terms) entries → graphs ≡ graphs_of default_graph active → AreTriplesIn order graphs s p o entries triples → AreTriplesBy order (content (said terms entries) next (take known terms)) default_graph active s p o triples
+store_triples_by order terms entries triples known next default_graph graphs active s p o u l all g w =
+    subst (λ quads. AreTriplesBy order (content quads next (take known terms)) default_graph active s p o triples) (said_front terms known entries l all)
+    (draft_triples_by order (take known terms) entries triples next default_graph graphs active s p o (Distinct-front known terms u) all g w)
+
 pub draft_triples : (terms : List Term) (entries triples : List (List ℕ)) (next : ℕ) (default_graph : DefaultGraph) (graphs : Graphs) (active : Active) (s p o : Option ℕ) → Distinct same_term terms → AreEntries terms entries → graphs ≡ graphs_of default_graph active → AreTriplesOf graphs s p o entries triples → AreTriples (content (said terms entries) next terms) default_graph active s p o triples
 draft_triples terms entries triples next default_graph graphs active s p o u all g w =
-    triples_said terms entries triples next default_graph active s p o u all (subst (λ k. AreTriplesOf k s p o entries triples) g w)
+    draft_triples_by (order_used s p o) terms entries triples next default_graph graphs active s p o u all g w
 
 pub store_triples : (terms : List Term) (entries triples : List (List ℕ)) (known next : ℕ) (default_graph : DefaultGraph) (graphs : Graphs) (active : Active) (s p o : Option ℕ) → Distinct same_term terms → known ≤ length terms → AreEntries (take known terms) entries → graphs ≡ graphs_of default_graph active → AreTriplesOf graphs s p o entries triples → AreTriples (content (said terms entries) next (take known terms)) default_graph active s p o triples
 store_triples terms entries triples known next default_graph graphs active s p o u l all g w =
-    subst (λ quads. AreTriples (content quads next (take known terms)) default_graph active s p o triples) (said_front terms known entries l all)
-    (draft_triples (take known terms) entries triples next default_graph graphs active s p o (Distinct-front known terms u) all g w)
+    store_triples_by (order_used s p o) terms entries triples known next default_graph graphs active s p o u l all g w
+
+pub store_triples_anyhow : (terms : List Term) (entries triples : List (List ℕ)) (known next : ℕ) (default_graph : DefaultGraph) (graphs : Graphs) (active : Active) (s p o : Option ℕ) → Distinct same_term terms → known ≤ length terms → AreEntries (take known terms) entries → graphs ≡ graphs_of default_graph active → AreTriplesOfAnyhow graphs s p o entries triples → AreTriplesAnyhow (content (said terms entries) next (take known terms)) default_graph active s p o triples
+store_triples_anyhow terms entries triples known next default_graph graphs active s p o u l all g w = record {
+  order = w.order;
+  in_order = store_triples_by w.order terms entries triples known next default_graph graphs active s p o u l all g w.in_order;
+}

@@ -7,6 +7,7 @@ pub mod Fault
 pub mod Triples
 pub mod NamedQuads
 pub mod Scans
+pub mod Passed
 pub mod Sources
 pub mod WholeGraphs
 pub mod Visible

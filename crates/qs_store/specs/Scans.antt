@@ -7,7 +7,7 @@ use Rattle.qs_index.specs.Entry.{IsAscending, is_before}
 use Rattle.qs_index.specs.Graph.{is_named}
 use Rattle.qs_index.specs.Permutation.{turned, order_used, named_order_used}
 use Rattle.qs_index.specs.declared.permutation.Permutation.{Permutation}
-use Rattle.qs_store.specs.Triples.{turned_triple}
+use Rattle.qs_store.specs.Triples.{turned_triple, triple_fits}
 use Rattle.qs_store.specs.declared.active.Active.{Active}
 use Rattle.qs_store.specs.declared.active.Active.TheVariants.{Default, Graph, Empty}
 use Rattle.qs_store.specs.declared.default_graph.DefaultGraph.{DefaultGraph}
@@ -70,6 +70,11 @@ abbrev pub is_last : Option (List ℕ) → List ℕ → Bool
 is_last None x = false
 is_last (Some last) x = bytes_eq last x
 
+-- the last that was handed out, if one was, has the numbers that are given
+abbrev pub LastFits : Option ℕ → Option ℕ → Option ℕ → Option (List ℕ) → Type 0
+LastFits subject predicate object None = Unit {0}
+LastFits subject predicate object (Some t) = triple_fits subject predicate object t ≡ true
+
 -- a list without what equals the one in front of it
 abbrev pub unrepeated : Option (List ℕ) → List (List ℕ) → List (List ℕ)
 unrepeated last [] = []
@@ -87,11 +92,20 @@ pub record HasTriple (graphs : Graphs) (subject predicate object : Option ℕ) (
   pub read : IsRead graphs subject predicate object entry
   pub is : triple_of entry ≡ t
 
--- the triples of the entries that are read, each once, ascending
-pub record AreTriplesOf (graphs : Graphs) (subject predicate object : Option ℕ) (entries triples : List (List ℕ)) : Type 0 where
-  pub ascending : IsAscending (map (turned_triple (order_used subject predicate object)) triples)
+-- the triples of the entries that are read, each once, ascending in an order
+pub record AreTriplesIn (order : Permutation) (graphs : Graphs) (subject predicate object : Option ℕ) (entries triples : List (List ℕ)) : Type 0 where
+  pub ascending : IsAscending (map (turned_triple order) triples)
   pub has : (x : List ℕ) → Contains entries x → IsRead graphs subject predicate object x → Contains triples (triple_of x)
   pub only : (t : List ℕ) → Contains triples t → HasTriple graphs subject predicate object entries t
+
+-- in the order of a scan that gives these numbers
+abbrev pub AreTriplesOf : Graphs → Option ℕ → Option ℕ → Option ℕ → List (List ℕ) → List (List ℕ) → Type 0
+AreTriplesOf graphs subject predicate object entries triples = AreTriplesIn (order_used subject predicate object) graphs subject predicate object entries triples
+
+-- in some order
+pub record AreTriplesOfAnyhow (graphs : Graphs) (subject predicate object : Option ℕ) (entries triples : List (List ℕ)) : Type 0 where
+  pub order : Permutation
+  pub in_order : AreTriplesIn order graphs subject predicate object entries triples
 
 -- the entries of named graphs that have the given numbers, each once, ascending
 abbrev pub AreNamedQuadsOf : Option ℕ → Option ℕ → Option ℕ → List (List ℕ) → List (List ℕ) → Type 0

@@ -1,5 +1,5 @@
 -- The triples of a graph, by the numbers of their terms.
-use Rattle.std.specs.Prelude.{◌≡◌, ◌≢◌, ℕ, List, [], ◌∷◌, map, Option, Some, None}
+use Rattle.std.specs.Prelude.{◌≡◌, ◌≢◌, ℕ, Bool, false, ◌&&◌, List, [], ◌∷◌, map, Option, Some, None}
 use Rattle.std.specs.Bool.{IsTrue}
 use Rattle.std.specs.List.{Contains}
 use Rattle.qs_terms.specs.Statement.{Statement}
@@ -53,8 +53,22 @@ turned_triple Gosp (s ∷ p ∷ o ∷ rest) = o ∷ s ∷ p ∷ rest
 turned_triple Ospg (s ∷ p ∷ o ∷ rest) = o ∷ s ∷ p ∷ rest
 turned_triple permutation triple = triple
 
--- the triples of the active graph that have the given numbers, each once, ascending in the order of a scan that gives these
-pub record AreTriples (c : Content) (default : DefaultGraph) (active : Active) (subject predicate object : Option ℕ) (triples : List (List ℕ)) : Type 0 where
-  pub ascending : IsAscending (map (turned_triple (order_used subject predicate object)) triples)
+-- the triples of the active graph that have the given numbers, each once, ascending in an order
+pub record AreTriplesBy (order : Permutation) (c : Content) (default : DefaultGraph) (active : Active) (subject predicate object : Option ℕ) (triples : List (List ℕ)) : Type 0 where
+  pub ascending : IsAscending (map (turned_triple order) triples)
   pub has : (t : List ℕ) → IsTriple c default active subject predicate object t → Contains triples t
   pub only : (t : List ℕ) → Contains triples t → IsTriple c default active subject predicate object t
+
+-- in the order of a scan that gives these numbers
+abbrev pub AreTriples : Content → DefaultGraph → Active → Option ℕ → Option ℕ → Option ℕ → List (List ℕ) → Type 0
+AreTriples c default active subject predicate object triples = AreTriplesBy (order_used subject predicate object) c default active subject predicate object triples
+
+-- in some order
+pub record AreTriplesAnyhow (c : Content) (default : DefaultGraph) (active : Active) (subject predicate object : Option ℕ) (triples : List (List ℕ)) : Type 0 where
+  pub order : Permutation
+  pub in_order : AreTriplesBy order c default active subject predicate object triples
+
+-- whether a triple has the subject, predicate and object that are given
+abbrev pub triple_fits : Option ℕ → Option ℕ → Option ℕ → List ℕ → Bool
+triple_fits subject predicate object (s ∷ p ∷ o ∷ []) = fits subject s && fits predicate p && fits object o
+triple_fits subject predicate object triple = false

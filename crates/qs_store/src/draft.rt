@@ -3,11 +3,12 @@
 ghost use Rattle.std.specs.Prelude.{◌≡◌, ◌↔◌, ◌≤◌, ◌++◌, ◌∷◌, ℕ, List, [], Some, length, take, Contains, IsTrue, IfOk, IfErr, OnOk, OnErr};
 ghost use Rattle.std.specs.List.{filter};
 ghost use Rattle.std.specs.List.Sorted.{IsSorted};
-ghost use Rattle.std.specs.Option.{option_copied};
+ghost use Rattle.std.specs.Option.{option_copied, option_map};
 ghost use Rattle.qs_terms.specs.Bag.{SameBag};
 ghost use Rattle.qs_terms.specs.Dataset.{is_above_blanks, is_graph_below};
 ghost use Rattle.qs_terms.specs.Statement.{Statement, is_graph};
 ghost use Rattle.qs_terms.specs.declared.term.Term.{Term};
+ghost use Rattle.qs_expr_values.specs.TermValue.{term_value};
 ghost use Rattle.qs_dict.specs.Dict.{IsInUse, IsDictionary, term_at, number_of};
 ghost use Rattle.qs_store.specs.Change.{IsChanged, KnowsTermsOf, IsFullExactly, IsFullAt, with_terms_of};
 ghost use Rattle.qs_store.specs.Content.{Content, Held, AreLawful, IsContent, KnowsItsTerms};
@@ -16,7 +17,7 @@ ghost use Rattle.qs_store.specs.Graphs.{AreGraphs};
 ghost use Rattle.qs_store.specs.Same.{SameSet};
 ghost use Rattle.qs_store.specs.inner.Store.{IsFront};
 ghost use Rattle.qs_store.specs.NamedQuads.{AreNamedQuads};
-ghost use Rattle.qs_store.specs.Triples.{AreTriples};
+ghost use Rattle.qs_store.specs.Triples.{AreTriples, AreTriplesAnyhow};
 ghost use Rattle.qs_store.specs.WholeGraphs.{copies, exists, in_graph, is_named, removed_by};
 ghost use Rattle.qs_store.specs.declared.default_graph.DefaultGraph.TheVariants.{Stored};
 ghost use Rattle.qs_store.specs.declared.fault.StoreFault.TheVariants.{Memory};
@@ -28,6 +29,8 @@ use crate::named_quads::NamedQuads;
 use crate::removal::Removal;
 use crate::store::Store;
 use crate::triples::Triples;
+use qs_expr_values::TermValue;
+use qs_index::permutation::Lead;
 use qs_terms::{Quad, Term};
 use std::hash::RandomState;
 
@@ -64,6 +67,20 @@ impl<'a> Draft<'a> {
     {
         let store: &Store = self.store;
         store.scan_draft(active, subject, predicate, object)
+    }
+
+    /// The triples that `scan` gives. A draft has them in the order of `scan`, whatever place is to be in front. It takes no memory.
+    pub fn scan_led(
+        &self,
+        _lead: Lead,
+        active: Active,
+        subject: Option<u32>,
+        predicate: Option<u32>,
+        object: Option<u32>,
+    ) -> Triples<'_>
+        ensures { AreTriplesAnyhow self.now.store.now.draft self.now.store.now.default_graph active subject predicate object result }
+    {
+        self.scan(active, subject, predicate, object)
     }
 
     /// The quads of the draft's named graphs that have the numbers that are given, each once, in the order in which
@@ -157,6 +174,15 @@ impl<'a> Draft<'a> {
     {
         let store: &Store = self.store;
         store.draft_term(number)
+    }
+
+    /// What the term with the number, which is in use, is worth. It takes no memory, and the term's text isn't read.
+    pub fn value(&self, number: u32) -> TermValue
+        requires { IsInUse self.now.store.now.draft.known number }
+        ensures { option_map term_value (term_at self.now.store.now.draft.known number) ≡ Some result }
+    {
+        let store: &Store = self.store;
+        store.draft_value(number)
     }
 
     /// The number of the term, where the draft knows it.

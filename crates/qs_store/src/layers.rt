@@ -21,13 +21,14 @@ ghost use Rattle.qs_store.specs.inner.Emptied.{AreEmptied, IsRemoval, RemovesGra
 ghost use Rattle.qs_store.specs.inner.Missing.{IsMissing, IsUnionWith, MayBeMissing};
 ghost use Rattle.qs_store.specs.Layers.{drafted, IsPartOf};
 ghost use Rattle.qs_store.specs.Same.{SameSet};
-ghost use Rattle.qs_store.specs.Scans.{AreNamedQuadsOf, AreTriplesOf};
+ghost use Rattle.qs_store.specs.Scans.{AreNamedQuadsOf, AreTriplesOf, AreTriplesOfAnyhow};
 
 use crate::emptied_graphs::{Emptied, are_out, is_all_out, is_emptied};
 use crate::graphs::Graphs;
 use crate::named_graphs::{graphs_in, graphs_in_draft, holds};
 use crate::named_quads::NamedQuads;
 use crate::triples::Triples;
+use qs_index::permutation::Lead;
 use qs_index::{Index, PagePosition, Scan, count_named, sort};
 use std::alloc::{AllocError, Global};
 use std::marker::Model;
@@ -523,6 +524,20 @@ impl Layers {
         ensures { AreTriplesOf graphs subject predicate object self.now.base result }
     {
         Triples::of_store(&self.index, graphs, subject, predicate, object)
+    }
+
+    /// The triples of the store's entries in these graphs, in the order that has the place in front where none is given.
+    pub fn scan_led(
+        &self,
+        lead: Lead,
+        graphs: Graphs,
+        subject: Option<u32>,
+        predicate: Option<u32>,
+        object: Option<u32>,
+    ) -> Triples<'_>
+        ensures { AreTriplesOfAnyhow graphs subject predicate object self.now.base result }
+    {
+        Triples::led_of_store(&self.index, lead, graphs, subject, predicate, object)
     }
 
     /// The triples of the draft's entries in these graphs.

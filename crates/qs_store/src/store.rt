@@ -10,11 +10,12 @@
 ghost use Rattle.std.specs.Prelude.{◌≡◌, ◌↔◌, ◌≤◌, ◌++◌, ◌∷◌, ℕ, List, [], Some, length, take, Contains, IsTrue, IfOk, IfErr, OnOk, OnErr};
 ghost use Rattle.std.specs.List.{filter};
 ghost use Rattle.std.specs.List.Sorted.{IsSorted};
-ghost use Rattle.std.specs.Option.{option_copied};
+ghost use Rattle.std.specs.Option.{option_copied, option_map};
 ghost use Rattle.qs_terms.specs.Bag.{SameBag};
 ghost use Rattle.qs_terms.specs.Dataset.{is_above_blanks, is_graph_below};
 ghost use Rattle.qs_terms.specs.Statement.{Statement, is_graph};
 ghost use Rattle.qs_terms.specs.declared.term.Term.{Term};
+ghost use Rattle.qs_expr_values.specs.TermValue.{term_value};
 ghost use Rattle.qs_dict.specs.Dict.{IsInUse, IsDictionary, term_at, number_of};
 ghost use Rattle.qs_store.specs.Change.{IsChanged, KnowsTermsOf, IsFullExactly, IsFullAt, with_terms_of};
 ghost use Rattle.qs_store.specs.Content.{Content, Held, AreLawful, IsContent, KnowsItsTerms};
@@ -23,7 +24,7 @@ ghost use Rattle.qs_store.specs.Graphs.{AreGraphs};
 ghost use Rattle.qs_store.specs.Same.{SameSet};
 ghost use Rattle.qs_store.specs.inner.Store.{IsFront};
 ghost use Rattle.qs_store.specs.NamedQuads.{AreNamedQuads};
-ghost use Rattle.qs_store.specs.Triples.{AreTriples};
+ghost use Rattle.qs_store.specs.Triples.{AreTriples, AreTriplesAnyhow};
 ghost use Rattle.qs_store.specs.WholeGraphs.{copies, exists, in_graph, is_named, removed_by};
 ghost use Rattle.qs_store.specs.declared.default_graph.DefaultGraph.TheVariants.{Stored};
 ghost use Rattle.qs_store.specs.declared.fault.StoreFault.TheVariants.{Memory};
@@ -40,6 +41,8 @@ use crate::removal::Removal;
 use crate::triples::Triples;
 use crate::whole_graphs::{clear, entries_named, filled, remove, transfer};
 use qs_dict::Dict;
+use qs_expr_values::TermValue;
+use qs_index::permutation::Lead;
 use qs_terms::{Quad, Term};
 use std::alloc::Global;
 use std::hash::RandomState;
@@ -220,6 +223,22 @@ impl Store {
         self.dict.term(number)
     }
 
+    /// What the term with the number, which is in use, is worth. It takes no memory, and the term's text isn't read.
+    pub fn value(&self, number: u32) -> TermValue
+        requires { IsInUse self.now.base.known number }
+        ensures { option_map term_value (term_at self.now.base.known number) ≡ Some result }
+    {
+        self.dict.value(number)
+    }
+
+    // What the draft's term with the number is worth.
+    pub(crate) fn draft_value(&self, number: u32) -> TermValue
+        requires { IsInUse self.now.draft.known number }
+        ensures { option_map term_value (term_at self.now.draft.known number) ≡ Some result }
+    {
+        self.dict.value(number)
+    }
+
     // The number of the term, where the draft knows it.
     pub(crate) fn draft_find(&self, term: &Term) -> Option<u32>
         ensures { result ≡ number_of self.now.draft.known term.now }
@@ -263,6 +282,23 @@ impl Store {
     {
         let graphs = graphs_of(active, self.default_graph);
         self.layers.scan(graphs, subject, predicate, object)
+    }
+
+    /// The triples that `scan` gives, in an order that has this place in front where no number is given: so triples with the same subject, predicate
+    /// or object follow one another, and `Triples::pass` passes over them. It takes no memory.
+    pub fn scan_led(
+        &self,
+        lead: Lead,
+        active: Active,
+        subject: Option<u32>,
+        predicate: Option<u32>,
+        object: Option<u32>,
+    ) -> Triples<'_>
+        ensures { AreTriplesAnyhow self.now.base self.now.default_graph active subject predicate object result }
+    {
+        let graphs = graphs_of(active, self.default_graph);
+        self.layers
+            .scan_led(lead, graphs, subject, predicate, object)
     }
 
     // The draft's triples of a graph that have the numbers that are given, each once, in the order of `scan`. It takes no memory.

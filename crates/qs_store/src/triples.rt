@@ -4,16 +4,20 @@
 //! its readers. The scans of a draft's parts are merged by entries with their graphs. A repeat is left out last: a triple of the
 //! union stays while one graph has it.
 
-ghost use Rattle.std.specs.Prelude.{◌≡◌, ◌∷◌, [], map, None, IfSome, IfNone};
+ghost use Rattle.std.specs.Prelude.{◌≡◌, ◌∷◌, [], true, map, None, IfSome, IfNone};
 ghost use Rattle.std.specs.Iterator.{YieldsFirst, item_count};
+ghost use Rattle.qs_index.specs.Agreeing.{agrees_anywhere};
+ghost use Rattle.qs_index.specs.Passed.{IsPassed};
 ghost use Rattle.qs_store.specs.Layers.{IsDraft, drafted};
-ghost use Rattle.qs_store.specs.Scans.{AreTriplesOf, is_last, triple_of, triples_left, unrepeated};
+ghost use Rattle.qs_store.specs.Passed.{ArePassed};
+ghost use Rattle.qs_store.specs.Scans.{AreTriplesOf, AreTriplesOfAnyhow, LastFits, is_last, triple_of, triples_left, unrepeated};
 ghost use Rattle.qs_store.specs.Sources.{entries_left};
+ghost use Rattle.qs_store.specs.Triples.{triple_fits};
 
 use crate::graphs::Graphs;
 use crate::merged::Merged;
-use qs_index::permutation::Lookup;
-use qs_index::{Index, Scan};
+use qs_index::permutation::{Lead, Lookup};
+use qs_index::{Index, Scan, agrees};
 use std::marker::Model;
 
 /// Where the entries come from: nowhere, from a store, or from a draft.
@@ -36,6 +40,20 @@ pub fn next_entry(source: &mut Source<'_>) -> Option<[u32; 4]>
     }
 }
 
+/// Passes over entries that come next and have the numbers that are given, as far as the source does so by a search. A draft's aren't passed over.
+pub fn pass_entries(
+    source: &mut Source<'_>,
+    subject: Option<u32>,
+    predicate: Option<u32>,
+    object: Option<u32>,
+)
+    ensures { IsPassed (λ x. agrees_anywhere subject predicate object x ≡ true) (entries_left source.old) (entries_left source.new) }
+{
+    if let Source::Stored(scan) = source {
+        scan.pass(subject, predicate, object);
+    }
+}
+
 #[inline(always)]
 fn triple_of(entry: [u32; 4]) -> [u32; 3]
     ensures { result ≡ triple_of entry }
@@ -52,6 +70,21 @@ fn is_last(last: &Option<[u32; 3]>, triple: &[u32; 3]) -> bool
     match last {
         None => false,
         Some(last) => *last == *triple,
+    }
+}
+
+/// Whether the last triple, if there is one, has the numbers that are given.
+fn last_fits(
+    last: &Option<[u32; 3]>,
+    subject: Option<u32>,
+    predicate: Option<u32>,
+    object: Option<u32>,
+) -> bool
+    ensures { result ≡ true → LastFits subject predicate object last.now }
+{
+    match last {
+        None => true,
+        Some([s, p, o]) => agrees([0, *s, *p, *o], subject, predicate, object),
     }
 }
 
@@ -122,6 +155,41 @@ impl<'a> Triples<'a> {
                 Triples::new(Source::Stored(scan), true)
             }
         }
+    }
+
+    /// The triples of an index, in the order that has the place in front where none is given.
+    pub fn led_of_store(
+        index: &'a Index,
+        lead: Lead,
+        graphs: Graphs,
+        subject: Option<u32>,
+        predicate: Option<u32>,
+        object: Option<u32>,
+    ) -> Triples<'a>
+        ensures { AreTriplesOfAnyhow graphs subject predicate object index.now.entries result }
+    {
+        match graphs {
+            Graphs::Nothing => Triples::new(Source::Nothing, false),
+            Graphs::One(graph) => {
+                let led = index.scan_led(lead, graph, subject, predicate, object);
+                Triples::new(Source::Stored(led), false)
+            }
+            Graphs::Named => {
+                let led = index.scan_named_led(lead, subject, predicate, object);
+                Triples::new(Source::Stored(led), true)
+            }
+        }
+    }
+
+    /// Passes over triples to come that have the subject, predicate and object that are given, as far as one search finds their end: where
+    /// these are in front in the order that is used, all of them are passed over. No other triple is. It takes no memory.
+    pub fn pass(&mut self, subject: Option<u32>, predicate: Option<u32>, object: Option<u32>)
+        ensures { ArePassed (λ t. triple_fits subject predicate object t ≡ true) self.old self.new }
+    {
+        if self.repeats && !last_fits(&self.last, subject, predicate, object) {
+            return;
+        }
+        pass_entries(&mut self.source, subject, predicate, object);
     }
 
     /// The triples of an index without the removed, and with the added.

@@ -6,13 +6,15 @@
 
 ghost use Rattle.std.specs.Prelude.{◌≡◌, ◌↔◌, Some, length, Contains, IsTrue, IfOk, IfErr};
 ghost use Rattle.std.specs.List.Sorted.{IsSorted};
+ghost use Rattle.std.specs.Option.{option_map};
 ghost use Rattle.qs_terms.specs.Bag.{SameBag};
 ghost use Rattle.qs_terms.specs.Dataset.{is_above_blanks};
+ghost use Rattle.qs_expr_values.specs.TermValue.{term_value};
 ghost use Rattle.qs_dict.specs.Dict.{IsInUse, term_at, number_of};
 ghost use Rattle.qs_store.specs.Content.{Content, AreLawful, IsContent, KnowsItsTerms};
 ghost use Rattle.qs_store.specs.Graphs.{AreGraphs};
 ghost use Rattle.qs_store.specs.NamedQuads.{AreNamedQuads};
-ghost use Rattle.qs_store.specs.Triples.{AreTriples};
+ghost use Rattle.qs_store.specs.Triples.{AreTriples, AreTriplesAnyhow};
 ghost use Rattle.qs_store.specs.declared.default_graph.DefaultGraph.{DefaultGraph};
 ghost use Rattle.qs_store.specs.declared.fault.StoreFault.TheVariants.{Memory};
 
@@ -23,6 +25,8 @@ use crate::fault::StoreFault;
 use crate::named_quads::NamedQuads;
 use crate::store::Store;
 use crate::triples::Triples;
+use qs_expr_values::TermValue;
+use qs_index::permutation::Lead;
 use qs_terms::{Quad, Term};
 use std::hash::RandomState;
 
@@ -61,6 +65,11 @@ pub trait View {
         requires { IsInUse (content self.now).known number }
         ensures { term_at (content self.now).known number ≡ Some result.now };
 
+    /// What the term with the number, which is in use, is worth. It takes no memory, and the term's text isn't read.
+    fn value(&self, number: u32) -> TermValue
+        requires { IsInUse (content self.now).known number }
+        ensures { option_map term_value (term_at (content self.now).known number) ≡ Some result };
+
     /// The number of the term, where it is known.
     fn find(&self, term: &Term) -> Option<u32>
         ensures { result ≡ number_of (content self.now).known term.now };
@@ -78,6 +87,18 @@ pub trait View {
         object: Option<u32>,
     ) -> Triples<'_>
         ensures { AreTriples (content self.now) (default_seen self.now) active subject predicate object result };
+
+    /// The triples that `scan` gives, in some order. Where no number is given a store has those with the same term in this place follow one another.
+    /// It takes no memory.
+    fn scan_led(
+        &self,
+        lead: Lead,
+        active: Active,
+        subject: Option<u32>,
+        predicate: Option<u32>,
+        object: Option<u32>,
+    ) -> Triples<'_>
+        ensures { AreTriplesAnyhow (content self.now) (default_seen self.now) active subject predicate object result };
 
     /// The quads of all named graphs that have the numbers that are given, each once. They ascend by predicate, object, subject and graph
     /// where the predicate is the first that is given or stands before the object, by object, subject, predicate and graph where the object
@@ -143,6 +164,10 @@ impl View for Store {
         Store::term(self, number)
     }
 
+    fn value(&self, number: u32) -> TermValue {
+        Store::value(self, number)
+    }
+
     fn find(&self, term: &Term) -> Option<u32> {
         Store::find(self, term)
     }
@@ -159,6 +184,17 @@ impl View for Store {
         object: Option<u32>,
     ) -> Triples<'_> {
         Store::scan(self, active, subject, predicate, object)
+    }
+
+    fn scan_led(
+        &self,
+        lead: Lead,
+        active: Active,
+        subject: Option<u32>,
+        predicate: Option<u32>,
+        object: Option<u32>,
+    ) -> Triples<'_> {
+        Store::scan_led(self, lead, active, subject, predicate, object)
     }
 
     fn scan_named(
@@ -227,6 +263,10 @@ impl<'a> View for Draft<'a> {
         Draft::term(self, number)
     }
 
+    fn value(&self, number: u32) -> TermValue {
+        Draft::value(self, number)
+    }
+
     fn find(&self, term: &Term) -> Option<u32> {
         Draft::find(self, term)
     }
@@ -243,6 +283,17 @@ impl<'a> View for Draft<'a> {
         object: Option<u32>,
     ) -> Triples<'_> {
         Draft::scan(self, active, subject, predicate, object)
+    }
+
+    fn scan_led(
+        &self,
+        lead: Lead,
+        active: Active,
+        subject: Option<u32>,
+        predicate: Option<u32>,
+        object: Option<u32>,
+    ) -> Triples<'_> {
+        Draft::scan_led(self, lead, active, subject, predicate, object)
     }
 
     fn scan_named(

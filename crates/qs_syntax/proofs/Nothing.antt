@@ -8,5 +8,5 @@ use Rattle.qs_syntax_scope.specs.KeepsScope.{update_keeps_scope}
 use Rattle.qs_syntax_scope.specs.VariablesIn.{update_variables}
 
 pub nothing : (text : List ℕ) → update_outcome text [] no_operation ≡ Ok (record { operations = []; variables = [] })
-unfolding update_outcome resolved_update update step update_keeps_scope update_variables large.update
+unfolding update_outcome resolved_update update step update_keeps_scope update_variables large.update large.excess
 nothing text = refl

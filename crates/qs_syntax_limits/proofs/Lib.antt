@@ -1,1 +1,3 @@
 pub mod ByLength
+pub mod Rows
+pub mod Trees

@@ -10,58 +10,16 @@ use Rattle.qs_syntax_tree.specs.declared.token.Token.{Token}
 -- Keywords and names of functions of SPARQL 1.1 (Query, 19.8; Update, 19.8) that the grammar doesn't have (profile).
 abbrev pub words : List (List ℕ)
 words =
-    codes "BASE" ∷
-    codes "DESCRIBE" ∷
-    codes "FROM" ∷
-    codes "USING" ∷
-    codes "SERVICE" ∷
-    codes "LOAD" ∷
-    codes "GROUP" ∷
-    codes "HAVING" ∷
-    codes "EXISTS" ∷
-    codes "COUNT" ∷
-    codes "SUM" ∷
-    codes "MIN" ∷
-    codes "MAX" ∷
-    codes "AVG" ∷
-    codes "SAMPLE" ∷
-    codes "GROUP_CONCAT" ∷
-    codes "SEPARATOR" ∷
-    codes "REGEX" ∷
-    codes "REPLACE" ∷
-    codes "SUBSTR" ∷
-    codes "STRBEFORE" ∷
-    codes "STRAFTER" ∷
-    codes "UCASE" ∷
-    codes "LCASE" ∷
-    codes "ENCODE_FOR_URI" ∷
-    codes "ABS" ∷
-    codes "ROUND" ∷
-    codes "CEIL" ∷
-    codes "FLOOR" ∷
-    codes "RAND" ∷
-    codes "NOW" ∷
-    codes "YEAR" ∷
-    codes "MONTH" ∷
-    codes "DAY" ∷
-    codes "HOURS" ∷
-    codes "MINUTES" ∷
-    codes "SECONDS" ∷
-    codes "TIMEZONE" ∷
-    codes "TZ" ∷
-    codes "UUID" ∷
-    codes "STRUUID" ∷
-    codes "MD5" ∷
-    codes "SHA1" ∷
-    codes "SHA256" ∷
-    codes "SHA384" ∷
-    codes "SHA512" ∷
-    codes "IRI" ∷
-    codes "URI" ∷
-    codes "BNODE" ∷
-    codes "STRDT" ∷
-    codes "STRLANG" ∷
-    []
+    codes "BASE" ∷ codes "DESCRIBE" ∷ codes "FROM" ∷ codes "USING" ∷ codes "SERVICE" ∷
+    codes "LOAD" ∷ codes "GROUP" ∷ codes "HAVING" ∷ codes "EXISTS" ∷ codes "COUNT" ∷ codes "SUM" ∷
+    codes "MIN" ∷ codes "MAX" ∷ codes "AVG" ∷ codes "SAMPLE" ∷ codes "GROUP_CONCAT" ∷
+    codes "SEPARATOR" ∷ codes "REGEX" ∷ codes "REPLACE" ∷ codes "SUBSTR" ∷ codes "STRBEFORE" ∷
+    codes "STRAFTER" ∷ codes "UCASE" ∷ codes "LCASE" ∷ codes "ENCODE_FOR_URI" ∷ codes "ABS" ∷
+    codes "ROUND" ∷ codes "CEIL" ∷ codes "FLOOR" ∷ codes "RAND" ∷ codes "NOW" ∷ codes "YEAR" ∷
+    codes "MONTH" ∷ codes "DAY" ∷ codes "HOURS" ∷ codes "MINUTES" ∷ codes "SECONDS" ∷
+    codes "TIMEZONE" ∷ codes "TZ" ∷ codes "UUID" ∷ codes "STRUUID" ∷ codes "MD5" ∷ codes "SHA1" ∷
+    codes "SHA256" ∷ codes "SHA384" ∷ codes "SHA512" ∷ codes "IRI" ∷ codes "URI" ∷ codes "BNODE" ∷
+    codes "STRDT" ∷ codes "STRLANG" ∷ []
 
 -- it is one of these, without regard to case
 unfoldable pub is_left_out_word : List ℕ → Bool

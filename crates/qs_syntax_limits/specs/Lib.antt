@@ -1,3 +1,4 @@
 pub mod Brackets
 pub mod Large
 pub mod LeftOut
+pub mod inner

@@ -1,15 +1,18 @@
 //! Expressions.
 
-ghost use Rattle.std.specs.Prelude.{◌≡◌, ◌∷◌, map};
+ghost use Rattle.std.specs.Prelude.{◌≡◌, ◌∷◌, map, slice_get};
+ghost use Rattle.std.specs.List.{flat_map};
 ghost use Rattle.qs_syntax_limits.specs.Large as spec;
+ghost use Rattle.qs_syntax_limits.specs.inner.Parts as part;
 
-use crate::place::{Part, excess, excess_behind, first};
+use crate::place::{excess, excess_behind, first};
 use qs_syntax_tree::expression::{Addend, Call, Expression, Operand};
 
 /// The first place in an expression at which a chain has too many operands.
 #[cycle(expression)]
+#[tactic(auto, using(crate::proofs::Rows::excess_none, crate::proofs::Rows::excess_append, crate::proofs::Rows::of_more))]
 pub fn in_expression(tree: &Expression) -> Option<usize>
-    ensures { result ≡ spec.expression tree.now }
+    ensures { result ≡ spec.excess (spec.expression tree.now) }
 {
     match tree {
         Expression::Var(_) | Expression::Iri(_) | Expression::Literal(_) => None,
@@ -21,14 +24,18 @@ pub fn in_expression(tree: &Expression) -> Option<usize>
         Expression::In(a, list) | Expression::NotIn(a, list) => {
             first(in_expression(a.get()), in_expressions(list.as_slice()))
         }
-        Expression::Sum(start, rest) => in_sum(in_operand(start.get()), rest.as_slice()),
+        Expression::Sum(start, rest) => {
+            let within = in_operand(start.get());
+            in_sum(start.get().place, within, rest.as_slice())
+        },
         Expression::Not(a) | Expression::Signed(_, a) => in_expression(a.get()),
     }
 }
 
 #[cycle(expression)]
+#[tactic(auto, using(crate::proofs::Rows::excess_none, crate::proofs::Rows::excess_append))]
 fn in_call(call: &Call) -> Option<usize>
-    ensures { result ≡ spec.call call.now }
+    ensures { result ≡ spec.excess (part.call call.now) }
 {
     match call {
         Call::Bound(_) => None,
@@ -43,8 +50,9 @@ fn in_call(call: &Call) -> Option<usize>
 }
 
 #[cycle(expression)]
+#[tactic(auto, using(crate::proofs::Rows::of_each))]
 fn in_expressions(all: &[Expression]) -> Option<usize>
-    ensures { result ≡ spec.least (map spec.expression all.now) }
+    ensures { result ≡ spec.excess (flat_map (λ rows. rows) (map spec.expression all.now)) }
 {
     let mut found = None;
     for tree in all {
@@ -54,9 +62,9 @@ fn in_expressions(all: &[Expression]) -> Option<usize>
 }
 
 #[cycle(expression)]
-#[tactic(auto, unfolding(crate::specs::Large::row))]
+#[tactic(auto, using(crate::proofs::Rows::of_row))]
 fn in_operands(all: &[Operand]) -> Option<usize>
-    ensures { result ≡ spec.row (map spec.operand all.now) }
+    ensures { result ≡ spec.excess (spec.side_by_side (map part.operand all.now)) }
 {
     let mut found = excess(all);
     for operand in all {
@@ -66,11 +74,11 @@ fn in_operands(all: &[Operand]) -> Option<usize>
 }
 
 #[cycle(expression)]
-#[tactic(auto, unfolding(crate::specs::Large::row))]
-fn in_sum(start: Part, rest: &[Addend]) -> Option<usize>
-    ensures { result ≡ spec.row (start ∷ map spec.addend rest.now) }
+#[tactic(auto, using(crate::proofs::Rows::gathered))]
+fn in_sum(start: usize, within: Option<usize>, rest: &[Addend]) -> Option<usize>
+    ensures { result ≡ spec.first (spec.first (slice_get (start ∷ map (λ x. (part.addend x).place) rest.now) spec.limit) within) (spec.excess (flat_map (λ x. (part.addend x).rows) rest.now)) }
 {
-    let mut found = first(excess_behind(rest), start.within);
+    let mut found = first(excess_behind(rest), within);
     for addend in rest {
         found = first(found, in_expression(&addend.operand.expression));
     }
@@ -78,11 +86,8 @@ fn in_sum(start: Part, rest: &[Addend]) -> Option<usize>
 }
 
 #[cycle(expression)]
-fn in_operand(operand: &Operand) -> Part
-    ensures { result ≡ spec.operand operand.now }
+fn in_operand(operand: &Operand) -> Option<usize>
+    ensures { result ≡ spec.excess (spec.expression operand.now.expression) }
 {
-    Part {
-        place: operand.place,
-        within: in_expression(&operand.expression),
-    }
+    in_expression(&operand.expression)
 }

@@ -2,14 +2,16 @@
 
 ghost use Rattle.std.specs.Prelude.{◌≡◌, map};
 ghost use Rattle.qs_syntax_limits.specs.Large as spec;
+ghost use Rattle.qs_syntax_limits.specs.inner.Parts as part;
 
 use crate::place::{excess, first};
 use qs_syntax_tree::path::{Path, PathOperand};
 
 /// The first place in a path at which a chain has too many operands.
 #[cycle(path)]
+#[tactic(auto, using(crate::proofs::Rows::excess_none, crate::proofs::Rows::excess_more, crate::proofs::Rows::first_none))]
 pub fn in_path(tree: &Path) -> Option<usize>
-    ensures { result ≡ spec.path tree.now }
+    ensures { result ≡ spec.excess (spec.path tree.now) }
 {
     match tree {
         Path::Predicate(_) => None,
@@ -20,9 +22,9 @@ pub fn in_path(tree: &Path) -> Option<usize>
 }
 
 #[cycle(path)]
-#[tactic(auto, unfolding(crate::specs::Large::row))]
+#[tactic(auto, using(crate::proofs::Rows::of_row))]
 fn in_operands(all: &[PathOperand]) -> Option<usize>
-    ensures { result ≡ spec.row (map spec.path_operand all.now) }
+    ensures { result ≡ spec.excess (spec.side_by_side (map part.path_operand all.now)) }
 {
     let mut found = excess(all);
     for operand in all {

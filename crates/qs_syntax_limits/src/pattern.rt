@@ -2,6 +2,7 @@
 
 ghost use Rattle.std.specs.Prelude.{◌≡◌, map};
 ghost use Rattle.qs_syntax_limits.specs.Large as spec;
+ghost use Rattle.qs_syntax_limits.specs.inner.Parts as part;
 
 use crate::expression::in_expression;
 use crate::place::{excess, first};
@@ -11,15 +12,15 @@ use qs_syntax_tree::pattern::{Element, GraphPattern, Group};
 /// The first place in a group at which there is too much.
 #[cycle(group)]
 pub fn in_group(group: &Group) -> Option<usize>
-    ensures { result ≡ (spec.group group.now).within }
+    ensures { result ≡ spec.excess (spec.group group.now) }
 {
     in_elements(group.elements.as_slice())
 }
 
 #[cycle(group)]
-#[tactic(auto, unfolding(crate::specs::Large::row))]
+#[tactic(auto, using(crate::proofs::Rows::of_row))]
 fn in_elements(all: &[Element]) -> Option<usize>
-    ensures { result ≡ spec.row (map spec.element all.now) }
+    ensures { result ≡ spec.excess (spec.side_by_side (map part.element all.now)) }
 {
     let mut found = excess(all);
     for element in all {
@@ -29,8 +30,9 @@ fn in_elements(all: &[Element]) -> Option<usize>
 }
 
 #[cycle(group)]
+#[tactic(auto, using(crate::proofs::Rows::excess_none))]
 fn in_graph_pattern(pattern: &GraphPattern) -> Option<usize>
-    ensures { result ≡ spec.graph_pattern pattern.now }
+    ensures { result ≡ spec.excess (part.graph_pattern pattern.now) }
 {
     match pattern {
         GraphPattern::Triples(triples) => in_triples(triples.as_slice()),
@@ -44,9 +46,9 @@ fn in_graph_pattern(pattern: &GraphPattern) -> Option<usize>
 }
 
 #[cycle(group)]
-#[tactic(auto, unfolding(crate::specs::Large::row))]
+#[tactic(auto, using(crate::proofs::Rows::of_row))]
 fn in_union(all: &[Group]) -> Option<usize>
-    ensures { result ≡ spec.row (map spec.group all.now) }
+    ensures { result ≡ spec.excess (spec.side_by_side (map part.group all.now)) }
 {
     let mut found = excess(all);
     for group in all {

@@ -1,8 +1,9 @@
 //! Places, and parts that stand side by side.
 
-ghost use Rattle.std.specs.Prelude.{◌≡◌, ◌∷◌, map, slice_get};
-ghost use Rattle.qs_syntax_limits.specs.declared.place.Part.{Part};
+ghost use Rattle.std.specs.Prelude.{◌≡◌, ◌∷◌, ℕ, map, slice_get};
+ghost use Rattle.qs_syntax_limits.specs.Large.{Part};
 ghost use Rattle.qs_syntax_limits.specs.Large as spec;
+ghost use Rattle.qs_syntax_limits.specs.inner.Parts as rows;
 
 use qs_syntax_tree::expression::{Addend, Operand};
 use qs_syntax_tree::path::{NegatedPredicate, PathOperand};
@@ -11,15 +12,6 @@ use qs_syntax_tree::update::QuadElement;
 
 /// The most elements of a group, and the most operands of a chain.
 pub const LIMIT: usize = 256;
-
-/// An element of a group or an operand of a chain.
-#[derive(Clone, Copy)]
-pub struct Part {
-    /// Where it begins.
-    pub place: usize,
-    /// The first place within it at which there is too much.
-    pub within: Option<usize>,
-}
 
 /// What begins at a place.
 pub trait Placed {
@@ -30,7 +22,7 @@ pub trait Placed {
 }
 
 impl Placed for NegatedPredicate {
-    ghost part = { spec.negated };
+    ghost part = { rows.negated };
 
     fn place(&self) -> usize {
         self.place
@@ -38,7 +30,7 @@ impl Placed for NegatedPredicate {
 }
 
 impl Placed for PathOperand {
-    ghost part = { spec.path_operand };
+    ghost part = { rows.path_operand };
 
     fn place(&self) -> usize {
         self.place
@@ -46,7 +38,7 @@ impl Placed for PathOperand {
 }
 
 impl Placed for Operand {
-    ghost part = { spec.operand };
+    ghost part = { rows.operand };
 
     fn place(&self) -> usize {
         self.place
@@ -54,7 +46,7 @@ impl Placed for Operand {
 }
 
 impl Placed for Addend {
-    ghost part = { spec.addend };
+    ghost part = { rows.addend };
 
     fn place(&self) -> usize {
         self.operand.place
@@ -62,7 +54,7 @@ impl Placed for Addend {
 }
 
 impl Placed for Element {
-    ghost part = { spec.element };
+    ghost part = { rows.element };
 
     fn place(&self) -> usize {
         self.place
@@ -70,7 +62,7 @@ impl Placed for Element {
 }
 
 impl Placed for Group {
-    ghost part = { spec.group };
+    ghost part = { rows.group };
 
     fn place(&self) -> usize {
         self.place
@@ -78,7 +70,7 @@ impl Placed for Group {
 }
 
 impl Placed for QuadElement {
-    ghost part = { spec.quad_element };
+    ghost part = { rows.quad_element };
 
     fn place(&self) -> usize {
         self.place
@@ -86,6 +78,7 @@ impl Placed for QuadElement {
 }
 
 /// The lesser of two places, where None is no place.
+#[tactic(auto, unfolding(crate::specs::Large::first))]
 pub fn first(a: Option<usize>, b: Option<usize>) -> Option<usize>
     ensures { result ≡ spec.first a b }
 {
@@ -98,7 +91,7 @@ pub fn first(a: Option<usize>, b: Option<usize>) -> Option<usize>
 
 /// Where the part of that number begins.
 fn place_at<T: Placed>(parts: &[T], number: usize) -> Option<usize>
-    ensures { result ≡ spec.beginning (slice_get (map T.part parts.now) number) }
+    ensures { result ≡ slice_get (map (λ x. (T.part x).place) parts.now) number }
 {
     match parts.get(number) {
         Some(part) => Some(part.place()),
@@ -108,14 +101,14 @@ fn place_at<T: Placed>(parts: &[T], number: usize) -> Option<usize>
 
 /// Where the part begins with which there are too many.
 pub fn excess<T: Placed>(parts: &[T]) -> Option<usize>
-    ensures { result ≡ spec.excess (map T.part parts.now) }
+    ensures { result ≡ slice_get (map (λ x. (T.part x).place) parts.now) spec.limit }
 {
     place_at(parts, LIMIT)
 }
 
 /// Where the part begins with which there are too many, one part being before these.
 pub fn excess_behind<T: Placed>(parts: &[T]) -> Option<usize>
-    ensures { (p : Part) → result ≡ spec.excess (p ∷ map T.part parts.now) }
+    ensures { (place : ℕ) → result ≡ slice_get (place ∷ map (λ x. (T.part x).place) parts.now) spec.limit }
 {
     place_at(parts, LIMIT - 1)
 }

@@ -1,7 +1,9 @@
 //! Queries.
 
-ghost use Rattle.std.specs.Prelude.{◌≡◌, map};
+ghost use Rattle.std.specs.Prelude.{◌≡◌};
+ghost use Rattle.std.specs.List.{flat_map};
 ghost use Rattle.qs_syntax_limits.specs.Large as spec;
+ghost use Rattle.qs_syntax_tree.specs.declared.query.QueryForm.TheVariants as form;
 
 use crate::expression::in_expression;
 use crate::pattern::in_group;
@@ -12,8 +14,9 @@ use qs_syntax_tree::query::{
     Ask, Construct, OrderCondition, Projection, Query, QueryForm, Select, SelectItem,
 };
 
+#[tactic(auto, using(crate::proofs::Rows::excess_none))]
 fn in_select_item(item: &SelectItem) -> Option<usize>
-    ensures { result ≡ spec.select_item item.now }
+    ensures { result ≡ spec.excess (spec.select_item item.now) }
 {
     match item {
         SelectItem::Var(_) => None,
@@ -21,8 +24,9 @@ fn in_select_item(item: &SelectItem) -> Option<usize>
     }
 }
 
+#[tactic(auto, using(crate::proofs::Rows::from_none))]
 fn in_select_items(all: &[SelectItem]) -> Option<usize>
-    ensures { result ≡ spec.least (map spec.select_item all.now) }
+    ensures { result ≡ spec.excess (flat_map spec.select_item all.now) }
 {
     let mut found = None;
     for item in all {
@@ -31,8 +35,9 @@ fn in_select_items(all: &[SelectItem]) -> Option<usize>
     found
 }
 
+#[tactic(auto, using(crate::proofs::Rows::excess_none))]
 fn in_projection(projection: &Projection) -> Option<usize>
-    ensures { result ≡ spec.projection projection.now }
+    ensures { result ≡ spec.excess (spec.projection projection.now) }
 {
     match projection {
         Projection::All => None,
@@ -40,8 +45,9 @@ fn in_projection(projection: &Projection) -> Option<usize>
     }
 }
 
+#[tactic(auto, using(crate::proofs::Rows::from_none))]
 fn in_order(all: &[OrderCondition]) -> Option<usize>
-    ensures { result ≡ spec.least (map spec.order_condition all.now) }
+    ensures { result ≡ spec.excess (flat_map (λ condition. spec.expression condition.key) all.now) }
 {
     let mut found = None;
     for condition in all {
@@ -50,8 +56,9 @@ fn in_order(all: &[OrderCondition]) -> Option<usize>
     found
 }
 
+#[tactic(auto, using(crate::proofs::Rows::excess_none))]
 fn in_pattern(pattern: &Option<Group>) -> Option<usize>
-    ensures { result ≡ spec.in_pattern pattern.now }
+    ensures { result ≡ spec.excess (spec.given spec.group pattern.now) }
 {
     match pattern {
         None => None,
@@ -59,16 +66,18 @@ fn in_pattern(pattern: &Option<Group>) -> Option<usize>
     }
 }
 
+#[tactic(auto, using(crate::proofs::Rows::excess_append))]
 fn in_select(select: &Select) -> Option<usize>
-    ensures { result ≡ spec.select select.now }
+    ensures { result ≡ spec.excess (spec.query_form (form.Select select.now)) }
 {
     let pattern = in_group(&select.pattern);
     let order = in_order(select.modifiers.order.as_slice());
     first(in_projection(&select.projection), first(pattern, order))
 }
 
+#[tactic(auto, using(crate::proofs::Rows::excess_append))]
 fn in_construct(construct: &Construct) -> Option<usize>
-    ensures { result ≡ spec.construct construct.now }
+    ensures { result ≡ spec.excess (spec.query_form (form.Construct construct.now)) }
 {
     let pattern = in_pattern(&construct.pattern);
     let order = in_order(construct.modifiers.order.as_slice());
@@ -78,8 +87,9 @@ fn in_construct(construct: &Construct) -> Option<usize>
     )
 }
 
+#[tactic(auto, using(crate::proofs::Rows::excess_append))]
 fn in_ask(ask: &Ask) -> Option<usize>
-    ensures { result ≡ spec.ask ask.now }
+    ensures { result ≡ spec.excess (spec.query_form (form.Ask ask.now)) }
 {
     first(
         in_group(&ask.pattern),

@@ -1,7 +1,9 @@
 //! Updates.
 
-ghost use Rattle.std.specs.Prelude.{◌≡◌, map, fold};
+ghost use Rattle.std.specs.Prelude.{◌≡◌, ◌∷◌, map};
+ghost use Rattle.std.specs.List.{flat_map};
 ghost use Rattle.qs_syntax_limits.specs.Large as spec;
+ghost use Rattle.qs_syntax_tree.specs.declared.update.Operation.TheVariants as operation;
 
 use crate::pattern::in_group;
 use crate::place::{excess, first};
@@ -11,7 +13,7 @@ use qs_syntax_tree::update::{
 };
 
 fn in_quads(quads: &Quads) -> Option<usize>
-    ensures { result ≡ spec.quads quads.now }
+    ensures { result ≡ spec.excess (spec.quads quads.now) }
 {
     match quads {
         Quads::Triples(triples) | Quads::Graph(_, triples) => in_triples(triples.as_slice()),
@@ -19,8 +21,9 @@ fn in_quads(quads: &Quads) -> Option<usize>
 }
 
 // What was found before, or is within an element.
+#[tactic(auto, using(crate::proofs::Rows::gathered))]
 fn in_elements(mut found: Option<usize>, all: &[QuadElement]) -> Option<usize>
-    ensures { result ≡ fold spec.first_within found (map spec.quad_element all.now) }
+    ensures { result ≡ spec.first found (spec.excess (flat_map (λ e. spec.quads e.quads) all.now)) }
 {
     for element in all {
         found = first(found, in_quads(&element.quads));
@@ -28,22 +31,24 @@ fn in_elements(mut found: Option<usize>, all: &[QuadElement]) -> Option<usize>
     found
 }
 
+#[tactic(auto, using(crate::proofs::Rows::none_first))]
 fn in_quad_pattern(pattern: &QuadPattern) -> Option<usize>
-    ensures { result ≡ spec.quad_pattern pattern.now }
+    ensures { result ≡ spec.excess (spec.braces pattern.now) }
 {
     in_elements(None, pattern.elements.as_slice())
 }
 
-#[tactic(auto, unfolding(crate::specs::Large::row))]
+#[tactic(auto, using(crate::proofs::Rows::excess_more))]
 fn in_quad_group(pattern: &QuadPattern) -> Option<usize>
-    ensures { result ≡ spec.quad_group pattern.now }
+    ensures { result ≡ spec.excess (spec.operation (operation.DeleteWhere pattern.now)) }
 {
     let elements = pattern.elements.as_slice();
     in_elements(excess(elements), elements)
 }
 
+#[tactic(auto, using(crate::proofs::Rows::excess_none))]
 fn in_template(template: &Option<QuadPattern>) -> Option<usize>
-    ensures { result ≡ spec.in_template template.now }
+    ensures { result ≡ spec.excess (spec.given spec.braces template.now) }
 {
     match template {
         None => None,
@@ -51,8 +56,9 @@ fn in_template(template: &Option<QuadPattern>) -> Option<usize>
     }
 }
 
+#[tactic(auto, using(crate::proofs::Rows::excess_append))]
 fn in_modify(modify: &Modify) -> Option<usize>
-    ensures { result ≡ spec.modify modify.now }
+    ensures { result ≡ spec.excess (spec.operation (operation.Modify modify.now)) }
 {
     let insert = in_template(&modify.insert);
     first(
@@ -61,8 +67,9 @@ fn in_modify(modify: &Modify) -> Option<usize>
     )
 }
 
+#[tactic(auto, using(crate::proofs::Rows::excess_none))]
 fn in_operation(operation: &Operation) -> Option<usize>
-    ensures { result ≡ spec.operation operation.now }
+    ensures { result ≡ spec.excess (spec.operation operation.now) }
 {
     match operation {
         Operation::InsertData(quads) | Operation::DeleteData(quads) => in_quad_pattern(quads),
@@ -73,8 +80,9 @@ fn in_operation(operation: &Operation) -> Option<usize>
     }
 }
 
+#[tactic(auto, using(crate::proofs::Rows::excess_none))]
 fn in_step(step: &UpdateStep) -> Option<usize>
-    ensures { result ≡ spec.step step.now }
+    ensures { result ≡ spec.excess (spec.given spec.operation step.now.operation) }
 {
     match &step.operation {
         None => None,
@@ -82,8 +90,9 @@ fn in_step(step: &UpdateStep) -> Option<usize>
     }
 }
 
+#[tactic(auto, using(crate::proofs::Rows::from_none))]
 fn in_steps(all: &[UpdateStep]) -> Option<usize>
-    ensures { result ≡ spec.least (map spec.step all.now) }
+    ensures { result ≡ spec.excess (flat_map (λ s. spec.given spec.operation s.operation) all.now) }
 {
     let mut found = None;
     for step in all {

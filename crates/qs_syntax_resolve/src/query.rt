@@ -163,7 +163,7 @@ impl<'a> Resolver<'a> {
     ) -> Result<Items<Triple>, QFault>
         ensures { Resolves (triples_behind [] triples.now self.old) result self.new }
     {
-        let mut found = Items::new(alloc);
+        let mut found = Items::from_vec(Vec::with_capacity(alloc, triples.len())?);
         self.triples(alloc, &mut found, triples)?;
         Ok(found)
     }

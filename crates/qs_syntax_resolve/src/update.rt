@@ -45,7 +45,7 @@ impl<'a> Resolver<'a> {
     fn quads(&mut self, alloc: Global, all: &[QuadElement]) -> Result<Items<QuadBlock>, QFault>
         ensures { Resolves (spec.quads all.now self.old) result self.new }
     {
-        let mut found = Items::new(alloc);
+        let mut found = Items::from_vec(Vec::with_capacity(alloc, all.len())?);
         for element in all {
             let next = self.block(alloc, &element.quads)?;
             found.push(next)?;
@@ -242,7 +242,7 @@ impl<'a> Resolver<'a> {
     ) -> Result<Update, QFault>
         ensures { Resolves (spec.update variables update.now self.old) result self.new }
     {
-        let mut operations = Items::new(alloc);
+        let mut operations = Items::from_vec(Vec::with_capacity(alloc, update.steps.len())?);
         self.steps(alloc, &mut operations, update.steps.as_slice())?;
         Ok(Update {
             operations,

@@ -14,11 +14,11 @@ use qs_syntax_tree::token::Span;
 use sqlite_items::{Boxed, Items};
 use std::alloc::{AllocError, Global};
 
-/// The first and the others.
+/// The first and the others, in no more memory than they need: most lists of a tree have one item.
 pub fn all_of<T: Drop>(alloc: Global, first: T, others: Items<T>) -> Result<Items<T>, AllocError>
     ensures { IfOk result (λ all. all ≡ first ∷ others) }
 {
-    let mut all = Items::new(alloc);
+    let mut all = Items::from_vec(Vec::with_capacity(alloc, others.len().saturating_add(1))?);
     all.push(first)?;
     all.append(others)?;
     Ok(all)

@@ -21,10 +21,10 @@ use sqlite_items::Items;
 fn quads_block(parser: Parser, tokens: &mut Tokens<'_>) -> Result<Items<QuadElement>, Fault>
     ensures { Reads (read grammar parser.depth rules.quads_block tokens.old) result tokens.new }
 {
-    let mut found = Items::new(parser.alloc);
     if !tokens.peek_is(&NODES) {
-        return Ok(found);
+        return Ok(Items::new(parser.alloc));
     }
+    let mut found = Items::from_vec(Vec::with_capacity(parser.alloc, 1)?);
     let place = tokens.place();
     let triples = triples(parser, Form::Template, tokens)?;
     found.push(QuadElement {

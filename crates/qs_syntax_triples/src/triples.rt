@@ -246,7 +246,7 @@ pub fn triples(
 ) -> Result<Items<TriplesSameSubject>, Fault>
     ensures { Reads (read grammar parser.depth (ref (name.triples form)) tokens.old) result tokens.new }
 {
-    let mut found = Items::new(parser.alloc);
+    let mut found = Items::from_vec(Vec::with_capacity(parser.alloc, 1)?);
     let mut inner = parser;
     while inner.depth > 0 {
         inner = inner.deeper();

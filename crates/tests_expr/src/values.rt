@@ -6,9 +6,9 @@ ghost use Rattle.qs_expr.specs.Scratch.{IsTable};
 
 use crate::expressions::{Operand, expr_of, sum, term};
 use qs_base::drop_value;
-use qs_expr::{Cell, Row, Scratch, ebv, eval, laws, order_key};
+use qs_expr::{Cell, Row, Scratch, ebv, eval, laws, order_key, value};
 use qs_expr_meaning::{Expr, ExprFault};
-use qs_expr_values::Key;
+use qs_expr_values::{Key, Worth, worth_of};
 use qs_store::View;
 use qs_terms::{Term, TermFault};
 use std::alloc::Global;
@@ -192,7 +192,36 @@ fn is_term<V: View>(
     }
 }
 
-/// Whether terms, truth and keys of the row's cells are right.
+/// Whether the variable's term is worth the integer, or isn't worth any where none is due.
+fn is_worth<V: View>(
+    variable: usize,
+    due: Option<i128>,
+    row: &Row,
+    view: &V,
+    scratch: &Scratch,
+) -> bool
+    requires { FitsRow (V.content view.now).known scratch.now row.now }
+{
+    match row.cell(variable) {
+        Some(cell) => match worth_of(&value(cell, view, scratch)) {
+            Worth::Integer(number) => due == Some(number),
+            _ => due.is_none(),
+        },
+        None => false,
+    }
+}
+
+/// Whether the terms of the store and of the table are worth what they ought to be.
+fn are_worth<V: View>(row: &Row, view: &V, scratch: &Scratch) -> bool
+    requires { FitsRow (V.content view.now).known scratch.now row.now }
+{
+    is_worth(0, None, row, view, scratch)
+        && is_worth(2, Some(1), row, view, scratch)
+        && is_worth(3, Some(2), row, view, scratch)
+        && is_worth(5, None, row, view, scratch)
+}
+
+/// Whether terms, values, truth and keys of the row's cells are right.
 pub fn are_read<V: View>(
     alloc: Global,
     row: &Row,
@@ -208,5 +237,5 @@ pub fn are_read<V: View>(
     let none = is_key(alloc, 6, &Key::Unbound, row, view, scratch)?;
     let known = is_term(alloc, 1, Operand::Iri("e:b"), row, view, scratch)?;
     let new = is_term(alloc, 5, Operand::Integer("abc"), row, view, scratch)?;
-    Ok(true_or_not && one && none && known && new)
+    Ok(true_or_not && one && none && known && new && are_worth(row, view, scratch))
 }

@@ -3,6 +3,7 @@
 use crate::outcome::Outcome;
 use crate::terms::ascending;
 use qs_dict::{Dict, DictFault};
+use qs_expr_values::TermValue;
 use qs_terms::{Term, TermFault};
 use std::alloc::Global;
 use std::hash::RandomState;
@@ -69,7 +70,10 @@ fn numbers_terms(rt: HostRuntime) {
 }
 
 fn has(dict: &Dict, number: u32, term: &Term) -> bool {
-    number > 0 && number <= dict.len() && dict.term(number).is_same(term)
+    number > 0
+        && number <= dict.len()
+        && dict.term(number).is_same(term)
+        && dict.value(number) == TermValue::of(term)
 }
 
 /// Whether the term gets the number that it has or else the next one, or is refused where memory runs out, which leaves all as it was.

@@ -1,6 +1,7 @@
 //! The index: five entries, of the default graph, of graph 1 and of the last graph.
 
 use crate::outcome::Outcome;
+use qs_index::permutation::Lead;
 use qs_index::{Index, PagePosition, Scan, count_named};
 use std::alloc::{AllocError, Global};
 
@@ -137,6 +138,7 @@ fn is_whole(index: &mut Index) -> bool {
         && are_found_from(index)
         && are_graphs_found(index)
         && are_known(index)
+        && are_passed(index)
         && hands_out(index.entries(), &[E, C, B, A, D])
         && are_removed(index)
         && index.remove(D)
@@ -144,6 +146,55 @@ fn is_whole(index: &mut Index) -> bool {
         && index.next_graph(1).is_none()
         && index.named_len() == 1
         && hands_out(index.scan_named(None, None, None), &[B])
+}
+
+fn if_asked(asked: bool, number: u32) -> Option<u32> {
+    if asked { Some(number) } else { None }
+}
+
+/// Whether the scan hands out these entries, where after each all are passed over that have the same subject, predicate and object, as far
+/// as these are asked for.
+fn goes_over(mut scan: Scan<'_>, asked: [bool; 3], wanted: &[[u32; 4]]) -> bool {
+    for entry in wanted {
+        let Some(next) = scan.next() else {
+            return false;
+        };
+        if next != *entry {
+            return false;
+        }
+        let [_, s, p, o] = next;
+        scan.pass(
+            if_asked(asked[0], s),
+            if_asked(asked[1], p),
+            if_asked(asked[2], o),
+        );
+    }
+    scan.next().is_none()
+}
+
+/// Whether each subject, predicate and object is found once, by a scan that has it in front.
+fn are_passed(index: &Index) -> bool {
+    goes_over(
+        index.scan_led(Lead::Subject, 1, None, None, None),
+        [true, false, false],
+        &[C, A],
+    ) && goes_over(
+        index.scan_led(Lead::Predicate, 1, None, None, None),
+        [false, true, false],
+        &[C, A],
+    ) && goes_over(
+        index.scan_led(Lead::Object, 1, None, None, None),
+        [false, false, true],
+        &[C, B],
+    ) && goes_over(
+        index.scan_led(Lead::Object, 1, None, Some(3), None),
+        [false, true, true],
+        &[A, B],
+    ) && goes_over(
+        index.scan_named_led(Lead::Predicate, None, None, None),
+        [false, true, false],
+        &[C, A],
+    )
 }
 
 /// Whether the index is filled; where memory runs out it has no entry of graph 1.

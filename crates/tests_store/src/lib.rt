@@ -36,4 +36,6 @@ mod store;
 #[cfg(test)]
 mod terms;
 #[cfg(test)]
+mod values;
+#[cfg(test)]
 mod whole_graphs;

@@ -1,6 +1,7 @@
 //! How many entries a scan looks at, and how many are counted, in indexes of four sizes.
 
 use qs_index::pages::Pages;
+use qs_index::permutation::Lead;
 use qs_index::{Index, PagePosition, Scan, count_named};
 use std::alloc::{AllocError, Global};
 
@@ -57,6 +58,26 @@ fn looks_of_all(index: &Index, size: u32) -> u128 {
     looks
 }
 
+/// How many entries are looked at where each predicate is handed out once, and the others of it are passed over.
+fn looks_of_predicates(index: &Index, predicates: u32) -> u128 {
+    let mut scan = index.scan_led(Lead::Predicate, 0, None, None, None);
+    let mut looks: u128 = 0;
+    for predicate in 0..predicates {
+        let Some(entry) = scan.next() else {
+            return u128::MAX;
+        };
+        if entry[2] != predicate {
+            return u128::MAX;
+        }
+        looks = looks.saturating_add(scan.looked());
+        scan.pass(None, Some(predicate), None);
+    }
+    if scan.next().is_some() {
+        return u128::MAX;
+    }
+    looks
+}
+
 /// Whether the entries of all, of one predicate, of one entry and of nothing are counted. The sizes fill their pages but the last.
 fn are_counted(index: &Index, size: u32, first: u32) -> bool {
     index.about(0, None, None, None) == u64::from(size)
@@ -71,7 +92,8 @@ fn is_bound(alloc: Global, size: u32, first: u32, bound: u128) -> bool {
     let is_few = fill(&mut index, size, alloc).is_ok()
         && are_few(&index, size, first, bound)
         && are_counted(&index, size, first)
-        && looks_of_all(&index, size) <= u128::from(size).saturating_mul(4);
+        && looks_of_all(&index, size) <= u128::from(size).saturating_mul(4)
+        && looks_of_predicates(&index, size.min(16)) <= bound.saturating_add(1).saturating_mul(16);
     drop(index);
     is_few
 }

@@ -4,15 +4,19 @@ use crate::outcome::Outcome;
 use qs_terms::{Quad, Term, TermFault};
 use std::alloc::Global;
 
-const INTEGER: &str = "http://www.w3.org/2001/XMLSchema#integer";
+pub const INTEGER: &str = "http://www.w3.org/2001/XMLSchema#integer";
 
-const STRING: &str = "http://www.w3.org/2001/XMLSchema#string";
+pub const BOOLEAN: &str = "http://www.w3.org/2001/XMLSchema#boolean";
+
+pub const DECIMAL: &str = "http://www.w3.org/2001/XMLSchema#decimal";
+
+pub const STRING: &str = "http://www.w3.org/2001/XMLSchema#string";
 
 const LANG_STRING: &str = "http://www.w3.org/1999/02/22-rdf-syntax-ns#langString";
 
 /// What a term is made of.
 #[derive(Clone, Copy)]
-enum Parts {
+pub enum Parts {
     Iri(&'static str),
     Blank(u64),
     /// A form and a datatype.
@@ -21,7 +25,8 @@ enum Parts {
     Tagged(&'static str, &'static str),
 }
 
-fn make(alloc: Global, parts: Parts) -> Result<Term, TermFault> {
+/// The term of these parts.
+pub fn make(alloc: Global, parts: Parts) -> Result<Term, TermFault> {
     match parts {
         Parts::Iri(text) => Term::iri(alloc, text),
         Parts::Blank(number) => Ok(Term::Blank(number)),

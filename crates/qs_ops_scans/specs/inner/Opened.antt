@@ -1,7 +1,7 @@
 -- What a scan leaves to be tested and bound, by cells.
 use Rattle.std.specs.Prelude.{◌≡◌, ℕ, Bool, true, false, ◌==◌, ◌&&◌, nat_lt, if◌then◌else◌, List, [], length, Option, None, Some, slice_index, slice_set}
 use Rattle.qs_store.specs.Content.{Content}
-use Rattle.qs_store.specs.Triples.{AreTriples}
+use Rattle.qs_store.specs.Triples.{AreTriplesAnyhow}
 use Rattle.qs_store.specs.declared.active.Active.{Active}
 use Rattle.qs_store.specs.declared.default_graph.DefaultGraph.{DefaultGraph}
 use Rattle.qs_expr.specs.declared.cell.Cell.{Cell}
@@ -98,9 +98,9 @@ row_made acts m x = if passes acts x then Some (bound acts x m) else None
 
 -- ---- the scan
 
--- the triples of the graph with the numbers that are given
+-- the triples of the graph with the numbers that are given, in some order
 abbrev pub IsAsked : Content → DefaultGraph → Active → Given → List (List ℕ) → Type 0
-IsAsked c default graph g triples = AreTriples c default graph g.subject g.predicate g.object triples
+IsAsked c default graph g triples = AreTriplesAnyhow c default graph g.subject g.predicate g.object triples
 
 -- the triples of the graph with the numbers that are given; none where a term isn't known
 abbrev pub IsScannedBy : Content → DefaultGraph → Active → Option Given → List (List ℕ) → Type 0

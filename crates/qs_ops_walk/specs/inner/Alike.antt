@@ -8,6 +8,7 @@ use Rattle.qs_expr.specs.declared.cell.Cell.{Cell}
 use Rattle.qs_expr.specs.Cell.{Cells, cell_at, row_solution, FitsRow}
 use Rattle.qs_plan_meaning.specs.declared.stage.Stage.{Stage}
 use Rattle.qs_plan.specs.inner.Certain.{Keeps}
+use Rattle.qs_ops_scans.specs.Passed.{PassesRows}
 use Rattle.qs_ops_program.specs.inner.Flow.{Instruction, is_union}
 use Rattle.qs_ops_walk.specs.declared.source.Level.{Level}
 use Rattle.qs_ops_walk.specs.declared.source.Source.{Source}
@@ -55,6 +56,20 @@ pub record IsLastAlike (width : ℕ) (columns : List ℕ) (m : Cells) (levels : 
   pub level : Level
   pub are : levels ≡ others ++ level ∷ []
   pub alike : IsSourceAlike width columns m level.source
+
+-- the last of the levels is of a triple pattern, and some of its rows are passed over
+pub record PassesTriples (columns : List ℕ) (m : Cells) (old now : List Level) : Type 0 where
+  pub others : List Level
+  pub next : ℕ
+  pub rows : List Cells
+  pub left : List Cells
+  pub before : old ≡ others ++ (record { next = next; source = Triple rows }) ∷ []
+  pub after : now ≡ others ++ (record { next = next; source = Triple left }) ∷ []
+  pub passes : PassesRows columns m rows left
+
+-- so it is, or the levels stay as they were
+abbrev pub PassesLast : List ℕ → Cells → List Level → List Level → Type 0
+PassesLast columns m old now = (now ≡ old) ⊎ PassesTriples columns m old now
 
 -- ---- stages
 

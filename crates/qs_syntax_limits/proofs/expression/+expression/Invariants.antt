@@ -1,14 +1,15 @@
-use Rattle.std.proofs.Common.{◌≡◌, ◌∷◌, map, take, fold}
+use Rattle.std.proofs.Common.{◌≡◌, ◌∷◌, None, map, take, fold, slice_get}
 use Rattle.qs_syntax_limits.specs.Large as spec
+use Rattle.qs_syntax_limits.specs.inner.Parts.{further, addend, operand}
 use Rattle.qs_syntax_limits.proofs.expression.+expression.Given as goal
 
 abbrev pub invariant-in_expressions-loop-tree : goal.invariant-in_expressions-loop-tree
-invariant-in_expressions-loop-tree l = l.found ≡ spec.least (map spec.expression (take l.tree-index l.all))
+invariant-in_expressions-loop-tree l = l.found ≡ fold (further spec.expression) None (take l.tree-index l.all)
 
 abbrev pub invariant-in_operands-loop-operand : goal.invariant-in_operands-loop-operand
 invariant-in_operands-loop-operand l =
-    l.found ≡ fold spec.first_within (spec.excess (map spec.operand l.all)) (map spec.operand (take l.operand-index l.all))
+    l.found ≡ fold (further (λ x. (operand x).rows)) (slice_get (map (λ x. (operand x).place) l.all) spec.limit) (take l.operand-index l.all)
 
 abbrev pub invariant-in_sum-loop-addend : goal.invariant-in_sum-loop-addend
 invariant-in_sum-loop-addend l =
-    l.found ≡ fold spec.first_within (spec.first (spec.excess (l.fn.start ∷ map spec.addend l.rest)) l.fn.start.within) (map spec.addend (take l.addend-index l.rest))
+    l.found ≡ fold (further (λ x. (addend x).rows)) (spec.first (slice_get (l.fn.start ∷ map (λ x. (addend x).place) l.rest) spec.limit) l.fn.within) (take l.addend-index l.rest)

@@ -1,6 +1,7 @@
-use Rattle.std.proofs.Common.{◌≡◌, map, take}
+use Rattle.std.proofs.Common.{◌≡◌, None, take, fold}
 use Rattle.qs_syntax_limits.specs.Large as spec
+use Rattle.qs_syntax_limits.specs.inner.Parts.{further}
 use Rattle.qs_syntax_limits.proofs.update.in_steps.Given as goal
 
 abbrev pub invariant-loop-step : goal.invariant-loop-step
-invariant-loop-step l = l.found ≡ spec.least (map spec.step (take l.step-index l.all))
+invariant-loop-step l = l.found ≡ fold (further (λ s. spec.given spec.operation s.operation)) None (take l.step-index l.all)

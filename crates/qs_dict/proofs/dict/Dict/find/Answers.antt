@@ -8,20 +8,20 @@ returns-in_err-place-clause-place c =
 
 pub returns-in_err-place-clause-exact : goal.returns-in_err-place-clause-exact
 returns-in_err-place-clause-exact c n =
-    rw (returns-in_err-place-clause-place c, ← c.self.view_is) (exact_number _ _ c.self.invariant.distinct n)
+    rw (returns-in_err-place-clause-place c, ← c.self.view_is) (exact_number _ _ c.self.invariant.0.distinct n)
 
 pub overflow_cast-result : goal.overflow_cast-result
-overflow_cast-result c = omega (arith, c.self.invariant.within, c.self.invariant.bound, c.in_ok-place.ensures.within)
+overflow_cast-result c = omega (arith, c.self.invariant.0.within, c.self.invariant.0.bound, c.in_ok-place.ensures.within)
 
 pub overflow_add-result : goal.overflow_add-result
-overflow_add-result c = omega (arith, c.self.invariant.within, c.self.invariant.bound, c.in_ok-place.ensures.within)
+overflow_add-result c = omega (arith, c.self.invariant.0.within, c.self.invariant.0.bound, c.in_ok-place.ensures.within)
 
 pub returns-clause-place : goal.returns-clause-place
 returns-clause-place c =
     rw (← c.self.view_is, add-one c.in_ok-place.place) (place_number c.self.inside.terms.keys c.args.term.now (Some c.in_ok-place.place) c.in_ok-place.ensures.index)
 
 pub returns-clause-exact : goal.returns-clause-exact
-returns-clause-exact c n = rw (returns-clause-place c, ← c.self.view_is) (exact_number _ _ c.self.invariant.distinct n)
+returns-clause-exact c n = rw (returns-clause-place c, ← c.self.view_is) (exact_number _ _ c.self.invariant.0.distinct n)
 
 pub returns-in-Some-clause-exact : goal.returns-in-Some-clause-exact
 returns-in-Some-clause-exact c n =

@@ -15,4 +15,4 @@ returns-in-Some-get c = λ same.
     let read : own ≡ get_or terms (number - 1) own = c.in-Some-get.ensures.lookup.1 ∙ (ap (λ l. get_or l c.in-Some.place own) keys ∙ ap (λ k. get_or terms k own) place) in
     let there : term_at terms number ≡ Some own = term_there terms number own (omega arith) (omega arith) read in
     subst (λ v. number_of v.terms c.args.term.now ≡ Some number) c.self.view_is
-    ((exact_number terms c.args.term.now c.self.invariant.distinct number).1 (there ∙ ap Some (c.is_same.ensures.same.0 same)))
+    ((exact_number terms c.args.term.now c.self.invariant.0.distinct number).1 (there ∙ ap Some (c.is_same.ensures.same.0 same)))

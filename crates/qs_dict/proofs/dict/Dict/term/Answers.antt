@@ -16,4 +16,4 @@ returns-clause-found c =
     let same : terms ≡ c.args.self.now.terms = ap (λ d. d.terms) c.self.view_is in
     let term = c.index-as_slice-number.result in
     let there : term_at terms c.args.number ≡ Some term = rw same (returns-clause-term c) in
-    rw (← same) ((exact_number terms term c.self.invariant.distinct c.args.number).1 there)
+    rw (← same) ((exact_number terms term c.self.invariant.0.distinct c.args.number).1 there)

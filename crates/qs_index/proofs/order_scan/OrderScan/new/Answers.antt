@@ -10,8 +10,7 @@ find_from-requires-clause-countable c =
 pub invariant_of-result : goal.invariant_of-result
 invariant_of-result c =
     let pages = c.args.reader.pages in
-    let end = begin_none c.args.prefix pages c.len-held.result c.requires.ascending c.len-held.ensures.len c.in_default.ensures.none in
-    rw c.find_from.ensures.pages (sound_begin pages c.args.prefix c.len-held.result 0 c.find_from.new.reader.looked None c.len-held.ensures.sizes c.requires.ascending c.requires.entries (λ h. absurd (omega (arith, h, c.len-held.ensures.len))) tt end (omega arith) (omega (arith, c.find_from.ensures.counted, c.requires.unread)) (λ h. absurd (omega (arith, h, c.len-held.ensures.len))))
+    rw c.find_from.ensures.pages (sound_begin pages c.args.prefix c.len-held.result 0 c.find_from.new.reader.looked None c.len-held.ensures.sizes c.requires.ascending c.requires.entries (λ h. absurd (omega (arith, h, c.len-held.ensures.len))) tt (omega arith) (omega (arith, c.find_from.ensures.counted, c.requires.unread)) (λ h. absurd (omega (arith, h, c.len-held.ensures.len))))
 
 pub returns-in_default-clause-rest : goal.returns-in_default-clause-rest
 returns-in_default-clause-rest c =
@@ -27,7 +26,7 @@ invariant_of-result-2 c =
     let pages = c.args.reader.pages in
     let f = c.in-Some.ensures.some in
     let found = c.in-Some.found in
-    rw c.find_from.ensures.pages (sound_begin pages c.args.prefix found.place.page found.place.at c.find_from.new.reader.looked (Some found.entry) c.len-held.ensures.sizes c.requires.ascending c.requires.entries (λ _. f.at_in) f.entry_is (begin_at c.args.prefix pages found.place.page found.place.at found.entry c.requires.ascending f) (omega (arith, c.in-Some.ensures.looked, c.requires.unread)) (omega (arith, c.find_from.ensures.counted, c.requires.unread)) (λ _. refl))
+    rw c.find_from.ensures.pages (sound_begin pages c.args.prefix found.place.page found.place.at c.find_from.new.reader.looked (Some found.entry) c.len-held.ensures.sizes c.requires.ascending c.requires.entries (λ _. f.at_in) f.entry_is (omega (arith, c.in-Some.ensures.looked, c.requires.unread)) (omega (arith, c.find_from.ensures.counted, c.requires.unread)) (λ _. refl))
 
 pub returns-clause-rest : goal.returns-clause-rest
 returns-clause-rest c =
