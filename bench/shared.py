@@ -17,7 +17,7 @@ sys.path[:0] = [f"{ROOT}/scripts", f"{ROOT}/tests"]
 sys.dont_write_bytecode = True
 from http_client import NTRIPLES, RESULTS, connect, pieces, post, read_all  # noqa: E402
 from json_results import answer_of as answer_of_json  # noqa: E402
-from program import asked, environment  # noqa: E402
+from program import asked  # noqa: E402
 from server import command, free_port, listening_line  # noqa: E402
 
 MB = 1_000_000
@@ -90,15 +90,10 @@ def put(path, parts):
 # ---- runs
 
 
-def environment_of(words):
-    """Returns the environment of a command: the one that ./quads gives the program, or for another the present one."""
-    return environment() if words[0] == program_to_run() else None
-
-
 def run(words, out=subprocess.DEVNULL):
     """Returns what a command costs, which must succeed."""
     begin = time.perf_counter()
-    child = subprocess.Popen(words, stdin=subprocess.DEVNULL, stdout=out, env=environment_of(words))
+    child = subprocess.Popen(words, stdin=subprocess.DEVNULL, stdout=out)
     _, status, used = os.wait4(child.pid, 0)
     child.returncode = os.waitstatus_to_exitcode(status)
     if child.returncode:
@@ -215,7 +210,7 @@ class Server(Running):
         begin = time.perf_counter()
         # (it ends by itself once it has served so many)
         words = command(program_to_run(), self.port, self.file, ["--requests", 4294967295])
-        self.program = subprocess.Popen(words, stdin=subprocess.DEVNULL, stdout=subprocess.PIPE, env=environment())
+        self.program = subprocess.Popen(words, stdin=subprocess.DEVNULL, stdout=subprocess.PIPE)
         said = self.program.stdout.readline()
         self.ready = 1000 * (time.perf_counter() - begin)
         if said.decode() != listening_line(self.port):

@@ -198,23 +198,6 @@ def asked(root, named):
     return program
 
 
-# ---- the environment in which the program is run
-
-
-TUNABLES = "GLIBC_TUNABLES"
-KEPT_PIECES = {"glibc.malloc.tcache_count": 10_000, "glibc.malloc.tcache_max": 128}
-"""How many freed pieces of memory of each size the C library keeps at hand for the next request, up to pieces of so many bytes. By itself it keeps
-seven of each up to 1 KB, but a request of many triples frees thousands at once. All that are kept take 6.4 MB at most, of all eight sizes."""
-
-
-def environment():
-    """Returns the environment in which the program is run: the present one, with `KEPT_PIECES` unless it says anything of these."""
-    present = os.environ.get(TUNABLES, "")
-    if any(name in present for name in KEPT_PIECES):
-        return {**os.environ}
-    return {**os.environ, TUNABLES: ":".join([present] * bool(present) + [f"{name}={value}" for name, value in KEPT_PIECES.items()])}
-
-
 # ---- the form in which programs are compared and packed
 
 
