@@ -19,8 +19,9 @@ is_column table v = list_any (λ w. w == v) table.variables
 abbrev pub is_set : ℕ → Table → ℕ → Bool
 is_set width table v = list_all (λ m. is_some (term_at m v)) (rows_of width table)
 
--- A step that is joined binds it, or each part of a union, or GRAPH its variable, or a table that has no UNDEF for it. What is optional,
--- and what is taken away, binds none, nor does BIND, whose expression may err. Hidden variables are taken away from solutions.
+-- A basic graph pattern binds what stands in it, and GRAPH its variable. A step that is joined binds it, or each part of a union, or a
+-- table that has no UNDEF for it. What is optional, and what is taken away, binds none, nor does BIND, whose expression may err. Hidden
+-- variables are taken away from solutions.
 abbrev pub is_certain_level : ℕ → PatternNode-F (ℕ → Bool) (ℕ → Bool) → ℕ → Bool
 is_certain_level width (Basic pattern) v = nat_lt v width && occurs pattern v
 is_certain_level width (Group steps conditions) v = list_any (λ one. one v) steps

@@ -1,6 +1,6 @@
--- The numbers of variables: those of the text first, by their places in its list; after them the hidden variables of a basic graph
--- pattern, which its blank nodes are (SPARQL 1.1 Query, 4.1.4): those with a label by the first place of the label, and after these
--- those without one, by where they begin in the text.
+-- The numbers of variables (SPARQL 1.1 Query, 4.1.4): first those with a name, by their places among the variables of a query's text, or of
+-- an operation of an update. After them come the hidden variables of a basic graph pattern, which its blank nodes are. Those with a label
+-- have numbers by the first place of the label, and after them those without one by where they begin in the text.
 use Rattle.std.specs.Prelude.{ℕ, ◌+◌, ◌-◌, List, [], ◌∷◌, ◌++◌, length, min, max, Option, Some, None, if◌then◌else◌}
 use Rattle.std.specs.List.{fold}
 use Rattle.qs_syntax_ast.specs.declared.pattern.Triple.{Triple}

@@ -1,4 +1,5 @@
--- Which variables the solutions of a pattern may bind: those that are in scope of it (SPARQL 1.1 Query, 18.2.1).
+-- Which variables the solutions of a pattern may bind (SPARQL 1.1 Query, 18.2.1). Of a text's group they are those in scope, by the law
+-- `qs_algebra_variables::laws::possible_variables_are_in_scope`.
 use Rattle.std.specs.Prelude.{ℕ, Bool, false, ◌&&◌, ◌||◌, ◌==◌, length, nat_lt}
 use Rattle.std.specs.List.{list_any}
 use Rattle.qs_algebra_patterns.specs.Basic.{occurs}
@@ -8,7 +9,8 @@ use Rattle.qs_algebra_patterns.specs.declared.pattern.PatternNode.TheOpen.{Patte
 use Rattle.qs_algebra.specs.Certain.{is_column}
 use Rattle.qs_algebra_patterns.specs.declared.named_pattern.Pattern.{Pattern}
 
--- a step of a group, or a part of a union, may bind it, or GRAPH or BIND its variable, or a table; what is taken away binds none
+-- a step of a group, or a part of a union, may bind it, or GRAPH or BIND its variable, or a table that has a column for it; what is taken
+-- away binds none
 abbrev pub is_possible_level : ℕ → PatternNode-F (ℕ → Bool) (ℕ → Bool) → ℕ → Bool
 is_possible_level width (Basic pattern) v = nat_lt v width && occurs pattern v
 is_possible_level width (Group steps conditions) v = list_any (λ one. one v) steps

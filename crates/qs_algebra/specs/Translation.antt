@@ -1,6 +1,5 @@
--- The pattern of a group (SPARQL 1.1 Query, 18.2.2, simplified as in 18.2.2.8): what its steps make of the empty solution, in the
--- order of the text, as far as its filters hold.
--- The simplification of a single part (SPARQL 1.1 Query, 18.2.2.8) holds for a pattern that is joined alone.
+-- The pattern of a group (SPARQL 1.1 Query, 18.2.2): what its steps make of the empty solution, in the order of the text, as far as its
+-- filters hold. The simplification of a single part (18.2.2.8) holds for a pattern that is joined alone.
 -- `{ OPTIONAL { .. } }` stays a left join of the empty solution.
 use Rattle.std.specs.Prelude.{ℕ, List, [], ◌∷◌, ◌++◌, map, Option, Some, None}
 use Rattle.std.specs.List.{flat_map}
@@ -155,7 +154,7 @@ named variables pattern = record { names = names_of variables; root = pattern }
 abbrev pub translated : Query → Pattern
 translated query = named query.variables (query_pattern query)
 
--- the pattern of a WHERE by itself, with the variables of its text
+-- the pattern of a WHERE by itself, with the variables of its operation
 abbrev pub translated_where : List Variable → Group → Pattern
 translated_where variables group = named variables (group_pattern (names_of variables) group)
 
@@ -168,6 +167,6 @@ in_block names (Some graph) part = in_graph names graph part
 abbrev pub block_step : List Name → QuadBlock → Step
 block_step names b = step.Join (in_block names b.graph (pattern.Basic (basic_pattern names b.triples)))
 
--- the pattern of blocks of triples, each of the default graph or of the graph that it names, with the variables of its text
+-- the pattern of blocks of triples, each of the default graph or of the graph that it names, with the variables of its operation
 abbrev pub translated_blocks : List Variable → List QuadBlock → Pattern
 translated_blocks variables blocks = named variables (unfiltered (map (block_step (names_of variables)) blocks))

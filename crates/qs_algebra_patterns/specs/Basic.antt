@@ -1,8 +1,7 @@
--- The solutions of a basic graph pattern (SPARQL 1.1 Query, 18.3.1): of all maps from the variables of its triples to the terms of the
--- graph those that put each triple into the graph, each once; joined with the solutions of each of its paths (18.4). Its hidden variables
--- are then taken away, and counts stay.
--- No map binds a variable past the last, so a basic graph pattern of it has no solutions. At the end of a path and as the name of
--- a GRAPH such a variable stays unbound.
+-- The solutions of a basic graph pattern (SPARQL 1.1 Query, 18.3.1): the maps that put each of its triples into the graph, each once. They
+-- map the variables of the triples, hidden ones too, to terms of the graph. They are joined with the solutions of each of its paths (18.4).
+-- Hidden variables are then taken away, and counts stay. No map binds a variable past the last, so a basic graph pattern of it has no
+-- solutions. At the end of a path and as the name of a GRAPH such a variable stays unbound.
 use Rattle.std.specs.Prelude.{ℕ, zero, suc, ◌+◌, Bool, false, not, ◌||◌, ◌==◌, List, [], ◌∷◌, map, take, Option, Some, None, if◌then◌else◌, slice_set}
 use Rattle.std.specs.List.{filter, flat_map, fold, list_any, list_all}
 use Rattle.qs_terms.specs.declared.term.Term.{Term}

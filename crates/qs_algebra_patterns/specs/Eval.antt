@@ -58,6 +58,7 @@ in_each width quads v part names =
 abbrev pub rows_of : ℕ → Table → List Solution
 rows_of width table = map (binding width table.variables) table.rows
 
+-- a union is the lists of its parts, one after another
 abbrev pub eval_level : ℕ → List Statement → PatternNode-F Found Stepped → Found
 eval_level width quads (Basic pattern) graph = basic width pattern graph
 eval_level width quads (Group steps conditions) graph = kept conditions (all_steps width graph steps)
@@ -66,6 +67,7 @@ eval_level width quads (Graph name part) graph = in_named quads name part
 eval_level width quads (EachGraph v part) graph = in_each width quads v part (names_of quads)
 eval_level width quads (Values table) graph = rows_of width table
 
+-- the conditions of an optional step are looked at in the merged solution
 abbrev pub step_level : Step-F Found Stepped → Stepped
 step_level (Join part) graph left = of.join left (part graph)
 step_level (LeftJoin part conditions) graph left = of.left_join (all_hold conditions) left (part graph)

@@ -1,3 +1,3 @@
 pub mod Solution
 pub mod Operators
-pub mod Some
+pub mod inner

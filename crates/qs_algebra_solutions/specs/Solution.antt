@@ -34,7 +34,7 @@ compatible_terms None y = true
 compatible_terms (Some x) None = true
 compatible_terms (Some x) (Some y) = same_term x y
 
--- each variable bound in both has the same term
+-- each variable bound in both has the same term; so the integers `"01"` and `"1"` don't meet
 abbrev pub compatible : Solution → Solution → Bool
 compatible [] b = true
 compatible (x ∷ a) [] = true

@@ -25,7 +25,7 @@ term_at terms (suc place) = slice_get terms place
 abbrev pub number_of : List Term → Term → Option ℕ
 number_of terms term = option_map suc (position (same_term term) terms)
 
--- a term has the number
+-- the number is one from 1 to the count of the terms, so that a term has it
 abbrev pub IsInUse : List Term → ℕ → Type 0
 IsInUse terms number = (0 < number) × (number ≤ length terms)
 

@@ -7,7 +7,7 @@ ghost use Rattle.std.specs.Prelude.{◌≡◌, ◌↔◌, ◌<◌, ◌≤◌, �
 ghost use Rattle.std.specs.Option.{option_map};
 ghost use Rattle.qs_terms.specs.Bag.{with_new};
 ghost use Rattle.qs_terms.specs.Term.{same_term};
-ghost use Rattle.qs_expr_values.specs.TermValue.{term_value};
+ghost use Rattle.qs_expr_values.specs.inner.TermValue.{term_value};
 ghost use Rattle.qs_dict.specs.declared.fault.DictFault.TheVariants.{Full, Memory};
 ghost use Rattle.qs_dict.specs.Dict.{IsDictionary, IsInUse, KeepsNumbers, term_at, number_of};
 
@@ -33,7 +33,7 @@ pub struct Dict {
 
 impl Model for Dict {
     ghost use Rattle.std.specs.Prelude.{◌≡◌, map};
-    ghost use Rattle.qs_expr_values.specs.TermValue.{term_value};
+    ghost use Rattle.qs_expr_values.specs.inner.TermValue.{term_value};
     ghost use Rattle.qs_dict.specs.Dict.{Dictionary, IsDictionary};
 
     ghost Value = { Dictionary };

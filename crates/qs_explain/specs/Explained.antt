@@ -1,5 +1,5 @@
--- What the explanation of a text results in: the fault that its query or its update has for the text, or some explanation. No more is said of
--- an explanation than that it is a text.
+-- What the explanation of a text results in: the fault that its query or its update has for the text, or some explanation. No more is said
+-- of an explanation than that it is a text.
 use Rattle.std.specs.Prelude.{◌≡◌, ℕ, List, Ok, Err}
 use Rattle.qs_terms.specs.Outcome.{Outcome}
 use Rattle.qs_syntax_ast.specs.declared.query.Query.{Query}

@@ -5,7 +5,7 @@ use Rattle.qs_terms.specs.declared.term.Term.{Term}
 use Rattle.qs_terms.specs.Term.{same_term}
 use Rattle.std.specs.Option.{option_map}
 use Rattle.std.proofs.lemmas.Option.{same_Some}
-use Rattle.qs_expr_values.specs.TermValue.{term_value}
+use Rattle.qs_expr_values.specs.inner.TermValue.{term_value}
 use Rattle.qs_expr_values.specs.declared.term_value.TermValue.{TermValue}
 use Rattle.qs_dict.specs.Dict as dict
 use Rattle.qs_algebra_solutions.specs.Solution.{term_at}

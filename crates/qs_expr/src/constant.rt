@@ -5,7 +5,7 @@ ghost use Rattle.std.specs.declared.cmp.Ordering.{Ordering as OrderingValue};
 ghost use Rattle.qs_terms.specs.declared.term.Term.{Term as TermValue};
 ghost use Rattle.qs_algebra_solutions.specs.Solution.{Solution, term_at};
 ghost use Rattle.qs_expr_meaning.specs.Meaning as spec;
-ghost use Rattle.qs_expr_values.specs.Value.{seen, term_of};
+ghost use Rattle.qs_expr_values.specs.inner.Value.{seen, term_of};
 ghost use Rattle.qs_expr_values.specs.Values as of_terms;
 ghost use Rattle.qs_expr.specs.inner.Against.{ordered, satisfies, with_constant};
 

@@ -4,7 +4,7 @@ ghost use Rattle.std.specs.Prelude.{◌≡◌, ◌<◌, [], length, slice_get, S
 ghost use Rattle.std.specs.Option.{option_copied};
 ghost use Rattle.qs_terms.specs.Bag.{with_new};
 ghost use Rattle.qs_terms.specs.Term.{same_term};
-ghost use Rattle.qs_expr_values.specs.Value.{term_of};
+ghost use Rattle.qs_expr_values.specs.inner.Value.{term_of};
 ghost use Rattle.qs_dict.specs.Dict.{IsInUse, term_at};
 ghost use Rattle.qs_expr.specs.Cell.{denoted, FitsCell};
 ghost use Rattle.qs_expr.specs.Scratch.{IsTable, Grows, with_term};

@@ -5,7 +5,7 @@ use Rattle.std.specs.Option.{option_copied}
 use Rattle.qs_terms.specs.declared.term.Term.{Term}
 use Rattle.qs_terms.specs.declared.term.Term.TheVariants as rdf
 use Rattle.qs_terms.specs.Literal.{xsd_string, rdf_lang_string}
-use Rattle.qs_expr_values.specs.Value.{term_of, datatype_text}
+use Rattle.qs_expr_values.specs.inner.Value.{term_of, datatype_text}
 use Rattle.qs_expr_values.specs.declared.datatype.Datatype.{Datatype}
 use Rattle.qs_expr_values.specs.Values.{boolean_term}
 use Rattle.qs_expr_values.specs.declared.value.Value.{Value}

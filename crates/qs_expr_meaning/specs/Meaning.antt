@@ -80,11 +80,13 @@ with_sign Minus z = neg_ℤ z
 
 -- ---- forms that choose (17.4.1.2 and 17.4.1.3)
 
+-- IF: the branch that isn't asked counts for nothing, even where it errs
 abbrev pub choice : Option Bool → Value → Value → Value
 choice (Some true) x y = x
 choice (Some false) x y = y
 choice None x y = None
 
+-- COALESCE: the first that is no error; what stands after it isn't asked
 abbrev pub first_value : List Value → Value
 first_value [] = None
 first_value (Some t ∷ xs) = Some t

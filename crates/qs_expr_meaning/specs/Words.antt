@@ -1,4 +1,4 @@
--- What chains of `||` and `&&` say in words (SPARQL 1.1 Query, 17.2).
+-- What chains of `||` and `&&` say in words (SPARQL 1.1 Query, 17.2). That the tables make the same of them is the law `laws::in_words`.
 use Rattle.std.specs.Prelude.{Bool, true, false, List, Option, Some, None, if◌then◌else◌}
 use Rattle.std.specs.List.{list_any}
 use Rattle.std.specs.Option.{is_none}

@@ -3,7 +3,7 @@
 ghost use Rattle.std.specs.Prelude.{◌≡◌, []};
 ghost use Rattle.std.specs.Option.{option_copied, option_map, unwrap_or};
 ghost use Rattle.qs_terms.specs.declared.term.Term.TheVariants as rdf;
-ghost use Rattle.qs_expr_values.specs.Value.{term_of};
+ghost use Rattle.qs_expr_values.specs.inner.Value.{term_of};
 ghost use Rattle.qs_expr_values.specs.Values as of;
 ghost use Rattle.qs_expr_meaning.specs.Calls as spec;
 ghost use Rattle.qs_expr_meaning.specs.Comes.{parts_seen, forms_seen, iri_of, tagged_datatype};

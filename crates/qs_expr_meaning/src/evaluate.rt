@@ -4,7 +4,7 @@ ghost use Rattle.std.specs.Prelude.{◌≡◌, true, map, Some, None, Ok, Err, M
 ghost use Rattle.std.specs.List.{fold};
 ghost use Rattle.std.specs.Option.{option_and_then, option_map};
 ghost use Rattle.qs_expr_values.specs.Number.{in_range};
-ghost use Rattle.qs_expr_values.specs.Value.{term_of};
+ghost use Rattle.qs_expr_values.specs.inner.Value.{term_of};
 ghost use Rattle.qs_expr_values.specs.Values as of_terms;
 ghost use Rattle.qs_expr_values.specs.declared.value.Value.TheVariants as seen;
 ghost use Rattle.qs_expr_meaning.specs.Calls as of_calls;

@@ -2,7 +2,7 @@
 
 ghost use Rattle.std.specs.Prelude.{◌≡◌, None, Some};
 ghost use Rattle.std.specs.Option.{option_map};
-ghost use Rattle.qs_expr_values.specs.Value.{term_of};
+ghost use Rattle.qs_expr_values.specs.inner.Value.{term_of};
 ghost use Rattle.qs_expr_values.specs.Values as of;
 ghost use Rattle.qs_expr_values.specs.Number.{in_range};
 ghost use Rattle.qs_expr_meaning.specs.Calls.{integer_of_worth};

@@ -14,7 +14,7 @@ use Rattle.qs_terms.specs.declared.term.Term.{Term}
 use Rattle.qs_terms.specs.declared.term.Term.TheVariants.{Iri, Blank, Literal}
 use Rattle.qs_expr_values.specs.Number.{whole_number, integer_of}
 use Rattle.qs_expr_values.specs.Values.{Worth, integer, boolean, text, other, integer_or_other, boolean_or_other, boolean_of, worth, is_true, is_not_zero, is_not_empty, ebv}
-use Rattle.qs_expr_values.specs.TermValue.{is_of_64_bits, integer_or_wide, value_of_worth, term_value}
+use Rattle.qs_expr_values.specs.inner.TermValue.{is_of_64_bits, integer_or_wide, value_of_worth, term_value}
 use Rattle.qs_expr_values.specs.declared.term_value.TermValue.{TermValue}
 use Rattle.qs_expr_values.specs.declared.term_value.TermValue.TheVariants as kept
 use Rattle.qs_expr_values.proofs.Numbers.{below, not_zero_in_range}

@@ -24,7 +24,7 @@ abbrev pub whole_number : List ℕ → Option ℤ
 whole_number [] = None
 whole_number (c ∷ cs) = if c == 43 then signed pos cs else (if c == 45 then signed minus cs else signed pos (c ∷ cs))
 
--- the range of integers: that of signed 128 bits. It stands here alone
+-- the range of integers: that of signed 128 bits. It stands here alone; a computed number out of it is an error
 abbrev pub is_in_range : ℤ → Bool
 is_in_range (pos n) = nat_lt n (2 ^ 127)
 is_in_range (negsuc n) = nat_lt n (2 ^ 127)

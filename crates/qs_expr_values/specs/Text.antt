@@ -1,5 +1,6 @@
--- Texts in texts, and language ranges.
--- The empty language range matches the empty tag alone; RFC 4647 has no empty range.
+-- Texts in texts (SPARQL 1.1 Query, 17.4.3, CONTAINS), and language ranges (17.4.3, langMatches; RFC 4647, 3.3.1).
+-- Texts are compared by bytes. By laws of the crate that says the same as by characters, where they are UTF-8, and so it does of a front,
+-- an end and the order of texts. The empty language range matches the empty tag alone; RFC 4647 has no empty range.
 use Rattle.std.specs.Prelude.{ℕ, Bool, false, ◌||◌, List, [], ◌∷◌, ◌++◌, codes, nat_eq}
 use Rattle.std.specs.List.{starts_with}
 use Rattle.std.specs.Str.{bytes_eq}

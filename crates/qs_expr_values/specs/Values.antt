@@ -82,6 +82,8 @@ abbrev pub is_not_empty : List ℕ → Bool
 is_not_empty [] = false
 is_not_empty (c ∷ cs) = true
 
+-- of a boolean its value, of an integer whether it isn't 0, of a string, with a tag or without, whether it isn't empty; else an error; an
+-- ill-formed boolean or integer is false
 abbrev pub ebv_of_literal : List ℕ → List ℕ → Option (List ℕ) → Option Bool
 ebv_of_literal form datatype tag =
     if bytes_eq datatype xsd_boolean then Some (is_true (boolean_of form))
@@ -95,7 +97,7 @@ ebv (Literal l) = ebv_of_literal l.form l.datatype l.tag
 
 -- ---- comparisons (17.3 and 17.4.1.7)
 
--- how two values of one kind stand to each other; false before true, texts by code points
+-- how two values of one kind stand to each other, false before true, texts by code points; an error for all others
 abbrev pub compare : Worth → Worth → Option Ordering
 compare (integer a) (integer b) = Some (int_cmp a b)
 compare (boolean a) (boolean b) = Some (bool_cmp a b)
@@ -115,6 +117,6 @@ abbrev pub by_order : Option Ordering → Option Bool → Option Bool
 by_order (Some o) x = Some (is_eq o)
 by_order None x = x
 
--- `=`
+-- `=`: by value where both have values of one kind, and else as terms
 abbrev pub equal : Term → Term → Option Bool
 equal a b = by_order (compare (worth a) (worth b)) (equal_terms a b)

@@ -2,7 +2,7 @@
 
 ghost use Rattle.std.specs.Prelude.{◌≡◌, IsTrue};
 ghost use Rattle.qs_terms.specs.Iri.{is_iri_text};
-ghost use Rattle.qs_expr_values.specs.Value.{datatype_text};
+ghost use Rattle.qs_expr_values.specs.inner.Value.{datatype_text};
 
 use qs_terms::{Lit, datatype};
 

@@ -3,7 +3,7 @@
 ghost use Rattle.std.specs.Prelude.{◌≡◌, IfOk, OnErr, IsTrue};
 ghost use Rattle.std.specs.Option.{option_copied, option_map};
 ghost use Rattle.qs_expr_values.specs.Sorting as spec;
-ghost use Rattle.qs_expr_values.specs.Value.{term_of, parts_of};
+ghost use Rattle.qs_expr_values.specs.inner.Value.{term_of, parts_of};
 ghost use Rattle.qs_expr_values.specs.Values.{worth};
 
 use crate::same::{Parts, taken_apart};

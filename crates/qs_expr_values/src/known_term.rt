@@ -1,8 +1,8 @@
 //! Terms beside their values.
 
 ghost use Rattle.std.specs.Prelude.{◌≡◌, Some};
-ghost use Rattle.qs_expr_values.specs.TermValue.{term_value};
-ghost use Rattle.qs_expr_values.specs.Value.{seen};
+ghost use Rattle.qs_expr_values.specs.inner.TermValue.{term_value};
+ghost use Rattle.qs_expr_values.specs.inner.Value.{seen};
 ghost use Rattle.qs_expr_values.specs.Values as spec;
 
 use crate::number::is_other_than_zero;
@@ -23,7 +23,7 @@ pub struct KnownTerm<'a> {
 impl<'a> Model for KnownTerm<'a> {
     ghost use Rattle.std.specs.Prelude.{◌≡◌};
     ghost use Rattle.qs_terms.specs.declared.term.Term.{Term};
-    ghost use Rattle.qs_expr_values.specs.TermValue.{term_value};
+    ghost use Rattle.qs_expr_values.specs.inner.TermValue.{term_value};
 
     ghost Value = { Term };
 

@@ -16,7 +16,7 @@ pub fn keys_are_ordered()
 {}
 
 /// Texts in UTF-8 match byte for byte where they match character for character: a match begins and ends where characters do
-/// (SPARQL 1.1 Query, 17.4.3.8 to 17.4.3.10).
+/// (SPARQL 1.1 Query, 17.4.3.6 to 17.4.3.8).
 #[tactic(auto, using(crate::proofs::Characters::contains, crate::proofs::Characters::starts, crate::proofs::Characters::ends))]
 pub fn bytes_match_as_characters()
     ensures contains { (text needle : List ℕ) → IsUtf8 text → IsUtf8 needle → stands_in needle text ≡ stands_in (chars needle) (chars text) }

@@ -6,7 +6,7 @@ ghost use Rattle.qs_terms.specs.Tag.{is_tag, lowered};
 ghost use Rattle.qs_terms.specs.declared.fault.TermFault.TheVariants.{Memory};
 ghost use Rattle.qs_terms.specs.declared.term.Term.TheVariants as rdf;
 ghost use Rattle.qs_expr_values.specs.Values as spec;
-ghost use Rattle.qs_expr_values.specs.Value.{term_of, datatype_text};
+ghost use Rattle.qs_expr_values.specs.inner.Value.{term_of, datatype_text};
 
 use crate::datatype::Datatype;
 use crate::value::{Value, boolean_form};

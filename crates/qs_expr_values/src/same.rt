@@ -4,7 +4,7 @@ ghost use Rattle.std.specs.Prelude.{◌≡◌};
 ghost use Rattle.std.specs.Option.{option_copied};
 ghost use Rattle.qs_terms.specs.Term.{same_tag, same_term};
 ghost use Rattle.qs_expr_values.specs.Values.{strung};
-ghost use Rattle.qs_expr_values.specs.Value.{term_of, parts_of};
+ghost use Rattle.qs_expr_values.specs.inner.Value.{term_of, parts_of};
 
 use crate::value::{Value, boolean_form};
 use itoa::Buffer;

@@ -1,8 +1,8 @@
 //! Values of terms as a table keeps them.
 
 ghost use Rattle.std.specs.Prelude.{◌≡◌};
-ghost use Rattle.qs_expr_values.specs.TermValue as spec;
-ghost use Rattle.qs_expr_values.specs.Value.{seen};
+ghost use Rattle.qs_expr_values.specs.inner.TermValue as spec;
+ghost use Rattle.qs_expr_values.specs.inner.Value.{seen};
 
 use crate::worth::{Worth, worth_of_term};
 use qs_terms::Term;

@@ -15,21 +15,21 @@ fn stands_in(needle: &[u8], text: &[u8]) -> bool
     memmem::find(text, needle).is_some()
 }
 
-/// Whether the needle stands in the text (SPARQL 1.1 Query, 17.4.3.10).
+/// Whether the needle stands in the text (SPARQL 1.1 Query, 17.4.3.8).
 pub fn contains(text: &str, needle: &str) -> bool
     ensures { result ≡ spec.stands_in needle.now text.now }
 {
     stands_in(needle.as_bytes(), text.as_bytes())
 }
 
-/// Whether the text begins with the front (SPARQL 1.1 Query, 17.4.3.8).
+/// Whether the text begins with the front (SPARQL 1.1 Query, 17.4.3.6).
 pub fn starts(text: &str, front: &str) -> bool
     ensures { result ≡ starts_with nat_eq text.now front.now }
 {
     text.starts_with(front)
 }
 
-/// Whether the text ends with the end (SPARQL 1.1 Query, 17.4.3.9).
+/// Whether the text ends with the end (SPARQL 1.1 Query, 17.4.3.7).
 pub fn ends(text: &str, end: &str) -> bool
     ensures { result ≡ ends_with nat_eq text.now end.now }
 {

@@ -3,7 +3,7 @@
 ghost use Rattle.std.specs.Prelude.{◌≡◌};
 ghost use Rattle.qs_terms.specs.declared.term.Term.TheVariants as rdf;
 ghost use Rattle.qs_expr_values.specs.Values as spec;
-ghost use Rattle.qs_expr_values.specs.Value.{term_of, seen};
+ghost use Rattle.qs_expr_values.specs.inner.Value.{term_of, seen};
 
 use crate::number::integer_of;
 use crate::value::Value;

@@ -5,7 +5,7 @@ use Rattle.std.proofs.lemmas.Bool.{cond-true, cond-false, true≢false}
 use Rattle.qs_http.specs.declared.head_end.HeadState.{HeadState}
 use Rattle.qs_http.specs.declared.head_end.HeadState.TheVariants.{Leading, Line, Feed, FeedReturn}
 use Rattle.qs_http.specs.HeadEnd.{later, is_line_break, leading, without_leading, begins_with_feed, begins_with_return_feed, end_of_head, head_limit, head_end}
-use Rattle.qs_http.specs.HeadState.{place_after, ends_head, end_from, place_from}
+use Rattle.qs_http.specs.inner.HeadState.{place_after, ends_head, end_from, place_from}
 
 pub later-zero : (o : Option ℕ) → later 0 o ≡ o
 later-zero None = refl

@@ -12,7 +12,7 @@ use Rattle.qs_http.specs.declared.fixed_reply.Fixed.TheVariants.{HeadTooLarge, B
 use Rattle.qs_http.specs.declared.request.Request.{Request}
 use Rattle.qs_http.specs.Outcome.{Outcome, More, Ready, Refused}
 use Rattle.qs_http.specs.HeadEnd.{later, head_end, head_limit, without_leading, leading}
-use Rattle.qs_http.specs.HeadState.{place_after, ends_head, end_from, place_from}
+use Rattle.qs_http.specs.inner.HeadState.{place_after, ends_head, end_from, place_from}
 use Rattle.qs_http.specs.Head.{Head, is_get, is_post, at_query, at_update, at_data, body_length}
 use Rattle.qs_http.specs.Checks.{first_due, head_checks, lacks_host, is_unknown_path, query_method_not_allowed, update_method_not_allowed, data_method_not_allowed, lacks_length, has_bad_length, has_long_body}
 use Rattle.qs_http.specs.RequestOf.{IsReading, ReadsHead, outcome_at, of_reading, of_sound_head, of_body, unless_due, IsRequestOf}

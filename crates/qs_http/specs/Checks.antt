@@ -1,4 +1,5 @@
--- The checks of a head that was parsed, in their order.
+-- The checks of a head that was parsed, in their order: Host, the path, the method, the body's length, its media type. The parameters are
+-- checked after these.
 use Rattle.std.specs.Prelude.{Bool, ◌&&◌, ◌||◌, not, ◌==◌, nat_lt, if◌then◌else◌, List, [], ◌∷◌, length, codes, Option, None, Some}
 use Rattle.qs_http.specs.declared.fixed_reply.Fixed.{Fixed}
 use Rattle.qs_http.specs.declared.fixed_reply.Fixed.TheVariants.{BadRequest, NotFound, QueryMethod, UpdateMethod, DataMethod, NoLength, BodyTooLarge, MediaType}

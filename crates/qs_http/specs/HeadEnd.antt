@@ -1,4 +1,5 @@
--- Where the head of a request ends, among the bytes that a connection brought (RFC 9112, 2.1 and 2.2).
+-- Where the head of a request ends, among the bytes that a connection brought (RFC 9112, 2.1 and 2.2). Line ends before the head are passed
+-- over.
 use Rattle.std.specs.Prelude.{ℕ, ◌+◌, Bool, false, ◌&&◌, ◌||◌, not, ◌==◌, if◌then◌else◌, List, [], ◌∷◌, take, drop, Option, None, Some}
 use Rattle.std.specs.List.{position_or_len}
 

@@ -1,5 +1,4 @@
 pub mod HeadEnd
-pub mod HeadState
 pub mod Outcome
 pub mod Head
 pub mod Checks

@@ -1,4 +1,4 @@
--- The parameters of a request: the pairs of a form, as `form_urlencoded` reads them (URL Standard, 5.1).
+-- The parameters of a request (SPARQL 1.1 Protocol, 2): the pairs of a form, as `form_urlencoded` reads them (URL Standard, 5.1).
 use Rattle.std.specs.Prelude.{ℕ, Bool, ◌||◌, if◌then◌else◌, List, [], ◌∷◌, map, filter, codes, Option, None, Some}
 use Rattle.std.specs.List.{list_any}
 use Rattle.std.specs.Str.{bytes_eq}

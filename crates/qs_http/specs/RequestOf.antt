@@ -1,5 +1,5 @@
--- The request that a connection's joined bytes ask, by six checks in their order; the first that fails decides the reply:
--- the head's length, its grammar, its path, its method, its body's length and media type, its parameters.
+-- The request that a connection's joined bytes ask (RFC 9112, 2 to 6; SPARQL 1.1 Protocol, 2), by six checks in their order. The first that
+-- fails decides the reply: the head's length, its grammar and Host, its path, its method, its body's length and media type, its parameters.
 use Rattle.std.specs.Prelude.{◌≡◌, ℕ, ◌≤◌, ◌<◌, not, ◌&&◌, nat_lt, nat_le, if◌then◌else◌, List, [], length, take, drop, codes, Option, None, Some}
 use Rattle.std.specs.Str.{is_utf8}
 use Rattle.httparse.specs.Grammar.{RequestHead, ReadsRequest}
@@ -12,7 +12,7 @@ use Rattle.qs_http.specs.Head.{Head, plain_head, is_get, at_query, at_data, is_f
 use Rattle.qs_http.specs.Checks.{first_due, head_checks}
 use Rattle.qs_http.specs.Parameters.{of_pairs, has_graph}
 
--- how the parser's grammar reads the bytes, whole, with room for 64 fields
+-- how the grammar of the parser, `httparse`, reads the bytes, whole, with room for 64 fields
 abbrev pub IsReading : List ℕ → Option Head → Type 0
 IsReading bytes (Some head) =
     (h : RequestHead) × ReadsRequest bytes h [] × (length h.fields ≤ 64) × (head ≡ plain_head h)

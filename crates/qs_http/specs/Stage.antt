@@ -14,7 +14,7 @@ use Rattle.qs_http.specs.declared.session.Progress.{Progress}
 use Rattle.qs_http.specs.declared.session.Progress.TheVariants as progress
 use Rattle.qs_http.specs.Outcome.{Outcome, More, Ready, Refused}
 use Rattle.qs_http.specs.HeadEnd.{head_end, head_limit, without_leading}
-use Rattle.qs_http.specs.HeadState.{place_from}
+use Rattle.qs_http.specs.inner.HeadState.{place_from}
 use Rattle.qs_http.specs.Head.{Head, is_get, body_length}
 use Rattle.qs_http.specs.Checks.{first_due, head_checks}
 use Rattle.qs_http.specs.RequestOf.{of_reading, IsReading, IsRequestOf}

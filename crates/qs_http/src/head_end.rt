@@ -4,7 +4,7 @@
 //! that comes in the same piece doesn't help.
 
 ghost use Rattle.std.specs.Prelude.{◌≡◌, IsNone};
-ghost use Rattle.qs_http.specs.HeadState.{place_after, ends_head, end_from, place_from};
+ghost use Rattle.qs_http.specs.inner.HeadState.{place_after, ends_head, end_from, place_from};
 
 /// What stands directly before the next byte of a request's head.
 #[derive(Clone, Copy, Debug, PartialEq, Eq)]

@@ -25,5 +25,5 @@ pub mod Filled
 pub mod Prefixes
 pub mod ScanSteps
 pub mod Seeking
-pub mod Passing
+pub mod Skipping
 pub mod Led

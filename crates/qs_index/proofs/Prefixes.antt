@@ -1,14 +1,14 @@
 -- Prefixes that are filled up, and what a whole one leaves.
-use Rattle.std.proofs.Common.{◌≡◌, ℕ, ◌+◌, ◌<◌, zero, suc, Bool, true, false, cond, ltb, eqb, List, [], ◌∷◌, length, get_or, take, drop, refl, ap, sym, ◌∙◌, subst, arith}
+use Rattle.std.proofs.Common.{◌≡◌, ℕ, ◌+◌, ◌-◌, ◌<◌, ◌≤◌, zero, suc, Bool, true, false, cond, ltb, eqb, ◌||◌, List, [], ◌∷◌, ◌++◌, length, get_or, set, take, drop, refl, ap, sym, ◌∙◌, subst, arith}
 use Rattle.std.specs.List.{Contains}
 use Rattle.std.proofs.lemmas.Bool.{false≢true, eqb-true}
 use Rattle.std.proofs.lemmas.Bool.Decides.{nat_tests}
-use Rattle.std.proofs.lemmas.List.{take-append-drop}
+use Rattle.std.proofs.lemmas.List.{take-append-drop, take_more, take_more_set}
 use Rattle.std.proofs.lemmas.List.Elements.{Contains-append_right}
 use Rattle.qs_index.specs.Entries.{HaveFour}
 use Rattle.qs_index.specs.Entry.{is_before, begins, run_of, IsAscending}
 use Rattle.qs_index.specs.Layout.{joined, page_at, rest_at}
-use Rattle.qs_index.specs.Prefix.{AreZeros}
+use Rattle.qs_index.specs.inner.Prefix.{AreZeros, IsAfter}
 use Rattle.qs_index.proofs.EntryEdits.{not_before_itself}
 use Rattle.qs_index.proofs.Members.{here, there}
 use Rattle.qs_index.proofs.Places.{joined_drop, rest_more, IsAscending-drop, IsAscending-pages}
@@ -62,3 +62,35 @@ pub whole_ends : (p : List ℕ) (pages : List (List (List ℕ))) (m k : ℕ) →
 whole_ends p pages m k n h l u all b =
     let more = rest_more pages m k h l in
     run_ends p (get_or (page_at pages m) k []) (rest_at pages m (k + 1)) n (subst IsAscending more (IsAscending-drop k (joined (drop m pages)) (IsAscending-pages pages m u))) (subst HaveFour more (HaveFour-rest pages m k all)) b
+
+-- ---- the prefix after all entries that begin with another one
+
+before_by_tests : (less same b f g : Bool) → b ≡ (f || g) → cond less true (cond same b false) ≡ (cond less true (cond same f false) || cond same g false)
+before_by_tests true same b f g h = refl
+before_by_tests false true b f g h = h
+before_by_tests false false b f g h = refl
+
+before_raised : (a n : ℕ) → cond (ltb a (n + 1)) true false ≡ (cond (ltb a n) true false || cond (eqb a n) true false)
+before_raised a n = grind (arith, nat_tests)
+
+nothing_else : (b : Bool) → cond b false false ≡ false
+nothing_else true = refl
+nothing_else false = refl
+
+raised_after : (p : List ℕ) (n : ℕ) (x : List ℕ) → is_before x (p ++ (n + 1) ∷ []) ≡ (is_before x (p ++ n ∷ []) || begins (p ++ n ∷ []) x)
+raised_after [] n [] = refl
+raised_after [] n (a ∷ x) = rw (nothing_else (eqb a (n + 1)), nothing_else (eqb a n)) (before_raised a n)
+raised_after (q ∷ p) n [] = refl
+raised_after (q ∷ p) n (a ∷ x) = before_by_tests (ltb a q) (eqb a q) _ _ _ (raised_after p n x)
+
+-- some numbers, the last of them raised by one
+pub after_last : (xs : List ℕ) (given n : ℕ) → 0 < given → given ≤ length xs → n ≡ get_or xs (given - 1) 0 + 1 → IsAfter (take given xs) (take given (set xs (given - 1) n))
+after_last xs given n h l s =
+    let k = given - 1 in
+    let e : k + 1 ≡ given = omega arith in
+    let own = take_more xs k 0 (omega arith) in
+    let new = take_more_set xs k n (omega arith) in
+    let parts : IsAfter (take k xs ++ get_or xs k 0 ∷ []) (take k xs ++ n ∷ []) =
+    subst (λ m. IsAfter (take k xs ++ get_or xs k 0 ∷ []) (take k xs ++ m ∷ [])) (sym s) (raised_after (take k xs) (get_or xs k 0)) in
+    subst (λ m. IsAfter (take m xs) (take m (set xs k n))) e
+    (subst (λ r. IsAfter r (take (k + 1) (set xs k n))) (sym own) (subst (IsAfter (take k xs ++ get_or xs k 0 ∷ [])) (sym new) parts))

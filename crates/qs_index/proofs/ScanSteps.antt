@@ -1,10 +1,10 @@
--- What holds of a scan when it begins.
+-- What holds of a scan when it begins, and when it goes on after a skip.
 use Rattle.std.proofs.Common.{◌≡◌, ℕ, ◌+◌, ◌*◌, ◌<◌, ◌≤◌, Bool, true, false, cond, List, [], ◌∷◌, length, drop, length-drop, Option, Some, None, ap, sym, ◌∙◌, arith}
 use Rattle.qs_index.specs.Digits.{digits}
 use Rattle.qs_index.specs.Entries.{HaveFour}
 use Rattle.qs_index.specs.Entry.{begins, beginning, run_of, skip_before, IsAscending}
 use Rattle.qs_index.specs.Layout.{joined, page_at, rest_at, HasPageSizes}
-use Rattle.qs_index.specs.OrderScan.{left_from, IsSound, waiting, IsHead}
+use Rattle.qs_index.specs.inner.OrderScan.{left_from, IsSound, waiting, IsHead}
 use Rattle.qs_index.specs.inner.PagePosition.{IsFound}
 use Rattle.qs_index.proofs.Ascending.{beginning_is_run}
 use Rattle.qs_index.proofs.Places.{joined_drop, rest_end}
@@ -34,21 +34,35 @@ left_few pages p m k =
     let later = ap length (sym (joined_drop pages m)) ∙ length-drop _ (joined pages) in
     omega (arith, few, some, later)
 
-pub sound_begin : (pages : List (List (List ℕ))) (p : List ℕ) (m k looked : ℕ) (head : Option (List ℕ)) → HasPageSizes pages → IsAscending (joined pages) → HaveFour (joined pages) → (m < length pages → k < length (page_at pages m)) → IsHead pages m k head → waiting head ≤ looked → looked ≤ 2 * digits (length (joined pages)) + 2 → (m < length pages → waiting head ≡ 1) → IsSound pages p (length (left_from pages p m k)) m k head looked
-sound_begin pages p m k looked head sizes u all w hd few most one =
+pub waiting_few : (head : Option (List ℕ)) → waiting head ≤ 1
+waiting_few None = omega arith
+waiting_few (Some entry) = omega arith
+
+pub sound_begin : (pages : List (List (List ℕ))) (p : List ℕ) (m k looked : ℕ) (head : Option (List ℕ)) → HasPageSizes pages → IsAscending (joined pages) → HaveFour (joined pages) → (m < length pages → k < length (page_at pages m)) → IsHead pages m k head → waiting head ≤ looked → looked ≤ 2 * digits (length (joined pages)) + 2 → (m < length pages → waiting head ≡ 1) → IsSound pages p m k head 0 0 looked
+sound_begin pages p m k looked head sizes u all w hd some few one =
+    let left = left_few pages p m k in
     record {
       sizes = sizes;
       ascending = u;
       entries = all;
       within = w;
       head_is = hd;
-      most = left_few pages p m k;
-      left = omega arith;
-      few = omega arith;
+      most = omega (arith, left);
       enough = omega arith;
+      few = omega arith;
       going = λ l. omega (arith, one l);
     }
 
-pub waiting_few : (head : Option (List ℕ)) → waiting head ≤ 1
-waiting_few None = omega arith
-waiting_few (Some entry) = omega arith
+-- a search has led to a later place, and has skipped one entry at least
+pub sound_skipped : (pages : List (List (List ℕ))) (p : List ℕ) (m k n j handed skips looked more : ℕ) (head next : Option (List ℕ)) → IsSound pages p m k head handed skips looked → (n < length pages → j < length (page_at pages n)) → IsHead pages n j next → length (left_from pages p n j) + 1 ≤ length (left_from pages p m k) → looked + 1 ≤ more → more ≤ looked + 1 + 2 * digits (length (joined pages)) → (n < length pages → waiting next ≡ 1) → IsSound pages p n j next handed (skips + 1) more
+sound_skipped pages p m k n j handed skips looked more head next s w hd less some few one = record {
+  sizes = s.sizes;
+  ascending = s.ascending;
+  entries = s.entries;
+  within = w;
+  head_is = hd;
+  most = omega (arith, s.most);
+  enough = omega (arith, s.enough, waiting_few next);
+  few = omega (arith, s.few);
+  going = λ l. omega (arith, s.few, one l);
+}

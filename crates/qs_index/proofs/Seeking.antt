@@ -1,14 +1,14 @@
 -- What is left of a scan that goes on at a later entry.
-use Rattle.std.proofs.Common.{◌≡◌, ℕ, ◌+◌, ◌<◌, Bool, true, false, cond, List, [], ◌∷◌, length, get_or, refl, ap, sym, ◌∙◌, subst, ⊎_elim, arith}
+use Rattle.std.proofs.Common.{◌≡◌, ℕ, ◌+◌, ◌<◌, ◌≤◌, Bool, true, false, cond, List, [], ◌∷◌, length, get_or, refl, ap, sym, ◌∙◌, subst, ⊎_elim, arith}
 use Rattle.std.specs.List.{Contains}
-use Rattle.std.proofs.lemmas.Bool.{false≢true}
+use Rattle.std.proofs.lemmas.Bool.{false≢true, cases_lt}
 use Rattle.qs_index.specs.Entries.{HaveFour}
 use Rattle.qs_index.specs.Entry.{is_before, begins, run_of, skip_before, IsBeforeAll, IsAscending}
 use Rattle.qs_index.specs.Layout.{joined, page_at, rest_at}
-use Rattle.qs_index.specs.OrderScan.{left_from}
+use Rattle.qs_index.specs.inner.OrderScan.{left_from, StartsBefore}
 use Rattle.qs_index.proofs.Ascending.{not_begins_before, not_before_later, not_begins_later}
 use Rattle.qs_index.proofs.Members.{head_or_tail, here, there}
-use Rattle.qs_index.proofs.Places.{IsAscending-drop, IsAscending-pages, rest_more, skip_place}
+use Rattle.qs_index.proofs.Places.{IsAscending-drop, IsAscending-pages, rest_end, rest_more, skip_place}
 use Rattle.qs_index.proofs.Prefixes.{HaveFour-rest}
 
 -- ---- the run of a prefix
@@ -93,3 +93,46 @@ seek_left pages p to m k u h l b t =
 
 pub seek_none : (pages : List (List (List ℕ))) (p to : List ℕ) (m k : ℕ) → IsAscending (joined pages) → m < length pages → k < length (page_at pages m) → begins p (get_or (page_at pages m) k []) ≡ true → is_before (get_or (page_at pages m) k []) to ≡ true → skip_before to (joined pages) ≡ [] → [] ≡ skip_before to (left_from pages p m k)
 seek_none pages p to m k u h l b t n = sym (ap (run_of p) n) ∙ seek_left pages p to m k u h l b t
+
+-- ---- the next entry
+
+-- the next entry of a scan at this place is before another one
+pub record StandsBefore (pages : List (List (List ℕ))) (p to : List ℕ) (m k : ℕ) : Type 0 where
+  pub page_in : m < length pages
+  pub at_in : k < length (page_at pages m)
+  pub begun : begins p (get_or (page_at pages m) k []) ≡ true
+  pub before : is_before (get_or (page_at pages m) k []) to ≡ true
+
+starts_parts : (p to e : List ℕ) (later : List (List ℕ)) → StartsBefore to (run_of p (e ∷ later)) → (begins p e ≡ true) × (is_before e to ≡ true)
+starts_parts p to e later h = at_test (begins p e) refl h
+  where
+    at_test : (b : Bool) → begins p e ≡ b → StartsBefore to (cond b (e ∷ run_of p later) []) → (begins p e ≡ true) × (is_before e to ≡ true)
+    at_test true s h = (s, h)
+    at_test false s h = absurd h
+
+pub stands_before : (pages : List (List (List ℕ))) (p to : List ℕ) (m k : ℕ) → (m < length pages → k < length (page_at pages m)) → StartsBefore to (left_from pages p m k) → StandsBefore pages p to m k
+stands_before pages p to m k w h = ⊎_elim inside outside (cases_lt m (length pages))
+  where
+    inside : m < length pages → StandsBefore pages p to m k
+    inside l =
+        let parts = starts_parts p to (get_or (page_at pages m) k []) (rest_at pages m (k + 1)) (subst (λ r. StartsBefore to (run_of p r)) (rest_more pages m k l (w l)) h) in
+        record { page_in = l; at_in = w l; begun = parts.0; before = parts.1 }
+
+    outside : length pages ≤ m → StandsBefore pages p to m k
+    outside l = absurd (subst (λ r. StartsBefore to (run_of p r)) (rest_end pages m k l) h)
+
+-- it is skipped, as all up to the other one are
+skip_few : (to : List ℕ) (xs : List (List ℕ)) → length (skip_before to xs) ≤ length xs
+skip_few to [] = omega arith
+skip_few to (x ∷ xs) = at_test (is_before x to) (skip_few to xs)
+  where
+    at_test : (b : Bool) → length (skip_before to xs) ≤ length xs → length (cond b (skip_before to xs) (x ∷ xs)) ≤ length (x ∷ xs)
+    at_test true h = omega arith
+    at_test false h = omega arith
+
+skip_some : (to : List ℕ) (xs : List (List ℕ)) → StartsBefore to xs → length (skip_before to xs) + 1 ≤ length xs
+skip_some to [] h = absurd h
+skip_some to (x ∷ xs) h = rw h (omega (arith, skip_few to xs))
+
+pub fewer_left : (to : List ℕ) (xs ys : List (List ℕ)) → ys ≡ skip_before to xs → StartsBefore to xs → length ys + 1 ≤ length xs
+fewer_left to xs ys e h = subst (λ r. length r + 1 ≤ length xs) (sym e) (skip_some to xs h)

@@ -1,3 +1,4 @@
+-- The entries that agree with what a scan gives: those of a graph, or of all named graphs.
 use Rattle.std.specs.Prelude.{ℕ, Bool, true, false, ◌==◌, ◌&&◌, List, [], ◌∷◌, Option, Some, None}
 use Rattle.std.specs.List.{filter}
 use Rattle.qs_index.specs.Graph.{named_entries}

@@ -1,3 +1,4 @@
+-- Sets of entries, each seen as its ascending list, so that equal lists are equal sets.
 use Rattle.std.specs.Prelude.{ℕ, ◌⊎◌, ◌≡◌, List, length}
 use Rattle.std.specs.List.{Contains}
 use Rattle.qs_index.specs.Entry.{IsAscending}

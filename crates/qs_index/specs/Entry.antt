@@ -1,3 +1,4 @@
+-- Entries: quads by the numbers of their terms, and their order. Graph 0 is the default graph.
 use Rattle.std.specs.Prelude.{◌≡◌, ℕ, ◌+◌, ◌*◌, ◌<◌, ◌^◌, Bool, true, false, cond, nat_lt, ◌==◌, List, [], ◌∷◌, ◌++◌, drop, length, ◌≢◌, slice_index_or}
 use Rattle.std.specs.List.{All, filter}
 

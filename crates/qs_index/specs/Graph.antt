@@ -1,3 +1,4 @@
+-- The graphs of entries, and the entries of named graphs.
 use Rattle.std.specs.Prelude.{◌≡◌, ℕ, ◌<◌, ◌≤◌, Bool, not, ◌==◌, List, slice_index}
 use Rattle.std.specs.List.{All, Contains, filter}
 

@@ -1,3 +1,4 @@
+-- The index: one set of entries in several orders, seen as its ascending list.
 use Rattle.std.specs.Prelude.{ℕ, List, min}
 use Rattle.std.specs.List.{Contains}
 use Rattle.qs_index.specs.Entry.{IsEntry}

@@ -1,3 +1,4 @@
+-- How an order lies in pages, and for how many inserts the pages set aside suffice.
 use Rattle.std.specs.Prelude.{min, ℕ, ◌+◌, ◌<◌, ◌≤◌, ◌≡◌, ◌-◌, ◌*◌, List, [], ◌∷◌, ◌++◌, length, drop, take, slice_index_or}
 use Rattle.std.specs.List.{All}
 
@@ -53,8 +54,8 @@ abbrev pub over : List (List (List ℕ)) → ℕ
 over [] = 0
 over (page ∷ pages) = (length page - 128) + over pages
 
--- what holds of the pages in use, those set aside, the room of the two lists, and the count of entries above the halves: a page that changes
--- sides finds room
+-- what holds of the pages in use, those set aside, the room of the two lists, and the count of entries above the halves: a page that
+-- changes sides finds room
 pub record IsInOrder (pages spares : List (List (List ℕ))) (room spare_room above_half : ℕ) : Type 0 where
   pub sizes : HasPageSizes pages
   pub empty : All (λ page. page ≡ []) spares

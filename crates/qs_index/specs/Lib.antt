@@ -2,12 +2,8 @@ pub mod Digits
 pub mod Layout
 pub mod Entry
 pub mod Entries
-pub mod Prefix
 pub mod Scan
-pub mod OrderScan
 pub mod Permutation
-pub mod Lead
-pub mod Passed
 pub mod Graph
 pub mod Agreeing
 pub mod OrderOf

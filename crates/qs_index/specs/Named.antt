@@ -1,3 +1,4 @@
+-- The orders of the named graphs, SPOG, POSG and OSPG, which have the entries of these alone.
 use Rattle.std.specs.Prelude.{ℕ, List}
 use Rattle.qs_index.specs.Graph.{named_entries}
 use Rattle.qs_index.specs.OrderOf.{IsOrderOf}

@@ -1,3 +1,4 @@
+-- Orders of a set: its entries with their places in the order of a permutation, ascending.
 use Rattle.std.specs.Prelude.{ℕ, List}
 use Rattle.std.specs.List.{Contains}
 use Rattle.qs_index.specs.Entry.{IsAscending}

@@ -3,3 +3,8 @@ pub mod PageBlocks
 pub mod PagePosition
 pub mod Leaving
 pub mod Extending
+pub mod Prefix
+pub mod OrderScan
+pub mod Depth
+pub mod Lead
+pub mod Skipped

@@ -12,7 +12,7 @@ ghost use Rattle.qs_index.specs.Agreeing.{agreeing, agreeing_named};
 ghost use Rattle.qs_index.specs.Entries.{IsUnion, IsDifference};
 ghost use Rattle.qs_index.specs.Entry.{IsEntry, IsAscending, with_entry, without_entry};
 ghost use Rattle.qs_index.specs.Graph.{graph_of, is_named, named_entries, IsNextGraph};
-ghost use Rattle.qs_index.specs.Lead.{order_led, named_order_led};
+ghost use Rattle.qs_index.specs.inner.Lead.{order_with_lead, named_order_with_lead};
 ghost use Rattle.qs_index.specs.Index.{IndexState, IsOneSet, spare_of};
 ghost use Rattle.qs_index.specs.Named.{held_by};
 ghost use Rattle.qs_index.specs.OrderOf.{IsOrderOf};
@@ -293,6 +293,7 @@ impl Index {
         ensures each { (x : List ℕ) → Contains self.now.entries x → IsEntry x }
         ensures ascending { IsAscending self.now.entries }
         ensures handed { result.handed ≡ 0 }
+        ensures skips { result.skips ≡ 0 }
         ensures size { result.size ≡ length self.now.entries }
     {
         let order = &self.gspo;
@@ -328,6 +329,7 @@ impl Index {
         ensures agreeing { IsPermutation (agreeing graph subject predicate object self.now.entries) result.rest }
         ensures ascending { IsAscending (map (turned (order_used subject predicate object)) result.rest) }
         ensures handed { result.handed ≡ 0 }
+        ensures skips { result.skips ≡ 0 }
         ensures size { result.size ≡ length self.now.entries }
     {
         self.scan_from(NOWHERE, graph, subject, predicate, object)
@@ -347,6 +349,7 @@ impl Index {
         ensures agreeing { IsPermutation (agreeing graph subject predicate object self.now.entries) result.rest }
         ensures ascending { IsAscending (map (turned (order_used subject predicate object)) result.rest) }
         ensures handed { result.handed ≡ 0 }
+        ensures skips { result.skips ≡ 0 }
         ensures size { result.size ≡ length self.now.entries }
     {
         let lookup = Lookup::new(graph, subject, predicate, object);
@@ -369,6 +372,7 @@ impl Index {
         ensures agreeing { IsPermutation (agreeing_named subject predicate object self.now.entries) result.rest }
         ensures ascending { IsAscending (map (turned (named_order_used subject predicate object)) result.rest) }
         ensures handed { result.handed ≡ 0 }
+        ensures skips { result.skips ≡ 0 }
         ensures size { result.size ≡ length (named_entries self.now.entries) }
     {
         self.scan_named_from(NOWHERE, subject, predicate, object)
@@ -387,6 +391,7 @@ impl Index {
         ensures agreeing { IsPermutation (agreeing_named subject predicate object self.now.entries) result.rest }
         ensures ascending { IsAscending (map (turned (named_order_used subject predicate object)) result.rest) }
         ensures handed { result.handed ≡ 0 }
+        ensures skips { result.skips ≡ 0 }
         ensures size { result.size ≡ length (named_entries self.now.entries) }
     {
         let lookup = Lookup::of_named(subject, predicate, object);
@@ -398,7 +403,7 @@ impl Index {
     }
 
     /// The entries that `scan` gives. Where no place is given they ascend in the order that has this place in front: GSPO, GPOS or GOSP.
-    pub fn scan_led(
+    pub fn scan_with_lead(
         &self,
         lead: Lead,
         graph: u32,
@@ -407,8 +412,9 @@ impl Index {
         object: Option<u32>,
     ) -> Scan<'_>
         ensures agreeing { IsPermutation (agreeing graph subject predicate object self.now.entries) result.rest }
-        ensures ascending { IsAscending (map (turned (order_led subject predicate object lead)) result.rest) }
+        ensures ascending { IsAscending (map (turned (order_with_lead subject predicate object lead)) result.rest) }
         ensures handed { result.handed ≡ 0 }
+        ensures skips { result.skips ≡ 0 }
         ensures size { result.size ≡ length self.now.entries }
     {
         let lookup = Lookup::with_lead(lead, graph, subject, predicate, object);
@@ -420,7 +426,7 @@ impl Index {
     }
 
     /// The entries that `scan_named` gives. Where no place is given they ascend in the order that has this place in front: SPOG, POSG or OSPG.
-    pub fn scan_named_led(
+    pub fn scan_named_with_lead(
         &self,
         lead: Lead,
         subject: Option<u32>,
@@ -428,8 +434,9 @@ impl Index {
         object: Option<u32>,
     ) -> Scan<'_>
         ensures agreeing { IsPermutation (agreeing_named subject predicate object self.now.entries) result.rest }
-        ensures ascending { IsAscending (map (turned (named_order_led subject predicate object lead)) result.rest) }
+        ensures ascending { IsAscending (map (turned (named_order_with_lead subject predicate object lead)) result.rest) }
         ensures handed { result.handed ≡ 0 }
+        ensures skips { result.skips ≡ 0 }
         ensures size { result.size ≡ length (named_entries self.now.entries) }
     {
         let lookup = Lookup::named_with_lead(lead, subject, predicate, object);

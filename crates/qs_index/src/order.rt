@@ -483,6 +483,7 @@ impl Order {
         requires { given ≤ 4 }
         ensures rest { result.rest ≡ beginning (take given prefix) self.now.entries }
         ensures handed { result.handed ≡ 0 }
+        ensures skips { result.skips ≡ 0 }
         ensures size { result.size ≡ length self.now.entries }
         ensures ascending { IsAscending self.now.entries }
     {

@@ -1,20 +1,20 @@
 //! A scan of one order.
 //!
-//! How many entries were given is a part of a scan's value that each step raises by one, beside those that are left. So no body
-//! can loosen the bound on looks by changing what the scan asks for.
-ghost use Rattle.std.specs.Prelude.{◌≡◌, ℕ, ◌+◌, ◌*◌, ◌^◌, ◌<◌, ◌≤◌, List, [], ◌∷◌, length, drop, true, slice_index_or};
+//! How many entries were handed out and how often some were skipped are parts of a scan's value. Each step raises one of them by
+//! one, and only a scan with fewer entries left is sound after that. So no body can loosen the bound on looks, and none can forget
+//! a look.
+ghost use Rattle.std.specs.Prelude.{◌≡◌, ◌+◌, ◌^◌, ◌<◌, ◌≤◌, [], ◌∷◌, length, drop, true, slice_index_or};
 ghost use Rattle.std.specs.Iterator.{item_count};
 ghost use Rattle.std.specs.Option.{MatchOption};
-ghost use Rattle.qs_index.specs.Digits.{digits};
 ghost use Rattle.qs_index.specs.Layout.{Reading, joined, page_at, rest_at};
 ghost use Rattle.qs_index.specs.Entries.{HaveFour};
 ghost use Rattle.qs_index.specs.Entry.{begins, beginning, run_of, skip_before, IsAscending};
-ghost use Rattle.qs_index.specs.Scan.{ScanState, NextOfScan};
-ghost use Rattle.qs_index.specs.OrderScan.{left_from, state_of, waiting, IsHead, IsSound};
+ghost use Rattle.qs_index.specs.Scan.{ScanState, NextOfScan, most_looks};
+ghost use Rattle.qs_index.specs.inner.OrderScan.{state_of, waiting, IsHead, IsSound, StartsBefore};
 
 use crate::pages::{PagePosition, Reader};
 use crate::prefix::Prefix;
-use crate::search::find_from;
+use crate::search::{find_after, find_from};
 use std::marker::Model;
 
 // The entry at a place: the one that the search found there, or the one that is read.
@@ -67,22 +67,23 @@ fn step(reader: &Reader<'_>, prefix: &Prefix, place: PagePosition) -> PagePositi
 pub struct OrderScan<'a> {
     reader: Reader<'a>,
     prefix: Prefix,
-    // Where the count of the entries that are handed out begins.
-    start: PagePosition,
     page: usize,
     at: usize,
     // The first entry until it is handed out, as the search has looked at it.
     head: Option<[u32; 4]>,
-    // Where the search was told to begin, and at the end the place of the entry that was looked at last.
+    // Where the search was told to begin, and at the end where the scan stood last.
     seen: PagePosition,
+    // How many entries were handed out, and how often some were skipped.
+    handed: u128,
+    skips: u128,
 }
 
 impl<'a> Model for OrderScan<'a> {
     ghost Value = { ScanState };
 
-    ghost view = { λ s. state_of s.reader.pages s.prefix s.start.page s.start.at s.page s.at s.reader.looked };
+    ghost view = { λ s. state_of s.reader.pages s.prefix s.page s.at s.handed s.skips s.reader.looked };
 
-    ghost invariant = { λ s. IsSound s.reader.pages s.prefix (length (left_from s.reader.pages s.prefix s.start.page s.start.at)) s.page s.at s.head s.reader.looked };
+    ghost invariant = { λ s. IsSound s.reader.pages s.prefix s.page s.at s.head s.handed s.skips s.reader.looked };
 }
 
 impl<'a> OrderScan<'a> {
@@ -93,6 +94,7 @@ impl<'a> OrderScan<'a> {
         requires unread { reader.looked ≡ 0 }
         ensures rest { result.rest ≡ beginning prefix (joined reader.entry.pages) }
         ensures handed { result.handed ≡ 0 }
+        ensures skips { result.skips ≡ 0 }
         ensures size { result.size ≡ length (joined reader.entry.pages) }
     {
         let mut reader = reader;
@@ -101,25 +103,27 @@ impl<'a> OrderScan<'a> {
             return OrderScan {
                 reader,
                 prefix,
-                start: PagePosition { page: held, at: 0 },
                 page: held,
                 at: 0,
                 head: None,
                 seen: from,
+                handed: 0,
+                skips: 0,
             };
         };
         OrderScan {
             reader,
             prefix,
-            start: found.place,
             page: found.place.page,
             at: found.place.at,
             head: Some(found.entry),
             seen: from,
+            handed: 0,
+            skips: 0,
         }
     }
 
-    /// The place of the entry that is looked at next; at the end, of the one that was looked at last.
+    /// The place of the entry that is looked at next; at the end, where the scan stood last, or where its search was told to begin.
     pub fn place(&self) -> PagePosition {
         if self.page < self.reader.len() {
             return PagePosition {
@@ -130,11 +134,12 @@ impl<'a> OrderScan<'a> {
         self.seen
     }
 
-    /// The entry that comes next, which stays to be handed out.
+    /// The entry that comes next, which stays to be handed out; none where none is left.
     pub fn peek(&mut self) -> Option<[u32; 4]>
         ensures next { MatchOption result (self.old.rest ≡ []) (λ e. self.old.rest ≡ e ∷ drop 1 self.old.rest) }
         ensures rest { self.new.rest ≡ self.old.rest }
         ensures handed { self.new.handed ≡ self.old.handed }
+        ensures skips { self.new.skips ≡ self.old.skips }
         ensures size { self.new.size ≡ self.old.size }
         ensures ascending { IsAscending self.old.rest }
         ensures entries { HaveFour self.old.rest }
@@ -154,10 +159,12 @@ impl<'a> OrderScan<'a> {
         Some(entry)
     }
 
-    /// Goes on at the first entry that isn't before `to`, by a search from where the scan stands, and begins to count anew.
-    pub fn seek(&mut self, to: &Prefix)
+    /// Goes on at the first entry that isn't before `to`, by a search from the next entry on, which is before it.
+    pub(crate) fn seek(&mut self, to: &Prefix)
+        requires next { StartsBefore to.now self.old.rest }
         ensures rest { self.new.rest ≡ skip_before to.now self.old.rest }
-        ensures handed { self.new.handed ≡ 0 }
+        ensures handed { self.new.handed ≡ self.old.handed }
+        ensures skips { self.new.skips ≡ self.old.skips + 1 }
         ensures size { self.new.size ≡ self.old.size }
     {
         let held = self.reader.len();
@@ -165,37 +172,24 @@ impl<'a> OrderScan<'a> {
             page: self.page,
             at: self.at,
         };
-        self.start = place;
-        self.reader.restart();
-        if self.page >= held {
+        self.skips += 1;
+        let Some(found) = find_after(&mut self.reader, place, to) else {
+            self.page = held;
+            self.at = 0;
             self.head = None;
-            return;
-        }
-        let entry = self.reader.look(place);
-        self.head = Some(entry);
-        if !self.prefix.begins(&entry) || !to.is_after(&entry) {
-            return;
-        }
-        self.reader.restart();
-        let Some(found) = find_from(&mut self.reader, place, to) else {
-            let end = PagePosition { page: held, at: 0 };
-            self.page = end.page;
-            self.at = end.at;
-            self.start = end;
-            self.head = None;
+            self.seen = place;
             return;
         };
         self.page = found.place.page;
         self.at = found.place.at;
-        self.start = found.place;
         self.head = Some(found.entry);
     }
 
-    /// How many entries were looked at since the scan began: those handed out, and few more.
+    /// How many entries were looked at since the scan began: those handed out, and few more for its start and for each skip.
     pub fn looked(&self) -> u128
         ensures count { result ≡ self.now.looked }
         ensures enough { self.now.handed ≤ result }
-        ensures few { result ≤ self.now.handed + 2 * digits self.now.size + 2 }
+        ensures few { result ≤ most_looks self.now.handed self.now.skips self.now.size }
     {
         self.reader.looked()
     }
@@ -226,6 +220,7 @@ impl<'a> Iterator for OrderScan<'a> {
             self.seen = place;
             return None;
         }
+        self.handed += 1;
         let next = step(&self.reader, &self.prefix, place);
         if next.page >= held {
             self.seen = place;

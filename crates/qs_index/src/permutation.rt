@@ -2,7 +2,7 @@
 ghost use Rattle.std.specs.Prelude.{◌≡◌, ◌≤◌, take, map};
 ghost use Rattle.std.specs.List.{All};
 ghost use Rattle.qs_index.specs.Entry.{IsEntry};
-ghost use Rattle.qs_index.specs.Lead.{order_led, named_order_led};
+ghost use Rattle.qs_index.specs.inner.Lead.{order_with_lead, named_order_with_lead};
 ghost use Rattle.qs_index.specs.Permutation.{turned, restored, order_used, prefix_of, named_order_used, named_prefix_of};
 
 /// An order of the places of an entry: graph, subject, predicate and object, by their first letters. Orders with the graph in the last
@@ -148,7 +148,7 @@ impl Lookup {
         predicate: Option<u32>,
         object: Option<u32>,
     ) -> Lookup
-        ensures permutation { result.permutation ≡ order_led subject predicate object lead }
+        ensures permutation { result.permutation ≡ order_with_lead subject predicate object lead }
         ensures short { result.given ≤ 4 }
         ensures prefix { take result.given result.prefix ≡ prefix_of graph subject predicate object }
     {
@@ -173,7 +173,7 @@ impl Lookup {
         predicate: Option<u32>,
         object: Option<u32>,
     ) -> Lookup
-        ensures permutation { result.permutation ≡ named_order_led subject predicate object lead }
+        ensures permutation { result.permutation ≡ named_order_with_lead subject predicate object lead }
         ensures short { result.given ≤ 4 }
         ensures prefix { take result.given result.prefix ≡ named_prefix_of subject predicate object }
     {

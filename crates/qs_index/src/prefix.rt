@@ -1,8 +1,7 @@
 //! What the entries of a scan begin with.
-ghost use Rattle.std.specs.Prelude.{◌≡◌, ℕ, ◌<◌, ◌≤◌, ◌==◌, List, length, take, IfSome};
+ghost use Rattle.std.specs.Prelude.{◌≡◌, ℕ, ◌≤◌, ◌==◌, List, length, take, IfSome, IfNone};
 ghost use Rattle.qs_index.specs.Entry.{is_before, begins};
-ghost use Rattle.qs_index.specs.Passed.{IsFollowed};
-ghost use Rattle.qs_index.specs.Prefix.{IsFilled};
+ghost use Rattle.qs_index.specs.inner.Prefix.{IsFilled, IsAfter, HasAfter};
 
 use crate::entry::{begins, is_less};
 use std::marker::Model;
@@ -54,27 +53,20 @@ impl Prefix {
         }
     }
 
-    /// The prefix that comes after all entries which begin with the first `given` numbers of `entry`. None where that number isn't 1 to 3, or the
-    /// last of these is the greatest.
-    pub fn following(entry: [u32; 4], given: usize) -> Option<Prefix>
-        ensures { IfSome result (IsFollowed (take given entry)) }
+    /// The prefix after all entries that begin with the first `given` numbers of `entry`: the last of them is raised by one. None where
+    /// `given` isn't 1 to 3, or that number is the greatest.
+    pub fn after(entry: [u32; 4], given: usize) -> Option<Prefix>
+        ensures after { IfSome result (IsAfter (take given entry)) }
+        ensures some { IfSome result (λ _. HasAfter entry given) }
+        ensures none { IfNone result (¬ HasAfter entry given) }
     {
-        let [a, b, c, _] = entry;
-        match given {
-            1 => {
-                let next = a.checked_add(1)?;
-                Some(Prefix::new([next, 0, 0, 0], 1))
-            }
-            2 => {
-                let next = b.checked_add(1)?;
-                Some(Prefix::new([a, next, 0, 0], 2))
-            }
-            3 => {
-                let next = c.checked_add(1)?;
-                Some(Prefix::new([a, b, next, 0], 3))
-            }
-            _ => None,
+        if given == 0 || given > 3 {
+            return None;
         }
+        let last = given - 1;
+        let mut numbers = entry;
+        numbers[last] = entry[last].checked_add(1)?;
+        Some(Prefix::new(numbers, given))
     }
 
     /// Whether there are four numbers, so that one entry at most begins with them.

@@ -1,11 +1,9 @@
 //! A scan of the index.
-ghost use Rattle.std.specs.Prelude.{◌≡◌, ℕ, ◌+◌, ◌*◌, ◌≤◌, List, map, true};
+ghost use Rattle.std.specs.Prelude.{◌≡◌, ◌+◌, ◌≤◌, map};
 ghost use Rattle.std.specs.Iterator.{item_count};
-ghost use Rattle.qs_index.specs.Agreeing.{agrees_anywhere};
-ghost use Rattle.qs_index.specs.Digits.{digits};
-ghost use Rattle.qs_index.specs.Passed.{IsPassed};
 ghost use Rattle.qs_index.specs.Permutation.{restored};
-ghost use Rattle.qs_index.specs.Scan.{ScanState, NextOfScan};
+ghost use Rattle.qs_index.specs.Scan.{ScanState, NextOfScan, most_looks};
+ghost use Rattle.qs_index.specs.inner.Skipped.{SkipsAgreeing};
 
 use crate::depth::{agrees, depth};
 use crate::order_scan::OrderScan;
@@ -40,11 +38,19 @@ impl<'a> Scan<'a> {
         self.inner.place()
     }
 
-    /// Passes over entries that come next and have the subject, predicate and object that are given, and begins to count anew. Where these places are
-    /// in front in the order, all such entries are passed over by one search; elsewhere those that begin as the next one does, up to the last
-    /// of these places. No other entry is passed over.
-    pub fn pass(&mut self, subject: Option<u32>, predicate: Option<u32>, object: Option<u32>)
-        ensures passed { IsPassed (λ x. agrees_anywhere subject predicate object x ≡ true) self.old.rest self.new.rest }
+    /// Skips entries that come next and have the subject, predicate and object that are given, by one search. Where these places are in
+    /// front in the order, all such entries are skipped; elsewhere those that begin as the next one does, up to the last of these places.
+    /// None is skipped where that is the fourth place of the order, where the number there is the greatest `u32`, or, over all named
+    /// graphs, where no place is given.
+    pub fn skip_agreeing(
+        &mut self,
+        subject: Option<u32>,
+        predicate: Option<u32>,
+        object: Option<u32>,
+    )
+        ensures skipped { SkipsAgreeing subject predicate object self.old.rest self.new.rest }
+        ensures handed { self.new.handed ≡ self.old.handed }
+        ensures skips { self.new.skips ≤ self.old.skips + 1 }
         ensures size { self.new.size ≡ self.old.size }
     {
         let Some(next) = self.inner.peek() else {
@@ -54,18 +60,19 @@ impl<'a> Scan<'a> {
             return;
         }
         let front = depth(self.permutation, subject, predicate, object);
-        let Some(to) = Prefix::following(next, front) else {
+        let Some(to) = Prefix::after(next, front) else {
             return;
         };
         self.inner.seek(&to);
     }
 
-    /// How many entries were looked at since the scan began: compared or handed out. At every moment they are at least those
-    /// handed out, and at most these, and two for each binary digit of the number of entries, and two.
+    /// How many entries were looked at since the scan began: compared or handed out. At every moment they are at least those handed out,
+    /// and at most these, and two for each binary digit of the number of entries, and two; and for each call of `skip_agreeing` that skipped
+    /// some two for each digit, and one.
     pub fn looked(&self) -> u128
         ensures count { result ≡ self.now.looked }
         ensures enough { self.now.handed ≤ result }
-        ensures few { result ≤ self.now.handed + 2 * digits self.now.size + 2 }
+        ensures few { result ≤ most_looks self.now.handed self.now.skips self.now.size }
     {
         self.inner.looked()
     }

@@ -42,6 +42,7 @@ fn first_page(reader: &mut Reader<'_>, prefix: &Prefix) -> Bound
     ensures skips { skip_before prefix.now (joined reader.old.pages) ≡ skip_before prefix.now (joined (drop result.at reader.old.pages)) }
     ensures reached { result.at < length reader.old.pages → IsReached prefix.now reader.old.pages result.at (length (page_at reader.old.pages result.at) - 1) result.entry }
     ensures looked { result.at < length reader.old.pages → reader.old.looked + 1 ≤ reader.new.looked }
+    ensures rising { reader.old.looked ≤ reader.new.looked }
     ensures pages { reader.new.pages ≡ reader.old.pages }
     ensures counted { reader.new.looked ≤ reader.old.looked + digits (length reader.old.pages) }
 {
@@ -114,6 +115,7 @@ pub fn find(reader: &mut Reader<'_>, prefix: &Prefix) -> Option<Found>
     ensures some { IfSome result (λ found. IsFound prefix.now reader.old.pages found.place.page found.place.at found.entry) }
     ensures none { IfNone result (skip_before prefix.now (joined reader.old.pages) ≡ []) }
     ensures looked { IfSome result (λ _. reader.old.looked + 1 ≤ reader.new.looked) }
+    ensures rising { reader.old.looked ≤ reader.new.looked }
     ensures pages { reader.new.pages ≡ reader.old.pages }
     ensures counted { reader.new.looked ≤ reader.old.looked + 2 * digits (length (joined reader.old.pages)) }
 {
@@ -178,10 +180,9 @@ fn gallop(reader: &mut Reader<'_>, page: usize, from: usize, last: Bound, prefix
     }
 }
 
-// The first entry that isn't before `prefix`, looked for in the page of an earlier place, whose entry is, before all pages are
-// searched.
+/// The first entry that isn't before `prefix`, where that at `from` is: looked for in its page, and elsewhere among all pages.
 #[inline(always)]
-fn find_behind(reader: &mut Reader<'_>, from: PagePosition, prefix: &Prefix) -> Option<Found>
+pub fn find_after(reader: &mut Reader<'_>, from: PagePosition, prefix: &Prefix) -> Option<Found>
     requires ascending { IsAscending (joined reader.old.pages) }
     requires page { from.page < length reader.old.pages }
     requires at { from.at < length (page_at reader.old.pages from.page) }
@@ -190,7 +191,7 @@ fn find_behind(reader: &mut Reader<'_>, from: PagePosition, prefix: &Prefix) -> 
     ensures some { IfSome result (λ found. IsFound prefix.now reader.old.pages found.place.page found.place.at found.entry) }
     ensures none { IfNone result (skip_before prefix.now (joined reader.old.pages) ≡ []) }
     ensures pages { reader.new.pages ≡ reader.old.pages }
-    ensures looked { IfSome result (λ _. reader.old.looked ≤ reader.new.looked) }
+    ensures looked { reader.old.looked + 1 ≤ reader.new.looked }
     ensures counted { reader.new.looked ≤ reader.old.looked + 1 + 2 * digits (length (joined reader.old.pages)) }
 {
     let held = reader.len();
@@ -258,7 +259,7 @@ pub fn find_from(reader: &mut Reader<'_>, from: PagePosition, prefix: &Prefix) -
     }
     let entry = reader.look(from);
     if prefix.is_after(&entry) {
-        return find_behind(reader, from, prefix);
+        return find_after(reader, from, prefix);
     }
     find_before(reader, Found { place: from, entry }, prefix)
 }

@@ -4,7 +4,7 @@ use Rattle.std.specs.List.{AllByRecursion}
 use Rattle.std.specs.Str.{all_scalars}
 use Rattle.std.proofs.lemmas.Str.{encodes-append, encodes-chars, scalars-chars}
 use Rattle.qs_lex.specs.Lexes.{Lexeme, Lexes, Reads}
-use Rattle.qs_lex.specs.Parts.{IsSound, IsMadeOf}
+use Rattle.qs_lex.specs.inner.Parts.{IsSound, IsMadeOf}
 use Rattle.qs_lex.proofs.Parts.{made_of, front_scalars, back_scalars}
 use Rattle.qs_lex.proofs.Places.{Gap, gap}
 

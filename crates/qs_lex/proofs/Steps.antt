@@ -4,7 +4,7 @@ use Rattle.qs_lex_regular.specs.Longest.{best}
 use Rattle.qs_lex_regular.proofs.Longest.{best-none}
 use Rattle.qs_lex.specs.Lexes.{Lexeme, IsLongest, IsPlace, StopsAt, skip}
 use Rattle.qs_lex.specs.Table.{table}
-use Rattle.qs_lex.specs.Unread.{Unread, HasRead, HasComeTo}
+use Rattle.qs_lex.specs.inner.Unread.{Unread, HasRead, HasComeTo}
 use Rattle.qs_lex.proofs.TokenList.{nothing_left, something_left, place_is, reads_snoc}
 
 abbrev pub unread : List ℕ → List ℕ → Unread

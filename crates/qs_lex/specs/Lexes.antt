@@ -1,5 +1,5 @@
--- The token list of a text (SPARQL 1.1 Query, 19.8: the longest token is taken at each place).
--- The longest token is taken, so `<=>` is an IRI where `<` could begin a comparison.
+-- The token list of a text (SPARQL 1.1 Query, 19.8): after white space and comments the longest token, again and again, until only white
+-- space and comments are left. So `<=>` is an IRI, where `<` could begin a comparison.
 use Rattle.std.specs.Prelude.{◌≡◌, ◌≤◌, ◌<◌, ℕ, ◌+◌, Bool, true, false, not, cond, ◌||◌, ◌==◌, List, [], ◌∷◌, ◌++◌, length}
 use Rattle.std.specs.Str.{chars, encode_utf8_all}
 use Rattle.qs_lex.specs.Table.{IsToken}
@@ -54,7 +54,7 @@ Reads n cs (t ∷ ts) rest =
 abbrev pub Lexes : List ℕ → List Lexeme → Type 0
 Lexes text ts = (rest : List ℕ) × Reads (length text) (chars text) ts rest × (skip false rest ≡ [])
 
--- after some tokens no token begins, at this place
+-- after some tokens, white space and comments something is left of which no front is a token; it begins at this byte place
 abbrev pub StopsAt : List ℕ → ℕ → Type 0
 StopsAt text place =
     (ts : List Lexeme) × (rest : List ℕ) × Reads (length text) (chars text) ts rest × (0 < length (skip false rest)) × HasNoToken (skip false rest) × IsPlace (length text) (skip false rest) place

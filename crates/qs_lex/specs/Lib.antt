@@ -5,7 +5,5 @@ pub use Rattle.qs_lex_regular.specs.Longest
 pub mod Table
 pub mod Lexes
 pub mod Place
-pub mod Unread
-pub mod Parts
 pub mod Fault
 pub mod inner

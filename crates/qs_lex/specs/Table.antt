@@ -1,4 +1,4 @@
--- The token table: each class of tokens as a form over characters (SPARQL 1.1 Query, 19.8).
+-- The token table: thirteen classes of tokens, each as a form over characters (SPARQL 1.1 Query, 19.8).
 use Rattle.std.specs.Prelude.{ℕ, Bool, not, ◌||◌, ◌==◌, List, [], ◌∷◌, codes}
 use Rattle.std.specs.Char.{is_ascii_alphanumeric}
 use Rattle.qs_lex_regular.specs.Character.{is_one_of, is_digit, is_letter, is_letter_or_digit, is_hex, is_base, is_pn_chars_u, is_mark_in_name, is_pn_chars, is_iri_char, is_scalar, is_iri_scalar}

@@ -8,3 +8,5 @@ pub mod NumberState
 pub mod StringState
 pub mod Prefix
 pub mod Steady
+pub mod Parts
+pub mod Unread

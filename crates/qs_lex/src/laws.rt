@@ -5,7 +5,7 @@ ghost use Rattle.std.specs.List.{AllByRecursion};
 ghost use Rattle.std.specs.Str.{IsUtf8};
 ghost use Rattle.qs_lex.specs.Fault.{HasToken};
 ghost use Rattle.qs_lex.specs.Lexes.{Lexeme, Lexes, StopsAt};
-ghost use Rattle.qs_lex.specs.Parts.{IsSound};
+ghost use Rattle.qs_lex.specs.inner.Parts.{IsSound};
 
 /// A text has at most one token list, none where it stops, and stops at one place at most. The empty text has no token.
 pub fn one_token_list()

@@ -5,7 +5,7 @@
 
 ghost use Rattle.std.specs.Prelude.{◌≡◌, ◌<◌, ◌≤◌, ◌+◌, [], List, length, IfOk, IfErr, IfSome, OnSome};
 ghost use Rattle.qs_lex.specs.Lexes.{Lexeme, StopsAt};
-ghost use Rattle.qs_lex.specs.Unread.{HasRead, HasComeTo};
+ghost use Rattle.qs_lex.specs.inner.Unread.{HasRead, HasComeTo};
 
 use crate::gap::after_gap;
 use crate::longest::longest;
@@ -24,7 +24,7 @@ pub struct Lexer<'a> {
 impl<'a> Model for Lexer<'a> {
     ghost use Rattle.std.specs.Prelude.{◌≡◌, ◌≤◌, true, length};
     ghost use Rattle.std.specs.Str.{chars};
-    ghost use Rattle.qs_lex.specs.Unread.{Unread};
+    ghost use Rattle.qs_lex.specs.inner.Unread.{Unread};
     ghost use Rattle.qs_lex.specs.inner.Prefix.{IsBarren};
 
     ghost Value = { Unread };

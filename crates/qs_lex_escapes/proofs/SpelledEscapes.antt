@@ -13,8 +13,8 @@ use Rattle.qs_terms.specs.Iri.{is_excluded}
 use Rattle.qs_lex_escapes.specs.Decoded.{decoded, decoded_behind}
 use Rattle.qs_lex_escapes.specs.Escape.{uchar, string_escape, hex_number, escape_of, echar_of, echar_or}
 use Rattle.qs_lex_escapes.specs.declared.escape.Escape.{Escape}
-use Rattle.qs_lex_escapes.specs.Backslashes.{begins_behind, escapes_begin}
-use Rattle.qs_lex_escapes.specs.StandsFor.{StandsFor}
+use Rattle.qs_lex_escapes.specs.inner.Backslashes.{begins_behind, escapes_begin}
+use Rattle.qs_lex_escapes.specs.inner.StandsFor.{StandsFor}
 use Rattle.qs_lex_escapes.proofs.Bytes.{within, other_than, all-append, none_any, one_passes, bytes_pass}
 
 -- ---- hexadecimal digits

@@ -25,6 +25,6 @@ decoded_behind escape zero (c ∷ cs) =
 abbrev pub decoded : (List ℕ → Option Escape) → List ℕ → List ℕ
 decoded escape text = decoded_behind escape 0 text
 
--- a local name without the backslashes of its escapes (SPARQL 1.1 Query, 19.8, PN_LOCAL_ESC)
+-- a local name without the backslashes of its escapes (SPARQL 1.1 Query, 19.8, PN_LOCAL_ESC); `%` stays as it is written
 abbrev pub unescaped : List ℕ → List ℕ
 unescaped local = filter (λ c. not (c == 92)) local

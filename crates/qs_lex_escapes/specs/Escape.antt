@@ -1,4 +1,4 @@
--- Escapes, as they stand after their backslash (SPARQL 1.1 Query, 19.2 and 19.8).
+-- Escapes, as they stand after their backslash (SPARQL 1.1 Query, 19.2 and 19.8; RDF 1.1 N-Quads, 4).
 use Rattle.std.specs.Prelude.{ℕ, zero, suc, ◌+◌, ◌*◌, ◌==◌, List, [], ◌∷◌, Option, Some, None, if◌then◌else◌}
 use Rattle.std.specs.Map.{lookup}
 use Rattle.qs_lex_regular.specs.Character.{is_hex, hex_value, is_scalar}
@@ -35,6 +35,7 @@ abbrev pub string_escape : List ℕ → Option Escape
 string_escape [] = None
 string_escape (c ∷ cs) = echar_or (echar_of c) (uchar (c ∷ cs))
 
+-- an escape of that sort: codepoint escapes alone, as IRIs have them, or those of a string
 abbrev pub escape : Escapes → List ℕ → Option Escape
 escape Codepoints = uchar
 escape Strings = string_escape

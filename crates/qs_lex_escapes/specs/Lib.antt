@@ -1,5 +1,4 @@
 pub mod Escape
 pub mod Decoded
 pub mod Piece
-pub mod Backslashes
-pub mod StandsFor
+pub mod inner

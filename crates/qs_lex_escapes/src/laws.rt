@@ -15,8 +15,8 @@ ghost use Rattle.qs_lex_regular.specs.Form as form;
 ghost use Rattle.qs_lex_regular.specs.Form.{Spells, ◌⨾◌, ◌∣◌, one, many, plus, char};
 ghost use Rattle.qs_terms.specs.Iri.{is_excluded};
 ghost use Rattle.qs_terms.specs.Tag.{is_tag};
-ghost use Rattle.qs_lex_escapes.specs.Backslashes.{escapes_begin};
-ghost use Rattle.qs_lex_escapes.specs.StandsFor.{StandsFor};
+ghost use Rattle.qs_lex_escapes.specs.inner.Backslashes.{escapes_begin};
+ghost use Rattle.qs_lex_escapes.specs.inner.StandsFor.{StandsFor};
 
 /// What stands in a text is the piece of it from where it begins to where it ends.
 pub fn parts_are_pieces()

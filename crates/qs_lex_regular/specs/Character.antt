@@ -1,4 +1,5 @@
--- Classes of characters that N-Quads and SPARQL share, each as a test of a code point.
+-- Classes of characters of names and of IRIs that SPARQL and N-Quads share, each as a test of a code point (SPARQL 1.1 Query, 19.8; RDF 1.1
+-- N-Quads, 4).
 use Rattle.std.specs.Prelude.{ℕ, Bool, false, not, ◌||◌, ◌&&◌, ◌==◌, nat_le, nat_lt, List, [], ◌∷◌, codes}
 use Rattle.std.specs.Char.{is_ascii_digit, is_ascii_alphabetic, is_ascii_alphanumeric, is_ascii_hexdigit, digit_value}
 

@@ -1,6 +1,6 @@
--- Tables of classes with forms, and the longest front of a text that is of a class. `K` is the type of the classes.
--- Where two classes spell the same characters, the first of the table has them. The class is a type parameter. The proofs of
--- `qs_lex` cite lemmas of this crate as they cite std's; they are public laws in `src/laws.rt` too.
+-- Tables of classes with forms, and the longest front of a text that is of a class. `K` is the type of the classes. Where two classes spell
+-- the same characters, the first of the table has them. The proofs of `qs_lex` cite lemmas of this crate as they cite std's; they are
+-- public laws in `src/laws.rt` too.
 use Rattle.std.specs.Prelude.{◌≡◌, ◌≤◌, ◌⊎◌, ℕ, ◌+◌, cond, List, [], ◌∷◌, ◌++◌, length, Option, Some, None, option_map}
 use Rattle.std.specs.Char.{len_utf8}
 use Rattle.std.specs.Str.{encode_utf8_all}

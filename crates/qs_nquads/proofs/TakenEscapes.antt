@@ -10,7 +10,7 @@ use Rattle.qs_lex_regular.specs.Form.{Form, Spells, one, char, ◌⨾◌, ◌∣
 use Rattle.qs_lex_regular.specs.Longest.{LongestFront}
 use Rattle.qs_lex_escapes.specs.Escape.{uchar, string_escape}
 use Rattle.qs_lex_escapes.specs.declared.escape.Escape.{Escape}
-use Rattle.qs_lex_escapes.specs.Backslashes.{escapes_begin}
+use Rattle.qs_lex_escapes.specs.inner.Backslashes.{escapes_begin}
 use Rattle.qs_lex_escapes.proofs.SpelledEscapes.{Stands, any, all_any, pieces_stand, string_character, string_codepoint, echar_stands, iri_stands, escapes_stand}
 use Rattle.qs_nquads.specs.Part.{inside}
 use Rattle.qs_nquads.specs.Table.{table, iri_body, string_body, is_string_char}

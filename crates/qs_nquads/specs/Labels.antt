@@ -1,4 +1,4 @@
--- Numbers of blank nodes, by their labels (RDF 1.1 N-Quads, 3.3): a label is numbered where it first appears.
+-- Numbers of blank nodes, by their labels (RDF 1.1 N-Quads, 2.4): a label is numbered where it first appears.
 use Rattle.std.specs.Prelude.{ℕ, ◌+◌, ◌^◌, nat_lt, List, [], ◌∷◌, ◌++◌, Option, Some, None, Result, Ok, Err, if◌then◌else◌}
 use Rattle.std.specs.Str.{bytes_eq}
 use Rattle.std.specs.Map.{lookup}

@@ -6,7 +6,6 @@ pub mod StatementState
 pub mod Reading
 pub mod Next
 pub mod Nquads
-pub mod Unread
 pub mod Written
 pub mod Renumbered
 pub mod WriteFault

@@ -1,4 +1,6 @@
 -- What bytes say as N-Quads (RDF 1.1 N-Quads, 3 and 4), or the fault that is due.
+-- Bytes result in one thing, but where memory runs out (`laws::some_outcome`, `laws::one_outcome`). The next number is above those of all
+-- blank nodes of the statements (`laws::next_number_is_fresh`).
 use Rattle.std.specs.Prelude.{◌≡◌, ◌⊎◌, ℕ, ◌+◌, ◌-◌, ◌==◌, List, length, take, count_by}
 use Rattle.std.specs.Str.{IsUtf8, IsValidUpTo}
 use Rattle.qs_terms.specs.Statement.{Statement}
@@ -29,7 +31,7 @@ IsStop from kind left = StopsAt from kind left
 abbrev pub line_at : List ℕ → ℕ → ℕ
 line_at bytes place = 1 + count_by (λ b. b == 10) (take place bytes)
 
--- the bytes are N-Quads of these statements, in their order, and the next new label would get the number `next`
+-- the bytes are N-Quads of these statements, in their order and with repeats, and the next new label would get the number `next`
 abbrev pub IsNquads : List ℕ → ℕ → List Statement → ℕ → Type 0
 IsNquads bytes first quads next =
     IsUtf8 bytes × ((r : Reading) × Ends (start first bytes) r × (r.quads ≡ quads) × (r.labels.next ≡ next))

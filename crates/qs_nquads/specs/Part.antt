@@ -1,7 +1,7 @@
--- What a token says in a statement.
--- A relative IRI that has no place in its statement is `iri`, any other token without a place is `shape`. `literal` comes only
--- after a `^^` that had its place. An escape that gives an excluded character of an IRI is `iri`, looked for once the token was
--- read.
+-- What the longest front says in a statement (RDF 1.1 N-Quads, 4): an absolute IRI or a literal's form, with escapes decoded, a tag, a
+-- blank node or a mark; or a fault.
+-- A relative IRI that has no place in its statement is `iri`, any other token without a place is `shape`. `literal` comes only after a `^^`
+-- that had its place. An escape that gives an excluded character of an IRI is `iri`, looked for once the token was read.
 use Rattle.std.specs.Prelude.{ℕ, Bool, true, false, ◌-◌, List, length, Result, Ok, Err}
 use Rattle.qs_lex_escapes.specs.Decoded.{decoded}
 use Rattle.qs_lex_escapes.specs.Escape.{uchar, string_escape}
@@ -50,7 +50,8 @@ abbrev pub label_part : Numbering → Bool → List ℕ → Result (Part × Numb
 label_part n true label = blank_part (number n label)
 label_part n false label = Err fault.Shape
 
--- what the front of a class, of these bytes, says at a place of a statement; a front that is no token is a fault
+-- what the front of a class, of these bytes, says at a place of a statement; a front that is no token is `token`, or `escape` where it ends
+-- at a backslash that begins no escape
 abbrev pub part_of : StatementState → Numbering → Class → List ℕ → Result (Part × Numbering) NqFaultKind
 part_of p n class.Iri token = iri_part n (checked_iri (decoded uchar (inside token)))
 part_of p n class.String token = Ok (part.Form (decoded string_escape (inside token)), n)

@@ -62,6 +62,7 @@ abbrev pub IsName : Option Term → Type 0
 IsName None = Unit {0}
 IsName (Some name) = IsTerm name
 
+-- what holds of each quad of a program: its terms are lawful, and stand where they may
 pub record IsQuad (q : Statement) : Type 0 where
   pub fits : fits_places q.graph q.subject q.predicate ≡ true
   pub graph : IsName q.graph

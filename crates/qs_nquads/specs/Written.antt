@@ -1,4 +1,4 @@
--- Quads as N-Quads text (RDF 1.1 N-Quads, 4): one line a quad, lines ascending by their bytes, equal lines once.
+-- Quads as N-Quads text (RDF 1.1 N-Quads, 2 to 4): one line a quad, lines ascending by their bytes, equal lines once.
 use Rattle.std.specs.Prelude.{ℕ, ◌==◌, List, [], ◌∷◌, ◌++◌, decimal, Option, Some, None, if◌then◌else◌}
 use Rattle.std.specs.List.{flat_map}
 use Rattle.std.specs.Str.{bytes_eq}
@@ -18,7 +18,7 @@ abbrev pub escaped : List ℕ → List ℕ
 escaped [] = []
 escaped (c ∷ cs) = escaped_byte c ++ escaped cs
 
--- `<`, the IRI and `>`
+-- `<`, the IRI as it is, and `>`
 abbrev pub iri_text : List ℕ → List ℕ
 iri_text i = 60 ∷ (i ++ 62 ∷ [])
 

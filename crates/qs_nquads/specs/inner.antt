@@ -4,3 +4,4 @@ pub mod State
 pub mod Joined
 pub mod Entries
 pub mod LabelMap
+pub mod Unread

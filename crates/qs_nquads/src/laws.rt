@@ -12,7 +12,7 @@ ghost use Rattle.qs_terms.specs.Dataset.{is_above_blanks};
 ghost use Rattle.qs_terms.specs.Statement.{Statement};
 ghost use Rattle.qs_terms.specs.Tag.{is_tag};
 ghost use Rattle.qs_lex_escapes.specs.Escape.{uchar, string_escape};
-ghost use Rattle.qs_lex_escapes.specs.Backslashes.{escapes_begin};
+ghost use Rattle.qs_lex_escapes.specs.inner.Backslashes.{escapes_begin};
 ghost use Rattle.qs_nquads.specs.Nquads.{IsNquads, IsFault};
 ghost use Rattle.qs_nquads.specs.Part.{behind, inside};
 ghost use Rattle.qs_nquads.specs.Renumbered.{blanks_of, IsQuad, AreQuads, ReadsBack};

@@ -3,7 +3,7 @@
 ghost use Rattle.std.specs.Prelude.{◌≡◌, ◌∷◌, ◌++◌, ℕ, [], MatchResult, OnOk};
 ghost use Rattle.qs_nquads.specs.Labels.{from};
 ghost use Rattle.qs_nquads.specs.Nquads.{IsNquads, IsFault};
-ghost use Rattle.qs_nquads.specs.Unread.{HasRead};
+ghost use Rattle.qs_nquads.specs.inner.Unread.{HasRead};
 
 use crate::fault::NqFault;
 use crate::labels::Labels;

@@ -11,7 +11,7 @@ ghost use Rattle.qs_nquads.specs.declared.fault.NqFaultKind.TheVariants.{Memory,
 ghost use Rattle.qs_nquads.specs.Labels.{from};
 ghost use Rattle.qs_nquads.specs.Nquads.{IsFault, IsStop, line_at};
 ghost use Rattle.qs_nquads.specs.Reading.{read, placed, Comes, State};
-ghost use Rattle.qs_nquads.specs.Unread.{HasRead, HasComeTo, reading, state, with_next, IsNextOf};
+ghost use Rattle.qs_nquads.specs.inner.Unread.{HasRead, HasComeTo, reading, state, with_next, IsNextOf};
 
 use crate::class::Class;
 use crate::fault::{NqFault, NqFaultKind};
@@ -44,7 +44,7 @@ pub struct Reader<'a> {
 }
 
 impl<'a> Model for Reader<'a> {
-    ghost use Rattle.qs_nquads.specs.Unread.{Unread};
+    ghost use Rattle.qs_nquads.specs.inner.Unread.{Unread};
 
     ghost Value = { Unread };
 

@@ -5,7 +5,7 @@ ghost use Rattle.qs_terms.specs.Literal.{typed, xsd_string};
 ghost use Rattle.qs_terms.specs.OrOutOf.{OrOutOf};
 ghost use Rattle.qs_nquads.specs.declared.fault.NqFaultKind.TheVariants.{Memory};
 ghost use Rattle.qs_nquads.specs.StatementState.{statement, may_end};
-ghost use Rattle.qs_nquads.specs.Unread.{GoesOn};
+ghost use Rattle.qs_nquads.specs.inner.Unread.{GoesOn};
 
 use crate::fault::NqFaultKind;
 use crate::node::Node;

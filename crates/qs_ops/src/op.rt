@@ -4,7 +4,7 @@ ghost use Rattle.std.specs.Prelude.{◌≡◌, None, Some, true, Ok, IfOk, IfErr
 ghost use Rattle.qs_terms.specs.declared.fault.QFault.TheVariants.{Memory};
 ghost use Rattle.qs_store.specs.ActiveGraph.{active_graph};
 ghost use Rattle.qs_store.specs.declared.active.Active.TheVariants.{Default};
-ghost use Rattle.qs_expr_values.specs.Value.{term_of};
+ghost use Rattle.qs_expr_values.specs.inner.Value.{term_of};
 ghost use Rattle.qs_expr.specs.Cell.{denoted, row_solution, FitsCell, FitsRow};
 ghost use Rattle.qs_expr.specs.Evaluated.{Evaluates};
 ghost use Rattle.qs_expr.specs.Scratch.{IsTable, Grows};

@@ -25,7 +25,7 @@ use Rattle.qs_paths.specs.Coming.{AreAll, GivesPair, IsToCome}
 use Rattle.qs_paths.specs.declared.stream.Pairs.{Pairs}
 use Rattle.qs_paths.specs.inner.Seen.{known_in}
 use Rattle.qs_plan_meaning.specs.Scans.{path_pairs}
-use Rattle.qs_ops_scans.specs.Paths.{denoted_pair, pair_if, ArePairs}
+use Rattle.qs_ops_scans.specs.inner.Paths.{denoted_pair, pair_if, ArePairs}
 use Rattle.qs_ops_scans.specs.inner.Kept.{keeps, kept_with, AreCollected, IsTaken}
 
 module _ {V : Type 0} (content : V → Content) (default : V → DefaultGraph) (table : List Term) (repeated : Bool) where

@@ -28,7 +28,7 @@ use Rattle.qs_paths.specs.Coming.{IsToCome}
 use Rattle.qs_paths.specs.declared.stream.Pairs.{Pairs}
 use Rattle.qs_paths.specs.inner.Seen.{known_in}
 use Rattle.qs_plan_meaning.specs.Scans.{path_pairs}
-use Rattle.qs_ops_scans.specs.Paths.{ArePairs, Serve, ServeBetween}
+use Rattle.qs_ops_scans.specs.inner.Paths.{ArePairs, Serve, ServeBetween}
 use Rattle.qs_ops_scans.specs.declared.bound.RowEnds.{RowEnds}
 use Rattle.qs_ops_scans.specs.inner.Given.{IsGiven, IsOutside}
 use Rattle.qs_ops_scans.specs.inner.Kept.{AreCollected}

@@ -24,7 +24,7 @@ use Rattle.qs_expr.specs.Scratch.{IsTable}
 use Rattle.qs_expr.proofs.Finding.{term_there}
 use Rattle.qs_expr.proofs.RowTerms.{term_at_row}
 use Rattle.qs_paths.proofs.Scanned.{number_there}
-use Rattle.qs_ops_scans.specs.Prepared.{number_place, place_of, prepared_triple}
+use Rattle.qs_ops_scans.specs.inner.Prepared.{number_place, place_of, prepared_triple}
 use Rattle.qs_ops_scans.specs.declared.opened.Given.{Given}
 use Rattle.qs_ops_scans.specs.inner.Opened.{given_cell, given_of, given_three, givens}
 use Rattle.qs_ops_scans.proofs.Acts.{GivenAre}

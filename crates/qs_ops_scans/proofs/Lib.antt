@@ -6,7 +6,7 @@ pub mod Givens
 pub mod Scanned
 pub mod Looks
 pub mod Firsts
-pub mod Passing
+pub mod Skipping
 pub mod Named
 pub mod Register
 pub mod Parted

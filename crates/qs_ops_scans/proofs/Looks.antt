@@ -26,8 +26,8 @@ use Rattle.qs_paths.proofs.Scanned.{number_there}
 use Rattle.qs_plan_meaning.specs.declared.stage.Look.{Look}
 use Rattle.qs_plan_meaning.specs.declared.stage.Look.TheVariants as look
 use Rattle.qs_plan_meaning.specs.Stages.{graph_named, looked}
-use Rattle.qs_ops_scans.specs.Makes.{AreMade}
-use Rattle.qs_ops_scans.specs.Prepared.{graph_by, graph_of_cell, named_look, prepared_look}
+use Rattle.qs_ops_scans.specs.inner.Makes.{AreMade}
+use Rattle.qs_ops_scans.specs.inner.Prepared.{graph_by, graph_of_cell, named_look, prepared_look}
 use Rattle.qs_ops_scans.specs.declared.look.PreparedLook.{PreparedLook}
 
 -- a graph that no quad names is empty

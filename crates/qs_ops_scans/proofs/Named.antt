@@ -34,7 +34,7 @@ use Rattle.qs_expr.proofs.Rows.{bound_fits, bound_terms}
 use Rattle.qs_paths.proofs.Lists.{any_of, map_has, member_of_map, of_any, once_has, once_only, same_members}
 use Rattle.qs_paths.proofs.Scanned.{number_there}
 use Rattle.qs_plan_meaning.specs.Stages.{each_named}
-use Rattle.qs_ops_scans.specs.Makes.{AreMade, Makes}
+use Rattle.qs_ops_scans.specs.inner.Makes.{AreMade, Makes}
 use Rattle.qs_ops_scans.specs.inner.Names.{rows_named}
 
 -- ---- the names that quads have

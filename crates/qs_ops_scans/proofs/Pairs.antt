@@ -21,8 +21,8 @@ use Rattle.qs_expr.specs.Cell.{Cells, cell_at, denoted, row_solution, FitsRow}
 use Rattle.qs_expr.specs.Scratch.{IsTable}
 use Rattle.qs_paths.proofs.Lists.{map_has, member_of_map}
 use Rattle.qs_plan_meaning.specs.Scans.{bound_end, bound_ends, path_extensions, path_pairs}
-use Rattle.qs_ops_scans.specs.Makes.{AreMade}
-use Rattle.qs_ops_scans.specs.Paths.{denoted_pair, pair_if, ArePairs}
+use Rattle.qs_ops_scans.specs.inner.Makes.{AreMade}
+use Rattle.qs_ops_scans.specs.inner.Paths.{denoted_pair, pair_if, ArePairs}
 use Rattle.qs_ops_scans.specs.declared.ends.Ends.{Ends}
 use Rattle.qs_ops_scans.specs.declared.ends.EndAct.TheVariants.{Bind}
 use Rattle.qs_ops_scans.specs.declared.ends.EndActs.{EndActs}

@@ -12,8 +12,8 @@ use Rattle.qs_algebra_patterns.specs.declared.pattern.Slot.{Slot}
 use Rattle.qs_algebra_patterns.specs.declared.pattern.Slot.TheVariants as slot
 use Rattle.qs_algebra_patterns.specs.declared.pattern.TriplePattern.{TriplePattern}
 use Rattle.qs_plan_meaning.specs.Scans.{bound_at, bound_slot, then_bound, bound_triple}
-use Rattle.qs_ops_scans.specs.Each.{misses, place_misses}
-use Rattle.qs_ops_scans.specs.Prepared.{place_of, prepared_triple}
+use Rattle.qs_ops_scans.specs.inner.Each.{misses, place_misses}
+use Rattle.qs_ops_scans.specs.inner.Prepared.{place_of, prepared_triple}
 
 -- writes to two places
 two_set : {X : Type 0} (m : List X) (r v : ℕ) (x y : X) → v ≢ r → slice_set (slice_set m r x) v y ≡ slice_set (slice_set m v y) r x

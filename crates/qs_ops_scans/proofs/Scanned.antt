@@ -30,8 +30,8 @@ use Rattle.qs_paths.proofs.Active.{active_has, active_only, active_once, same_tr
 use Rattle.qs_paths.proofs.Lists.{map_has, member_of_map, same_members}
 use Rattle.qs_paths.proofs.Scanned.{number_there}
 use Rattle.qs_plan_meaning.specs.Scans.{bound_triple, extensions}
-use Rattle.qs_ops_scans.specs.Makes.{AreMade, Makes}
-use Rattle.qs_ops_scans.specs.Prepared.{prepared_triple}
+use Rattle.qs_ops_scans.specs.inner.Makes.{AreMade, Makes}
+use Rattle.qs_ops_scans.specs.inner.Prepared.{prepared_triple}
 use Rattle.qs_ops_scans.specs.declared.opened.Given.{Given}
 use Rattle.qs_ops_scans.specs.declared.pattern.PreparedTriple.{PreparedTriple}
 use Rattle.qs_ops_scans.specs.inner.Opened.{acts_of, givens, row_made, IsScanned, IsScannedBy}

@@ -19,8 +19,8 @@ use Rattle.qs_expr.specs.Cell.{Cells, denoted_if, row_solution, FitsRow}
 use Rattle.qs_expr.specs.Scratch.{IsTable}
 use Rattle.qs_expr.proofs.RowTerms.{term_at_row}
 use Rattle.qs_plan_meaning.specs.Scans.{bound_end, bound_ends, path_extensions, path_pairs, then_bound}
-use Rattle.qs_ops_scans.specs.Makes.{AreMade}
-use Rattle.qs_ops_scans.specs.Paths.{row_end, row_ends, Serve}
+use Rattle.qs_ops_scans.specs.inner.Makes.{AreMade}
+use Rattle.qs_ops_scans.specs.inner.Paths.{row_end, row_ends, Serve}
 use Rattle.qs_ops_scans.specs.declared.ends.Ends.{Ends}
 use Rattle.qs_ops_scans.specs.declared.ends.EndActs.{EndActs}
 use Rattle.qs_ops_scans.specs.declared.kept.Span.{Span}

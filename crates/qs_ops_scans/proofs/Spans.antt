@@ -14,8 +14,8 @@ use Rattle.qs_expr.specs.Cell.{Cells, same_cell, FitsRow}
 use Rattle.qs_expr.specs.Scratch.{IsTable}
 use Rattle.qs_expr.proofs.Finding.{same_cell-Decides}
 use Rattle.qs_plan_meaning.specs.Scans.{path_extensions, path_pairs}
-use Rattle.qs_ops_scans.specs.Makes.{AreMade}
-use Rattle.qs_ops_scans.specs.Paths.{denoted_pair, ArePairs}
+use Rattle.qs_ops_scans.specs.inner.Makes.{AreMade}
+use Rattle.qs_ops_scans.specs.inner.Paths.{denoted_pair, ArePairs}
 use Rattle.qs_ops_scans.specs.declared.ends.Ends.{Ends}
 use Rattle.qs_ops_scans.specs.declared.kept.Side.{Side}
 use Rattle.qs_ops_scans.specs.declared.kept.Side.TheVariants.{Subject, Object}

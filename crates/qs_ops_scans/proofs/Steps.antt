@@ -23,7 +23,7 @@ use Rattle.qs_plan_meaning.specs.Scans.{bound_at, bound_slot, bound_triple, then
 use Rattle.qs_ops_scans.specs.declared.pattern.Place.{Place}
 use Rattle.qs_ops_scans.specs.declared.pattern.Place.TheVariants as place
 use Rattle.qs_ops_scans.specs.declared.pattern.PreparedTriple.{PreparedTriple}
-use Rattle.qs_ops_scans.specs.Prepared.{number_place, place_of, prepared_triple}
+use Rattle.qs_ops_scans.specs.inner.Prepared.{number_place, place_of, prepared_triple}
 
 -- ---- by cells
 

@@ -1,6 +1,2 @@
-pub mod Makes
-pub mod Passed
-pub mod Each
-pub mod Prepared
-pub mod Paths
+pub mod Skipped
 pub mod inner

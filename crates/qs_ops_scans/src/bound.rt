@@ -2,7 +2,7 @@
 
 ghost use Rattle.std.specs.Prelude.{◌≡◌, ◌↔◌, ◌||◌, IsTrue};
 ghost use Rattle.std.specs.Option.{is_some};
-ghost use Rattle.qs_ops_scans.specs.Paths.{row_end, row_ends};
+ghost use Rattle.qs_ops_scans.specs.inner.Paths.{row_end, row_ends};
 
 use qs_algebra_patterns::{PathPattern, Slot};
 use qs_expr::{Cell, Row, is_same};

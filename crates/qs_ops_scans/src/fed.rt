@@ -4,7 +4,7 @@ ghost use Rattle.std.specs.Prelude.{◌≡◌, ◌↔◌, IsTrue, IfOk, Some};
 ghost use Rattle.qs_store.specs.ActiveGraph.{active_graph};
 ghost use Rattle.qs_expr.specs.Cell.{FitsIf};
 ghost use Rattle.qs_expr.specs.Scratch.{Grows, IsTable};
-ghost use Rattle.qs_ops_scans.specs.Paths.{Serve};
+ghost use Rattle.qs_ops_scans.specs.inner.Paths.{Serve};
 ghost use Rattle.qs_ops_scans.specs.inner.Given.{IsGiven};
 
 use crate::bound::RowEnds;

@@ -9,7 +9,7 @@ ghost use Rattle.qs_expr.specs.Cell.{FitsIf, denoted_if};
 ghost use Rattle.qs_expr.specs.Scratch.{Grows, IsTable};
 ghost use Rattle.qs_paths.specs.Coming.{AreAll};
 ghost use Rattle.qs_plan_meaning.specs.Scans.{path_pairs};
-ghost use Rattle.qs_ops_scans.specs.Paths.{ArePairs};
+ghost use Rattle.qs_ops_scans.specs.inner.Paths.{ArePairs};
 ghost use Rattle.qs_ops_scans.specs.inner.Kept.{AreCollected, IsTaken, kept_with};
 ghost use Rattle.qs_ops_scans.specs.inner.Sides.{cell_key, end_at, side_key, IsSpan, IsSpanOf};
 

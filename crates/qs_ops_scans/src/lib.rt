@@ -15,10 +15,10 @@ mod look;
 mod names;
 mod nodes;
 mod opened;
-mod pass;
 mod paths;
 mod pattern;
 mod quads;
+mod skip;
 mod triples;
 
 pub use bound::{RowEnds, row_ends};

@@ -1,7 +1,7 @@
 //! The graph in which a triple pattern or a path looks.
 
 ghost use Rattle.std.specs.Prelude.{◌≡◌};
-ghost use Rattle.qs_ops_scans.specs.Prepared.{graph_by, graph_of_cell, named_look, prepared_look, IsGraphOf};
+ghost use Rattle.qs_ops_scans.specs.inner.Prepared.{graph_by, graph_of_cell, named_look, prepared_look, IsGraphOf};
 
 use crate::lawful::content_is_lawful;
 use qs_expr::{Cell, Row};

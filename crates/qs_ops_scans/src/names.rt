@@ -7,8 +7,8 @@ ghost use Rattle.qs_terms.specs.Term.{same_term};
 ghost use Rattle.qs_store.specs.Graphs.{AreGraphs};
 ghost use Rattle.qs_expr.specs.Cell.{cell_at};
 ghost use Rattle.qs_plan_meaning.specs.Stages.{each_named};
-ghost use Rattle.qs_ops_scans.specs.Each.{NamesGraph};
-ghost use Rattle.qs_ops_scans.specs.Makes.{GivesFirst, Makes};
+ghost use Rattle.qs_ops_scans.specs.inner.Each.{NamesGraph};
+ghost use Rattle.qs_ops_scans.specs.inner.Makes.{GivesFirst, Makes};
 ghost use Rattle.qs_ops_scans.specs.inner.Names.{HasQuads};
 
 use crate::bind::bind_cell;

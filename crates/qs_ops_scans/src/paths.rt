@@ -8,8 +8,8 @@ ghost use Rattle.qs_algebra_patterns.specs.Basic.{Graph};
 ghost use Rattle.qs_expr.specs.Cell.{Cells, cell_at, FitsRow};
 ghost use Rattle.qs_expr.specs.Scratch.{IsTable};
 ghost use Rattle.qs_plan_meaning.specs.Scans.{path_extensions, path_pairs};
-ghost use Rattle.qs_ops_scans.specs.Makes.{AreMade, GivesFirst};
-ghost use Rattle.qs_ops_scans.specs.Paths.{ArePairs, Serve, row_ends};
+ghost use Rattle.qs_ops_scans.specs.inner.Makes.{AreMade, GivesFirst};
+ghost use Rattle.qs_ops_scans.specs.inner.Paths.{ArePairs, Serve, row_ends};
 ghost use Rattle.qs_ops_scans.specs.inner.Ends.{IsNextPair};
 
 use crate::ends::{EndActs, bind_pair, end_acts, ends_of, leaves, pair_agrees};

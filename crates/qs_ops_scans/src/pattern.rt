@@ -1,7 +1,7 @@
 //! Triple patterns by the numbers of their terms.
 
 ghost use Rattle.std.specs.Prelude.{◌≡◌};
-ghost use Rattle.qs_ops_scans.specs.Prepared.{number_place, place_of, prepared_triple};
+ghost use Rattle.qs_ops_scans.specs.inner.Prepared.{number_place, place_of, prepared_triple};
 
 use qs_algebra_patterns::{Slot, TriplePattern};
 use qs_store::View;

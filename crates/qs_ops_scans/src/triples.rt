@@ -9,9 +9,9 @@ ghost use Rattle.qs_expr.specs.Cell.{cell_at};
 ghost use Rattle.qs_plan_meaning.specs.declared.stage.Look.{Look};
 ghost use Rattle.qs_plan_meaning.specs.Scans.{extensions};
 ghost use Rattle.qs_plan_meaning.specs.Stages.{looked};
-ghost use Rattle.qs_ops_scans.specs.Makes.{GivesFirst, Makes};
-ghost use Rattle.qs_ops_scans.specs.Passed.{PassesRows};
-ghost use Rattle.qs_ops_scans.specs.Prepared.{prepared_look, prepared_triple};
+ghost use Rattle.qs_ops_scans.specs.inner.Makes.{GivesFirst, Makes};
+ghost use Rattle.qs_ops_scans.specs.Skipped.{SkipsRows};
+ghost use Rattle.qs_ops_scans.specs.inner.Prepared.{prepared_look, prepared_triple};
 ghost use Rattle.qs_store.specs.Content.{Content};
 ghost use Rattle.qs_store.specs.declared.default_graph.DefaultGraph.{DefaultGraph};
 ghost use Rattle.qs_ops_scans.specs.inner.Opened.{IsAsked, IsScanned, IsScannedBy, passes};
@@ -20,8 +20,8 @@ use crate::bind::bind_triple;
 use crate::lawful::content_is_lawful;
 use crate::look::{PreparedLook, graph_of_look};
 use crate::opened::{Acts, Given, acts_of, givens, leaves, passes};
-use crate::pass::{all_tell, lead_of, wanted_of};
 use crate::pattern::PreparedTriple;
+use crate::skip::{all_tell, lead_of, wanted_of};
 use qs_expr::{Cell, Row};
 use qs_index::permutation::Lead;
 use qs_store::{Active, Triples, View};
@@ -95,18 +95,18 @@ impl<'a> TripleRows<'a> {
         self.row.cell(variable)
     }
 
-    /// Passes over rows to come that have the row's cells at these variables, as far as one search finds their end: where the triples with these
-    /// terms follow one another, all of them are passed over. No other row is, and none is made.
-    #[tactic(auto, using(crate::proofs::Passing::rows_passed, crate::proofs::Passing::none_passed))]
-    pub fn pass(&mut self, columns: &[usize], row: &Row)
-        ensures { PassesRows columns.now row.now self.old self.new }
+    /// Skips rows that come next and have the row's cells at these variables, as far as one search finds their end
+    /// (`Triples::skip_agreeing`). No other row is skipped, and none is made.
+    #[tactic(auto, using(crate::proofs::Skipping::rows_skipped, crate::proofs::Skipping::none_skipped))]
+    pub fn skip_alike(&mut self, columns: &[usize], row: &Row)
+        ensures { SkipsRows columns.now row.now self.old self.new }
     {
         let wanted = wanted_of(&self.acts, columns, row);
         if !all_tell(&self.acts, &self.row, wanted, columns, row) {
             return;
         }
         self.scan
-            .pass(wanted.subject, wanted.predicate, wanted.object);
+            .skip_agreeing(wanted.subject, wanted.predicate, wanted.object);
     }
 
     /// The row of which the others were made, for its memory.
@@ -142,7 +142,7 @@ fn scan_of<'a, V: View>(
 {
     // One call, so that a scan, which is large, isn't moved where two branches meet.
     let (graph, given) = asked(graph, givens(pattern, row));
-    view.scan_led(lead, graph, given.subject, given.predicate, given.object)
+    view.scan_with_lead(lead, graph, given.subject, given.predicate, given.object)
 }
 
 /// The rows that the pattern makes of the row over the triples of the graph (SPARQL 1.1 Query, 18.3.1). Where no place is given to the scan, those

@@ -4,7 +4,7 @@ use Rattle.std.specs.List.{AllByRecursion}
 use Rattle.qs_expr.specs.declared.cell.Cell.{Cell}
 use Rattle.qs_expr.specs.Cell.{Cells, cell_at}
 use Rattle.qs_expr.specs.Row.{first_cell, merged_cells}
-use Rattle.qs_ops_tables.specs.Tables.{merges_cells, partners}
+use Rattle.qs_ops_tables.specs.inner.Tables.{merges_cells, partners}
 
 first_stays : (x y : Option Cell) (c : Cell) → x ≡ Some c → first_cell x y ≡ Some c
 first_stays None y c e = let f : None ≡ Some c = e in cc

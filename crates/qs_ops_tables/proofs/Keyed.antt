@@ -7,7 +7,7 @@ use Rattle.std.proofs.lemmas.Nat.{and_le_r}
 use Rattle.qs_ops_tables.specs.declared.index.Link.{Link}
 use Rattle.qs_expr.specs.Cell.{Cells}
 use Rattle.qs_expr.specs.Row.{compatible_cells}
-use Rattle.qs_ops_tables.specs.Tables.{partners}
+use Rattle.qs_ops_tables.specs.inner.Tables.{partners}
 use Rattle.qs_ops_tables.specs.inner.Keys.{key_hash, no_link, link_at, row_at, head_at, IsHashOf, Passes, Skips, IsLink, IsIndexFrom, IsIndex, Meets, MeetsNone}
 use Rattle.qs_ops_tables.proofs.Hashes.{apart}
 

@@ -13,7 +13,7 @@ use Rattle.qs_expr.proofs.Finding.{term_there}
 use Rattle.qs_expr.proofs.Rows.{compatible_terms_of, merged_terms, merged_fits, fits_first, fits_rest}
 use Rattle.std.proofs.Math.Seq.{take-length}
 use Rattle.qs_ops_tables.specs.inner.Keys.{IsHashOf, Passes}
-use Rattle.qs_ops_tables.specs.Tables.{partners, merges_cells, both_cells, share_cells, excludes_cells, FitRows, row_solutions, GivesMerges, FitsMerges, TellsExcluded}
+use Rattle.qs_ops_tables.specs.inner.Tables.{partners, merges_cells, both_cells, share_cells, excludes_cells, FitRows, row_solutions, GivesMerges, FitsMerges, TellsExcluded}
 
 taken : (n : ℕ) (m : Cells) (v : ℕ) (c : Cell) → cell_at (take n m) v ≡ Some c → cell_at m v ≡ Some c
 taken zero m zero c e = let f : None ≡ Some c = e in cc

@@ -10,7 +10,7 @@ use Rattle.qs_expr.specs.Cell.{Cells, denoted, denoted_if, row_solution, FitsIf,
 use Rattle.qs_expr.specs.Scratch.{IsTable, Grows}
 use Rattle.qs_expr.proofs.Finding.{some_of}
 use Rattle.qs_expr.proofs.Growth.{stays, same_row, still_row}
-use Rattle.qs_ops_tables.specs.Tables.{FitRows, row_solutions}
+use Rattle.qs_ops_tables.specs.inner.Tables.{FitRows, row_solutions}
 
 pub no_term : (known table : List Term) → FitsIf known table None
 no_term known table c e = absurd (cc)

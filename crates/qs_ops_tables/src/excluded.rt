@@ -2,7 +2,7 @@
 
 ghost use Rattle.std.specs.Prelude.{◌≡◌, take};
 ghost use Rattle.std.specs.List.{list_any};
-ghost use Rattle.qs_ops_tables.specs.Tables.{excludes_cells};
+ghost use Rattle.qs_ops_tables.specs.inner.Tables.{excludes_cells};
 ghost use Rattle.qs_ops_tables.specs.inner.Excluding as words;
 ghost use Rattle.qs_ops_tables.specs.inner.Keys.{IsIndex};
 

@@ -2,7 +2,7 @@
 
 ghost use Rattle.std.specs.Prelude.{◌≡◌, ◌∷◌, [], IfOk, MatchOption, drop, take};
 ghost use Rattle.std.specs.List.{list_any};
-ghost use Rattle.qs_ops_tables.specs.Tables.{TellsExcluded, excludes_cells, partners};
+ghost use Rattle.qs_ops_tables.specs.inner.Tables.{TellsExcluded, excludes_cells, partners};
 ghost use Rattle.qs_ops_tables.specs.inner.Keys.{IsHashOf, Passes};
 
 use crate::excluded::is_excluded;
@@ -19,7 +19,7 @@ pub struct KeptTable {
 }
 
 impl Model for KeptTable {
-    ghost use Rattle.qs_ops_tables.specs.Tables.{KeptRows};
+    ghost use Rattle.qs_ops_tables.specs.inner.Tables.{KeptRows};
 
     ghost Value = { KeptRows };
 

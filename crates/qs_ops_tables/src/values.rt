@@ -6,7 +6,7 @@ ghost use Rattle.qs_algebra_solutions.specs.Solution.{binding};
 ghost use Rattle.qs_algebra_patterns.specs.Eval.{rows_of};
 ghost use Rattle.qs_expr.specs.Cell.{FitsIf, FitsRow, denoted_if, row_solution};
 ghost use Rattle.qs_expr.specs.Scratch.{IsTable, Grows};
-ghost use Rattle.qs_ops_tables.specs.Tables.{FitRows, row_solutions};
+ghost use Rattle.qs_ops_tables.specs.inner.Tables.{FitRows, row_solutions};
 
 use qs_algebra_patterns::Table;
 use qs_expr::{Cell, Row, Scratch, intern};

@@ -13,7 +13,7 @@ use Rattle.qs_expr.specs.declared.cell.Cell.{Cell}
 use Rattle.qs_expr.specs.Cell.{Cells, cell_at, denoted_if, row_solution, FitsRow}
 use Rattle.qs_ops_program.specs.inner.Flow.{Instruction, IsForward, NamesBefore, flow, is_union}
 use Rattle.qs_ops_program.proofs.Flows.{past_end, flow_fork, flow_step}
-use Rattle.qs_ops_tables.specs.Tables.{row_solutions}
+use Rattle.qs_ops_tables.specs.inner.Tables.{row_solutions}
 use Rattle.qs_plan.specs.inner.Certain.{Bound, Alike, Keeps}
 use Rattle.qs_plan.proofs.Widths.{all_append, all_filter}
 use Rattle.qs_ops_walk.specs.declared.source.Attempt.{Attempt}

@@ -12,7 +12,7 @@ use Rattle.qs_expr.proofs.Rows.{no_cells_unbound, no_cells_fit, set_terms, set_f
 use Rattle.qs_plan_meaning.specs.declared.stage.Stage.{Stage}
 use Rattle.qs_plan_meaning.specs.declared.stage.Stage.TheVariants as stage
 use Rattle.qs_ops_program.specs.inner.Flow.{Instruction}
-use Rattle.qs_ops_tables.specs.Tables.{KeptRows, FitRows, TellsExcluded, row_solutions}
+use Rattle.qs_ops_tables.specs.inner.Tables.{KeptRows, FitRows, TellsExcluded, row_solutions}
 use Rattle.qs_ops_walk.specs.declared.source.Source.TheVariants as source
 use Rattle.qs_ops_walk.specs.declared.work.Choice.{Choice}
 use Rattle.qs_ops_walk.specs.declared.work.Conditions.{Conditions}

@@ -6,7 +6,7 @@ use Rattle.qs_terms.specs.declared.term.Term.{Term}
 use Rattle.qs_expr.specs.Cell.{Cells}
 use Rattle.qs_expr.specs.Scratch.{IsTable}
 use Rattle.qs_expr.proofs.Growth.{stays}
-use Rattle.qs_ops_tables.specs.Tables.{FitRows}
+use Rattle.qs_ops_tables.specs.inner.Tables.{FitRows}
 use Rattle.qs_ops_walk.specs.declared.source.Item.{Item}
 use Rattle.qs_ops_walk.specs.declared.source.Level.{Level}
 use Rattle.qs_ops_walk.specs.declared.source.Source.{Source}

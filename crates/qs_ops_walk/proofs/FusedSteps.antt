@@ -10,9 +10,9 @@ use Rattle.qs_plan_meaning.specs.declared.stage.Look.TheVariants as look
 use Rattle.qs_plan_meaning.specs.declared.stage.Stage.TheVariants as stage
 use Rattle.qs_plan_meaning.specs.Scans.{extensions}
 use Rattle.qs_plan_meaning.specs.Stages.{each_named, graph_named}
-use Rattle.qs_ops_scans.specs.Each.{each_extension}
-use Rattle.qs_ops_scans.specs.Makes.{AreMade}
-use Rattle.qs_ops_scans.specs.Prepared.{named_look, prepared_look}
+use Rattle.qs_ops_scans.specs.inner.Each.{each_extension}
+use Rattle.qs_ops_scans.specs.inner.Makes.{AreMade}
+use Rattle.qs_ops_scans.specs.inner.Prepared.{named_look, prepared_look}
 use Rattle.qs_ops_scans.specs.declared.look.PreparedLook.TheVariants as prepared
 use Rattle.qs_ops_walk.specs.declared.source.Level.{Level}
 use Rattle.qs_ops_walk.specs.declared.source.Source.TheVariants as source

@@ -8,7 +8,7 @@ use Rattle.qs_expr.specs.Cell.{Cells, cell_at, denoted_if, row_solution, FitsRow
 use Rattle.qs_expr.specs.Scratch.{Grows}
 use Rattle.qs_expr.specs.declared.cell.Cell.{Cell}
 use Rattle.qs_ops_program.specs.inner.Flow.{Instruction}
-use Rattle.qs_ops_tables.specs.Tables.{FitRows, row_solutions}
+use Rattle.qs_ops_tables.specs.inner.Tables.{FitRows, row_solutions}
 use Rattle.qs_ops_walk.specs.declared.source.Level.{Level}
 use Rattle.qs_ops_walk.specs.inner.Setting.{Setting, known_of}
 use Rattle.qs_ops_walk.specs.inner.Moves.{GivesRow}

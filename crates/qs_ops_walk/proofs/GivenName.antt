@@ -16,8 +16,8 @@ use Rattle.qs_expr.specs.declared.cell.Cell.{Cell}
 use Rattle.qs_expr.specs.Cell.{Cells, cell_at, denoted, denoted_if, row_solution}
 use Rattle.qs_expr.proofs.Finding.{term_there}
 use Rattle.qs_expr.proofs.Rows.{bound_fits, bound_terms}
-use Rattle.qs_ops_scans.specs.Each.{NamesGraph}
-use Rattle.qs_ops_scans.specs.Makes.{AreMade, Makes}
+use Rattle.qs_ops_scans.specs.inner.Each.{NamesGraph}
+use Rattle.qs_ops_scans.specs.inner.Makes.{AreMade, Makes}
 use Rattle.qs_ops_scans.proofs.OneName.{merges_named}
 use Rattle.qs_ops_walk.specs.inner.Setting.{Setting, known_of}
 use Rattle.qs_ops_walk.specs.inner.After.{each_merged, named_if}

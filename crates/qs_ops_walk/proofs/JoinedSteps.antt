@@ -13,10 +13,10 @@ use Rattle.qs_plan_meaning.specs.declared.stage.Stage.TheVariants as stage
 use Rattle.qs_plan_meaning.specs.Scans.{extensions}
 use Rattle.qs_plan_meaning.specs.Stages.{each_named, graph_named}
 use Rattle.qs_ops_program.specs.inner.Flow.{Instruction}
-use Rattle.qs_ops_scans.specs.Each.{each_joined}
-use Rattle.qs_ops_scans.specs.Makes.{AreMade, Makes}
+use Rattle.qs_ops_scans.specs.inner.Each.{each_joined}
+use Rattle.qs_ops_scans.specs.inner.Makes.{AreMade, Makes}
 use Rattle.qs_ops_scans.specs.declared.look.PreparedLook.TheVariants as prepared
-use Rattle.qs_ops_tables.specs.Tables.{row_solutions}
+use Rattle.qs_ops_tables.specs.inner.Tables.{row_solutions}
 use Rattle.qs_ops_walk.specs.declared.source.Level.{Level}
 use Rattle.qs_ops_walk.specs.declared.source.Source.TheVariants as source
 use Rattle.qs_ops_walk.specs.declared.after_names.Each.{Each}

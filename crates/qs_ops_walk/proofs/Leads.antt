@@ -18,8 +18,8 @@ use Rattle.qs_ops_program.specs.inner.Toil.{summed, toil}
 use Rattle.qs_ops_program.proofs.Flows.{flow_step}
 use Rattle.qs_ops_program.proofs.Levels.{gives_name, gives_names, gives_triple}
 use Rattle.qs_ops_program.proofs.Toils.{summed_append, summed_same, toil_step}
-use Rattle.qs_ops_scans.specs.Makes.{AreMade, Makes}
-use Rattle.qs_ops_tables.specs.Tables.{row_solutions}
+use Rattle.qs_ops_scans.specs.inner.Makes.{AreMade, Makes}
+use Rattle.qs_ops_tables.specs.inner.Tables.{row_solutions}
 use Rattle.qs_ops_walk.specs.declared.source.Source.{Source}
 use Rattle.qs_ops_walk.specs.inner.Setting.{Setting, known_of, gives_in, graph_in}
 use Rattle.qs_ops_walk.specs.inner.Coming.{going, source_items, flows, FitsSource}

@@ -18,7 +18,7 @@ use Rattle.qs_ops_program.specs.inner.Flow.{Instruction, IsForward, flow, is_uni
 use Rattle.qs_ops_program.specs.inner.Toil.{summed, toil, instr_moves, all_moves}
 use Rattle.qs_ops_program.proofs.Flows.{flow_at}
 use Rattle.qs_ops_program.proofs.Toils.{toil_at, summed_same}
-use Rattle.qs_ops_tables.specs.Tables.{KeptRows, FitRows, FitsMerges, GivesMerges, TellsExcluded, row_solutions}
+use Rattle.qs_ops_tables.specs.inner.Tables.{KeptRows, FitRows, FitsMerges, GivesMerges, TellsExcluded, row_solutions}
 use Rattle.qs_ops_walk.specs.declared.source.Attempt.{Attempt}
 use Rattle.qs_ops_walk.specs.declared.source.Fork.{Fork as Branching}
 use Rattle.qs_ops_walk.specs.declared.source.Source.{Source}
@@ -36,13 +36,13 @@ use Rattle.qs_expr.specs.Condition.{IsPreparedFor}
 use Rattle.qs_expr.specs.Scratch.{IsTable, Grows}
 use Rattle.qs_expr.proofs.Growth.{same_row, still_row}
 use Rattle.qs_plan_meaning.specs.declared.stage.Look.{Look}
-use Rattle.qs_ops_scans.specs.Makes.{AreMade, Makes}
-use Rattle.qs_ops_scans.specs.Paths.{row_ends, Serve}
+use Rattle.qs_ops_scans.specs.inner.Makes.{AreMade, Makes}
+use Rattle.qs_ops_scans.specs.inner.Paths.{row_ends, Serve}
 use Rattle.qs_store.specs.ActiveGraph.{active_graph}
 use Rattle.qs_algebra_patterns.specs.Basic.{Graph}
 use Rattle.qs_expr.specs.declared.cell.Cell.{Cell}
 use Rattle.qs_ops_walk.specs.declared.work.Trail.{Trail}
-use Rattle.qs_ops_scans.specs.Prepared.{prepared_look, prepared_triple}
+use Rattle.qs_ops_scans.specs.inner.Prepared.{prepared_look, prepared_triple}
 use Rattle.qs_ops_scans.specs.declared.look.PreparedLook.{PreparedLook}
 use Rattle.qs_ops_scans.specs.declared.pattern.PreparedTriple.{PreparedTriple}
 use Rattle.qs_ops_walk.proofs.Bags.{same, chain, filter_same, flat_map_same, merges_same, alone_same}

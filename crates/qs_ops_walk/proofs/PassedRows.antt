@@ -4,8 +4,7 @@ use Rattle.std.proofs.Math.ListN.{set}
 use Rattle.std.specs.List.{AllByRecursion}
 use Rattle.std.proofs.lemmas.Grind.{flat_map-append}
 use Rattle.std.proofs.lemmas.List.{map-append}
-use Rattle.std.proofs.lemmas.List.Elements.{All-from_recursion, recursion_from_All}
-use Rattle.std.proofs.lemmas.List.Sorted.{All-permutation, IsPermutation-map, IsPermutation-refl, IsPermutation-append_left, IsPermutation-append_right, IsPermutation-trans}
+use Rattle.std.proofs.lemmas.List.Sorted.{IsPermutation-refl, IsPermutation-append_left, IsPermutation-append_right, IsPermutation-trans}
 use Rattle.qs_terms.specs.Bag.{SameBag}
 use Rattle.qs_terms.specs.declared.term.Term.{Term}
 use Rattle.qs_algebra_solutions.specs.Solution.{Solution}
@@ -13,8 +12,8 @@ use Rattle.qs_expr.specs.declared.cell.Cell.{Cell}
 use Rattle.qs_expr.specs.Cell.{Cells, cell_at, row_solution, FitsRow}
 use Rattle.qs_plan.proofs.Widths.{all_append}
 use Rattle.qs_ops_program.specs.inner.Flow.{flow}
-use Rattle.qs_ops_scans.specs.Passed.{SharesCellAt, ShareCells, PassesRows}
-use Rattle.qs_ops_tables.specs.Tables.{FitRows, row_solutions}
+use Rattle.qs_ops_scans.specs.Skipped.{SharesCellAt, ShareCells, SkipsRows}
+use Rattle.qs_ops_tables.specs.inner.Tables.{FitRows, row_solutions}
 use Rattle.qs_ops_walk.specs.declared.source.Level.{Level}
 use Rattle.qs_ops_walk.specs.declared.source.Source.{Source}
 use Rattle.qs_ops_walk.specs.declared.source.Source.TheVariants as source
@@ -25,7 +24,6 @@ use Rattle.qs_ops_walk.specs.inner.Coming.{Going, going, level_items, flows, com
 use Rattle.qs_ops_walk.specs.inner.Moves.{IsWalk}
 use Rattle.qs_ops_walk.specs.inner.Alike.{HasCell, SharesCell, KeepsAll, SharesTerms, ArePassed, PassesLast, PassesTriples, SkipsAlike}
 use Rattle.qs_ops_walk.proofs.AlikeRows.{all_weaker, kept_code, level_passed}
-use Rattle.qs_ops_walk.proofs.Bags.{flat_map_same}
 use Rattle.qs_ops_walk.proofs.Steps.{changed, level_fits, mid_fit, whole}
 use Rattle.qs_ops_walk.proofs.Walks.{coming_at}
 
@@ -34,7 +32,7 @@ of_triples next rows = record { next = next; source = source.Triple rows }
 
 -- ---- the last level, and what stands in its place
 
-pub passes_last : (old : List Level) (n : ℕ) → n ≡ length old → 0 < n → (l : Level) → l ≡ get_or old (n - 1) l → (columns : List ℕ) (m : Cells) (rows left : List Cells) → l.source ≡ source.Triple rows → PassesRows columns m rows left
+pub passes_last : (old : List Level) (n : ℕ) → n ≡ length old → 0 < n → (l : Level) → l ≡ get_or old (n - 1) l → (columns : List ℕ) (m : Cells) (rows left : List Cells) → l.source ≡ source.Triple rows → SkipsRows columns m rows left
     → PassesLast columns m old (set old (n - 1) (of_triples l.next left))
 passes_last old n len some l e columns m rows left is h = inr (record {
   others = take (n - 1) old;
@@ -43,7 +41,7 @@ passes_last old n len some l e columns m rows left is h = inr (record {
   left = left;
   before = whole old n len some l e ∙ ap (λ (x : Source). let k : Level = record { next = l.next; source = x } in take (n - 1) old ++ k ∷ []) is;
   after = changed old n len some (of_triples l.next left);
-  passes = h;
+  skips = h;
 })
 
 -- ---- cells of all rows that are passed over
@@ -95,11 +93,6 @@ module _ (s : Setting) (table : List Term) (ps : List Place) (columns : List ℕ
         ap (flows s (code_of ps)) (items_parted next rows left)
         ∙ flat_map-append (λ (x : Going). flow (gives_in s) (code_of ps) x.0 x.1) (level_items s table (of_triples next rows)) (level_items s table (of_triples next left))
 
-    comes_same : (next : ℕ) (rows others : List Cells) → SameBag rows others → SameBag (comes next rows) (comes next others)
-    comes_same next rows others h =
-        flat_map_same (λ (x : Going). flow (gives_in s) (code_of ps) x.0 x.1) (level_items s table (of_triples next rows)) (level_items s table (of_triples next others))
-        (IsPermutation-map (λ (x : Solution). let g : Going = (next, x) in g) (row_solutions (known_of s) table rows) (row_solutions (known_of s) table others) (IsPermutation-map (row_solution (known_of s) table) rows others h))
-
     module _ (now : List Level) (h : PassesTriples columns m old now) where
       behind : (xs ys : List Cells) → FitRows (known_of s) table (xs ++ ys) → FitRows (known_of s) table ys
       behind [] ys f = f
@@ -108,28 +101,26 @@ module _ (s : Setting) (table : List Term) (ps : List Place) (columns : List ℕ
       left_fit : FitRows (known_of s) table h.left
       left_fit =
           let all : FitRows (known_of s) table h.rows = level_fits s table ps old h.others (of_triples h.next h.rows) h.before w in
-          let moved : FitRows (known_of s) table (h.passes.passed ++ h.left) =
-          recursion_from_All (FitsRow (known_of s) table) (h.passes.passed ++ h.left) (All-permutation (FitsRow (known_of s) table) h.rows (h.passes.passed ++ h.left) h.passes.are (All-from_recursion (FitsRow (known_of s) table) h.rows all)) in
-          behind h.passes.passed h.left moved
+          behind h.skips.skipped h.left (subst (FitRows (known_of s) table) h.skips.are all)
 
       walk_left : IsWalk s table ps now
       walk_left = record { forward = w.forward; ready = w.ready; fit = mid_fit s table ps old h.others (of_triples h.next h.rows) h.before w (of_triples h.next h.left) left_fit now h.after }
 
-      bag_left : SameBag (coming s (code_of ps) table old) (comes h.next h.passes.passed ++ coming s (code_of ps) table now)
+      bag_left : SameBag (coming s (code_of ps) table old) (comes h.next h.skips.skipped ++ coming s (code_of ps) table now)
       bag_left =
           let code = code_of ps in
           let less : List Solution = coming s code table h.others in
-          let gone : List Solution = comes h.next h.passes.passed in
+          let gone : List Solution = comes h.next h.skips.skipped in
           let stay : List Solution = comes h.next h.left in
           let was : coming s code table old ≡ comes h.next h.rows ++ less = coming_at s code table old h.others (of_triples h.next h.rows) (level_items s table (of_triples h.next h.rows)) h.before refl in
           let is : coming s code table now ≡ stay ++ less = coming_at s code table now h.others (of_triples h.next h.left) (level_items s table (of_triples h.next h.left)) h.after refl in
-          let same : SameBag (comes h.next h.rows) (gone ++ stay) = subst (SameBag (comes h.next h.rows)) (comes_parted h.next h.passes.passed h.left) (comes_same h.next h.rows (h.passes.passed ++ h.left) h.passes.are) in
+          let same : SameBag (comes h.next h.rows) (gone ++ stay) = subst (SameBag (comes h.next h.rows)) (ap (comes h.next) h.skips.are ∙ comes_parted h.next h.skips.skipped h.left) (IsPermutation-refl (comes h.next h.rows)) in
           subst (λ (xs : List Solution). SameBag xs (gone ++ coming s code table now)) (sym was)
           (subst (λ (ys : List Solution). SameBag (comes h.next h.rows ++ less) (gone ++ ys)) (sym is)
           (subst (SameBag (comes h.next h.rows ++ less)) (append_assoc gone stay less) (IsPermutation-append_left less (comes h.next h.rows) (gone ++ stay) same)))
 
       rows_passed : ArePassed s (code_of ps) table columns m old now
-      rows_passed = record { passed = comes h.next h.passes.passed; bag = bag_left; shared = passed_share h.next h.passes.passed h.passes.each }
+      rows_passed = record { passed = comes h.next h.skips.skipped; bag = bag_left; shared = passed_share h.next h.skips.skipped h.skips.each }
 
 pub none_skipped : (width : ℕ) (ps : List Place) (columns : List ℕ) (m : Cells) (old now : List Level) → now ≡ old → SkipsAlike width ps columns m old now
 none_skipped width ps columns m old now e s table same w f =

@@ -24,7 +24,7 @@ use Rattle.qs_ops_program.proofs.Levels.{gives_filter, gives_bind, gives_exists,
 use Rattle.std.proofs.lemmas.List.Sorted.{list_any-IsPermutation}
 use Rattle.qs_terms.specs.Dataset.{names_of}
 use Rattle.qs_terms.specs.Term.{same_term}
-use Rattle.qs_ops_tables.specs.Tables.{KeptRows, FitRows, row_solutions}
+use Rattle.qs_ops_tables.specs.inner.Tables.{KeptRows, FitRows, row_solutions}
 use Rattle.qs_ops_walk.specs.declared.work.Aside.{Aside}
 use Rattle.qs_ops_walk.specs.declared.work.Right.{Right}
 use Rattle.qs_ops_walk.specs.inner.Works.{name_at, only_at, IsAside, IfAside, IsRight, Serves, IsExists}

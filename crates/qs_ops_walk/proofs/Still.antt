@@ -14,7 +14,7 @@ use Rattle.qs_plan_meaning.specs.Scans.{path_pairs}
 use Rattle.qs_algebra_patterns.specs.declared.pattern.PathPattern.{PathPattern}
 use Rattle.qs_store.specs.ActiveGraph.{active_graph}
 use Rattle.qs_store.specs.declared.active.Active.{Active}
-use Rattle.qs_ops_scans.specs.Paths.{Serve}
+use Rattle.qs_ops_scans.specs.inner.Paths.{Serve}
 use Rattle.qs_ops_scans.specs.declared.bound.RowEnds.{RowEnds}
 use Rattle.qs_ops_scans.proofs.Collected.{pairs_stay}
 use Rattle.qs_ops_scans.proofs.FedPairs.{serve_stays}
@@ -22,7 +22,7 @@ use Rattle.qs_ops_walk.specs.declared.work.EndPairs.{EndPairs}
 use Rattle.qs_ops_walk.specs.declared.work.KeptPairs.{KeptPairs}
 use Rattle.qs_ops_program.specs.inner.Flow.{Instruction}
 use Rattle.qs_ops_program.specs.inner.Toil.{summed}
-use Rattle.qs_ops_tables.specs.Tables.{KeptRows, FitRows, row_solutions}
+use Rattle.qs_ops_tables.specs.inner.Tables.{KeptRows, FitRows, row_solutions}
 use Rattle.qs_ops_walk.specs.declared.source.Attempt.{Attempt}
 use Rattle.qs_ops_walk.specs.declared.source.Level.{Level}
 use Rattle.qs_ops_walk.specs.declared.source.Source.{Source}

@@ -1,4 +1,4 @@
--- An evaluation as its caller sees it.
+-- An evaluation as its caller sees it. At its start the solutions that are still to come are the bag of the plan's list.
 use Rattle.std.specs.Prelude.{◌≡◌, ℕ, Bool, true, false, List, [], ◌∷◌, ◌++◌, Option, Some, None}
 use Rattle.std.specs.List.{AllByRecursion}
 use Rattle.qs_terms.specs.Bag.{SameBag}

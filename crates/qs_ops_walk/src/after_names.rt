@@ -1,7 +1,7 @@
 //! What follows the names of graphs in a program, where one level serves for both.
 
 ghost use Rattle.std.specs.Prelude.{◌≡◌, true, IfSome};
-ghost use Rattle.qs_ops_scans.specs.Each.{misses};
+ghost use Rattle.qs_ops_scans.specs.inner.Each.{misses};
 ghost use Rattle.qs_ops_scans.specs.declared.look.PreparedLook.TheVariants as prepared;
 ghost use Rattle.qs_ops_walk.specs.inner.After.{IsAfterNames, IsInEach, IsJoined, IsJoining};
 ghost use Rattle.qs_ops_walk.specs.declared.work.Work.TheVariants as variant;

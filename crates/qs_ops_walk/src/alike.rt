@@ -185,7 +185,7 @@ fn pass_last(levels: &mut Vec<Level<'_>>, columns: &[usize], row: &Row)
         return;
     };
     if let Source::Triple(rows) = &mut level.source {
-        rows.pass(columns, row);
+        rows.skip_alike(columns, row);
     }
 }
 

@@ -3,7 +3,7 @@
 ghost use Rattle.std.specs.Prelude.{◌≡◌, None, Some, true, Ok, IfOk, IfErr, IfSome, OnErr, map, take};
 ghost use Rattle.qs_terms.specs.declared.fault.QFault.TheVariants.{Memory};
 ghost use Rattle.qs_store.specs.ActiveGraph.{active_graph};
-ghost use Rattle.qs_expr_values.specs.Value.{term_of};
+ghost use Rattle.qs_expr_values.specs.inner.Value.{term_of};
 ghost use Rattle.qs_expr.specs.Cell.{denoted, row_solution, FitsCell, FitsRow};
 ghost use Rattle.qs_expr.specs.Evaluated.{Evaluates};
 ghost use Rattle.qs_expr.specs.Scratch.{IsTable, Grows};

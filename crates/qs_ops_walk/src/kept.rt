@@ -6,7 +6,7 @@ ghost use Rattle.qs_expr.specs.Scratch.{IsTable, Grows};
 ghost use Rattle.qs_store.specs.ActiveGraph.{active_graph};
 ghost use Rattle.qs_store.specs.Graphs.{AreGraphs};
 ghost use Rattle.qs_plan_meaning.specs.Scans.{path_pairs};
-ghost use Rattle.qs_ops_scans.specs.Paths.{ArePairs, Serve};
+ghost use Rattle.qs_ops_scans.specs.inner.Paths.{ArePairs, Serve};
 ghost use Rattle.qs_ops_walk.specs.inner.Setting.{known_of};
 ghost use Rattle.qs_ops_walk.specs.inner.Works.{ArePairsFor, AreValues, IfEndPairs, IfGraphs, IfPairs, IfValues};
 

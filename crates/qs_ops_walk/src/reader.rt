@@ -14,10 +14,10 @@ ghost use Rattle.qs_plan_meaning.specs.Scans.{extensions, path_pairs};
 ghost use Rattle.qs_plan_meaning.specs.Stages.{each_named, looked};
 ghost use Rattle.qs_store.specs.ActiveGraph.{active_graph};
 ghost use Rattle.qs_store.specs.Graphs.{AreGraphs};
-ghost use Rattle.qs_ops_scans.specs.Paths.{ArePairs, Serve};
-ghost use Rattle.qs_ops_scans.specs.Each.{NamesGraph, each_extension, each_joined, misses};
-ghost use Rattle.qs_ops_scans.specs.Makes.{Makes};
-ghost use Rattle.qs_ops_scans.specs.Prepared.{IsGraphOf, prepared_look, prepared_triple};
+ghost use Rattle.qs_ops_scans.specs.inner.Paths.{ArePairs, Serve};
+ghost use Rattle.qs_ops_scans.specs.inner.Each.{NamesGraph, each_extension, each_joined, misses};
+ghost use Rattle.qs_ops_scans.specs.inner.Makes.{Makes};
+ghost use Rattle.qs_ops_scans.specs.inner.Prepared.{IsGraphOf, prepared_look, prepared_triple};
 ghost use Rattle.qs_ops_walk.specs.inner.Setting.{graph_in, known_of};
 
 use crate::spare::keep;

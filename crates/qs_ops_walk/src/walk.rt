@@ -6,7 +6,7 @@ ghost use Rattle.qs_terms.specs.declared.term.Term.{Term as TermValue};
 ghost use Rattle.qs_expr.specs.Cell.{row_solution, FitsRow};
 ghost use Rattle.qs_expr.specs.Scratch.{IsTable, Grows};
 ghost use Rattle.qs_ops_program.specs.inner.Heights.{stages_height};
-ghost use Rattle.qs_ops_tables.specs.Tables.{FitRows, row_solutions};
+ghost use Rattle.qs_ops_tables.specs.inner.Tables.{FitRows, row_solutions};
 ghost use Rattle.qs_plan_meaning.specs.Stages.{fed_rows};
 ghost use Rattle.qs_ops_walk.specs.inner.Setting.{known_of, through_in};
 ghost use Rattle.qs_ops_walk.specs.inner.Works.{IsReady, IsRight, Serves, code_of, heights_of, only_cells, IsAside, name_at};

@@ -33,7 +33,7 @@ use Rattle.qs_store.proofs.TriplesSaid.{same_number as one_place}
 use Rattle.qs_store.specs.ActiveGraph.{active_graph}
 use Rattle.qs_paths.proofs.Active.{active_has, active_only, active_once, same_triple-Decides}
 use Rattle.qs_paths.proofs.Lists.{map_has, member_of_map, of_any, same_members}
-use Rattle.qs_paths_meaning.specs.Edges.{has, having}
+use Rattle.qs_paths_meaning.specs.inner.Edges.{has, having}
 use Rattle.qs_paths_meaning.specs.Pair.{Pair}
 use Rattle.qs_syntax_ast.specs.declared.path.NegatedIri.{NegatedIri}
 use Rattle.qs_paths_meaning.specs.Steps.{agrees, along, is_between, is_of, is_outside, pair_of}

@@ -20,14 +20,15 @@ pub record AreDenoted (known table : List Term) (name : ℕ → Term) (ps : List
   pub left : (n : ℕ) (e : Pair) → IsIn ps e → e.left ≡ name n → denoted known table (cell_of n) ≡ Some (name n)
   pub right : (n : ℕ) (e : Pair) → IsIn ps e → e.right ≡ name n → denoted known table (cell_of n) ≡ Some (name n)
 
--- by this scratch table these are the pairs still to come, in any order. Nothing but the clauses of `pairs` and of `next` need be known of it
+-- by this scratch table these are the pairs still to come, in any order. Nothing but the clauses of `pairs` and of `next` need be known of
+-- it: it holds of the path's bag at first, and then of what an answer leaves
 pub record IsToCome {V : Type 0} (content : V → Content) (default : V → DefaultGraph) (table : List Term) (pairs : Pairs V) (ps : List Pair) : Type 0 where
   pub name : ℕ → Term
   pub naming : IsNaming (known_in content pairs.edges) name
   pub denoted : AreDenoted (known_in content pairs.edges) table name ps
   pub left : IsLeftIn (graph_in content default pairs.edges) name pairs.request pairs.turned pairs.state ps
 
--- an end is a place of the scratch table at which no table of this machine can have a term
+-- an end is so late a place of the scratch table that no number is left for it; no table of this machine has a term there
 abbrev pub IsEndTooFar : Option Cell → Type 0
 IsEndTooFar None = ⊥
 IsEndTooFar (Some cell) = IsTooFar cell

@@ -21,6 +21,7 @@ abbrev pub leads : (Term → Term → Bool) → List Term → Term → Term → 
 leads step [] x y = step x y
 leads step (c ∷ cs) x y = leads step cs x y || (leads step cs x c && leads step cs c y)
 
+-- y is led to from x; by `?` and `*` a term is led to itself by no step, whether it is in the graph or not
 abbrev pub repeats : Repetition → (Term → Term → Bool) → List Term → Term → Term → Bool
 repeats ZeroOrOne step cs x y = same_term x y || step x y
 repeats ZeroOrMore step cs x y = same_term x y || leads step cs x y

@@ -1,4 +1,6 @@
 -- The pairs of terms that a path leads between (SPARQL 1.1 Query, 9 and 18.4). An end is a term or open.
+-- `^` swaps the pairs, `|` puts the lists of its parts together, and `/` joins them by the middle, with each later part evaluated from an
+-- open end.
 use Rattle.std.specs.Prelude.{Bool, List, [], ◌∷◌, map, Option, Some, None}
 use Rattle.std.specs.List.{flat_map, list_any}
 use Rattle.qs_terms.specs.declared.term.Term.{Term}

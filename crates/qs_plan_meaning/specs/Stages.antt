@@ -1,6 +1,6 @@
--- What the stages of a plan mean (SPARQL 1.1 Query, 18.5), over terms alone. A row is a solution: first the named variables, so many as
--- the query has, and after them cells for hidden variables, which the blank nodes of a basic graph pattern are, and for registers, which
--- hold the name of a graph. A stage makes a list of rows of one row, and a group of stages is a list of them, one after another.
+-- What the stages of a plan mean (SPARQL 1.1 Query, 18.5), over terms alone. A row is a solution: first the named variables of the query,
+-- and after them hidden variables and registers. Hidden variables are the blank nodes of a basic graph pattern; a register holds the name
+-- of a graph. A stage makes a list of rows of one row, and a group of stages is a list of them, one after another.
 use Rattle.std.specs.Prelude.{ℕ, Bool, true, false, not, List, [], ◌∷◌, ◌++◌, map, take, drop, Option, Some, None, if◌then◌else◌, length, slice_set}
 use Rattle.std.specs.List.{filter, flat_map, list_any}
 use Rattle.qs_terms.specs.Dataset.{graph_of, names_of}
@@ -77,7 +77,7 @@ abbrev pub along : List Made → Made
 along [] m = m ∷ []
 along (f ∷ fs) m = flat_map (along fs) (f m)
 
--- what a stage makes of a row of which `width` variables are named
+-- what a stage makes of a row of which `width` variables are named; a filter, BIND and the conditions of OPTIONAL see these alone
 abbrev pub gives_level : ℕ → List Statement → Graph → Stage-F Made Made → Made
 gives_level width quads active (Triple place p) m = extensions p (looked quads active place m) m
 gives_level width quads active (Path place p) m = path_extensions p (looked quads active place m) m

@@ -1,4 +1,5 @@
--- What the text of a query over a dataset is answered with: one of the answers that the algebra gives, or the one fault that is due.
+-- What the text of a query over a dataset is answered with (SPARQL 1.1 Query, 16 and 18): one of the answers that the algebra gives, or the
+-- one fault that is due. A call may answer running out of memory instead.
 use Rattle.std.specs.Prelude.{◌≡◌, ℕ, List, None, Ok, Err}
 use Rattle.qs_terms.specs.Dataset.{Dataset, Triple, graph_of}
 use Rattle.qs_algebra_solutions.specs.declared.answer.Answer.{Answer}

@@ -14,7 +14,7 @@ use Rattle.qs_terms.specs.Outcome.{Outcome, OneOrOutOfMemory}
 use Rattle.qs_terms.specs.declared.fault.QFault.TheVariants.{TooManyRows}
 use Rattle.qs_terms.proofs.FirstOnes.{filter-append}
 use Rattle.qs_algebra_solutions.specs.Solution.{Solution, projected, same_solution}
-use Rattle.qs_algebra_solutions.specs.Some.{AreSome, AreSomeDistinct, is_enough}
+use Rattle.qs_algebra_solutions.specs.inner.Some.{AreSome, AreSomeDistinct, is_enough}
 use Rattle.qs_algebra_solutions.specs.declared.answer.Answer.{Answer}
 use Rattle.qs_algebra_solutions.proofs.Same.{same_solution-Decides}
 use Rattle.qs_expr_values.specs.Sorting as of
@@ -22,8 +22,8 @@ use Rattle.qs_query_order.proofs.Total.{lists_total}
 use Rattle.qs_query_order.specs.Order.{compare, compare_by, AreFirstIf, IsOrdered}
 use Rattle.qs_query_order.specs.inner.Keys.{compare_keys, keys_of}
 use Rattle.qs_query_order.specs.declared.condition.OrderCondition.{OrderCondition}
-use Rattle.qs_query_solutions.specs.After.{AreSomeAfter}
-use Rattle.qs_query_solutions.specs.Ordered.{IsOrderedPart}
+use Rattle.qs_query_solutions.specs.inner.After.{AreSomeAfter}
+use Rattle.qs_query_solutions.specs.inner.Ordered.{IsOrderedPart}
 use Rattle.qs_query_template.specs.Instances.{made}
 use Rattle.qs_query_forms.specs.Outcome.{IsBuilt, IsConstructed}
 use Rattle.qs_query_forms.specs.declared.construction.Construction.{Construction}

@@ -11,7 +11,7 @@ use Rattle.qs_terms.specs.declared.fault.QFault.TheVariants.{TooManyRows}
 use Rattle.qs_algebra_solutions.specs.Solution.{Solution, projected}
 use Rattle.qs_query_order.specs.Order.{IsOrdered}
 use Rattle.qs_query_order.specs.declared.condition.OrderCondition.{OrderCondition}
-use Rattle.qs_algebra_solutions.specs.Some.{AreSome, is_enough}
+use Rattle.qs_algebra_solutions.specs.inner.Some.{AreSome, is_enough}
 use Rattle.qs_algebra_solutions.specs.declared.answer.Answer.{Answer}
 use Rattle.qs_query_template.specs.Instances.{made}
 use Rattle.qs_query_forms.specs.inner.InOrder.{AllowsMore, ByLimit, AreEnough, AreFew, IsFront, Suffices, SufficesToSelect, IsRowsOf, IsRows, IsGraphOf, bounded}

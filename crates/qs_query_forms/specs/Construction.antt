@@ -1,4 +1,4 @@
--- What a CONSTRUCT asks for (SPARQL 1.1 Query, 16.2).
+-- What a CONSTRUCT asks for (SPARQL 1.1 Query, 16.2): the template, the pattern, the conditions of ORDER BY, OFFSET and LIMIT.
 use Rattle.qs_syntax_ast.specs.declared.query.Construct.{Construct}
 use Rattle.qs_syntax_ast.specs.declared.query.Query.{Query}
 use Rattle.qs_syntax_scope.specs.Firsts.{names_of}

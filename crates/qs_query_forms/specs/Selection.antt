@@ -1,4 +1,5 @@
--- What a SELECT asks for (SPARQL 1.1 Query, 15 and 18.2.4).
+-- What a SELECT asks for (SPARQL 1.1 Query, 15 and 18.2.4): the listed variables, the pattern, the conditions of ORDER BY, whether
+-- duplicates are eliminated, OFFSET and LIMIT.
 use Rattle.std.specs.Prelude.{Bool, true, false, List, ◌++◌, map, Option}
 use Rattle.std.specs.List.{filter}
 use Rattle.qs_syntax_tree.specs.declared.query.Duplicates.{Duplicates}

@@ -1,6 +1,5 @@
--- The sequence of a query's solutions (SPARQL 1.1 Query, 15, 18.2.4 and 18.2.5): its pattern's solutions in an order that the
--- conditions of ORDER BY allow, and what the other modifiers make of them, one after another: projection, DISTINCT or REDUCED, OFFSET
--- and LIMIT.
+-- The sequence of a query's solutions (SPARQL 1.1 Query, 15, 18.2.4 and 18.2.5): its pattern's solutions in an order that the conditions of
+-- ORDER BY allow. The other modifiers follow, one after another: projection, DISTINCT or REDUCED, OFFSET and LIMIT.
 use Rattle.std.specs.Prelude.{◌≡◌, ℕ, Bool, true, false, List, [], ◌∷◌, map, take, drop, length, Option, Some, None}
 use Rattle.qs_terms.specs.Bag.{SameBag, once}
 use Rattle.qs_terms.specs.Dataset.{Dataset, Triple}
@@ -13,7 +12,8 @@ use Rattle.qs_algebra_patterns.specs.declared.named_pattern.Pattern.{Pattern}
 use Rattle.qs_query_forms.specs.declared.selection.Selection.{Selection}
 use Rattle.qs_query_forms.specs.declared.modifiers.Slice.{Slice}
 
--- the dataset of some quads, of which each counts once, with the next blank node's number
+-- the dataset of some quads, each once by its first occurrence, with the next blank node's number; it is a dataset where the number is
+-- above those of their blank nodes
 abbrev pub dataset_of : List Statement → ℕ → Dataset
 dataset_of quads next = record { quads = once same_statement quads; next = next }
 

@@ -6,8 +6,8 @@ use Rattle.std.proofs.lemmas.Bool.{le-leb, leb-true}
 use Rattle.std.proofs.lemmas.List.{length-map, map-id, nil_from_length, drop_at, drop_all}
 use Rattle.qs_terms.specs.Bag.{SameBag}
 use Rattle.qs_algebra_solutions.specs.Solution.{Solution, projected}
-use Rattle.qs_algebra_solutions.specs.Some.{AreSome, is_enough}
-use Rattle.qs_query_solutions.specs.After.{AreSomeAfter, projected_if}
+use Rattle.qs_algebra_solutions.specs.inner.Some.{AreSome, is_enough}
+use Rattle.qs_query_solutions.specs.inner.After.{AreSomeAfter, projected_if}
 use Rattle.qs_query_solutions.specs.inner.Collected.{Collection, Collects, CollectsAfter, IsPart, most_left, nothing, with_row, with_rows}
 
 -- ---- rows one after another

@@ -9,7 +9,7 @@ use Rattle.qs_terms.specs.Term.{same_term}
 use Rattle.qs_terms.specs.declared.term.Term.{Term}
 use Rattle.qs_terms.proofs.FirstOnes.{once_with}
 use Rattle.qs_algebra_solutions.specs.Solution.{Solution, projected, same_cell, same_solution, term_at}
-use Rattle.qs_algebra_solutions.specs.Some.{AreSomeDistinct, is_enough}
+use Rattle.qs_algebra_solutions.specs.inner.Some.{AreSomeDistinct, is_enough}
 use Rattle.qs_algebra_solutions.proofs.Same.{same_solution-Decides}
 use Rattle.qs_expr.specs.declared.cell.Cell.{Cell}
 use Rattle.qs_expr.specs.Cell.{Cells, cell_at, denoted, denoted_if, row_solution, FitsIf, FitsRow}

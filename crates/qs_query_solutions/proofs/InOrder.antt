@@ -10,7 +10,7 @@ use Rattle.std.proofs.lemmas.List.Sorted.{IsPermutation-refl, IsPermutation-sym,
 use Rattle.qs_terms.specs.Bag.{SameBag}
 use Rattle.qs_terms.specs.declared.term.Term.{Term}
 use Rattle.qs_algebra_solutions.specs.Solution.{Solution}
-use Rattle.qs_algebra_solutions.specs.Some.{AreSome, is_enough}
+use Rattle.qs_algebra_solutions.specs.inner.Some.{AreSome, is_enough}
 use Rattle.qs_expr.specs.Cell.{Cells, row_solution, FitsRow}
 use Rattle.qs_expr.specs.Scratch.{Grows}
 use Rattle.qs_expr.proofs.Growth.{same_row, still_row}
@@ -21,8 +21,8 @@ use Rattle.qs_query_order.specs.inner.Keys.{keys_of}
 use Rattle.qs_query_order.specs.declared.condition.OrderCondition.{OrderCondition}
 use Rattle.qs_query_order.specs.declared.keyed.KeyedRow.{KeyedRow}
 use Rattle.qs_query_order.proofs.Keeping.{none_kept}
-use Rattle.qs_query_solutions.specs.After.{projected_if}
-use Rattle.qs_query_solutions.specs.Ordered.{IsOrderedPart}
+use Rattle.qs_query_solutions.specs.inner.After.{projected_if}
+use Rattle.qs_query_solutions.specs.inner.Ordered.{IsOrderedPart}
 use Rattle.qs_query_solutions.specs.inner.Collected.{most_left}
 use Rattle.qs_query_solutions.specs.inner.SoFar.{AreSoFar, Fit, one_less}
 use Rattle.qs_query_solutions.proofs.Coming.{Left, left_of, none_of}

@@ -1,3 +1,1 @@
-pub mod After
-pub mod Ordered
 pub mod inner

@@ -3,3 +3,5 @@ pub mod Collected
 pub mod Front
 pub mod SoFar
 pub mod Distinct
+pub mod After
+pub mod Ordered

@@ -9,7 +9,7 @@ ghost use Rattle.qs_terms.specs.Dataset.{graph_of};
 ghost use Rattle.qs_store.specs.ActiveGraph.{active_graph};
 ghost use Rattle.qs_store.specs.Visible.{visible_quads};
 ghost use Rattle.qs_algebra_solutions.specs.Solution.{Solution as Solved};
-ghost use Rattle.qs_algebra_solutions.specs.Some.{AreSomeDistinct};
+ghost use Rattle.qs_algebra_solutions.specs.inner.Some.{AreSomeDistinct};
 ghost use Rattle.qs_algebra_patterns.specs.Eval.{eval};
 ghost use Rattle.qs_expr.specs.Cell.{FitsRow};
 ghost use Rattle.qs_expr.specs.Scratch.{IsTable};

@@ -10,13 +10,13 @@ ghost use Rattle.qs_terms.specs.Dataset.{graph_of};
 ghost use Rattle.qs_store.specs.ActiveGraph.{active_graph};
 ghost use Rattle.qs_store.specs.Visible.{visible_quads};
 ghost use Rattle.qs_algebra_solutions.specs.Solution.{Solution as Solved};
-ghost use Rattle.qs_algebra_solutions.specs.Some.{AreSome};
+ghost use Rattle.qs_algebra_solutions.specs.inner.Some.{AreSome};
 ghost use Rattle.qs_algebra_patterns.specs.Eval.{eval};
 ghost use Rattle.qs_expr.specs.Cell.{row_solution, FitsRow};
 ghost use Rattle.qs_plan.specs.Plans.{plan_list};
 ghost use Rattle.qs_query_order.specs.inner.Keyed.{AreInFrontIf, IsKeyed, solutions_of};
-ghost use Rattle.qs_query_solutions.specs.After.{projected_if};
-ghost use Rattle.qs_query_solutions.specs.Ordered.{IsOrderedPart};
+ghost use Rattle.qs_query_solutions.specs.inner.After.{projected_if};
+ghost use Rattle.qs_query_solutions.specs.inner.Ordered.{IsOrderedPart};
 ghost use Rattle.qs_query_solutions.specs.inner.Collected.{most_left};
 ghost use Rattle.qs_query_solutions.specs.inner.SoFar.{Fit, AreSoFar, one_less};
 

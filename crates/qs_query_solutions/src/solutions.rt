@@ -6,10 +6,10 @@ ghost use Rattle.qs_terms.specs.Dataset.{graph_of};
 ghost use Rattle.qs_store.specs.ActiveGraph.{active_graph};
 ghost use Rattle.qs_store.specs.Visible.{visible_quads};
 ghost use Rattle.qs_algebra_solutions.specs.Solution.{Solution as Solved};
-ghost use Rattle.qs_algebra_solutions.specs.Some.{AreSome};
+ghost use Rattle.qs_algebra_solutions.specs.inner.Some.{AreSome};
 ghost use Rattle.qs_algebra_patterns.specs.Eval.{eval};
 ghost use Rattle.qs_plan.specs.Plans.{plan_list};
-ghost use Rattle.qs_query_solutions.specs.After.{AreSomeAfter};
+ghost use Rattle.qs_query_solutions.specs.inner.After.{AreSomeAfter};
 ghost use Rattle.qs_query_solutions.specs.inner.Collected.{Collects, CollectsAfter, IsPassed, most_left};
 
 use crate::active::active_of;

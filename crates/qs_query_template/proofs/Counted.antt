@@ -18,7 +18,7 @@ use Rattle.qs_syntax_ast.specs.declared.term.VarOrIri.TheVariants as name
 use Rattle.qs_syntax_ast.specs.declared.update.QuadBlock.{QuadBlock}
 use Rattle.qs_syntax_scope.specs.Names.{Name}
 use Rattle.qs_query_template.specs.Blanks.{same_blank, number_in, add_new, add_blank, firsts, term_blanks, triple_blanks, triples_blanks, blocks_blanks}
-use Rattle.qs_query_template.specs.Fresh.{slot_is_numbered, graph_is_numbered, quad_is_numbered, is_numbered}
+use Rattle.qs_query_template.specs.inner.Fresh.{slot_is_numbered, graph_is_numbered, quad_is_numbered, is_numbered}
 use Rattle.qs_query_template.specs.Template.{blank_slot, term_slot, verb_slot, graph_slot, quad_with, triple_quads, block_quads, template_of, template_of_blocks}
 use Rattle.qs_query_template.specs.declared.template.Slot.{Slot}
 use Rattle.qs_query_template.proofs.Numbered.{found_more, absent_more}

@@ -11,7 +11,7 @@ use Rattle.qs_syntax_ast.specs.declared.term.VarOrIri.TheVariants as name
 use Rattle.qs_syntax_ast.specs.declared.update.QuadBlock.{QuadBlock}
 use Rattle.qs_syntax_scope.specs.Names.{Name}
 use Rattle.qs_query_template.specs.Blanks.{triples_blanks, blocks_blanks, firsts}
-use Rattle.qs_query_template.specs.Fresh.{slot_is_blank, graph_is_blank, template_quad_has_blank, names_blank}
+use Rattle.qs_query_template.specs.inner.Fresh.{slot_is_blank, graph_is_blank, template_quad_has_blank, names_blank}
 use Rattle.qs_query_template.specs.Template.{term_slot, verb_slot, graph_slot, quad_with, triple_quads, block_quads, template_of, template_of_blocks}
 use Rattle.qs_query_template.specs.declared.template.Slot.{Slot}
 

@@ -1,8 +1,7 @@
--- The blank nodes of a template, with a label or without one (SPARQL 1.1 Query, 4.1.4), numbered from 0 by first appearance in the
--- text. A triple to `[ .. ]` stands in the list before the triples inside it, so that the order of the text is that of the triples, the
--- subject of each before its object. In quads with graphs it is that of the blocks.
--- Triples are in the order of the text: one to `[ .. ]` before the triples inside, and a subject `[ .. ]` with its own triples
--- first. Hidden variables of a pattern can't be seen, so there the labels may come first.
+-- The blank nodes of a template, with a label or without one (SPARQL 1.1 Query, 4.1.4 and 16.2.1): each that stands as subject or object,
+-- once, numbered from 0 by first appearance in the text. A triple to `[ .. ]` stands before the triples inside it, and a subject `[ .. ]`
+-- has its own triples first. So the order of the text is that of the triples, in each the subject before the object, and in quads with
+-- graphs that of the blocks. Hidden variables of a pattern can't be seen, so there the labels may come first.
 use Rattle.std.specs.Prelude.{ℕ, zero, suc, Bool, false, nat_eq, List, [], ◌∷◌, ◌++◌, Option, Some, None, if◌then◌else◌}
 use Rattle.std.specs.Cmp.Lexicographic.{pointwise}
 use Rattle.std.specs.List.{fold, flat_map}

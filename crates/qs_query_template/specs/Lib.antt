@@ -1,5 +1,4 @@
 pub mod Blanks
 pub mod Template
 pub mod Instances
-pub mod Fresh
 pub mod inner

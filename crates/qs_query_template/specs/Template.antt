@@ -1,5 +1,6 @@
--- Templates of quads with their variables as numbers (SPARQL 1.1 Query, 16.2; SPARQL 1.1 Update, 3.1.3). By the grammar no path stands
--- as a verb in a template; a triple with one is left out.
+-- Templates of quads with their variables and blank nodes as numbers (SPARQL 1.1 Query, 16.2; SPARQL 1.1 Update, 3.1.3): a quad for each
+-- triple, in the order of the text, and how many blank nodes there are. By the grammar no path stands as a verb in a template; a triple
+-- with one is left out.
 use Rattle.std.specs.Prelude.{ℕ, List, [], ◌∷◌, length, map, Option, Some, None}
 use Rattle.std.specs.List.{flat_map}
 use Rattle.std.specs.Option.{unwrap_or}

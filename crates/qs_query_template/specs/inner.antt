@@ -2,3 +2,4 @@
 pub mod Lent
 pub mod Numbered
 pub mod DataBlocks
+pub mod Fresh

@@ -1,6 +1,5 @@
--- Answers as JSON (SPARQL 1.1 Query Results JSON Format, 3.1 to 3.3). The members of each object ascend by their bytes.
--- The members of objects ascend by their bytes. The standard leaves the order free, and so each answer has one text. The datatype
--- xsd:string isn't written (SPARQL 1.1 Query Results JSON Format, 3.2.2).
+-- Answers as JSON, data of `serde_json` whose text is that crate's without white space (SPARQL 1.1 Query Results JSON Format, 3.1 to 3.3).
+-- The members of each object ascend by their bytes. The standard leaves the order free, and so each answer has one text.
 use Rattle.std.specs.Prelude.{ℕ, Bool, true, false, List, [], ◌∷◌, ◌++◌, Option, Some, None, map, codes, decimal, if◌then◌else◌}
 use Rattle.std.specs.Str.{bytes_eq}
 use Rattle.serde_json.specs.Data.{Data, null, boolean, string, array, object, Members, no_members, member, put}
@@ -27,6 +26,7 @@ literal_members form datatype (Some tag) =
     typed_value (codes "literal") form (member (codes "xml:lang") (string tag) no_members)
 literal_members form datatype None = with_datatype datatype (typed_value (codes "literal") form no_members)
 
+-- `type` and `value`, and a literal's tag or datatype; the label of a blank node is `b` and its number
 abbrev pub term_members : Term → Members
 term_members (term.Iri iri) = typed_value (codes "uri") iri no_members
 term_members (term.Blank number) = typed_value (codes "bnode") (codes "b" ++ decimal number) no_members
@@ -65,7 +65,8 @@ has_json (Solutions names rows) = true
 has_json (Truth b) = true
 has_json (Graph quads) = false
 
--- the answer of a SELECT (3.1 and 3.2), or of an ASK (3.3); a graph has no form
+-- the answer of a SELECT: `head` with the names, and `results` with the solutions (3.1 and 3.2); or of an ASK: `boolean`, and an empty
+-- `head` (3.3); a graph has no form
 abbrev pub json_of : Answer → Data
 json_of (Solutions names rows) =
     object (member (codes "head") (object (member (codes "vars") (names_data names) no_members))

@@ -1,4 +1,4 @@
--- Faults as lines, without the line's end.
+-- Faults as lines, without the line's end. Places and lines are in decimal.
 use Rattle.std.specs.Prelude.{ℕ, List, ◌++◌, codes, decimal}
 use Rattle.qs_terms.specs.declared.fault.QFault.{QFault}
 use Rattle.qs_terms.specs.declared.fault.QFault.TheVariants as fault
@@ -20,7 +20,8 @@ fault_line fault.TooManyRows = codes "F8 too many rows"
 fault_line fault.Memory = codes "F9 out of memory"
 fault_line fault.Full = codes "F10 full"
 
--- the status of a reply with that line: the request is at fault, or the server is (SPARQL 1.1 Protocol, 2.1.7 and 2.2.5)
+-- the status of a reply with that line: 400 where the text of the request is at fault, and 500 elsewhere (SPARQL 1.1 Protocol, 2.1.7 and
+-- 2.2.5; RFC 9110, 15.5.1 and 15.6.1)
 abbrev pub fault_status : QFault → ℕ
 fault_status (fault.Syntax place) = 400
 fault_status (fault.Prefix place) = 400

@@ -33,12 +33,13 @@ abbrev pub query_reply : Outcome Answer → Message
 query_reply (Ok answer) = answer_reply answer
 query_reply (Err f) = fault_reply f
 
--- what is stored after an update, and its reply: a refused one changes nothing
+-- what is stored after an update, and its reply: the content that it makes, with what is fixed for requests as it was, and 204; a refused
+-- one changes nothing
 abbrev pub IsUpdated : Stored → Outcome Content → Stored → Message → Type 0
 IsUpdated old (Ok c) new reply = IsSameContent new.content c × (new.bounds ≡ old.bounds) × (reply ≡ fixed_message NoContent)
 IsUpdated old (Err f) new reply = (new ≡ old) × (reply ≡ fault_reply f)
 
--- what a request does: carried out over what is stored, with that reply
+-- what a request does: carried out over what is stored, with that reply; only an update changes what is stored
 abbrev pub Carries : Language → Stored → Request → Stored → Message → Type 0
 Carries l old (Query text) new reply =
     (outcome : Outcome Answer) × l.answers text old.bounds old.content outcome × (new ≡ old) × (reply ≡ query_reply outcome)

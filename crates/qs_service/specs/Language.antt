@@ -1,4 +1,4 @@
--- What the texts of requests mean: a parameter of what a request does, so that this is read apart from it.
+-- What the texts of requests mean (SPARQL 1.1 Protocol, 2): a parameter of what a request does, so that this is read apart from it.
 use Rattle.std.specs.Prelude.{◌≡◌, ℕ, List}
 use Rattle.qs_terms.specs.Outcome.{Outcome}
 use Rattle.qs_terms.specs.Statement.{Statement}

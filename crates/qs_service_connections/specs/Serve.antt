@@ -18,7 +18,8 @@ abbrev pub IsAnsweredWith : {S : Type 0} → RequestMeaning S → S → List ℕ
 IsAnsweredWith carries old read new reply = Receives carries old (Reading []) read new (Answered reply 0)
 
 -- what became of the bytes read: nothing is carried out unless a reply is made; `before` and `after` are the bytes that the stream had
--- taken, where they are known
+-- taken, where they are known. Answered: it took the whole reply, whose status is told. Silent: more are wanted of all the bytes that it
+-- gave. After a fault of writing it took a front of the reply, not all of it, whose length is told
 abbrev pub BecomesOf : {S : Type 0} → RequestMeaning S → S → List ℕ → Result Served ServeFault → S → Option (List ℕ) → Option (List ℕ) → Option (List ℕ) → Type 0
 BecomesOf carries old read (Ok (served.Answered status)) new left before after =
     (reply : Message) × IsAnsweredWith carries old read new reply × (status ≡ reply.status) × Appends before after reply.bytes

@@ -26,7 +26,8 @@ ResultsIn carries old bytes More new exchange = (new ≡ old) × (exchange ≡ R
 ResultsIn carries old bytes (Refused fixed) new exchange = (new ≡ old) × IsReply (fixed_message fixed) exchange
 ResultsIn carries old bytes (Ready request) new exchange = (reply : Message) × carries old request new reply × IsReply reply exchange
 
--- a connection and what is stored, before and after a piece: what its joined bytes result in, or out of memory, where what is stored stays
+-- a connection and what is stored, before and after a piece: what its joined bytes result in, or out of memory, where what is stored stays;
+-- one that was answered stays as it is
 abbrev pub Receives : {S : Type 0} → RequestMeaning S → S → Exchange → List ℕ → S → Exchange → Type 0
 Receives carries old (Answered reply taken) piece new exchange = (new ≡ old) × (exchange ≡ Answered reply taken)
 Receives carries old (Reading bytes) piece new exchange =
@@ -36,7 +37,8 @@ Receives carries old (Reading bytes) piece new exchange =
 abbrev pub IsJoined : {S : Type 0} → State S → ℕ → Type 0
 IsJoined old id = (exchange : Exchange) × (exchange_of id old.joined ≡ Some exchange)
 
--- from old, the event may have that outcome and lead to new; at most 64 connections are joined at once
+-- from old, the event may have that outcome and lead to new; at most 64 connections are joined at once. A join is refused as KnownId where
+-- the id is joined, and else as Busy; a piece or an end as UnknownId where the id isn't joined. What is refused changes nothing
 abbrev pub Step : {S : Type 0} → RequestMeaning S → State S → Event → Option ServiceFault → State S → Type 0
 Step carries old (Join id) None new =
     (exchange_of id old.joined ≡ None) × (length old.joined < 64) × (new ≡ record old { joined = old.joined ++ record { id = id; exchange = Reading [] } ∷ [] })

@@ -1,4 +1,4 @@
--- What comes and goes on connections, each named by its place.
+-- What comes and goes on connections, each named by its place. The log of a network is known, or it is not, as with sockets.
 use Rattle.std.specs.Prelude.{◌≡◌, ℕ, List, [], ◌∷◌, ◌++◌, take, Option, None, Some, Result, Ok, Err, ⊤}
 
 -- bytes came from a peer, went to one, or one was told that no more come

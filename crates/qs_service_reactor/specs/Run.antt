@@ -8,8 +8,8 @@ pub data Event : Type 0 where
   Piece : (id : ℕ) → (bytes : List ℕ) → Event
   End : (id : ℕ) → Event
 
--- The endpoint makes a step, and takes the event up or not; bytes of a reply go out; bytes that come after a request are dropped; or the peer
--- is told that no more bytes come.
+-- The endpoint makes a step, and takes the event up or not; bytes of a reply go out; bytes that come after a request are dropped; or the
+-- peer is told that no more bytes come.
 pub data Act : Type 0 where
   Did : (event : Event) → (done : Bool) → Act
   Wrote : (id : ℕ) → (bytes : List ℕ) → Act
@@ -68,8 +68,8 @@ pub record KeepsOthers (id : ℕ) (old new : ℕ → Option (List ℕ)) : Type 0
   pub kept : (k : ℕ) → k ≢ id → (reply : List ℕ) → old k ≡ Some reply → new k ≡ Some reply
 
 module _ {A : Type 0} (steps : A → Event → Bool → A → Type 0) (reply_of : A → ℕ → Option (List ℕ)) where
-  -- One act: the endpoint makes a step, or stays. With the bytes that go out, all that went out since the join are a front of the one reply;
-  -- the peer is told of the end once they are all of it; and bytes are dropped only once the reply stands.
+  -- One act: the endpoint makes a step, or stays. With the bytes that go out, all that went out since the join are a front of the one
+  -- reply; the peer is told of the end once they are all of it; and bytes are dropped only once the reply stands.
   abbrev pub Next : A → (ℕ → Option (List ℕ)) → Act → A → Type 0
   Next old out (Did event done) new = steps old event done new
   Next old out (Wrote id bytes) new = (new ≡ old) × GoesOn (reply_of old id) (out id) bytes
@@ -81,8 +81,9 @@ module _ {A : Type 0} (steps : A → Event → Bool → A → Type 0) (reply_of 
   Run old out [] new out' = (new ≡ old) × (out' ≡ out)
   Run old out (act ∷ acts) new out' = (mid : A) × Next old out act mid × Run mid (out_after out act) acts new out'
 
-  -- Some acts lead from the old endpoint to the new one. Where a number is given, no more than so many connections join; and unless there was an
-  -- error, so many joined. The log is what came and went at these acts, and nothing else. All that joined have ended, unless there was an error.
+  -- Some acts lead from the old endpoint to the new one. Where a number is given, no more than so many connections join; and unless there
+  -- was an error, so many joined. The log is what came and went at these acts, and nothing else. All that joined have ended, unless there
+  -- was an error.
   pub record Serves {T E : Type 0} (connections : Option ℕ) (result : Result T E) (old new : A) (log log' : Option (List Io)) : Type 0 where
     pub acts : List Act
     pub out : ℕ → Option (List ℕ)

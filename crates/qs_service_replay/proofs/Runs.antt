@@ -7,7 +7,7 @@ use Rattle.qs_terms.specs.Device.{one_more}
 use Rattle.qs_service_connections.specs.Meaning.{RequestMeaning}
 use Rattle.qs_service_connections.specs.State.{State}
 use Rattle.qs_service_connections.specs.Step.{Event}
-use Rattle.qs_service_replay.specs.ScriptEvents.{event_of}
+use Rattle.qs_service_replay.specs.inner.ScriptEvents.{event_of}
 use Rattle.qs_service_replay.specs.Replay.{Tells, Replays}
 use Rattle.qs_service_replay.specs.Replayed.{StopsAt, IsReplayed}
 use Rattle.qs_service_replay.specs.declared.script_event.ScriptEvent.{ScriptEvent}

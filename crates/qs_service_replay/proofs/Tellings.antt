@@ -9,7 +9,7 @@ use Rattle.qs_service_connections.specs.Message.{Message}
 use Rattle.qs_service_connections.specs.State.{State, reply_at}
 use Rattle.qs_service_connections.specs.Step.{Event, Step}
 use Rattle.qs_service_connections.specs.declared.fault.ServiceFault.{ServiceFault}
-use Rattle.qs_service_replay.specs.ScriptEvents.{event_of}
+use Rattle.qs_service_replay.specs.inner.ScriptEvents.{event_of}
 use Rattle.qs_service_replay.specs.Replay.{told, Tells, reply_line, made_line}
 use Rattle.qs_service_replay.specs.inner.Told.{HadReply}
 use Rattle.qs_service_replay.specs.declared.script_event.ScriptEvent.{ScriptEvent}

@@ -4,7 +4,7 @@
 //! reply comes after its event; its own line is put and the run stops. The data's faults come before the script's.
 
 ghost use Rattle.std.specs.Prelude.{◌^◌, ◌<◌, map};
-ghost use Rattle.qs_service_replay.specs.ScriptEvents.{event_of};
+ghost use Rattle.qs_service_replay.specs.inner.ScriptEvents.{event_of};
 ghost use Rattle.qs_service_replay.specs.Replayed.{IsReplayed};
 
 use crate::script_event::ScriptEvent;

@@ -1,7 +1,7 @@
 //! The events of a script.
 
 ghost use Rattle.std.specs.Prelude.{◌≡◌, map, MatchResult};
-ghost use Rattle.qs_service_replay.specs.ScriptEvents.{event_of};
+ghost use Rattle.qs_service_replay.specs.inner.ScriptEvents.{event_of};
 ghost use Rattle.qs_service_replay.specs.Script.{IsScript, IsScriptFault};
 ghost use Rattle.qs_service_replay.specs.inner.Told.{IsToldAt};
 ghost use Rattle.qs_service_replay.specs.declared.script.ScriptFault.TheVariants.{Memory};

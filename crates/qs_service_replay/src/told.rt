@@ -4,7 +4,7 @@ ghost use Rattle.std.specs.Prelude.{◌≡◌, ◌++◌, List, ℕ, IfOk, MatchR
 ghost use Rattle.std.specs.Result.{result_err};
 ghost use Rattle.hex.specs.Hex.{encode_lower};
 ghost use Rattle.qs_service_connections.specs.Step.{Step};
-ghost use Rattle.qs_service_replay.specs.ScriptEvents.{event_of};
+ghost use Rattle.qs_service_replay.specs.inner.ScriptEvents.{event_of};
 ghost use Rattle.qs_service_replay.specs.Replay as spec;
 ghost use Rattle.qs_service_replay.specs.inner.Told.{HadReply};
 

@@ -10,7 +10,7 @@ use Rattle.qs_index.specs.Graph.{graph_of}
 use Rattle.qs_store.specs.declared.graphs.Graphs.TheVariants.{One}
 use Rattle.qs_store.specs.inner.Copied.{IsWithoutGraph}
 use Rattle.qs_store.specs.inner.Emptied.{AreOut, IsRemoval, RemovesGraph}
-use Rattle.qs_store.specs.Layers.{drafted, IsDraft}
+use Rattle.qs_store.specs.inner.Layers.{drafted, IsDraft}
 use Rattle.qs_store.proofs.Copied.{graph_read}
 use Rattle.qs_store.proofs.Drafted.{parts, stays, is_added}
 use Rattle.qs_store.proofs.Holding.{agrees_with_graph}

@@ -11,7 +11,7 @@ use Rattle.qs_index.specs.Entries.{IsUnion, IsDifference}
 use Rattle.qs_index.specs.Graph.{is_named, named_entries}
 use Rattle.qs_store.specs.Change.{IsChanged}
 use Rattle.qs_store.specs.inner.Missing.{IsMissing, IsUnionWith, MayBeMissing}
-use Rattle.qs_store.specs.Layers.{drafted, IsDraft, IsPartOf}
+use Rattle.qs_store.specs.inner.Layers.{drafted, IsDraft, IsPartOf}
 use Rattle.std.proofs.lemmas.List.Filters.{length-filter_both}
 use Rattle.qs_terms.specs.Bag.{Distinct}
 use Rattle.qs_store.proofs.Members.{Entries, nothing, lacking, lacks, Stays, is_in, not_true, only_if, any_if, ascending_fits, head_or_tail, member_of_filter, filter_has, ascending_once, both_once, filter_ascends}

@@ -11,7 +11,7 @@ use Rattle.qs_index.specs.Agreeing.{agrees}
 use Rattle.qs_index.specs.Entries.{HaveFour}
 use Rattle.qs_index.specs.Graph.{graph_of, IsNextGraph}
 use Rattle.qs_store.specs.inner.Holding.{HasGraph, IsNextIn, AreWithin, AreGraphsUpTo, AreGraphsOf}
-use Rattle.qs_store.specs.Layers.{drafted}
+use Rattle.qs_store.specs.inner.Layers.{drafted}
 use Rattle.qs_store.specs.Scans.{AreTriplesOf, triple_of}
 use Rattle.qs_store.specs.declared.graphs.Graphs.TheVariants.{One}
 use Rattle.qs_store.proofs.Drafted.{parts}

@@ -18,4 +18,4 @@ pub mod CopiedTerms
 pub mod Emptied
 pub mod Out
 pub mod Cleared
-pub mod Passing
+pub mod Skipping

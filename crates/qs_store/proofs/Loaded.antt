@@ -12,7 +12,7 @@ use Rattle.qs_terms.specs.Term.{same_term}
 use Rattle.qs_terms.specs.declared.term.Term.{Term}
 use Rattle.qs_store.specs.Change.{IsChanged, IsFullAt, terms_of, with_terms, with_terms_of}
 use Rattle.qs_store.specs.Entries.{AreEntries, IsEntryOf, IsSaidBehind, said, statement_of, entry_of}
-use Rattle.qs_store.specs.Layers.{drafted}
+use Rattle.qs_store.specs.inner.Layers.{drafted}
 use Rattle.qs_store.specs.inner.Store.{IsStore, IsFront}
 use Rattle.qs_store.specs.declared.fault.StoreFault.{StoreFault}
 use Rattle.qs_store.proofs.Members.{Entries, nothing, head_or_tail}

@@ -12,7 +12,7 @@ use Rattle.qs_index.specs.Graph.{is_named}
 use Rattle.qs_index.specs.Permutation.{turned, named_order_used}
 use Rattle.qs_index.specs.declared.permutation.Permutation.{Permutation}
 use Rattle.qs_store.specs.Entries.{said, statement_of, term_or, AreEntries, IsEntryOf, IsPlaced}
-use Rattle.qs_store.specs.Layers.{drafted, IsDraft}
+use Rattle.qs_store.specs.inner.Layers.{drafted, IsDraft}
 use Rattle.qs_store.specs.NamedQuads.{IsNamedMatch, IsNamedQuad, AreNamedQuads}
 use Rattle.qs_store.specs.Scans.{IsRead, AreNamedQuadsOf, merged, without}
 use Rattle.qs_store.specs.declared.graphs.Graphs.TheVariants.{Named}

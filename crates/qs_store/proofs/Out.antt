@@ -13,7 +13,7 @@ use Rattle.qs_index.specs.Entry.{IsAscending}
 use Rattle.qs_index.specs.Graph.{graph_of, is_named, named_entries}
 use Rattle.qs_store.specs.inner.Emptied.{AreEmptied, AreOut, IsOf, IsRemoval}
 use Rattle.qs_store.specs.inner.Holding.{AreGraphsOf, HasGraph}
-use Rattle.qs_store.specs.Layers.{drafted, IsDraft}
+use Rattle.qs_store.specs.inner.Layers.{drafted, IsDraft}
 use Rattle.qs_store.specs.Scans.{AreNamedQuadsOf, AreTriplesOf, IsRead, IsScanOf, without}
 use Rattle.qs_store.specs.declared.graphs.Graphs.{Graphs}
 use Rattle.qs_store.specs.declared.graphs.Graphs.TheVariants.{Nothing, One, Named}

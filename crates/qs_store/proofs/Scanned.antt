@@ -11,14 +11,14 @@ use Rattle.std.proofs.lemmas.Slice.Eq.{bytes_eq-Decides}
 use Rattle.qs_index.specs.Agreeing.{agrees, agreeing, agrees_anywhere, agreeing_named, fits}
 use Rattle.qs_index.specs.Entry.{IsAscending, is_before}
 use Rattle.qs_index.specs.Graph.{is_named, named_entries}
-use Rattle.qs_index.specs.Lead.{order_led, named_order_led}
+use Rattle.qs_index.specs.inner.Lead.{order_with_lead, named_order_with_lead}
 use Rattle.qs_index.specs.Permutation.{turned, order_used, named_order_used}
 use Rattle.qs_index.specs.declared.permutation.Lead.{Lead}
 use Rattle.qs_index.specs.declared.permutation.Lead.TheVariants.{Subject, Predicate, Object}
 use Rattle.qs_index.specs.declared.permutation.Permutation.{Permutation}
 use Rattle.qs_index.proofs.Ascending.{before_trans}
 use Rattle.qs_index.proofs.Turned.{turned_same}
-use Rattle.qs_store.specs.Layers.{drafted, IsDraft}
+use Rattle.qs_store.specs.inner.Layers.{drafted, IsDraft}
 use Rattle.qs_store.specs.Triples.{turned_triple}
 use Rattle.qs_store.specs.Scans.{IsRead, order_in, IsScanOf, without, merged, triple_of, is_last, unrepeated, AreTriplesIn, AreTriplesOf, AreTriplesOfAnyhow}
 use Rattle.qs_store.specs.declared.graphs.Graphs.{Graphs}
@@ -363,8 +363,8 @@ record LedAs (s p o : Option ℕ) (lead : Lead) : Type 0 where
   q1 : Option ℕ
   q2 : Option ℕ
   q3 : Option ℕ
-  is : order_led s p o lead ≡ order_used q1 q2 q3
-  is_named : named_order_led s p o lead ≡ named_order_used q1 q2 q3
+  is : order_with_lead s p o lead ≡ order_used q1 q2 q3
+  is_named : named_order_with_lead s p o lead ≡ named_order_used q1 q2 q3
 
 led_as : (s p o : Option ℕ) (lead : Lead) → LedAs s p o lead
 led_as (Some s) p o lead = record { q1 = Some s; q2 = p; q3 = o; is = refl; is_named = refl }
@@ -374,7 +374,7 @@ led_as None None None Subject = record { q1 = None; q2 = None; q3 = None; is = r
 led_as None None None Predicate = record { q1 = None; q2 = Some 0; q3 = None; is = refl; is_named = refl }
 led_as None None None Object = record { q1 = None; q2 = None; q3 = Some 0; is = refl; is_named = refl }
 
-pub led_one : (graphs : Graphs) (graph : ℕ) (s p o : Option ℕ) (lead : Lead) (entries rest triples : Entries) → graphs ≡ One graph → IsPermutation (agreeing graph s p o entries) rest → IsAscending (map (turned (order_led s p o lead)) rest) → triples ≡ map triple_of rest → AreTriplesOfAnyhow graphs s p o entries triples
+pub led_one : (graphs : Graphs) (graph : ℕ) (s p o : Option ℕ) (lead : Lead) (entries rest triples : Entries) → graphs ≡ One graph → IsPermutation (agreeing graph s p o entries) rest → IsAscending (map (turned (order_with_lead s p o lead)) rest) → triples ≡ map triple_of rest → AreTriplesOfAnyhow graphs s p o entries triples
 led_one graphs graph s p o lead entries rest triples g m u e =
     let l = led_as s p o lead in
     let order = order_used l.q1 l.q2 l.q3 in
@@ -384,7 +384,7 @@ led_one graphs graph s p o lead entries rest triples g m u e =
       in_order = subst (λ k. AreTriplesIn order k s p o entries triples) (sym g) (subst (AreTriplesIn order (One graph) s p o entries) (sym e) (triples_of_one graph s p o l.q1 l.q2 l.q3 entries rest scan));
     }
 
-pub led_named : (graphs : Graphs) (s p o : Option ℕ) (lead : Lead) (entries rest triples : Entries) → graphs ≡ Named → IsPermutation (agreeing_named s p o entries) rest → IsAscending (map (turned (named_order_led s p o lead)) rest) → triples ≡ unrepeated None (map triple_of rest) → AreTriplesOfAnyhow graphs s p o entries triples
+pub led_named : (graphs : Graphs) (s p o : Option ℕ) (lead : Lead) (entries rest triples : Entries) → graphs ≡ Named → IsPermutation (agreeing_named s p o entries) rest → IsAscending (map (turned (named_order_with_lead s p o lead)) rest) → triples ≡ unrepeated None (map triple_of rest) → AreTriplesOfAnyhow graphs s p o entries triples
 led_named graphs s p o lead entries rest triples g m u e =
     let l = led_as s p o lead in
     let order = order_used l.q1 l.q2 l.q3 in

@@ -26,7 +26,8 @@ abbrev pub named_graph : List Statement → Option Term → List Triple
 named_graph quads None = []
 named_graph quads (Some name) = graph_of quads (Some name)
 
--- the triples of the graph that is read
+-- the triples of the graph that is read: number 0 is the stored default graph's; a union default graph has those of all named graphs, each
+-- once
 abbrev pub active_graph : Content → DefaultGraph → Active → List Triple
 active_graph c default (Graph zero) = graph_of c.quads None
 active_graph c default (Graph (suc place)) = named_graph c.quads (term_at c.known (suc place))

@@ -8,7 +8,7 @@ use Rattle.qs_terms.specs.declared.term.Term.{Term}
 use Rattle.qs_store.specs.declared.fault.StoreFault.{StoreFault}
 use Rattle.qs_store.specs.declared.fault.StoreFault.TheVariants.{Full, Memory}
 
--- the old ones that aren't removed, together with those that are added
+-- the old ones that aren't removed, together with those that are added; so one that is removed and added is there
 abbrev pub IsChanged : {X : Type 0} → List X → List X → List X → List X → Type 0
 IsChanged {X} old removed added new = (x : X) → Contains new x ↔ ((Contains old x × (¬ Contains removed x)) ⊎ Contains added x)
 
@@ -30,7 +30,8 @@ pub record KnowsTermsOf (old : List Term) (quads : List Statement) (new : List T
   pub front : take (length old) new ≡ old
   pub same : SameBag new (with_terms_of old quads)
 
--- a change that needs so many terms is done only where they are no more than the limit, and refused as full only where they are more
+-- a change that needs so many terms is done only where they are no more than the limit, and refused as full only where they are more;
+-- running out of memory may come in place of either
 abbrev pub IsFullExactly : {X : Type 0} → ℕ → ℕ → Result X StoreFault → Type 0
 IsFullExactly limit wanted (Ok done) = wanted ≤ limit
 IsFullExactly limit wanted (Err Full) = limit < wanted

@@ -1,4 +1,4 @@
--- What a store or a draft holds.
+-- What a store or a draft holds (RDF 1.1 Concepts, 4).
 use Rattle.std.specs.Prelude.{◌≡◌, ℕ, List, Some}
 use Rattle.std.specs.Bool.{IsTrue}
 use Rattle.std.specs.List.{Contains}

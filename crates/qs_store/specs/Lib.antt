@@ -1,13 +1,11 @@
 pub mod Same
 pub mod Entries
-pub mod Layers
 pub mod Content
 pub mod Change
 pub mod Fault
 pub mod Triples
 pub mod NamedQuads
 pub mod Scans
-pub mod Passed
 pub mod Sources
 pub mod WholeGraphs
 pub mod Visible

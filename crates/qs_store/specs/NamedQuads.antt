@@ -1,4 +1,4 @@
--- The quads of all named graphs, by the numbers of their terms.
+-- The quads of all named graphs, by the numbers of their terms (SPARQL 1.1 Query, 13.3).
 use Rattle.std.specs.Prelude.{◌≡◌, ℕ, List, [], ◌∷◌, map, Option, Some}
 use Rattle.std.specs.Bool.{IsTrue}
 use Rattle.std.specs.List.{Contains}
@@ -10,7 +10,8 @@ use Rattle.qs_index.specs.Entry.{IsAscending}
 use Rattle.qs_index.specs.Permutation.{turned, named_order_used}
 use Rattle.qs_store.specs.Content.{Content}
 
--- the numbers are those of the graph's name and of the subject, predicate and object of a quad of a named graph, and are the ones that are given
+-- the numbers are those of the graph's name and of the subject, predicate and object of a quad of a named graph, and are the ones that are
+-- given
 pub record IsNamedMatch (c : Content) (subject predicate object : Option ℕ) (g s p o : ℕ) : Type 0 where
   pub quad : Statement
   pub name : Term

@@ -1,4 +1,4 @@
--- Lists read as sets.
+-- Lists read as sets, as the layers above speak of what is stored.
 use Rattle.std.specs.Prelude.{List, ◌↔◌}
 use Rattle.std.specs.List.{Contains}
 

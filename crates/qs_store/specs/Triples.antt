@@ -21,7 +21,9 @@ abbrev pub IsGraphNumber : List Term → ℕ → Option Term → Type 0
 IsGraphNumber known number None = number ≡ 0
 IsGraphNumber known number (Some name) = term_at known number ≡ Some name
 
--- the graph of a quad is one of those that are read (SPARQL 1.1 Query, 13.1: the default graph; 13.3: the active graph)
+-- the graph of a quad is one of those that are read (SPARQL 1.1 Query, 13.1: the default graph; 13.3: the active graph): the one with this
+-- number, of which 0 is the stored default graph, whatever queries see as theirs; none; or the default graph, which is the stored one, or
+-- for a union all named graphs without that
 abbrev pub IsActive : List Term → DefaultGraph → Active → Option Term → Type 0
 IsActive known default (Graph number) graph = IsGraphNumber known number graph
 IsActive known default Empty graph = ⊥

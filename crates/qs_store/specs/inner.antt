@@ -4,3 +4,4 @@ pub mod Holding
 pub mod Copied
 pub mod Emptied
 pub mod Missing
+pub mod Layers

@@ -8,7 +8,7 @@ ghost use Rattle.qs_terms.specs.Bag.{SameBag};
 ghost use Rattle.qs_terms.specs.Dataset.{is_above_blanks, is_graph_below};
 ghost use Rattle.qs_terms.specs.Statement.{Statement, is_graph};
 ghost use Rattle.qs_terms.specs.declared.term.Term.{Term};
-ghost use Rattle.qs_expr_values.specs.TermValue.{term_value};
+ghost use Rattle.qs_expr_values.specs.inner.TermValue.{term_value};
 ghost use Rattle.qs_dict.specs.Dict.{IsInUse, IsDictionary, term_at, number_of};
 ghost use Rattle.qs_store.specs.Change.{IsChanged, KnowsTermsOf, IsFullExactly, IsFullAt, with_terms_of};
 ghost use Rattle.qs_store.specs.Content.{Content, Held, AreLawful, IsContent, KnowsItsTerms};
@@ -70,7 +70,7 @@ impl<'a> Draft<'a> {
     }
 
     /// The triples that `scan` gives. A draft has them in the order of `scan`, whatever place is to be in front. It takes no memory.
-    pub fn scan_led(
+    pub fn scan_with_lead(
         &self,
         _lead: Lead,
         active: Active,

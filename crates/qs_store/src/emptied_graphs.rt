@@ -9,7 +9,7 @@ ghost use Rattle.std.specs.BTreeSet.{insert_key};
 ghost use Rattle.std.specs.Ordering.{nat_cmp};
 ghost use Rattle.qs_store.specs.declared.graphs.Graphs.TheVariants.{One, Named};
 ghost use Rattle.qs_store.specs.inner.Emptied.{AreEmptied, AreOut, IsRemoval};
-ghost use Rattle.qs_store.specs.Layers.{drafted};
+ghost use Rattle.qs_store.specs.inner.Layers.{drafted};
 
 use crate::graphs::Graphs;
 use crate::kept::Kept;

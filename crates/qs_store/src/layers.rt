@@ -19,7 +19,7 @@ ghost use Rattle.qs_store.specs.inner.Copied.{AreCopies, AreNamed, IsWithoutGrap
 ghost use Rattle.qs_store.specs.inner.Holding.{AreGraphsOf, HasGraph};
 ghost use Rattle.qs_store.specs.inner.Emptied.{AreEmptied, IsRemoval, RemovesGraph};
 ghost use Rattle.qs_store.specs.inner.Missing.{IsMissing, IsUnionWith, MayBeMissing};
-ghost use Rattle.qs_store.specs.Layers.{drafted, IsPartOf};
+ghost use Rattle.qs_store.specs.inner.Layers.{drafted, IsPartOf};
 ghost use Rattle.qs_store.specs.Same.{SameSet};
 ghost use Rattle.qs_store.specs.Scans.{AreNamedQuadsOf, AreTriplesOf, AreTriplesOfAnyhow};
 
@@ -48,7 +48,7 @@ pub struct Layers {
 
 impl Model for Layers {
     ghost use Rattle.std.specs.Prelude.{length};
-    ghost use Rattle.qs_store.specs.Layers.{LayersState, AreLayers, drafted};
+    ghost use Rattle.qs_store.specs.inner.Layers.{LayersState, AreLayers, drafted};
 
     ghost Value = { LayersState };
 
@@ -527,7 +527,7 @@ impl Layers {
     }
 
     /// The triples of the store's entries in these graphs, in the order that has the place in front where none is given.
-    pub fn scan_led(
+    pub fn scan_with_lead(
         &self,
         lead: Lead,
         graphs: Graphs,
@@ -537,7 +537,7 @@ impl Layers {
     ) -> Triples<'_>
         ensures { AreTriplesOfAnyhow graphs subject predicate object self.now.base result }
     {
-        Triples::led_of_store(&self.index, lead, graphs, subject, predicate, object)
+        Triples::of_store_with_lead(&self.index, lead, graphs, subject, predicate, object)
     }
 
     /// The triples of the draft's entries in these graphs.

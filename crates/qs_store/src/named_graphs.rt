@@ -4,7 +4,7 @@ ghost use Rattle.std.specs.Prelude.{◌≡◌, ◌↔◌, ◌++◌, IsTrue, IfOk
 ghost use Rattle.qs_index.specs.Entries.{HaveFour};
 ghost use Rattle.qs_store.specs.inner.Holding.{AreGraphsOf, AreWithin, HasGraph, IsNextIn};
 ghost use Rattle.qs_store.specs.inner.Emptied.{AreEmptied};
-ghost use Rattle.qs_store.specs.Layers.{IsDraft, drafted};
+ghost use Rattle.qs_store.specs.inner.Layers.{IsDraft, drafted};
 
 use crate::emptied_graphs::{Emptied, are_out};
 use crate::graphs::Graphs;

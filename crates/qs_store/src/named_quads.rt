@@ -1,15 +1,13 @@
 //! A scan of the quads of all named graphs of a store or of a draft.
 
-ghost use Rattle.std.specs.Prelude.{◌≡◌, [], true};
+ghost use Rattle.std.specs.Prelude.{◌≡◌, []};
 ghost use Rattle.std.specs.Iterator.{YieldsFirst, item_count};
-ghost use Rattle.qs_index.specs.Agreeing.{agrees_anywhere};
-ghost use Rattle.qs_index.specs.Passed.{IsPassed};
-ghost use Rattle.qs_store.specs.Layers.{IsDraft, drafted};
+ghost use Rattle.qs_store.specs.inner.Layers.{IsDraft, drafted};
 ghost use Rattle.qs_store.specs.Scans.{AreNamedQuadsOf};
 ghost use Rattle.qs_store.specs.Sources.{entries_left};
 
 use crate::merged::Merged;
-use crate::triples::{Source, next_entry, pass_entries};
+use crate::triples::{Source, next_entry};
 use qs_index::Index;
 use qs_index::permutation::Lookup;
 use std::marker::Model;
@@ -38,14 +36,6 @@ impl<'a> NamedQuads<'a> {
         NamedQuads {
             source: Source::Nothing,
         }
-    }
-
-    /// Passes over quads to come that have the subject, predicate and object that are given, as far as one search finds their end: where
-    /// these are in front in the order that is used, all of them are passed over. No other quad is. It takes no memory.
-    pub fn pass(&mut self, subject: Option<u32>, predicate: Option<u32>, object: Option<u32>)
-        ensures { IsPassed (λ x. agrees_anywhere subject predicate object x ≡ true) self.old self.new }
-    {
-        pass_entries(&mut self.source, subject, predicate, object);
     }
 
     /// The quads of an index.

@@ -15,7 +15,7 @@ ghost use Rattle.qs_terms.specs.Bag.{SameBag};
 ghost use Rattle.qs_terms.specs.Dataset.{is_above_blanks, is_graph_below};
 ghost use Rattle.qs_terms.specs.Statement.{Statement, is_graph};
 ghost use Rattle.qs_terms.specs.declared.term.Term.{Term};
-ghost use Rattle.qs_expr_values.specs.TermValue.{term_value};
+ghost use Rattle.qs_expr_values.specs.inner.TermValue.{term_value};
 ghost use Rattle.qs_dict.specs.Dict.{IsInUse, IsDictionary, term_at, number_of};
 ghost use Rattle.qs_store.specs.Change.{IsChanged, KnowsTermsOf, IsFullExactly, IsFullAt, with_terms_of};
 ghost use Rattle.qs_store.specs.Content.{Content, Held, AreLawful, IsContent, KnowsItsTerms};
@@ -285,8 +285,8 @@ impl Store {
     }
 
     /// The triples that `scan` gives, in an order that has this place in front where no number is given: so triples with the same subject, predicate
-    /// or object follow one another, and `Triples::pass` passes over them. It takes no memory.
-    pub fn scan_led(
+    /// or object follow one another, and `Triples::skip_agreeing` skips them. It takes no memory.
+    pub fn scan_with_lead(
         &self,
         lead: Lead,
         active: Active,
@@ -298,7 +298,7 @@ impl Store {
     {
         let graphs = graphs_of(active, self.default_graph);
         self.layers
-            .scan_led(lead, graphs, subject, predicate, object)
+            .scan_with_lead(lead, graphs, subject, predicate, object)
     }
 
     // The draft's triples of a graph that have the numbers that are given, each once, in the order of `scan`. It takes no memory.

@@ -6,10 +6,8 @@
 
 ghost use Rattle.std.specs.Prelude.{◌≡◌, ◌∷◌, [], true, map, None, IfSome, IfNone};
 ghost use Rattle.std.specs.Iterator.{YieldsFirst, item_count};
-ghost use Rattle.qs_index.specs.Agreeing.{agrees_anywhere};
-ghost use Rattle.qs_index.specs.Passed.{IsPassed};
-ghost use Rattle.qs_store.specs.Layers.{IsDraft, drafted};
-ghost use Rattle.qs_store.specs.Passed.{ArePassed};
+ghost use Rattle.qs_index.specs.inner.Skipped.{IsSkipped, SkipsAgreeing};
+ghost use Rattle.qs_store.specs.inner.Layers.{IsDraft, drafted};
 ghost use Rattle.qs_store.specs.Scans.{AreTriplesOf, AreTriplesOfAnyhow, LastFits, is_last, triple_of, triples_left, unrepeated};
 ghost use Rattle.qs_store.specs.Sources.{entries_left};
 ghost use Rattle.qs_store.specs.Triples.{triple_fits};
@@ -40,17 +38,17 @@ pub fn next_entry(source: &mut Source<'_>) -> Option<[u32; 4]>
     }
 }
 
-/// Passes over entries that come next and have the numbers that are given, as far as the source does so by a search. A draft's aren't passed over.
-pub fn pass_entries(
+/// Skips entries that come next and have the numbers that are given, as far as the source does so by a search. None of a draft is skipped.
+fn skip_entries(
     source: &mut Source<'_>,
     subject: Option<u32>,
     predicate: Option<u32>,
     object: Option<u32>,
 )
-    ensures { IsPassed (λ x. agrees_anywhere subject predicate object x ≡ true) (entries_left source.old) (entries_left source.new) }
+    ensures { SkipsAgreeing subject predicate object (entries_left source.old) (entries_left source.new) }
 {
     if let Source::Stored(scan) = source {
-        scan.pass(subject, predicate, object);
+        scan.skip_agreeing(subject, predicate, object);
     }
 }
 
@@ -158,7 +156,7 @@ impl<'a> Triples<'a> {
     }
 
     /// The triples of an index, in the order that has the place in front where none is given.
-    pub fn led_of_store(
+    pub fn of_store_with_lead(
         index: &'a Index,
         lead: Lead,
         graphs: Graphs,
@@ -171,25 +169,31 @@ impl<'a> Triples<'a> {
         match graphs {
             Graphs::Nothing => Triples::new(Source::Nothing, false),
             Graphs::One(graph) => {
-                let led = index.scan_led(lead, graph, subject, predicate, object);
-                Triples::new(Source::Stored(led), false)
+                let entries = index.scan_with_lead(lead, graph, subject, predicate, object);
+                Triples::new(Source::Stored(entries), false)
             }
             Graphs::Named => {
-                let led = index.scan_named_led(lead, subject, predicate, object);
-                Triples::new(Source::Stored(led), true)
+                let entries = index.scan_named_with_lead(lead, subject, predicate, object);
+                Triples::new(Source::Stored(entries), true)
             }
         }
     }
 
-    /// Passes over triples to come that have the subject, predicate and object that are given, as far as one search finds their end: where
-    /// these are in front in the order that is used, all of them are passed over. No other triple is. It takes no memory.
-    pub fn pass(&mut self, subject: Option<u32>, predicate: Option<u32>, object: Option<u32>)
-        ensures { ArePassed (λ t. triple_fits subject predicate object t ≡ true) self.old self.new }
+    /// Skips triples to come that have the subject, predicate and object that are given, as far as one search finds their end: those of a
+    /// store, as `Scan::skip_agreeing` does, and none of a draft. No other triple is skipped. It takes no memory.
+    pub fn skip_agreeing(
+        &mut self,
+        subject: Option<u32>,
+        predicate: Option<u32>,
+        object: Option<u32>,
+    )
+        ensures { IsSkipped (λ t. triple_fits subject predicate object t ≡ true) self.old self.new }
     {
+        // Without this test the same triples are left, since entries ascend. No contract here says that they do.
         if self.repeats && !last_fits(&self.last, subject, predicate, object) {
             return;
         }
-        pass_entries(&mut self.source, subject, predicate, object);
+        skip_entries(&mut self.source, subject, predicate, object);
     }
 
     /// The triples of an index without the removed, and with the added.

@@ -9,7 +9,7 @@ ghost use Rattle.std.specs.List.Sorted.{IsSorted};
 ghost use Rattle.std.specs.Option.{option_map};
 ghost use Rattle.qs_terms.specs.Bag.{SameBag};
 ghost use Rattle.qs_terms.specs.Dataset.{is_above_blanks};
-ghost use Rattle.qs_expr_values.specs.TermValue.{term_value};
+ghost use Rattle.qs_expr_values.specs.inner.TermValue.{term_value};
 ghost use Rattle.qs_dict.specs.Dict.{IsInUse, term_at, number_of};
 ghost use Rattle.qs_store.specs.Content.{Content, AreLawful, IsContent, KnowsItsTerms};
 ghost use Rattle.qs_store.specs.Graphs.{AreGraphs};
@@ -90,7 +90,7 @@ pub trait View {
 
     /// The triples that `scan` gives, in some order. Where no number is given a store has those with the same term in this place follow one another.
     /// It takes no memory.
-    fn scan_led(
+    fn scan_with_lead(
         &self,
         lead: Lead,
         active: Active,
@@ -186,7 +186,7 @@ impl View for Store {
         Store::scan(self, active, subject, predicate, object)
     }
 
-    fn scan_led(
+    fn scan_with_lead(
         &self,
         lead: Lead,
         active: Active,
@@ -194,7 +194,7 @@ impl View for Store {
         predicate: Option<u32>,
         object: Option<u32>,
     ) -> Triples<'_> {
-        Store::scan_led(self, lead, active, subject, predicate, object)
+        Store::scan_with_lead(self, lead, active, subject, predicate, object)
     }
 
     fn scan_named(
@@ -285,7 +285,7 @@ impl<'a> View for Draft<'a> {
         Draft::scan(self, active, subject, predicate, object)
     }
 
-    fn scan_led(
+    fn scan_with_lead(
         &self,
         lead: Lead,
         active: Active,
@@ -293,7 +293,7 @@ impl<'a> View for Draft<'a> {
         predicate: Option<u32>,
         object: Option<u32>,
     ) -> Triples<'_> {
-        Draft::scan_led(self, lead, active, subject, predicate, object)
+        Draft::scan_with_lead(self, lead, active, subject, predicate, object)
     }
 
     fn scan_named(

@@ -7,11 +7,11 @@ use Rattle.std.proofs.lemmas.Bool.{and_parts, or_parts, not-true, eqb-false}
 use Rattle.qs_lex_escapes.specs.Decoded.{decoded, unescaped}
 use Rattle.qs_lex_escapes.specs.Escape.{uchar, string_escape}
 use Rattle.qs_lex_escapes.specs.Piece.{piece}
-use Rattle.qs_lex_escapes.specs.Backslashes.{escapes_begin}
+use Rattle.qs_lex_escapes.specs.inner.Backslashes.{escapes_begin}
 use Rattle.qs_lex_escapes.proofs.PiecesBetween.{piece_between}
 use Rattle.qs_lex.specs.Lexes.{Lexeme, Lexes}
-use Rattle.qs_lex.specs.Parts as parts
-use Rattle.qs_lex.specs.Parts.{StandsIn, IsSound, IsMadeOf, begins_with}
+use Rattle.qs_lex.specs.inner.Parts as parts
+use Rattle.qs_lex.specs.inner.Parts.{StandsIn, IsSound, IsMadeOf, begins_with}
 use Rattle.qs_lex.specs.declared.token.Class.{Class}
 use Rattle.qs_lex.specs.declared.token.Class.TheVariants as class
 use Rattle.qs_syntax_resolve.specs.Names.{is_colon, marks}
@@ -23,7 +23,7 @@ use Rattle.qs_syntax_tree.specs.declared.kind.Kind.{Kind}
 use Rattle.qs_syntax_tree.specs.declared.kind.Kind.TheVariants as k
 use Rattle.qs_syntax_tree.specs.declared.token.Span.{Span}
 use Rattle.qs_syntax_tree.specs.declared.token.Token.{Token}
-use Rattle.qs_syntax.specs.Granted.{IsIri, IsName, IsPrefix, IsVariable, IsLabel, IsLangTag, IsString, IsGranted, IsGrantedToken, ends}
+use Rattle.qs_syntax.specs.inner.Granted.{IsIri, IsName, IsPrefix, IsVariable, IsLabel, IsLangTag, IsString, IsGranted, IsGrantedToken, ends}
 use Rattle.qs_syntax.specs.Kinds.{kind_of, token_of}
 use Rattle.qs_syntax.specs.Text.{AreTokensOf}
 

@@ -2,7 +2,7 @@
 use Rattle.std.proofs.Common.{◌≡◌, ℕ, zero, suc, Bool, true, false, cond, List, [], ◌∷◌, length, Ok, Err}
 use Rattle.qs_syntax_grammar.specs.declared.fault.Fault.TheVariants.{Memory, Deep, Syntax}
 use Rattle.qs_syntax_grammar.specs.Grammar.{Grammar, read_at, read, whole}
-use Rattle.qs_syntax_grammar.specs.Reading.{Outcome, Reader, and_then, has, starts, first, loop, reading}
+use Rattle.qs_syntax_grammar.specs.inner.Reading.{Outcome, Reader, and_then, has, starts, first, loop, reading}
 use Rattle.qs_syntax_grammar.specs.Rule.{Language, Rule, token, empty, both, either, many, made, placed, ref}
 
 abbrev Remembers : {T A : Type 0} → Outcome T A → Type 0

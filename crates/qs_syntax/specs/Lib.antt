@@ -1,4 +1,4 @@
 pub mod Kinds
 pub mod Text
-pub mod Granted
 pub mod Outcome
+pub mod inner

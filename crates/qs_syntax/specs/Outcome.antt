@@ -1,12 +1,9 @@
--- What a text results in: its query or its update, or the one fault that is due. From top to bottom stand the faults in the order in which
--- they are due, each where none above it is:
---   1. no token begins at a place of the text: Syntax there
---   2. a token is left out, then a bracket is too much: LeftOut with the first such token, TooLarge at the first such bracket
---   3. the tokens spell no tree: Syntax at the token from which on none is spelt, or at the end
---   4. a name can't be resolved, or a limit of trees is passed: whichever has the first place, at one place the name's
---   5. a literal isn't lawful, then a rule of scope is broken: Scope
--- The first step takes the steps after it as a parameter, since a definition can't be used above its place. That a text results
--- in something is stated over texts that are UTF-8, as all texts of the program are.
+-- What a text results in (SPARQL 1.1 Query, 19, and limits of the profile): its query or its update, or the one fault that is due.
+-- The faults stand from top to bottom in the order in which they are due, each where none above it is:
+--   1. Syntax, where no token begins; 2. LeftOut with a token, then TooLarge at a bracket; 3. Syntax, where the tokens spell no tree;
+--   4. a name that can't be resolved or a limit of trees that is passed, whichever comes first; 5. Scope, of a literal, then of a rule.
+-- A text has one outcome at most (`laws::one_outcome`); in UTF-8, as all texts of the program are, it has one (`laws::some_outcome`).
+-- The first step takes the steps after it as a parameter, since a definition can't be used above its place.
 use Rattle.std.specs.Prelude.{◌≡◌, ◌⊎◌, ℕ, Bool, true, false, nat_lt, List, [], ◌∷◌, ◌++◌, length, Option, Some, None, Ok, Err, if◌then◌else◌}
 use Rattle.std.specs.List.{fold}
 use Rattle.qs_syntax_grammar.specs.Grammar.{Spells}
@@ -54,7 +51,7 @@ unless_left_out (Some word) place = Err (fault.LeftOut word)
 unfoldable pub screened : List ℕ → List Token → Outcome (Unit {0})
 screened text tokens = unless_left_out (left_out text tokens) (brackets tokens)
 
--- ---- 3. where no token stands in the way: the tree that is spelt decides, or its want
+-- ---- 3. where no token stands in the way: the tree that is spelt decides; where none is spelt, Syntax at the place that is blamed
 
 abbrev pub AfterScreen : {A B : Type 0} → Rule A → (A → Outcome B) → List ℕ → List Token → Outcome (Unit {0}) → Outcome B → Type 0
 AfterScreen start settle text tokens (Err f) outcome = outcome ≡ Err f
@@ -91,7 +88,7 @@ by_place (Err f) place = Err (earlier f place)
 abbrev pub in_scope : {A : Type 0} → (A → Bool) → A → Outcome A
 in_scope keeps a = if keeps a then Ok a else Err fault.Scope
 
--- ---- the variables of the text, as often as they stand in it
+-- ---- the variables of the text (16.1), as often as they stand in it
 
 abbrev pub is_variable : Kind → Bool
 is_variable kind.Var = true

@@ -13,7 +13,7 @@ ghost use Rattle.qs_lex.specs.Lexes.{Lexeme, Lexes};
 ghost use Rattle.qs_terms.specs.Outcome.{Outcome};
 ghost use Rattle.qs_terms.specs.declared.fault.QFault.TheVariants.{Syntax};
 ghost use Rattle.qs_syntax_tree.specs.declared.token.Token.{Token};
-ghost use Rattle.qs_syntax.specs.Granted.{IsGrantedToken};
+ghost use Rattle.qs_syntax.specs.inner.Granted.{IsGrantedToken};
 ghost use Rattle.qs_syntax.specs.Kinds.{token_of};
 ghost use Rattle.qs_syntax.specs.Outcome.{IsQueryOutcome, IsUpdateOutcome};
 ghost use Rattle.qs_syntax.specs.Text.{AreTokensOf};

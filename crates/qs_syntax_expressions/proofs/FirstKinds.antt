@@ -1,6 +1,6 @@
 -- What some rules begin with.
 use Rattle.std.proofs.Common.{◌≡◌, false, [], ◌∷◌, refl}
-use Rattle.qs_syntax_grammar.specs.Reading.{first, nullable}
+use Rattle.qs_syntax_grammar.specs.inner.Reading.{first, nullable}
 use Rattle.qs_syntax_tree.specs.declared.kind.Kind.TheVariants as k
 use Rattle.qs_syntax_tree.specs.Table.{firsts}
 use Rattle.qs_syntax_tree.specs.Rules.{binary_function, call, comparison, parenthesized, relation, unary_function}

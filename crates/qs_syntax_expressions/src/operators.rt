@@ -6,7 +6,7 @@
 
 ghost use Rattle.qs_syntax_grammar.specs.Grammar.{read};
 ghost use Rattle.qs_syntax_grammar.specs.Notation.{opt};
-ghost use Rattle.qs_syntax_grammar.specs.Reading.{Reads};
+ghost use Rattle.qs_syntax_grammar.specs.inner.Reading.{Reads};
 ghost use Rattle.qs_syntax_grammar.specs.Rule.{ref};
 ghost use Rattle.qs_syntax_expressions.specs.inner.Nests.{Nests};
 ghost use Rattle.qs_syntax_tree.specs.Rules as rules;

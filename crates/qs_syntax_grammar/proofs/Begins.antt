@@ -4,7 +4,7 @@ use Rattle.std.specs.List.{list_all}
 use Rattle.std.proofs.lemmas.Bool.{and_from, or_left, or_right, or_cases, and_parts, not-true, both_ways, false≢true, false_from_ne_true}
 use Rattle.std.proofs.lemmas.List.Folds.{list_any-append}
 use Rattle.qs_syntax_grammar.specs.Rule.{Language, Rule, token, empty, both, either, many, made, placed, ref, Each, Spelt}
-use Rattle.qs_syntax_grammar.specs.Reading.{has, starts, first, nullable, join, apart, within, more, is_sure}
+use Rattle.qs_syntax_grammar.specs.inner.Reading.{has, starts, first, nullable, join, apart, within, more, is_sure}
 use Rattle.qs_syntax_grammar.proofs.Laws.{Lawful}
 
 module _ (L : Language) where

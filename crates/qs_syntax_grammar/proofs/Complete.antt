@@ -2,7 +2,7 @@
 use Rattle.std.proofs.Common.{◌≡◌, ◌<◌, ℕ, zero, suc, Bool, true, false, not, ◌&&◌, List, [], ◌∷◌, ◌++◌, length, Ok, refl, sym, ◌∙◌, ap, subst, inl, inr, arith, append_assoc, length-append}
 use Rattle.std.proofs.lemmas.Bool.{or_left, and_parts, false≢true}
 use Rattle.qs_syntax_grammar.specs.Rule.{Language, Rule, token, empty, both, either, many, made, placed, ref, Each, Spelt}
-use Rattle.qs_syntax_grammar.specs.Reading.{Reader, has, starts, first, nullable, join, apart, more, is_sure, reading, loop}
+use Rattle.qs_syntax_grammar.specs.inner.Reading.{Reader, has, starts, first, nullable, join, apart, more, is_sure, reading, loop}
 use Rattle.qs_syntax_grammar.proofs.Outcomes.{and_then_is, cond_is_true, cond_is_false}
 use Rattle.qs_syntax_grammar.proofs.Begins.{Begins, begins, starts_at, join_left, join_right, wider_left, wider_right, starts-append, stops_narrower, apart-at, begins_each}
 use Rattle.qs_syntax_grammar.proofs.Sound.{place-append}

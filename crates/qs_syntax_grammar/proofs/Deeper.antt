@@ -2,7 +2,7 @@
 use Rattle.std.proofs.Common.{◌≡◌, ◌<◌, ◌≤◌, ℕ, zero, suc, Bool, true, not, ◌&&◌, ◌||◌, List, [], ◌∷◌, ◌++◌, length, Ok, refl, ap, inl, inr, arith, length-append}
 use Rattle.std.proofs.lemmas.Bool.{and_from, or_left, or_right, and_parts, false≢true, cases_Bool, not_from_false}
 use Rattle.qs_syntax_grammar.specs.Rule.{Language, Rule, token, empty, both, either, many, made, placed, ref, Spelt}
-use Rattle.qs_syntax_grammar.specs.Reading.{Reader, has, starts, first, nullable, apart, more, is_sure, reading, loop, and_then, opens}
+use Rattle.qs_syntax_grammar.specs.inner.Reading.{Reader, has, starts, first, nullable, apart, more, is_sure, reading, loop, and_then, opens}
 use Rattle.qs_syntax_grammar.proofs.Outcomes.{IfRead, IfRead-weaker, IfRead-always, Extends, Extends-and_then, Extends-cond, IsShallow, IsShallow-and_then, IsShallow-cond, and_then_alike, cond_alike, LeavesAtMost, LeavesAtMost-and_then, LeavesAtMost-weaker, LeavesAtMost-cond}
 use Rattle.qs_syntax_grammar.proofs.Sound.{Takes, sound}
 use Rattle.qs_syntax_grammar.proofs.Begins.{begins, starts_at}

@@ -3,7 +3,7 @@ use Rattle.std.proofs.Common.{◌≡◌, ◌-◌, ℕ, zero, suc, true, List, []
 use Rattle.std.proofs.lemmas.List.{take_at}
 use Rattle.qs_syntax_grammar.specs.declared.fault.Fault.TheVariants.{Memory, Deep, Syntax}
 use Rattle.qs_syntax_grammar.specs.Rule.{Language, Rule, Spelt}
-use Rattle.qs_syntax_grammar.specs.Reading.{Outcome}
+use Rattle.qs_syntax_grammar.specs.inner.Reading.{Outcome}
 use Rattle.qs_syntax_grammar.specs.Grammar.{Grammar, spelt_at, read_at, read, IsViable, whole, passes, is_start}
 use Rattle.qs_syntax_grammar.proofs.Laws.{Lawful}
 use Rattle.qs_syntax_grammar.proofs.Outcomes.{IfRead}

@@ -3,7 +3,7 @@ use Rattle.std.proofs.Common.{◌≡◌, ◌≤◌, ℕ, zero, suc, ◌+◌, Boo
 use Rattle.std.proofs.lemmas.Bool.{and_parts}
 use Rattle.qs_syntax_grammar.specs.declared.fault.Fault.TheVariants.{Memory, Deep, Syntax}
 use Rattle.qs_syntax_grammar.specs.Rule.{Language, place_of, Rule, token, empty, both, either, many, made, placed, ref}
-use Rattle.qs_syntax_grammar.specs.Reading.{Reader, Outcome, take_kind, has, starts, first, nullable, apart, more, is_sure, reading, loop, and_then}
+use Rattle.qs_syntax_grammar.specs.inner.Reading.{Reader, Outcome, take_kind, has, starts, first, nullable, apart, more, is_sure, reading, loop, and_then}
 use Rattle.qs_syntax_grammar.proofs.Outcomes.{IfRead, LeavesAtMost, LeavesAtMost-and_then, LeavesAtMost-weaker}
 use Rattle.qs_syntax_grammar.proofs.Sound.{Takes}
 use Rattle.qs_syntax_grammar.proofs.Deeper.{leaves, leaves_loop, consumes, loop_same}

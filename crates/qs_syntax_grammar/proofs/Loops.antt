@@ -3,7 +3,7 @@ use Rattle.std.proofs.Common.{◌≡◌, ◌<◌, ◌≤◌, ◌+◌, ◌-◌, �
 use Rattle.qs_syntax_grammar.specs.declared.fault.Fault.{Fault}
 use Rattle.qs_syntax_grammar.specs.declared.fault.Fault.TheVariants.{Deep}
 use Rattle.qs_syntax_grammar.specs.Rule.{Language, Rule, token}
-use Rattle.qs_syntax_grammar.specs.Reading.{Reader, Outcome, and_then, starts, loop, first, take_kind}
+use Rattle.qs_syntax_grammar.specs.inner.Reading.{Reader, Outcome, and_then, starts, loop, first, take_kind}
 use Rattle.qs_syntax_grammar.specs.Grammar.{Grammar, read}
 use Rattle.qs_syntax_grammar.specs.inner.Repeated.{into, push, keep}
 use Rattle.qs_syntax_grammar.specs.Notation.{cons, kept, joined, opt, ◌>>◌}

@@ -1,7 +1,7 @@
 -- What holds of an outcome, through the steps that make it.
 use Rattle.std.proofs.Common.{◌≡◌, ◌≤◌, ◌⊎◌, inl, inr, arith, ℕ, Bool, true, false, cond, List, length, Ok, Err, refl, subst}
 use Rattle.qs_syntax_grammar.specs.declared.fault.Fault.TheVariants.{Memory, Deep, Syntax}
-use Rattle.qs_syntax_grammar.specs.Reading.{Outcome, and_then}
+use Rattle.qs_syntax_grammar.specs.inner.Reading.{Outcome, and_then}
 
 -- a fact of the tree and the tokens after it
 abbrev pub IfRead : {T A : Type 0} → Outcome T A → (A → List T → Type 0) → Type 0

@@ -2,7 +2,7 @@
 use Rattle.std.proofs.Common.{◌≡◌, ℕ, zero, suc, true, false, not, ◌&&◌, List, [], ◌∷◌, ◌++◌, length, refl, sym, ◌∙◌, ap, append_assoc, inl, inr}
 use Rattle.std.proofs.lemmas.Bool.{and_parts, or_cases, false≢true}
 use Rattle.qs_syntax_grammar.specs.Rule.{Language, Rule, token, empty, both, either, many, made, placed, ref, place_of, Each, Spelt}
-use Rattle.qs_syntax_grammar.specs.Reading.{Reader, has, starts, take_kind, loop, first, more, nullable, apart, is_sure, reading}
+use Rattle.qs_syntax_grammar.specs.inner.Reading.{Reader, has, starts, take_kind, loop, first, more, nullable, apart, is_sure, reading}
 use Rattle.qs_syntax_grammar.proofs.Outcomes.{IfRead, IfRead-and_then, IfRead-cond, IfRead-weaker}
 use Rattle.qs_syntax_grammar.proofs.Laws.{Lawful}
 use Rattle.qs_syntax_grammar.proofs.Begins.{begins, starts_at}

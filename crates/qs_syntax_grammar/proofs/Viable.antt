@@ -2,7 +2,7 @@
 use Rattle.std.proofs.Common.{not, ◌&&◌, ◌≡◌, ℕ, zero, suc, Bool, true, false, cond, List, [], ◌∷◌, ◌++◌, length, Option, Some, None, is_some, Ok, Err, refl, sym, ◌∙◌, ap, append-nil, append_assoc, inl, inr}
 use Rattle.qs_syntax_grammar.specs.declared.fault.Fault.TheVariants.{Memory, Deep, Syntax}
 use Rattle.qs_syntax_grammar.specs.Rule.{Language, place_of, Rule, token, empty, both, either, many, made, placed, ref, Each, Spelt}
-use Rattle.qs_syntax_grammar.specs.Reading.{Reader, Outcome, and_then, has, starts, take_kind, loop, first, more, nullable, apart, is_sure, reading}
+use Rattle.qs_syntax_grammar.specs.inner.Reading.{Reader, Outcome, and_then, has, starts, take_kind, loop, first, more, nullable, apart, is_sure, reading}
 use Rattle.qs_syntax_grammar.proofs.Outcomes.{IfRead}
 use Rattle.qs_syntax_grammar.proofs.Sound.{Takes, sound}
 use Rattle.std.proofs.lemmas.Bool.{and_parts, false≢true}

@@ -4,7 +4,7 @@ use Rattle.std.proofs.lemmas.Bool.{both_ways}
 use Rattle.qs_syntax_grammar.specs.declared.fault.Fault.{Fault}
 use Rattle.qs_syntax_grammar.specs.declared.fault.Fault.TheVariants.{Memory, Deep, Syntax}
 use Rattle.qs_syntax_grammar.specs.Rule.{Language, Rule, Spelt}
-use Rattle.qs_syntax_grammar.specs.Reading.{Outcome, is_sure, opens}
+use Rattle.qs_syntax_grammar.specs.inner.Reading.{Outcome, is_sure, opens}
 use Rattle.qs_syntax_grammar.specs.Grammar.{Grammar, spelt_at, read_at, read, Spells, IsDue, whole, passes, is_start}
 use Rattle.qs_syntax_grammar.proofs.Laws.{Lawful}
 use Rattle.qs_syntax_grammar.proofs.First.{is_viable}

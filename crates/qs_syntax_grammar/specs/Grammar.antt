@@ -5,7 +5,7 @@ use Rattle.std.specs.Prelude.{◌<◌, ◌≤◌, ◌+◌, ℕ, zero, suc, Bool,
 use Rattle.qs_syntax_grammar.specs.declared.fault.Fault.{Fault}
 use Rattle.qs_syntax_grammar.specs.declared.fault.Fault.TheVariants.{Deep, Syntax}
 use Rattle.qs_syntax_grammar.specs.Rule.{Language, Rule, Spelt}
-use Rattle.qs_syntax_grammar.specs.Reading.{Outcome, Reader, reading, first, more, nullable, within, is_sure, opens}
+use Rattle.qs_syntax_grammar.specs.inner.Reading.{Outcome, Reader, reading, first, more, nullable, within, is_sure, opens}
 
 -- The named rules. The tables say for each what it begins with, and what may go on with it: any that pass the test are right.
 pub record Grammar (L : Language) : Type 1 where
@@ -20,6 +20,7 @@ abbrev pub spelt_at : {L : Language} → Grammar L → ℕ → (n : L.Name) → 
 spelt_at G zero n ts x = ⊥
 spelt_at G (suc d) n ts x = Spelt (spelt_at G d) (G.rule n) ts x
 
+-- the tokens spell the tree: the least relation by which named rules spell what their rules do
 abbrev pub Spells : {L : Language} → Grammar L → {A : Type 0} → Rule L A → List L.Token → A → Type 0
 Spells G start tokens tree = (d : ℕ) × Spelt (spelt_at G d) start tokens tree
 

@@ -1,7 +1,8 @@
--- All faults of the names of a text, token by token, each with the prefixes that are declared before it (SPARQL 1.1 Query, 4.1.1): an
--- IRI without a scheme, and a name whose prefix isn't declared or denotes an IRI that the name doesn't go on to another.
--- Faults of names are defined over tokens, not trees: a name is a token, and so is what is declared before it. So the definition
--- knows nothing of the resolver. That the resolver meets them in the order of the text is proved here, and no crate waits for it.
+-- All faults of the names of a text, token by token and each at its token, by the prefixes that are declared before it (SPARQL 1.1 Query,
+-- 4.1.1). An IRI that is written out needs a scheme. A name needs a declared prefix, and what that denotes with the local name after it
+-- must be an IRI.
+-- The faults are defined over tokens, not trees: a name is a token, and so is what is declared before it. So the definition knows nothing
+-- of the resolver. That the resolver meets them in the order of the text is proved here, and no crate waits for it.
 use Rattle.std.specs.Prelude.{ℕ, List, [], ◌∷◌, ◌++◌, Ok, Err}
 use Rattle.qs_terms.specs.Outcome.{Outcome}
 use Rattle.qs_terms.specs.declared.fault.QFault.{QFault}

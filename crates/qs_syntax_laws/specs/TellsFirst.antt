@@ -1,4 +1,5 @@
--- Of all faults of a text that have places, the first is told.
+-- Of all faults of a text that have places, the first is told. By the law `laws::first_fault_is_told` the fourth step of a text's outcome
+-- in `qs_syntax` tells it.
 use Rattle.std.specs.Prelude.{◌≡◌, ◌⊎◌, ◌≤◌, ◌<◌, ℕ, List, [], Option, Some, None, Ok, Err}
 use Rattle.std.specs.List.{AllByRecursion, Contains}
 use Rattle.qs_terms.specs.Outcome.{Outcome}

@@ -1,4 +1,4 @@
--- The place at which too many brackets are open (profile: at most 64 at once).
+-- The place at which too many brackets are open: the profile allows 64 at once, and the standard has no such limit.
 use Rattle.std.specs.Prelude.{ℕ, ◌+◌, ◌-◌, List, [], ◌∷◌, Option, Some, None, nat_lt, if◌then◌else◌}
 use Rattle.qs_syntax_tree.specs.declared.kind.Kind.{Kind}
 use Rattle.qs_syntax_tree.specs.declared.kind.Kind.TheVariants.{LeftBrace, RightBrace, LeftParen, RightParen, LeftBracket, RightBracket}
@@ -8,7 +8,8 @@ use Rattle.qs_syntax_tree.specs.declared.token.Token.{Token}
 abbrev pub limit : ℕ
 limit = 64
 
--- how many are open after a token, by how many were before it: one that closes where none is open closes none
+-- how many are open after a token, by how many were before it: one that closes takes one away, of whatever sort it is, or none where none
+-- is open
 abbrev pub open_behind : Kind → ℕ → ℕ
 open_behind LeftBrace count = count + 1
 open_behind LeftParen count = count + 1

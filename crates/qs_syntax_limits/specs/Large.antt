@@ -1,8 +1,7 @@
--- The first place at which there is too much side by side (profile: a group, and the braces of
--- DELETE WHERE, have at most 256 elements, and a chain has at most 256 operands).
--- All rows of a tree are collected, with those of each tree within it. The limit is asked of each.
--- The members of a negated set are a chain too. Data, templates and the short form of CONSTRUCT
--- have no limit of elements.
+-- The first place at which too much stands side by side. The limits are the profile's; the standard has none.
+-- A group, and the braces of DELETE WHERE, have at most 256 elements, and a chain at most 256 operands. All rows of a
+-- tree are collected, with those of each tree within it, and the limit is asked of each. Data, templates and the
+-- short form of CONSTRUCT have no limit of elements.
 use Rattle.std.specs.Prelude.{ℕ, List, [], ◌∷◌, ◌++◌, Option, Some, None, map, min, slice_get}
 use Rattle.std.specs.List.{flat_map}
 use Rattle.qs_syntax_tree.specs.declared.expression.Expression.{Expression, fold-Expression}
@@ -138,7 +137,8 @@ property = fold-Property Rows Rows graph_node_level property_level
 abbrev pub triples : List TriplesSameSubject → Rows
 triples ts = flat_map (λ t. graph_node t.subject ++ flat_map property t.properties) ts
 
--- ---- of a group (19.8, [53] to [69]): it has elements, and UNION is a chain of groups
+-- ---- of a group (19.8, [53] to [69]): its elements are its blocks of triples and its other
+-- patterns, filters too, and UNION is a chain of groups
 
 abbrev pub graph_pattern_level : GraphPattern-F Rows Part Part → Rows
 graph_pattern_level (g.Triples ts) = triples ts
@@ -185,7 +185,8 @@ query_form (form.Ask a) = group a.pattern ++ modifiers a.modifiers
 unfoldable pub query : Query → Option ℕ
 query q = excess (query_form q.form)
 
--- ---- of an update (19.8, [29] to [52]); of the braces of quads those of DELETE WHERE are a group
+-- ---- of an update (19.8, [29] to [52]); of the braces of quads those of DELETE WHERE are a group,
+-- whose elements are its blocks of triples and its GRAPH blocks
 
 abbrev pub quads : Quads → Rows
 quads (quad.Triples ts) = triples ts

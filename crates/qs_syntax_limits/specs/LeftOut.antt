@@ -1,4 +1,4 @@
--- The first token of a text that the grammar leaves out.
+-- The first token of a text that the profile leaves out: a decimal, a double, or one of 51 words of SPARQL 1.1 (Query, 19.8).
 use Rattle.std.specs.Prelude.{ℕ, Bool, true, false, List, [], ◌∷◌, codes, Option, option_map, find}
 use Rattle.std.specs.List.{list_any}
 use Rattle.std.specs.Str.{str_eq_ignore_ascii_case}
@@ -7,7 +7,7 @@ use Rattle.qs_syntax_tree.specs.declared.kind.Kind.TheVariants.{Decimal, Double,
 use Rattle.qs_lex_escapes.specs.Piece.{piece}
 use Rattle.qs_syntax_tree.specs.declared.token.Token.{Token}
 
--- Keywords and names of functions of SPARQL 1.1 (Query, 19.8; Update, 19.8) that the grammar doesn't have (profile).
+-- Keywords and names of functions of SPARQL 1.1 Query and Update that the grammar doesn't have.
 abbrev pub words : List (List ℕ)
 words =
     codes "BASE" ∷ codes "DESCRIBE" ∷ codes "FROM" ∷ codes "USING" ∷ codes "SERVICE" ∷

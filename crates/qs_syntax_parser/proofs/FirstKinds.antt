@@ -1,6 +1,6 @@
 -- What some rules begin with.
 use Rattle.std.proofs.Common.{◌≡◌, false, [], ◌∷◌, refl}
-use Rattle.qs_syntax_grammar.specs.Reading.{first, nullable}
+use Rattle.qs_syntax_grammar.specs.inner.Reading.{first, nullable}
 use Rattle.qs_syntax_tree.specs.declared.kind.Kind.TheVariants as k
 use Rattle.qs_syntax_tree.specs.Table.{firsts}
 use Rattle.qs_syntax_tree.specs.Rules.{clear, construct, create, delete, drop_graph, from_graph_to_graph, graph_operation, insert, item, long_construct, named_expression, operation, operations_rule, select, select_clause, template_braces, values, with_clause, with_graph}

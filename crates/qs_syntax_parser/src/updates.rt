@@ -1,10 +1,10 @@
 //! Updates (SPARQL 1.1 Query, 19.8, [29] to [47]).
 
 ghost use Rattle.std.specs.Prelude.{Ok, Some};
-ghost use Rattle.qs_syntax_grammar.specs.Reading.{and_then};
+ghost use Rattle.qs_syntax_grammar.specs.inner.Reading.{and_then};
 ghost use Rattle.qs_syntax_tree.specs.Trees.{steps_of};
 ghost use Rattle.qs_syntax_grammar.specs.Grammar.{read};
-ghost use Rattle.qs_syntax_grammar.specs.Reading.{Reads};
+ghost use Rattle.qs_syntax_grammar.specs.inner.Reading.{Reads};
 ghost use Rattle.qs_syntax_tree.specs.Rules as rules;
 ghost use Rattle.qs_syntax_tree.specs.Table.{grammar};
 

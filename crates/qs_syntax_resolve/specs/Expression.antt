@@ -1,4 +1,4 @@
--- Expressions with their names resolved.
+-- Expressions with their names resolved (SPARQL 1.1 Query, 17).
 use Rattle.std.specs.Prelude.{List, map}
 use Rattle.qs_syntax_tree.specs.declared.expression.Expression.{Expression as WrittenExpression, fold-Expression}
 use Rattle.qs_syntax_tree.specs.declared.expression.Call.{Call as WrittenCall, fold-Call}

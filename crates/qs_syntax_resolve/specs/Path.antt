@@ -1,4 +1,4 @@
--- Property paths with their names resolved.
+-- Property paths with their names resolved (SPARQL 1.1 Query, 9).
 use Rattle.std.specs.Prelude.{ℕ, List, map, Ok}
 use Rattle.qs_syntax_tree.specs.declared.path.Path.{Path as WrittenPath, fold-Path}
 use Rattle.qs_syntax_tree.specs.declared.path.PathOperand.{PathOperand}

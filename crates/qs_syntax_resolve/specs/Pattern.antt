@@ -1,4 +1,5 @@
 -- Group graph patterns with their names resolved (SPARQL 1.1 Query, 5.2, 18.2.2).
+-- Filters are set apart, since they apply to the whole group. Triples that have nothing but filters between them are one block.
 use Rattle.std.specs.Prelude.{List, [], ◌∷◌, ◌++◌, map}
 use Rattle.qs_syntax_tree.specs.declared.pattern.Group.{Group as WrittenGroup, fold-Group}
 use Rattle.qs_syntax_tree.specs.declared.pattern.Element.{Element, fold-Element}

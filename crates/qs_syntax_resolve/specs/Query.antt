@@ -42,6 +42,7 @@ use Rattle.qs_syntax_resolve.specs.Triples.{triples_behind}
 
 -- ---- prefixes
 
+-- a declaration holds for what follows it; a later one of the same prefix replaces the earlier
 abbrev pub declaration : PrefixDeclaration → Resolving (Unit {0})
 declaration d = λ s. and_then (of.declare s.names d) (λ names. Ok (tt, record s { names = names }))
 

@@ -1,4 +1,4 @@
--- Whole queries and updates with their names resolved.
+-- Whole queries and updates with their names resolved: absolute IRIs, terms for literals, and names for variables.
 use Rattle.std.specs.Prelude.{ℕ, true, List, Option, Some, None, if◌then◌else◌, Ok}
 use Rattle.qs_syntax_tree.specs.declared.query.Query.{Query as WrittenQuery}
 use Rattle.qs_syntax_tree.specs.declared.update.Update.{Update as WrittenUpdate}

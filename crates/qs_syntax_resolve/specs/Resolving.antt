@@ -1,9 +1,11 @@
--- Steps that read a tree from left to right: each gives a value and goes on, or stops at the first fault.
+-- Steps that read a tree from left to right: each gives a value and goes on, or stops at the first fault. All that is resolved is defined
+-- by such steps, by recursion on the tree.
 use Rattle.std.specs.Prelude.{◌≡◌, ◌≢◌, List, [], ◌∷◌, ◌++◌, Result, Ok, Err}
 use Rattle.qs_terms.specs.declared.fault.QFault.TheVariants.{Memory}
 use Rattle.qs_terms.specs.Outcome.{Outcome, and_then}
 use Rattle.qs_syntax_resolve.specs.declared.resolver.Resolver.{Resolver}
 
+-- a step by what was read so far: the names declared, how many anonymous blank nodes have begun, and whether all literals are lawful
 abbrev pub Resolving : Type 0 → Type 0
 Resolving A = Resolver → Outcome (A × Resolver)
 

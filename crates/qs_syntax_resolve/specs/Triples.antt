@@ -1,4 +1,4 @@
--- Triples written out, with their names resolved (SPARQL 1.1 Query, 4.2).
+-- Triples with their names resolved (SPARQL 1.1 Query, 4.2): property lists and object lists are written out, subject by subject.
 use Rattle.std.specs.Prelude.{List, [], ◌∷◌, ◌++◌, map}
 use Rattle.qs_syntax_tree.specs.declared.path.Verb.{Verb as WrittenVerb}
 use Rattle.qs_syntax_tree.specs.declared.path.Verb.TheVariants as written

@@ -18,7 +18,7 @@ use Rattle.qs_syntax_ast.specs.declared.update.Update.{Update}
 use Rattle.qs_syntax_ast.specs.declared.update.Operation.{Operation}
 use Rattle.qs_syntax_ast.specs.declared.update.Operation.TheVariants as op
 
--- a WHERE by itself: BIND, the tables of VALUES, and the labels of its runs
+-- a WHERE by itself: BIND, the tables of VALUES, and no label in two of its runs (19.6)
 abbrev pub pattern_keeps : Group → Bool
 pattern_keeps group = binds_are_new group && values_are_tables group && are_apart (runs group)
 
@@ -49,7 +49,7 @@ query_keeps_scope query = trailing_is_table query.values && form_keeps (trailing
 
 -- ---- updates
 
--- no variable in INSERT DATA and DELETE DATA (19.8, note 7)
+-- no variable in INSERT DATA and DELETE DATA, also as the name of a graph (19.8, note 7)
 abbrev pub data_names_no_variable : Operation → Bool
 data_names_no_variable (op.InsertData blocks) = not (list_any block_has_variable blocks)
 data_names_no_variable (op.DeleteData blocks) = not (list_any block_has_variable blocks)
@@ -81,7 +81,7 @@ abbrev pub inserted_labels : Operation → List Name
 inserted_labels (op.InsertData blocks) = flat_map block_labels blocks
 inserted_labels _ = []
 
--- an update keeps all rules: no label stands in two runs of its operations, and none in two INSERT DATA
+-- an update keeps all rules: no label stands in two runs of its operations, and none in two INSERT DATA (19.6)
 unfoldable pub update_keeps_scope : Update → Bool
 update_keeps_scope update =
     list_all operation_keeps update.operations &&

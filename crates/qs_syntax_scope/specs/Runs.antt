@@ -1,4 +1,5 @@
--- The runs of triples of a WHERE, by the labels in them (SPARQL 1.1 Query, 5.1.1 and 19.6).
+-- The runs of triples of a WHERE, by the labels in them (SPARQL 1.1 Query, 5.1.1 and 19.6). A run is the triples of a group that have
+-- nothing but filters between them.
 use Rattle.std.specs.Prelude.{List, [], ◌∷◌, map}
 use Rattle.std.specs.List.{flat_map}
 use Rattle.qs_syntax_scope.specs.Names.{Name}

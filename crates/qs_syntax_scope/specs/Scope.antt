@@ -1,4 +1,6 @@
 -- The variables in scope of a group (SPARQL 1.1 Query, 18.2.1), and the rule of BIND (10.1, and 19.8, note 12).
+-- In scope are the variables of its triples, BIND, VALUES and GRAPH, and those in scope of the groups under UNION, OPTIONAL, GRAPH and
+-- inner braces.
 use Rattle.std.specs.Prelude.{Bool, true, ◌&&◌, not, List, [], ◌∷◌, ◌++◌, map}
 use Rattle.std.specs.List.{list_any, flat_map, fold}
 use Rattle.qs_syntax_scope.specs.Names.{Name, contains}

@@ -1,4 +1,6 @@
 -- The variables that stand anywhere in a query or an update (SPARQL 1.1 Query, 4.1.3), in scope or not, as often as they stand there.
+-- They stand in the projection and after AS, in triples and at the ends of paths, in expressions, filters and keys of ORDER BY. They stand
+-- after MINUS too, as the name of a graph, in tables, in templates and in quads.
 use Rattle.std.specs.Prelude.{List, [], ◌∷◌, ◌++◌, map, Option, Some, None}
 use Rattle.std.specs.List.{flat_map}
 use Rattle.qs_syntax_scope.specs.Names.{Name}

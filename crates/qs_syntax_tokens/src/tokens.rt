@@ -1,7 +1,7 @@
 //! A cursor over tokens.
 
 ghost use Rattle.std.specs.Prelude.{◌≡◌, ◌+◌, length};
-ghost use Rattle.qs_syntax_grammar.specs.Reading.{starts, take_kind, has};
+ghost use Rattle.qs_syntax_grammar.specs.inner.Reading.{starts, take_kind, has};
 ghost use Rattle.qs_syntax_tokens.specs.inner.Exactly.{ReadsExactly};
 ghost use Rattle.qs_syntax_grammar.specs.Grammar.{read};
 ghost use Rattle.qs_syntax_grammar.specs.Notation.{◌<<◌};

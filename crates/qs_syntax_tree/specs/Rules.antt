@@ -1,6 +1,6 @@
--- The grammar, line by line.
--- A definition can't name one below it, so the standard's productions are an index at the head, with their numbers. Rules are
--- left-factored at `[` in subjects and objects, at INSERT and DELETE, and at NOT; they spell the same texts.
+-- The grammar of the profile, line by line (SPARQL 1.1 Query, 19.8, without what is left out). A text begins at `query` or `update`.
+-- A definition can't name one below it, so the standard's productions are an index at the head, with their numbers. Rules are left-factored
+-- at `[` in subjects and objects, at INSERT and DELETE, and at NOT; they spell the same texts.
 use Rattle.std.specs.Prelude.{true, false, List, [], ◌∷◌, ◌++◌, Option, Some, None}
 use Rattle.qs_syntax_grammar.specs.Rule.{token, many, made, placed, ref}
 use Rattle.qs_syntax_grammar.specs.Notation.{◌<$>◌, ◌>>◌, ◌<<◌, ◌&◌, ◌<|>◌, or, opt, cons, kept, joined}

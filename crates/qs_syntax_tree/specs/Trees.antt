@@ -1,4 +1,6 @@
 -- The trees that rules make of their parts' trees.
+-- Trees are as texts are written, with pieces of the text as spans. They have the places that later faults need: of a group's elements, of
+-- the operands of chains, and of names.
 use Rattle.std.specs.Prelude.{ℕ, Bool, true, false, List, [], ◌∷◌, Option, Some, None}
 use Rattle.qs_syntax_tree.specs.declared.path.Path.{Path}
 use Rattle.qs_syntax_tree.specs.declared.path.Path.TheVariants as path

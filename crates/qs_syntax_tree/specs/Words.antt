@@ -1,4 +1,4 @@
--- The kinds of words and marks, as they are written.
+-- The kinds of keywords and marks, by two tables (SPARQL 1.1 Query, 19.8).
 use Rattle.std.specs.Prelude.{ℕ, Bool, List, [], ◌∷◌, codes, if◌then◌else◌}
 use Rattle.std.specs.Str.{bytes_eq, str_eq_ignore_ascii_case}
 use Rattle.qs_syntax_tree.specs.declared.kind.Kind.{Kind}
@@ -73,6 +73,7 @@ keywords =
     (codes "strends", k.StrEnds) ∷
     []
 
+-- marks, matched as they are written
 abbrev pub marks : List (List ℕ × Kind)
 marks =
     (codes "{", k.LeftBrace) ∷

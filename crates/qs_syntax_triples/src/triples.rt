@@ -1,7 +1,7 @@
 //! Triples of patterns and templates (SPARQL 1.1 Query, 19.8, [75] to [81]).
 
 ghost use Rattle.qs_syntax_grammar.specs.Grammar.{read};
-ghost use Rattle.qs_syntax_grammar.specs.Reading.{Reads};
+ghost use Rattle.qs_syntax_grammar.specs.inner.Reading.{Reads};
 ghost use Rattle.qs_syntax_grammar.specs.Rule.{ref};
 ghost use Rattle.qs_syntax_tree.specs.Rules as rules;
 ghost use Rattle.qs_syntax_tree.specs.Sparql as name;

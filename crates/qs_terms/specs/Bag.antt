@@ -3,7 +3,8 @@ use Rattle.std.specs.Prelude.{◌≡◌, ℕ, ◌+◌, Bool, false, not, List, [
 use Rattle.std.specs.List.{filter, list_any}
 use Rattle.std.specs.List.Sorted.{IsPermutation}
 
--- every element stands equally often in both
+-- every element stands equally often in both: one is a permutation of the other. Of quads the law `same_bag_by_counts` says that the two
+-- are one
 abbrev pub SameBag : {X : Type 0} → List X → List X → Type 0
 SameBag xs ys = IsPermutation xs ys
 

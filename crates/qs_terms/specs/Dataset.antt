@@ -50,7 +50,7 @@ IsDataset d = Distinct same_statement d.quads × IsTrue (is_above_blanks d.next 
 abbrev pub graph_of : List Statement → Option Term → List Triple
 graph_of quads name = map triple_of (filter (λ q. same_graph q.graph name) quads)
 
--- the names of the named graphs: those that a quad names, each once
+-- the names of the named graphs: those that a quad names, each once; so a named graph exists while a quad is in it
 abbrev pub names_of : List Statement → List Term
 names_of quads = once same_term (filter_map (λ q. q.graph) quads)
 

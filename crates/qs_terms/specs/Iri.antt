@@ -1,4 +1,5 @@
--- Lawful IRIs: absolute, and without a character that IRIs exclude (RFC 3987, 2.2; RDF 1.1 Concepts, 3.2).
+-- Lawful IRIs (RFC 3987, 2.2; RDF 1.1 Concepts, 3.2): absolute, so with a scheme and a colon at the front, and without a character that
+-- IRIs exclude. No more of the grammar of RFC 3987 is asked.
 use Rattle.std.specs.Prelude.{ℕ, Bool, true, false, ◌&&◌, ◌||◌, ◌==◌, not, List, [], ◌∷◌, Result, Ok, Err, if◌then◌else◌}
 use Rattle.std.specs.List.{list_any}
 use Rattle.std.specs.Char.{is_ascii_alphabetic, is_ascii_alphanumeric}
@@ -6,7 +7,7 @@ use Rattle.std.specs.Int.{is_in_range}
 use Rattle.qs_terms.specs.declared.fault.TermFault.{TermFault}
 use Rattle.qs_terms.specs.declared.fault.TermFault.TheVariants.{NotAbsolute, BadChar}
 
--- what may follow a scheme's first letter: letters, digits, `+`, `-` and `.`
+-- what may follow a scheme's first letter: ASCII letters and digits, `+`, `-` and `.`
 abbrev pub is_scheme_char : ℕ → Bool
 is_scheme_char c = is_ascii_alphanumeric c || (c == 43 || (c == 45 || c == 46))
 
@@ -15,7 +16,7 @@ abbrev pub reaches_colon : List ℕ → Bool
 reaches_colon [] = false
 reaches_colon (c ∷ cs) = if c == 58 then true else (is_scheme_char c && reaches_colon cs)
 
--- a letter, any number of a scheme's characters, and a colon
+-- an ASCII letter, any number of a scheme's characters, and a colon
 abbrev pub has_scheme : List ℕ → Bool
 has_scheme [] = false
 has_scheme (c ∷ cs) = is_ascii_alphabetic c && reaches_colon cs

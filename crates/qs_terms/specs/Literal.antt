@@ -1,4 +1,4 @@
--- Literals (RDF 1.1 Concepts, 3.3).
+-- Literals (RDF 1.1 Concepts, 3.3). The four datatypes that rules speak of have names.
 use Rattle.std.specs.Prelude.{ℕ, Bool, ◌&&◌, not, List, codes, Option, Some, None, Result, Ok, Err, if◌then◌else◌}
 use Rattle.std.specs.Str.{bytes_eq}
 use Rattle.qs_terms.specs.Iri.{is_iri_text}

@@ -1,6 +1,4 @@
--- Answers that are fixed but where memory runs out, which is one of the faults of a call.
--- One name for each kind of answer. A call's answer is the one that is due, or one of those that are, or out of memory
--- (`OrOutOf`, `OneOrOutOf`; `ValueOrOutOfMemory` where refusals come before any growth).
+-- The answer of a call that is due, or running out of memory, which is one of the faults of a call: one name for each kind of answer.
 use Rattle.std.specs.Prelude.{◌≡◌, ◌≢◌, Result, Ok, Err, MatchResult}
 
 -- the answer is one of those that are due, or running out of memory

@@ -1,5 +1,5 @@
--- What a text, or a part of it, results in: a value, or the one fault that is due.
--- What a text results in, for all layers.
+-- What a text, or a part of it, results in, for all layers: a value, or the one fault that is due. The first fault of several parts is that
+-- of the whole.
 use Rattle.std.specs.Prelude.{Result, Ok, Err}
 use Rattle.qs_terms.specs.declared.fault.QFault.{QFault}
 use Rattle.qs_terms.specs.declared.fault.QFault.TheVariants.{Memory}

@@ -13,7 +13,7 @@ is_tag_rest first empty [] = not empty
 is_tag_rest first empty (c ∷ cs) =
     if c == 45 then (not empty && is_tag_rest false true cs) else (is_subtag_char first c && is_tag_rest first false cs)
 
--- letters, and then any number of `-` with letters and digits
+-- one or more ASCII letters, and then any number of `-` with one or more ASCII letters and digits
 abbrev pub is_tag : List ℕ → Bool
 is_tag text = is_tag_rest true true text
 

@@ -1,4 +1,4 @@
--- Terms (RDF 1.1 Concepts, 3.1): the same where kind and texts are the same.
+-- Terms (RDF 1.1 Concepts, 3.1): IRIs, blank nodes with numbers, and literals. The integers `"01"` and `"1"` are two terms.
 use Rattle.std.specs.Prelude.{ℕ, Bool, false, ◌&&◌, ◌==◌, List, Option, Result, Ok, Err}
 use Rattle.std.specs.Str.{bytes_eq}
 use Rattle.std.specs.Option.{option_eq}

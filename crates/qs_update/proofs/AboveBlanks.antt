@@ -32,9 +32,9 @@ use Rattle.qs_query_template.specs.Template.{template_of_blocks, template_in}
 use Rattle.qs_query_template.specs.declared.template.Template.{Template}
 use Rattle.qs_algebra.specs.Translation.{translated_where, translated_blocks}
 use Rattle.qs_algebra_patterns.specs.declared.named_pattern.Pattern.{Pattern}
-use Rattle.qs_update_laws.specs.Below.{is_solution_below, have_iri_predicates}
-use Rattle.qs_update_laws.specs.NoBlank.{has_no_blank}
-use Rattle.qs_update_laws.specs.Written.{values_have_no_blank, operation_values_have_no_blank}
+use Rattle.qs_update_laws.specs.inner.Below.{is_solution_below, have_iri_predicates}
+use Rattle.qs_update_laws.specs.inner.NoBlank.{has_no_blank}
+use Rattle.qs_update_laws.specs.inner.Written.{values_have_no_blank, operation_values_have_no_blank}
 use Rattle.qs_store.specs.declared.default_graph.DefaultGraph.{DefaultGraph}
 use Rattle.qs_store.specs.declared.default_graph.DefaultGraph.TheVariants.{Stored, Union}
 use Rattle.qs_update.specs.Effect.{nothing, deletion, modified, of_data, solutions, IsModified, cleared, fault_or_nothing, created, put_over, removed_by, transferred, IsEffect}

@@ -1,10 +1,8 @@
 -- What an operation does (SPARQL 1.1 Update, 3.1, 3.2 and 4.3): it removes quads and then adds others, and takes numbers for fresh blank
--- nodes; or the fault that is due.
--- COPY, MOVE and ADD of a graph to itself do nothing once the graph is there. CLEAR and DROP do the same with and without SILENT.
--- DELETE WHERE has a basic graph pattern for each block of its quads: an empty GRAPH has a solution only where there is such a
--- graph.
--- The variables of an operation are those that stand in it. Its solutions are those of its own WHERE (3.1.3), so which variables the
--- other operations of a request name doesn't matter.
+-- nodes; or the fault that is due. COPY, MOVE and ADD of a graph to itself do nothing once the graph is there. DELETE WHERE has a basic
+-- graph pattern for each block of its quads: an empty GRAPH has a solution only where there is such a graph.
+-- The variables of an operation are those that stand in it. Its solutions are those of its own WHERE (3.1.3), whichever variables the other
+-- operations of a request name.
 use Rattle.std.specs.Prelude.{◌≡◌, ◌⊎◌, ◌<◌, ◌≤◌, ℕ, List, [], ◌∷◌, length, Option, Some, None, option_map, Ok, Err, if◌then◌else◌}
 use Rattle.std.specs.List.{filter}
 use Rattle.qs_terms.specs.Bag.{SameBag, once}

@@ -2,7 +2,7 @@
 
 ghost use Rattle.std.specs.Prelude.{◌≡◌, ◌≢◌, IsTrue, Err, IfErr, OnOk, OnErr};
 ghost use Rattle.qs_terms.specs.declared.fault.QFault.TheVariants.{Memory};
-ghost use Rattle.qs_update_laws.specs.Written.{update_values_have_no_blank};
+ghost use Rattle.qs_update_laws.specs.inner.Written.{update_values_have_no_blank};
 ghost use Rattle.qs_update.specs.inner.Carried.{AreTaken};
 ghost use Rattle.qs_update.specs.Outcome.{IsAccepted, IsOutcomeOfText};
 ghost use Rattle.qs_update.specs.Request.{bounds_of, AreOperations};

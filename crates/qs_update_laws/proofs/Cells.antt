@@ -7,7 +7,7 @@ use Rattle.qs_terms.specs.declared.term.Term.TheVariants as term
 use Rattle.qs_algebra_solutions.specs.Solution.{Solution, term_at, unbound, bind_all, compatible, first_bound, merge}
 use Rattle.qs_algebra_solutions.specs.Operators.{merges, join, or_alone, left_join, excludes, minus}
 use Rattle.qs_algebra_patterns.specs.Basic.{all_maps}
-use Rattle.qs_update_laws.specs.NoBlank.{is_no_blank, row_has_no_blank}
+use Rattle.qs_update_laws.specs.inner.NoBlank.{is_no_blank, row_has_no_blank}
 use Rattle.qs_update_laws.proofs.Lists.{both_hold, each_filter, each_map, each_flat_map}
 
 module _ (next : ℕ) where

@@ -14,7 +14,7 @@ use Rattle.qs_expr_meaning.specs.declared.operator.BinaryFunction.TheVariants.{S
 use Rattle.qs_expr_meaning.specs.declared.expr.Addend.{Addend}
 use Rattle.qs_expr_meaning.specs.declared.expr.Expr.{Expr, map-Expr, roll-Expr, fold-roll-Expr, ind-Expr}
 use Rattle.qs_expr_meaning.specs.declared.expr.Expr.TheOpen.{Expr-F}
-use Rattle.qs_update_laws.specs.NoBlank.{all, expr_level, addend_level, expr_has_no_blank, addend_has_no_blank}
+use Rattle.qs_update_laws.specs.inner.NoBlank.{all, expr_level, addend_level, expr_has_no_blank, addend_has_no_blank}
 use Rattle.qs_update_laws.proofs.Lists.{both_hold}
 use Rattle.qs_update_laws.proofs.Cells.{TermBelow, CellBelow, RowBelow, no_blank_below, at_below}
 

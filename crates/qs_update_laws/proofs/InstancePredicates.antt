@@ -8,7 +8,7 @@ use Rattle.qs_algebra_solutions.specs.Solution.{Solution}
 use Rattle.qs_query_template.specs.Instances.{slot_term, graph_term, lawful, quad_of, instance, instances_under, instances}
 use Rattle.qs_query_template.specs.declared.template.QuadTemplate.{QuadTemplate}
 use Rattle.qs_query_template.specs.declared.template.Template.{Template}
-use Rattle.qs_update_laws.specs.Below.{have_iri_predicates}
+use Rattle.qs_update_laws.specs.inner.Below.{have_iri_predicates}
 use Rattle.qs_update_laws.proofs.Lists.{both_hold, and_both}
 
 append_iris : (a b : List Statement) → have_iri_predicates a ≡ true → have_iri_predicates b ≡ true → have_iri_predicates (a ++ b) ≡ true

@@ -9,10 +9,10 @@ use Rattle.qs_terms.specs.Statement.{Statement}
 use Rattle.qs_terms.specs.declared.term.Term.{Term}
 use Rattle.qs_terms.specs.declared.term.Term.TheVariants.{Iri, Blank, Literal}
 use Rattle.qs_algebra_solutions.specs.Solution.{Solution}
-use Rattle.qs_query_template.specs.Fresh.{is_blank, cell_is_blank, quad_has_blank, binds_blank, names_blank}
+use Rattle.qs_query_template.specs.inner.Fresh.{is_blank, cell_is_blank, quad_has_blank, binds_blank, names_blank}
 use Rattle.qs_query_template.specs.Instances.{instances, next_after}
 use Rattle.qs_query_template.specs.declared.template.Template.{Template}
-use Rattle.qs_update_laws.specs.Below.{is_solution_below}
+use Rattle.qs_update_laws.specs.inner.Below.{is_solution_below}
 use Rattle.qs_update_laws.proofs.Lists.{both_hold, and_both}
 
 neither : (a b : Bool) → (a || b) ≡ false → (a ≡ false) × (b ≡ false)

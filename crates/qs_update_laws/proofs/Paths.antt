@@ -19,7 +19,7 @@ use Rattle.qs_algebra_patterns.specs.declared.pattern.Slot.TheVariants as slot
 use Rattle.qs_algebra_patterns.specs.declared.pattern.PathPattern.{PathPattern}
 use Rattle.qs_algebra_patterns.specs.declared.pattern.BasicPattern.{BasicPattern}
 use Rattle.qs_algebra_patterns.specs.Basic.{terms_of_triple, terms_of, mentions, puts_into, all_maps, matches, end_of, fits, with_term, ends_bound, path_solutions, with_paths, basic}
-use Rattle.qs_update_laws.specs.NoBlank.{slot_has_no_blank, triple_has_no_blank, path_has_no_blank, basic_has_no_blank}
+use Rattle.qs_update_laws.specs.inner.NoBlank.{slot_has_no_blank, triple_has_no_blank, path_has_no_blank, basic_has_no_blank}
 use Rattle.qs_update_laws.proofs.Lists.{both_hold, each_append, each_filter, each_once, each_where, each_map, each_flat_map}
 use Rattle.qs_update_laws.proofs.Cells.{TermBelow, CellBelow, RowBelow, RowsBelow, no_blank_below, unbound_below, set_below, take_below, join_below, maps_below}
 

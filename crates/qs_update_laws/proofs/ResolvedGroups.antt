@@ -29,8 +29,8 @@ use Rattle.qs_syntax_resolve.specs.Leaves.{iri, literal, variable, var_or_iri}
 use Rattle.qs_syntax_resolve.specs.Pattern.{closed, put, put_filter, put_triples, empty_group, finished, Put, each_element, pattern_level, element_level, group_level, group_of}
 use Rattle.qs_syntax_resolve.specs.Resolving.{Resolving, ◌>>=◌, pure, all}
 use Rattle.qs_syntax_resolve.specs.Triples.{triples_behind}
-use Rattle.qs_update_laws.specs.NoBlank.{all as all_hold, cell_has_no_blank, row_has_no_blank}
-use Rattle.qs_update_laws.specs.Written.{data_have_no_blank, values_level, group_level as values_group_level, values_have_no_blank, pattern_values_have_no_blank}
+use Rattle.qs_update_laws.specs.inner.NoBlank.{all as all_hold, cell_has_no_blank, row_has_no_blank}
+use Rattle.qs_update_laws.specs.inner.Written.{data_have_no_blank, values_level, group_level as values_group_level, values_have_no_blank, pattern_values_have_no_blank}
 use Rattle.qs_update_laws.proofs.Lists.{each_append, all_pass}
 use Rattle.qs_update_laws.proofs.Resolving.{Finds, Any, any, behind, finds_too, finds_all}
 

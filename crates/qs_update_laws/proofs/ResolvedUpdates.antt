@@ -27,7 +27,7 @@ use Rattle.qs_syntax_resolve.specs.Update.{quads, template, target_of, transfer,
 use Rattle.qs_syntax_scope.specs.KeepsScope.{update_keeps_scope}
 use Rattle.qs_syntax.specs.Outcome.{screened, by_place, in_scope, variables_of, listed_update, update_outcome}
 use Rattle.qs_syntax.specs.Outcome.{AfterScreen, IsUpdateOutcome}
-use Rattle.qs_update_laws.specs.Written.{operation_values_have_no_blank, update_values_have_no_blank}
+use Rattle.qs_update_laws.specs.inner.Written.{operation_values_have_no_blank, update_values_have_no_blank}
 use Rattle.qs_update_laws.proofs.Lists.{each_append, all_pass}
 use Rattle.qs_update_laws.proofs.Resolving.{Found, Finds, Any, any, behind}
 use Rattle.qs_update_laws.proofs.ResolvedGroups.{FreeGroup, group_free}

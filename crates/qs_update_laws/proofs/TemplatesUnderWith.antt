@@ -2,7 +2,7 @@
 use Rattle.std.proofs.Common.{◌≡◌, ℕ, false, ◌||◌, List, [], ◌∷◌, map, Option, Some, None, refl, ap₂, ◌∙◌}
 use Rattle.std.specs.List.{list_any}
 use Rattle.qs_terms.specs.declared.term.Term.TheVariants as value
-use Rattle.qs_query_template.specs.Fresh.{slot_is_blank, graph_is_blank, template_quad_has_blank, names_blank}
+use Rattle.qs_query_template.specs.inner.Fresh.{slot_is_blank, graph_is_blank, template_quad_has_blank, names_blank}
 use Rattle.qs_query_template.specs.Template.{graph_or, quad_in, template_in}
 use Rattle.qs_query_template.specs.declared.template.Slot.{Slot}
 use Rattle.qs_query_template.specs.declared.template.Slot.TheVariants as slot

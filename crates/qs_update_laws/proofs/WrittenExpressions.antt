@@ -11,7 +11,7 @@ use Rattle.qs_syntax_ast.specs.declared.expression.Expression.TheOpen.{Expressio
 use Rattle.qs_syntax_scope.specs.Names.{Name}
 use Rattle.qs_syntax_scope.specs.Places.{place_of}
 use Rattle.qs_algebra.specs.Expressions.{comparison, sign, unary_function, binary_function, product, expr_level as translated_level, addend_level as translated_addend, expr_of, addend_of}
-use Rattle.qs_update_laws.specs.NoBlank.{all, expr_level, addend_level, expr_has_no_blank, addend_has_no_blank}
+use Rattle.qs_update_laws.specs.inner.NoBlank.{all, expr_level, addend_level, expr_has_no_blank, addend_has_no_blank}
 use Rattle.qs_update_laws.proofs.Lists.{and_both}
 
 abbrev NoBlank : Expr → Type 0

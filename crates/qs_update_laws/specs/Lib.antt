@@ -1,3 +1,1 @@
-pub mod Below
-pub mod NoBlank
-pub mod Written
+pub mod inner

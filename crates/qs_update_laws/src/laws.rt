@@ -18,14 +18,14 @@ ghost use Rattle.qs_algebra_patterns.specs.Basic.{Graph};
 ghost use Rattle.qs_algebra_patterns.specs.Eval.{eval};
 ghost use Rattle.qs_algebra_patterns.specs.declared.pattern.PatternNode.{PatternNode};
 ghost use Rattle.qs_algebra.specs.Translation.{translated_where, translated_blocks};
-ghost use Rattle.qs_query_template.specs.Fresh.{names_blank};
+ghost use Rattle.qs_query_template.specs.inner.Fresh.{names_blank};
 ghost use Rattle.qs_query_template.specs.Instances.{instances, next_after};
 ghost use Rattle.qs_query_template.specs.Template.{template_of_blocks, template_in};
 ghost use Rattle.qs_query_template.specs.declared.template.Template.{Template};
 ghost use Rattle.qs_syntax.specs.Outcome.{IsUpdateOutcome};
-ghost use Rattle.qs_update_laws.specs.Below.{is_solution_below, are_triples_below, have_iri_predicates};
-ghost use Rattle.qs_update_laws.specs.NoBlank.{has_no_blank};
-ghost use Rattle.qs_update_laws.specs.Written.{values_have_no_blank, update_values_have_no_blank};
+ghost use Rattle.qs_update_laws.specs.inner.Below.{is_solution_below, are_triples_below, have_iri_predicates};
+ghost use Rattle.qs_update_laws.specs.inner.NoBlank.{has_no_blank};
+ghost use Rattle.qs_update_laws.specs.inner.Written.{values_have_no_blank, update_values_have_no_blank};
 
 use qs_query_template::laws::{blanks_are_fresh, templates_name_no_blanks};
 

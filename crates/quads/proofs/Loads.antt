@@ -11,8 +11,8 @@ use Rattle.qs_store.specs.declared.fault.StoreFault.TheVariants as store_fault
 use Rattle.qs_store.specs.Content.{Content, Held}
 use Rattle.qs_store.specs.declared.default_graph.DefaultGraph.{DefaultGraph}
 use Rattle.quads.specs.Due.{empty, max_terms, IsLoaded, IsOverData}
-use Rattle.quads.specs.Refusal.{refusal_of}
-use Rattle.quads.specs.Service.{IsRefusalOf}
+use Rattle.quads.specs.inner.Refusal.{refusal_of}
+use Rattle.quads.specs.inner.Service.{IsRefusalOf}
 use Rattle.quads.specs.inner.Load.{BecomesStored}
 
 -- a store without quads, number and terms is a new one

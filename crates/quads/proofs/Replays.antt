@@ -18,10 +18,10 @@ use Rattle.qs_service_replay.specs.Script.{IsScript, IsOtherLine}
 use Rattle.qs_service_replay.specs.declared.run.ReplayEnd.{ReplayEnd}
 use Rattle.qs_service_replay.specs.declared.run.ReplayEnd.TheVariants.{SinkFailed, OutOfMemory}
 use Rattle.quads.specs.Due.{line, script_line, service_over, IsLoaded, IsDueOfEvents, IsDueOfScript}
-use Rattle.quads.specs.Refusal.{refusal_text}
+use Rattle.quads.specs.inner.Refusal.{refusal_text}
 use Rattle.quads.specs.inner.Replay.{IsBegunOfEvents, IsScriptDue, IsScriptBegun, IsReplayDue, IsReplayBegun}
 use Rattle.quads.specs.Run.{Prints, Runs}
-use Rattle.quads.specs.Service.{IsRefusalOf}
+use Rattle.quads.specs.inner.Service.{IsRefusalOf}
 use Rattle.quads.specs.declared.job.Ran.{Ran}
 use Rattle.quads.specs.declared.refusal.Refusal.{Refusal}
 use Rattle.quads.specs.declared.refusal.Refusal.TheVariants.{Data, Script, Fault}

@@ -17,8 +17,8 @@ use Rattle.quads.specs.declared.job.TextKind.{TextKind}
 use Rattle.quads.specs.inner.JobResult.{IsQueryResult, IsUpdateResult, IsExplanationResult, load_refusal}
 use Rattle.quads.specs.inner.Load.{BecomesStored}
 use Rattle.quads.proofs.Loads.{over_data}
-use Rattle.quads.specs.Refusal.{refusal_of}
-use Rattle.quads.specs.Service.{IsRefusalOf}
+use Rattle.quads.specs.inner.Refusal.{refusal_of}
+use Rattle.quads.specs.inner.Service.{IsRefusalOf}
 
 -- bytes that are no text have the fault that is due
 pub no_text : (choice : DefaultGraph) (bytes : List ℕ) (c : Content) (f : QFault) → IsTextOf bytes (Err f) → OneOrOutOfMemory (IsQueryOutcome choice bytes c) (Err f)

@@ -1,9 +1,9 @@
--- What is due of a job: the bytes that are printed, and the exit status. The data of a check are printed again as N-Quads, or refused. Those
--- of the other jobs are put into a new store before, with the default graph that the job chooses: a query over it is answered, of an update the dataset after it is printed as N-Quads,
--- of a replay the lines of a run of its events, and of an explanation some text, where the query or the update has no fault of its text; or the first fault is
--- told, of the data before that of the text or the script.
--- What a job prints is two relations, what is due whole and what may have been begun. A job that prints as it goes, and whose
--- sink fails, has more of the second.
+-- What is due of a job: the bytes that are printed, and the exit status, 1 where the job is refused or out of memory and else 0.
+-- The data of a check are printed as N-Quads. Those of the other jobs are put into a new store, with the default graph that the job
+-- chooses. Over it a query is answered, and of an update the dataset after it is printed. Of a replay it is the lines of a run of its
+-- events, and of an explanation some text. Or the first fault is told, of the data before that of the text or the script. What a job prints
+-- is two relations: what is due whole, and what may have been begun. A job that prints as it goes, and whose sink fails, has more of the
+-- second.
 use Rattle.std.specs.Prelude.{◌≡◌, ◌⊎◌, ◌∷◌, ◌++◌, [], ℕ, List, Ok, Err, codes, decimal}
 use Rattle.std.specs.Str.{IsUtf8, IsValidUpTo}
 use Rattle.serde_json.specs.Written.{compact_text}
@@ -204,7 +204,7 @@ abbrev pub script_line : ℕ → List ℕ
 script_line n = codes "script line " ++ decimal n
 
 -- what is printed of events that are carried out: all that a run of them writes; or what those before some event write, and the line of
--- running out of memory, which was wanting for what that one writes
+-- running out of memory, where memory ran out for what that one writes
 abbrev pub IsDueOfEvents : State → List Event → List ℕ → ℕ → Type 0
 IsDueOfEvents old events bytes status =
     ((new : State) × Replays (Carries sparql) old 1 events new bytes × (status ≡ 0))

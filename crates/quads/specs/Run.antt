@@ -1,4 +1,4 @@
--- What the program does for a job with a sink.
+-- What the program does for a job with a sink, and how many bytes the sink took.
 use Rattle.std.specs.Prelude.{◌≡◌, ◌⊎◌, ◌≤◌, ◌<◌, ℕ, List, Option, length, take}
 use Rattle.std.specs.Io.KnownBytes.{Appends}
 use Rattle.qs_terms.specs.Device.{one_more}

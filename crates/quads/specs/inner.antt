@@ -3,3 +3,5 @@ pub mod JobResult
 pub mod Load
 pub mod Replay
 pub mod Update
+pub mod Refusal
+pub mod Service

@@ -4,7 +4,7 @@ ghost use Rattle.std.specs.Prelude.{◌≡◌, Ok, Err, IfOk, MatchResult};
 ghost use Rattle.qs_terms.specs.declared.fault.QFault.TheVariants.{Memory};
 ghost use Rattle.quads.specs.Due as spec;
 ghost use Rattle.quads.specs.Due.{empty, max_terms};
-ghost use Rattle.quads.specs.Service.{BecomesService};
+ghost use Rattle.quads.specs.inner.Service.{BecomesService};
 ghost use Rattle.quads.specs.declared.refusal.Refusal.TheVariants.{Fault};
 ghost use Rattle.quads.specs.inner.Load.{BecomesStored};
 

@@ -4,7 +4,7 @@ ghost use Rattle.std.specs.Prelude.{◌≡◌, ◌⊎◌, IfOk, string_bytes};
 ghost use Rattle.qs_terms.specs.declared.fault.QFault.TheVariants.{Memory};
 ghost use Rattle.qs_results.specs.Lines.{fault_line};
 ghost use Rattle.quads.specs.Due.{line, script_line};
-ghost use Rattle.quads.specs.Refusal as spec;
+ghost use Rattle.quads.specs.inner.Refusal as spec;
 ghost use Rattle.quads.specs.Run.{Prints};
 
 use crate::job::Ran;

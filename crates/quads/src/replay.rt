@@ -1,7 +1,7 @@
 //! The run of a script over the data of a file.
 
 ghost use Rattle.std.specs.Prelude.{map};
-ghost use Rattle.qs_service_replay.specs.ScriptEvents.{event_of};
+ghost use Rattle.qs_service_replay.specs.inner.ScriptEvents.{event_of};
 ghost use Rattle.quads.specs.Due.{IsDueOfEvents};
 ghost use Rattle.quads.specs.inner.Replay.{IsBegunOfEvents, IsScriptDue, IsScriptBegun, RunsReplay};
 ghost use Rattle.quads.specs.Run.{Runs};

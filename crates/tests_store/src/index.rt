@@ -138,7 +138,7 @@ fn is_whole(index: &mut Index) -> bool {
         && are_found_from(index)
         && are_graphs_found(index)
         && are_known(index)
-        && are_passed(index)
+        && are_skipped(index)
         && hands_out(index.entries(), &[E, C, B, A, D])
         && are_removed(index)
         && index.remove(D)
@@ -152,8 +152,8 @@ fn if_asked(asked: bool, number: u32) -> Option<u32> {
     if asked { Some(number) } else { None }
 }
 
-/// Whether the scan hands out these entries, where after each all are passed over that have the same subject, predicate and object, as far
-/// as these are asked for.
+/// Whether the scan hands out these entries, where after each all are skipped that have the same subject, predicate and object, as far as
+/// these are asked for.
 fn goes_over(mut scan: Scan<'_>, asked: [bool; 3], wanted: &[[u32; 4]]) -> bool {
     for entry in wanted {
         let Some(next) = scan.next() else {
@@ -163,7 +163,7 @@ fn goes_over(mut scan: Scan<'_>, asked: [bool; 3], wanted: &[[u32; 4]]) -> bool 
             return false;
         }
         let [_, s, p, o] = next;
-        scan.pass(
+        scan.skip_agreeing(
             if_asked(asked[0], s),
             if_asked(asked[1], p),
             if_asked(asked[2], o),
@@ -173,25 +173,25 @@ fn goes_over(mut scan: Scan<'_>, asked: [bool; 3], wanted: &[[u32; 4]]) -> bool 
 }
 
 /// Whether each subject, predicate and object is found once, by a scan that has it in front.
-fn are_passed(index: &Index) -> bool {
+fn are_skipped(index: &Index) -> bool {
     goes_over(
-        index.scan_led(Lead::Subject, 1, None, None, None),
+        index.scan_with_lead(Lead::Subject, 1, None, None, None),
         [true, false, false],
         &[C, A],
     ) && goes_over(
-        index.scan_led(Lead::Predicate, 1, None, None, None),
+        index.scan_with_lead(Lead::Predicate, 1, None, None, None),
         [false, true, false],
         &[C, A],
     ) && goes_over(
-        index.scan_led(Lead::Object, 1, None, None, None),
+        index.scan_with_lead(Lead::Object, 1, None, None, None),
         [false, false, true],
         &[C, B],
     ) && goes_over(
-        index.scan_led(Lead::Object, 1, None, Some(3), None),
+        index.scan_with_lead(Lead::Object, 1, None, Some(3), None),
         [false, true, true],
         &[A, B],
     ) && goes_over(
-        index.scan_named_led(Lead::Predicate, None, None, None),
+        index.scan_named_with_lead(Lead::Predicate, None, None, None),
         [false, true, false],
         &[C, A],
     )

@@ -58,10 +58,9 @@ fn looks_of_all(index: &Index, size: u32) -> u128 {
     looks
 }
 
-/// How many entries are looked at where each predicate is handed out once, and the others of it are passed over.
+/// How many entries are looked at where each predicate is handed out once, and the others of it are skipped.
 fn looks_of_predicates(index: &Index, predicates: u32) -> u128 {
-    let mut scan = index.scan_led(Lead::Predicate, 0, None, None, None);
-    let mut looks: u128 = 0;
+    let mut scan = index.scan_with_lead(Lead::Predicate, 0, None, None, None);
     for predicate in 0..predicates {
         let Some(entry) = scan.next() else {
             return u128::MAX;
@@ -69,13 +68,12 @@ fn looks_of_predicates(index: &Index, predicates: u32) -> u128 {
         if entry[2] != predicate {
             return u128::MAX;
         }
-        looks = looks.saturating_add(scan.looked());
-        scan.pass(None, Some(predicate), None);
+        scan.skip_agreeing(None, Some(predicate), None);
     }
     if scan.next().is_some() {
         return u128::MAX;
     }
-    looks
+    scan.looked()
 }
 
 /// Whether the entries of all, of one predicate, of one entry and of nothing are counted. The sizes fill their pages but the last.
@@ -88,12 +86,14 @@ fn are_counted(index: &Index, size: u32, first: u32) -> bool {
 }
 
 fn is_bound(alloc: Global, size: u32, first: u32, bound: u128) -> bool {
+    let predicates = size.min(16);
+    let searches = u128::from(predicates).saturating_add(1);
     let mut index = Index::new(alloc);
     let is_few = fill(&mut index, size, alloc).is_ok()
         && are_few(&index, size, first, bound)
         && are_counted(&index, size, first)
         && looks_of_all(&index, size) <= u128::from(size).saturating_mul(4)
-        && looks_of_predicates(&index, size.min(16)) <= bound.saturating_add(1).saturating_mul(16);
+        && looks_of_predicates(&index, predicates) <= bound.saturating_mul(searches);
     drop(index);
     is_few
 }

@@ -12,7 +12,7 @@ use Rattle.qs_expr.specs.Scratch.{IsTable}
 use Rattle.qs_paths.specs.Coming.{GivesPair, IsToCome}
 use Rattle.qs_paths.specs.declared.stream.Pairs.{Pairs}
 use Rattle.qs_paths.specs.inner.Seen.{known_in}
-use Rattle.qs_ops_scans.specs.Paths.{ArePairs}
+use Rattle.qs_ops_scans.specs.inner.Paths.{ArePairs}
 
 -- both ends are one term, where they are to be
 abbrev pub keeps : Bool → Pair → Bool

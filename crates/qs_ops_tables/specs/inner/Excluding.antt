@@ -3,7 +3,7 @@ use Rattle.std.specs.Prelude.{Bool, true, ◌&&◌, ◌||◌, Option, None, Some
 use Rattle.qs_expr.specs.declared.cell.Cell.{Cell}
 use Rattle.qs_expr.specs.Cell.{Cells, same_cell}
 use Rattle.qs_expr.specs.Row.{compatible_cells}
-use Rattle.qs_ops_tables.specs.Tables.{share_cells}
+use Rattle.qs_ops_tables.specs.inner.Tables.{share_cells}
 
 -- whether some variable is shared, with one more; none where its cells differ
 abbrev pub share_next : Bool → Option Cell → Option Cell → Option Bool

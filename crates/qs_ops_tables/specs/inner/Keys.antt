@@ -6,7 +6,7 @@ use Rattle.qs_expr.specs.declared.cell.Cell.{Cell}
 use Rattle.qs_expr.specs.declared.cell.Cell.TheVariants.{Known, Scratch}
 use Rattle.qs_ops_tables.specs.declared.index.Link.{Link}
 use Rattle.qs_expr.specs.Cell.{Cells, cell_at}
-use Rattle.qs_ops_tables.specs.Tables.{partners}
+use Rattle.qs_ops_tables.specs.inner.Tables.{partners}
 
 -- ---- hashes
 

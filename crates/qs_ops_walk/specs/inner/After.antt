@@ -8,9 +8,9 @@ use Rattle.qs_algebra_patterns.specs.declared.pattern.TriplePattern.{TriplePatte
 use Rattle.qs_expr.specs.declared.cell.Cell.{Cell}
 use Rattle.qs_expr.specs.Cell.{Cells, cell_at}
 use Rattle.qs_plan_meaning.specs.Stages.{each_named}
-use Rattle.qs_ops_scans.specs.Each.{NamesGraph, each_joined, misses}
-use Rattle.qs_ops_scans.specs.Makes.{Makes}
-use Rattle.qs_ops_scans.specs.Prepared.{prepared_triple}
+use Rattle.qs_ops_scans.specs.inner.Each.{NamesGraph, each_joined, misses}
+use Rattle.qs_ops_scans.specs.inner.Makes.{Makes}
+use Rattle.qs_ops_scans.specs.inner.Prepared.{prepared_triple}
 use Rattle.qs_ops_scans.specs.declared.look.PreparedLook.TheVariants as prepared
 use Rattle.qs_ops_walk.specs.declared.source.Level.{Level}
 use Rattle.qs_ops_walk.specs.declared.source.Source.TheVariants as source

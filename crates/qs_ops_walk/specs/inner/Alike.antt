@@ -8,7 +8,7 @@ use Rattle.qs_expr.specs.declared.cell.Cell.{Cell}
 use Rattle.qs_expr.specs.Cell.{Cells, cell_at, row_solution, FitsRow}
 use Rattle.qs_plan_meaning.specs.declared.stage.Stage.{Stage}
 use Rattle.qs_plan.specs.inner.Certain.{Keeps}
-use Rattle.qs_ops_scans.specs.Passed.{PassesRows}
+use Rattle.qs_ops_scans.specs.Skipped.{SkipsRows}
 use Rattle.qs_ops_program.specs.inner.Flow.{Instruction, is_union}
 use Rattle.qs_ops_walk.specs.declared.source.Level.{Level}
 use Rattle.qs_ops_walk.specs.declared.source.Source.{Source}
@@ -65,7 +65,7 @@ pub record PassesTriples (columns : List ℕ) (m : Cells) (old now : List Level)
   pub left : List Cells
   pub before : old ≡ others ++ (record { next = next; source = Triple rows }) ∷ []
   pub after : now ≡ others ++ (record { next = next; source = Triple left }) ∷ []
-  pub passes : PassesRows columns m rows left
+  pub skips : SkipsRows columns m rows left
 
 -- so it is, or the levels stay as they were
 abbrev pub PassesLast : List ℕ → Cells → List Level → List Level → Type 0

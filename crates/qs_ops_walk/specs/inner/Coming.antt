@@ -7,7 +7,7 @@ use Rattle.qs_algebra_patterns.specs.Eval.{all_hold}
 use Rattle.qs_expr.specs.Cell.{Cells, row_solution, FitsRow}
 use Rattle.qs_expr.specs.Condition.{IsPreparedFor}
 use Rattle.qs_ops_program.specs.inner.Flow.{Instruction, flow}
-use Rattle.qs_ops_tables.specs.Tables.{FitRows, row_solutions}
+use Rattle.qs_ops_tables.specs.inner.Tables.{FitRows, row_solutions}
 use Rattle.qs_ops_walk.specs.declared.source.Attempt.{Attempt}
 use Rattle.qs_ops_walk.specs.declared.source.Fork.{Fork as Branching}
 use Rattle.qs_ops_walk.specs.declared.source.Item.{Item}

@@ -5,7 +5,7 @@ use Rattle.qs_terms.specs.declared.term.Term.{Term}
 use Rattle.qs_algebra_solutions.specs.Solution.{Solution}
 use Rattle.qs_expr.specs.Cell.{Cells}
 use Rattle.qs_ops_program.specs.inner.Flow.{Instruction}
-use Rattle.qs_ops_tables.specs.Tables.{FitRows, row_solutions}
+use Rattle.qs_ops_tables.specs.inner.Tables.{FitRows, row_solutions}
 use Rattle.qs_ops_walk.specs.declared.source.Level.{Level}
 use Rattle.qs_ops_walk.specs.inner.Setting.{Setting, known_of}
 use Rattle.qs_ops_walk.specs.inner.Cursor.{named_coming}

@@ -13,7 +13,7 @@ use Rattle.qs_ops_program.specs.inner.Toil.{summed, toil}
 use Rattle.qs_ops_walk.specs.declared.settle.Passes.{Passes}
 use Rattle.qs_ops_walk.specs.declared.settle.Passes.TheVariants.{Nothing, One, Many}
 use Rattle.qs_ops_walk.specs.declared.source.Level.{Level}
-use Rattle.qs_ops_tables.specs.Tables.{KeptRows, FitsMerges, GivesMerges}
+use Rattle.qs_ops_tables.specs.inner.Tables.{KeptRows, FitsMerges, GivesMerges}
 use Rattle.qs_ops_walk.specs.declared.source.Attempt.{Attempt}
 use Rattle.qs_ops_walk.specs.declared.source.Source.{Source}
 use Rattle.qs_ops_walk.specs.declared.source.Source.TheVariants as source
@@ -29,9 +29,9 @@ use Rattle.qs_algebra_patterns.specs.declared.pattern.TriplePattern.{TriplePatte
 use Rattle.qs_plan_meaning.specs.declared.stage.Look.{Look}
 use Rattle.qs_plan_meaning.specs.Scans.{extensions}
 use Rattle.qs_plan_meaning.specs.Stages.{looked}
-use Rattle.qs_ops_scans.specs.Each.{each_extension}
-use Rattle.qs_ops_scans.specs.Makes.{Makes}
-use Rattle.qs_ops_scans.specs.Prepared.{prepared_look, prepared_triple}
+use Rattle.qs_ops_scans.specs.inner.Each.{each_extension}
+use Rattle.qs_ops_scans.specs.inner.Makes.{Makes}
+use Rattle.qs_ops_scans.specs.inner.Prepared.{prepared_look, prepared_triple}
 use Rattle.qs_ops_scans.specs.declared.look.PreparedLook.{PreparedLook}
 use Rattle.qs_ops_scans.specs.declared.pattern.PreparedTriple.{PreparedTriple}
 use Rattle.qs_ops_walk.specs.inner.Setting.{Setting, known_of, gives_in, graph_in}

@@ -14,7 +14,7 @@ use Rattle.qs_store.specs.ActiveGraph.{active_graph}
 use Rattle.qs_store.specs.Graphs.{AreGraphs}
 use Rattle.qs_store.specs.declared.active.Active.{Active}
 use Rattle.qs_plan_meaning.specs.Scans.{path_pairs}
-use Rattle.qs_ops_scans.specs.Paths.{row_ends, ArePairs, Serve}
+use Rattle.qs_ops_scans.specs.inner.Paths.{row_ends, ArePairs, Serve}
 use Rattle.qs_ops_walk.specs.declared.work.EndPairs.{EndPairs}
 use Rattle.qs_ops_walk.specs.declared.work.KeptPairs.{KeptPairs}
 use Rattle.qs_ops_walk.specs.declared.work.Trail.{Trail}
@@ -30,10 +30,10 @@ use Rattle.qs_plan_meaning.specs.declared.stage.Stage.TheVariants as stage
 use Rattle.qs_plan.specs.inner.Parts.{IsFedAlike}
 use Rattle.qs_ops_program.specs.inner.Flow.{Instruction, is_union}
 use Rattle.qs_ops_program.specs.inner.Heights.{most, stage_height}
-use Rattle.qs_ops_scans.specs.Prepared.{IsGraphOf, prepared_look, prepared_triple}
+use Rattle.qs_ops_scans.specs.inner.Prepared.{IsGraphOf, prepared_look, prepared_triple}
 use Rattle.qs_ops_scans.specs.declared.look.PreparedLook.{PreparedLook}
 use Rattle.qs_ops_scans.specs.declared.pattern.PreparedTriple.{PreparedTriple}
-use Rattle.qs_ops_tables.specs.Tables.{KeptRows, FitRows, row_solutions}
+use Rattle.qs_ops_tables.specs.inner.Tables.{KeptRows, FitRows, row_solutions}
 use Rattle.qs_ops_walk.specs.declared.work.Aside.{Aside}
 use Rattle.qs_ops_walk.specs.declared.work.Feed.{Feed}
 use Rattle.qs_ops_walk.specs.declared.work.Right.{Right}

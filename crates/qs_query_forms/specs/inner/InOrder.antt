@@ -4,7 +4,7 @@ use Rattle.qs_terms.specs.Bag.{SameBag}
 use Rattle.qs_terms.specs.Outcome.{Outcome, and_then}
 use Rattle.qs_terms.specs.declared.fault.QFault.TheVariants.{TooManyRows}
 use Rattle.qs_algebra_solutions.specs.Solution.{Solution, projected}
-use Rattle.qs_algebra_solutions.specs.Some.{AreSome, is_enough}
+use Rattle.qs_algebra_solutions.specs.inner.Some.{AreSome, is_enough}
 use Rattle.qs_algebra_solutions.specs.declared.answer.Answer.{Answer}
 use Rattle.qs_algebra_solutions.specs.declared.answer.Answer.TheVariants.{Solutions}
 use Rattle.qs_query_order.specs.declared.condition.OrderCondition.{OrderCondition}

@@ -3,7 +3,7 @@ use Rattle.std.specs.Prelude.{◌≡◌, ◌⊎◌, ◌≤◌, ◌-◌, ℕ, tru
 use Rattle.std.specs.List.{fold}
 use Rattle.qs_terms.specs.Bag.{SameBag}
 use Rattle.qs_algebra_solutions.specs.Solution.{Solution, projected}
-use Rattle.qs_algebra_solutions.specs.Some.{is_enough}
+use Rattle.qs_algebra_solutions.specs.inner.Some.{is_enough}
 
 -- the rows so far; the columns whose terms alone are kept, where some are given; and how many suffice
 pub record Collection : Type 0 where

@@ -3,7 +3,7 @@ use Rattle.std.specs.Prelude.{◌≡◌, ◌⊎◌, Bool, true, false, ◌&&◌,
 use Rattle.qs_terms.specs.Bag.{SameBag, once}
 use Rattle.qs_terms.specs.declared.term.Term.{Term}
 use Rattle.qs_algebra_solutions.specs.Solution.{Solution, projected, same_solution}
-use Rattle.qs_algebra_solutions.specs.Some.{is_enough}
+use Rattle.qs_algebra_solutions.specs.inner.Some.{is_enough}
 use Rattle.qs_expr.specs.declared.cell.Cell.{Cell}
 use Rattle.qs_expr.specs.declared.cell.Cell.TheVariants as cell
 use Rattle.qs_expr.specs.Cell.{Cells, row_solution, same_cell}

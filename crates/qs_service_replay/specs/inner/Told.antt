@@ -6,7 +6,7 @@ use Rattle.hex.specs.Hex.{decode_of}
 use Rattle.qs_service_replay.specs.Script.{IsId, IsLine, AreLines, TellsEvent}
 use Rattle.qs_service_connections.specs.State.{State, reply_at}
 use Rattle.qs_service_connections.specs.Step.{Event, Join, Piece, End}
-use Rattle.qs_service_replay.specs.ScriptEvents.{event_of}
+use Rattle.qs_service_replay.specs.inner.ScriptEvents.{event_of}
 use Rattle.qs_service_replay.specs.declared.script_event.ScriptEvent.{ScriptEvent}
 use Rattle.qs_service_replay.specs.declared.script.ScriptFault.{ScriptFault}
 use Rattle.qs_service_replay.specs.declared.script.ScriptFault.TheVariants.{Line, Memory}

@@ -3,7 +3,7 @@ use Rattle.std.specs.Prelude.{◌≡◌, ℕ, List, ◌++◌}
 use Rattle.qs_terms.specs.Statement.{Statement}
 use Rattle.qs_terms.specs.declared.term.Term.{Term}
 use Rattle.qs_nquads.specs.Nquads.{IsNquads, IsFault}
-use Rattle.qs_nquads.specs.Unread.{Unread, HasRead}
+use Rattle.qs_nquads.specs.inner.Unread.{Unread, HasRead}
 use Rattle.qs_store.specs.Change.{with_terms_of}
 use Rattle.qs_store.specs.Content.{Held}
 use Rattle.qs_store.specs.Entries.{AreEntries, said}

@@ -3,7 +3,7 @@ use Rattle.std.specs.Prelude.{List, Result}
 use denote.Ref.{MutBor}
 use Rattle.qs_syntax_tokens.specs.declared.parser.Parser.{Parser}
 use Rattle.qs_syntax_grammar.specs.declared.fault.Fault.{Fault}
-use Rattle.qs_syntax_grammar.specs.Reading.{Reads}
+use Rattle.qs_syntax_grammar.specs.inner.Reading.{Reads}
 use Rattle.qs_syntax_grammar.specs.Grammar.{read}
 use Rattle.qs_syntax_tree.specs.declared.token.Token.{Token}
 use Rattle.qs_syntax_tree.specs.declared.expression.Expression.{Expression}

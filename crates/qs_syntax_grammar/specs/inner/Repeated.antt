@@ -1,6 +1,6 @@
 -- Outcomes whose items are taken up one by one into what was made before.
 use Rattle.std.specs.Prelude.{List, [], ◌∷◌, ◌++◌, fold, Option, Some, None, Ok}
-use Rattle.qs_syntax_grammar.specs.Reading.{Outcome, and_then}
+use Rattle.qs_syntax_grammar.specs.inner.Reading.{Outcome, and_then}
 
 -- the items taken up into what was made before
 abbrev pub into : {T A B : Type 0} → (B → A → B) → B → Outcome T (List A) → Outcome T B

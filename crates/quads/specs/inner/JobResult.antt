@@ -13,7 +13,7 @@ use Rattle.qs_nquads.specs.Nquads.{IsNquads, IsFault}
 use Rattle.qs_nquads.specs.Written.{nquads_of}
 use Rattle.qs_results.specs.Lines.{data_fault_line}
 use Rattle.quads.specs.Due.{IsQueryOfData, IsUpdateOfData, IsExplanationOfData, line, outcome_line, explanation_line}
-use Rattle.quads.specs.Refusal.{fault_of}
+use Rattle.quads.specs.inner.Refusal.{fault_of}
 use Rattle.quads.specs.inner.Load.{BecomesStored}
 use Rattle.quads.specs.declared.result.JobResult.{JobResult}
 use Rattle.quads.specs.declared.result.JobResult.TheVariants.{Answered, Quads, Explained, DataRefused, Refused}

@@ -9,7 +9,7 @@ use Rattle.qs_service_replay.specs.Script.{IsScript}
 use Rattle.qs_store.specs.declared.default_graph.DefaultGraph.{DefaultGraph}
 use Rattle.quads.specs.Due.{IsDueOfEvents, IsDueOfScript, IsDueOfMemory, IsDueOfData, IsDueOfReplay, IsBegunOfReplay}
 use Rattle.quads.specs.Run.{Runs}
-use Rattle.quads.specs.Service.{BecomesService}
+use Rattle.quads.specs.inner.Service.{BecomesService}
 use Rattle.quads.specs.declared.job.Ran.{Ran}
 use Rattle.quads.specs.declared.refusal.Refusal.{Refusal}
 

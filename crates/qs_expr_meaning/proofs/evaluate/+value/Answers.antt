@@ -6,7 +6,7 @@ use Rattle.qs_expr_meaning.specs.Makes.{makes, addend_makes, some}
 use Rattle.qs_expr_meaning.specs.inner.SoFar.{sum_from, product_from}
 use Rattle.qs_expr_meaning.proofs.Steps.{sum_more, sum_error, product_more, product_error}
 use Rattle.std.specs.Prelude.{string_bytes}
-use Rattle.qs_expr_values.specs.Value.{term_of}
+use Rattle.qs_expr_values.specs.inner.Value.{term_of}
 use Rattle.qs_expr_values.specs.Values.{equal}
 use Rattle.qs_expr_meaning.specs.inner.Joined.{tag_seen}
 use Rattle.qs_expr_meaning.specs.Truth.{any, every}

@@ -1,7 +1,7 @@
 -- What is due is what was met and what is left.
 use Rattle.std.proofs.Common.{◌≡◌, true, false, Some, map, drop}
 use Rattle.std.specs.Prelude.{string_bytes}
-use Rattle.qs_expr_values.specs.Value.{term_of}
+use Rattle.qs_expr_values.specs.inner.Value.{term_of}
 use Rattle.qs_expr_meaning.specs.Truth.{either, both}
 use Rattle.qs_expr_meaning.specs.inner.SoFar.{so_far, any_from, every_from, among_from, sum_from, product_from, first_from}
 use Rattle.qs_expr_meaning.specs.inner.Joined as joining

@@ -1,6 +1,6 @@
 use Rattle.std.proofs.Common.{rules, Some, ◌∙◌, sym, ap, FitsSigned}
 use Rattle.std.specs.Int.{w128}
-use Rattle.qs_expr_values.specs.Value.{term_of}
+use Rattle.qs_expr_values.specs.inner.Value.{term_of}
 use Rattle.qs_expr_values.specs.Values as spec
 use Rattle.qs_expr_values.proofs.Numbers.{passed}
 use Rattle.qs_expr_values.proofs.Terms.{ebv_integer}

@@ -1,5 +1,5 @@
 use Rattle.std.proofs.Common.{◌≡◌, ℕ, length}
-use Rattle.qs_nquads.specs.Unread.{HasRead}
+use Rattle.qs_nquads.specs.inner.Unread.{HasRead}
 use Rattle.qs_nquads.proofs.nquads.read_into.Given as goal
 
 abbrev pub invariant-statements : goal.invariant-statements

@@ -1,7 +1,7 @@
 use Rattle.std.proofs.Common.{ℕ, List, subst, sym}
 use Rattle.qs_terms.specs.Statement.{Statement}
 use Rattle.qs_nquads.specs.Nquads.{IsNquads, IsFault}
-use Rattle.qs_nquads.specs.Unread.{HasRead}
+use Rattle.qs_nquads.specs.inner.Unread.{HasRead}
 use Rattle.qs_nquads.proofs.nquads.read_with.Goals as goal
 
 pub returns-in-Err : goal.returns-in-Err

@@ -1,6 +1,6 @@
 use Rattle.std.proofs.Common.{◌<◌, ◌∷◌, ◌++◌, [], length, refl, sym, ap, arith}
 use Rattle.qs_nquads.specs.Reading.{on}
-use Rattle.qs_nquads.specs.Unread.{reading, state}
+use Rattle.qs_nquads.specs.inner.Unread.{reading, state}
 use Rattle.qs_nquads.proofs.Fronts.{Front, front_of}
 use Rattle.qs_nquads.proofs.Steps.{some_from, goes_on, stops_with}
 use Rattle.qs_nquads.proofs.Stops.{stop_of}

@@ -3,7 +3,7 @@ use denote.Text.{Utf8}
 use denote.Shadow.{shadow}
 use Rattle.qs_terms.specs.Statement.{Statement}
 use Rattle.qs_nquads.specs.Reading.{State, Comes}
-use Rattle.qs_nquads.specs.Unread.{state}
+use Rattle.qs_nquads.specs.inner.Unread.{state}
 use Rattle.qs_nquads.proofs.reader.read_statement.Given as goal
 
 abbrev pub invariant-tokens : goal.invariant-tokens

@@ -1,5 +1,5 @@
 use Rattle.std.proofs.Common.{◌≡◌, drop, take}
-use Rattle.qs_ops_tables.specs.Tables.{excludes_cells}
+use Rattle.qs_ops_tables.specs.inner.Tables.{excludes_cells}
 use Rattle.qs_ops_tables.specs.inner.Excluding.{excludes_from}
 use Rattle.qs_ops_tables.proofs.excluded.excludes.Given as goal
 

@@ -1,6 +1,6 @@
 use Rattle.std.proofs.Common.{◌||◌, sym, ap, ◌∙◌, drop, take}
 use Rattle.std.specs.List.{list_any}
-use Rattle.qs_ops_tables.specs.Tables.{excludes_cells}
+use Rattle.qs_ops_tables.specs.inner.Tables.{excludes_cells}
 use Rattle.qs_ops_tables.proofs.Excluding.{is_hash, excluded_first, excluded_none, excluded_meets}
 use Rattle.qs_ops_tables.proofs.excluded.is_excluded.Goals as goal
 

@@ -1,6 +1,6 @@
 use Rattle.std.proofs.Common.{◌≡◌, ◌-◌, length, drop, take}
 use Rattle.std.specs.List.{list_any}
-use Rattle.qs_ops_tables.specs.Tables.{excludes_cells}
+use Rattle.qs_ops_tables.specs.inner.Tables.{excludes_cells}
 use Rattle.qs_ops_tables.proofs.excluded.is_excluded.Given as goal
 
 abbrev pub invariant-loop-other : goal.invariant-loop-other

@@ -1,7 +1,7 @@
 use Rattle.std.proofs.Common.{◌≡◌, map, take}
 use Rattle.qs_algebra_solutions.specs.Solution.{binding}
 use Rattle.qs_expr.specs.Scratch.{Grows}
-use Rattle.qs_ops_tables.specs.Tables.{FitRows, row_solutions}
+use Rattle.qs_ops_tables.specs.inner.Tables.{FitRows, row_solutions}
 use Rattle.qs_ops_tables.proofs.values.table_rows.Given as goal
 
 abbrev pub invariant-loop-terms : goal.invariant-loop-terms

@@ -1,6 +1,6 @@
 use Rattle.qs_store.specs.ActiveGraph.{active_graph}
 use Rattle.qs_ops_scans.proofs.FedPairs.{serve_all}
-use Rattle.qs_ops_scans.specs.Paths.{row_ends}
+use Rattle.qs_ops_scans.specs.inner.Paths.{row_ends}
 use Rattle.qs_ops_walk.specs.inner.Setting.{known_of}
 use Rattle.qs_ops_walk.proofs.Still.{end_pairs_still, pairs_still}
 use Rattle.qs_ops_walk.proofs.kept.pairs_of_trail.Goals as goal

@@ -8,7 +8,7 @@ use Rattle.qs_ops_program.specs.inner.Heights.{stage_height, stages_height}
 use Rattle.qs_ops_program.proofs.Unions.{optional_height}
 use Rattle.qs_plan_meaning.specs.declared.stage.Group.{Group}
 use Rattle.qs_ops_walk.specs.declared.work.Conditions.{Conditions}
-use Rattle.qs_ops_tables.specs.Tables.{TellsExcluded}
+use Rattle.qs_ops_tables.specs.inner.Tables.{TellsExcluded}
 use Rattle.qs_ops_walk.specs.declared.source.Fork.{Fork as Branching}
 use Rattle.qs_ops_walk.specs.declared.source.Level.{Level}
 use Rattle.qs_ops_walk.specs.declared.source.Source.TheVariants as source

@@ -1,5 +1,5 @@
 use Rattle.std.proofs.Common.{◌≡◌, arith, ◌+◌, ◌<◌, length, subst, sym, List, ℕ}
-use Rattle.qs_service_replay.specs.ScriptEvents.{event_of}
+use Rattle.qs_service_replay.specs.inner.ScriptEvents.{event_of}
 use Rattle.qs_service_replay.specs.Replay.{Tells}
 use Rattle.qs_service_replay.specs.declared.script_event.ScriptEvent.{ScriptEvent}
 use Rattle.qs_service_replay.proofs.Runs.{goes_on, fails, wants}

@@ -1,6 +1,6 @@
 -- The lines before what is left are read.
 use Rattle.std.proofs.Common.{length, map}
-use Rattle.qs_service_replay.specs.ScriptEvents.{event_of}
+use Rattle.qs_service_replay.specs.inner.ScriptEvents.{event_of}
 use Rattle.qs_service_replay.specs.inner.Told.{IsReadTo}
 use Rattle.qs_service_replay.proofs.script.read_script.Given as goal
 

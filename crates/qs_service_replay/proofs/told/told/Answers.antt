@@ -1,5 +1,5 @@
 use Rattle.std.proofs.Common.{None, Some, refl}
-use Rattle.qs_service_replay.specs.ScriptEvents.{event_of}
+use Rattle.qs_service_replay.specs.inner.ScriptEvents.{event_of}
 use Rattle.qs_service_replay.specs.Replay as spec
 use Rattle.qs_service_replay.proofs.Tellings.{tells_of, made_now}
 use Rattle.qs_service_replay.proofs.told.told.Goals as goal

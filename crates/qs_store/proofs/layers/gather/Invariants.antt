@@ -1,6 +1,6 @@
 use Rattle.std.proofs.Common.{◌≤◌, take}
 use Rattle.qs_store.specs.inner.Missing.{IsMissing}
-use Rattle.qs_store.specs.Layers.{IsPartOf}
+use Rattle.qs_store.specs.inner.Layers.{IsPartOf}
 use Rattle.qs_store.proofs.layers.gather.Given as goal
 
 abbrev pub invariant-loop-entry : goal.invariant-loop-entry

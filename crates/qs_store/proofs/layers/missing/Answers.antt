@@ -1,7 +1,7 @@
 use Rattle.std.proofs.Common.{◌+◌, take, refl, sym, ap, ◌∙◌, subst}
 use Rattle.std.proofs.lemmas.Bool.{false≢true}
 use Rattle.qs_store.specs.inner.Missing.{MayBeMissing}
-use Rattle.qs_store.specs.Layers.{IsPartOf}
+use Rattle.qs_store.specs.inner.Layers.{IsPartOf}
 use Rattle.qs_store.proofs.Drafted.{part_takes, part_leaves}
 use Rattle.qs_store.proofs.layers.missing.Goals as goal
 use Rattle.qs_store.proofs.layers.missing.Goals.{then-may_be_missing+in_ok-push, else-may_be_missing}

@@ -1,6 +1,6 @@
 use Rattle.std.proofs.Common.{[], subst}
 use Rattle.qs_store.specs.Change.{IsChanged}
-use Rattle.qs_store.specs.Layers.{drafted}
+use Rattle.qs_store.specs.inner.Layers.{drafted}
 use Rattle.qs_store.proofs.Loaded.{settled_with}
 use Rattle.qs_store.proofs.layers.put_together.Goals as goal
 

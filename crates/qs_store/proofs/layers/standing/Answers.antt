@@ -1,6 +1,6 @@
 use Rattle.std.proofs.Common.{◌+◌, take, refl, sym, ap, ◌∙◌, subst, Contains}
 use Rattle.std.proofs.lemmas.Bool.{false≢true}
-use Rattle.qs_store.specs.Layers.{IsPartOf}
+use Rattle.qs_store.specs.inner.Layers.{IsPartOf}
 use Rattle.qs_store.proofs.Drafted.{part_takes, part_leaves}
 use Rattle.qs_store.proofs.layers.standing.Goals as goal
 use Rattle.qs_store.proofs.layers.standing.Goals.{then-contains_from+in_ok-push, else-contains_from}

@@ -1,5 +1,5 @@
 use Rattle.std.proofs.Common.{Contains, take}
-use Rattle.qs_store.specs.Layers.{IsPartOf}
+use Rattle.qs_store.specs.inner.Layers.{IsPartOf}
 use Rattle.qs_store.proofs.layers.standing.Given as goal
 
 abbrev pub invariant-loop-entry : goal.invariant-loop-entry

@@ -1,7 +1,7 @@
 use Rattle.std.proofs.Common.{refl, sym, subst}
 use Rattle.std.proofs.lemmas.Bool.{false≢true}
 use Rattle.qs_store.specs.inner.Holding.{AreGraphsUpTo}
-use Rattle.qs_store.specs.Layers.{drafted}
+use Rattle.qs_store.specs.inner.Layers.{drafted}
 use Rattle.qs_store.proofs.Holding.{up_to_more, up_to_same, all_graphs, next_in_draft, within_draft}
 use Rattle.qs_store.proofs.named_graphs.graphs_in_draft.Goals as goal
 

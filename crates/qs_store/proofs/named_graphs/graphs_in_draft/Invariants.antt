@@ -1,6 +1,6 @@
 use Rattle.std.proofs.Common.{◌-◌, ◌^◌}
 use Rattle.qs_store.specs.inner.Holding.{AreGraphsUpTo}
-use Rattle.qs_store.specs.Layers.{drafted}
+use Rattle.qs_store.specs.inner.Layers.{drafted}
 use Rattle.qs_store.proofs.named_graphs.graphs_in_draft.Given as goal
 
 abbrev pub invariant-graphs : goal.invariant-graphs

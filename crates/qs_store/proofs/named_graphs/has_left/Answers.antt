@@ -1,4 +1,4 @@
-use Rattle.qs_store.specs.Layers.{drafted}
+use Rattle.qs_store.specs.inner.Layers.{drafted}
 use Rattle.qs_store.proofs.Holding.{triple_tells, none_tells}
 use Rattle.qs_store.proofs.named_graphs.has_left.Goals as goal
 

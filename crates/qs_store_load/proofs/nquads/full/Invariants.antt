@@ -1,6 +1,6 @@
 use Rattle.std.proofs.Common.{◌≡◌, ℕ, List, length}
 use Rattle.qs_terms.specs.Statement.{Statement}
-use Rattle.qs_nquads.specs.Unread.{HasRead}
+use Rattle.qs_nquads.specs.inner.Unread.{HasRead}
 use Rattle.qs_store_load.specs.inner.Loading.{HasReadMore}
 use Rattle.qs_store_load.proofs.nquads.full.Given as goal
 

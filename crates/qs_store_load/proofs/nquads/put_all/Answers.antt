@@ -1,5 +1,5 @@
 use Rattle.std.proofs.Common.{◌∷◌, ◌++◌, [], List, length, subst, ◌∙◌}
-use Rattle.qs_nquads.specs.Unread.{HasRead}
+use Rattle.qs_nquads.specs.inner.Unread.{HasRead}
 use Rattle.qs_terms.specs.Statement.{Statement}
 use Rattle.qs_store.specs.Change.{IsFullAt, with_terms_of}
 use Rattle.qs_store.specs.Entries.{said}

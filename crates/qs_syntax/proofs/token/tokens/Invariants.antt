@@ -1,6 +1,6 @@
 use Rattle.std.proofs.Common.{◌≡◌, List, length, map}
 use Rattle.qs_lex.specs.Lexes.{Lexeme}
-use Rattle.qs_lex.specs.Unread.{HasRead}
+use Rattle.qs_lex.specs.inner.Unread.{HasRead}
 use Rattle.qs_syntax.specs.Kinds.{token_of}
 use Rattle.qs_syntax.proofs.token.tokens.Given as goal
 

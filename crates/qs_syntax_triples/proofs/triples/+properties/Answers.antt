@@ -5,7 +5,7 @@ use Rattle.qs_syntax_grammar.specs.Notation.{◌>>◌}
 use Rattle.qs_syntax_grammar.specs.Grammar.{read, read_at}
 use Rattle.qs_syntax_grammar.proofs.Loops.{all_read, all_kept, goes_on, deeper, after_none, after_some, after_fault}
 use Rattle.qs_syntax_grammar.specs.declared.fault.Fault.{Fault}
-use Rattle.qs_syntax_grammar.specs.Reading.{starts}
+use Rattle.qs_syntax_grammar.specs.inner.Reading.{starts}
 use Rattle.qs_syntax_triples.proofs.FirstKinds.{first_property}
 use Rattle.qs_syntax_tree.specs.declared.kind.Kind.TheVariants as k
 use Rattle.qs_syntax_tree.specs.Sparql.{sparql}

@@ -1,5 +1,5 @@
 use Rattle.std.proofs.Common.{◌≡◌, ◌++◌, Ok}
-use Rattle.qs_syntax_grammar.specs.Reading.{and_then}
+use Rattle.qs_syntax_grammar.specs.inner.Reading.{and_then}
 use Rattle.qs_syntax_grammar.specs.Grammar.{read_at}
 use Rattle.qs_syntax_tree.specs.Sparql.{triples}
 use Rattle.qs_syntax_tree.specs.Table.{grammar}

@@ -1,5 +1,5 @@
 use Rattle.std.proofs.Common.{◌∙◌}
-use Rattle.qs_update_laws.specs.Written.{operation_values_have_no_blank}
+use Rattle.qs_update_laws.specs.inner.Written.{operation_values_have_no_blank}
 use Rattle.qs_update.proofs.Tested.{all_dropped}
 use Rattle.qs_update.proofs.Turns.{remain}
 use Rattle.qs_update.proofs.draft.operate_all.Goals as goal

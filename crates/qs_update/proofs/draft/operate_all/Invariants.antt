@@ -1,6 +1,6 @@
 use Rattle.std.proofs.Common.{◌≡◌, true, length}
 use Rattle.std.specs.List.{list_all}
-use Rattle.qs_update_laws.specs.Written.{operation_values_have_no_blank}
+use Rattle.qs_update_laws.specs.inner.Written.{operation_values_have_no_blank}
 use Rattle.qs_update.specs.inner.Carried.{Remaining}
 use Rattle.qs_update.proofs.draft.operate_all.Given as goal
 

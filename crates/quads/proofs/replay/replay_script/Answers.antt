@@ -1,7 +1,7 @@
 use Rattle.std.proofs.Common.{Result, subst}
 use Rattle.qs_service.specs.State.{State}
-use Rattle.quads.specs.Refusal.{refusal_text}
-use Rattle.quads.specs.Service.{BecomesService}
+use Rattle.quads.specs.inner.Refusal.{refusal_text}
+use Rattle.quads.specs.inner.Service.{BecomesService}
 use Rattle.quads.specs.declared.refusal.Refusal.{Refusal}
 use Rattle.quads.specs.inner.Replay.{IsScriptDue, IsScriptBegun, IsReplayDue, IsReplayBegun}
 use Rattle.quads.proofs.Replays.{refused, runs_on, replay_due, replay_begun, refusal_due, memory_due, begun_of_replay}

@@ -1,5 +1,5 @@
 use Rattle.std.proofs.Common.{map, ◌∙◌}
-use Rattle.qs_service_replay.specs.ScriptEvents.{event_of}
+use Rattle.qs_service_replay.specs.inner.ScriptEvents.{event_of}
 use Rattle.quads.proofs.Replays.{ran_short, ran_out_of_memory}
 use Rattle.quads.proofs.replay.run_events.Goals as goal
 

@@ -1,6 +1,6 @@
 use Rattle.std.proofs.Common.{arith, sym, ap, map, take, ◌∙◌}
 use Rattle.std.proofs.lemmas.List.{take-map}
-use Rattle.qs_expr_values.specs.TermValue.{term_value}
+use Rattle.qs_expr_values.specs.inner.TermValue.{term_value}
 use Rattle.qs_dict.proofs.Numbers.{distinct_terms, keeps_front}
 use Rattle.qs_dict.proofs.dict.Dict.cut.Goals as goal
 

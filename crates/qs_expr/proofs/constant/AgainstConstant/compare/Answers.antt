@@ -1,6 +1,6 @@
 use Rattle.std.proofs.Common.{sym, ◌∙◌}
 use Rattle.std.proofs.lemmas.Option.{same_Some}
-use Rattle.qs_expr_values.specs.Value.{term_of}
+use Rattle.qs_expr_values.specs.inner.Value.{term_of}
 use Rattle.qs_expr.proofs.constant.AgainstConstant.compare.Goals as goal
 
 pub returns-in-Some : goal.returns-in-Some

@@ -1,6 +1,6 @@
 use Rattle.std.proofs.Common.{ap, sym, arith, ◌∙◌, length, []}
 use Rattle.qs_http.specs.HeadEnd.{head_end}
-use Rattle.qs_http.specs.HeadState.{place_from}
+use Rattle.qs_http.specs.inner.HeadState.{place_from}
 use Rattle.qs_http.specs.declared.head_end.HeadState.TheVariants.{Leading}
 use Rattle.qs_http.proofs.Ends.{end_from-nil, place_from-nil, head_end-searched}
 use Rattle.qs_http.proofs.session.Session.new.Goals as goal

@@ -1,4 +1,4 @@
-use Rattle.std.proofs.Common.{length, refl, arith, ap, Some, None}
+use Rattle.std.proofs.Common.{refl, arith, Some, None}
 use Rattle.qs_index.proofs.Looks.{start_fits_later}
 use Rattle.qs_index.proofs.ScanSteps.{begin_at, begin_none, sound_begin}
 use Rattle.qs_index.proofs.order_scan.OrderScan.new.Goals as goal
@@ -16,11 +16,6 @@ pub returns-in_default-clause-rest : goal.returns-in_default-clause-rest
 returns-in_default-clause-rest c =
     rw c.find_from.ensures.pages (begin_none c.args.prefix c.args.reader.pages c.len-held.result c.requires.ascending c.len-held.ensures.len c.in_default.ensures.none)
 
-pub returns-in_default-clause-handed : goal.returns-in_default-clause-handed
-returns-in_default-clause-handed c =
-    let e = ap length (begin_none c.args.prefix c.args.reader.pages c.len-held.result c.requires.ascending c.len-held.ensures.len c.in_default.ensures.none) in
-    rw c.find_from.ensures.pages (omega arith)
-
 pub invariant_of-result-2 : goal.invariant_of-result-2
 invariant_of-result-2 c =
     let pages = c.args.reader.pages in
@@ -31,8 +26,3 @@ invariant_of-result-2 c =
 pub returns-clause-rest : goal.returns-clause-rest
 returns-clause-rest c =
     rw c.find_from.ensures.pages (begin_at c.args.prefix c.args.reader.pages c.in-Some.found.place.page c.in-Some.found.place.at c.in-Some.found.entry c.requires.ascending c.in-Some.ensures.some)
-
-pub returns-clause-handed : goal.returns-clause-handed
-returns-clause-handed c =
-    let e = ap length (begin_at c.args.prefix c.args.reader.pages c.in-Some.found.place.page c.in-Some.found.place.at c.in-Some.found.entry c.requires.ascending c.in-Some.ensures.some) in
-    rw c.find_from.ensures.pages (omega arith)

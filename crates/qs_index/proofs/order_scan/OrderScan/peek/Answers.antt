@@ -1,18 +1,15 @@
 use Rattle.std.proofs.Common.{length, arith, subst}
 use Rattle.qs_index.specs.Entries.{HaveFour}
 use Rattle.qs_index.specs.Entry.{IsAscending}
-use Rattle.qs_index.specs.OrderScan.{left_from}
+use Rattle.qs_index.specs.inner.OrderScan.{left_from}
 use Rattle.qs_index.proofs.Looks.{looks_fit}
-use Rattle.qs_index.proofs.ScanSteps.{waiting_few}
 use Rattle.qs_index.proofs.Seeking.{left_ascends, left_four}
 use Rattle.qs_index.proofs.order_scan.OrderScan.peek.Goals as goal
 
 pub read-entry-requires-clause-countable : goal.read-entry-requires-clause-countable
 read-entry-requires-clause-countable c =
     let s = c.self.inside in
-    let w = waiting_few s.head in
-    let g = c.self.invariant.going (omega (arith, c.if-self-len.false, c.len.ensures.len)) in
-    looks_fit s.reader.pages (length (left_from s.reader.pages s.prefix s.start.page s.start.at)) s.reader.looked (length (left_from s.reader.pages s.prefix s.page s.at)) c.self.invariant.sizes (omega (arith, c.len.ensures.len, c.len.type_inv)) c.self.invariant.most (omega arith)
+    let fit = looks_fit s.reader.pages s.handed s.skips (length (left_from s.reader.pages s.prefix s.page s.at)) s.reader.looked c.self.invariant.sizes (omega (arith, c.len.ensures.len, c.len.type_inv)) c.self.invariant.most c.self.invariant.few in omega arith
 
 pub returns-clause-ascending : goal.returns-clause-ascending
 returns-clause-ascending c =

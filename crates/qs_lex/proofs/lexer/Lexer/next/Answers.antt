@@ -1,5 +1,5 @@
 use Rattle.std.proofs.Common.{◌≡◌, length, sym, ◌∙◌, ap, arith, eqb-true}
-use Rattle.qs_lex.specs.Unread.{Unread}
+use Rattle.qs_lex.specs.inner.Unread.{Unread}
 use Rattle.qs_lex.proofs.TokenList.{Front, front_of, place_is, some_from}
 use Rattle.qs_lex.proofs.Steps.{read_more, read_all, read_stops}
 use Rattle.qs_lex.proofs.Prefix.{barren_behind, barren_front}

@@ -1,6 +1,6 @@
 use Rattle.std.proofs.Common.{length, ap, ◌∙◌, inr}
 use Rattle.qs_nquads.specs.Gap.{behind_gap}
-use Rattle.qs_nquads.specs.Unread.{HasRead, state}
+use Rattle.qs_nquads.specs.inner.Unread.{HasRead, state}
 use Rattle.qs_nquads.proofs.reader.Reader.out_of_memory.Goals as goal
 
 pub returns-clause-fault : goal.returns-clause-fault

@@ -1,5 +1,5 @@
 use Rattle.std.proofs.Common.{◌≡◌, ◌-◌, length, drop}
-use Rattle.qs_ops_tables.specs.Tables.{partners}
+use Rattle.qs_ops_tables.specs.inner.Tables.{partners}
 use Rattle.qs_ops_tables.proofs.kept.KeptTable.partner_from.Given as goal
 
 abbrev pub invariant-loop-other : goal.invariant-loop-other

@@ -1,5 +1,5 @@
 use Rattle.std.proofs.Common.{subst}
-use Rattle.qs_ops_scans.specs.Prepared.{IsGraphOf}
+use Rattle.qs_ops_scans.specs.inner.Prepared.{IsGraphOf}
 use Rattle.qs_ops_walk.specs.inner.Setting.{Setting}
 use Rattle.qs_ops_walk.proofs.reader.Reader.graph_of_look.Goals as goal
 

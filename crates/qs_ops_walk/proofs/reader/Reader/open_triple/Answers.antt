@@ -3,8 +3,8 @@ use Rattle.qs_algebra_patterns.specs.declared.pattern.TriplePattern.{TriplePatte
 use Rattle.qs_plan_meaning.specs.Scans.{extensions}
 use Rattle.qs_plan_meaning.specs.Stages.{looked}
 use Rattle.qs_plan_meaning.specs.declared.stage.Look.{Look}
-use Rattle.qs_ops_scans.specs.Makes.{Makes}
-use Rattle.qs_ops_scans.specs.Prepared.{prepared_look, prepared_triple}
+use Rattle.qs_ops_scans.specs.inner.Makes.{Makes}
+use Rattle.qs_ops_scans.specs.inner.Prepared.{prepared_look, prepared_triple}
 use Rattle.qs_ops_walk.specs.inner.Setting.{Setting, known_of, graph_in}
 use Rattle.qs_ops_walk.proofs.reader.Reader.open_triple.Goals as goal
 

@@ -1,8 +1,8 @@
 use Rattle.std.proofs.Common.{◌≡◌, subst}
 use Rattle.qs_algebra_patterns.specs.declared.pattern.TriplePattern.{TriplePattern}
-use Rattle.qs_ops_scans.specs.Each.{each_extension}
-use Rattle.qs_ops_scans.specs.Makes.{Makes}
-use Rattle.qs_ops_scans.specs.Prepared.{prepared_triple}
+use Rattle.qs_ops_scans.specs.inner.Each.{each_extension}
+use Rattle.qs_ops_scans.specs.inner.Makes.{Makes}
+use Rattle.qs_ops_scans.specs.inner.Prepared.{prepared_triple}
 use Rattle.qs_ops_walk.specs.inner.Setting.{Setting, known_of}
 use Rattle.qs_ops_walk.proofs.reader.Reader.quad_rows.Goals as goal
 

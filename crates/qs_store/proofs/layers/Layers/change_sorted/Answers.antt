@@ -4,7 +4,7 @@ use Rattle.qs_index.specs.Graph.{named_entries}
 use Rattle.qs_store.specs.inner.Emptied.{AreEmptied}
 use Rattle.qs_store.specs.Change.{IsChanged}
 use Rattle.qs_store.specs.inner.Missing.{IsMissing, MayBeMissing}
-use Rattle.qs_store.specs.Layers.{drafted, IsDraft, IsPartOf}
+use Rattle.qs_store.specs.inner.Layers.{drafted, IsDraft, IsPartOf}
 use Rattle.qs_store.proofs.Drafted.{none_taken, steps_of, parted_after, members_after, union_fits, union_with_fits, difference_fits, named_union_with_fits, named_difference_fits, written}
 use Rattle.qs_store.proofs.Out.{still_out}
 use Rattle.qs_store.proofs.layers.Layers.change_sorted.Goals as goal

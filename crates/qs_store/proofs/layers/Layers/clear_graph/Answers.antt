@@ -1,6 +1,6 @@
 use Rattle.std.proofs.Common.{arith, subst}
 use Rattle.qs_store.specs.inner.Copied.{IsWithoutGraph}
-use Rattle.qs_store.specs.Layers.{drafted}
+use Rattle.qs_store.specs.inner.Layers.{drafted}
 use Rattle.qs_store.proofs.Cleared.{cleared_members, cleared_parted, keeps_others}
 use Rattle.qs_store.proofs.Drafted.{difference_fits, named_difference_fits}
 use Rattle.qs_store.proofs.Out.{removal, still_out}

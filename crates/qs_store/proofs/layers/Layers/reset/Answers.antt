@@ -1,5 +1,5 @@
 use Rattle.std.proofs.Common.{[], ap, ◌∙◌}
-use Rattle.qs_store.specs.Layers.{drafted}
+use Rattle.qs_store.specs.inner.Layers.{drafted}
 use Rattle.qs_store.proofs.Drafted.{drafted_none}
 use Rattle.qs_store.proofs.layers.Layers.reset.Goals as goal
 

@@ -1,5 +1,5 @@
 use Rattle.std.proofs.Common.{[], ap, subst, ◌∙◌}
-use Rattle.qs_store.specs.Layers.{drafted}
+use Rattle.qs_store.specs.inner.Layers.{drafted}
 use Rattle.qs_store.specs.Same.{SameSet}
 use Rattle.qs_store.proofs.Drafted.{settled, drafted_none}
 use Rattle.qs_store.proofs.layers.Layers.settle.Goals as goal

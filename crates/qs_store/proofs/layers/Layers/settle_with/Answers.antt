@@ -1,6 +1,6 @@
 use Rattle.std.proofs.Common.{[], ap, subst, ◌∙◌}
 use Rattle.qs_store.specs.Change.{IsChanged}
-use Rattle.qs_store.specs.Layers.{drafted}
+use Rattle.qs_store.specs.inner.Layers.{drafted}
 use Rattle.qs_store.proofs.Drafted.{drafted_none}
 use Rattle.qs_store.proofs.layers.Layers.settle_with.Goals as goal
 

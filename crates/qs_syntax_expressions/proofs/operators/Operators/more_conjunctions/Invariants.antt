@@ -1,5 +1,5 @@
 use Rattle.std.proofs.Common.{◌≡◌, ◌-◌, ◌∷◌, []}
-use Rattle.qs_syntax_grammar.specs.Reading.{loop}
+use Rattle.qs_syntax_grammar.specs.inner.Reading.{loop}
 use Rattle.qs_syntax_grammar.specs.inner.Repeated.{into, push}
 use Rattle.qs_syntax_grammar.specs.Notation.{◌>>◌}
 use Rattle.qs_syntax_grammar.specs.Grammar.{read}

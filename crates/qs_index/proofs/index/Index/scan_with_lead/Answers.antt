@@ -1,0 +1,36 @@
+use Rattle.std.proofs.Common.{◌≡◌, map, sym, subst, ap, ◌∙◌}
+use Rattle.std.specs.List.Sorted.{IsPermutation}
+use Rattle.qs_index.specs.Agreeing.{agreeing}
+use Rattle.qs_index.specs.Entry.{beginning, IsAscending}
+use Rattle.qs_index.specs.inner.Lead.{order_with_lead}
+use Rattle.qs_index.specs.OrderOf.{IsOrderOf}
+use Rattle.qs_index.specs.Permutation.{prefix_of, restored, turned}
+use Rattle.qs_index.proofs.Led.{order_of_led, scan_agrees_led}
+use Rattle.qs_index.proofs.Turned.{scan_ascends, order_length}
+use Rattle.qs_index.proofs.index.Index.scan_with_lead.Goals as goal
+
+pub returns-clause-agreeing : goal.returns-clause-agreeing
+returns-clause-agreeing c =
+    let a = c.args in
+    let used = order_with_lead a.subject a.predicate a.object a.lead in
+    let xs = a.self.now.entries in
+    let ys = c.order-order.result.now.entries in
+    let found = beginning (prefix_of a.graph a.subject a.predicate a.object) ys in
+    let made : c.new.result.rest ≡ map (restored used) found = ap (λ s. s.rest) c.new.ensures ∙ ap (λ k. map (restored k) c.scan.result.rest) c.with_lead-lookup.ensures.permutation ∙ ap (map (restored used)) (c.scan.ensures.rest ∙ ap (λ p. beginning p ys) c.with_lead-lookup.ensures.prefix) in
+    let order : IsOrderOf used xs ys = order_of_led a.subject a.predicate a.object a.lead _ xs ys c.with_lead-lookup.ensures.permutation c.order-order.ensures.order in
+    subst (IsPermutation (agreeing a.graph a.subject a.predicate a.object xs)) (sym made)
+    (scan_agrees_led a.graph a.subject a.predicate a.object a.lead xs ys c.order-order.ensures.entries c.order-order.ensures.ascending order)
+
+pub returns-clause-ascending : goal.returns-clause-ascending
+returns-clause-ascending c =
+    let a = c.args in
+    let used = order_with_lead a.subject a.predicate a.object a.lead in
+    let ys = c.order-order.result.now.entries in
+    let prefix = prefix_of a.graph a.subject a.predicate a.object in
+    let made : c.new.result.rest ≡ map (restored used) (beginning prefix ys) = ap (λ s. s.rest) c.new.ensures ∙ ap (λ k. map (restored k) c.scan.result.rest) c.with_lead-lookup.ensures.permutation ∙ ap (map (restored used)) (c.scan.ensures.rest ∙ ap (λ p. beginning p ys) c.with_lead-lookup.ensures.prefix) in
+    subst (λ r. IsAscending (map (turned used) r)) (sym made) (scan_ascends used prefix ys c.order-order.ensures.order.ascending)
+
+pub returns-clause-size : goal.returns-clause-size
+returns-clause-size c =
+    let a = c.args in
+    ap (λ s. s.size) c.new.ensures ∙ c.scan.ensures.size ∙ order_length (order_with_lead a.subject a.predicate a.object a.lead) a.self.now.entries c.order-order.result.now.entries c.order-order.ensures.ascending (order_of_led a.subject a.predicate a.object a.lead _ _ _ c.with_lead-lookup.ensures.permutation c.order-order.ensures.order)

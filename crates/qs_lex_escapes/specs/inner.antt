@@ -1,0 +1,3 @@
+-- What serves proofs and layers alone: no promise of the product is read by it.
+pub mod Backslashes
+pub mod StandsFor

@@ -1,0 +1,2 @@
+-- What serves proofs and layers alone: no promise of the product is read by it.
+pub mod Granted
