@@ -1,4 +1,4 @@
--- What serves proofs alone: no promise of the product is read by it.
+-- What serves proofs and layers alone: no promise of the product is read by it.
 pub mod PageBlocks
 pub mod PagePosition
 pub mod Leaving

@@ -1,8 +1,8 @@
 //! A scan of one order.
 //!
-//! How many entries were handed out and how often some were skipped are parts of a scan's value. Each step raises one of them by
-//! one, and only a scan with fewer entries left is sound after that. So no body can loosen the bound on looks, and none can forget
-//! a look.
+//! How many entries were handed out, how often some were skipped and how many looks there were are parts of a scan's value. A call
+//! raises one of the first two by one at most, and leaves fewer entries where it does. No call lowers the third. So no body can
+//! loosen the bound on looks, and none can forget one.
 ghost use Rattle.std.specs.Prelude.{◌≡◌, ◌+◌, ◌^◌, ◌<◌, ◌≤◌, [], ◌∷◌, length, drop, true, slice_index_or};
 ghost use Rattle.std.specs.Iterator.{item_count};
 ghost use Rattle.std.specs.Option.{MatchOption};
@@ -141,6 +141,7 @@ impl<'a> OrderScan<'a> {
         ensures handed { self.new.handed ≡ self.old.handed }
         ensures skips { self.new.skips ≡ self.old.skips }
         ensures size { self.new.size ≡ self.old.size }
+        ensures rises { self.old.looked ≤ self.new.looked }
         ensures ascending { IsAscending self.old.rest }
         ensures entries { HaveFour self.old.rest }
     {
@@ -166,6 +167,8 @@ impl<'a> OrderScan<'a> {
         ensures handed { self.new.handed ≡ self.old.handed }
         ensures skips { self.new.skips ≡ self.old.skips + 1 }
         ensures size { self.new.size ≡ self.old.size }
+        ensures rises { self.old.looked ≤ self.new.looked }
+        ensures fewer { length self.new.rest + 1 ≤ length self.old.rest }
     {
         let held = self.reader.len();
         let place = PagePosition {

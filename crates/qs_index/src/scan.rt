@@ -1,5 +1,5 @@
 //! A scan of the index.
-ghost use Rattle.std.specs.Prelude.{◌≡◌, ◌+◌, ◌≤◌, map};
+ghost use Rattle.std.specs.Prelude.{◌≡◌, ◌+◌, ◌≤◌, length, map};
 ghost use Rattle.std.specs.Iterator.{item_count};
 ghost use Rattle.qs_index.specs.Permutation.{restored};
 ghost use Rattle.qs_index.specs.Scan.{ScanState, NextOfScan, most_looks};
@@ -32,15 +32,15 @@ impl<'a> Scan<'a> {
         Scan { inner, permutation }
     }
 
-    /// The place of the entry that is looked at next, and at the end of the one that was looked at last: a later scan of the same order
-    /// that has to begin near after finds its first entry from there with few looks.
+    /// The place of the entry that is looked at next. At the end it is where the scan stood last, or where its search was told to begin. A
+    /// later scan of the same order whose entries begin near after it finds the first of them from there with few looks.
     pub fn place(&self) -> PagePosition {
         self.inner.place()
     }
 
     /// Skips entries that come next and have the subject, predicate and object that are given, by one search. Where these places are in
-    /// front in the order, all such entries are skipped; elsewhere those that begin as the next one does, up to the last of these places.
-    /// None is skipped where that is the fourth place of the order, where the number there is the greatest `u32`, or, over all named
+    /// front in the order, all such entries are skipped; elsewhere those that begin as the next one does, up to the last given place. None
+    /// is skipped where the last given place is the fourth of the order, where the number there is the greatest `u32`, or, over all named
     /// graphs, where no place is given.
     pub fn skip_agreeing(
         &mut self,
@@ -51,7 +51,9 @@ impl<'a> Scan<'a> {
         ensures skipped { SkipsAgreeing subject predicate object self.old.rest self.new.rest }
         ensures handed { self.new.handed ≡ self.old.handed }
         ensures skips { self.new.skips ≤ self.old.skips + 1 }
+        ensures counted { self.new.skips + length self.new.rest ≤ self.old.skips + length self.old.rest }
         ensures size { self.new.size ≡ self.old.size }
+        ensures rises { self.old.looked ≤ self.new.looked }
     {
         let Some(next) = self.inner.peek() else {
             return;
@@ -66,9 +68,9 @@ impl<'a> Scan<'a> {
         self.inner.seek(&to);
     }
 
-    /// How many entries were looked at since the scan began: compared or handed out. At every moment they are at least those handed out,
-    /// and at most these, and two for each binary digit of the number of entries, and two; and for each call of `skip_agreeing` that skipped
-    /// some two for each digit, and one.
+    /// How many entries were looked at since the scan began: compared or handed out. At every moment they are at least those handed out.
+    /// They are at most these, and two for each binary digit of the number of entries, and two. Each call of `skip_agreeing` that skipped
+    /// some may add two for each digit, and one.
     pub fn looked(&self) -> u128
         ensures count { result ≡ self.now.looked }
         ensures enough { self.now.handed ≤ result }

@@ -2,7 +2,7 @@
 //!
 //! What can be looked up once for a plan is prepared: `prepare_triple` and `prepare_look` put the numbers of terms in place of them. A
 //! source of rows (`TripleRows`, `QuadRows`, `NameRows`, `PathRows`) is opened for a row and hands out its rows one by one; contracts see it as the
-//! list of the rows that are still to come. What these rows denote is defined in `specs/Makes.antt`.
+//! list of the rows that are still to come. What these rows denote is defined in `specs/inner/Makes.antt`.
 #![tactic(auto)]
 
 mod bind;

@@ -4,7 +4,7 @@
 //! kept rows that it is compatible with, one by one. `KeptTable::is_excluded` is the test of MINUS. `table_rows` makes rows of a VALUES
 //! table.
 //!
-//! The definitions are in `specs/Tables.antt`.
+//! The definitions are in `specs/inner/Tables.antt`.
 #![tactic(auto)]
 
 mod excluded;

@@ -179,8 +179,9 @@ impl<'a> Triples<'a> {
         }
     }
 
-    /// Skips triples to come that have the subject, predicate and object that are given, as far as one search finds their end: those of a
-    /// store, as `Scan::skip_agreeing` does, and none of a draft. No other triple is skipped. It takes no memory.
+    /// Skips triples to come that have the subject, predicate and object that are given, as far as one search finds their end. Of a store
+    /// these are those that `Scan::skip_agreeing` skips; of a union none are skipped until one was handed out that has the given places. Of
+    /// a draft none are. No other triple is skipped. It takes no memory.
     pub fn skip_agreeing(
         &mut self,
         subject: Option<u32>,
@@ -189,7 +190,7 @@ impl<'a> Triples<'a> {
     )
         ensures { IsSkipped (λ t. triple_fits subject predicate object t ≡ true) self.old self.new }
     {
-        // Without this test the same triples are left, since entries ascend. No contract here says that they do.
+        // Without this test the contract would hold as well, since entries ascend. No contract here says that they do.
         if self.repeats && !last_fits(&self.last, subject, predicate, object) {
             return;
         }

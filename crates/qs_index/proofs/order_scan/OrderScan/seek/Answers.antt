@@ -1,4 +1,4 @@
-use Rattle.std.proofs.Common.{◌≡◌, None, Some, length, refl, ap, sym, ◌∙◌, subst, arith}
+use Rattle.std.proofs.Common.{◌≡◌, ◌+◌, ◌≤◌, None, Some, length, refl, ap, sym, ◌∙◌, subst, arith}
 use Rattle.qs_index.specs.Entry.{run_of, skip_before}
 use Rattle.qs_index.specs.inner.OrderScan.{left_from, StartsBefore}
 use Rattle.qs_index.proofs.Looks.{counts_fit, looks_fit}
@@ -78,3 +78,17 @@ returns-clause-rest c =
     let here = stands_before pages s.prefix to s.page s.at c.self.invariant.within starts in
     let seek = seek_left pages s.prefix to s.page s.at c.self.invariant.ascending here.page_in here.at_in here.begun here.before in
     rw c.find_after.ensures.pages (ap (run_of s.prefix) f.before ∙ seek ∙ ap (λ v. skip_before to v.rest) c.self.view_is)
+
+pub returns-clause-fewer : goal.returns-clause-fewer
+returns-clause-fewer c =
+    let s = c.self.inside in
+    let pages = s.reader.pages in
+    let to = c.args.to.now in
+    let found = c.in-Some.found in
+    let f = c.in-Some.ensures.some in
+    let starts : StartsBefore to (left_from pages s.prefix s.page s.at) = subst (λ v. StartsBefore to v.rest) (sym c.self.view_is) c.requires.next in
+    let here = stands_before pages s.prefix to s.page s.at c.self.invariant.within starts in
+    let left : left_from pages s.prefix found.place.page found.place.at ≡ skip_before to (left_from pages s.prefix s.page s.at) =
+    ap (run_of s.prefix) f.before ∙ seek_left pages s.prefix to s.page s.at c.self.invariant.ascending here.page_in here.at_in here.begun here.before in
+    let few = fewer_left to (left_from pages s.prefix s.page s.at) (left_from pages s.prefix found.place.page found.place.at) left starts in
+    rw c.find_after.ensures.pages (subst (λ v. length (left_from pages s.prefix found.place.page found.place.at) + 1 ≤ length v.rest) c.self.view_is few)
