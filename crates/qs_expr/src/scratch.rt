@@ -57,7 +57,7 @@ impl Scratch {
     }
 
     /// The term at the place, if there is one.
-    pub(crate) fn get(&self, place: u64) -> Option<&Term>
+    pub fn get(&self, place: u64) -> Option<&Term>
         ensures { option_copied result ≡ slice_get self.now place }
     {
         self.terms.get_index(place as usize)

@@ -5,3 +5,4 @@ pub mod Coming
 pub mod EachOnce
 pub mod Keys
 pub mod InOrder
+pub mod Listing

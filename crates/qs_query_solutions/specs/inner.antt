@@ -5,3 +5,4 @@ pub mod SoFar
 pub mod Distinct
 pub mod After
 pub mod Ordered
+pub mod CellRows

@@ -7,6 +7,7 @@ pub mod Changed
 pub mod Stored
 pub mod Loaded
 pub mod Merging
+pub mod References
 pub mod Scanned
 pub mod TriplesSaid
 pub mod NamedQuadsSaid

@@ -1,5 +1,6 @@
 pub mod Same
 pub mod Entries
+pub mod References
 pub mod Content
 pub mod Change
 pub mod Fault

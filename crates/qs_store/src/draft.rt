@@ -6,14 +6,15 @@ ghost use Rattle.std.specs.List.Sorted.{IsSorted};
 ghost use Rattle.std.specs.Option.{option_copied, option_map};
 ghost use Rattle.qs_terms.specs.Bag.{SameBag};
 ghost use Rattle.qs_terms.specs.Dataset.{is_above_blanks, is_graph_below};
-ghost use Rattle.qs_terms.specs.Statement.{Statement, is_graph};
+ghost use Rattle.qs_terms.specs.Statement.{Statement, fits_places, is_graph};
 ghost use Rattle.qs_terms.specs.declared.term.Term.{Term};
 ghost use Rattle.qs_expr_values.specs.inner.TermValue.{term_value};
 ghost use Rattle.qs_dict.specs.Dict.{IsInUse, IsDictionary, term_at, number_of};
 ghost use Rattle.qs_store.specs.Change.{IsChanged, KnowsTermsOf, IsFullExactly, IsFullAt, with_terms_of};
 ghost use Rattle.qs_store.specs.Content.{Content, Held, AreLawful, IsContent, KnowsItsTerms};
-ghost use Rattle.qs_store.specs.Entries.{said, AreEntries, IsSaidBehind};
+ghost use Rattle.qs_store.specs.Entries.{said, entry_of, AreEntries, IsSaidBehind};
 ghost use Rattle.qs_store.specs.Graphs.{AreGraphs};
+ghost use Rattle.qs_store.specs.References.{referred_quad, IsReferredQuad};
 ghost use Rattle.qs_store.specs.Same.{SameSet};
 ghost use Rattle.qs_store.specs.inner.Store.{IsFront};
 ghost use Rattle.qs_store.specs.NamedQuads.{AreNamedQuads};
@@ -26,6 +27,7 @@ use crate::active::Active;
 use crate::default_graph::DefaultGraph;
 use crate::fault::StoreFault;
 use crate::named_quads::NamedQuads;
+use crate::reference::QuadRef;
 use crate::removal::Removal;
 use crate::store::Store;
 use crate::triples::Triples;
@@ -337,6 +339,71 @@ impl<'a> Draft<'a> {
         ensures default_graph { self.new.store.now.default_graph ≡ self.old.store.now.default_graph }
     {
         self.store.number_in_draft(quad)
+    }
+
+    /// Whether the terms of the quad that is meant may stand in their places, as `Quad::fits` tells it. Its numbers are in use. It takes no
+    /// memory.
+    pub fn fits(&self, quad: QuadRef<'_>) -> bool
+        requires { IsReferredQuad self.now.store.now.draft.known quad }
+        ensures { let q = referred_quad self.now.store.now.draft.known quad.entry in result ≡ fits_places q.graph q.subject q.predicate }
+    {
+        let store: &Store = self.store;
+        store.draft_fits(quad)
+    }
+
+    /// The entry of the quad that is meant, where the draft knows all its terms. Its numbers are in use. A term that is given by its number
+    /// isn't looked up. It takes no memory.
+    pub fn entry(&self, quad: QuadRef<'_>) -> Option<[u32; 4]>
+        requires { IsReferredQuad self.now.store.now.draft.known quad }
+        ensures { result ≡ entry_of self.now.store.now.draft.known (referred_quad self.now.store.now.draft.known quad.entry) }
+    {
+        let store: &Store = self.store;
+        store.draft_entry(quad)
+    }
+
+    /// The entry of the quad that is meant, as `number` has it. A term that is given by its number isn't looked up. Its numbers are in use, and
+    /// its terms may stand in their places.
+    pub fn number_ref(&mut self, quad: QuadRef<'_>) -> Result<[u32; 4], StoreFault>
+        requires numbers { IsReferredQuad self.old.store.now.draft.known quad }
+        requires fits { let q = referred_quad self.old.store.now.draft.known quad in IsTrue (fits_places q.graph q.subject q.predicate) }
+        ensures same_reference { self.new.store.ghost_name ≡ self.old.store.ghost_name }
+        ensures base { self.new.store.now.base ≡ self.old.store.now.base }
+        ensures quads { self.new.store.now.draft.quads ≡ self.old.store.now.draft.quads }
+        ensures next { self.new.store.now.draft.next ≡ self.old.store.now.draft.next }
+        ensures said { IfOk result (λ entry. (entries : List (List ℕ)) → AreEntries self.old.store.now.draft.known entries → IsSaidBehind self.old.store.now.draft.known entries (referred_quad self.old.store.now.draft.known quad.entry) self.new.store.now.draft.known entry) }
+        ensures known { OnOk result ((first : List Term) (quads : List Statement) → self.old.store.now.draft.known ≡ with_terms_of first quads → self.new.store.now.draft.known ≡ with_terms_of first (quads ++ referred_quad self.old.store.now.draft.known quad.entry ∷ [])) }
+        ensures full { IfErr result (λ fault. (first : List Term) (quads more : List Statement) → self.old.store.now.draft.known ≡ with_terms_of first quads → IsFullAt fault self.old.store.now.limit (length (with_terms_of first (quads ++ referred_quad self.old.store.now.draft.known quad.entry ∷ more)))) }
+        ensures refused { OnErr result (self.new.store.now.draft ≡ self.old.store.now.draft) }
+        ensures limit { self.new.store.now.limit ≡ self.old.store.now.limit }
+        ensures default_graph { self.new.store.now.default_graph ≡ self.old.store.now.default_graph }
+    {
+        self.store.number_ref_in_draft(quad)
+    }
+
+    /// Changes the draft as `change` does, by entries over the terms that it knows. They are left in some order. Its one refusal is running
+    /// out of memory, which leaves the draft as it was.
+    pub fn change_entries(
+        &mut self,
+        remove: &mut [[u32; 4]],
+        add: &mut [[u32; 4]],
+        next: u64,
+    ) -> Result<(), StoreFault>
+        requires removed { AreEntries self.old.store.now.draft.known remove.old }
+        requires added { AreEntries self.old.store.now.draft.known add.old }
+        requires next { self.old.store.now.draft.next ≤ next }
+        requires above { IsTrue (is_above_blanks next (said self.old.store.now.draft.known add.old)) }
+        ensures same_reference { self.new.store.ghost_name ≡ self.old.store.ghost_name }
+        ensures base { self.new.store.now.base ≡ self.old.store.now.base }
+        ensures quads { OnOk result (IsChanged self.old.store.now.draft.quads (said self.old.store.now.draft.known remove.old) (said self.old.store.now.draft.known add.old) self.new.store.now.draft.quads) }
+        ensures next { OnOk result (self.new.store.now.draft.next ≡ next) }
+        ensures known { self.new.store.now.draft.known ≡ self.old.store.now.draft.known }
+        ensures room { length self.old.store.now.draft.known ≤ self.old.store.now.limit }
+        ensures memory { IfErr result (λ fault. fault ≡ Memory) }
+        ensures refused { OnErr result (self.new.store.now.draft ≡ self.old.store.now.draft) }
+        ensures limit { self.new.store.now.limit ≡ self.old.store.now.limit }
+        ensures default_graph { self.new.store.now.default_graph ≡ self.old.store.now.default_graph }
+    {
+        self.store.change_draft_entries(remove, add, next)
     }
 
     /// Makes the draft's quads and those of the entries those of the store, and its known terms those of the store; `next` becomes the

@@ -15,6 +15,7 @@ mod named_graphs;
 mod named_quads;
 mod numbers;
 mod quads;
+mod reference;
 mod removal;
 mod same_set;
 mod store;
@@ -27,6 +28,7 @@ pub use default_graph::DefaultGraph;
 pub use draft::Draft;
 pub use fault::StoreFault;
 pub use named_quads::NamedQuads;
+pub use reference::{QuadRef, TermRef};
 pub use removal::Removal;
 pub use same_set::{
     quads_make_their_terms_known, same_set_is_an_equivalence, same_sets_change_alike,

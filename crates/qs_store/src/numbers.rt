@@ -1,18 +1,21 @@
 //! Quads as entries of the numbers of their terms.
 
-ghost use Rattle.std.specs.Prelude.{◌≡◌, Some, [], length, map, IsTrue, IfOk, OnOk, IfErr};
+ghost use Rattle.std.specs.Prelude.{◌≡◌, List, Some, [], length, map, IsTrue, IfOk, OnOk, IfErr};
 ghost use Rattle.std.specs.List.{cons_option, filter_map};
 ghost use Rattle.std.specs.Option.{option_copied};
 ghost use Rattle.qs_terms.specs.Bag.{with_new};
 ghost use Rattle.qs_terms.specs.Statement.{fits_places};
 ghost use Rattle.qs_terms.specs.Term.{same_term};
+ghost use Rattle.qs_terms.specs.declared.term.Term.{Term};
 ghost use Rattle.qs_dict.specs.Dict.{IsDictionary, number_of};
 ghost use Rattle.qs_store.specs.Change.{terms_of, with_terms, with_terms_of, IsFullAt};
 ghost use Rattle.qs_store.specs.Entries.{entry_of, graph_number};
 ghost use Rattle.qs_store.specs.Content.{AreLawful};
+ghost use Rattle.qs_store.specs.References.{referred, IsReferred, referred_graph, IsReferredGraph, referred_quad, IsReferredQuad};
 ghost use Rattle.qs_store.specs.inner.Store.{IsFront};
 
 use crate::fault::StoreFault;
+use crate::reference::{QuadRef, TermRef};
 use qs_dict::Dict;
 use qs_terms::{Quad, Term};
 use std::alloc::{AllocError, Global};
@@ -91,6 +94,89 @@ pub fn numbered(dict: &mut Dict, quad: &Quad) -> Result<[u32; 4], StoreFault>
     let s = put(dict, quad.subject())?;
     let p = put(dict, quad.predicate())?;
     let o = put(dict, quad.object())?;
+    Ok([g, s, p, o])
+}
+
+/// The number of the term that is meant, where it has one.
+fn find_ref(dict: &Dict, term: TermRef<'_>) -> Option<u32>
+    requires { IsReferred dict.now.terms term }
+    ensures { result ≡ number_of dict.now.terms (referred dict.now.terms term.entry) }
+{
+    let _count = dict.len();
+    match term {
+        TermRef::Known(number) => Some(number),
+        TermRef::Term(term) => dict.find(term),
+    }
+}
+
+/// The number of the graph's name that is meant, where it has one; the default graph has number 0.
+fn find_graph_ref(dict: &Dict, graph: Option<TermRef<'_>>) -> Option<u32>
+    requires { IsReferredGraph dict.now.terms graph }
+    ensures { result ≡ graph_number dict.now.terms (referred_graph dict.now.terms graph.entry) }
+{
+    match graph {
+        None => Some(0),
+        Some(name) => find_ref(dict, name),
+    }
+}
+
+/// The entry of the quad that is meant, where all its terms have numbers.
+pub fn entry_of_ref(dict: &Dict, quad: QuadRef<'_>) -> Option<[u32; 4]>
+    requires { IsReferredQuad dict.now.terms quad }
+    ensures { result ≡ entry_of dict.now.terms (referred_quad dict.now.terms quad.entry) }
+{
+    let g = find_graph_ref(dict, quad.graph)?;
+    let s = find_ref(dict, quad.subject)?;
+    let p = find_ref(dict, quad.predicate)?;
+    let o = find_ref(dict, quad.object)?;
+    Some([g, s, p, o])
+}
+
+/// The number of the term that is meant over terms from which the dictionary has grown. It is put after the others where it is new.
+fn put_ref(dict: &mut Dict, term: TermRef<'_>) -> Result<u32, StoreFault>
+    ensures number { IfOk result (λ n. (known : List Term) → IsFront known dict.old.terms → IsReferred known term.entry → number_of dict.new.terms (referred known term.entry) ≡ Some n) }
+    ensures terms { OnOk result ((known : List Term) → IsFront known dict.old.terms → IsReferred known term.entry → dict.new.terms ≡ with_new same_term dict.old.terms (referred known term.entry)) }
+    ensures front { IsFront dict.old.terms dict.new.terms }
+    ensures full { IfErr result (λ fault. (known : List Term) → IsFront known dict.old.terms → IsReferred known term.entry → IsFullAt fault dict.old.limit (length (with_new same_term dict.old.terms (referred known term.entry)))) }
+    ensures limit { dict.new.limit ≡ dict.old.limit }
+    ensures lawful { IsDictionary dict.new }
+{
+    let _count = dict.len();
+    match term {
+        TermRef::Known(number) => Ok(number),
+        TermRef::Term(term) => put(dict, term),
+    }
+}
+
+/// The number of the graph's name that is meant, as `put_ref` has it; the default graph has number 0.
+fn put_graph_ref(dict: &mut Dict, graph: Option<TermRef<'_>>) -> Result<u32, StoreFault>
+    requires { IsReferredGraph dict.old.terms graph }
+    ensures number { IfOk result (λ n. graph_number dict.new.terms (referred_graph dict.old.terms graph.entry) ≡ Some n) }
+    ensures terms { OnOk result (dict.new.terms ≡ with_terms dict.old.terms (cons_option (referred_graph dict.old.terms graph.entry) [])) }
+    ensures front { IsFront dict.old.terms dict.new.terms }
+    ensures full { IfErr result (λ fault. IsFullAt fault dict.old.limit (length (with_terms dict.old.terms (cons_option (referred_graph dict.old.terms graph.entry) [])))) }
+    ensures limit { dict.new.limit ≡ dict.old.limit }
+{
+    match graph {
+        None => Ok(0),
+        Some(name) => put_ref(dict, name),
+    }
+}
+
+/// The entry of the quad that is meant, whose new terms are put after the others in the dictionary.
+pub fn numbered_ref(dict: &mut Dict, quad: QuadRef<'_>) -> Result<[u32; 4], StoreFault>
+    requires { IsReferredQuad dict.old.terms quad }
+    ensures entry { IfOk result (λ entry. entry_of dict.new.terms (referred_quad dict.old.terms quad.entry) ≡ Some entry) }
+    ensures terms { OnOk result (dict.new.terms ≡ with_terms dict.old.terms (terms_of (referred_quad dict.old.terms quad.entry))) }
+    ensures front { IsFront dict.old.terms dict.new.terms }
+    ensures full { IfErr result (λ fault. IsFullAt fault dict.old.limit (length (with_terms dict.old.terms (terms_of (referred_quad dict.old.terms quad.entry))))) }
+    ensures limit { dict.new.limit ≡ dict.old.limit }
+    ensures lawful { OnOk result (IsDictionary dict.new) }
+{
+    let g = put_graph_ref(dict, quad.graph)?;
+    let s = put_ref(dict, quad.subject)?;
+    let p = put_ref(dict, quad.predicate)?;
+    let o = put_ref(dict, quad.object)?;
     Ok([g, s, p, o])
 }
 

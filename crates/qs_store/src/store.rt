@@ -13,14 +13,15 @@ ghost use Rattle.std.specs.List.Sorted.{IsSorted};
 ghost use Rattle.std.specs.Option.{option_copied, option_map};
 ghost use Rattle.qs_terms.specs.Bag.{SameBag};
 ghost use Rattle.qs_terms.specs.Dataset.{is_above_blanks, is_graph_below};
-ghost use Rattle.qs_terms.specs.Statement.{Statement, is_graph};
+ghost use Rattle.qs_terms.specs.Statement.{Statement, fits_places, is_graph};
 ghost use Rattle.qs_terms.specs.declared.term.Term.{Term};
 ghost use Rattle.qs_expr_values.specs.inner.TermValue.{term_value};
 ghost use Rattle.qs_dict.specs.Dict.{IsInUse, IsDictionary, term_at, number_of};
 ghost use Rattle.qs_store.specs.Change.{IsChanged, KnowsTermsOf, IsFullExactly, IsFullAt, with_terms_of};
 ghost use Rattle.qs_store.specs.Content.{Content, Held, AreLawful, IsContent, KnowsItsTerms};
-ghost use Rattle.qs_store.specs.Entries.{said, AreEntries, IsSaidBehind};
+ghost use Rattle.qs_store.specs.Entries.{said, entry_of, AreEntries, IsSaidBehind};
 ghost use Rattle.qs_store.specs.Graphs.{AreGraphs};
+ghost use Rattle.qs_store.specs.References.{referred_quad, IsReferredQuad};
 ghost use Rattle.qs_store.specs.Same.{SameSet};
 ghost use Rattle.qs_store.specs.inner.Store.{IsFront};
 ghost use Rattle.qs_store.specs.NamedQuads.{AreNamedQuads};
@@ -35,8 +36,9 @@ use crate::fault::StoreFault;
 use crate::graphs::{Graphs, graphs_of};
 use crate::layers::Layers;
 use crate::named_quads::NamedQuads;
-use crate::numbers::{entries_of, entry_of, numbered, numbered_all};
+use crate::numbers::{entries_of, entry_of, entry_of_ref, numbered, numbered_all, numbered_ref};
 use crate::quads::quads_of;
+use crate::reference::{QuadRef, fits};
 use crate::removal::Removal;
 use crate::triples::Triples;
 use crate::whole_graphs::{clear, entries_named, filled, remove, transfer};
@@ -483,6 +485,46 @@ impl Store {
         }
     }
 
+    // Whether the terms of the quad that is meant may stand in their places.
+    pub(crate) fn draft_fits(&self, quad: QuadRef<'_>) -> bool
+        requires { IsReferredQuad self.now.draft.known quad }
+        ensures { let q = referred_quad self.now.draft.known quad.entry in result ≡ fits_places q.graph q.subject q.predicate }
+    {
+        fits(&self.dict, quad)
+    }
+
+    // The entry of the quad that is meant, where the draft knows all its terms.
+    pub(crate) fn draft_entry(&self, quad: QuadRef<'_>) -> Option<[u32; 4]>
+        requires { IsReferredQuad self.now.draft.known quad }
+        ensures { result ≡ entry_of self.now.draft.known (referred_quad self.now.draft.known quad.entry) }
+    {
+        entry_of_ref(&self.dict, quad)
+    }
+
+    // The entry of the quad that is meant, whose new terms the draft knows then.
+    pub(crate) fn number_ref_in_draft(&mut self, quad: QuadRef<'_>) -> Result<[u32; 4], StoreFault>
+        requires numbers { IsReferredQuad self.old.draft.known quad }
+        requires fits { let q = referred_quad self.old.draft.known quad in IsTrue (fits_places q.graph q.subject q.predicate) }
+        ensures base { self.new.base ≡ self.old.base }
+        ensures quads { self.new.draft.quads ≡ self.old.draft.quads }
+        ensures next { self.new.draft.next ≡ self.old.draft.next }
+        ensures said { IfOk result (λ entry. (entries : List (List ℕ)) → AreEntries self.old.draft.known entries → IsSaidBehind self.old.draft.known entries (referred_quad self.old.draft.known quad.entry) self.new.draft.known entry) }
+        ensures known { OnOk result ((first : List Term) (quads : List Statement) → self.old.draft.known ≡ with_terms_of first quads → self.new.draft.known ≡ with_terms_of first (quads ++ referred_quad self.old.draft.known quad.entry ∷ [])) }
+        ensures full { IfErr result (λ fault. (first : List Term) (quads more : List Statement) → self.old.draft.known ≡ with_terms_of first quads → IsFullAt fault self.old.limit (length (with_terms_of first (quads ++ referred_quad self.old.draft.known quad.entry ∷ more)))) }
+        ensures refused { OnErr result (self.new.draft ≡ self.old.draft) }
+        ensures limit { self.new.limit ≡ self.old.limit }
+        ensures default_graph { self.new.default_graph ≡ self.old.default_graph }
+    {
+        let len = self.dict.len();
+        match numbered_ref(&mut self.dict, quad) {
+            Ok(entry) => Ok(entry),
+            Err(fault) => {
+                self.dict.cut(len);
+                Err(fault)
+            }
+        }
+    }
+
     // Makes the draft the store, with the quads of the entries, too.
     pub(crate) fn settle_with(
         &mut self,
@@ -545,6 +587,33 @@ impl Store {
                 Err(fault)
             }
         }
+    }
+
+    // Makes a change of the draft by entries over the terms that it knows.
+    pub(crate) fn change_draft_entries(
+        &mut self,
+        remove: &mut [[u32; 4]],
+        add: &mut [[u32; 4]],
+        next: u64,
+    ) -> Result<(), StoreFault>
+        requires removed { AreEntries self.old.draft.known remove.old }
+        requires added { AreEntries self.old.draft.known add.old }
+        requires next { self.old.draft.next ≤ next }
+        requires above { IsTrue (is_above_blanks next (said self.old.draft.known add.old)) }
+        ensures base { self.new.base ≡ self.old.base }
+        ensures quads { OnOk result (IsChanged self.old.draft.quads (said self.old.draft.known remove.old) (said self.old.draft.known add.old) self.new.draft.quads) }
+        ensures next { OnOk result (self.new.draft.next ≡ next) }
+        ensures known { self.new.draft.known ≡ self.old.draft.known }
+        ensures room { length self.old.draft.known ≤ self.old.limit }
+        ensures memory { IfErr result (λ fault. fault ≡ Memory) }
+        ensures refused { OnErr result (self.new.draft ≡ self.old.draft) }
+        ensures limit { self.new.limit ≡ self.old.limit }
+        ensures default_graph { self.new.default_graph ≡ self.old.default_graph }
+    {
+        let _count = self.dict.len();
+        self.layers.change(remove, add)?;
+        self.draft_next = next;
+        Ok(())
     }
 
     // Whether the draft has quads in the graph of this name.

@@ -1,8 +1,9 @@
 -- Operations over a draft, by what they do.
-use Rattle.std.proofs.Common.{◌≡◌, ℕ, true, false, List, Option, Ok, Err, refl, sym, subst}
-use Rattle.qs_terms.specs.Outcome.{Outcome, OneOrOutOfMemory}
+use Rattle.std.proofs.Common.{◌≡◌, ◌≢◌, ℕ, true, false, List, Option, Ok, Err, refl, sym, subst}
+use Rattle.qs_terms.specs.Outcome.{Outcome}
 use Rattle.qs_terms.specs.Statement.{Statement, same_graph}
 use Rattle.qs_terms.specs.declared.fault.QFault.{QFault}
+use Rattle.qs_terms.specs.declared.fault.QFault.TheVariants.{Memory}
 use Rattle.qs_terms.specs.declared.term.Term.{Term}
 use Rattle.qs_syntax_ast.specs.declared.term.Variable.{Variable}
 use Rattle.qs_syntax_ast.specs.declared.update.Modify.{Modify}
@@ -48,16 +49,15 @@ module _ (max_rows : ℕ) (held : Held) where
 
   -- what an operation with a WHERE does with its own variables
   pub deleted : (variables : List Variable) (blocks : List QuadBlock) (outcome : Outcome Effect) → variables ≡ operation_variables (operation.DeleteWhere blocks)
-      → OneOrOutOfMemory (IsDeletedWhere max_rows variables held.default_graph blocks held.draft.quads held.draft.next) outcome → OneOrOutOfMemory (Does (operation.DeleteWhere blocks)) outcome
-  deleted variables blocks outcome e h =
-      subst (λ (v : List Variable). OneOrOutOfMemory (IsDeletedWhere max_rows v held.default_graph blocks held.draft.quads held.draft.next) outcome) e h
+      → IsDeletedWhere max_rows variables held.default_graph blocks held.draft.quads held.draft.next outcome → Does (operation.DeleteWhere blocks) outcome
+  deleted variables blocks outcome e h = subst (λ (v : List Variable). IsDeletedWhere max_rows v held.default_graph blocks held.draft.quads held.draft.next outcome) e h
 
   pub changed : (variables : List Variable) (m : Modify) (outcome : Outcome Effect) → variables ≡ operation_variables (operation.Modify m)
-      → OneOrOutOfMemory (IsModifiedWhere max_rows variables held.default_graph m held.draft.quads held.draft.next) outcome → OneOrOutOfMemory (Does (operation.Modify m)) outcome
-  changed variables m outcome e h = subst (λ (v : List Variable). OneOrOutOfMemory (IsModifiedWhere max_rows v held.default_graph m held.draft.quads held.draft.next) outcome) e h
+      → IsModifiedWhere max_rows variables held.default_graph m held.draft.quads held.draft.next outcome → Does (operation.Modify m) outcome
+  changed variables m outcome e h = subst (λ (v : List Variable). IsModifiedWhere max_rows v held.default_graph m held.draft.quads held.draft.next outcome) e h
 
   -- or the fault that is due is told
-  pub refused : (o : Operation) (f : QFault) (new : Content) → OneOrOutOfMemory (Does o) (Err f) → Becomes o (Err f) new
+  pub refused : (o : Operation) (f : QFault) (new : Content) → (f ≢ Memory → Does o (Err f)) → Becomes o (Err f) new
   refused o f new e = λ n. (held.draft.quads, same, (Err f, e n, refl))
 
   -- the same operation does the same

@@ -1,14 +1,18 @@
 -- Operations over a draft, one after another.
-use Rattle.std.proofs.Common.{◌≡◌, ◌≤◌, ℕ, List, [], ◌∷◌, ◌++◌, length, take, drop, Ok, Err, refl, subst, ap, ◌∙◌}
+use Rattle.std.proofs.Common.{◌≡◌, ◌≤◌, ℕ, List, [], ◌∷◌, ◌++◌, length, take, drop, Ok, Err, refl, sym, subst, ap, ◌∙◌}
 use Rattle.std.proofs.lemmas.List.{take-append-drop}
+use Rattle.std.specs.List.{flat_map}
+use Rattle.std.proofs.lemmas.List.Sorted.{IsPermutation-refl}
 use Rattle.qs_terms.specs.Outcome.{Outcome}
 use Rattle.qs_terms.specs.Statement.{Statement}
 use Rattle.qs_terms.specs.declared.fault.QFault.{QFault}
+use Rattle.qs_terms.specs.declared.term.Term.{Term}
 use Rattle.qs_syntax_ast.specs.declared.update.Operation.{Operation}
-use Rattle.qs_store.specs.Change.{IsChanged, KnowsTermsOf, with_terms_of}
+use Rattle.qs_store.specs.Change.{IsChanged, KnowsTermsOf, terms_of, with_terms_of}
 use Rattle.qs_store.specs.Content.{Content, Held}
 use Rattle.qs_store.specs.Same.{SameSet}
 use Rattle.qs_store.specs.declared.default_graph.DefaultGraph.{DefaultGraph}
+use Rattle.qs_store.proofs.Terms.{front_take, front_terms}
 use Rattle.qs_update.specs.inner.Carried.{Remaining}
 use Rattle.qs_update.specs.Outcome.{IsSameContent}
 use Rattle.qs_update.specs.Request.{Bounds, bounds_of, IsApplied, IsOperation, AreOperations, IsBehind}
@@ -25,6 +29,14 @@ applied limit old new e removed added r a room quads next known = record {
   next = next;
   known = subst (λ (l : List Statement). KnowsTermsOf old.known l new.known) a known;
 }
+
+-- the new terms in the order in which they stand
+pub known_in_turn : (old : List Term) (quads : List Statement) (new : List Term) → new ≡ with_terms_of old quads → KnowsTermsOf old quads new
+known_in_turn old quads new e =
+    subst (KnowsTermsOf old quads) (sym e) record {
+      front = front_take old (with_terms_of old quads) (front_terms old (flat_map terms_of quads));
+      same = IsPermutation-refl (with_terms_of old quads);
+    }
 
 module _ (bounds : Bounds) where
   -- ---- one after another

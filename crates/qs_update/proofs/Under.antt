@@ -1,57 +1,73 @@
 -- What templates do under all solutions of a WHERE.
-use Rattle.std.proofs.Common.{◌≡◌, ℕ, Bool, List, Option, Ok, Err, sym, ap, subst, inl, inr}
-use Rattle.qs_terms.specs.Bag.{SameBag}
-use Rattle.qs_terms.specs.Outcome.{Outcome, OrOutOfMemory, OneOrOutOfMemory}
+use Rattle.std.proofs.Common.{◌≡◌, ◌≢◌, ℕ, Bool, true, false, nat_lt, List, length, map, Option, Ok, Err, IfOk, refl, sym, ap, subst, inl, inr, arith}
+use Rattle.std.proofs.lemmas.List.{length-map}
+use Rattle.std.proofs.lemmas.List.Sorted.{length_permutation}
+use Rattle.qs_terms.specs.Outcome.{Outcome}
 use Rattle.qs_terms.specs.Statement.{Statement}
 use Rattle.qs_terms.specs.declared.fault.QFault.{QFault}
-use Rattle.qs_terms.specs.declared.fault.QFault.TheVariants.{TooManyRows}
+use Rattle.qs_terms.specs.declared.fault.QFault.TheVariants.{Full, Memory}
 use Rattle.qs_terms.specs.declared.term.Term.{Term}
 use Rattle.qs_algebra_solutions.specs.Solution.{Solution}
-use Rattle.qs_algebra_solutions.specs.declared.answer.Answer.TheVariants.{Solutions, Truth, Graph}
-use Rattle.qs_query_template.specs.declared.template.Template.{Template}
 use Rattle.qs_algebra_patterns.specs.declared.named_pattern.Pattern.{Pattern}
+use Rattle.qs_expr.specs.Cell.{row_solution}
+use Rattle.qs_query_solutions.specs.declared.cell_rows.CellRows.{CellRows}
+use Rattle.qs_query_solutions.specs.inner.CellRows.{AreAllCells}
+use Rattle.qs_query_template.specs.Instances.{instances, next_after, within}
+use Rattle.qs_query_template.specs.declared.template.Template.{Template}
+use Rattle.qs_store.specs.Content.{Content}
 use Rattle.qs_store.specs.declared.default_graph.DefaultGraph.{DefaultGraph}
-use Rattle.qs_query_forms.specs.Outcome.{IsAllSolutions}
-use Rattle.qs_update.specs.Effect.{solutions, modified, IsModified}
-use Rattle.qs_update.specs.inner.Rows.{AreAllRows}
+use Rattle.qs_update.specs.Effect.{solutions, deletion, modified, IsModified}
+use Rattle.qs_update.specs.Request.{IsCarriedOut}
+use Rattle.qs_update.specs.inner.Carried.{BecomesOne}
+use Rattle.qs_update.specs.inner.Lawful.{IsLawful}
 use Rattle.qs_update.specs.declared.effect.Effect.{Effect}
 
-module _ (max_rows : ℕ) (delete insert : Template) (next : ℕ) (all : List Solution) where
-  from_rows : (rows : List Solution) (outcome : Outcome Effect) → AreAllRows max_rows all (Ok rows) → modified delete insert next rows ≡ outcome → IsModified max_rows delete insert next all outcome
-  from_rows rows outcome (inl x) e = absurd (let k : Ok rows ≡ Err TooManyRows = x.1 in cc)
-  from_rows rows outcome (inr x) e =
-      let k : Ok rows ≡ Ok x.1 = x.3 in
-      let r : x.1 ≡ rows = cc in
-      inr (x.0, rows, subst (λ (l : List Solution). SameBag l all) r x.2, sym e)
+-- the solutions of rows of cells
+abbrev pub denoted_by : List Term → CellRows → List Solution
+denoted_by known found = map (row_solution known found.scratch) found.rows.items
 
-  pub under : (rows : List Solution) (result : Outcome Effect) → OneOrOutOfMemory (AreAllRows max_rows all) (Ok rows) → OrOutOfMemory (modified delete insert next rows) result → OneOrOutOfMemory (IsModified max_rows delete insert next all) result
-  under rows (Ok e) h due = from_rows rows (Ok e) h due
-  under rows (Err f) h due = λ n. from_rows rows (Err f) h (due n)
+module _ (max_rows : ℕ) (delete insert : Template) (next : ℕ) (known : List Term) (all : List Solution) where
+  -- under the rows that were found
+  pub under : (found : CellRows) → AreAllCells max_rows known all (Ok found) → IsModified max_rows delete insert next all (modified delete insert next (denoted_by known found))
+  under found h =
+      let rows = denoted_by known found in
+      let count : length all ≡ length rows = length_permutation rows all h.1.same in
+      let own : length rows ≡ length found.rows.items = length-map found.rows.items (row_solution known found.scratch) in
+      inr (omega (arith, count, own, h.1.few), rows, h.1.same, refl)
 
-  by_fault : (f : QFault) → AreAllRows max_rows all (Err f) → IsModified max_rows delete insert next all (Err f)
-  by_fault f (inl x) = inl (x.0, let e : f ≡ TooManyRows = (let k : Err f ≡ Err TooManyRows = x.1 in cc) in ap Err e)
-  by_fault f (inr x) = absurd (let k : Err f ≡ Ok x.1 = x.3 in cc)
-
-  pub not_under : (f : QFault) → OneOrOutOfMemory (AreAllRows max_rows all) (Err f) → OneOrOutOfMemory (IsModified max_rows delete insert next all) (Err f)
-  not_under f h = λ n. by_fault f (h n)
-
--- what the same templates do under the same solutions
-pub same_effect : (a b c d : Template) (next : ℕ) (r s : List Solution) (result : Outcome Effect) → a ≡ b → c ≡ d → r ≡ s → OrOutOfMemory (modified a c next r) result → OrOutOfMemory (modified b d next s) result
-same_effect a b c d next r s result e f g h =
-    subst (λ (z : List Solution). OrOutOfMemory (modified b d next z) result) g
-    (subst (λ (y : Template). OrOutOfMemory (modified b y next r) result) f (subst (λ (x : Template). OrOutOfMemory (modified x c next r) result) e h))
+  -- or the fault that is due
+  pub not_under : (f : QFault) → AreAllCells max_rows known all (Err f) → f ≢ Memory → IsModified max_rows delete insert next all (Err f)
+  not_under f h n = let k = h n in inl (k.1, ap Err k.0)
 
 -- the solutions of the same pattern
-pub same_rows : (max_rows : ℕ) (p q : Pattern) (default : DefaultGraph) (name : Option Term) (quads : List Statement) (result : Outcome (List Solution)) → p ≡ q
-    → OneOrOutOfMemory (AreAllRows max_rows (solutions p default name quads)) result → OneOrOutOfMemory (AreAllRows max_rows (solutions q default name quads)) result
-same_rows max_rows p q default name quads result e h = subst (λ (x : Pattern). OneOrOutOfMemory (AreAllRows max_rows (solutions x default name quads)) result) e h
+pub same_cells : (max_rows : ℕ) (known : List Term) (p q : Pattern) (default : DefaultGraph) (name : Option Term) (quads : List Statement) (result : Outcome CellRows) → p ≡ q
+    → AreAllCells max_rows known (solutions p default name quads) result → AreAllCells max_rows known (solutions q default name quads) result
+same_cells max_rows known p q default name quads result e h = subst (λ (x : Pattern). AreAllCells max_rows known (solutions x default name quads) result) e h
 
--- all solutions are answered by solutions, in no other form
-module _ (p : Pattern) (all : List Solution) (max_rows : ℕ) where
-  pub no_truth : (b : Bool) → OneOrOutOfMemory (IsAllSolutions p all max_rows) (Ok (Truth b)) → ⊥
-  no_truth b (inl x) = let k : Ok (Truth b) ≡ Err TooManyRows = x.1 in cc
-  no_truth b (inr x) = let k : Ok (Truth b) ≡ Ok (Solutions p.names x.1) = x.3 in cc
+-- ---- by whether the numbers of blank nodes suffice
 
-  pub no_graph : (quads : List Statement) → OneOrOutOfMemory (IsAllSolutions p all max_rows) (Ok (Graph quads)) → ⊥
-  no_graph quads (inl x) = let k : Ok (Graph quads) ≡ Err TooManyRows = x.1 in cc
-  no_graph quads (inr x) = let k : Ok (Graph quads) ≡ Ok (Solutions p.names x.1) = x.3 in cc
+module _ (delete insert : Template) (next : ℕ) (rows : List Solution) where
+  abbrev After : ℕ
+  After = next_after insert next (length rows)
+
+  abbrev pub change : Effect
+  change = record { removed = instances (deletion delete) next rows; added = instances insert next rows; next = After }
+
+  pub enough : (after : ℕ) → Ok after ≡ within After After → (modified delete insert next rows ≡ Ok change) × (after ≡ After)
+  enough after e = by (nat_lt 18446744073709551615 After) refl
+    where
+      by : (b : Bool) → nat_lt 18446744073709551615 After ≡ b → (modified delete insert next rows ≡ Ok change) × (after ≡ After)
+      by true q = absurd (let k : Ok after ≡ Err Full = rw q at e in cc)
+      by false q = (rw q refl, let k : Ok after ≡ Ok After = rw q at e in cc)
+
+-- ---- the same templates
+
+module _ (a b c d : Template) (next : ℕ) (rows : List Solution) (e : a ≡ b) (f : c ≡ d) where
+  same_modified : modified a c next rows ≡ modified b d next rows
+  same_modified = rw (e, f) refl
+
+  pub same_becomes : (limit : ℕ) (old : Content) (result : Outcome (Unit {0})) (new : Content) → BecomesOne (IsCarriedOut limit old (modified a c next rows)) result new → BecomesOne (IsCarriedOut limit old (modified b d next rows)) result new
+  same_becomes limit old result new h = subst (λ (x : Outcome Effect). BecomesOne (IsCarriedOut limit old x) result new) same_modified h
+
+  pub still_lawful : IfOk (modified b d next rows) (IsLawful next) → IfOk (modified a c next rows) (IsLawful next)
+  still_lawful h = subst (λ (x : Outcome Effect). IfOk x (IsLawful next)) (sym same_modified) h

@@ -14,7 +14,7 @@ ghost use Rattle.qs_update.specs.Request.{bounds_of, IsOperation, AreOperations}
 use crate::carried::apply_operation;
 use crate::data::data_run;
 use crate::lawful::effects_are_lawful;
-use crate::modified::{deleted_where, modified_where};
+use crate::modified::{change_by, deleted_rows, where_rows};
 use crate::whole_graphs::{clear, create, transfer};
 use qs_store::{Draft, Removal};
 use qs_syntax_ast::term::Variable;
@@ -53,8 +53,8 @@ fn delete_where(
 {
     effects_are_lawful();
     next_blank(draft);
-    let effect = deleted_where(alloc, variables, blocks, draft, max_rows)?;
-    apply_operation(draft, &effect)
+    let found = deleted_rows(alloc, variables, blocks, draft, max_rows)?;
+    change_by(alloc, variables, &None, blocks, &[], draft, &found)
 }
 
 // DELETE and INSERT with a WHERE, and their variables.
@@ -75,8 +75,16 @@ fn modify_where(
 {
     effects_are_lawful();
     next_blank(draft);
-    let effect = modified_where(alloc, variables, modify, draft, max_rows)?;
-    apply_operation(draft, &effect)
+    let found = where_rows(alloc, variables, modify, draft, max_rows)?;
+    change_by(
+        alloc,
+        variables,
+        &modify.with,
+        modify.delete.as_slice(),
+        modify.insert.as_slice(),
+        draft,
+        &found,
+    )
 }
 
 // An operation that isn't INSERT DATA or DELETE DATA. Only one with a WHERE has variables, so they are listed for no other.

@@ -1,4 +1,4 @@
--- What serves proofs alone: no promise of the product is read by it.
+-- What proofs and the layers above read: the definitions of the headline cite none of it.
 pub mod JobResult
 pub mod Load
 pub mod Replay
