@@ -4,7 +4,7 @@ use Rattle.std.specs.List.{insert, remove}
 use Rattle.std.proofs.lemmas.List.{length-set, take-append-drop, drop-append-le, drop-drop, drop_at, length-take-le, get_or_at, get_or-drop}
 use Rattle.std.proofs.lemmas.List.Edits.{length-insert}
 use Rattle.std.proofs.lemmas.List.Elements.{All-head, All-tail}
-use Rattle.qs_index.specs.Layout.{joined, page_at, rest_at, split_at, over, first_page, room_of, HasPageSizes, IsPageSize}
+use Rattle.qs_index.specs.Layout.{joined, page_at, rest_at, split_at, over, first_page, room_of, open_room_of, HasPageSizes, IsPageSize}
 use Rattle.qs_index.proofs.Places.{joined-append, joined-at}
 
 abbrev Pages' : Type 0
@@ -86,14 +86,14 @@ spare_for_split pages spare m h e r = let b = over-at pages m h in omega arith
 pub spare_for_first : (spare : ℕ) → 0 < room_of [] spare → 0 < spare
 spare_for_first spare r = omega arith
 
-pub room_split : (pages : Pages') (spare less m : ℕ) → m < length pages → length (page_at pages m) ≡ 256 → less + 1 ≡ spare → room_of (split_at pages m) less ≡ room_of pages spare
+pub room_split : (pages : Pages') (spare less m : ℕ) → m < length pages → length (page_at pages m) ≡ 256 → less + 1 ≡ spare → room_of pages spare ≤ open_room_of (split_at pages m) less
 room_split pages spare less m h e s =
     let a = over-split pages m h e in
     let f = first_page_none pages m h in
     let g = first_page_none (split_at pages m) m (let l = length-split pages m h in omega arith) in
     omega arith
 
-pub room_put : (pages : Pages') (spare m k : ℕ) (x : List ℕ) → m < length pages → k ≤ length (page_at pages m) → room_of pages spare ≤ room_of (set pages m (insert (page_at pages m) k x)) spare + 1
+pub room_put : (pages : Pages') (spare m k : ℕ) (x : List ℕ) → m < length pages → k ≤ length (page_at pages m) → open_room_of pages spare ≤ room_of (set pages m (insert (page_at pages m) k x)) spare + 1
 room_put pages spare m k x h l =
     let a = over-set pages m (insert (page_at pages m) k x) h in
     let n = length-insert (page_at pages m) k x l in
@@ -107,8 +107,8 @@ room_first spare less x s = omega arith
 pub room_kept : (pages : Pages') (spare more : ℕ) → spare ≤ more → room_of pages spare ≤ room_of pages more
 room_kept pages spare more h = omega arith
 
-pub room_made : (pages : Pages') (n wanted spare : ℕ) → over pages + first_page pages + (n + 127) < (wanted + 1) * 128 → wanted ≤ spare → n ≤ room_of pages spare
-room_made pages n wanted spare h l = omega arith
+pub room_made : (pages : Pages') (n splits spare : ℕ) → over pages + first_page pages + (n + 127) < (splits + 1) * 128 → splits ≤ spare → n ≤ room_of pages spare
+room_made pages n splits spare h l = omega arith
 
 pub over_few : (pages : Pages') → HasPageSizes pages → over pages ≤ 128 * length pages
 over_few [] u = omega arith

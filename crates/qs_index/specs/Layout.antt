@@ -1,5 +1,5 @@
 -- How an order lies in pages, and for how many inserts the pages set aside suffice.
-use Rattle.std.specs.Prelude.{min, ℕ, ◌+◌, ◌<◌, ◌≤◌, ◌≡◌, ◌-◌, ◌*◌, List, [], ◌∷◌, ◌++◌, length, drop, take, slice_index_or}
+use Rattle.std.specs.Prelude.{min, max, ℕ, ◌+◌, ◌<◌, ◌≤◌, ◌≡◌, ◌-◌, ◌*◌, List, [], ◌∷◌, ◌++◌, length, drop, take, slice_index_or}
 use Rattle.std.specs.List.{All}
 
 -- an order: its pages, and how many pages are set aside
@@ -68,9 +68,13 @@ abbrev pub first_page : List (List (List ℕ)) → ℕ
 first_page [] = 128
 first_page (page ∷ pages) = 0
 
--- how many inserts the pages set aside suffice for
+-- how many inserts the pages set aside suffice for: an insert takes one at most, and one that takes a page splits a full one in halves
 abbrev pub room_of : List (List (List ℕ)) → ℕ → ℕ
-room_of pages spare = 128 * spare - (over pages + first_page pages)
+room_of pages spare = max spare (128 * spare - (over pages + first_page pages))
+
+-- the same, where the first of the inserts finds a page that isn't full
+abbrev pub open_room_of : List (List (List ℕ)) → ℕ → ℕ
+open_room_of pages spare = max (spare + 1) (128 * spare - (over pages + first_page pages))
 
 -- how much of the room the pages have used up, where all but the last are full, and what the last one has room for below its half
 abbrev pub used_of : List (List (List ℕ)) → ℕ

@@ -93,6 +93,16 @@ impl Index {
         self.named.reserve(named)
     }
 
+    /// Gives back the memory that is set aside for inserts.
+    pub fn release(&mut self)
+        ensures entries { self.new.entries ≡ self.old.entries }
+    {
+        self.gspo.release();
+        self.gpos.release();
+        self.gosp.release();
+        self.named.release();
+    }
+
     /// Puts an entry in, and tells whether it is new. It takes no memory, and asks that there is room for an entry of any graph.
     pub fn insert(&mut self, entry: [u32; 4]) -> bool
         requires { 0 < spare_of self.old }

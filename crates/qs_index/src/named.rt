@@ -58,6 +58,15 @@ impl Named {
         self.ospg.reserve(n)
     }
 
+    /// Gives back the memory that is set aside for inserts.
+    pub fn release(&mut self)
+        ensures { (xs : List (List ℕ)) → AreNamedOf xs self.old → AreNamedOf xs self.new }
+    {
+        self.spog.release();
+        self.posg.release();
+        self.ospg.release();
+    }
+
     /// How many entries there are in each order.
     pub fn len(&self) -> u128
         ensures count { result ≡ length self.now.by_subject }

@@ -3,7 +3,7 @@ ghost use Rattle.std.specs.Prelude.{◌≡◌, ℕ, ◌+◌, ◌-◌, ◌<◌, �
 ghost use Rattle.std.specs.Bool.{OnTrue, OnFalse};
 ghost use Rattle.std.specs.Result.{OnOk};
 ghost use Rattle.std.specs.List.{Contains};
-ghost use Rattle.qs_index.specs.Layout.{Layout, joined, page_at, rest_at, room_of};
+ghost use Rattle.qs_index.specs.Layout.{Layout, joined, open_room_of, page_at, rest_at, room_of};
 ghost use Rattle.qs_index.specs.Entries.{Entries, IsUnion, IsDifference, IsOrdered};
 ghost use Rattle.qs_index.specs.Entry.{IsAscending, skip_before, with_entry, without_entry, beginning};
 ghost use Rattle.qs_index.specs.Permutation.{turned};
@@ -25,7 +25,7 @@ fn put_before(pages: &mut Pages, place: PagePosition, entry: [u32; 4])
     requires free { length (page_at pages.old.pages place.page) < 256 }
     requires before { rest_at pages.old.pages place.page place.at ≡ skip_before entry (joined pages.old.pages) }
     ensures entries { joined pages.new.pages ≡ with_entry entry (joined pages.old.pages) }
-    ensures room { room_of pages.old.pages pages.old.spare ≤ room_of pages.new.pages pages.new.spare + 1 }
+    ensures room { open_room_of pages.old.pages pages.old.spare ≤ room_of pages.new.pages pages.new.spare + 1 }
 {
     pages.put(place, entry);
 }
@@ -40,7 +40,7 @@ fn make_room(pages: &mut Pages, place: PagePosition) -> PagePosition
     ensures free { length (page_at pages.new.pages result.page) < 256 }
     ensures rest { rest_at pages.new.pages result.page result.at ≡ rest_at pages.old.pages place.page place.at }
     ensures entries { joined pages.new.pages ≡ joined pages.old.pages }
-    ensures room { room_of pages.new.pages pages.new.spare ≡ room_of pages.old.pages pages.old.spare }
+    ensures room { room_of pages.old.pages pages.old.spare ≤ open_room_of pages.new.pages pages.new.spare }
 {
     let _count = pages.len();
     if pages.page_len(place.page) < PAGE {
@@ -127,7 +127,8 @@ impl Order {
         }
     }
 
-    /// Makes room for `n` inserts. Where there are none, nothing is set aside.
+    /// Makes room for `n` inserts: a page for each, or for as many as the pages that there are can be split into, where these are fewer.
+    /// Where there are none, nothing is set aside.
     pub fn reserve(&mut self, n: u64) -> Result<(), AllocError>
         ensures entries { self.new.entries ≡ self.old.entries }
         ensures kept { self.old.spare ≤ self.new.spare }
@@ -138,9 +139,17 @@ impl Order {
             return Ok(());
         }
         let due = self.pages.due();
-        let wanted = due.checked_add(n as u128 + 127).ok_or(AllocError)? / 128;
+        let splits = due.checked_add(n as u128 + 127).ok_or(AllocError)? / 128;
+        let wanted = if splits < n as u128 { splits } else { n as u128 };
         let wanted = usize::try_from(wanted).map_err(|_| AllocError)?;
         self.pages.set_aside(wanted)
+    }
+
+    /// Gives back the pages that are set aside.
+    pub fn release(&mut self)
+        ensures entries { self.new.entries ≡ self.old.entries }
+    {
+        self.pages.release();
     }
 
     // Puts an entry in its place, looked for from an earlier place on.

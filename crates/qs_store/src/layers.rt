@@ -647,8 +647,8 @@ impl Layers {
         self.batch = Vec::new(self.alloc);
     }
 
-    /// Makes the draft's entries those of the store, and puts these in, too, which it leaves in some order. Where it is refused the
-    /// store and the draft stay as they were.
+    /// Makes the draft's entries those of the store, and puts these in, too, which it leaves in some order. No room is left set aside in
+    /// the store's index. Where it is refused the store and the draft stay as they were.
     pub fn settle_with(&mut self, entries: &mut [[u32; 4]]) -> Result<(), AllocError>
         ensures base { OnOk result (IsChanged self.old.draft [] entries.old self.new.base) }
         ensures draft { OnOk result (self.new.draft ≡ self.new.base) }
@@ -658,6 +658,7 @@ impl Layers {
         let batch = self.batch.as_mut_slice();
         match put_together(&mut self.index, &self.removed, &self.added, batch, entries) {
             Ok(()) => {
+                self.index.release();
                 set(&mut self.removed, Index::new(self.alloc));
                 set(&mut self.added, Index::new(self.alloc));
                 set(&mut self.emptied, Emptied::new(self.alloc));

@@ -1,5 +1,5 @@
-use Rattle.std.proofs.Common.{◌≡◌, ◌+◌, ◌-◌, length, length-take, length-drop, ap, ◌∙◌, arith}
-use Rattle.qs_index.specs.Layout.{joined, page_at, rest_at, room_of}
+use Rattle.std.proofs.Common.{◌≡◌, ◌+◌, ◌-◌, length, length-take, length-drop, ap, sym, subst, ◌∙◌, arith, ◌≤◌}
+use Rattle.qs_index.specs.Layout.{joined, page_at, rest_at, room_of, open_room_of}
 use Rattle.qs_index.proofs.Spares.{page_split_low, page_split_high, rest_split_low, rest_split_high, joined-split, room_split}
 use Rattle.qs_index.proofs.order.make_room.Goals as goal
 
@@ -23,7 +23,7 @@ returns-then-place-le-HALF-clause-entries c =
 
 pub returns-then-place-le-HALF-clause-room : goal.returns-then-place-le-HALF-clause-room
 returns-then-place-le-HALF-clause-room c =
-    ap (λ r. room_of r c.split.new.self.spare) c.split.ensures.pages ∙ room_split c.args.pages.now.pages c.args.pages.now.spare c.split.new.self.spare c.args.place.page c.requires.page (omega (arith, c.if-page_len-lt-PAGE.false, c.page_len.ensures.len, c.page_len.ensures.size.1)) c.split.ensures.spare
+    subst (λ r. room_of c.args.pages.now.pages c.args.pages.now.spare ≤ open_room_of r c.split.new.self.spare) (sym c.split.ensures.pages) (room_split c.args.pages.now.pages c.args.pages.now.spare c.split.new.self.spare c.args.place.page c.requires.page (omega (arith, c.if-page_len-lt-PAGE.false, c.page_len.ensures.len, c.page_len.ensures.size.1)) c.split.ensures.spare)
 
 pub returns-clause-at : goal.returns-clause-at
 returns-clause-at c =
@@ -46,4 +46,4 @@ returns-clause-entries c =
 
 pub returns-clause-room : goal.returns-clause-room
 returns-clause-room c =
-    ap (λ r. room_of r c.split.new.self.spare) c.split.ensures.pages ∙ room_split c.args.pages.now.pages c.args.pages.now.spare c.split.new.self.spare c.args.place.page c.requires.page (omega (arith, c.if-page_len-lt-PAGE.false, c.page_len.ensures.len, c.page_len.ensures.size.1)) c.split.ensures.spare
+    subst (λ r. room_of c.args.pages.now.pages c.args.pages.now.spare ≤ open_room_of r c.split.new.self.spare) (sym c.split.ensures.pages) (room_split c.args.pages.now.pages c.args.pages.now.spare c.split.new.self.spare c.args.place.page c.requires.page (omega (arith, c.if-page_len-lt-PAGE.false, c.page_len.ensures.len, c.page_len.ensures.size.1)) c.split.ensures.spare)
