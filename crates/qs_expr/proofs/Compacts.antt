@@ -5,8 +5,8 @@ use Rattle.std.proofs.Math.ListN.{set}
 use Rattle.qs_expr.specs.declared.compact.CompactCell.{CompactCell}
 use Rattle.qs_expr.specs.declared.compact.CompactCell.TheVariants.{Unbound}
 use Rattle.qs_expr.specs.declared.cell.Cell.{Cell}
-use Rattle.qs_expr.specs.Cell.{Cells, cell_at}
-use Rattle.qs_expr.specs.Row.{no_cells, agree, compatible_cells, first_cell, merged_cells}
+use Rattle.qs_expr.specs.inner.Cell.{Cells, cell_at}
+use Rattle.qs_expr.specs.inner.Row.{no_cells, agree, compatible_cells, first_cell, merged_cells}
 use Rattle.qs_expr.specs.inner.Compact.{cell_of, cells_of}
 use Rattle.qs_expr.proofs.Rows.{compatible_step, put}
 

@@ -14,8 +14,8 @@ use Rattle.qs_dict.specs.Dict.{IsInUse, term_at}
 use Rattle.qs_dict.proofs.Numbers.{exact_number}
 use Rattle.qs_expr.specs.declared.cell.Cell.{Cell}
 use Rattle.qs_expr.specs.declared.cell.Cell.TheVariants.{Known, Scratch}
-use Rattle.qs_expr.specs.Cell.{same_cell, denoted, FitsCell}
-use Rattle.qs_expr.specs.Scratch.{IsTable}
+use Rattle.qs_expr.specs.inner.Cell.{same_cell, denoted, FitsCell}
+use Rattle.qs_expr.specs.inner.Scratch.{IsTable}
 
 pub term_there : (x : Option Term) → is_some x ≡ true → (t : Term) × (x ≡ Some t)
 term_there None h = let f : false ≡ true = h in cc

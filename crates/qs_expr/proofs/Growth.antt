@@ -5,8 +5,8 @@ use Rattle.std.proofs.lemmas.Option.{none-some}
 use Rattle.qs_terms.specs.declared.term.Term.{Term}
 use Rattle.qs_expr.specs.declared.cell.Cell.{Cell}
 use Rattle.qs_expr.specs.declared.cell.Cell.TheVariants.{Known, Scratch}
-use Rattle.qs_expr.specs.Cell.{Cells, denoted, denoted_if, row_solution, FitsCell, FitsRow}
-use Rattle.qs_expr.specs.Scratch.{IsTable, Grows}
+use Rattle.qs_expr.specs.inner.Cell.{Cells, denoted, denoted_if, row_solution, FitsCell, FitsRow}
+use Rattle.qs_expr.specs.inner.Scratch.{IsTable, Grows}
 use Rattle.qs_expr.proofs.Finding.{term_there}
 use Rattle.qs_expr.proofs.Rows.{fits_first, fits_rest}
 

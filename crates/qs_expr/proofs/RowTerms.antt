@@ -14,8 +14,8 @@ use Rattle.qs_expr_meaning.specs.declared.expr.Expr.{Expr}
 use Rattle.qs_expr_meaning.specs.declared.expr.Expr.TheVariants as expr
 use Rattle.qs_expr_meaning.proofs.Equations.{variable_is}
 use Rattle.qs_expr.specs.declared.cell.Cell.{Cell}
-use Rattle.qs_expr.specs.Cell.{Cells, cell_at, denoted, denoted_if, row_solution, FitsRow}
-use Rattle.qs_expr.specs.Evaluated.{IsDue}
+use Rattle.qs_expr.specs.inner.Cell.{Cells, cell_at, denoted, denoted_if, row_solution, FitsRow}
+use Rattle.qs_expr.specs.inner.Evaluated.{IsDue}
 use Rattle.qs_expr.specs.inner.Against.{has_term}
 use Rattle.qs_expr.proofs.Finding.{term_there}
 

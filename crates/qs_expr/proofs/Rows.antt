@@ -4,9 +4,9 @@ use Rattle.std.specs.Option.{is_some}
 use Rattle.qs_terms.specs.declared.term.Term.{Term}
 use Rattle.qs_algebra_solutions.specs.Solution.{compatible_terms, compatible, first_bound, merge, unbound}
 use Rattle.qs_expr.specs.declared.cell.Cell.{Cell}
-use Rattle.qs_expr.specs.Cell.{Cells, cell_at, denoted, denoted_if, row_solution, FitsRow}
-use Rattle.qs_expr.specs.Row.{no_cells, agree, compatible_cells, first_cell, merged_cells}
-use Rattle.qs_expr.specs.Scratch.{IsTable}
+use Rattle.qs_expr.specs.inner.Cell.{Cells, cell_at, denoted, denoted_if, row_solution, FitsRow}
+use Rattle.qs_expr.specs.inner.Row.{no_cells, agree, compatible_cells, first_cell, merged_cells}
+use Rattle.qs_expr.specs.inner.Scratch.{IsTable}
 use Rattle.qs_expr.proofs.Finding.{same_cells, term_there}
 
 -- ---- no cells

@@ -13,7 +13,7 @@ use Rattle.qs_expr_meaning.specs.declared.expr.Expr.{Expr}
 use Rattle.qs_expr_meaning.specs.declared.expr.Expr.TheVariants as expr
 use Rattle.qs_expr_meaning.proofs.Equations.{and_is, and_makes}
 use Rattle.qs_expr_meaning.proofs.Truths.{truth_of}
-use Rattle.qs_expr.specs.Condition.{AreNumbersOf}
+use Rattle.qs_expr.specs.inner.Condition.{AreNumbersOf}
 use Rattle.qs_expr.specs.declared.part.Part.{Part}
 use Rattle.qs_expr.specs.declared.part.Part.TheVariants.{Has, Alike, Against, Other}
 use Rattle.qs_expr.specs.inner.Parts.{all_hold, asked, number_in, numbers_of, some_make, IsNumbered}

@@ -1,8 +1,8 @@
 //! Cells.
 
 ghost use Rattle.std.specs.Prelude.{◌≡◌, ◌↔◌, IsTrue};
-ghost use Rattle.qs_expr.specs.Cell.{same_cell};
-ghost use Rattle.qs_expr.specs.Scratch.{TellsSameTerm};
+ghost use Rattle.qs_expr.specs.inner.Cell.{same_cell};
+ghost use Rattle.qs_expr.specs.inner.Scratch.{TellsSameTerm};
 
 /// What a row holds of a term.
 #[derive(Clone, Copy, Debug, PartialEq, Eq)]

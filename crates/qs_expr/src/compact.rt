@@ -1,8 +1,8 @@
 //! Cells as rows keep them: in half the memory of optional cells.
 
 ghost use Rattle.std.specs.Prelude.{◌≡◌, take, Some, IfOk};
-ghost use Rattle.qs_expr.specs.Cell.{cell_at};
-ghost use Rattle.qs_expr.specs.Row.{agree, compatible_cells, first_cell, merged_cells, no_cells};
+ghost use Rattle.qs_expr.specs.inner.Cell.{cell_at};
+ghost use Rattle.qs_expr.specs.inner.Row.{agree, compatible_cells, first_cell, merged_cells, no_cells};
 ghost use Rattle.qs_expr.specs.inner.Compact.{cell_of, cells_of};
 
 use crate::cell::{Cell, is_same};

@@ -2,10 +2,10 @@
 
 ghost use Rattle.std.specs.Prelude.{◌≡◌, true, IfOk, OnErr};
 ghost use Rattle.qs_expr_meaning.specs.Makes.{makes};
-ghost use Rattle.qs_expr.specs.Cell.{row_solution, FitsRow};
-ghost use Rattle.qs_expr.specs.Evaluated.{holds_at};
-ghost use Rattle.qs_expr.specs.Condition.{AreNumbersOf, IsPreparedFor};
-ghost use Rattle.qs_expr.specs.Scratch.{IsTable};
+ghost use Rattle.qs_expr.specs.inner.Cell.{row_solution, FitsRow};
+ghost use Rattle.qs_expr.specs.inner.Evaluated.{holds_at};
+ghost use Rattle.qs_expr.specs.inner.Condition.{AreNumbersOf, IsPreparedFor};
+ghost use Rattle.qs_expr.specs.inner.Scratch.{IsTable};
 ghost use Rattle.qs_expr.specs.inner.Parts.{all_hold, numbers_of, some_make};
 
 use crate::part::Part;
@@ -28,7 +28,7 @@ pub struct Condition<'e> {
 impl<'e> Model for Condition<'e> {
     ghost use Rattle.qs_expr_meaning.specs.contracts.expr.Expr as expr_type;
     ghost use Rattle.std.specs.Coded.{codes};
-    ghost use Rattle.qs_expr.specs.Condition.{Prepared};
+    ghost use Rattle.qs_expr.specs.inner.Condition.{Prepared};
 
     ghost Value = { Prepared };
 

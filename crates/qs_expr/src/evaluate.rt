@@ -5,9 +5,9 @@ ghost use Rattle.qs_expr_meaning.specs.Comes.{Comes};
 ghost use Rattle.qs_expr_meaning.specs.Makes.{makes};
 ghost use Rattle.qs_expr_meaning.specs.Meaning as spec;
 ghost use Rattle.qs_expr_values.specs.Sorting.{key_of, has_text};
-ghost use Rattle.qs_expr.specs.Cell.{denoted, denoted_if, FitsCell, FitsIf, FitsRow};
-ghost use Rattle.qs_expr.specs.Evaluated.{Evaluates, holds_at};
-ghost use Rattle.qs_expr.specs.Scratch.{IsTable, Grows};
+ghost use Rattle.qs_expr.specs.inner.Cell.{denoted, denoted_if, FitsCell, FitsIf, FitsRow};
+ghost use Rattle.qs_expr.specs.inner.Evaluated.{Evaluates, holds_at};
+ghost use Rattle.qs_expr.specs.inner.Scratch.{IsTable, Grows};
 
 use crate::cell::Cell;
 use crate::reading::Reading;

@@ -3,8 +3,8 @@
 ghost use Rattle.std.specs.Prelude.{◌≡◌, List};
 ghost use Rattle.qs_terms.specs.declared.term.Term.{Term as TermValue};
 ghost use Rattle.qs_expr.specs.declared.cell.Cell.{Cell as CellValue};
-ghost use Rattle.qs_expr.specs.Cell.{Cells, denoted, row_solution, FitsCell, FitsRow};
-ghost use Rattle.qs_expr.specs.Scratch.{IsTable, Grows};
+ghost use Rattle.qs_expr.specs.inner.Cell.{Cells, denoted, row_solution, FitsCell, FitsRow};
+ghost use Rattle.qs_expr.specs.inner.Scratch.{IsTable, Grows};
 
 /// A cell keeps its term while the table grows.
 #[tactic(auto, using(crate::proofs::Growth::still_fits, crate::proofs::Growth::still_same))]

@@ -7,9 +7,9 @@ ghost use Rattle.qs_dict.specs.Dict.{number_of};
 ghost use Rattle.qs_algebra_solutions.specs.Solution.{Solution, term_at};
 ghost use Rattle.qs_expr_meaning.specs.Makes.{makes};
 ghost use Rattle.qs_expr_meaning.specs.Meaning as spec;
-ghost use Rattle.qs_expr.specs.Cell.{denoted, FitsRow};
-ghost use Rattle.qs_expr.specs.Evaluated.{holds_at};
-ghost use Rattle.qs_expr.specs.Scratch.{IsTable};
+ghost use Rattle.qs_expr.specs.inner.Cell.{denoted, FitsRow};
+ghost use Rattle.qs_expr.specs.inner.Evaluated.{holds_at};
+ghost use Rattle.qs_expr.specs.inner.Scratch.{IsTable};
 ghost use Rattle.qs_expr.specs.declared.cell.Cell.TheVariants as cells;
 ghost use Rattle.qs_expr.specs.inner.Against.{has_term};
 
@@ -164,9 +164,9 @@ fn is_against<V: View>(
 impl<'e> Part<'e> {
     ghost use Rattle.std.specs.Prelude.{◌≡◌, true, IfOk, OnErr};
     ghost use Rattle.qs_expr_meaning.specs.Makes.{makes};
-    ghost use Rattle.qs_expr.specs.Cell.{FitsRow};
-    ghost use Rattle.qs_expr.specs.Evaluated.{holds_at};
-    ghost use Rattle.qs_expr.specs.Scratch.{IsTable};
+    ghost use Rattle.qs_expr.specs.inner.Cell.{FitsRow};
+    ghost use Rattle.qs_expr.specs.inner.Evaluated.{holds_at};
+    ghost use Rattle.qs_expr.specs.inner.Scratch.{IsTable};
     ghost use Rattle.qs_expr.specs.inner.Parts.{asked, IsNumbered};
 
     /// Whether the part is true of the row.

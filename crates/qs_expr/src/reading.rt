@@ -1,7 +1,7 @@
 //! Rows that give variables their terms.
 
 ghost use Rattle.std.specs.Prelude.{◌≡◌};
-ghost use Rattle.qs_expr.specs.Cell.{row_solution, FitsRow};
+ghost use Rattle.qs_expr.specs.inner.Cell.{row_solution, FitsRow};
 
 use crate::row::Row;
 use crate::scratch::{Scratch, term, value};
@@ -21,7 +21,7 @@ pub(crate) struct Reading<'r, V: View> {
 
 impl<'r, V: View> Model for Reading<'r, V> {
     ghost use Rattle.qs_algebra_solutions.specs.Solution.{Solution};
-    ghost use Rattle.qs_expr.specs.Cell.{row_solution, FitsRow};
+    ghost use Rattle.qs_expr.specs.inner.Cell.{row_solution, FitsRow};
 
     ghost Value = { Solution };
 

@@ -3,8 +3,8 @@
 ghost use Rattle.std.specs.Prelude.{◌≡◌, ◌<◌, length, List, IfOk, Some, slice_set, take};
 ghost use Rattle.qs_terms.specs.declared.term.Term.{Term as TermValue};
 ghost use Rattle.qs_algebra_solutions.specs.Solution.{unbound};
-ghost use Rattle.qs_expr.specs.Cell.{cell_at, row_solution, FitsRow};
-ghost use Rattle.qs_expr.specs.Row.{BindsTerm, BindsTermIf, FitsAsBoth, FitsFront, FitsWith, FitsWithIf, HasFront, MergesSolutions, TellsCompatible, compatible_cells, merged_cells, no_cells};
+ghost use Rattle.qs_expr.specs.inner.Cell.{cell_at, row_solution, FitsRow};
+ghost use Rattle.qs_expr.specs.inner.Row.{BindsTerm, BindsTermIf, FitsAsBoth, FitsFront, FitsWith, FitsWithIf, HasFront, MergesSolutions, TellsCompatible, compatible_cells, merged_cells, no_cells};
 
 use crate::cell::Cell;
 use crate::compact::{

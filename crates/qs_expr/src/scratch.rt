@@ -6,8 +6,8 @@ ghost use Rattle.qs_terms.specs.Bag.{with_new};
 ghost use Rattle.qs_terms.specs.Term.{same_term};
 ghost use Rattle.qs_expr_values.specs.inner.Value.{term_of};
 ghost use Rattle.qs_dict.specs.Dict.{IsInUse, term_at};
-ghost use Rattle.qs_expr.specs.Cell.{denoted, FitsCell};
-ghost use Rattle.qs_expr.specs.Scratch.{IsTable, Grows, with_term};
+ghost use Rattle.qs_expr.specs.inner.Cell.{denoted, FitsCell};
+ghost use Rattle.qs_expr.specs.inner.Scratch.{IsTable, Grows, with_term};
 
 use crate::cell::Cell;
 use indexmap::IndexSet;

@@ -2,7 +2,7 @@
 use Rattle.std.proofs.Common.{◌≡◌, ℕ, Bool, true, false, cond, List, [], ◌∷◌, ◌++◌, refl, ap, sym, arith}
 use Rattle.std.proofs.lemmas.Bool.{false≢true}
 use Rattle.std.proofs.lemmas.Bool.Decides.{nat_tests}
-use Rattle.qs_index.specs.Entry.{is_before, begins, beginning, IsBeforeAll, IsAscending, skip_before, run_of}
+use Rattle.qs_index.specs.inner.Entry.{is_before, begins, beginning, IsBeforeAll, IsAscending, skip_before, run_of}
 
 -- what stands before a prefix does not begin with it
 pub not_begins_before : (x p : List ℕ) → is_before x p ≡ true → begins p x ≡ false

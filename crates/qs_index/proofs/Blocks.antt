@@ -5,7 +5,7 @@ use Rattle.std.specs.Result.{IsOk, is_ok}
 use Rattle.std.proofs.lemmas.Bool.{cases_order, false≢true}
 use Rattle.std.proofs.lemmas.List.{set_comm, get_or_append_left, get_or-append-add, set-append_left, get_or_read, length-set}
 use Rattle.std.proofs.lemmas.List.Edits.{length-insert, length-remove}
-use Rattle.qs_index.specs.Layout.{page_at}
+use Rattle.qs_index.specs.inner.Layout.{page_at}
 use Rattle.qs_index.specs.inner.PageBlocks.{flat, block_at, gap_at, HasGap, IsTiered}
 
 abbrev Block' : Type 0

@@ -3,10 +3,10 @@ use Rattle.std.proofs.Common.{ℕ, List, [], map, subst, inl, inr, ⊎_elim}
 use Rattle.std.specs.List.{Contains}
 use Rattle.std.specs.List.Sorted.{IsPermutation}
 use Rattle.std.proofs.lemmas.List.Sorted.{Contains-permutation, IsPermutation-sym}
-use Rattle.qs_index.specs.Entries.{IsDifference}
-use Rattle.qs_index.specs.Entry.{IsAscending}
-use Rattle.qs_index.specs.OrderOf.{IsOrderOf}
-use Rattle.qs_index.specs.Permutation.{turned}
+use Rattle.qs_index.specs.inner.Entries.{IsDifference}
+use Rattle.qs_index.specs.inner.Entry.{IsAscending}
+use Rattle.qs_index.specs.inner.OrderOf.{IsOrderOf}
+use Rattle.qs_index.specs.inner.Permutation.{turned}
 use Rattle.qs_index.specs.declared.permutation.Permutation.{Permutation}
 use Rattle.qs_index.proofs.Distinct.{nothing_in_nil, map_has, member_of_map}
 use Rattle.qs_index.proofs.Turned.{turned_same}

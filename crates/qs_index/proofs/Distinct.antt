@@ -5,7 +5,7 @@ use Rattle.std.specs.List.Sorted.{IsPermutation}
 use Rattle.std.proofs.lemmas.Bool.{false≢true}
 use Rattle.std.proofs.lemmas.List.Elements.{Contains-append_left, Contains-append_right, Contains-append_cases}
 use Rattle.std.proofs.lemmas.List.Sorted.{IsPermutation-refl, IsPermutation-sym, IsPermutation-cons, IsPermutation-trans, IsPermutation-middle}
-use Rattle.qs_index.specs.Entry.{IsBeforeAll, IsAscending}
+use Rattle.qs_index.specs.inner.Entry.{IsBeforeAll, IsAscending}
 use Rattle.qs_index.proofs.EntryEdits.{not_before_itself}
 use Rattle.qs_index.proofs.Members.{head_or_tail, before_member, here, there}
 

@@ -4,8 +4,8 @@ use Rattle.std.proofs.lemmas.Bool.{false≢true}
 use Rattle.std.proofs.lemmas.Bool.Decides.{nat_tests}
 use Rattle.std.specs.List.{insert}
 use Rattle.std.proofs.lemmas.List.{take-append-drop, append_cancel_right, drop-append-le, set_split}
-use Rattle.qs_index.specs.Entry.{is_before, IsBeforeAll, IsAscending, skip_before, keep_before, with_entry, without_entry, IsNotFirst}
-use Rattle.qs_index.specs.Layout.{joined, page_at, rest_at}
+use Rattle.qs_index.specs.inner.Entry.{is_before, IsBeforeAll, IsAscending, skip_before, keep_before, with_entry, without_entry, IsNotFirst}
+use Rattle.qs_index.specs.inner.Layout.{joined, page_at, rest_at}
 use Rattle.qs_index.proofs.Ascending.{before_trans}
 use Rattle.qs_index.proofs.Places.{joined-append, joined-at}
 

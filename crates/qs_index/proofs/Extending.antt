@@ -4,7 +4,7 @@ use Rattle.std.specs.Prelude.{if◌then◌else◌, nat_lt, is_ok, IsOk}
 use Rattle.std.specs.Str.{bytes_eq}
 use Rattle.std.proofs.lemmas.Bool.{false≢true, lt-ltb, le-ltb, ltb-true, ltb-false}
 use Rattle.std.proofs.lemmas.List.{at_drop_more, drop_all}
-use Rattle.qs_index.specs.Entry.{is_before}
+use Rattle.qs_index.specs.inner.Entry.{is_before}
 use Rattle.qs_index.specs.inner.Extending.{extended, taken_in}
 
 abbrev pub after : List ℕ → List (List ℕ) → List (List ℕ) → List ℕ → Bool → Bool → List (List ℕ)

@@ -8,9 +8,9 @@ use Rattle.std.proofs.lemmas.List.{length-set, length-drop, set-set, set-get_or,
 use Rattle.std.proofs.lemmas.Bool.{false≢true, eqb-true, ltb-true, ltb-false}
 use Rattle.std.proofs.lemmas.List.Edits.{length-insert, insert_end}
 use Rattle.std.proofs.lemmas.List.Elements.{Contains-get_or}
-use Rattle.qs_index.specs.Entries.{HaveFour, IsUnion}
-use Rattle.qs_index.specs.Entry.{is_before, IsAscending, IsNotFirst, skip_before, keep_before, with_entry}
-use Rattle.qs_index.specs.Layout.{joined, page_at, rest_at, room_of, used_of}
+use Rattle.qs_index.specs.inner.Entries.{HaveFour, IsUnion}
+use Rattle.qs_index.specs.inner.Entry.{is_before, IsAscending, IsNotFirst, skip_before, keep_before, with_entry}
+use Rattle.qs_index.specs.inner.Layout.{joined, page_at, rest_at, room_of, used_of}
 use Rattle.qs_index.specs.inner.Extending.{extended, taken_in}
 use Rattle.qs_index.proofs.EntryEdits.{keep-skip, IsAscending-with, put_in_order}
 use Rattle.qs_index.proofs.Extending.{extended_step, taken_step, extended_full, taken_full, length-extended}

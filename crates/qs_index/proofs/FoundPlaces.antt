@@ -1,7 +1,7 @@
 -- What a found place says of an entry.
 use Rattle.std.proofs.Common.{◌≡◌, ◌≢◌, ℕ, ◌+◌, ◌-◌, ◌<◌, ◌≤◌, List, [], length, get_or, refl, sym, ◌∙◌, arith, subst}
-use Rattle.qs_index.specs.Layout.{joined, page_at, rest_at}
-use Rattle.qs_index.specs.Entry.{IsNotFirst, IsAscending, skip_before}
+use Rattle.qs_index.specs.inner.Layout.{joined, page_at, rest_at}
+use Rattle.qs_index.specs.inner.Entry.{IsNotFirst, IsAscending, skip_before}
 use Rattle.qs_index.specs.inner.PagePosition.{IsPlaceFor, IsPlaceOf}
 use Rattle.qs_index.proofs.Members.{first_if_member, member_if_first}
 use Rattle.qs_index.proofs.Places.{rest_more, rest_next_page, rest_end}

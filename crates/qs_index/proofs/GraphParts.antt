@@ -3,14 +3,14 @@ use Rattle.std.proofs.Common.{◌≡◌, ℕ, ◌<◌, Bool, true, false, cond, 
 use Rattle.std.specs.List.{Contains}
 use Rattle.std.proofs.lemmas.Bool.{false≢true, eqb-true}
 use Rattle.std.proofs.lemmas.Bool.Decides.{nat_tests}
-use Rattle.qs_index.specs.Agreeing.{agreeing}
-use Rattle.qs_index.specs.Entries.{HaveFour, IsUnion}
-use Rattle.qs_index.specs.Entry.{beginning, begins}
-use Rattle.qs_index.specs.Graph.{is_named, named_entries}
-use Rattle.qs_index.specs.Index.{IsOneSet}
-use Rattle.qs_index.specs.Named.{NamedOrders, AreNamedOf}
-use Rattle.qs_index.specs.OrderOf.{IsOrderOf}
-use Rattle.qs_index.specs.Permutation.{turned, restored}
+use Rattle.qs_index.specs.inner.Agreeing.{agreeing}
+use Rattle.qs_index.specs.inner.Entries.{HaveFour, IsUnion}
+use Rattle.qs_index.specs.inner.Entry.{beginning, begins}
+use Rattle.qs_index.specs.inner.Graph.{is_named, named_entries}
+use Rattle.qs_index.specs.inner.Index.{IsOneSet}
+use Rattle.qs_index.specs.inner.Named.{NamedOrders, AreNamedOf}
+use Rattle.qs_index.specs.inner.OrderOf.{IsOrderOf}
+use Rattle.qs_index.specs.inner.Permutation.{turned, restored}
 use Rattle.qs_index.specs.declared.permutation.Permutation.{Permutation}
 use Rattle.qs_index.specs.declared.permutation.Permutation.TheVariants.{Gspo, Gpos, Gosp, Spog, Posg, Ospg}
 use Rattle.qs_index.proofs.Distinct.{IsAscending-filter, filter_has, map_has, member_of_filter, member_of_map}

@@ -5,9 +5,9 @@ use Rattle.std.specs.Option.{IfNone}
 use Rattle.std.proofs.lemmas.Bool.{false≢true}
 use Rattle.std.proofs.lemmas.Bool.Decides.{nat_tests}
 use Rattle.std.proofs.lemmas.List.Elements.{All-nil, All-cons, All-from_get_or, Contains-get_or}
-use Rattle.qs_index.specs.Entry.{is_before, IsBeforeAll, IsAscending, skip_before}
-use Rattle.qs_index.specs.Graph.{graph_of, IsNextGraph}
-use Rattle.qs_index.specs.Entry.{IsEntry}
+use Rattle.qs_index.specs.inner.Entry.{is_before, IsBeforeAll, IsAscending, skip_before}
+use Rattle.qs_index.specs.inner.Graph.{graph_of, IsNextGraph}
+use Rattle.qs_index.specs.inner.Entry.{IsEntry}
 use Rattle.qs_index.proofs.Members.{here, there}
 
 -- the graph of an entry that stands before, or doesn't stand before, all entries of a graph

@@ -8,9 +8,9 @@ use Rattle.std.proofs.lemmas.Bool.{false≢true}
 use Rattle.std.proofs.lemmas.Grind.{drop_more_same}
 use Rattle.std.proofs.lemmas.List.{at_drop_more, drop_all, length-set, take-append-drop, take_more_set}
 use Rattle.std.proofs.lemmas.List.Elements.{Contains-append_left, Contains-append_right, Contains-append_cases}
-use Rattle.qs_index.specs.Entries.{IsDifference}
-use Rattle.qs_index.specs.Entry.{is_before, IsBeforeAll, IsAscending, skip_before}
-use Rattle.qs_index.specs.Layout.{joined, page_at, rest_at, over, first_page, room_of}
+use Rattle.qs_index.specs.inner.Entries.{IsDifference}
+use Rattle.qs_index.specs.inner.Entry.{is_before, IsBeforeAll, IsAscending, skip_before}
+use Rattle.qs_index.specs.inner.Layout.{joined, page_at, rest_at, over, first_page, room_of}
 use Rattle.qs_index.specs.inner.Leaving.{met, unmet, left_from, with_page, with_spare}
 use Rattle.qs_index.specs.inner.PagePosition.{IsPlaceOf}
 use Rattle.qs_index.proofs.Distinct.{nothing_in_nil}

@@ -2,13 +2,13 @@
 use Rattle.std.proofs.Common.{◌≡◌, ℕ, Bool, true, false, cond, ◌==◌, ◌&&◌, List, [], ◌∷◌, map, length, Option, Some, None, refl, arith, subst}
 use Rattle.std.specs.List.{Contains}
 use Rattle.std.specs.List.Sorted.{IsPermutation}
-use Rattle.qs_index.specs.Agreeing.{agrees, agreeing, agrees_anywhere, agreeing_named}
-use Rattle.qs_index.specs.Entry.{IsEntry, IsAscending, beginning, begins}
-use Rattle.qs_index.specs.Graph.{is_named, named_entries}
+use Rattle.qs_index.specs.inner.Agreeing.{agrees, agreeing, agrees_anywhere, agreeing_named}
+use Rattle.qs_index.specs.inner.Entry.{IsEntry, IsAscending, beginning, begins}
+use Rattle.qs_index.specs.inner.Graph.{is_named, named_entries}
 use Rattle.qs_index.specs.inner.Lead.{order_with_lead, named_order_with_lead}
-use Rattle.qs_index.specs.Named.{held_by}
-use Rattle.qs_index.specs.OrderOf.{IsOrderOf}
-use Rattle.qs_index.specs.Permutation.{turned, restored, prefix_of, named_prefix_of}
+use Rattle.qs_index.specs.inner.Named.{held_by}
+use Rattle.qs_index.specs.inner.OrderOf.{IsOrderOf}
+use Rattle.qs_index.specs.inner.Permutation.{turned, restored, prefix_of, named_prefix_of}
 use Rattle.qs_index.specs.declared.permutation.Permutation.{Permutation}
 use Rattle.qs_index.specs.declared.permutation.Lead.{Lead}
 use Rattle.qs_index.specs.declared.permutation.Lead.TheVariants.{Subject, Predicate, Object}

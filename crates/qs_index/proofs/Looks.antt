@@ -1,9 +1,9 @@
 -- How much a scan looks at.
 use Rattle.std.proofs.Common.{ℕ, ◌+◌, ◌*◌, ◌^◌, ◌<◌, ◌≤◌, List, length, arith}
 use Rattle.std.proofs.lemmas.Nat.{mul-le}
-use Rattle.qs_index.specs.Digits.{digits}
-use Rattle.qs_index.specs.Layout.{joined, page_at, HasPageSizes}
-use Rattle.qs_index.specs.Scan.{most_looks}
+use Rattle.qs_index.specs.inner.Digits.{digits}
+use Rattle.qs_index.specs.inner.Layout.{joined, page_at, HasPageSizes}
+use Rattle.qs_index.specs.inner.Scan.{most_looks}
 use Rattle.qs_index.proofs.DigitLaws.{digits-le, digits_least, digits_small}
 use Rattle.qs_index.proofs.Places.{joined_le, pages_le, page_le}
 

@@ -7,7 +7,7 @@ use Rattle.std.proofs.lemmas.List.Sorted.{IsPermutation-sym, IsPermutation-middl
 use Rattle.std.specs.Cmp.Lexicographic.{bytes_decides}
 use Rattle.std.proofs.lemmas.Bool.{false≢true}
 use Rattle.std.proofs.lemmas.List.Elements.{Contains-get_or, Contains-append_left, Contains-append_right, Contains-append_cases, Contains-push_cases}
-use Rattle.qs_index.specs.Entry.{is_before, IsBeforeAll, IsAscending, skip_before, keep_before, with_entry, without_entry, IsNotFirst}
+use Rattle.qs_index.specs.inner.Entry.{is_before, IsBeforeAll, IsAscending, skip_before, keep_before, with_entry, without_entry, IsNotFirst}
 use Rattle.qs_index.proofs.EntryEdits.{keep-skip, not_before_itself}
 
 pub head_or_tail : (y : List ℕ) (ys : List (List ℕ)) (x : List ℕ) → Contains (y ∷ ys) x → (y ≡ x) ⊎ Contains ys x

@@ -8,13 +8,13 @@ use Rattle.std.proofs.lemmas.List.{take-append-drop}
 use Rattle.std.proofs.lemmas.List.Elements.{All-contains, All-head, All-tail, filter-append, Contains-append_right, Contains-append_cases}
 use Rattle.std.proofs.lemmas.List.Sorted.{Contains-permutation, IsPermutation-sym, sum_by-IsPermutation}
 use Rattle.std.proofs.lemmas.List.Sums.{length-filter}
-use Rattle.qs_index.specs.Agreeing.{agreeing_named}
-use Rattle.qs_index.specs.Entry.{IsEntry, IsAscending, beginning, with_entry, without_entry}
-use Rattle.qs_index.specs.Entries.{IsUnion, IsDifference}
-use Rattle.qs_index.specs.Graph.{is_named, named_entries}
-use Rattle.qs_index.specs.Named.{NamedOrders, AreNamedOf, held_by}
-use Rattle.qs_index.specs.OrderOf.{IsOrderOf}
-use Rattle.qs_index.specs.Permutation.{turned, restored, order_used, named_order_used, named_prefix_of}
+use Rattle.qs_index.specs.inner.Agreeing.{agreeing_named}
+use Rattle.qs_index.specs.inner.Entry.{IsEntry, IsAscending, beginning, with_entry, without_entry}
+use Rattle.qs_index.specs.inner.Entries.{IsUnion, IsDifference}
+use Rattle.qs_index.specs.inner.Graph.{is_named, named_entries}
+use Rattle.qs_index.specs.inner.Named.{NamedOrders, AreNamedOf, held_by}
+use Rattle.qs_index.specs.inner.OrderOf.{IsOrderOf}
+use Rattle.qs_index.specs.inner.Permutation.{turned, restored, order_used, named_order_used, named_prefix_of}
 use Rattle.qs_index.specs.declared.permutation.Permutation.{Permutation}
 use Rattle.qs_index.specs.declared.permutation.Permutation.TheVariants.{Spog, Posg, Ospg}
 use Rattle.qs_index.proofs.Distinct.{IsAscending-filter, member_of_filter, filter_has}

@@ -1,12 +1,12 @@
 -- The orders of one set put into, or taken out of, those of another.
 use Rattle.std.proofs.Common.{◌≡◌, ◌≤◌, ℕ, Bool, true, false, cond, arith, List, [], ◌∷◌, length, refl, ap, inl, inr, ⊎_elim}
-use Rattle.qs_index.specs.Entries.{IsUnion, IsDifference}
-use Rattle.qs_index.specs.Entry.{beginning}
-use Rattle.qs_index.specs.Graph.{is_named, named_entries}
-use Rattle.qs_index.specs.Index.{IsOneSet}
-use Rattle.qs_index.specs.Named.{NamedOrders, AreNamedOf}
-use Rattle.qs_index.specs.OrderOf.{IsOrderOf}
-use Rattle.qs_index.specs.Permutation.{turned}
+use Rattle.qs_index.specs.inner.Entries.{IsUnion, IsDifference}
+use Rattle.qs_index.specs.inner.Entry.{beginning}
+use Rattle.qs_index.specs.inner.Graph.{is_named, named_entries}
+use Rattle.qs_index.specs.inner.Index.{IsOneSet}
+use Rattle.qs_index.specs.inner.Named.{NamedOrders, AreNamedOf}
+use Rattle.qs_index.specs.inner.OrderOf.{IsOrderOf}
+use Rattle.qs_index.specs.inner.Permutation.{turned}
 use Rattle.qs_index.specs.declared.permutation.Permutation.{Permutation}
 use Rattle.qs_index.specs.declared.permutation.Permutation.TheVariants.{Gpos, Gosp, Spog, Posg, Ospg}
 use Rattle.qs_index.proofs.Distinct.{IsAscending-filter, filter_has, member_of_filter}

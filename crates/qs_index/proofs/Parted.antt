@@ -5,7 +5,7 @@ use Rattle.std.proofs.lemmas.Bool.Decides.{eqb_tells}
 use Rattle.std.proofs.lemmas.List.{get_or_default, get_or-take, get_or-drop}
 use Rattle.std.proofs.lemmas.List.Elements.{All-from_get_or}
 use Rattle.std.proofs.lemmas.List.Filters.{length-filter_more}
-use Rattle.qs_index.specs.Graph.{is_named, named_entries}
+use Rattle.qs_index.specs.inner.Graph.{is_named, named_entries}
 
 abbrev pub IsKind : Bool → List ℕ → Type 0
 IsKind b entry = is_named entry ≡ b

@@ -2,8 +2,8 @@
 use Rattle.std.proofs.Common.{◌≡◌, ℕ, ◌+◌, ◌-◌, ◌*◌, ◌<◌, ◌≤◌, true, false, List, [], ◌∷◌, ◌++◌, length, get_or, take, drop, refl, ap, sym, ◌∙◌, arith, subst, zero, suc, append_assoc, length-append}
 use Rattle.std.proofs.lemmas.List.{get_or-drop, drop_more, drop_all, take-append-drop, get_or_append_left, drop-drop, drop_at}
 use Rattle.std.proofs.lemmas.List.Elements.{All-tail, All-head}
-use Rattle.qs_index.specs.Entry.{is_before, IsAscending, skip_before}
-use Rattle.qs_index.specs.Layout.{joined, page_at, rest_at, HasPageSizes, IsPageSize}
+use Rattle.qs_index.specs.inner.Entry.{is_before, IsAscending, skip_before}
+use Rattle.qs_index.specs.inner.Layout.{joined, page_at, rest_at, HasPageSizes, IsPageSize}
 use Rattle.qs_index.proofs.Ascending.{skip_past}
 
 pub IsAscending-drop : (k : ℕ) (xs : List (List ℕ)) → IsAscending xs → IsAscending (drop k xs)

@@ -5,9 +5,9 @@ use Rattle.std.proofs.lemmas.Bool.{false≢true, eqb-true}
 use Rattle.std.proofs.lemmas.Bool.Decides.{nat_tests}
 use Rattle.std.proofs.lemmas.List.{take-append-drop, take_more, take_more_set}
 use Rattle.std.proofs.lemmas.List.Elements.{Contains-append_right}
-use Rattle.qs_index.specs.Entries.{HaveFour}
-use Rattle.qs_index.specs.Entry.{is_before, begins, run_of, IsAscending}
-use Rattle.qs_index.specs.Layout.{joined, page_at, rest_at}
+use Rattle.qs_index.specs.inner.Entries.{HaveFour}
+use Rattle.qs_index.specs.inner.Entry.{is_before, begins, run_of, IsAscending}
+use Rattle.qs_index.specs.inner.Layout.{joined, page_at, rest_at}
 use Rattle.qs_index.specs.inner.Prefix.{AreZeros, IsAfter}
 use Rattle.qs_index.proofs.EntryEdits.{not_before_itself}
 use Rattle.qs_index.proofs.Members.{here, there}

@@ -5,8 +5,8 @@ use Rattle.std.specs.List.{remove}
 use Rattle.std.proofs.lemmas.Bool.{eqb-true}
 use Rattle.std.proofs.lemmas.List.{drop-drop, length-set}
 use Rattle.std.proofs.lemmas.List.Edits.{length-remove}
-use Rattle.qs_index.specs.Entry.{skip_before, without_entry}
-use Rattle.qs_index.specs.Layout.{joined, page_at, rest_at, over, first_page, room_of}
+use Rattle.qs_index.specs.inner.Entry.{skip_before, without_entry}
+use Rattle.qs_index.specs.inner.Layout.{joined, page_at, rest_at, over, first_page, room_of}
 use Rattle.qs_index.proofs.Places.{joined-append}
 use Rattle.qs_index.proofs.EntryEdits.{front_is, split_front, joined-set, rest_is}
 use Rattle.qs_index.proofs.PageEdits.{emptied}

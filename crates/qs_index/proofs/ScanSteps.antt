@@ -1,9 +1,9 @@
 -- What holds of a scan when it begins, and when it goes on after a skip.
 use Rattle.std.proofs.Common.{◌≡◌, ℕ, ◌+◌, ◌*◌, ◌<◌, ◌≤◌, Bool, true, false, cond, List, [], ◌∷◌, length, drop, length-drop, Option, Some, None, ap, sym, ◌∙◌, arith}
-use Rattle.qs_index.specs.Digits.{digits}
-use Rattle.qs_index.specs.Entries.{HaveFour}
-use Rattle.qs_index.specs.Entry.{begins, beginning, run_of, skip_before, IsAscending}
-use Rattle.qs_index.specs.Layout.{joined, page_at, rest_at, HasPageSizes}
+use Rattle.qs_index.specs.inner.Digits.{digits}
+use Rattle.qs_index.specs.inner.Entries.{HaveFour}
+use Rattle.qs_index.specs.inner.Entry.{begins, beginning, run_of, skip_before, IsAscending}
+use Rattle.qs_index.specs.inner.Layout.{joined, page_at, rest_at, HasPageSizes}
 use Rattle.qs_index.specs.inner.OrderScan.{left_from, IsSound, waiting, IsHead}
 use Rattle.qs_index.specs.inner.PagePosition.{IsFound}
 use Rattle.qs_index.proofs.Ascending.{beginning_is_run}

@@ -2,9 +2,9 @@
 use Rattle.std.proofs.Common.{◌≡◌, ℕ, ◌+◌, ◌<◌, ◌≤◌, Bool, true, false, cond, List, [], ◌∷◌, length, get_or, refl, ap, sym, ◌∙◌, subst, ⊎_elim, arith}
 use Rattle.std.specs.List.{Contains}
 use Rattle.std.proofs.lemmas.Bool.{false≢true, cases_lt}
-use Rattle.qs_index.specs.Entries.{HaveFour}
-use Rattle.qs_index.specs.Entry.{is_before, begins, run_of, skip_before, IsBeforeAll, IsAscending}
-use Rattle.qs_index.specs.Layout.{joined, page_at, rest_at}
+use Rattle.qs_index.specs.inner.Entries.{HaveFour}
+use Rattle.qs_index.specs.inner.Entry.{is_before, begins, run_of, skip_before, IsBeforeAll, IsAscending}
+use Rattle.qs_index.specs.inner.Layout.{joined, page_at, rest_at}
 use Rattle.qs_index.specs.inner.OrderScan.{left_from, StartsBefore}
 use Rattle.qs_index.proofs.Ascending.{not_begins_before, not_before_later, not_begins_later}
 use Rattle.qs_index.proofs.Members.{head_or_tail, here, there}

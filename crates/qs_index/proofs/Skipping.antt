@@ -5,10 +5,10 @@ use Rattle.std.proofs.lemmas.Bool.{false≢true, eqb-true}
 use Rattle.std.proofs.lemmas.Bool.Decides.{nat_tests}
 use Rattle.std.proofs.lemmas.List.{map-append}
 use Rattle.std.proofs.lemmas.List.Elements.{Contains-append_left}
-use Rattle.qs_index.specs.Agreeing.{fits, agrees_anywhere}
-use Rattle.qs_index.specs.Entries.{HaveFour}
-use Rattle.qs_index.specs.Entry.{is_before, begins, keep_before, skip_before, IsAscending}
-use Rattle.qs_index.specs.Permutation.{restored}
+use Rattle.qs_index.specs.inner.Agreeing.{fits, agrees_anywhere}
+use Rattle.qs_index.specs.inner.Entries.{HaveFour}
+use Rattle.qs_index.specs.inner.Entry.{is_before, begins, keep_before, skip_before, IsAscending}
+use Rattle.qs_index.specs.inner.Permutation.{restored}
 use Rattle.qs_index.specs.inner.Skipped.{IsSkipped}
 use Rattle.qs_index.specs.inner.Depth.{depth, depth_of}
 use Rattle.qs_index.specs.inner.OrderScan.{StartsBefore}

@@ -4,7 +4,7 @@ use Rattle.std.specs.List.{insert, remove}
 use Rattle.std.proofs.lemmas.List.{length-set, take-append-drop, drop-append-le, drop-drop, drop_at, length-take-le, get_or_at, get_or-drop}
 use Rattle.std.proofs.lemmas.List.Edits.{length-insert}
 use Rattle.std.proofs.lemmas.List.Elements.{All-head, All-tail}
-use Rattle.qs_index.specs.Layout.{joined, page_at, rest_at, split_at, over, first_page, room_of, open_room_of, HasPageSizes, IsPageSize}
+use Rattle.qs_index.specs.inner.Layout.{joined, page_at, rest_at, split_at, over, first_page, room_of, open_room_of, HasPageSizes, IsPageSize}
 use Rattle.qs_index.proofs.Places.{joined-append, joined-at}
 
 abbrev Pages' : Type 0

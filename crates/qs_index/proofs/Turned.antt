@@ -6,12 +6,12 @@ use Rattle.std.specs.List.Sorted.{IsPermutation}
 use Rattle.std.proofs.lemmas.Bool.{false≢true}
 use Rattle.std.proofs.lemmas.List.{length-map}
 use Rattle.std.proofs.lemmas.List.Sorted.{length_permutation}
-use Rattle.qs_index.specs.Agreeing.{agrees, agreeing, agrees_anywhere}
-use Rattle.qs_index.specs.Entry.{begins, beginning, IsAscending, with_entry, without_entry}
-use Rattle.qs_index.specs.Entries.{HaveFour, IsOrdered}
-use Rattle.qs_index.specs.OrderOf.{IsOrderOf}
-use Rattle.qs_index.specs.Entry.{IsEntry}
-use Rattle.qs_index.specs.Permutation.{turned, restored, order_used, prefix_of, named_order_used, named_prefix_of}
+use Rattle.qs_index.specs.inner.Agreeing.{agrees, agreeing, agrees_anywhere}
+use Rattle.qs_index.specs.inner.Entry.{begins, beginning, IsAscending, with_entry, without_entry}
+use Rattle.qs_index.specs.inner.Entries.{HaveFour, IsOrdered}
+use Rattle.qs_index.specs.inner.OrderOf.{IsOrderOf}
+use Rattle.qs_index.specs.inner.Entry.{IsEntry}
+use Rattle.qs_index.specs.inner.Permutation.{turned, restored, order_used, prefix_of, named_order_used, named_prefix_of}
 use Rattle.qs_index.specs.declared.permutation.Permutation.{Permutation}
 use Rattle.qs_index.specs.declared.permutation.Permutation.TheVariants.{Gspo, Gpos, Gosp, Spog, Posg, Ospg}
 use Rattle.qs_index.proofs.Distinct.{IsDistinct-ascending, IsDistinct-filter, IsDistinct-map, IsAscending-filter, IsPermutation-distinct, member_of_filter, filter_has, member_of_map, map_has, map-map, nothing_in_nil}

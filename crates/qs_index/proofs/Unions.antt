@@ -6,11 +6,11 @@ use Rattle.std.specs.List.Sorted.{IsPermutation}
 use Rattle.std.proofs.lemmas.List.{take_more}
 use Rattle.std.proofs.lemmas.List.Sorted.{Contains-permutation, IsPermutation-sym}
 use Rattle.std.proofs.lemmas.List.Elements.{Contains-append_left, Contains-append_right, Contains-append_cases}
-use Rattle.qs_index.specs.Entries.{IsUnion}
-use Rattle.qs_index.specs.Entry.{IsAscending, with_entry, beginning}
-use Rattle.qs_index.specs.OrderOf.{IsOrderOf}
-use Rattle.qs_index.specs.Entry.{IsEntry}
-use Rattle.qs_index.specs.Permutation.{turned, restored}
+use Rattle.qs_index.specs.inner.Entries.{IsUnion}
+use Rattle.qs_index.specs.inner.Entry.{IsAscending, with_entry, beginning}
+use Rattle.qs_index.specs.inner.OrderOf.{IsOrderOf}
+use Rattle.qs_index.specs.inner.Entry.{IsEntry}
+use Rattle.qs_index.specs.inner.Permutation.{turned, restored}
 use Rattle.qs_index.specs.declared.permutation.Permutation.{Permutation}
 use Rattle.qs_index.specs.declared.permutation.Permutation.TheVariants.{Gspo}
 use Rattle.qs_index.proofs.Distinct.{nothing_in_nil, map_has, member_of_map}

@@ -1,12 +1,1 @@
-pub mod Digits
-pub mod Layout
-pub mod Entry
-pub mod Entries
-pub mod Scan
-pub mod Permutation
-pub mod Graph
-pub mod Agreeing
-pub mod OrderOf
-pub mod Named
-pub mod Index
 pub mod inner

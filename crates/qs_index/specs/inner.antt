@@ -1,4 +1,15 @@
--- What serves proofs and layers alone: no promise of the product is read by it.
+-- What layers and proofs read: the definitions of the headline cite none of it.
+pub mod Agreeing
+pub mod Digits
+pub mod Entries
+pub mod Entry
+pub mod Graph
+pub mod Index
+pub mod Layout
+pub mod Named
+pub mod OrderOf
+pub mod Permutation
+pub mod Scan
 pub mod PageBlocks
 pub mod PagePosition
 pub mod Leaving

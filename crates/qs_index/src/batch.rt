@@ -5,11 +5,11 @@
 ghost use Rattle.std.specs.Prelude.{◌≡◌, ℕ, ◌+◌, ◌≤◌, List, true, false, length, map, take, drop};
 ghost use Rattle.std.specs.List.{All};
 ghost use Rattle.std.specs.List.Sorted.{IsPermutation, IsNonDecreasingBy};
-ghost use Rattle.qs_index.specs.Entries.{IsUnion, IsDifference};
-ghost use Rattle.qs_index.specs.Entry.{IsEntry, number_of};
-ghost use Rattle.qs_index.specs.Graph.{is_named, named_entries};
-ghost use Rattle.qs_index.specs.OrderOf.{IsOrderOf};
-ghost use Rattle.qs_index.specs.Permutation.{turned};
+ghost use Rattle.qs_index.specs.inner.Entries.{IsUnion, IsDifference};
+ghost use Rattle.qs_index.specs.inner.Entry.{IsEntry, number_of};
+ghost use Rattle.qs_index.specs.inner.Graph.{is_named, named_entries};
+ghost use Rattle.qs_index.specs.inner.OrderOf.{IsOrderOf};
+ghost use Rattle.qs_index.specs.inner.Permutation.{turned};
 
 use crate::entry::{is_named, key};
 use crate::order::Order;

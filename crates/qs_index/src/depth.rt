@@ -1,6 +1,6 @@
 //! What entries have in common that begin alike in an order.
 ghost use Rattle.std.specs.Prelude.{◌≡◌};
-ghost use Rattle.qs_index.specs.Agreeing.{fits, agrees_anywhere};
+ghost use Rattle.qs_index.specs.inner.Agreeing.{fits, agrees_anywhere};
 ghost use Rattle.qs_index.specs.inner.Depth.{depth, depth_of};
 
 use crate::permutation::Permutation;

@@ -1,8 +1,8 @@
 //! Comparisons of entries with one another.
 ghost use Rattle.std.specs.Prelude.{◌≡◌, ◌+◌, ◌*◌, ◌^◌, ◌≤◌, length};
 ghost use Rattle.std.specs.Str.{bytes_eq};
-ghost use Rattle.qs_index.specs.Entry.{number_of, is_before, begins};
-ghost use Rattle.qs_index.specs.Graph.{is_named};
+ghost use Rattle.qs_index.specs.inner.Entry.{number_of, is_before, begins};
+ghost use Rattle.qs_index.specs.inner.Graph.{is_named};
 
 // Two numbers as one of 64 bits, the first before the second.
 #[inline(always)]

@@ -4,10 +4,10 @@
 //! aren't full, a page would cost more room than its entry. A reserve counts half a page for the first, so the room falls by no
 //! more than the entries.
 ghost use Rattle.std.specs.Prelude.{◌≡◌, ◌+◌, ◌-◌, ◌<◌, ◌≤◌, [], length, take, slice_set};
-ghost use Rattle.qs_index.specs.Entries.{HaveFour, IsUnion};
-ghost use Rattle.qs_index.specs.Entry.{skip_before, with_entry};
+ghost use Rattle.qs_index.specs.inner.Entries.{HaveFour, IsUnion};
+ghost use Rattle.qs_index.specs.inner.Entry.{skip_before, with_entry};
 ghost use Rattle.qs_index.specs.inner.Extending.{extended, taken_in};
-ghost use Rattle.qs_index.specs.Layout.{joined, page_at, room_of, used_of};
+ghost use Rattle.qs_index.specs.inner.Layout.{joined, page_at, room_of, used_of};
 
 use crate::entry::{is_less, is_same};
 use crate::pages::{PAGE, PagePosition, Pages};

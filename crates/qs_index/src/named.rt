@@ -5,12 +5,12 @@ ghost use Rattle.std.specs.Prelude.{◌≡◌, ℕ, ◌+◌, ◌<◌, ◌≤◌,
 ghost use Rattle.std.specs.Result.{OnOk};
 ghost use Rattle.std.specs.List.{Contains};
 ghost use Rattle.std.specs.List.Sorted.{IsPermutation};
-ghost use Rattle.qs_index.specs.Entries.{HaveFour, IsUnion, IsDifference};
-ghost use Rattle.qs_index.specs.Entry.{IsAscending, beginning, with_entry, without_entry};
-ghost use Rattle.qs_index.specs.Graph.{is_named, named_entries};
-ghost use Rattle.qs_index.specs.Named.{NamedOrders, AreNamedOf};
-ghost use Rattle.qs_index.specs.OrderOf.{IsOrderOf};
-ghost use Rattle.qs_index.specs.Permutation.{turned};
+ghost use Rattle.qs_index.specs.inner.Entries.{HaveFour, IsUnion, IsDifference};
+ghost use Rattle.qs_index.specs.inner.Entry.{IsAscending, beginning, with_entry, without_entry};
+ghost use Rattle.qs_index.specs.inner.Graph.{is_named, named_entries};
+ghost use Rattle.qs_index.specs.inner.Named.{NamedOrders, AreNamedOf};
+ghost use Rattle.qs_index.specs.inner.OrderOf.{IsOrderOf};
+ghost use Rattle.qs_index.specs.inner.Permutation.{turned};
 ghost use Rattle.qs_index.specs.declared.permutation.Permutation.TheVariants.{Gspo, Gpos, Gosp, Spog, Posg, Ospg};
 
 use crate::entry::is_named;

@@ -3,10 +3,10 @@ ghost use Rattle.std.specs.Prelude.{◌≡◌, ℕ, ◌+◌, ◌-◌, ◌<◌, �
 ghost use Rattle.std.specs.Bool.{OnTrue, OnFalse};
 ghost use Rattle.std.specs.Result.{OnOk};
 ghost use Rattle.std.specs.List.{Contains};
-ghost use Rattle.qs_index.specs.Layout.{Layout, joined, open_room_of, page_at, rest_at, room_of};
-ghost use Rattle.qs_index.specs.Entries.{Entries, IsUnion, IsDifference, IsOrdered};
-ghost use Rattle.qs_index.specs.Entry.{IsAscending, skip_before, with_entry, without_entry, beginning};
-ghost use Rattle.qs_index.specs.Permutation.{turned};
+ghost use Rattle.qs_index.specs.inner.Layout.{Layout, joined, open_room_of, page_at, rest_at, room_of};
+ghost use Rattle.qs_index.specs.inner.Entries.{Entries, IsUnion, IsDifference, IsOrdered};
+ghost use Rattle.qs_index.specs.inner.Entry.{IsAscending, skip_before, with_entry, without_entry, beginning};
+ghost use Rattle.qs_index.specs.inner.Permutation.{turned};
 ghost use Rattle.qs_index.specs.declared.permutation.Permutation.TheVariants.{Spog};
 
 use crate::fill::fill;
@@ -140,7 +140,11 @@ impl Order {
         }
         let due = self.pages.due();
         let splits = due.checked_add(n as u128 + 127).ok_or(AllocError)? / 128;
-        let wanted = if splits < n as u128 { splits } else { n as u128 };
+        let wanted = if splits < n as u128 {
+            splits
+        } else {
+            n as u128
+        };
         let wanted = usize::try_from(wanted).map_err(|_| AllocError)?;
         self.pages.set_aside(wanted)
     }

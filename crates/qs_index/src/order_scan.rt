@@ -6,10 +6,10 @@
 ghost use Rattle.std.specs.Prelude.{◌≡◌, ◌+◌, ◌^◌, ◌<◌, ◌≤◌, [], ◌∷◌, length, drop, true, slice_index_or};
 ghost use Rattle.std.specs.Iterator.{item_count};
 ghost use Rattle.std.specs.Option.{MatchOption};
-ghost use Rattle.qs_index.specs.Layout.{Reading, joined, page_at, rest_at};
-ghost use Rattle.qs_index.specs.Entries.{HaveFour};
-ghost use Rattle.qs_index.specs.Entry.{begins, beginning, run_of, skip_before, IsAscending};
-ghost use Rattle.qs_index.specs.Scan.{ScanState, NextOfScan, most_looks};
+ghost use Rattle.qs_index.specs.inner.Layout.{Reading, joined, page_at, rest_at};
+ghost use Rattle.qs_index.specs.inner.Entries.{HaveFour};
+ghost use Rattle.qs_index.specs.inner.Entry.{begins, beginning, run_of, skip_before, IsAscending};
+ghost use Rattle.qs_index.specs.inner.Scan.{ScanState, NextOfScan, most_looks};
 ghost use Rattle.qs_index.specs.inner.OrderScan.{state_of, waiting, IsHead, IsSound, StartsBefore};
 
 use crate::pages::{PagePosition, Reader};

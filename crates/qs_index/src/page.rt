@@ -1,7 +1,7 @@
 //! A page: a short list of entries.
 ghost use Rattle.std.specs.Prelude.{◌≡◌, ℕ, ◌-◌, ◌<◌, ◌≤◌, List, [], length, take, drop, IfOk, slice_index_or, vec_capacity};
 ghost use Rattle.std.specs.List.{insert, remove};
-ghost use Rattle.qs_index.specs.Layout.{IsPage, IsLastOf};
+ghost use Rattle.qs_index.specs.inner.Layout.{IsPage, IsLastOf};
 ghost use Rattle.qs_index.specs.inner.Extending.{extended, taken_in};
 ghost use Rattle.qs_index.specs.inner.Leaving.{met, left_from};
 

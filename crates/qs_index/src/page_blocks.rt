@@ -5,7 +5,7 @@
 ghost use Rattle.std.specs.Prelude.{◌≡◌, ℕ, ◌+◌, ◌-◌, ◌*◌, ◌<◌, ◌≤◌, ◌^◌, min, List, [], ◌∷◌, ◌++◌, length, take, drop, IfOk, OnOk, IfSome, IsSome, slice_index_or, slice_set, option_to_list};
 ghost use Rattle.std.specs.List.{insert, remove};
 ghost use Rattle.std.specs.VecDeque.{deque_capacity};
-ghost use Rattle.qs_index.specs.Layout.{page_at};
+ghost use Rattle.qs_index.specs.inner.Layout.{page_at};
 ghost use Rattle.qs_index.specs.inner.Extending.{extended, taken_in};
 ghost use Rattle.qs_index.specs.inner.Leaving.{met, left_from};
 ghost use Rattle.qs_index.specs.inner.PageBlocks.{PageBlock, flat, block_at, gap_at, HasGap, IsBlock, IsTiered};

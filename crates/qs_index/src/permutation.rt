@@ -1,9 +1,9 @@
 //! The orders of the places of an entry, and which of them a scan uses.
 ghost use Rattle.std.specs.Prelude.{◌≡◌, ◌≤◌, take, map};
 ghost use Rattle.std.specs.List.{All};
-ghost use Rattle.qs_index.specs.Entry.{IsEntry};
+ghost use Rattle.qs_index.specs.inner.Entry.{IsEntry};
 ghost use Rattle.qs_index.specs.inner.Lead.{order_with_lead, named_order_with_lead};
-ghost use Rattle.qs_index.specs.Permutation.{turned, restored, order_used, prefix_of, named_order_used, named_prefix_of};
+ghost use Rattle.qs_index.specs.inner.Permutation.{turned, restored, order_used, prefix_of, named_order_used, named_prefix_of};
 
 /// An order of the places of an entry: graph, subject, predicate and object, by their first letters. Orders with the graph in the last
 /// place have the entries of named graphs alone.

@@ -1,6 +1,6 @@
 //! What the entries of a scan begin with.
 ghost use Rattle.std.specs.Prelude.{◌≡◌, ℕ, ◌≤◌, ◌==◌, List, length, take, IfSome, IfNone};
-ghost use Rattle.qs_index.specs.Entry.{is_before, begins};
+ghost use Rattle.qs_index.specs.inner.Entry.{is_before, begins};
 ghost use Rattle.qs_index.specs.inner.Prefix.{IsFilled, IsAfter, HasAfter};
 
 use crate::entry::{begins, is_less};

@@ -1,8 +1,8 @@
 //! A scan of the index.
 ghost use Rattle.std.specs.Prelude.{◌≡◌, ◌+◌, ◌≤◌, length, map};
 ghost use Rattle.std.specs.Iterator.{item_count};
-ghost use Rattle.qs_index.specs.Permutation.{restored};
-ghost use Rattle.qs_index.specs.Scan.{ScanState, NextOfScan, most_looks};
+ghost use Rattle.qs_index.specs.inner.Permutation.{restored};
+ghost use Rattle.qs_index.specs.inner.Scan.{ScanState, NextOfScan, most_looks};
 ghost use Rattle.qs_index.specs.inner.Skipped.{SkipsAgreeing};
 
 use crate::depth::{agrees, depth};

@@ -4,9 +4,9 @@
 //! looks at two entries more at most, also where pages are nearly empty. Steps that double among pages would pass the bound on
 //! looks there.
 ghost use Rattle.std.specs.Prelude.{◌≡◌, ℕ, ◌+◌, ◌-◌, ◌*◌, ◌<◌, ◌≤◌, ◌^◌, List, [], ◌∷◌, length, drop, true, false, slice_index_or, IfOk, IfErr, IfSome, IfNone};
-ghost use Rattle.qs_index.specs.Digits.{digits};
-ghost use Rattle.qs_index.specs.Layout.{Layout, Reading, joined, page_at, rest_at};
-ghost use Rattle.qs_index.specs.Entry.{is_before, IsAscending, skip_before};
+ghost use Rattle.qs_index.specs.inner.Digits.{digits};
+ghost use Rattle.qs_index.specs.inner.Layout.{Layout, Reading, joined, page_at, rest_at};
+ghost use Rattle.qs_index.specs.inner.Entry.{is_before, IsAscending, skip_before};
 ghost use Rattle.qs_index.specs.inner.PagePosition.{IsPlaceFor, IsPlaceOf, IsFound, IsReached};
 
 use crate::entry::is_same;

@@ -2,13 +2,13 @@
 
 ghost use Rattle.std.specs.Prelude.{◌≡◌, None, Some, true, Ok, IfOk, IfErr, IfSome, OnErr};
 ghost use Rattle.qs_terms.specs.declared.fault.QFault.TheVariants.{Memory};
-ghost use Rattle.qs_store.specs.ActiveGraph.{active_graph};
+ghost use Rattle.qs_store.specs.inner.ActiveGraph.{active_graph};
 ghost use Rattle.qs_store.specs.declared.active.Active.TheVariants.{Default};
 ghost use Rattle.qs_expr_values.specs.inner.Value.{term_of};
-ghost use Rattle.qs_expr.specs.Cell.{denoted, row_solution, FitsCell, FitsRow};
-ghost use Rattle.qs_expr.specs.Evaluated.{Evaluates};
-ghost use Rattle.qs_expr.specs.Scratch.{IsTable, Grows};
-ghost use Rattle.qs_ops_walk.specs.Stream.{AreToCome, GivesOne, PassesAlike, solution_if};
+ghost use Rattle.qs_expr.specs.inner.Cell.{denoted, row_solution, FitsCell, FitsRow};
+ghost use Rattle.qs_expr.specs.inner.Evaluated.{Evaluates};
+ghost use Rattle.qs_expr.specs.inner.Scratch.{IsTable, Grows};
+ghost use Rattle.qs_ops_walk.specs.inner.Stream.{AreToCome, GivesOne, PassesAlike, solution_if};
 ghost use Rattle.qs_plan.specs.Plans.{plan_list};
 
 use qs_expr::{Cell, Row, Scratch};
@@ -29,7 +29,7 @@ pub struct Op<'a, V: View> {
 }
 
 impl<'a, V: View> Model for Op<'a, V> {
-    ghost use Rattle.qs_ops_walk.specs.Stream.{Stream};
+    ghost use Rattle.qs_ops_walk.specs.inner.Stream.{Stream};
 
     ghost Value = { Stream };
 

@@ -3,10 +3,10 @@ use Rattle.std.proofs.Common.{◌≡◌, ◌≢◌, ⊎_elim, ℕ, Bool, true, f
 use Rattle.std.proofs.lemmas.Bool.{cases_eq}
 use Rattle.std.proofs.lemmas.Bool.Decides.{Decides-eqb, nat_tests}
 use Rattle.std.proofs.lemmas.List.{get_or-set_same, get_or-set_other, length-set, set_past}
-use Rattle.qs_index.specs.Agreeing.{fits}
+use Rattle.qs_index.specs.inner.Agreeing.{fits}
 use Rattle.qs_expr.specs.declared.cell.Cell.{Cell}
 use Rattle.qs_expr.specs.declared.cell.Cell.TheVariants.{Known, Scratch}
-use Rattle.qs_expr.specs.Cell.{Cells, cell_at, same_cell}
+use Rattle.qs_expr.specs.inner.Cell.{Cells, cell_at, same_cell}
 use Rattle.qs_ops_scans.specs.declared.opened.Act.{Act}
 use Rattle.qs_ops_scans.specs.declared.opened.Act.TheVariants.{Pass, Bind, AsSubject, AsPredicate}
 use Rattle.qs_ops_scans.specs.declared.opened.Given.{Given}

@@ -17,11 +17,11 @@ use Rattle.qs_algebra_patterns.specs.Basic.{end_of, is_repeated, Graph}
 use Rattle.qs_algebra_patterns.specs.declared.pattern.PathPattern.{PathPattern}
 use Rattle.qs_expr.specs.declared.cell.Cell.{Cell}
 use Rattle.qs_expr.specs.declared.cell.Cell.TheVariants.{Known, Scratch}
-use Rattle.qs_expr.specs.Cell.{denoted, denoted_if, same_cell, FitsIf}
-use Rattle.qs_expr.specs.Scratch.{Grows, IsTable}
+use Rattle.qs_expr.specs.inner.Cell.{denoted, denoted_if, same_cell, FitsIf}
+use Rattle.qs_expr.specs.inner.Scratch.{Grows, IsTable}
 use Rattle.qs_expr.proofs.Finding.{same_cells, some_of, term_there}
 use Rattle.qs_paths.proofs.Lists.{map_has, member_of_map}
-use Rattle.qs_paths.specs.Coming.{AreAll, GivesPair, IsToCome}
+use Rattle.qs_paths.specs.inner.Coming.{AreAll, GivesPair, IsToCome}
 use Rattle.qs_paths.specs.declared.stream.Pairs.{Pairs}
 use Rattle.qs_paths.specs.inner.Seen.{known_in}
 use Rattle.qs_plan_meaning.specs.Scans.{path_pairs}

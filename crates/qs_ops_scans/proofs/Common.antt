@@ -4,7 +4,7 @@ use Rattle.std.specs.List.{AllByRecursion, cons_option, filter_map}
 use Rattle.std.proofs.lemmas.List.{get_or-set_other}
 use Rattle.qs_expr.specs.declared.cell.Cell.{Cell}
 use Rattle.qs_expr.specs.declared.cell.Cell.TheVariants.{Known}
-use Rattle.qs_expr.specs.Cell.{Cells, cell_at}
+use Rattle.qs_expr.specs.inner.Cell.{Cells, cell_at}
 use Rattle.qs_ops_scans.specs.declared.ends.EndActs.{EndActs}
 use Rattle.qs_ops_scans.specs.declared.opened.Acts.{Acts}
 use Rattle.qs_ops_scans.specs.inner.Ends.{act_made, acts_agree, acts_bound}

@@ -13,18 +13,18 @@ use Rattle.qs_terms.specs.declared.term.Term.{Term}
 use Rattle.qs_terms.proofs.FirstOnes.{distinct_kept}
 use Rattle.qs_terms.proofs.SameStatement.{same_graph-Decides, same_statement-Decides}
 use Rattle.qs_dict.specs.Dict.{term_at}
-use Rattle.qs_index.specs.Entry.{IsAscending}
-use Rattle.qs_index.specs.Permutation.{named_order_used, turned}
+use Rattle.qs_index.specs.inner.Entry.{IsAscending}
+use Rattle.qs_index.specs.inner.Permutation.{named_order_used, turned}
 use Rattle.qs_index.specs.declared.permutation.Permutation.{Permutation}
-use Rattle.qs_store.specs.ActiveGraph.{IsSeen, is_named}
+use Rattle.qs_store.specs.inner.ActiveGraph.{IsSeen, is_named}
 use Rattle.qs_store.specs.Content.{Content, HasKnownTerms}
-use Rattle.qs_store.specs.Entries.{or_blank}
+use Rattle.qs_store.specs.inner.Entries.{or_blank}
 use Rattle.qs_store.proofs.Members.{filter_has, here, member_of_filter, there}
 use Rattle.qs_algebra_solutions.specs.Solution.{Solution, term_at as bound_term}
 use Rattle.qs_algebra_patterns.specs.declared.pattern.TriplePattern.{TriplePattern}
 use Rattle.qs_expr.specs.declared.cell.Cell.TheVariants.{Known}
-use Rattle.qs_expr.specs.Cell.{Cells, denoted_if, row_solution, FitsRow}
-use Rattle.qs_expr.specs.Scratch.{IsTable}
+use Rattle.qs_expr.specs.inner.Cell.{Cells, denoted_if, row_solution, FitsRow}
+use Rattle.qs_expr.specs.inner.Scratch.{IsTable}
 use Rattle.qs_expr.proofs.Finding.{some_of}
 use Rattle.qs_expr.proofs.Rows.{bound_fits, bound_terms}
 use Rattle.qs_paths.proofs.Lists.{map_has, member_of_map, same_members}
@@ -36,7 +36,7 @@ use Rattle.qs_ops_scans.specs.inner.Makes.{AreMade, Makes}
 use Rattle.qs_ops_scans.specs.inner.Prepared.{prepared_triple}
 use Rattle.qs_ops_scans.specs.declared.opened.Given.{Given}
 use Rattle.qs_ops_scans.specs.declared.pattern.PreparedTriple.{PreparedTriple}
-use Rattle.qs_store.specs.NamedQuads.{AreNamedQuads, IsNamedMatch, IsNamedQuad}
+use Rattle.qs_store.specs.inner.NamedQuads.{AreNamedQuads, IsNamedMatch, IsNamedQuad}
 use Rattle.qs_ops_scans.specs.inner.Opened.{acts_of, bound, givens, passes, row_made}
 use Rattle.qs_ops_scans.specs.inner.Quads.{AreScanned, AreScannedBy, quad_made, triple_in}
 use Rattle.qs_ops_scans.proofs.Acts.{givens_are, made_bound, GivenAre}

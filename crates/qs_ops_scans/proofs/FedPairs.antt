@@ -20,11 +20,11 @@ use Rattle.qs_paths_meaning.proofs.Steady.{filters_swapped}
 use Rattle.qs_algebra_patterns.specs.Basic.{end_of, fits, is_repeated, Graph}
 use Rattle.qs_algebra_patterns.specs.declared.pattern.PathPattern.{PathPattern}
 use Rattle.qs_expr.specs.declared.cell.Cell.{Cell}
-use Rattle.qs_expr.specs.Cell.{denoted, denoted_if, FitsIf}
-use Rattle.qs_expr.specs.Scratch.{Grows, IsTable}
+use Rattle.qs_expr.specs.inner.Cell.{denoted, denoted_if, FitsIf}
+use Rattle.qs_expr.specs.inner.Scratch.{Grows, IsTable}
 use Rattle.qs_expr.proofs.Finding.{term_there}
 use Rattle.qs_expr.proofs.Growth.{goes_on}
-use Rattle.qs_paths.specs.Coming.{IsToCome}
+use Rattle.qs_paths.specs.inner.Coming.{IsToCome}
 use Rattle.qs_paths.specs.declared.stream.Pairs.{Pairs}
 use Rattle.qs_paths.specs.inner.Seen.{known_in}
 use Rattle.qs_plan_meaning.specs.Scans.{path_pairs}

@@ -1,7 +1,7 @@
 -- The first of the rows that a scan still makes.
 use Rattle.std.proofs.Common.{◌≡◌, ℕ, Bool, true, false, cond, Option, Some, None, if◌then◌else◌, List, [], ◌∷◌, map, drop, refl, sym, ◌∙◌, ap}
 use Rattle.std.specs.List.{filter, filter_map}
-use Rattle.qs_expr.specs.Cell.{Cells}
+use Rattle.qs_expr.specs.inner.Cell.{Cells}
 use Rattle.qs_ops_scans.specs.declared.opened.Acts.{Acts}
 use Rattle.qs_ops_scans.specs.inner.Opened.{bound, passes, row_made}
 use Rattle.qs_ops_scans.specs.inner.Quads.{quad_bound, quad_made, quad_passes}

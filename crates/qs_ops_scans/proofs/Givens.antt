@@ -9,8 +9,8 @@ use Rattle.qs_terms.specs.declared.term.Term.{Term}
 use Rattle.qs_terms.proofs.SameTerm.{same_term-Decides}
 use Rattle.qs_dict.specs.Dict.{number_of, term_at}
 use Rattle.qs_dict.proofs.Numbers.{exact_number}
-use Rattle.qs_index.specs.Agreeing.{fits}
-use Rattle.qs_store.specs.ActiveGraph.{IsSeen}
+use Rattle.qs_index.specs.inner.Agreeing.{fits}
+use Rattle.qs_store.specs.inner.ActiveGraph.{IsSeen}
 use Rattle.qs_store.specs.Content.{Content, HasKnownTerms}
 use Rattle.qs_store.proofs.TriplesSaid.{same_number}
 use Rattle.qs_algebra_solutions.specs.Solution.{Solution, compatible_terms}
@@ -19,8 +19,8 @@ use Rattle.qs_algebra_patterns.specs.declared.pattern.Slot.TheVariants as slot
 use Rattle.qs_algebra_patterns.specs.declared.pattern.TriplePattern.{TriplePattern}
 use Rattle.qs_expr.specs.declared.cell.Cell.{Cell}
 use Rattle.qs_expr.specs.declared.cell.Cell.TheVariants.{Known, Scratch}
-use Rattle.qs_expr.specs.Cell.{Cells, cell_at, denoted, denoted_if, row_solution, FitsRow}
-use Rattle.qs_expr.specs.Scratch.{IsTable}
+use Rattle.qs_expr.specs.inner.Cell.{Cells, cell_at, denoted, denoted_if, row_solution, FitsRow}
+use Rattle.qs_expr.specs.inner.Scratch.{IsTable}
 use Rattle.qs_expr.proofs.Finding.{term_there}
 use Rattle.qs_expr.proofs.RowTerms.{term_at_row}
 use Rattle.qs_paths.proofs.Scanned.{number_there}

@@ -9,14 +9,14 @@ use Rattle.qs_terms.specs.Term.{same_term}
 use Rattle.qs_terms.specs.declared.term.Term.{Term}
 use Rattle.qs_terms.proofs.SameTerm.{same_term-Decides}
 use Rattle.qs_dict.specs.Dict.{term_at}
-use Rattle.qs_store.specs.ActiveGraph.{IsSeen, active_graph}
+use Rattle.qs_store.specs.inner.ActiveGraph.{IsSeen, active_graph}
 use Rattle.qs_store.specs.Content.{Content}
-use Rattle.qs_store.specs.Triples.{AreTriples}
+use Rattle.qs_store.specs.inner.Triples.{AreTriples}
 use Rattle.qs_store.specs.declared.active.Active.{Active}
 use Rattle.qs_store.specs.declared.default_graph.DefaultGraph.{DefaultGraph}
 use Rattle.qs_paths_meaning.proofs.Members.{not_in}
 use Rattle.qs_expr.specs.declared.cell.Cell.TheVariants.{Known, Scratch}
-use Rattle.qs_expr.specs.Scratch.{IsTable}
+use Rattle.qs_expr.specs.inner.Scratch.{IsTable}
 use Rattle.qs_paths.proofs.Naming.{name, naming}
 use Rattle.qs_paths.proofs.Scanned.{node_number, tells_begin, tells_end}
 use Rattle.qs_ops_scans.specs.inner.Given.{TellsNode}

@@ -11,7 +11,7 @@ use Rattle.qs_terms.specs.Dataset.{Triple, names_of}
 use Rattle.qs_terms.specs.Statement.{Statement}
 use Rattle.qs_terms.specs.Term.{same_term}
 use Rattle.qs_terms.specs.declared.term.Term.{Term}
-use Rattle.qs_store.specs.ActiveGraph.{IsSeen}
+use Rattle.qs_store.specs.inner.ActiveGraph.{IsSeen}
 use Rattle.qs_store.specs.Content.{Content}
 use Rattle.qs_algebra_solutions.specs.Solution.{Solution, term_at, unbound, compatible_terms, first_bound}
 use Rattle.qs_algebra_solutions.specs.Operators.{merges}
@@ -21,7 +21,7 @@ use Rattle.qs_algebra_patterns.specs.declared.pattern.Slot.TheVariants as slot
 use Rattle.qs_algebra_patterns.specs.declared.pattern.TriplePattern.{TriplePattern}
 use Rattle.qs_expr.specs.declared.cell.Cell.{Cell}
 use Rattle.qs_expr.specs.declared.cell.Cell.TheVariants.{Known}
-use Rattle.qs_expr.specs.Cell.{Cells, cell_at, denoted_if, row_solution, FitsRow}
+use Rattle.qs_expr.specs.inner.Cell.{Cells, cell_at, denoted_if, row_solution, FitsRow}
 use Rattle.qs_expr.proofs.RowTerms.{term_at_row}
 use Rattle.qs_expr.proofs.Rows.{set_fits, set_terms}
 use Rattle.qs_plan_meaning.specs.Scans.{bound_at, bound_slot, bound_triple, extensions, then_bound}

@@ -8,7 +8,7 @@ use Rattle.qs_terms.specs.declared.term.Term.{Term}
 use Rattle.qs_terms.proofs.SameStatement.{same_graph-Decides}
 use Rattle.qs_dict.specs.Dict.{number_of, term_at}
 use Rattle.qs_dict.proofs.Numbers.{exact_number}
-use Rattle.qs_store.specs.ActiveGraph.{IsSeen, active_graph}
+use Rattle.qs_store.specs.inner.ActiveGraph.{IsSeen, active_graph}
 use Rattle.qs_store.specs.Content.{Content}
 use Rattle.qs_store.specs.declared.active.Active.{Active}
 use Rattle.qs_store.specs.declared.active.Active.TheVariants as active
@@ -18,8 +18,8 @@ use Rattle.qs_algebra_solutions.specs.Solution.{Solution}
 use Rattle.qs_algebra_patterns.specs.Basic.{Graph}
 use Rattle.qs_expr.specs.declared.cell.Cell.{Cell}
 use Rattle.qs_expr.specs.declared.cell.Cell.TheVariants.{Known, Scratch}
-use Rattle.qs_expr.specs.Cell.{Cells, cell_at, denoted, denoted_if, row_solution, FitsRow}
-use Rattle.qs_expr.specs.Scratch.{IsTable}
+use Rattle.qs_expr.specs.inner.Cell.{Cells, cell_at, denoted, denoted_if, row_solution, FitsRow}
+use Rattle.qs_expr.specs.inner.Scratch.{IsTable}
 use Rattle.qs_expr.proofs.Finding.{term_there}
 use Rattle.qs_expr.proofs.RowTerms.{term_at_row}
 use Rattle.qs_paths.proofs.Scanned.{number_there}

@@ -16,19 +16,19 @@ use Rattle.qs_terms.proofs.FirstOnes.{once_distinct}
 use Rattle.qs_terms.proofs.SameTerm.{same_term-Decides}
 use Rattle.qs_dict.specs.Dict.{number_of, term_at}
 use Rattle.qs_dict.proofs.Numbers.{exact_number}
-use Rattle.qs_store.specs.ActiveGraph.{IsSeen}
+use Rattle.qs_store.specs.inner.ActiveGraph.{IsSeen}
 use Rattle.qs_store.specs.Content.{Content}
-use Rattle.qs_store.specs.Entries.{or_blank, term_or}
-use Rattle.qs_store.specs.Graphs.{AreGraphs, IsGraph}
-use Rattle.qs_store.specs.Triples.{AreTriples, IsActive, IsMatch, IsTriple}
+use Rattle.qs_store.specs.inner.Entries.{or_blank, term_or}
+use Rattle.qs_store.specs.inner.Graphs.{AreGraphs, IsGraph}
+use Rattle.qs_store.specs.inner.Triples.{AreTriples, IsActive, IsMatch, IsTriple}
 use Rattle.qs_store.specs.declared.active.Active.TheVariants as active
 use Rattle.qs_store.specs.declared.default_graph.DefaultGraph.{DefaultGraph}
 use Rattle.qs_store.proofs.Members.{here, nothing, head_or_tail, there}
 use Rattle.qs_store.proofs.TriplesSaid.{same_number}
 use Rattle.qs_algebra_solutions.specs.Solution.{Solution}
 use Rattle.qs_expr.specs.declared.cell.Cell.TheVariants.{Known, Scratch}
-use Rattle.qs_expr.specs.Cell.{Cells, denoted, row_solution, FitsRow}
-use Rattle.qs_expr.specs.Scratch.{IsTable}
+use Rattle.qs_expr.specs.inner.Cell.{Cells, denoted, row_solution, FitsRow}
+use Rattle.qs_expr.specs.inner.Scratch.{IsTable}
 use Rattle.qs_expr.proofs.Finding.{some_of}
 use Rattle.qs_expr.proofs.Rows.{bound_fits, bound_terms}
 use Rattle.qs_paths.proofs.Lists.{any_of, map_has, member_of_map, of_any, once_has, once_only, same_members}

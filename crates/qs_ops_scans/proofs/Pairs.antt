@@ -17,8 +17,8 @@ use Rattle.qs_algebra_patterns.specs.declared.pattern.Slot.{Slot}
 use Rattle.qs_algebra_patterns.specs.declared.pattern.Slot.TheVariants as slot
 use Rattle.qs_algebra_patterns.specs.declared.pattern.PathPattern.{PathPattern}
 use Rattle.qs_expr.specs.declared.cell.Cell.{Cell}
-use Rattle.qs_expr.specs.Cell.{Cells, cell_at, denoted, row_solution, FitsRow}
-use Rattle.qs_expr.specs.Scratch.{IsTable}
+use Rattle.qs_expr.specs.inner.Cell.{Cells, cell_at, denoted, row_solution, FitsRow}
+use Rattle.qs_expr.specs.inner.Scratch.{IsTable}
 use Rattle.qs_paths.proofs.Lists.{map_has, member_of_map}
 use Rattle.qs_plan_meaning.specs.Scans.{bound_end, bound_ends, path_extensions, path_pairs}
 use Rattle.qs_ops_scans.specs.inner.Makes.{AreMade}

@@ -10,7 +10,7 @@ use Rattle.qs_terms.specs.declared.term.Term.{Term}
 use Rattle.qs_terms.proofs.Counts.{same_from_times, times-flat_map, total, total-ap}
 use Rattle.qs_terms.proofs.FirstOnes.{once_distinct, or_left_false, or_right_false}
 use Rattle.qs_terms.proofs.SameTerm.{same_term-Decides}
-use Rattle.qs_store.specs.ActiveGraph.{is_named}
+use Rattle.qs_store.specs.inner.ActiveGraph.{is_named}
 use Rattle.qs_store.proofs.Members.{head_or_tail, here, nothing, there}
 use Rattle.qs_algebra_solutions.specs.Solution.{Solution, same_solution}
 use Rattle.qs_algebra_solutions.proofs.Same.{same_solution-Decides}

@@ -5,10 +5,10 @@ use Rattle.std.specs.List.{Contains, list_any}
 use Rattle.qs_terms.specs.Bag.{Distinct}
 use Rattle.qs_terms.specs.declared.term.Term.{Term}
 use Rattle.qs_dict.specs.Dict.{term_at}
-use Rattle.qs_index.specs.Entry.{IsAscending}
-use Rattle.qs_store.specs.ActiveGraph.{IsSeen}
+use Rattle.qs_index.specs.inner.Entry.{IsAscending}
+use Rattle.qs_store.specs.inner.ActiveGraph.{IsSeen}
 use Rattle.qs_store.specs.Content.{Content}
-use Rattle.qs_store.specs.Entries.{or_blank}
+use Rattle.qs_store.specs.inner.Entries.{or_blank}
 use Rattle.qs_store.proofs.Members.{before_member, here, not_before_itself, there}
 use Rattle.qs_store.proofs.TriplesSaid.{same_number}
 use Rattle.qs_paths.proofs.Lists.{map_has, member_of_map, of_any}

@@ -10,12 +10,12 @@ use Rattle.qs_terms.specs.declared.term.Term.{Term}
 use Rattle.qs_terms.proofs.Counts.{times-flat_map, times-same, total-same, total-ap, same_from_times}
 use Rattle.qs_terms.proofs.FirstOnes.{distinct_kept}
 use Rattle.qs_dict.specs.Dict.{term_at}
-use Rattle.qs_index.specs.Entry.{IsAscending}
+use Rattle.qs_index.specs.inner.Entry.{IsAscending}
 use Rattle.qs_index.specs.declared.permutation.Permutation.{Permutation}
-use Rattle.qs_store.specs.ActiveGraph.{IsSeen, active_graph}
+use Rattle.qs_store.specs.inner.ActiveGraph.{IsSeen, active_graph}
 use Rattle.qs_store.specs.Content.{Content, HasKnownTerms}
-use Rattle.qs_store.specs.Entries.{or_blank}
-use Rattle.qs_store.specs.Triples.{IsActive, IsMatch, IsTriple, AreTriplesAnyhow, turned_triple}
+use Rattle.qs_store.specs.inner.Entries.{or_blank}
+use Rattle.qs_store.specs.inner.Triples.{IsActive, IsMatch, IsTriple, AreTriplesAnyhow, turned_triple}
 use Rattle.qs_store.specs.declared.active.Active.{Active}
 use Rattle.qs_store.specs.declared.active.Active.TheVariants as active
 use Rattle.qs_store.specs.declared.default_graph.DefaultGraph.{DefaultGraph}
@@ -24,8 +24,8 @@ use Rattle.qs_algebra_solutions.specs.Solution.{Solution, same_solution}
 use Rattle.qs_algebra_solutions.proofs.Same.{same_solution-Decides}
 use Rattle.qs_algebra_patterns.specs.Basic.{Graph}
 use Rattle.qs_algebra_patterns.specs.declared.pattern.TriplePattern.{TriplePattern}
-use Rattle.qs_expr.specs.Cell.{Cells, row_solution, FitsRow}
-use Rattle.qs_expr.specs.Scratch.{IsTable}
+use Rattle.qs_expr.specs.inner.Cell.{Cells, row_solution, FitsRow}
+use Rattle.qs_expr.specs.inner.Scratch.{IsTable}
 use Rattle.qs_paths.proofs.Active.{active_has, active_only, active_once, same_triple-Decides}
 use Rattle.qs_paths.proofs.Lists.{map_has, member_of_map, same_members}
 use Rattle.qs_paths.proofs.Scanned.{number_there}

@@ -4,12 +4,12 @@ use Rattle.std.specs.List.{AllByRecursion, filter, filter_map}
 use Rattle.std.proofs.lemmas.Bool.{false≢true, eqb-true}
 use Rattle.std.proofs.lemmas.List.{get_or-set_same, length-set, map-append}
 use Rattle.std.proofs.lemmas.List.Elements.{filter-append}
-use Rattle.qs_index.specs.Agreeing.{fits}
+use Rattle.qs_index.specs.inner.Agreeing.{fits}
 use Rattle.qs_index.specs.inner.Skipped.{IsSkipped}
-use Rattle.qs_store.specs.Triples.{triple_fits}
+use Rattle.qs_store.specs.inner.Triples.{triple_fits}
 use Rattle.qs_expr.specs.declared.cell.Cell.{Cell}
 use Rattle.qs_expr.specs.declared.cell.Cell.TheVariants.{Known}
-use Rattle.qs_expr.specs.Cell.{Cells, cell_at}
+use Rattle.qs_expr.specs.inner.Cell.{Cells, cell_at}
 use Rattle.qs_ops_scans.specs.Skipped.{SharesCellAt, ShareCells, SkipsRows}
 use Rattle.qs_ops_scans.specs.declared.opened.Act.{Act}
 use Rattle.qs_ops_scans.specs.declared.opened.Act.TheVariants.{Pass, Bind, AsSubject, AsPredicate}

@@ -10,8 +10,8 @@ use Rattle.qs_algebra_patterns.specs.Basic.{Graph}
 use Rattle.qs_algebra_patterns.specs.declared.pattern.PathPattern.{PathPattern}
 use Rattle.qs_expr.specs.declared.cell.Cell.{Cell}
 use Rattle.qs_expr.specs.declared.cell.Cell.TheVariants.{Known}
-use Rattle.qs_expr.specs.Cell.{Cells, same_cell, FitsRow}
-use Rattle.qs_expr.specs.Scratch.{IsTable}
+use Rattle.qs_expr.specs.inner.Cell.{Cells, same_cell, FitsRow}
+use Rattle.qs_expr.specs.inner.Scratch.{IsTable}
 use Rattle.qs_expr.proofs.Finding.{same_cell-Decides}
 use Rattle.qs_plan_meaning.specs.Scans.{path_extensions, path_pairs}
 use Rattle.qs_ops_scans.specs.inner.Makes.{AreMade}

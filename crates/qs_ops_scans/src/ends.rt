@@ -1,7 +1,7 @@
 //! The ends of a path pattern, and what a pair of cells makes of a row.
 
 ghost use Rattle.std.specs.Prelude.{◌≡◌, true};
-ghost use Rattle.qs_expr.specs.Cell.{Cells, cell_at};
+ghost use Rattle.qs_expr.specs.inner.Cell.{Cells, cell_at};
 ghost use Rattle.qs_expr.specs.declared.cell.Cell.{Cell as CellValue};
 ghost use Rattle.qs_algebra_patterns.specs.Basic.{is_repeated};
 ghost use Rattle.qs_ops_scans.specs.inner.Ends.{act_agrees, act_bound, acts_agree, acts_bound, binds_end, bound_cell, end_acts, ends_of, object_act, open_act, subject_act, variable_of};

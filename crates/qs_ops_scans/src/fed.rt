@@ -1,9 +1,9 @@
 //! The pairs of a path that serve the rows with some cells at its ends.
 
 ghost use Rattle.std.specs.Prelude.{◌≡◌, ◌↔◌, IsTrue, IfOk, Some};
-ghost use Rattle.qs_store.specs.ActiveGraph.{active_graph};
-ghost use Rattle.qs_expr.specs.Cell.{FitsIf};
-ghost use Rattle.qs_expr.specs.Scratch.{Grows, IsTable};
+ghost use Rattle.qs_store.specs.inner.ActiveGraph.{active_graph};
+ghost use Rattle.qs_expr.specs.inner.Cell.{FitsIf};
+ghost use Rattle.qs_expr.specs.inner.Scratch.{Grows, IsTable};
 ghost use Rattle.qs_ops_scans.specs.inner.Paths.{Serve};
 ghost use Rattle.qs_ops_scans.specs.inner.Given.{IsGiven};
 

@@ -3,11 +3,11 @@
 ghost use Rattle.std.specs.Prelude.{◌≡◌, ◌++◌, false, IfOk, IfSome};
 ghost use Rattle.std.specs.List.Sorted.{IsNonDecreasingBy};
 ghost use Rattle.qs_terms.specs.Bag.{SameBag};
-ghost use Rattle.qs_store.specs.ActiveGraph.{active_graph};
+ghost use Rattle.qs_store.specs.inner.ActiveGraph.{active_graph};
 ghost use Rattle.qs_algebra_patterns.specs.Basic.{end_of};
-ghost use Rattle.qs_expr.specs.Cell.{FitsIf, denoted_if};
-ghost use Rattle.qs_expr.specs.Scratch.{Grows, IsTable};
-ghost use Rattle.qs_paths.specs.Coming.{AreAll};
+ghost use Rattle.qs_expr.specs.inner.Cell.{FitsIf, denoted_if};
+ghost use Rattle.qs_expr.specs.inner.Scratch.{Grows, IsTable};
+ghost use Rattle.qs_paths.specs.inner.Coming.{AreAll};
 ghost use Rattle.qs_plan_meaning.specs.Scans.{path_pairs};
 ghost use Rattle.qs_ops_scans.specs.inner.Paths.{ArePairs};
 ghost use Rattle.qs_ops_scans.specs.inner.Kept.{AreCollected, IsTaken, kept_with};

@@ -1,6 +1,6 @@
 //! What holds of the content of each view.
 
-ghost use Rattle.qs_store.specs.ActiveGraph.{IsSeen};
+ghost use Rattle.qs_store.specs.inner.ActiveGraph.{IsSeen};
 
 use qs_store::View;
 

@@ -1,7 +1,7 @@
 //! Whether a term is a node of a graph.
 
 ghost use Rattle.std.specs.Prelude.{◌≡◌, ◌<◌, ◌^◌, length};
-ghost use Rattle.qs_store.specs.ActiveGraph.{active_graph};
+ghost use Rattle.qs_store.specs.inner.ActiveGraph.{active_graph};
 ghost use Rattle.qs_expr.specs.declared.cell.Cell.TheVariants as cell_is;
 ghost use Rattle.qs_ops_scans.specs.inner.Given.{TellsNode};
 

@@ -1,7 +1,7 @@
 //! What a scan leaves to be tested and bound for a row.
 
 ghost use Rattle.std.specs.Prelude.{◌≡◌, ◌∷◌, [], ℕ, List, true};
-ghost use Rattle.qs_expr.specs.Cell.{Cells, cell_at};
+ghost use Rattle.qs_expr.specs.inner.Cell.{Cells, cell_at};
 ghost use Rattle.qs_ops_scans.specs.inner.Opened.{act_bound, act_passes, acts_of, binds, bound, given_cell, given_of, givens, if_open, object_act, passes, predicate_act, subject_act};
 
 use crate::pattern::{Place, PreparedTriple};

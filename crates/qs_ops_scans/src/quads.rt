@@ -4,7 +4,7 @@ ghost use Rattle.std.specs.Prelude.{◌≡◌, ◌<◌, ◌≤◌, ℕ, true, fa
 ghost use Rattle.std.specs.Iterator.{YieldsFirst};
 ghost use Rattle.std.specs.List.{AllByRecursion, filter};
 ghost use Rattle.qs_algebra_patterns.specs.declared.pattern.TriplePattern.{TriplePattern};
-ghost use Rattle.qs_expr.specs.Cell.{cell_at};
+ghost use Rattle.qs_expr.specs.inner.Cell.{cell_at};
 ghost use Rattle.qs_ops_scans.specs.inner.Each.{each_extension, each_joined, misses, place_misses};
 ghost use Rattle.qs_ops_scans.specs.inner.Makes.{GivesFirst, Makes};
 ghost use Rattle.qs_ops_scans.specs.inner.Prepared.{prepared_triple};

@@ -3,8 +3,8 @@
 
 ghost use Rattle.std.specs.Prelude.{◌≡◌, ℕ, List, true, false, Some};
 ghost use Rattle.std.specs.List.{AllByRecursion};
-ghost use Rattle.qs_store.specs.Triples.{triple_fits};
-ghost use Rattle.qs_expr.specs.Cell.{Cells, cell_at};
+ghost use Rattle.qs_store.specs.inner.Triples.{triple_fits};
+ghost use Rattle.qs_expr.specs.inner.Cell.{Cells, cell_at};
 ghost use Rattle.qs_ops_scans.specs.Skipped.{SharesCellAt};
 ghost use Rattle.qs_ops_scans.specs.declared.opened.Act.TheVariants as act_of;
 ghost use Rattle.qs_ops_scans.specs.inner.Opened.{act_bound, bound};

@@ -3,9 +3,9 @@
 ghost use Rattle.std.specs.Prelude.{◌≡◌, ℕ, List, Some, drop, IfSome, OnErr};
 ghost use Rattle.std.specs.Iterator.{YieldsFirst};
 ghost use Rattle.std.specs.List.{AllByRecursion, filter};
-ghost use Rattle.qs_store.specs.ActiveGraph.{active_graph};
+ghost use Rattle.qs_store.specs.inner.ActiveGraph.{active_graph};
 ghost use Rattle.qs_algebra_patterns.specs.declared.pattern.TriplePattern.{TriplePattern};
-ghost use Rattle.qs_expr.specs.Cell.{cell_at};
+ghost use Rattle.qs_expr.specs.inner.Cell.{cell_at};
 ghost use Rattle.qs_plan_meaning.specs.declared.stage.Look.{Look};
 ghost use Rattle.qs_plan_meaning.specs.Scans.{extensions};
 ghost use Rattle.qs_plan_meaning.specs.Stages.{looked};

@@ -2,8 +2,8 @@
 use Rattle.std.proofs.Common.{◌≡◌, ℕ, zero, suc, List, [], ◌∷◌, map, Option, Some, None, IfSome, sym}
 use Rattle.std.specs.List.{AllByRecursion}
 use Rattle.qs_expr.specs.declared.cell.Cell.{Cell}
-use Rattle.qs_expr.specs.Cell.{Cells, cell_at}
-use Rattle.qs_expr.specs.Row.{first_cell, merged_cells}
+use Rattle.qs_expr.specs.inner.Cell.{Cells, cell_at}
+use Rattle.qs_expr.specs.inner.Row.{first_cell, merged_cells}
 use Rattle.qs_ops_tables.specs.inner.Tables.{merges_cells, partners}
 
 first_stays : (x y : Option Cell) (c : Cell) → x ≡ Some c → first_cell x y ≡ Some c

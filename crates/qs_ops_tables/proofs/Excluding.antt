@@ -3,8 +3,8 @@ use Rattle.std.proofs.Common.{◌≡◌, ℕ, zero, suc, ◌+◌, ◌<◌, ◌�
 use Rattle.std.specs.List.{list_any}
 use Rattle.std.proofs.lemmas.List.{drop_all, length-take}
 use Rattle.qs_expr.specs.declared.cell.Cell.{Cell}
-use Rattle.qs_expr.specs.Cell.{Cells, cell_at, same_cell}
-use Rattle.qs_expr.specs.Row.{agree, compatible_cells}
+use Rattle.qs_expr.specs.inner.Cell.{Cells, cell_at, same_cell}
+use Rattle.qs_expr.specs.inner.Row.{agree, compatible_cells}
 use Rattle.qs_ops_tables.specs.inner.Tables.{both_cells, share_cells, excludes_cells, partners}
 use Rattle.qs_ops_tables.specs.inner.Excluding.{share_next, excludes_from}
 use Rattle.qs_ops_tables.specs.inner.Keys.{key_hash, IsHashOf, Passes, Meets, MeetsNone}

@@ -4,8 +4,8 @@ use Rattle.std.specs.Option.{option_map, option_and_then}
 use Rattle.std.proofs.lemmas.Bool.Decides.{Decides-eqb}
 use Rattle.qs_expr.specs.declared.cell.Cell.{Cell}
 use Rattle.qs_expr.specs.declared.cell.Cell.TheVariants.{Known, Scratch}
-use Rattle.qs_expr.specs.Cell.{Cells, cell_at, same_cell}
-use Rattle.qs_expr.specs.Row.{agree, compatible_cells}
+use Rattle.qs_expr.specs.inner.Cell.{Cells, cell_at, same_cell}
+use Rattle.qs_expr.specs.inner.Row.{agree, compatible_cells}
 use Rattle.qs_ops_tables.specs.inner.Keys.{number, mix, mix_cell, hash_from, upper, key_hash}
 
 same_from : (c d : Cell) → same_cell c d ≡ true → c ≡ d

@@ -5,8 +5,8 @@ use Rattle.std.proofs.Math.ListN.{length-set, set}
 use Rattle.std.proofs.lemmas.List.{get_or-set_same, get_or-set_other, get_or_read, drop_all, take_all}
 use Rattle.std.proofs.lemmas.Nat.{and_le_r}
 use Rattle.qs_ops_tables.specs.declared.index.Link.{Link}
-use Rattle.qs_expr.specs.Cell.{Cells}
-use Rattle.qs_expr.specs.Row.{compatible_cells}
+use Rattle.qs_expr.specs.inner.Cell.{Cells}
+use Rattle.qs_expr.specs.inner.Row.{compatible_cells}
 use Rattle.qs_ops_tables.specs.inner.Tables.{partners}
 use Rattle.qs_ops_tables.specs.inner.Keys.{key_hash, no_link, link_at, row_at, head_at, IsHashOf, Passes, Skips, IsLink, IsIndexFrom, IsIndex, Meets, MeetsNone}
 use Rattle.qs_ops_tables.proofs.Hashes.{apart}

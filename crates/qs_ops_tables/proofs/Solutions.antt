@@ -6,9 +6,9 @@ use Rattle.qs_terms.specs.declared.term.Term.{Term}
 use Rattle.qs_algebra_solutions.specs.Solution.{Solution, compatible, merge, both_bound, share}
 use Rattle.qs_algebra_solutions.specs.Operators.{merges, excludes}
 use Rattle.qs_expr.specs.declared.cell.Cell.{Cell}
-use Rattle.qs_expr.specs.Cell.{Cells, cell_at, denoted, denoted_if, row_solution, FitsRow}
-use Rattle.qs_expr.specs.Row.{compatible_cells, merged_cells}
-use Rattle.qs_expr.specs.Scratch.{IsTable}
+use Rattle.qs_expr.specs.inner.Cell.{Cells, cell_at, denoted, denoted_if, row_solution, FitsRow}
+use Rattle.qs_expr.specs.inner.Row.{compatible_cells, merged_cells}
+use Rattle.qs_expr.specs.inner.Scratch.{IsTable}
 use Rattle.qs_expr.proofs.Finding.{term_there}
 use Rattle.qs_expr.proofs.Rows.{compatible_terms_of, merged_terms, merged_fits, fits_first, fits_rest}
 use Rattle.std.proofs.Math.Seq.{take-length}

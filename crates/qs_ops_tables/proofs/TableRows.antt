@@ -6,8 +6,8 @@ use Rattle.qs_terms.specs.declared.term.Term.{Term}
 use Rattle.qs_algebra_solutions.specs.Solution.{Solution, bind_all}
 use Rattle.qs_algebra_solutions.proofs.Bindings.{one_more}
 use Rattle.qs_expr.specs.declared.cell.Cell.{Cell}
-use Rattle.qs_expr.specs.Cell.{Cells, denoted, denoted_if, row_solution, FitsIf, FitsRow}
-use Rattle.qs_expr.specs.Scratch.{IsTable, Grows}
+use Rattle.qs_expr.specs.inner.Cell.{Cells, denoted, denoted_if, row_solution, FitsIf, FitsRow}
+use Rattle.qs_expr.specs.inner.Scratch.{IsTable, Grows}
 use Rattle.qs_expr.proofs.Finding.{some_of}
 use Rattle.qs_expr.proofs.Growth.{stays, same_row, still_row}
 use Rattle.qs_ops_tables.specs.inner.Tables.{FitRows, row_solutions}

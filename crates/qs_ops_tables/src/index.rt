@@ -1,7 +1,7 @@
 //! An index of rows by their cells at the variables of a key.
 
 ghost use Rattle.std.specs.Prelude.{◌≡◌, ◌<◌, ◌+◌, ◌^◌, [], length, replicate, take, IfOk, IfSome, MatchOption};
-ghost use Rattle.qs_expr.specs.Cell.{cell_at};
+ghost use Rattle.qs_expr.specs.inner.Cell.{cell_at};
 ghost use Rattle.qs_ops_tables.specs.inner.Keys as keys;
 ghost use Rattle.qs_ops_tables.specs.inner.Keys.{IsIndex, Meets, MeetsNone, Passes, key_hash};
 

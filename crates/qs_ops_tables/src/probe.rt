@@ -2,7 +2,7 @@
 
 ghost use Rattle.std.specs.Prelude.{◌≡◌, [], ◌∷◌, Some, IfOk, IfSome, OnErr, MatchOption};
 ghost use Rattle.std.specs.List.{AllByRecursion};
-ghost use Rattle.qs_expr.specs.Cell.{cell_at};
+ghost use Rattle.qs_expr.specs.inner.Cell.{cell_at};
 ghost use Rattle.qs_ops_tables.specs.inner.Tables.{FitsMerges, GivesMerges, merges_cells};
 
 use crate::kept::KeptTable;
@@ -22,7 +22,7 @@ pub struct Probe {
 
 impl Model for Probe {
     ghost use Rattle.std.specs.Prelude.{List, drop};
-    ghost use Rattle.qs_expr.specs.Cell.{Cells};
+    ghost use Rattle.qs_expr.specs.inner.Cell.{Cells};
     ghost use Rattle.qs_ops_tables.specs.inner.Tables.{merges_cells};
     ghost use Rattle.qs_ops_tables.specs.inner.Keys.{IsHashOf};
 

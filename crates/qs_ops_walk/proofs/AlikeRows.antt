@@ -10,7 +10,7 @@ use Rattle.qs_terms.specs.declared.term.Term.{Term}
 use Rattle.qs_algebra_solutions.specs.Solution.{Solution, projected, term_at}
 use Rattle.qs_algebra_patterns.specs.Eval.{all_hold}
 use Rattle.qs_expr.specs.declared.cell.Cell.{Cell}
-use Rattle.qs_expr.specs.Cell.{Cells, cell_at, denoted_if, row_solution, FitsRow}
+use Rattle.qs_expr.specs.inner.Cell.{Cells, cell_at, denoted_if, row_solution, FitsRow}
 use Rattle.qs_ops_program.specs.inner.Flow.{Instruction, IsForward, NamesBefore, flow, is_union}
 use Rattle.qs_ops_program.proofs.Flows.{past_end, flow_fork, flow_step}
 use Rattle.qs_ops_tables.specs.inner.Tables.{row_solutions}
@@ -27,7 +27,7 @@ use Rattle.qs_ops_walk.specs.inner.Coming.{Going, going, or_else, source_items, 
 use Rattle.qs_ops_walk.specs.inner.Moves.{IsWalk}
 use Rattle.qs_ops_walk.specs.inner.Cursor.{named_coming, rows_left, is_done, IsOp}
 use Rattle.qs_ops_walk.specs.inner.Alike.{HasCell, HasCellIf, HasCommon, SharesCell, IsSourceAlike, IsLastAlike, KeepsAll, SharesTerms, ArePassed, SkipsAlike}
-use Rattle.qs_ops_walk.specs.Stream.{Stream, PassesAlike}
+use Rattle.qs_ops_walk.specs.inner.Stream.{Stream, PassesAlike}
 use Rattle.qs_ops_walk.proofs.Cursors.{op_walk}
 use Rattle.qs_ops_walk.proofs.Passes.{cell_term}
 use Rattle.qs_ops_walk.proofs.Steps.{over_walk}

@@ -3,9 +3,9 @@ use Rattle.std.proofs.Common.{◌≡◌, ℕ, Bool, true, false, List, map, take
 use Rattle.qs_terms.specs.Bag.{SameBag}
 use Rattle.qs_terms.specs.declared.term.Term.{Term}
 use Rattle.qs_algebra_solutions.specs.Solution.{Solution}
-use Rattle.qs_expr.specs.Cell.{Cells, denoted_if, row_solution, FitsIf, FitsRow}
-use Rattle.qs_expr.specs.Row.{no_cells}
-use Rattle.qs_expr.specs.Scratch.{IsTable, Grows}
+use Rattle.qs_expr.specs.inner.Cell.{Cells, denoted_if, row_solution, FitsIf, FitsRow}
+use Rattle.qs_expr.specs.inner.Row.{no_cells}
+use Rattle.qs_expr.specs.inner.Scratch.{IsTable, Grows}
 use Rattle.qs_expr.specs.declared.cell.Cell.{Cell}
 use Rattle.qs_expr.proofs.Growth.{still_fits, still_same}
 use Rattle.qs_expr.proofs.Rows.{no_cells_unbound, no_cells_fit, set_terms, set_fits}

@@ -3,7 +3,7 @@ use Rattle.std.proofs.Common.{◌≡◌, ℕ, ◌≤◌, List, [], ◌∷◌, �
 use Rattle.std.specs.List.{AllByRecursion}
 use Rattle.std.proofs.lemmas.List.{map-append}
 use Rattle.qs_terms.specs.declared.term.Term.{Term}
-use Rattle.qs_expr.specs.Cell.{Cells, row_solution, FitsRow}
+use Rattle.qs_expr.specs.inner.Cell.{Cells, row_solution, FitsRow}
 use Rattle.qs_plan_meaning.specs.declared.stage.Stage.{Stage}
 use Rattle.qs_ops_program.specs.inner.Flow.{Instruction, IsForward, flow}
 use Rattle.qs_ops_program.specs.inner.Heights.{stages_height, IsLow}

@@ -5,7 +5,7 @@ use Rattle.qs_algebra_solutions.specs.Solution.{Solution}
 use Rattle.qs_algebra_patterns.specs.Eval.{all_hold}
 use Rattle.qs_expr_meaning.specs.Meaning.{holds}
 use Rattle.qs_expr_meaning.specs.declared.expr.Expr.{Expr}
-use Rattle.qs_expr.specs.Condition.{Prepared}
+use Rattle.qs_expr.specs.inner.Condition.{Prepared}
 use Rattle.qs_ops_walk.specs.inner.Works.{expr_of}
 
 pub all_at : {X : Type 0} (P : X → Type 0) (xs : List X) (i : ℕ) (x : X) → i < length xs → x ≡ get_or xs i x → AllByRecursion P xs → P x

@@ -3,11 +3,11 @@ use Rattle.std.proofs.Common.{◌≡◌, ℕ, Bool, true, false, List, ◌∷◌
 use Rattle.qs_terms.specs.Bag.{SameBag}
 use Rattle.qs_terms.specs.declared.term.Term.{Term}
 use Rattle.qs_algebra_solutions.specs.Solution.{Solution, unbound}
-use Rattle.qs_expr.specs.Cell.{Cells, row_solution}
-use Rattle.qs_expr.specs.Scratch.{Grows}
+use Rattle.qs_expr.specs.inner.Cell.{Cells, row_solution}
+use Rattle.qs_expr.specs.inner.Scratch.{Grows}
 use Rattle.qs_plan_meaning.specs.declared.stage.Stage.{Stage}
 use Rattle.qs_ops_program.specs.inner.Flow.{Instruction}
-use Rattle.qs_ops_walk.specs.Stream.{GivesOne, solution_if}
+use Rattle.qs_ops_walk.specs.inner.Stream.{GivesOne, solution_if}
 use Rattle.qs_ops_walk.specs.declared.source.Level.{Level}
 use Rattle.qs_ops_walk.specs.declared.work.Place.{Place}
 use Rattle.qs_ops_walk.specs.inner.Setting.{Setting, known_of, through_in}

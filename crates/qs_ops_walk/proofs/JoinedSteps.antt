@@ -5,8 +5,8 @@ use Rattle.qs_terms.specs.declared.term.Term.{Term}
 use Rattle.qs_algebra_solutions.specs.Solution.{term_at, binding}
 use Rattle.qs_algebra_solutions.specs.Operators.{merges}
 use Rattle.qs_expr.specs.declared.cell.Cell.{Cell}
-use Rattle.qs_expr.specs.Cell.{Cells, cell_at, FitsRow}
-use Rattle.qs_expr.specs.Scratch.{IsTable}
+use Rattle.qs_expr.specs.inner.Cell.{Cells, cell_at, FitsRow}
+use Rattle.qs_expr.specs.inner.Scratch.{IsTable}
 use Rattle.qs_plan_meaning.specs.declared.stage.Look.{Look}
 use Rattle.qs_plan_meaning.specs.declared.stage.Look.TheVariants as look
 use Rattle.qs_plan_meaning.specs.declared.stage.Stage.TheVariants as stage

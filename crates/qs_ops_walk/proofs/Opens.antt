@@ -8,7 +8,7 @@ use Rattle.qs_algebra_solutions.specs.Solution.{Solution}
 use Rattle.qs_algebra_solutions.specs.Operators.{merges, or_alone, excludes}
 use Rattle.qs_algebra_patterns.specs.Eval.{all_hold, rows_of}
 use Rattle.qs_algebra_patterns.specs.declared.table.Table.{Table}
-use Rattle.qs_expr.specs.Cell.{Cells, row_solution, FitsRow}
+use Rattle.qs_expr.specs.inner.Cell.{Cells, row_solution, FitsRow}
 use Rattle.qs_plan_meaning.specs.declared.stage.Stage.{Stage}
 use Rattle.qs_plan_meaning.specs.declared.stage.Stage.TheVariants as stage
 use Rattle.qs_plan_meaning.specs.Stages.{aside, each_named, fed_rows, looked, kept_if}
@@ -32,13 +32,13 @@ use Rattle.qs_ops_walk.specs.inner.Coming.{Going, going, row_if, or_else, attemp
 use Rattle.qs_ops_walk.specs.inner.Moves.{item_moves, instr_items, Attempts, Opens, OpensTo}
 use Rattle.qs_expr_meaning.specs.declared.expr.Expr.{Expr}
 use Rattle.qs_algebra_patterns.specs.declared.pattern.TriplePattern.{TriplePattern}
-use Rattle.qs_expr.specs.Condition.{IsPreparedFor}
-use Rattle.qs_expr.specs.Scratch.{IsTable, Grows}
+use Rattle.qs_expr.specs.inner.Condition.{IsPreparedFor}
+use Rattle.qs_expr.specs.inner.Scratch.{IsTable, Grows}
 use Rattle.qs_expr.proofs.Growth.{same_row, still_row}
 use Rattle.qs_plan_meaning.specs.declared.stage.Look.{Look}
 use Rattle.qs_ops_scans.specs.inner.Makes.{AreMade, Makes}
 use Rattle.qs_ops_scans.specs.inner.Paths.{row_ends, Serve}
-use Rattle.qs_store.specs.ActiveGraph.{active_graph}
+use Rattle.qs_store.specs.inner.ActiveGraph.{active_graph}
 use Rattle.qs_algebra_patterns.specs.Basic.{Graph}
 use Rattle.qs_expr.specs.declared.cell.Cell.{Cell}
 use Rattle.qs_ops_walk.specs.declared.work.Trail.{Trail}

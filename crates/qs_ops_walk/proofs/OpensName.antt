@@ -3,9 +3,9 @@ use Rattle.std.proofs.Common.{◌≡◌, ℕ, Bool, true, false, if◌then◌els
 use Rattle.qs_terms.specs.declared.term.Term.{Term}
 use Rattle.qs_algebra_solutions.specs.Solution.{Solution, term_at, unbound, merge}
 use Rattle.qs_algebra_solutions.specs.Operators.{merges}
-use Rattle.qs_expr.specs.Cell.{Cells, cell_at, denoted_if, row_solution, FitsRow}
-use Rattle.qs_expr.specs.Row.{TellsCompatible, MergesSolutions, FitsAsBoth, BindsTermIf, FitsWithIf}
-use Rattle.qs_expr.specs.Scratch.{IsTable}
+use Rattle.qs_expr.specs.inner.Cell.{Cells, cell_at, denoted_if, row_solution, FitsRow}
+use Rattle.qs_expr.specs.inner.Row.{TellsCompatible, MergesSolutions, FitsAsBoth, BindsTermIf, FitsWithIf}
+use Rattle.qs_expr.specs.inner.Scratch.{IsTable}
 use Rattle.qs_plan_meaning.specs.declared.stage.Stage.{Stage}
 use Rattle.qs_plan_meaning.specs.declared.stage.Stage.TheVariants as stage
 use Rattle.qs_ops_program.specs.inner.Flow.{Instruction}

@@ -9,7 +9,7 @@ use Rattle.qs_terms.specs.Bag.{SameBag}
 use Rattle.qs_terms.specs.declared.term.Term.{Term}
 use Rattle.qs_algebra_solutions.specs.Solution.{Solution}
 use Rattle.qs_expr.specs.declared.cell.Cell.{Cell}
-use Rattle.qs_expr.specs.Cell.{Cells, cell_at, row_solution, FitsRow}
+use Rattle.qs_expr.specs.inner.Cell.{Cells, cell_at, row_solution, FitsRow}
 use Rattle.qs_plan.proofs.Widths.{all_append}
 use Rattle.qs_ops_program.specs.inner.Flow.{flow}
 use Rattle.qs_ops_scans.specs.Skipped.{SharesCellAt, ShareCells, SkipsRows}

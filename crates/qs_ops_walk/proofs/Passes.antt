@@ -11,8 +11,8 @@ use Rattle.qs_algebra_solutions.specs.Operators.{excludes}
 use Rattle.qs_algebra_patterns.specs.Eval.{bound_to, extended}
 use Rattle.qs_expr_meaning.specs.Meaning.{holds, meaning}
 use Rattle.qs_expr_meaning.specs.declared.expr.Expr.{Expr}
-use Rattle.qs_expr.specs.Cell.{Cells, cell_at, denoted, denoted_if, row_solution, FitsCell, FitsIf, FitsRow}
-use Rattle.qs_expr.specs.Scratch.{Grows}
+use Rattle.qs_expr.specs.inner.Cell.{Cells, cell_at, denoted, denoted_if, row_solution, FitsCell, FitsIf, FitsRow}
+use Rattle.qs_expr.specs.inner.Scratch.{Grows}
 use Rattle.qs_expr.proofs.Growth.{same_row, still_row}
 use Rattle.qs_expr.proofs.Rows.{bound_fits, bound_terms}
 use Rattle.qs_expr.proofs.Finding.{term_there}

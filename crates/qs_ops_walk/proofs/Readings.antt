@@ -7,9 +7,9 @@ use Rattle.qs_terms.specs.declared.term.Term.{Term}
 use Rattle.qs_algebra_solutions.specs.Solution.{Solution}
 use Rattle.qs_expr_meaning.specs.Meaning.{holds, meaning}
 use Rattle.qs_expr_meaning.specs.declared.expr.Expr.{Expr}
-use Rattle.qs_expr.specs.Cell.{Cells, denoted_if, row_solution, FitsIf}
-use Rattle.qs_expr.specs.Evaluated.{Evaluates, holds_at, value_at}
-use Rattle.qs_expr.specs.Row.{HasFront}
+use Rattle.qs_expr.specs.inner.Cell.{Cells, denoted_if, row_solution, FitsIf}
+use Rattle.qs_expr.specs.inner.Evaluated.{Evaluates, holds_at, value_at}
+use Rattle.qs_expr.specs.inner.Row.{HasFront}
 use Rattle.qs_expr.specs.declared.cell.Cell.{Cell}
 use Rattle.qs_expr_meaning.specs.declared.fault.ExprFault.{ExprFault}
 use Rattle.std.specs.declared.alloc.AllocError.{AllocError}

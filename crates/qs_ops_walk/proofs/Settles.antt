@@ -3,8 +3,8 @@ use Rattle.std.proofs.Common.{◌≡◌, ℕ, suc, ◌+◌, ◌<◌, false, List
 use Rattle.std.specs.List.{flat_map}
 use Rattle.qs_terms.specs.declared.term.Term.{Term}
 use Rattle.qs_algebra_solutions.specs.Solution.{Solution}
-use Rattle.qs_expr.specs.Cell.{Cells, row_solution, FitsRow}
-use Rattle.qs_expr.specs.Scratch.{Grows}
+use Rattle.qs_expr.specs.inner.Cell.{Cells, row_solution, FitsRow}
+use Rattle.qs_expr.specs.inner.Scratch.{Grows}
 use Rattle.qs_expr.proofs.Growth.{same_row, still_row}
 use Rattle.qs_ops_program.specs.inner.Flow.{Instruction, IsForward, flow, at, is_union}
 use Rattle.qs_ops_program.specs.inner.Toil.{summed, toil}

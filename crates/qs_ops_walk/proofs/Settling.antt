@@ -1,7 +1,7 @@
 -- Rows that go through stages which make at most one row, place by place.
 use Rattle.std.proofs.Common.{◌≡◌, ℕ, suc, ◌<◌, ◌≤◌, ◌⊎◌, inl, inr, false, List, [], length, get_or, sym, ◌∙◌, subst, arith}
 use Rattle.qs_terms.specs.declared.term.Term.{Term}
-use Rattle.qs_expr.specs.Cell.{Cells, row_solution}
+use Rattle.qs_expr.specs.inner.Cell.{Cells, row_solution}
 use Rattle.qs_ops_program.specs.inner.Flow.{IsForward, is_union}
 use Rattle.qs_ops_program.proofs.Flows.{past_end}
 use Rattle.qs_ops_walk.specs.declared.settle.Passes.{Passes}

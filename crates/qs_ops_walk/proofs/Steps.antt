@@ -2,8 +2,8 @@
 use Rattle.std.proofs.Common.{◌≡◌, ℕ, zero, suc, ◌-◌, ◌<◌, List, [], ◌∷◌, ◌++◌, length, get_or, take, refl, sym, ◌∙◌, ap, subst, arith}
 use Rattle.std.proofs.Math.ListN.{set}
 use Rattle.qs_terms.specs.declared.term.Term.{Term}
-use Rattle.qs_expr.specs.Cell.{Cells, FitsRow}
-use Rattle.qs_expr.specs.Scratch.{IsTable, Grows}
+use Rattle.qs_expr.specs.inner.Cell.{Cells, FitsRow}
+use Rattle.qs_expr.specs.inner.Scratch.{IsTable, Grows}
 use Rattle.qs_expr.proofs.Growth.{stays}
 use Rattle.qs_ops_scans.specs.declared.look.PreparedLook.{PreparedLook}
 use Rattle.qs_ops_scans.specs.declared.pattern.PreparedTriple.{PreparedTriple}

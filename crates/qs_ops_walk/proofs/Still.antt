@@ -5,14 +5,14 @@ use Rattle.qs_terms.specs.declared.term.Term.{Term}
 use Rattle.qs_algebra_solutions.specs.Solution.{Solution}
 use Rattle.qs_algebra_patterns.specs.Eval.{all_hold}
 use Rattle.qs_algebra_patterns.specs.declared.table.Table.{Table}
-use Rattle.qs_expr.specs.Cell.{Cells, denoted_if, row_solution, FitsIf}
-use Rattle.qs_expr.specs.Scratch.{Grows}
+use Rattle.qs_expr.specs.inner.Cell.{Cells, denoted_if, row_solution, FitsIf}
+use Rattle.qs_expr.specs.inner.Scratch.{Grows}
 use Rattle.qs_expr.specs.declared.cell.Cell.{Cell}
 use Rattle.qs_expr.proofs.Growth.{same_row, still_row, still_fits, still_same}
 use Rattle.qs_plan_meaning.specs.declared.stage.Stage.{Stage}
 use Rattle.qs_plan_meaning.specs.Scans.{path_pairs}
 use Rattle.qs_algebra_patterns.specs.declared.pattern.PathPattern.{PathPattern}
-use Rattle.qs_store.specs.ActiveGraph.{active_graph}
+use Rattle.qs_store.specs.inner.ActiveGraph.{active_graph}
 use Rattle.qs_store.specs.declared.active.Active.{Active}
 use Rattle.qs_ops_scans.specs.inner.Paths.{Serve}
 use Rattle.qs_ops_scans.specs.declared.bound.RowEnds.{RowEnds}

@@ -4,8 +4,8 @@ use Rattle.std.proofs.lemmas.List.Sorted.{IsPermutation-append_left, IsPermutati
 use Rattle.std.specs.List.{AllByRecursion}
 use Rattle.qs_terms.specs.declared.term.Term.{Term}
 use Rattle.qs_algebra_solutions.specs.Solution.{Solution}
-use Rattle.qs_expr.specs.Cell.{Cells, row_solution}
-use Rattle.qs_expr.specs.Scratch.{Grows}
+use Rattle.qs_expr.specs.inner.Cell.{Cells, row_solution}
+use Rattle.qs_expr.specs.inner.Scratch.{Grows}
 use Rattle.qs_ops_program.specs.inner.Flow.{Instruction}
 use Rattle.qs_ops_program.specs.inner.Toil.{summed}
 use Rattle.qs_ops_walk.specs.declared.source.Level.{Level}

@@ -2,14 +2,14 @@
 
 ghost use Rattle.std.specs.Prelude.{◌≡◌, None, Some, true, Ok, IfOk, IfErr, IfSome, OnErr, map, take};
 ghost use Rattle.qs_terms.specs.declared.fault.QFault.TheVariants.{Memory};
-ghost use Rattle.qs_store.specs.ActiveGraph.{active_graph};
+ghost use Rattle.qs_store.specs.inner.ActiveGraph.{active_graph};
 ghost use Rattle.qs_expr_values.specs.inner.Value.{term_of};
-ghost use Rattle.qs_expr.specs.Cell.{denoted, row_solution, FitsCell, FitsRow};
-ghost use Rattle.qs_expr.specs.Evaluated.{Evaluates};
-ghost use Rattle.qs_expr.specs.Scratch.{IsTable, Grows};
+ghost use Rattle.qs_expr.specs.inner.Cell.{denoted, row_solution, FitsCell, FitsRow};
+ghost use Rattle.qs_expr.specs.inner.Evaluated.{Evaluates};
+ghost use Rattle.qs_expr.specs.inner.Scratch.{IsTable, Grows};
 ghost use Rattle.qs_algebra_solutions.specs.Solution.{unbound};
 ghost use Rattle.qs_plan_meaning.specs.Stages.{through};
-ghost use Rattle.qs_ops_walk.specs.Stream.{AreToCome, GivesOne, PassesAlike, solution_if};
+ghost use Rattle.qs_ops_walk.specs.inner.Stream.{AreToCome, GivesOne, PassesAlike, solution_if};
 
 use crate::alike::skip_alike;
 use crate::reader::Reader;
@@ -35,7 +35,7 @@ pub struct Cursor<'a, V: View> {
 }
 
 impl<'a, V: View> Model for Cursor<'a, V> {
-    ghost use Rattle.qs_ops_walk.specs.Stream.{Stream};
+    ghost use Rattle.qs_ops_walk.specs.inner.Stream.{Stream};
     ghost use Rattle.qs_ops_walk.specs.inner.Cursor.{IsOp, is_done, rows_left};
     ghost use Rattle.qs_ops_walk.specs.inner.Setting.{known_of};
 

@@ -1,10 +1,10 @@
 //! What a walk makes once and keeps: the rows of VALUES, the numbers of all graphs, and the pairs of paths.
 
 ghost use Rattle.std.specs.Prelude.{◌≡◌, IfOk};
-ghost use Rattle.qs_expr.specs.Cell.{FitsIf, FitsRow};
-ghost use Rattle.qs_expr.specs.Scratch.{IsTable, Grows};
-ghost use Rattle.qs_store.specs.ActiveGraph.{active_graph};
-ghost use Rattle.qs_store.specs.Graphs.{AreGraphs};
+ghost use Rattle.qs_expr.specs.inner.Cell.{FitsIf, FitsRow};
+ghost use Rattle.qs_expr.specs.inner.Scratch.{IsTable, Grows};
+ghost use Rattle.qs_store.specs.inner.ActiveGraph.{active_graph};
+ghost use Rattle.qs_store.specs.inner.Graphs.{AreGraphs};
 ghost use Rattle.qs_plan_meaning.specs.Scans.{path_pairs};
 ghost use Rattle.qs_ops_scans.specs.inner.Paths.{ArePairs, Serve};
 ghost use Rattle.qs_ops_walk.specs.inner.Setting.{known_of};

@@ -1,7 +1,7 @@
 //! Levels that are put on the stack of a walk.
 
 ghost use Rattle.std.specs.Prelude.{◌≡◌, ◌≤◌, ◌<◌, true, None, IfOk, length};
-ghost use Rattle.qs_expr.specs.Cell.{cell_at};
+ghost use Rattle.qs_expr.specs.inner.Cell.{cell_at};
 ghost use Rattle.qs_ops_scans.specs.inner.Each.{misses};
 ghost use Rattle.qs_ops_walk.specs.inner.After.{IsGivenOpened, IsJoinedOpened, named_if};
 ghost use Rattle.qs_ops_walk.specs.inner.Moves.{IsQuadsOpened, IsTripleOpened};

@@ -2,18 +2,18 @@
 
 ghost use Rattle.std.specs.Prelude.{◌≡◌, ◌<◌, ◌≤◌, true, None, List, length, take, IfOk};
 ghost use Rattle.qs_expr_meaning.specs.Meaning.{holds, meaning};
-ghost use Rattle.qs_expr.specs.Cell.{Cells, cell_at, denoted_if, row_solution, FitsIf, FitsRow};
-ghost use Rattle.qs_expr.specs.Evaluated.{Evaluates, value_at};
+ghost use Rattle.qs_expr.specs.inner.Cell.{Cells, cell_at, denoted_if, row_solution, FitsIf, FitsRow};
+ghost use Rattle.qs_expr.specs.inner.Evaluated.{Evaluates, value_at};
 ghost use Rattle.qs_terms.specs.declared.term.Term.{Term as TermValue};
 ghost use Rattle.qs_expr_meaning.specs.declared.expr.Expr.{Expr as ExprValue};
-ghost use Rattle.qs_expr.specs.Condition.{IsPreparedFor};
-ghost use Rattle.qs_expr.specs.Scratch.{IsTable, Grows};
+ghost use Rattle.qs_expr.specs.inner.Condition.{IsPreparedFor};
+ghost use Rattle.qs_expr.specs.inner.Scratch.{IsTable, Grows};
 ghost use Rattle.qs_algebra_patterns.specs.declared.pattern.TriplePattern.{TriplePattern};
 ghost use Rattle.qs_plan_meaning.specs.declared.stage.Look.{Look};
 ghost use Rattle.qs_plan_meaning.specs.Scans.{extensions, path_pairs};
 ghost use Rattle.qs_plan_meaning.specs.Stages.{each_named, looked};
-ghost use Rattle.qs_store.specs.ActiveGraph.{active_graph};
-ghost use Rattle.qs_store.specs.Graphs.{AreGraphs};
+ghost use Rattle.qs_store.specs.inner.ActiveGraph.{active_graph};
+ghost use Rattle.qs_store.specs.inner.Graphs.{AreGraphs};
 ghost use Rattle.qs_ops_scans.specs.inner.Paths.{ArePairs, Serve};
 ghost use Rattle.qs_ops_scans.specs.inner.Each.{NamesGraph, each_extension, each_joined, misses};
 ghost use Rattle.qs_ops_scans.specs.inner.Makes.{Makes};

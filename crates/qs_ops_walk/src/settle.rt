@@ -2,8 +2,8 @@
 
 ghost use Rattle.std.specs.Prelude.{◌≡◌, ◌⊎◌, IfOk, OnOk, true, false};
 ghost use Rattle.qs_ops_walk.specs.declared.settle.Passes.TheVariants.{Many, One};
-ghost use Rattle.qs_expr.specs.Cell.{FitsRow};
-ghost use Rattle.qs_expr.specs.Scratch.{IsTable, Grows};
+ghost use Rattle.qs_expr.specs.inner.Cell.{FitsRow};
+ghost use Rattle.qs_expr.specs.inner.Scratch.{IsTable, Grows};
 ghost use Rattle.qs_ops_program.specs.inner.Flow.{IsForward, is_union};
 ghost use Rattle.qs_ops_walk.specs.inner.Setting.{known_of};
 ghost use Rattle.qs_ops_walk.specs.inner.Works.{AreReady, IsReady, code_of};

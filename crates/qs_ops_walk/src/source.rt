@@ -3,9 +3,9 @@
 ghost use Rattle.std.specs.Prelude.{◌≡◌, IfOk, map, take};
 ghost use Rattle.std.specs.List.{AllByRecursion};
 ghost use Rattle.qs_algebra_patterns.specs.Eval.{all_hold};
-ghost use Rattle.qs_expr.specs.Cell.{row_solution, FitsRow};
-ghost use Rattle.qs_expr.specs.Condition.{IsPreparedFor};
-ghost use Rattle.qs_expr.specs.Scratch.{IsTable};
+ghost use Rattle.qs_expr.specs.inner.Cell.{row_solution, FitsRow};
+ghost use Rattle.qs_expr.specs.inner.Condition.{IsPreparedFor};
+ghost use Rattle.qs_expr.specs.inner.Scratch.{IsTable};
 ghost use Rattle.qs_ops_walk.specs.inner.Setting.{known_of};
 ghost use Rattle.qs_ops_walk.specs.inner.Works.{expr_of};
 ghost use Rattle.qs_ops_walk.specs.inner.Coming.{GivesBranch, GivesItem, GivesSolution, attempted, item_if, level_items, FitsAttempt, FitsLevel};

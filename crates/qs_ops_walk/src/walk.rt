@@ -3,8 +3,8 @@
 ghost use Rattle.std.specs.Prelude.{◌≡◌, ◌≤◌, ◌<◌, ◌-◌, true, List, None, Ok, IfOk, IfNone, IfSome, IsSome, false, length, map, suc, take, get_or, vec_len};
 ghost use Rattle.qs_terms.specs.Bag.{SameBag};
 ghost use Rattle.qs_terms.specs.declared.term.Term.{Term as TermValue};
-ghost use Rattle.qs_expr.specs.Cell.{row_solution, FitsRow};
-ghost use Rattle.qs_expr.specs.Scratch.{IsTable, Grows};
+ghost use Rattle.qs_expr.specs.inner.Cell.{row_solution, FitsRow};
+ghost use Rattle.qs_expr.specs.inner.Scratch.{IsTable, Grows};
 ghost use Rattle.qs_ops_program.specs.inner.Heights.{stages_height};
 ghost use Rattle.qs_ops_tables.specs.inner.Tables.{FitRows, row_solutions};
 ghost use Rattle.qs_plan_meaning.specs.Stages.{fed_rows};

@@ -3,7 +3,7 @@
 ghost use Rattle.std.specs.Prelude.{◌≡◌, ◌↔◌, ◌<◌, ◌≤◌, true, IsTrue, IfOk, IfSome, List, length, map, None};
 ghost use Rattle.qs_terms.specs.declared.term.Term.{Term as TermValue};
 ghost use Rattle.std.specs.List.{AllByRecursion};
-ghost use Rattle.qs_expr.specs.Condition.{IsPreparedFor};
+ghost use Rattle.qs_expr.specs.inner.Condition.{IsPreparedFor};
 ghost use Rattle.qs_ops_walk.specs.inner.Setting.{known_of};
 ghost use Rattle.qs_ops_walk.specs.inner.Works.{AreReady, IsAlike, IsWork, Serves, code_of, expr_of, name_at};
 

@@ -13,13 +13,13 @@ use Rattle.qs_terms.proofs.SameStatement.{same_graph-Decides}
 use Rattle.qs_terms.proofs.SameTerm.{same_term-Decides}
 use Rattle.qs_dict.specs.Dict.{term_at}
 use Rattle.qs_store.specs.Content.{Content, IsContent}
-use Rattle.qs_store.specs.Triples.{IsActive}
+use Rattle.qs_store.specs.inner.Triples.{IsActive}
 use Rattle.qs_store.specs.declared.active.Active.{Active}
 use Rattle.qs_store.specs.declared.active.Active.TheVariants.{Default, Graph, Empty}
 use Rattle.qs_store.specs.declared.default_graph.DefaultGraph.{DefaultGraph}
 use Rattle.qs_store.specs.declared.default_graph.DefaultGraph.TheVariants.{Stored, Union}
 use Rattle.qs_store.proofs.Members.{nothing, member_of_filter, filter_has}
-use Rattle.qs_store.specs.ActiveGraph.{is_named, named_graph, active_graph}
+use Rattle.qs_store.specs.inner.ActiveGraph.{is_named, named_graph, active_graph}
 use Rattle.qs_paths.proofs.Lists.{map_has, member_of_map, once_has, once_only}
 
 -- ---- triples that are the same

@@ -13,7 +13,7 @@ use Rattle.qs_terms.specs.Term.{same_term}
 use Rattle.qs_terms.proofs.SameTerm.{same_term-Decides}
 use Rattle.qs_dict.specs.Dict.{term_at}
 use Rattle.qs_syntax_ast.specs.declared.path.Path.{Path}
-use Rattle.qs_store.specs.ActiveGraph.{IsSeen, active_graph}
+use Rattle.qs_store.specs.inner.ActiveGraph.{IsSeen, active_graph}
 use Rattle.qs_store.specs.Content.{Content}
 use Rattle.qs_store.specs.declared.active.Active.{Active}
 use Rattle.qs_store.specs.declared.default_graph.DefaultGraph.{DefaultGraph}
@@ -27,9 +27,9 @@ use Rattle.qs_paths_meaning.proofs.Near.{tied}
 use Rattle.qs_paths_meaning.proofs.Steady.{steady}
 use Rattle.qs_expr.specs.declared.cell.Cell.{Cell}
 use Rattle.qs_expr.specs.declared.cell.Cell.TheVariants.{Known, Scratch}
-use Rattle.qs_expr.specs.Cell.{FitsCell, FitsIf, denoted, denoted_if}
-use Rattle.qs_expr.specs.Scratch.{IsTable}
-use Rattle.qs_paths.specs.Coming.{AreDenoted}
+use Rattle.qs_expr.specs.inner.Cell.{FitsCell, FitsIf, denoted, denoted_if}
+use Rattle.qs_expr.specs.inner.Scratch.{IsTable}
+use Rattle.qs_paths.specs.inner.Coming.{AreDenoted}
 use Rattle.qs_paths.specs.inner.Nodes.{IsNaming, cell_of, named_end}
 use Rattle.qs_paths.proofs.Scanned.{node_number, number_low}
 

@@ -23,7 +23,7 @@ use Rattle.qs_store.specs.declared.default_graph.DefaultGraph.{DefaultGraph}
 use Rattle.qs_paths_meaning.specs.Closure.{closure, from_start}
 use Rattle.qs_paths_meaning.specs.inner.Found.{turned}
 use Rattle.qs_expr.specs.declared.cell.Cell.{Cell}
-use Rattle.qs_expr.specs.Cell.{denoted}
+use Rattle.qs_expr.specs.inner.Cell.{denoted}
 use Rattle.qs_paths.specs.declared.state.Request.{Request}
 use Rattle.qs_paths.specs.declared.state.Rows.{Rows}
 use Rattle.qs_paths.specs.declared.state.State.{State}
@@ -31,7 +31,7 @@ use Rattle.qs_paths.specs.declared.state.State.TheVariants as state
 use Rattle.qs_paths.specs.declared.stream.Pairs.{Pairs}
 use Rattle.qs_paths.specs.declared.stretch.Stretch.{Stretch}
 use Rattle.qs_paths.specs.declared.walk.Walk.{Walk}
-use Rattle.qs_paths.specs.Coming.{AreDenoted, GivesPair, HandsOut, IsToCome}
+use Rattle.qs_paths.specs.inner.Coming.{AreDenoted, GivesPair, HandsOut, IsToCome}
 use Rattle.qs_paths.specs.inner.Nodes.{cell_of, named_pair, named_pairs}
 use Rattle.qs_paths.specs.inner.Seen.{graph_in, known_in}
 use Rattle.qs_paths.specs.inner.State.{GivesEdge, GivesLeft, GivesOne, GivesRow, GivesStep, GivesWalked, IsLeft, IsLeftIn, Opens, turn, turned_pairs}

@@ -10,12 +10,12 @@ use Rattle.qs_paths_meaning.specs.Walk.{IsIn}
 use Rattle.qs_paths_meaning.proofs.Arms.{same_pair-Decides}
 use Rattle.qs_paths_meaning.proofs.Members.{Mem, mem_in, mem_map}
 use Rattle.qs_expr.specs.declared.cell.Cell.{Cell}
-use Rattle.qs_expr.specs.Cell.{denoted}
+use Rattle.qs_expr.specs.inner.Cell.{denoted}
 use Rattle.qs_paths.specs.declared.node.NodePair.{NodePair}
 use Rattle.qs_paths.specs.declared.state.Rows.{Rows}
 use Rattle.qs_paths.specs.declared.state.State.TheVariants as state
 use Rattle.qs_paths.specs.declared.stream.Pairs.{Pairs}
-use Rattle.qs_paths.specs.Coming.{AreAll, AreDenoted, denoted_pair}
+use Rattle.qs_paths.specs.inner.Coming.{AreAll, AreDenoted, denoted_pair}
 use Rattle.qs_paths.specs.inner.Nodes.{cell_of, named_pair, named_pairs, node_cells}
 use Rattle.qs_paths.specs.inner.Seen.{graph_in, known_in}
 use Rattle.qs_paths.specs.inner.State.{IsLeftIn, turn, turned_cells, turned_pairs}

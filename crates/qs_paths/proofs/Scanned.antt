@@ -20,17 +20,17 @@ use Rattle.qs_terms.proofs.FirstOnes.{distinct_kept}
 use Rattle.qs_terms.proofs.SameTerm.{same_term-Decides}
 use Rattle.qs_dict.specs.Dict.{term_at, number_of}
 use Rattle.qs_dict.proofs.Numbers.{exact_number}
-use Rattle.qs_index.specs.Agreeing.{fits}
-use Rattle.qs_index.specs.Entry.{IsAscending}
-use Rattle.qs_index.specs.Permutation.{order_used}
+use Rattle.qs_index.specs.inner.Agreeing.{fits}
+use Rattle.qs_index.specs.inner.Entry.{IsAscending}
+use Rattle.qs_index.specs.inner.Permutation.{order_used}
 use Rattle.qs_index.specs.declared.permutation.Permutation.{Permutation}
 use Rattle.qs_store.specs.Content.{Content, IsContent, KnowsItsTerms}
-use Rattle.qs_store.specs.Triples.{IsMatch, IsTriple, AreTriples, turned_triple}
+use Rattle.qs_store.specs.inner.Triples.{IsMatch, IsTriple, AreTriples, turned_triple}
 use Rattle.qs_store.specs.declared.active.Active.{Active}
 use Rattle.qs_store.specs.declared.default_graph.DefaultGraph.{DefaultGraph}
 use Rattle.qs_store.proofs.Members.{nothing, head_or_tail, here, there, member_of_filter, filter_has, before_member, not_before_itself}
 use Rattle.qs_store.proofs.TriplesSaid.{same_number as one_place}
-use Rattle.qs_store.specs.ActiveGraph.{active_graph}
+use Rattle.qs_store.specs.inner.ActiveGraph.{active_graph}
 use Rattle.qs_paths.proofs.Active.{active_has, active_only, active_once, same_triple-Decides}
 use Rattle.qs_paths.proofs.Lists.{map_has, member_of_map, of_any, same_members}
 use Rattle.qs_paths_meaning.specs.inner.Edges.{has, having}

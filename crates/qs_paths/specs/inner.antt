@@ -1,4 +1,5 @@
--- What serves proofs alone: no promise of the product is read by it.
+-- What layers and proofs read: the definitions of the headline cite none of it.
+pub mod Coming
 pub mod Nodes
 pub mod Links
 pub mod Scans

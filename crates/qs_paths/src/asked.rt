@@ -3,11 +3,11 @@
 ghost use Rattle.std.specs.Prelude.{◌≡◌, ◌⊎◌, List, IfNone, IfSome};
 ghost use Rattle.std.specs.Option.{option_map};
 ghost use Rattle.qs_terms.specs.declared.term.Term.{Term};
-ghost use Rattle.qs_store.specs.ActiveGraph.{active_graph};
+ghost use Rattle.qs_store.specs.inner.ActiveGraph.{active_graph};
 ghost use Rattle.qs_paths_meaning.specs.Pairs as meaning;
-ghost use Rattle.qs_expr.specs.Cell.{FitsIf, denoted_if};
-ghost use Rattle.qs_expr.specs.Scratch.{IsTable};
-ghost use Rattle.qs_paths.specs.Coming.{HasFailed, IsEndTooFar, IsToCome};
+ghost use Rattle.qs_expr.specs.inner.Cell.{FitsIf, denoted_if};
+ghost use Rattle.qs_expr.specs.inner.Scratch.{IsTable};
+ghost use Rattle.qs_paths.specs.inner.Coming.{HasFailed, IsEndTooFar, IsToCome};
 ghost use Rattle.qs_paths.specs.inner.Nodes.{cell_of};
 ghost use Rattle.qs_paths.specs.inner.Seen.{known_in};
 

@@ -3,7 +3,7 @@
 ghost use Rattle.std.specs.Prelude.{◌≡◌, ◌<◌, ◌^◌, ◌++◌, length, MatchOption, IfOk, OnOk};
 ghost use Rattle.qs_terms.specs.Term.{same_term};
 ghost use Rattle.qs_terms.specs.declared.term.Term.TheVariants as term_is;
-ghost use Rattle.qs_store.specs.ActiveGraph.{IsSeen, active_graph};
+ghost use Rattle.qs_store.specs.inner.ActiveGraph.{IsSeen, active_graph};
 ghost use Rattle.qs_paths_meaning.specs.Steps.{along, is_outside};
 ghost use Rattle.qs_paths.specs.inner.Nodes.{ArePairs, TellsNode};
 ghost use Rattle.qs_paths.specs.inner.Scans.{AreOutside, AreScanned, IsPast, edges_in, number_out};

@@ -1,7 +1,7 @@
 //! The pairs of a path over a view, one by one.
 
 ghost use Rattle.std.specs.Prelude.{◌≡◌, map, IfOk, IfSome, IsErr};
-ghost use Rattle.qs_paths.specs.Coming.{AreAll, GivesPair};
+ghost use Rattle.qs_paths.specs.inner.Coming.{AreAll, GivesPair};
 ghost use Rattle.qs_paths.specs.inner.Nodes.{cell_of, node_cells};
 ghost use Rattle.qs_paths.specs.inner.Seen.{graph_in, known_in};
 ghost use Rattle.qs_paths.specs.inner.State.{GivesStep, HasFailedIn, turned_cells};

@@ -4,7 +4,7 @@ use Rattle.std.proofs.lemmas.List.Sorted.{length_permutation, IsPermutation-refl
 use Rattle.qs_terms.specs.Bag.{SameBag}
 use Rattle.qs_algebra_solutions.specs.Solution.{Solution}
 use Rattle.qs_algebra_solutions.specs.inner.Some.{is_enough}
-use Rattle.qs_ops_walk.specs.Stream.{AreToCome, GivesOne}
+use Rattle.qs_ops_walk.specs.inner.Stream.{AreToCome, GivesOne}
 use Rattle.qs_query_solutions.specs.inner.Collected.{Collection, Collects, CollectsAfter, IsPart, IsPassed, with_rows}
 use Rattle.qs_query_solutions.proofs.Collecting.{begun, one_came, nothing_left, enough_came, after_same}
 

@@ -12,13 +12,13 @@ use Rattle.qs_algebra_solutions.specs.Solution.{Solution, projected, same_cell, 
 use Rattle.qs_algebra_solutions.specs.inner.Some.{AreSomeDistinct, is_enough}
 use Rattle.qs_algebra_solutions.proofs.Same.{same_solution-Decides}
 use Rattle.qs_expr.specs.declared.cell.Cell.{Cell}
-use Rattle.qs_expr.specs.Cell.{Cells, cell_at, denoted, denoted_if, row_solution, FitsIf, FitsRow}
-use Rattle.qs_expr.specs.Scratch.{IsTable, Grows}
+use Rattle.qs_expr.specs.inner.Cell.{Cells, cell_at, denoted, denoted_if, row_solution, FitsIf, FitsRow}
+use Rattle.qs_expr.specs.inner.Scratch.{IsTable, Grows}
 use Rattle.qs_expr.proofs.Finding.{same_cells, term_there}
 use Rattle.qs_expr.proofs.Growth.{same_row, still_row}
 use Rattle.qs_expr.proofs.RowTerms.{term_at_row}
 use Rattle.qs_expr.proofs.Rows.{fits_first, fits_rest}
-use Rattle.qs_ops_walk.specs.Stream.{AreToCome, GivesOne, PassesAlike}
+use Rattle.qs_ops_walk.specs.inner.Stream.{AreToCome, GivesOne, PassesAlike}
 use Rattle.qs_query_solutions.specs.inner.Distinct as distinct
 use Rattle.qs_query_solutions.specs.inner.Distinct.{AreDistinctOf, CollectsDistinct, IsDistinctWay, same_if}
 use Rattle.qs_query_solutions.proofs.Coming.{Left, left_of, none_of}

@@ -11,10 +11,10 @@ use Rattle.qs_terms.specs.Bag.{SameBag}
 use Rattle.qs_terms.specs.declared.term.Term.{Term}
 use Rattle.qs_algebra_solutions.specs.Solution.{Solution}
 use Rattle.qs_algebra_solutions.specs.inner.Some.{AreSome, is_enough}
-use Rattle.qs_expr.specs.Cell.{Cells, row_solution, FitsRow}
-use Rattle.qs_expr.specs.Scratch.{Grows}
+use Rattle.qs_expr.specs.inner.Cell.{Cells, row_solution, FitsRow}
+use Rattle.qs_expr.specs.inner.Scratch.{Grows}
 use Rattle.qs_expr.proofs.Growth.{same_row, still_row}
-use Rattle.qs_ops_walk.specs.Stream.{AreToCome, GivesOne}
+use Rattle.qs_ops_walk.specs.inner.Stream.{AreToCome, GivesOne}
 use Rattle.qs_query_order.specs.Order.{AreFirstIf}
 use Rattle.qs_query_order.specs.inner.Keyed.{AreKeptIf, ArePart, IsKeyed, solutions_of}
 use Rattle.qs_query_order.specs.inner.Keys.{keys_of}

@@ -10,7 +10,7 @@ use Rattle.qs_terms.specs.Bag.{with_new}
 use Rattle.qs_terms.specs.declared.term.Term.{Term}
 use Rattle.qs_algebra_solutions.specs.Solution.{Solution, term_at}
 use Rattle.qs_expr.specs.declared.cell.Cell.{Cell}
-use Rattle.qs_expr.specs.Cell.{Cells, cell_at, denoted_if, row_solution}
+use Rattle.qs_expr.specs.inner.Cell.{Cells, cell_at, denoted_if, row_solution}
 use Rattle.qs_expr.proofs.RowTerms.{term_at_row}
 use Rattle.qs_query_solutions.specs.contracts.distinct_rows.KeyCellPartialEq.TheImpl as equ
 use Rattle.qs_query_solutions.specs.declared.distinct_rows.KeyCell.{KeyCell}

@@ -8,10 +8,10 @@ use Rattle.qs_terms.specs.Bag.{SameBag}
 use Rattle.qs_terms.specs.Outcome.{Outcome}
 use Rattle.qs_terms.specs.declared.term.Term.{Term}
 use Rattle.qs_algebra_solutions.specs.Solution.{Solution}
-use Rattle.qs_expr.specs.Cell.{Cells, row_solution, FitsRow}
-use Rattle.qs_expr.specs.Scratch.{Grows}
+use Rattle.qs_expr.specs.inner.Cell.{Cells, row_solution, FitsRow}
+use Rattle.qs_expr.specs.inner.Scratch.{Grows}
 use Rattle.qs_expr.proofs.Growth.{same_row, still_row}
-use Rattle.qs_ops_walk.specs.Stream.{AreToCome, GivesOne}
+use Rattle.qs_ops_walk.specs.inner.Stream.{AreToCome, GivesOne}
 use Rattle.qs_query_solutions.specs.declared.cell_rows.CellRows.{CellRows}
 use Rattle.qs_query_solutions.specs.inner.CellRows.{AreAll, AreAllCells}
 use Rattle.qs_query_solutions.proofs.Coming.{Left, left_of, none_of}

@@ -29,7 +29,7 @@ use Rattle.qs_algebra_patterns.specs.Basic.{Graph as Triples}
 use Rattle.qs_algebra_patterns.specs.Eval.{Found, Stepped, eval, eval_level, step_level, in_each}
 use Rattle.qs_algebra_patterns.specs.declared.pattern.PatternNode.{PatternNode, fold-PatternNode}
 use Rattle.qs_algebra_patterns.specs.declared.pattern.PatternNode.TheOpen.{PatternNode-F, Basic, Group, Union as Unite, Graph, EachGraph, Values}
-use Rattle.qs_store.specs.ActiveGraph.{active_graph, named_graph, is_named as has_name}
+use Rattle.qs_store.specs.inner.ActiveGraph.{active_graph, named_graph, is_named as has_name}
 use Rattle.qs_algebra_patterns.specs.declared.named_pattern.Pattern.{Pattern}
 use Rattle.qs_plan.specs.Plans.{IsPlanOf, plan_list}
 use Rattle.qs_plan.specs.declared.plan_type.Plan.{Plan}

@@ -3,7 +3,7 @@
 ghost use Rattle.std.specs.Prelude.{◌≡◌};
 ghost use Rattle.std.specs.Option.{option_copied};
 ghost use Rattle.qs_terms.specs.Dataset.{graph_of};
-ghost use Rattle.qs_store.specs.ActiveGraph.{active_graph};
+ghost use Rattle.qs_store.specs.inner.ActiveGraph.{active_graph};
 ghost use Rattle.qs_store.specs.Visible.{visible_quads};
 
 use qs_store::{Active, View};

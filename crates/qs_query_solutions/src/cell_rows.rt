@@ -5,11 +5,11 @@ ghost use Rattle.std.specs.List.{All};
 ghost use Rattle.std.specs.Option.{option_copied};
 ghost use Rattle.qs_terms.specs.Dataset.{graph_of};
 ghost use Rattle.qs_terms.specs.declared.fault.QFault.TheVariants.{Memory, TooManyRows};
-ghost use Rattle.qs_store.specs.ActiveGraph.{active_graph};
+ghost use Rattle.qs_store.specs.inner.ActiveGraph.{active_graph};
 ghost use Rattle.qs_store.specs.Visible.{visible_quads};
 ghost use Rattle.qs_algebra_solutions.specs.Solution.{Solution as Solved};
 ghost use Rattle.qs_algebra_patterns.specs.Eval.{eval};
-ghost use Rattle.qs_expr.specs.Cell.{FitsRow};
+ghost use Rattle.qs_expr.specs.inner.Cell.{FitsRow};
 ghost use Rattle.qs_plan.specs.Plans.{plan_list};
 ghost use Rattle.qs_query_solutions.specs.inner.CellRows.{AreAll, AreAllCells};
 

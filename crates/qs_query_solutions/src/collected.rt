@@ -4,7 +4,7 @@ ghost use Rattle.std.specs.Prelude.{◌≡◌, [], ◌∷◌, ◌++◌, length, 
 ghost use Rattle.std.specs.Option.{option_copied};
 ghost use Rattle.qs_algebra_solutions.specs.Solution.{projected};
 ghost use Rattle.qs_algebra_solutions.specs.inner.Some.{is_enough};
-ghost use Rattle.qs_expr.specs.Cell.{row_solution, FitsRow};
+ghost use Rattle.qs_expr.specs.inner.Cell.{row_solution, FitsRow};
 ghost use Rattle.qs_query_solutions.specs.inner.Collected.{nothing, with_rows};
 
 use crate::terms::{projected, solution};

@@ -6,13 +6,13 @@ ghost use Rattle.std.specs.Prelude.{◌≡◌, [], length, List, Some, IfOk};
 ghost use Rattle.std.specs.List.{AllByRecursion};
 ghost use Rattle.std.specs.Option.{option_copied};
 ghost use Rattle.qs_terms.specs.Dataset.{graph_of};
-ghost use Rattle.qs_store.specs.ActiveGraph.{active_graph};
+ghost use Rattle.qs_store.specs.inner.ActiveGraph.{active_graph};
 ghost use Rattle.qs_store.specs.Visible.{visible_quads};
 ghost use Rattle.qs_algebra_solutions.specs.Solution.{Solution as Solved};
 ghost use Rattle.qs_algebra_solutions.specs.inner.Some.{AreSomeDistinct};
 ghost use Rattle.qs_algebra_patterns.specs.Eval.{eval};
-ghost use Rattle.qs_expr.specs.Cell.{FitsRow};
-ghost use Rattle.qs_expr.specs.Scratch.{IsTable};
+ghost use Rattle.qs_expr.specs.inner.Cell.{FitsRow};
+ghost use Rattle.qs_expr.specs.inner.Scratch.{IsTable};
 ghost use Rattle.qs_plan.specs.Plans.{plan_list, IsPlanOf};
 ghost use Rattle.qs_query_solutions.specs.inner.Distinct.{CollectsDistinct};
 

@@ -5,7 +5,7 @@ ghost use Rattle.std.specs.Prelude.{◌≡◌, [], length, map, IfOk, OnOk, None
 ghost use Rattle.std.specs.List.{AllByRecursion};
 ghost use Rattle.qs_terms.specs.Bag.{with_new};
 ghost use Rattle.std.specs.Option.{option_copied};
-ghost use Rattle.qs_expr.specs.Cell.{cell_at, denoted_if, row_solution, FitsIf, FitsRow};
+ghost use Rattle.qs_expr.specs.inner.Cell.{cell_at, denoted_if, row_solution, FitsIf, FitsRow};
 ghost use Rattle.qs_query_solutions.specs.inner.Distinct.{cell_of, same_cells};
 
 use crate::terms::bind;
@@ -94,7 +94,7 @@ pub(crate) struct DistinctRows {
 
 impl Model for DistinctRows {
     ghost use Rattle.std.specs.Prelude.{List, map};
-    ghost use Rattle.qs_expr.specs.Cell.{Cells};
+    ghost use Rattle.qs_expr.specs.inner.Cell.{Cells};
     ghost use Rattle.qs_query_solutions.specs.inner.Distinct.{cells_of};
 
     ghost Value = { List Cells };

@@ -1,7 +1,7 @@
 //! Rows of an evaluation that give variables their terms.
 
 ghost use Rattle.std.specs.Prelude.{◌≡◌};
-ghost use Rattle.qs_expr.specs.Cell.{row_solution, FitsRow};
+ghost use Rattle.qs_expr.specs.inner.Cell.{row_solution, FitsRow};
 
 use crate::terms::{term, value};
 use qs_expr::Row;
@@ -21,7 +21,7 @@ pub(crate) struct Reading<'r, 'a, V: View> {
 
 impl<'r, 'a, V: View> Model for Reading<'r, 'a, V> {
     ghost use Rattle.qs_algebra_solutions.specs.Solution.{Solution};
-    ghost use Rattle.qs_expr.specs.Cell.{row_solution, FitsRow};
+    ghost use Rattle.qs_expr.specs.inner.Cell.{row_solution, FitsRow};
 
     ghost Value = { Solution };
 

@@ -4,7 +4,7 @@ ghost use Rattle.std.specs.Prelude.{◌≡◌, IfOk, OnOk};
 ghost use Rattle.std.specs.Option.{option_copied, option_map};
 ghost use Rattle.qs_algebra_solutions.specs.Solution.{projected, term_at};
 ghost use Rattle.qs_expr_values.specs.inner.Value.{term_of};
-ghost use Rattle.qs_expr.specs.Cell.{row_solution, FitsRow};
+ghost use Rattle.qs_expr.specs.inner.Cell.{row_solution, FitsRow};
 ghost use Rattle.qs_query_solutions.specs.inner.Front.{with_term};
 
 use qs_algebra_solutions::Row as Solution;

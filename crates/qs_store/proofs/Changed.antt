@@ -6,7 +6,7 @@ use Rattle.qs_terms.specs.Bag.{Distinct}
 use Rattle.qs_terms.specs.Term.{same_term}
 use Rattle.qs_terms.specs.Statement.{Statement}
 use Rattle.qs_terms.specs.declared.term.Term.{Term}
-use Rattle.qs_store.specs.Entries.{entry_of, AreEntries, said}
+use Rattle.qs_store.specs.inner.Entries.{entry_of, AreEntries, said}
 use Rattle.qs_store.specs.Change.{IsChanged}
 use Rattle.qs_store.specs.Content.{AreLawful}
 use Rattle.qs_store.specs.inner.Store.{IsFront}

@@ -3,10 +3,10 @@ use Rattle.std.proofs.Common.{◌≡◌, ◌≢◌, ◌⊎◌, ℕ, List, None, 
 use Rattle.std.specs.List.{Contains, filter}
 use Rattle.std.specs.List.Sorted.{IsPermutation}
 use Rattle.std.proofs.lemmas.List.Sorted.{Contains-permutation, IsPermutation-sym}
-use Rattle.qs_index.specs.Agreeing.{agreeing, agrees}
-use Rattle.qs_index.specs.Entries.{HaveFour, IsUnion, IsDifference}
-use Rattle.qs_index.specs.Entry.{IsAscending}
-use Rattle.qs_index.specs.Graph.{graph_of}
+use Rattle.qs_index.specs.inner.Agreeing.{agreeing, agrees}
+use Rattle.qs_index.specs.inner.Entries.{HaveFour, IsUnion, IsDifference}
+use Rattle.qs_index.specs.inner.Entry.{IsAscending}
+use Rattle.qs_index.specs.inner.Graph.{graph_of}
 use Rattle.qs_store.specs.declared.graphs.Graphs.TheVariants.{One}
 use Rattle.qs_store.specs.inner.Copied.{IsWithoutGraph}
 use Rattle.qs_store.specs.inner.Emptied.{AreOut, IsRemoval, RemovesGraph}

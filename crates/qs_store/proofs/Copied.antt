@@ -15,15 +15,15 @@ use Rattle.qs_terms.specs.Statement.{Statement, is_graph}
 use Rattle.qs_terms.specs.declared.term.Term.{Term}
 use Rattle.qs_terms.proofs.SameStatement.{same_graph-Decides}
 use Rattle.qs_dict.specs.Dict.{term_at}
-use Rattle.qs_index.specs.Agreeing.{agrees}
-use Rattle.qs_index.specs.Entries.{HaveFour}
-use Rattle.qs_index.specs.Graph.{graph_of}
+use Rattle.qs_index.specs.inner.Agreeing.{agrees}
+use Rattle.qs_index.specs.inner.Entries.{HaveFour}
+use Rattle.qs_index.specs.inner.Graph.{graph_of}
 use Rattle.qs_store.specs.Change.{IsChanged}
 use Rattle.qs_store.specs.inner.Copied.{AreCopies, AreInGraphs, AreNamed, AreEntriesOf, IsWithoutGraph}
-use Rattle.qs_store.specs.Entries.{said, statement_of, graph_number, AreEntries, IsEntryOf}
+use Rattle.qs_store.specs.inner.Entries.{said, statement_of, graph_number, AreEntries, IsEntryOf}
 use Rattle.qs_store.specs.inner.Holding.{HasGraph, AreGraphsOf}
 use Rattle.qs_store.specs.Same.{SameSet}
-use Rattle.qs_store.specs.Scans.{triple_of, AreTriplesOf}
+use Rattle.qs_store.specs.inner.Scans.{triple_of, AreTriplesOf}
 use Rattle.qs_store.specs.inner.Store.{IsFront}
 use Rattle.qs_store.specs.WholeGraphs.{is_in, is_named, in_graph, exists, put_into, copies, removed_by}
 use Rattle.qs_store.specs.declared.removal.Removal.{Removal}

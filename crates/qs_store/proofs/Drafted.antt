@@ -7,8 +7,8 @@ use Rattle.std.proofs.Math.Seq.{take-length}
 use Rattle.std.proofs.lemmas.List.{take-append-le, take_more, take_more_set}
 use Rattle.std.proofs.lemmas.List.Elements.{filter-append}
 use Rattle.std.proofs.lemmas.List.Elements.{Contains-append_left, Contains-append_right, Contains-append_cases}
-use Rattle.qs_index.specs.Entries.{IsUnion, IsDifference}
-use Rattle.qs_index.specs.Graph.{is_named, named_entries}
+use Rattle.qs_index.specs.inner.Entries.{IsUnion, IsDifference}
+use Rattle.qs_index.specs.inner.Graph.{is_named, named_entries}
 use Rattle.qs_store.specs.Change.{IsChanged}
 use Rattle.qs_store.specs.inner.Missing.{IsMissing, IsUnionWith, MayBeMissing}
 use Rattle.qs_store.specs.inner.Layers.{drafted, IsDraft, IsPartOf}

@@ -4,7 +4,7 @@ use Rattle.qs_terms.specs.Statement.{Statement}
 use Rattle.qs_terms.specs.declared.term.Term.{Term}
 use Rattle.qs_store.specs.Change.{IsChanged}
 use Rattle.qs_store.specs.inner.Copied.{AreEntriesOf}
-use Rattle.qs_store.specs.Entries.{AreEntries, said}
+use Rattle.qs_store.specs.inner.Entries.{AreEntries, said}
 use Rattle.qs_store.specs.inner.Store.{IsStore}
 use Rattle.qs_store.proofs.Copied.{changed_by, same_entries}
 use Rattle.qs_store.proofs.Members.{Entries}

@@ -11,7 +11,7 @@ use Rattle.qs_terms.specs.declared.term.Term.TheVariants.{Blank}
 use Rattle.qs_dict.specs.Dict.{term_at, number_of, IsInUse}
 use Rattle.qs_terms.proofs.FirstOnes.{or_left_false, or_right_false}
 use Rattle.qs_dict.proofs.Numbers.{exact_number, keeps_front}
-use Rattle.qs_store.specs.Entries.{statement_of, entry_of, four, graph_number, term_or, or_blank, IsEntryOf, IsPlaced, AreEntries, said}
+use Rattle.qs_store.specs.inner.Entries.{statement_of, entry_of, four, graph_number, term_or, or_blank, IsEntryOf, IsPlaced, AreEntries, said}
 use Rattle.qs_store.proofs.Members.{here, there, head_or_tail, nothing}
 
 pub record Four (g s p o : Option ℕ) (e : List ℕ) : Type 0 where

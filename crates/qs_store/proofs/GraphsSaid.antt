@@ -6,10 +6,10 @@ use Rattle.qs_terms.specs.Bag.{Distinct}
 use Rattle.qs_terms.specs.Term.{same_term}
 use Rattle.qs_terms.specs.declared.term.Term.{Term}
 use Rattle.qs_dict.specs.Dict.{term_at}
-use Rattle.qs_index.specs.Entries.{HaveFour}
-use Rattle.qs_index.specs.Graph.{graph_of}
-use Rattle.qs_store.specs.Entries.{said, statement_of, term_or, AreEntries, IsEntryOf}
-use Rattle.qs_store.specs.Graphs.{IsGraph, AreGraphs}
+use Rattle.qs_index.specs.inner.Entries.{HaveFour}
+use Rattle.qs_index.specs.inner.Graph.{graph_of}
+use Rattle.qs_store.specs.inner.Entries.{said, statement_of, term_or, AreEntries, IsEntryOf}
+use Rattle.qs_store.specs.inner.Graphs.{IsGraph, AreGraphs}
 use Rattle.qs_store.specs.inner.Holding.{HasGraph, AreGraphsOf}
 use Rattle.qs_store.proofs.Entries.{in_use, member_of_said, said_has, said_front, Distinct-front}
 use Rattle.qs_store.proofs.Stored.{content}

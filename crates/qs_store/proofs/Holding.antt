@@ -7,12 +7,12 @@ use Rattle.std.proofs.Math.Nat.{eq-or-lt_of_le}
 use Rattle.std.proofs.Math.Seq.{get_or-append_seam}
 use Rattle.std.proofs.lemmas.Bool.Decides.{nat_tests}
 use Rattle.std.proofs.lemmas.List.Elements.{All-contains, Contains-get_or, Contains-append_left, Contains-append_right, Contains-append_cases}
-use Rattle.qs_index.specs.Agreeing.{agrees}
-use Rattle.qs_index.specs.Entries.{HaveFour}
-use Rattle.qs_index.specs.Graph.{graph_of, IsNextGraph}
+use Rattle.qs_index.specs.inner.Agreeing.{agrees}
+use Rattle.qs_index.specs.inner.Entries.{HaveFour}
+use Rattle.qs_index.specs.inner.Graph.{graph_of, IsNextGraph}
 use Rattle.qs_store.specs.inner.Holding.{HasGraph, IsNextIn, AreWithin, AreGraphsUpTo, AreGraphsOf}
 use Rattle.qs_store.specs.inner.Layers.{drafted}
-use Rattle.qs_store.specs.Scans.{AreTriplesOf, triple_of}
+use Rattle.qs_store.specs.inner.Scans.{AreTriplesOf, triple_of}
 use Rattle.qs_store.specs.declared.graphs.Graphs.TheVariants.{One}
 use Rattle.qs_store.proofs.Drafted.{parts}
 use Rattle.qs_store.proofs.Members.{Entries, nothing, here, head_or_tail}

@@ -4,14 +4,14 @@ use Rattle.std.specs.List.{Contains, flat_map}
 use Rattle.std.proofs.lemmas.List.{map-append}
 use Rattle.std.proofs.lemmas.List.Elements.{Contains-append_cases}
 use Rattle.std.proofs.lemmas.Grind.{flat_map-append}
-use Rattle.qs_index.specs.Entries.{IsUnion, IsDifference}
+use Rattle.qs_index.specs.inner.Entries.{IsUnion, IsDifference}
 use Rattle.qs_terms.specs.Bag.{Distinct}
 use Rattle.qs_terms.specs.Dataset.{is_above_blanks}
 use Rattle.qs_terms.specs.Statement.{Statement, fits_places}
 use Rattle.qs_terms.specs.Term.{same_term}
 use Rattle.qs_terms.specs.declared.term.Term.{Term}
 use Rattle.qs_store.specs.Change.{IsChanged, IsFullAt, terms_of, with_terms, with_terms_of}
-use Rattle.qs_store.specs.Entries.{AreEntries, IsEntryOf, IsSaidBehind, said, statement_of, entry_of}
+use Rattle.qs_store.specs.inner.Entries.{AreEntries, IsEntryOf, IsSaidBehind, said, statement_of, entry_of}
 use Rattle.qs_store.specs.inner.Layers.{drafted}
 use Rattle.qs_store.specs.inner.Store.{IsStore, IsFront}
 use Rattle.qs_store.specs.declared.fault.StoreFault.{StoreFault}

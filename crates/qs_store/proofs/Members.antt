@@ -6,7 +6,7 @@ use Rattle.std.proofs.lemmas.Bool.{false≢true}
 use Rattle.std.proofs.lemmas.Bool.Decides.{nat_tests}
 use Rattle.std.proofs.lemmas.Slice.Eq.{bytes_eq-Decides}
 use Rattle.std.proofs.lemmas.List.Elements.{Contains-get_or, Contains-push_cases, Contains-append_left, Contains-append_right, Contains-append_cases}
-use Rattle.qs_index.specs.Entry.{IsAscending, IsBeforeAll, is_before}
+use Rattle.qs_index.specs.inner.Entry.{IsAscending, IsBeforeAll, is_before}
 use Rattle.qs_terms.specs.Bag.{Distinct}
 
 abbrev pub Entries : Type 0

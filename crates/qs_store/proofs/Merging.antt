@@ -4,10 +4,10 @@ use Rattle.std.specs.Str.{bytes_eq}
 use Rattle.std.specs.List.{Contains}
 use Rattle.std.proofs.lemmas.Bool.{false≢true}
 use Rattle.std.proofs.lemmas.Slice.Eq.{bytes_eq-Decides}
-use Rattle.qs_index.specs.Entry.{IsAscending, IsBeforeAll, is_before}
+use Rattle.qs_index.specs.inner.Entry.{IsAscending, IsBeforeAll, is_before}
 use Rattle.qs_index.proofs.Ascending.{before_trans}
 use Rattle.qs_index.proofs.EntryEdits.{same_from_neither}
-use Rattle.qs_store.specs.Scans.{without, merged, merged_from, led, is_last}
+use Rattle.qs_store.specs.inner.Scans.{without, merged, merged_from, led, is_last}
 use Rattle.qs_store.proofs.Members.{Entries, nothing, here, there, head_or_tail, not_before_itself}
 
 abbrev pub Key : Type 0

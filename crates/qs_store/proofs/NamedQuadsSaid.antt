@@ -8,13 +8,13 @@ use Rattle.qs_terms.specs.Term.{same_term}
 use Rattle.qs_terms.specs.Statement.{Statement}
 use Rattle.qs_terms.specs.declared.term.Term.{Term}
 use Rattle.qs_dict.specs.Dict.{term_at}
-use Rattle.qs_index.specs.Graph.{is_named}
-use Rattle.qs_index.specs.Permutation.{turned, named_order_used}
+use Rattle.qs_index.specs.inner.Graph.{is_named}
+use Rattle.qs_index.specs.inner.Permutation.{turned, named_order_used}
 use Rattle.qs_index.specs.declared.permutation.Permutation.{Permutation}
-use Rattle.qs_store.specs.Entries.{said, statement_of, term_or, AreEntries, IsEntryOf, IsPlaced}
+use Rattle.qs_store.specs.inner.Entries.{said, statement_of, term_or, AreEntries, IsEntryOf, IsPlaced}
 use Rattle.qs_store.specs.inner.Layers.{drafted, IsDraft}
-use Rattle.qs_store.specs.NamedQuads.{IsNamedMatch, IsNamedQuad, AreNamedQuads}
-use Rattle.qs_store.specs.Scans.{IsRead, AreNamedQuadsOf, merged, without}
+use Rattle.qs_store.specs.inner.NamedQuads.{IsNamedMatch, IsNamedQuad, AreNamedQuads}
+use Rattle.qs_store.specs.inner.Scans.{IsRead, AreNamedQuadsOf, merged, without}
 use Rattle.qs_store.specs.declared.graphs.Graphs.TheVariants.{Named}
 use Rattle.qs_store.proofs.Entries.{in_use, member_of_said, said_has, said_front, Distinct-front}
 use Rattle.qs_store.proofs.Members.{Entries}

@@ -8,13 +8,13 @@ use Rattle.std.proofs.lemmas.Bool.Decides.{nat_tests}
 use Rattle.std.proofs.lemmas.List.Elements.{All-contains}
 use Rattle.std.proofs.lemmas.List.Filters.{length-filter_both}
 use Rattle.std.proofs.lemmas.Map.Views.{All-insert_key}
-use Rattle.qs_index.specs.Entries.{HaveFour}
-use Rattle.qs_index.specs.Entry.{IsAscending}
-use Rattle.qs_index.specs.Graph.{graph_of, is_named, named_entries}
+use Rattle.qs_index.specs.inner.Entries.{HaveFour}
+use Rattle.qs_index.specs.inner.Entry.{IsAscending}
+use Rattle.qs_index.specs.inner.Graph.{graph_of, is_named, named_entries}
 use Rattle.qs_store.specs.inner.Emptied.{AreEmptied, AreOut, IsOf, IsRemoval}
 use Rattle.qs_store.specs.inner.Holding.{AreGraphsOf, HasGraph}
 use Rattle.qs_store.specs.inner.Layers.{drafted, IsDraft}
-use Rattle.qs_store.specs.Scans.{AreNamedQuadsOf, AreTriplesOf, IsRead, IsScanOf, without}
+use Rattle.qs_store.specs.inner.Scans.{AreNamedQuadsOf, AreTriplesOf, IsRead, IsScanOf, without}
 use Rattle.qs_store.specs.declared.graphs.Graphs.{Graphs}
 use Rattle.qs_store.specs.declared.graphs.Graphs.TheVariants.{Nothing, One, Named}
 use Rattle.qs_store.proofs.Copied.{none_in}

@@ -9,7 +9,7 @@ use Rattle.qs_terms.specs.declared.term.Term.{Term}
 use Rattle.qs_dict.specs.Dict.{number_of, IsInUse}
 use Rattle.qs_dict.proofs.Numbers.{exact_number, with_known}
 use Rattle.qs_store.specs.Change.{IsChanged, IsFullAt, terms_of, with_terms}
-use Rattle.qs_store.specs.Entries.{term_or, entry_of, statement_of, said, AreEntries, IsEntryOf}
+use Rattle.qs_store.specs.inner.Entries.{term_or, entry_of, statement_of, said, AreEntries, IsEntryOf}
 use Rattle.qs_store.specs.inner.Store.{IsFront}
 use Rattle.qs_store.specs.declared.fault.StoreFault.{StoreFault}
 use Rattle.qs_store.proofs.Entries.{in_use, entry_found, member_of_said, said_has}

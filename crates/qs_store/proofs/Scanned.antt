@@ -8,19 +8,19 @@ use Rattle.std.proofs.lemmas.Bool.Decides.{nat_tests}
 use Rattle.std.proofs.lemmas.Option.{same_Some, none-some}
 use Rattle.std.proofs.lemmas.List.Sorted.{Contains-permutation, IsPermutation-sym}
 use Rattle.std.proofs.lemmas.Slice.Eq.{bytes_eq-Decides}
-use Rattle.qs_index.specs.Agreeing.{agrees, agreeing, agrees_anywhere, agreeing_named, fits}
-use Rattle.qs_index.specs.Entry.{IsAscending, is_before}
-use Rattle.qs_index.specs.Graph.{is_named, named_entries}
+use Rattle.qs_index.specs.inner.Agreeing.{agrees, agreeing, agrees_anywhere, agreeing_named, fits}
+use Rattle.qs_index.specs.inner.Entry.{IsAscending, is_before}
+use Rattle.qs_index.specs.inner.Graph.{is_named, named_entries}
 use Rattle.qs_index.specs.inner.Lead.{order_with_lead, named_order_with_lead}
-use Rattle.qs_index.specs.Permutation.{turned, order_used, named_order_used}
+use Rattle.qs_index.specs.inner.Permutation.{turned, order_used, named_order_used}
 use Rattle.qs_index.specs.declared.permutation.Lead.{Lead}
 use Rattle.qs_index.specs.declared.permutation.Lead.TheVariants.{Subject, Predicate, Object}
 use Rattle.qs_index.specs.declared.permutation.Permutation.{Permutation}
 use Rattle.qs_index.proofs.Ascending.{before_trans}
 use Rattle.qs_index.proofs.Turned.{turned_same}
 use Rattle.qs_store.specs.inner.Layers.{drafted, IsDraft}
-use Rattle.qs_store.specs.Triples.{turned_triple}
-use Rattle.qs_store.specs.Scans.{IsRead, order_in, IsScanOf, without, merged, triple_of, is_last, unrepeated, AreTriplesIn, AreTriplesOf, AreTriplesOfAnyhow}
+use Rattle.qs_store.specs.inner.Triples.{turned_triple}
+use Rattle.qs_store.specs.inner.Scans.{IsRead, order_in, IsScanOf, without, merged, triple_of, is_last, unrepeated, AreTriplesIn, AreTriplesOf, AreTriplesOfAnyhow}
 use Rattle.qs_store.specs.declared.graphs.Graphs.{Graphs}
 use Rattle.qs_store.specs.declared.graphs.Graphs.TheVariants.{Nothing, One, Named}
 use Rattle.qs_store.proofs.Drafted.{parts, stays, is_added}

@@ -5,10 +5,10 @@ use Rattle.std.specs.List.{AllByRecursion}
 use Rattle.std.proofs.lemmas.Bool.{false≢true}
 use Rattle.std.proofs.lemmas.List.{map-append}
 use Rattle.std.proofs.lemmas.Slice.Eq.{bytes_eq-Decides}
-use Rattle.qs_index.specs.Agreeing.{agrees_anywhere}
+use Rattle.qs_index.specs.inner.Agreeing.{agrees_anywhere}
 use Rattle.qs_index.specs.inner.Skipped.{IsSkipped}
-use Rattle.qs_store.specs.Scans.{LastFits, is_last, triple_of, triples_left, unrepeated}
-use Rattle.qs_store.specs.Triples.{triple_fits}
+use Rattle.qs_store.specs.inner.Scans.{LastFits, is_last, triple_of, triples_left, unrepeated}
+use Rattle.qs_store.specs.inner.Triples.{triple_fits}
 
 abbrev Triples : Type 0
 Triples = List (List ℕ)

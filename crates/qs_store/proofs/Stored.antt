@@ -20,7 +20,7 @@ use Rattle.qs_terms.specs.declared.term.Term.TheVariants.{Iri, Blank, Literal}
 use Rattle.qs_store.specs.Change.{IsChanged, with_terms_of, KnowsTermsOf}
 use Rattle.qs_dict.specs.Dict.{term_at}
 use Rattle.qs_store.specs.Content.{Content, HasKnownTerms, KnowsItsTerms, AreLawful}
-use Rattle.qs_store.specs.Entries.{AreEntries, IsEntryOf, said, statement_of, entry_of, term_or}
+use Rattle.qs_store.specs.inner.Entries.{AreEntries, IsEntryOf, said, statement_of, entry_of, term_or}
 use Rattle.qs_store.specs.Same.{SameSet}
 use Rattle.qs_store.specs.inner.Store.{IsStore, IsFront}
 use Rattle.qs_store.proofs.Members.{Entries, nothing, here, there, head_or_tail, any_if}

@@ -20,10 +20,10 @@ use Rattle.qs_terms.proofs.SameTerm.{same_term-Decides}
 use Rattle.qs_dict.specs.declared.fault.DictFault.{DictFault}
 use Rattle.qs_dict.specs.declared.fault.DictFault.TheVariants as dict_fault
 use Rattle.qs_dict.specs.declared.fault.DictFault.TheVariants.{Full, Memory}
-use Rattle.qs_store.specs.Fault.{store_fault_of}
+use Rattle.qs_store.specs.inner.Fault.{store_fault_of}
 use Rattle.qs_store.specs.Change.{terms_of, with_terms, with_terms_of, IsFullAt}
 use Rattle.qs_store.proofs.Entries.{four_some, number_in_use, Distinct-front}
-use Rattle.qs_store.specs.Entries.{entry_of, graph_number}
+use Rattle.qs_store.specs.inner.Entries.{entry_of, graph_number}
 use Rattle.qs_store.specs.Content.{AreLawful}
 use Rattle.qs_store.specs.inner.Store.{IsFront}
 use Rattle.std.proofs.Common.{IsTrue, ⊎_elim}

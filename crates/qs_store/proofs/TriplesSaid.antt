@@ -10,13 +10,13 @@ use Rattle.qs_terms.specs.Statement.{Statement}
 use Rattle.qs_terms.specs.declared.term.Term.{Term}
 use Rattle.qs_dict.specs.Dict.{term_at}
 use Rattle.qs_dict.proofs.Numbers.{exact_number}
-use Rattle.qs_index.specs.Agreeing.{fits}
-use Rattle.qs_index.specs.Graph.{is_named}
-use Rattle.qs_index.specs.Permutation.{order_used}
+use Rattle.qs_index.specs.inner.Agreeing.{fits}
+use Rattle.qs_index.specs.inner.Graph.{is_named}
+use Rattle.qs_index.specs.inner.Permutation.{order_used}
 use Rattle.qs_index.specs.declared.permutation.Permutation.{Permutation}
-use Rattle.qs_store.specs.Entries.{said, statement_of, term_or, AreEntries, IsEntryOf, IsPlaced}
-use Rattle.qs_store.specs.Scans.{graphs_of, IsRead, triple_of, HasTriple, AreTriplesIn, AreTriplesOf, AreTriplesOfAnyhow}
-use Rattle.qs_store.specs.Triples.{IsGraphNumber, IsActive, IsMatch, IsTriple, AreTriples, AreTriplesBy, AreTriplesAnyhow}
+use Rattle.qs_store.specs.inner.Entries.{said, statement_of, term_or, AreEntries, IsEntryOf, IsPlaced}
+use Rattle.qs_store.specs.inner.Scans.{graphs_of, IsRead, triple_of, HasTriple, AreTriplesIn, AreTriplesOf, AreTriplesOfAnyhow}
+use Rattle.qs_store.specs.inner.Triples.{IsGraphNumber, IsActive, IsMatch, IsTriple, AreTriples, AreTriplesBy, AreTriplesAnyhow}
 use Rattle.qs_store.specs.declared.active.Active.{Active}
 use Rattle.qs_store.specs.declared.active.Active.TheVariants.{Default, Graph, Empty}
 use Rattle.qs_store.specs.declared.default_graph.DefaultGraph.{DefaultGraph}

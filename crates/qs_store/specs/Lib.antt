@@ -1,15 +1,6 @@
 pub mod Same
-pub mod Entries
-pub mod References
 pub mod Content
 pub mod Change
-pub mod Fault
-pub mod Triples
-pub mod NamedQuads
-pub mod Scans
-pub mod Sources
 pub mod WholeGraphs
 pub mod Visible
-pub mod Graphs
-pub mod ActiveGraph
 pub mod inner

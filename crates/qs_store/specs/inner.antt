@@ -1,4 +1,13 @@
--- What serves proofs and layers alone: no promise of the product is read by it.
+-- What layers and proofs read: the definitions of the headline cite none of it.
+pub mod ActiveGraph
+pub mod Entries
+pub mod Fault
+pub mod Graphs
+pub mod NamedQuads
+pub mod References
+pub mod Scans
+pub mod Sources
+pub mod Triples
 pub mod Store
 pub mod Holding
 pub mod Copied

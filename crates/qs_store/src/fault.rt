@@ -1,7 +1,7 @@
 //! Why a store refuses a change.
 
 ghost use Rattle.std.specs.Prelude.{◌≡◌};
-ghost use Rattle.qs_store.specs.Fault.{store_fault_of};
+ghost use Rattle.qs_store.specs.inner.Fault.{store_fault_of};
 ghost use Rattle.qs_store.specs.declared.fault.StoreFault.TheVariants as store_fault;
 
 use qs_dict::DictFault;

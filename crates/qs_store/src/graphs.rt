@@ -1,7 +1,7 @@
 //! Which entries are read.
 
 ghost use Rattle.std.specs.Prelude.{◌≡◌};
-ghost use Rattle.qs_store.specs.Scans.{graphs_of};
+ghost use Rattle.qs_store.specs.inner.Scans.{graphs_of};
 
 use crate::active::Active;
 use crate::default_graph::DefaultGraph;

@@ -2,7 +2,7 @@
 
 ghost use Rattle.std.specs.Prelude.{◌≡◌, None, Some};
 ghost use Rattle.std.specs.Iterator.{YieldsFirst};
-ghost use Rattle.qs_store.specs.Scans.{without, is_last};
+ghost use Rattle.qs_store.specs.inner.Scans.{without, is_last};
 
 use qs_index::Scan;
 use std::marker::Model;
@@ -29,7 +29,7 @@ pub struct Kept<'a> {
 
 impl<'a> Model for Kept<'a> {
     ghost use Rattle.std.specs.Prelude.{ℕ, List};
-    ghost use Rattle.qs_store.specs.Scans.{led, without};
+    ghost use Rattle.qs_store.specs.inner.Scans.{led, without};
 
     ghost Value = { List (List ℕ) };
 

@@ -10,10 +10,10 @@ ghost use Rattle.std.specs.Prelude.{◌≡◌, ℕ, ◌<◌, ◌≤◌, ◌+◌,
 ghost use Rattle.std.specs.Str.{bytes_eq};
 ghost use Rattle.qs_terms.specs.Bag.{Distinct};
 ghost use Rattle.std.specs.List.Sorted.{IsPermutation};
-ghost use Rattle.qs_index.specs.Agreeing.{agreeing};
-ghost use Rattle.qs_index.specs.Entries.{HaveFour, IsUnion, IsDifference};
-ghost use Rattle.qs_index.specs.Entry.{IsAscending};
-ghost use Rattle.qs_index.specs.Graph.{named_entries};
+ghost use Rattle.qs_index.specs.inner.Agreeing.{agreeing};
+ghost use Rattle.qs_index.specs.inner.Entries.{HaveFour, IsUnion, IsDifference};
+ghost use Rattle.qs_index.specs.inner.Entry.{IsAscending};
+ghost use Rattle.qs_index.specs.inner.Graph.{named_entries};
 ghost use Rattle.qs_store.specs.Change.{IsChanged};
 ghost use Rattle.qs_store.specs.inner.Copied.{AreCopies, AreNamed, IsWithoutGraph};
 ghost use Rattle.qs_store.specs.inner.Holding.{AreGraphsOf, HasGraph};
@@ -21,7 +21,7 @@ ghost use Rattle.qs_store.specs.inner.Emptied.{AreEmptied, IsRemoval, RemovesGra
 ghost use Rattle.qs_store.specs.inner.Missing.{IsMissing, IsUnionWith, MayBeMissing};
 ghost use Rattle.qs_store.specs.inner.Layers.{drafted, IsPartOf};
 ghost use Rattle.qs_store.specs.Same.{SameSet};
-ghost use Rattle.qs_store.specs.Scans.{AreNamedQuadsOf, AreTriplesOf, AreTriplesOfAnyhow};
+ghost use Rattle.qs_store.specs.inner.Scans.{AreNamedQuadsOf, AreTriplesOf, AreTriplesOfAnyhow};
 
 use crate::emptied_graphs::{Emptied, are_out, is_all_out, is_emptied};
 use crate::graphs::Graphs;

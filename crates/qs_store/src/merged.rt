@@ -2,9 +2,9 @@
 
 ghost use Rattle.std.specs.Prelude.{◌≡◌, None, Some};
 ghost use Rattle.std.specs.Iterator.{YieldsFirst};
-ghost use Rattle.qs_index.specs.Entry.{is_before};
-ghost use Rattle.qs_index.specs.Permutation.{turned};
-ghost use Rattle.qs_store.specs.Scans.{without, merged};
+ghost use Rattle.qs_index.specs.inner.Entry.{is_before};
+ghost use Rattle.qs_index.specs.inner.Permutation.{turned};
+ghost use Rattle.qs_store.specs.inner.Scans.{without, merged};
 
 use crate::kept::Kept;
 use qs_index::Scan;
@@ -33,8 +33,8 @@ pub struct Merged<'a> {
 
 impl<'a> Model for Merged<'a> {
     ghost use Rattle.std.specs.Prelude.{ℕ, List};
-    ghost use Rattle.qs_index.specs.Permutation.{turned};
-    ghost use Rattle.qs_store.specs.Scans.{led, merged};
+    ghost use Rattle.qs_index.specs.inner.Permutation.{turned};
+    ghost use Rattle.qs_store.specs.inner.Scans.{led, merged};
 
     ghost Value = { List (List ℕ) };
 

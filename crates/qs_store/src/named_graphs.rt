@@ -1,7 +1,7 @@
 //! The named graphs that have entries.
 
 ghost use Rattle.std.specs.Prelude.{◌≡◌, ◌↔◌, ◌++◌, IsTrue, IfOk, IfSome, IfNone};
-ghost use Rattle.qs_index.specs.Entries.{HaveFour};
+ghost use Rattle.qs_index.specs.inner.Entries.{HaveFour};
 ghost use Rattle.qs_store.specs.inner.Holding.{AreGraphsOf, AreWithin, HasGraph, IsNextIn};
 ghost use Rattle.qs_store.specs.inner.Emptied.{AreEmptied};
 ghost use Rattle.qs_store.specs.inner.Layers.{IsDraft, drafted};

@@ -3,8 +3,8 @@
 ghost use Rattle.std.specs.Prelude.{◌≡◌, []};
 ghost use Rattle.std.specs.Iterator.{YieldsFirst, item_count};
 ghost use Rattle.qs_store.specs.inner.Layers.{IsDraft, drafted};
-ghost use Rattle.qs_store.specs.Scans.{AreNamedQuadsOf};
-ghost use Rattle.qs_store.specs.Sources.{entries_left};
+ghost use Rattle.qs_store.specs.inner.Scans.{AreNamedQuadsOf};
+ghost use Rattle.qs_store.specs.inner.Sources.{entries_left};
 
 use crate::merged::Merged;
 use crate::triples::{Source, next_entry};
@@ -21,7 +21,7 @@ pub struct NamedQuads<'a> {
 
 impl<'a> Model for NamedQuads<'a> {
     ghost use Rattle.std.specs.Prelude.{ℕ, List};
-    ghost use Rattle.qs_store.specs.Sources.{entries_left};
+    ghost use Rattle.qs_store.specs.inner.Sources.{entries_left};
 
     ghost Value = { List (List ℕ) };
 

@@ -9,9 +9,9 @@ ghost use Rattle.qs_terms.specs.Term.{same_term};
 ghost use Rattle.qs_terms.specs.declared.term.Term.{Term};
 ghost use Rattle.qs_dict.specs.Dict.{IsDictionary, number_of};
 ghost use Rattle.qs_store.specs.Change.{terms_of, with_terms, with_terms_of, IsFullAt};
-ghost use Rattle.qs_store.specs.Entries.{entry_of, graph_number};
+ghost use Rattle.qs_store.specs.inner.Entries.{entry_of, graph_number};
 ghost use Rattle.qs_store.specs.Content.{AreLawful};
-ghost use Rattle.qs_store.specs.References.{referred, IsReferred, referred_graph, IsReferredGraph, referred_quad, IsReferredQuad};
+ghost use Rattle.qs_store.specs.inner.References.{referred, IsReferred, referred_graph, IsReferredGraph, referred_quad, IsReferredQuad};
 ghost use Rattle.qs_store.specs.inner.Store.{IsFront};
 
 use crate::fault::StoreFault;

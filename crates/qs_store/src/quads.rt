@@ -4,7 +4,7 @@ ghost use Rattle.std.specs.Prelude.{◌≡◌, ◌≤◌, length, IfOk};
 ghost use Rattle.std.specs.List.Sorted.{IsSorted};
 ghost use Rattle.qs_terms.specs.Bag.{SameBag};
 ghost use Rattle.qs_dict.specs.Dict.{IsInUse, term_at};
-ghost use Rattle.qs_store.specs.Entries.{said, statement_of, term_or, AreEntries, IsEntryOf};
+ghost use Rattle.qs_store.specs.inner.Entries.{said, statement_of, term_or, AreEntries, IsEntryOf};
 
 use qs_dict::Dict;
 use qs_terms::{Quad, Term};

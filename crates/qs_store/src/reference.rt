@@ -3,7 +3,7 @@
 ghost use Rattle.std.specs.Prelude.{◌≡◌};
 ghost use Rattle.std.specs.Option.{option_copied};
 ghost use Rattle.qs_terms.specs.Statement.{fits_places};
-ghost use Rattle.qs_store.specs.References.{referred, IsReferred, referred_graph, IsReferredGraph, referred_quad, IsReferredQuad};
+ghost use Rattle.qs_store.specs.inner.References.{referred, IsReferred, referred_graph, IsReferredGraph, referred_quad, IsReferredQuad};
 
 use qs_dict::Dict;
 use qs_terms::{Quad, Term};

@@ -19,13 +19,13 @@ ghost use Rattle.qs_expr_values.specs.inner.TermValue.{term_value};
 ghost use Rattle.qs_dict.specs.Dict.{IsInUse, IsDictionary, term_at, number_of};
 ghost use Rattle.qs_store.specs.Change.{IsChanged, KnowsTermsOf, IsFullExactly, IsFullAt, with_terms_of};
 ghost use Rattle.qs_store.specs.Content.{Content, Held, AreLawful, IsContent, KnowsItsTerms};
-ghost use Rattle.qs_store.specs.Entries.{said, entry_of, AreEntries, IsSaidBehind};
-ghost use Rattle.qs_store.specs.Graphs.{AreGraphs};
-ghost use Rattle.qs_store.specs.References.{referred_quad, IsReferredQuad};
+ghost use Rattle.qs_store.specs.inner.Entries.{said, entry_of, AreEntries, IsSaidBehind};
+ghost use Rattle.qs_store.specs.inner.Graphs.{AreGraphs};
+ghost use Rattle.qs_store.specs.inner.References.{referred_quad, IsReferredQuad};
 ghost use Rattle.qs_store.specs.Same.{SameSet};
 ghost use Rattle.qs_store.specs.inner.Store.{IsFront};
-ghost use Rattle.qs_store.specs.NamedQuads.{AreNamedQuads};
-ghost use Rattle.qs_store.specs.Triples.{AreTriples, AreTriplesAnyhow};
+ghost use Rattle.qs_store.specs.inner.NamedQuads.{AreNamedQuads};
+ghost use Rattle.qs_store.specs.inner.Triples.{AreTriples, AreTriplesAnyhow};
 ghost use Rattle.qs_store.specs.WholeGraphs.{copies, exists, in_graph, is_named, removed_by};
 ghost use Rattle.qs_store.specs.declared.default_graph.DefaultGraph.TheVariants.{Stored};
 ghost use Rattle.qs_store.specs.declared.fault.StoreFault.TheVariants.{Memory};
@@ -67,7 +67,7 @@ pub struct Store {
 impl Model for Store {
     ghost use Rattle.std.specs.Prelude.{take};
     ghost use Rattle.qs_store.specs.Content.{Content, Held};
-    ghost use Rattle.qs_store.specs.Entries.{said};
+    ghost use Rattle.qs_store.specs.inner.Entries.{said};
     ghost use Rattle.qs_store.specs.inner.Store.{IsStore};
 
     ghost Value = { Held };

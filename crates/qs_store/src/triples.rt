@@ -8,9 +8,9 @@ ghost use Rattle.std.specs.Prelude.{◌≡◌, ◌∷◌, [], true, map, None, I
 ghost use Rattle.std.specs.Iterator.{YieldsFirst, item_count};
 ghost use Rattle.qs_index.specs.inner.Skipped.{IsSkipped, SkipsAgreeing};
 ghost use Rattle.qs_store.specs.inner.Layers.{IsDraft, drafted};
-ghost use Rattle.qs_store.specs.Scans.{AreTriplesOf, AreTriplesOfAnyhow, LastFits, is_last, triple_of, triples_left, unrepeated};
-ghost use Rattle.qs_store.specs.Sources.{entries_left};
-ghost use Rattle.qs_store.specs.Triples.{triple_fits};
+ghost use Rattle.qs_store.specs.inner.Scans.{AreTriplesOf, AreTriplesOfAnyhow, LastFits, is_last, triple_of, triples_left, unrepeated};
+ghost use Rattle.qs_store.specs.inner.Sources.{entries_left};
+ghost use Rattle.qs_store.specs.inner.Triples.{triple_fits};
 
 use crate::graphs::Graphs;
 use crate::merged::Merged;
@@ -113,8 +113,8 @@ pub struct Triples<'a> {
 
 impl<'a> Model for Triples<'a> {
     ghost use Rattle.std.specs.Prelude.{ℕ, List};
-    ghost use Rattle.qs_store.specs.Scans.{triples_left};
-    ghost use Rattle.qs_store.specs.Sources.{entries_left};
+    ghost use Rattle.qs_store.specs.inner.Scans.{triples_left};
+    ghost use Rattle.qs_store.specs.inner.Sources.{entries_left};
 
     ghost Value = { List (List ℕ) };
 

@@ -12,9 +12,9 @@ ghost use Rattle.qs_terms.specs.Dataset.{is_above_blanks};
 ghost use Rattle.qs_expr_values.specs.inner.TermValue.{term_value};
 ghost use Rattle.qs_dict.specs.Dict.{IsInUse, term_at, number_of};
 ghost use Rattle.qs_store.specs.Content.{Content, AreLawful, IsContent, KnowsItsTerms};
-ghost use Rattle.qs_store.specs.Graphs.{AreGraphs};
-ghost use Rattle.qs_store.specs.NamedQuads.{AreNamedQuads};
-ghost use Rattle.qs_store.specs.Triples.{AreTriples, AreTriplesAnyhow};
+ghost use Rattle.qs_store.specs.inner.Graphs.{AreGraphs};
+ghost use Rattle.qs_store.specs.inner.NamedQuads.{AreNamedQuads};
+ghost use Rattle.qs_store.specs.inner.Triples.{AreTriples, AreTriplesAnyhow};
 ghost use Rattle.qs_store.specs.declared.default_graph.DefaultGraph.{DefaultGraph};
 ghost use Rattle.qs_store.specs.declared.fault.StoreFault.TheVariants.{Memory};
 

@@ -7,7 +7,7 @@ ghost use Rattle.qs_terms.specs.Statement.{is_graph};
 ghost use Rattle.qs_dict.specs.Dict.{IsDictionary};
 ghost use Rattle.qs_store.specs.Change.{IsChanged, IsFullAt, with_terms_of};
 ghost use Rattle.qs_store.specs.inner.Copied.{AreEntriesOf};
-ghost use Rattle.qs_store.specs.Entries.{said, graph_number, AreEntries};
+ghost use Rattle.qs_store.specs.inner.Entries.{said, graph_number, AreEntries};
 ghost use Rattle.qs_store.specs.inner.Holding.{HasGraph};
 ghost use Rattle.qs_store.specs.inner.Store.{IsFront};
 ghost use Rattle.qs_store.specs.WholeGraphs.{copies, exists, in_graph, is_named, removed_by};

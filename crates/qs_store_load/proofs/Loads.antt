@@ -6,10 +6,10 @@ use Rattle.qs_nquads.specs.Nquads.{IsNquads}
 use Rattle.qs_nquads.specs.inner.Unread.{Unread, HasRead}
 use Rattle.qs_store.specs.Change.{IsChanged, IsFullAt, KnowsTermsOf, with_terms_of}
 use Rattle.qs_store.specs.Content.{Content, Held}
-use Rattle.qs_store.specs.Entries.{IsSaidBehind, said}
+use Rattle.qs_store.specs.inner.Entries.{IsSaidBehind, said}
 use Rattle.qs_store.specs.declared.fault.StoreFault.{StoreFault}
 use Rattle.qs_store.specs.declared.fault.StoreFault.TheVariants as store_fault
-use Rattle.qs_store_load.specs.Load.{IsLoaded, IsLoadFault}
+use Rattle.qs_store_load.specs.inner.Load.{IsLoaded, IsLoadFault}
 use Rattle.qs_store_load.specs.inner.Loading.{AreNumbered, IsNumbered, IsTold, IsToldFor, Learns, Say}
 use Rattle.qs_store_load.specs.declared.fault.LoadFault.{LoadFault}
 use Rattle.qs_store_load.specs.declared.fault.LoadFault.TheVariants.{Text, Store}

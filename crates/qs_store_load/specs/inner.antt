@@ -1,2 +1,3 @@
--- What serves proofs alone: no promise of the product is read by it.
+-- What layers and proofs read: the definitions of the headline cite none of it.
+pub mod Load
 pub mod Loading

@@ -8,7 +8,7 @@ ghost use Rattle.qs_terms.specs.Statement.{Statement};
 ghost use Rattle.qs_terms.specs.declared.term.Term.{Term};
 ghost use Rattle.qs_nquads.specs.inner.Unread.{HasRead};
 ghost use Rattle.qs_store.specs.Change.{IsFullAt, with_terms_of};
-ghost use Rattle.qs_store_load.specs.Load.{IsLoaded, IsLoadFault};
+ghost use Rattle.qs_store_load.specs.inner.Load.{IsLoaded, IsLoadFault};
 ghost use Rattle.qs_store_load.specs.inner.Loading.{Learns, Say, IsTold, IsToldFor, AreNumbered, IsNumbered};
 
 use crate::fault::LoadFault;

@@ -9,7 +9,7 @@ use Rattle.qs_terms.specs.declared.fault.QFault.TheVariants.{Full, Memory}
 use Rattle.qs_terms.specs.declared.term.Term.{Term}
 use Rattle.qs_algebra_solutions.specs.Solution.{Solution}
 use Rattle.qs_algebra_patterns.specs.declared.named_pattern.Pattern.{Pattern}
-use Rattle.qs_expr.specs.Cell.{row_solution}
+use Rattle.qs_expr.specs.inner.Cell.{row_solution}
 use Rattle.qs_query_solutions.specs.declared.cell_rows.CellRows.{CellRows}
 use Rattle.qs_query_solutions.specs.inner.CellRows.{AreAllCells}
 use Rattle.qs_query_template.specs.Instances.{instances, next_after, within}

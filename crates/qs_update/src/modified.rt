@@ -8,7 +8,7 @@ ghost use Rattle.std.specs.Option.{option_copied, option_map};
 ghost use Rattle.qs_terms.specs.declared.term.Term.TheVariants as value;
 ghost use Rattle.qs_syntax_scope.specs.Firsts.{names_of};
 ghost use Rattle.qs_algebra.specs.Translation.{translated_where, translated_blocks};
-ghost use Rattle.qs_expr.specs.Cell.{row_solution, FitsRow};
+ghost use Rattle.qs_expr.specs.inner.Cell.{row_solution, FitsRow};
 ghost use Rattle.qs_query_solutions.specs.inner.CellRows.{AreAllCells};
 ghost use Rattle.qs_query_template.specs.Template as made;
 ghost use Rattle.qs_update.specs.Effect as spec;

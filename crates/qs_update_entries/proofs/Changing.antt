@@ -11,7 +11,7 @@ use Rattle.qs_query_template.specs.Instances.{quad_of, instance, instances, inst
 use Rattle.qs_query_template.specs.declared.template.QuadTemplate.{QuadTemplate}
 use Rattle.qs_query_template.specs.declared.template.Template.{Template}
 use Rattle.qs_store.specs.Content.{AreLawful}
-use Rattle.qs_store.specs.Entries.{entry_of, AreEntries}
+use Rattle.qs_store.specs.inner.Entries.{entry_of, AreEntries}
 use Rattle.qs_store.specs.inner.Store.{IsFront}
 use Rattle.qs_store.proofs.Changed.{found_for}
 use Rattle.qs_store.proofs.Entries.{entry_is, still_entries}

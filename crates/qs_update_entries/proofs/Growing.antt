@@ -9,7 +9,7 @@ use Rattle.qs_store.specs.inner.Store.{IsFront}
 use Rattle.qs_store.proofs.Terms.{front_keeps}
 use Rattle.qs_expr.specs.declared.cell.Cell.{Cell}
 use Rattle.qs_expr.specs.declared.cell.Cell.TheVariants.{Known, Scratch}
-use Rattle.qs_expr.specs.Cell.{Cells, denoted, denoted_if, row_solution, FitsCell, FitsRow}
+use Rattle.qs_expr.specs.inner.Cell.{Cells, denoted, denoted_if, row_solution, FitsCell, FitsRow}
 use Rattle.qs_expr.proofs.Finding.{term_there}
 use Rattle.qs_expr.proofs.Rows.{fits_first, fits_rest}
 

@@ -18,7 +18,7 @@ use Rattle.qs_dict.specs.Dict.{number_of}
 use Rattle.qs_dict.proofs.Numbers.{exact_number}
 use Rattle.qs_store.specs.Change.{IsChanged}
 use Rattle.qs_store.specs.Content.{HasKnownTerms}
-use Rattle.qs_store.specs.Entries.{entry_of, graph_number, said}
+use Rattle.qs_store.specs.inner.Entries.{entry_of, graph_number, said}
 use Rattle.qs_store.specs.inner.Store.{IsFront}
 use Rattle.qs_store.proofs.Changed.{found_for, found_has}
 use Rattle.qs_store.proofs.Entries.{entry_says, member_of_said, said_has}

@@ -6,7 +6,7 @@ use Rattle.qs_terms.specs.Statement.{Statement, fits_places}
 use Rattle.qs_terms.specs.declared.term.Term.{Term}
 use Rattle.qs_store.specs.Change.{terms_of, with_terms_of}
 use Rattle.qs_store.specs.Content.{Held}
-use Rattle.qs_store.specs.Entries.{AreEntries, IsSaidBehind}
+use Rattle.qs_store.specs.inner.Entries.{AreEntries, IsSaidBehind}
 use Rattle.qs_store.specs.inner.Store.{IsFront}
 use Rattle.qs_store.proofs.Terms.{front_terms}
 use Rattle.qs_update_entries.specs.inner.Refers.{if_lawful}

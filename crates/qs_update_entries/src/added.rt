@@ -4,11 +4,11 @@ ghost use Rattle.std.specs.Prelude.{◌≡◌, ◌++◌, ◌∷◌, ◌+◌, ◌
 ghost use Rattle.std.specs.List.{All};
 ghost use Rattle.qs_terms.specs.Statement.{Statement};
 ghost use Rattle.qs_terms.specs.declared.term.Term.{Term as TermValue};
-ghost use Rattle.qs_expr.specs.Cell.{row_solution, FitsRow};
+ghost use Rattle.qs_expr.specs.inner.Cell.{row_solution, FitsRow};
 ghost use Rattle.qs_query_template.specs.Instances.{instances, instances_under, next_after};
 ghost use Rattle.qs_store.specs.Change.{with_terms_of, IsFullAt};
 ghost use Rattle.qs_store.specs.declared.fault.StoreFault.TheVariants.{Memory};
-ghost use Rattle.qs_store.specs.References.{referred_quad, IsReferredQuad};
+ghost use Rattle.qs_store.specs.inner.References.{referred_quad, IsReferredQuad};
 ghost use Rattle.qs_store.specs.inner.Store.{IsFront};
 ghost use Rattle.qs_update_entries.specs.inner.Refers.{AreFresh, if_lawful};
 ghost use Rattle.qs_update_entries.specs.inner.Say.{Learns, Say};

@@ -3,7 +3,7 @@
 ghost use Rattle.std.specs.Prelude.{◌≡◌, length, map, IsTrue, OnOk, OnErr};
 ghost use Rattle.std.specs.List.{All};
 ghost use Rattle.qs_terms.specs.Dataset.{is_above_blanks};
-ghost use Rattle.qs_expr.specs.Cell.{row_solution, FitsRow};
+ghost use Rattle.qs_expr.specs.inner.Cell.{row_solution, FitsRow};
 ghost use Rattle.qs_query_template.specs.Instances.{instances, next_after};
 ghost use Rattle.qs_store.specs.Change.{with_terms_of, IsChanged, IsFullExactly};
 

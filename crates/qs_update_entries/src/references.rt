@@ -2,7 +2,7 @@
 
 ghost use Rattle.std.specs.Prelude.{ℕ, List};
 ghost use Rattle.qs_terms.specs.declared.term.Term.{Term as TermValue};
-ghost use Rattle.qs_expr.specs.Cell.{denoted, row_solution, FitsCell, FitsRow};
+ghost use Rattle.qs_expr.specs.inner.Cell.{denoted, row_solution, FitsCell, FitsRow};
 ghost use Rattle.qs_query_template.specs.Instances.{slot_term, graph_term, instance};
 ghost use Rattle.qs_update_entries.specs.inner.Refers.{AreFresh, Refers, RefersToGraph, RefersToQuad};
 

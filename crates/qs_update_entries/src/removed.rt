@@ -2,10 +2,10 @@
 
 ghost use Rattle.std.specs.Prelude.{◌≡◌, ◌++◌, map, IfOk, OnOk};
 ghost use Rattle.std.specs.List.{All, filter_map, flat_map};
-ghost use Rattle.qs_expr.specs.Cell.{row_solution, FitsRow};
+ghost use Rattle.qs_expr.specs.inner.Cell.{row_solution, FitsRow};
 ghost use Rattle.qs_query_template.specs.Instances.{instance};
-ghost use Rattle.qs_store.specs.Entries.{entry_of};
-ghost use Rattle.qs_store.specs.References.{referred_quad, IsReferredQuad};
+ghost use Rattle.qs_store.specs.inner.Entries.{entry_of};
+ghost use Rattle.qs_store.specs.inner.References.{referred_quad, IsReferredQuad};
 ghost use Rattle.qs_update_entries.specs.inner.Refers.{if_lawful};
 ghost use Rattle.qs_update_entries.specs.inner.Removed.{entries_under};
 

@@ -3,8 +3,8 @@ use Rattle.std.proofs.Common.{◌≡◌, ◌∙◌, ℕ, List, Result, Ok, Err, 
 use Rattle.qs_terms.specs.Outcome.{Outcome, OneOrOutOfMemory}
 use Rattle.qs_terms.specs.declared.term.Term.{Term}
 use Rattle.qs_terms.specs.Statement.{Statement}
-use Rattle.qs_store_load.specs.Load as load
-use Rattle.qs_store_load.specs.Load.{IsLoadFault}
+use Rattle.qs_store_load.specs.inner.Load as load
+use Rattle.qs_store_load.specs.inner.Load.{IsLoadFault}
 use Rattle.qs_store_load.specs.declared.fault.LoadFault.{LoadFault}
 use Rattle.qs_store_load.specs.declared.fault.LoadFault.TheVariants.{Text, Store}
 use Rattle.qs_store.specs.declared.fault.StoreFault.TheVariants as store_fault

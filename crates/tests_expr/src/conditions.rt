@@ -1,7 +1,7 @@
 //! Conditions over the row, by the tables of SPARQL 1.1 Query, 17.2 to 17.4.
 
-ghost use Rattle.qs_expr.specs.Cell.{FitsRow};
-ghost use Rattle.qs_expr.specs.Scratch.{IsTable};
+ghost use Rattle.qs_expr.specs.inner.Cell.{FitsRow};
+ghost use Rattle.qs_expr.specs.inner.Scratch.{IsTable};
 
 use crate::expressions::{Asked, Operand, condition, conjunction};
 use qs_base::drop_value;

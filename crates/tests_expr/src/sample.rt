@@ -1,8 +1,8 @@
 //! A row over the store of the tests.
 
 ghost use Rattle.std.specs.Prelude.{◌≡◌, ◌<◌, length};
-ghost use Rattle.qs_expr.specs.Cell.{FitsRow};
-ghost use Rattle.qs_expr.specs.Scratch.{Grows, IsTable};
+ghost use Rattle.qs_expr.specs.inner.Cell.{FitsRow};
+ghost use Rattle.qs_expr.specs.inner.Scratch.{Grows, IsTable};
 
 use crate::expressions::{Operand, term};
 use qs_expr::{Row, Scratch, intern, laws};

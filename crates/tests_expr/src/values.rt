@@ -1,8 +1,8 @@
 //! Cells of values: one for each term, the dictionary's where it has the term.
 
 ghost use Rattle.std.specs.Prelude.{◌≡◌};
-ghost use Rattle.qs_expr.specs.Cell.{FitsRow};
-ghost use Rattle.qs_expr.specs.Scratch.{IsTable};
+ghost use Rattle.qs_expr.specs.inner.Cell.{FitsRow};
+ghost use Rattle.qs_expr.specs.inner.Scratch.{IsTable};
 
 use crate::expressions::{Operand, expr_of, sum, term};
 use qs_base::drop_value;

@@ -1,6 +1,6 @@
 //! Each call on an evaluation, once.
 
-ghost use Rattle.qs_expr.specs.Cell.{FitsRow};
+ghost use Rattle.qs_expr.specs.inner.Cell.{FitsRow};
 
 use crate::plans::plan_of;
 use crate::rows::{binds, denotes};

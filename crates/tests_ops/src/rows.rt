@@ -1,6 +1,6 @@
 //! What rows denote.
 
-ghost use Rattle.qs_expr.specs.Cell.{FitsCell, FitsRow};
+ghost use Rattle.qs_expr.specs.inner.Cell.{FitsCell, FitsRow};
 
 use qs_expr::{Cell, Row};
 use qs_ops::Op;

@@ -4,7 +4,7 @@ use Rattle.qs_expr.specs.declared.cell.Cell.{Cell}
 use Rattle.qs_expr.specs.declared.cell.Cell.TheVariants as cell
 use Rattle.qs_expr.specs.declared.compact.CompactCell.{CompactCell}
 use Rattle.qs_expr.specs.declared.compact.CompactCell.TheVariants.{Unbound, Known, Scratch}
-use Rattle.qs_expr.specs.Cell.{Cells}
+use Rattle.qs_expr.specs.inner.Cell.{Cells}
 
 -- the cell, or none
 abbrev pub cell_of : CompactCell → Option Cell

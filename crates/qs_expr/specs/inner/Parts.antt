@@ -6,7 +6,7 @@ use Rattle.qs_algebra_solutions.specs.Solution.{Solution}
 use Rattle.qs_expr_meaning.specs.Makes.{makes}
 use Rattle.qs_expr_meaning.specs.Meaning.{holds}
 use Rattle.qs_expr_meaning.specs.declared.expr.Expr.{Expr}
-use Rattle.qs_expr.specs.Condition.{AreNumbersOf}
+use Rattle.qs_expr.specs.inner.Condition.{AreNumbersOf}
 use Rattle.qs_expr.specs.declared.part.Part.{Part}
 use Rattle.qs_expr.specs.declared.part.Part.TheVariants.{Has, Alike, Against, Other}
 

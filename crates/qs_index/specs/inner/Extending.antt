@@ -1,7 +1,7 @@
 -- Entries that a page takes after its last one.
 use Rattle.std.specs.Prelude.{ℕ, ◌+◌, nat_lt, List, [], ◌∷◌, ◌++◌, length, if◌then◌else◌}
 use Rattle.std.specs.Str.{bytes_eq}
-use Rattle.qs_index.specs.Entry.{is_before}
+use Rattle.qs_index.specs.inner.Entry.{is_before}
 
 -- a page with entries after its last one, as far as there is room and they ascend, and equal ones once
 abbrev pub extended : List ℕ → List (List ℕ) → List (List ℕ) → List (List ℕ)

@@ -1,6 +1,6 @@
 -- The order that a scan uses where it gives nothing and asks for one place in front.
 use Rattle.std.specs.Prelude.{ℕ, Option, Some, None}
-use Rattle.qs_index.specs.Permutation.{order_used, named_order_used}
+use Rattle.qs_index.specs.inner.Permutation.{order_used, named_order_used}
 use Rattle.qs_index.specs.declared.permutation.Permutation.{Permutation}
 use Rattle.qs_index.specs.declared.permutation.Permutation.TheVariants.{Gspo, Gpos, Gosp, Spog, Posg, Ospg}
 use Rattle.qs_index.specs.declared.permutation.Lead.{Lead}

@@ -1,9 +1,9 @@
 -- What a scan over the pages of an order has still to hand out, and what holds of its fields.
 use Rattle.std.specs.Prelude.{ℕ, ◌≡◌, ◌+◌, ◌<◌, ◌≤◌, List, [], ◌∷◌, true, length, slice_index_or, Option, Some, None}
-use Rattle.qs_index.specs.Layout.{joined, page_at, rest_at, HasPageSizes}
-use Rattle.qs_index.specs.Entries.{HaveFour}
-use Rattle.qs_index.specs.Entry.{is_before, run_of, IsAscending}
-use Rattle.qs_index.specs.Scan.{ScanState, most_looks}
+use Rattle.qs_index.specs.inner.Layout.{joined, page_at, rest_at, HasPageSizes}
+use Rattle.qs_index.specs.inner.Entries.{HaveFour}
+use Rattle.qs_index.specs.inner.Entry.{is_before, run_of, IsAscending}
+use Rattle.qs_index.specs.inner.Scan.{ScanState, most_looks}
 
 -- what a scan that asks for a prefix hands out from a place on
 abbrev pub left_from : List (List (List ℕ)) → List ℕ → ℕ → ℕ → List (List ℕ)

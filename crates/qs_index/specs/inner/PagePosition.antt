@@ -1,7 +1,7 @@
 use Rattle.std.specs.Prelude.{◌≡◌, ℕ, ◌<◌, ◌≤◌, List, [], length, false, slice_index_or}
 use Rattle.std.specs.List.{Contains}
-use Rattle.qs_index.specs.Layout.{joined, page_at, rest_at}
-use Rattle.qs_index.specs.Entry.{is_before, skip_before}
+use Rattle.qs_index.specs.inner.Layout.{joined, page_at, rest_at}
+use Rattle.qs_index.specs.inner.Entry.{is_before, skip_before}
 
 -- a place where x, which isn't among the entries, has to be put: those from there on are the ones that aren't before it
 pub record IsPlaceFor (x : List ℕ) (pages : List (List (List ℕ))) (page at : ℕ) : Type 0 where

@@ -1,7 +1,7 @@
 -- Elements at the front of a list that are skipped.
 use Rattle.std.specs.Prelude.{◌≡◌, ℕ, true, List, ◌++◌, Option}
 use Rattle.std.specs.List.{AllByRecursion}
-use Rattle.qs_index.specs.Agreeing.{agrees_anywhere}
+use Rattle.qs_index.specs.inner.Agreeing.{agrees_anywhere}
 
 -- some elements at the front are skipped, of all of which P holds, and no other one
 pub record IsSkipped {X : Type 0} (P : X → Type 0) (old new : List X) : Type 0 where

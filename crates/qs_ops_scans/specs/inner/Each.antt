@@ -7,8 +7,8 @@ use Rattle.qs_terms.specs.Term.{same_term}
 use Rattle.qs_terms.specs.declared.term.Term.{Term}
 use Rattle.qs_store.specs.Content.{Content}
 use Rattle.qs_expr.specs.declared.cell.Cell.{Cell}
-use Rattle.qs_expr.specs.Cell.{denoted}
-use Rattle.qs_expr.specs.Scratch.{IsTable}
+use Rattle.qs_expr.specs.inner.Cell.{denoted}
+use Rattle.qs_expr.specs.inner.Scratch.{IsTable}
 use Rattle.qs_algebra_solutions.specs.Solution.{Solution, term_at, binding}
 use Rattle.qs_algebra_solutions.specs.Operators.{merges}
 use Rattle.qs_algebra_patterns.specs.declared.pattern.TriplePattern.{TriplePattern}

@@ -5,7 +5,7 @@ use Rattle.qs_algebra_patterns.specs.declared.pattern.Slot.{Slot}
 use Rattle.qs_algebra_patterns.specs.declared.pattern.Slot.TheVariants as slot
 use Rattle.qs_algebra_patterns.specs.declared.pattern.PathPattern.{PathPattern}
 use Rattle.qs_expr.specs.declared.cell.Cell.{Cell}
-use Rattle.qs_expr.specs.Cell.{Cells, cell_at, same_cell}
+use Rattle.qs_expr.specs.inner.Cell.{Cells, cell_at, same_cell}
 use Rattle.qs_ops_scans.specs.declared.ends.Ends.{Ends}
 use Rattle.qs_ops_scans.specs.declared.ends.EndAct.{EndAct}
 use Rattle.qs_ops_scans.specs.declared.ends.EndAct.TheVariants.{Pass, Bind, Test, AsSubject}

@@ -6,8 +6,8 @@ use Rattle.qs_terms.specs.Term.{same_term}
 use Rattle.qs_terms.specs.declared.term.Term.{Term}
 use Rattle.qs_algebra_patterns.specs.Basic.{Graph}
 use Rattle.qs_expr.specs.declared.cell.Cell.{Cell}
-use Rattle.qs_expr.specs.Cell.{denoted}
-use Rattle.qs_expr.specs.Scratch.{IsTable}
+use Rattle.qs_expr.specs.inner.Cell.{denoted}
+use Rattle.qs_expr.specs.inner.Scratch.{IsTable}
 
 -- the answer tells whether the cell's term is a node of the graph
 abbrev pub TellsNode : List Term → Graph → Cell → Bool → Type 0

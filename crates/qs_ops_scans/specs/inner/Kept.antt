@@ -7,9 +7,9 @@ use Rattle.qs_store.specs.Content.{Content}
 use Rattle.qs_store.specs.declared.default_graph.DefaultGraph.{DefaultGraph}
 use Rattle.qs_paths_meaning.specs.Pair.{Pair}
 use Rattle.qs_expr.specs.declared.cell.Cell.{Cell}
-use Rattle.qs_expr.specs.Cell.{same_cell}
-use Rattle.qs_expr.specs.Scratch.{IsTable}
-use Rattle.qs_paths.specs.Coming.{GivesPair, IsToCome}
+use Rattle.qs_expr.specs.inner.Cell.{same_cell}
+use Rattle.qs_expr.specs.inner.Scratch.{IsTable}
+use Rattle.qs_paths.specs.inner.Coming.{GivesPair, IsToCome}
 use Rattle.qs_paths.specs.declared.stream.Pairs.{Pairs}
 use Rattle.qs_paths.specs.inner.Seen.{known_in}
 use Rattle.qs_ops_scans.specs.inner.Paths.{ArePairs}

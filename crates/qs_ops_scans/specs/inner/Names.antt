@@ -5,10 +5,10 @@ use Rattle.qs_terms.specs.Dataset.{names_of}
 use Rattle.qs_terms.specs.Term.{same_term}
 use Rattle.qs_terms.specs.declared.term.Term.{Term}
 use Rattle.qs_dict.specs.Dict.{term_at}
-use Rattle.qs_store.specs.ActiveGraph.{IsSeen}
+use Rattle.qs_store.specs.inner.ActiveGraph.{IsSeen}
 use Rattle.qs_store.specs.Content.{Content}
 use Rattle.qs_expr.specs.declared.cell.Cell.TheVariants.{Known}
-use Rattle.qs_expr.specs.Cell.{Cells}
+use Rattle.qs_expr.specs.inner.Cell.{Cells}
 
 -- the row with the register holding each of these numbers in turn
 abbrev pub rows_named : ℕ → Cells → List ℕ → List Cells

@@ -1,12 +1,12 @@
 -- What a scan leaves to be tested and bound, by cells.
 use Rattle.std.specs.Prelude.{◌≡◌, ℕ, Bool, true, false, ◌==◌, ◌&&◌, nat_lt, if◌then◌else◌, List, [], length, Option, None, Some, slice_index, slice_set}
 use Rattle.qs_store.specs.Content.{Content}
-use Rattle.qs_store.specs.Triples.{AreTriplesAnyhow}
+use Rattle.qs_store.specs.inner.Triples.{AreTriplesAnyhow}
 use Rattle.qs_store.specs.declared.active.Active.{Active}
 use Rattle.qs_store.specs.declared.default_graph.DefaultGraph.{DefaultGraph}
 use Rattle.qs_expr.specs.declared.cell.Cell.{Cell}
 use Rattle.qs_expr.specs.declared.cell.Cell.TheVariants.{Known, Scratch}
-use Rattle.qs_expr.specs.Cell.{Cells, cell_at}
+use Rattle.qs_expr.specs.inner.Cell.{Cells, cell_at}
 use Rattle.qs_ops_scans.specs.declared.pattern.Place.{Place}
 use Rattle.qs_ops_scans.specs.declared.pattern.Place.TheVariants as place
 use Rattle.qs_ops_scans.specs.declared.pattern.PreparedTriple.{PreparedTriple}

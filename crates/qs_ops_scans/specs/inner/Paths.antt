@@ -10,10 +10,10 @@ use Rattle.qs_algebra_patterns.specs.declared.pattern.Slot.{Slot}
 use Rattle.qs_algebra_patterns.specs.declared.pattern.Slot.TheVariants as slot
 use Rattle.qs_algebra_patterns.specs.declared.pattern.PathPattern.{PathPattern}
 use Rattle.qs_expr.specs.declared.cell.Cell.{Cell}
-use Rattle.qs_expr.specs.Cell.{Cells, cell_at, denoted_if}
+use Rattle.qs_expr.specs.inner.Cell.{Cells, cell_at, denoted_if}
 use Rattle.qs_plan_meaning.specs.Scans.{path_pairs}
 use Rattle.qs_ops_scans.specs.declared.bound.RowEnds.{RowEnds}
-pub use Rattle.qs_paths.specs.Coming.{denoted_pair, pair_if}
+pub use Rattle.qs_paths.specs.inner.Coming.{denoted_pair, pair_if}
 
 -- the cells denote these pairs, in any order
 abbrev pub ArePairs : List Term → List Term → List (Cell × Cell) → List Pair → Type 0

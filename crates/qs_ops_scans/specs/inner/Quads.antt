@@ -3,11 +3,11 @@ use Rattle.std.specs.Prelude.{◌≡◌, ℕ, Bool, true, ◌||◌, if◌then◌
 use Rattle.std.specs.Option.{is_some}
 use Rattle.qs_store.specs.Content.{Content}
 use Rattle.qs_expr.specs.declared.cell.Cell.TheVariants.{Known}
-use Rattle.qs_expr.specs.Cell.{Cells}
+use Rattle.qs_expr.specs.inner.Cell.{Cells}
 use Rattle.qs_ops_scans.specs.declared.pattern.PreparedTriple.{PreparedTriple}
 use Rattle.qs_ops_scans.specs.declared.opened.Acts.{Acts}
 use Rattle.qs_ops_scans.specs.declared.opened.Given.{Given}
-use Rattle.qs_store.specs.NamedQuads.{AreNamedQuads}
+use Rattle.qs_store.specs.inner.NamedQuads.{AreNamedQuads}
 use Rattle.qs_ops_scans.specs.inner.Opened.{bound, givens, passes}
 
 -- the numbers of the triple of a quad

@@ -1,9 +1,9 @@
 -- What triples tell of the rows that they make.
 use Rattle.std.specs.Prelude.{◌≡◌, ℕ, true, List, Option, Some}
-use Rattle.qs_store.specs.Triples.{triple_fits}
+use Rattle.qs_store.specs.inner.Triples.{triple_fits}
 use Rattle.qs_expr.specs.declared.cell.Cell.{Cell}
 use Rattle.qs_expr.specs.declared.cell.Cell.TheVariants.{Known}
-use Rattle.qs_expr.specs.Cell.{Cells, cell_at}
+use Rattle.qs_expr.specs.inner.Cell.{Cells, cell_at}
 use Rattle.qs_ops_scans.specs.Skipped.{SharesCellAt}
 use Rattle.qs_ops_scans.specs.declared.opened.Acts.{Acts}
 use Rattle.qs_ops_scans.specs.declared.opened.Given.{Given}

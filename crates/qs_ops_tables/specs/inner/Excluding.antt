@@ -1,8 +1,8 @@
 -- The test of MINUS, variable by variable.
 use Rattle.std.specs.Prelude.{Bool, true, ◌&&◌, ◌||◌, Option, None, Some, if◌then◌else◌}
 use Rattle.qs_expr.specs.declared.cell.Cell.{Cell}
-use Rattle.qs_expr.specs.Cell.{Cells, same_cell}
-use Rattle.qs_expr.specs.Row.{compatible_cells}
+use Rattle.qs_expr.specs.inner.Cell.{Cells, same_cell}
+use Rattle.qs_expr.specs.inner.Row.{compatible_cells}
 use Rattle.qs_ops_tables.specs.inner.Tables.{share_cells}
 
 -- whether some variable is shared, with one more; none where its cells differ

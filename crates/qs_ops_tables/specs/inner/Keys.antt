@@ -5,7 +5,7 @@ use Rattle.std.specs.Option.{option_map, option_and_then}
 use Rattle.qs_expr.specs.declared.cell.Cell.{Cell}
 use Rattle.qs_expr.specs.declared.cell.Cell.TheVariants.{Known, Scratch}
 use Rattle.qs_ops_tables.specs.declared.index.Link.{Link}
-use Rattle.qs_expr.specs.Cell.{Cells, cell_at}
+use Rattle.qs_expr.specs.inner.Cell.{Cells, cell_at}
 use Rattle.qs_ops_tables.specs.inner.Tables.{partners}
 
 -- ---- hashes

@@ -4,9 +4,9 @@ use Rattle.std.specs.List.{AllByRecursion, filter, list_any}
 use Rattle.qs_terms.specs.declared.term.Term.{Term}
 use Rattle.qs_algebra_solutions.specs.Operators.{merges, excludes}
 use Rattle.qs_expr.specs.declared.cell.Cell.{Cell}
-use Rattle.qs_expr.specs.Cell.{Cells, row_solution, FitsRow}
-use Rattle.qs_expr.specs.Row.{compatible_cells, merged_cells}
-use Rattle.qs_expr.specs.Scratch.{IsTable}
+use Rattle.qs_expr.specs.inner.Cell.{Cells, row_solution, FitsRow}
+use Rattle.qs_expr.specs.inner.Row.{compatible_cells, merged_cells}
+use Rattle.qs_expr.specs.inner.Scratch.{IsTable}
 
 -- rows, and the variables by which they are found
 pub record KeptRows : Type 0 where

@@ -6,7 +6,7 @@ use Rattle.qs_algebra_solutions.specs.Solution.{Solution, term_at, binding}
 use Rattle.qs_algebra_solutions.specs.Operators.{merges}
 use Rattle.qs_algebra_patterns.specs.declared.pattern.TriplePattern.{TriplePattern}
 use Rattle.qs_expr.specs.declared.cell.Cell.{Cell}
-use Rattle.qs_expr.specs.Cell.{Cells, cell_at}
+use Rattle.qs_expr.specs.inner.Cell.{Cells, cell_at}
 use Rattle.qs_plan_meaning.specs.Stages.{each_named}
 use Rattle.qs_ops_scans.specs.inner.Each.{NamesGraph, each_joined, misses}
 use Rattle.qs_ops_scans.specs.inner.Makes.{Makes}

@@ -5,7 +5,7 @@ use Rattle.qs_terms.specs.Bag.{SameBag}
 use Rattle.qs_terms.specs.declared.term.Term.{Term}
 use Rattle.qs_algebra_solutions.specs.Solution.{Solution, projected}
 use Rattle.qs_expr.specs.declared.cell.Cell.{Cell}
-use Rattle.qs_expr.specs.Cell.{Cells, cell_at, row_solution, FitsRow}
+use Rattle.qs_expr.specs.inner.Cell.{Cells, cell_at, row_solution, FitsRow}
 use Rattle.qs_plan_meaning.specs.declared.stage.Stage.{Stage}
 use Rattle.qs_plan.specs.inner.Certain.{Keeps}
 use Rattle.qs_ops_scans.specs.Skipped.{SkipsRows}

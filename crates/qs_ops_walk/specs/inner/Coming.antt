@@ -4,8 +4,8 @@ use Rattle.std.specs.List.{AllByRecursion, filter, flat_map}
 use Rattle.qs_terms.specs.declared.term.Term.{Term}
 use Rattle.qs_algebra_solutions.specs.Solution.{Solution}
 use Rattle.qs_algebra_patterns.specs.Eval.{all_hold}
-use Rattle.qs_expr.specs.Cell.{Cells, row_solution, FitsRow}
-use Rattle.qs_expr.specs.Condition.{IsPreparedFor}
+use Rattle.qs_expr.specs.inner.Cell.{Cells, row_solution, FitsRow}
+use Rattle.qs_expr.specs.inner.Condition.{IsPreparedFor}
 use Rattle.qs_ops_program.specs.inner.Flow.{Instruction, flow}
 use Rattle.qs_ops_tables.specs.inner.Tables.{FitRows, row_solutions}
 use Rattle.qs_ops_walk.specs.declared.source.Attempt.{Attempt}

@@ -3,7 +3,7 @@ use Rattle.std.specs.Prelude.{List, ◌++◌}
 use Rattle.qs_terms.specs.Bag.{SameBag}
 use Rattle.qs_terms.specs.declared.term.Term.{Term}
 use Rattle.qs_algebra_solutions.specs.Solution.{Solution}
-use Rattle.qs_expr.specs.Cell.{Cells}
+use Rattle.qs_expr.specs.inner.Cell.{Cells}
 use Rattle.qs_ops_program.specs.inner.Flow.{Instruction}
 use Rattle.qs_ops_tables.specs.inner.Tables.{FitRows, row_solutions}
 use Rattle.qs_ops_walk.specs.declared.source.Level.{Level}

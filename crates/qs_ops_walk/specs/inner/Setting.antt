@@ -2,7 +2,7 @@
 use Rattle.std.specs.Prelude.{ℕ, List}
 use Rattle.qs_terms.specs.declared.term.Term.{Term}
 use Rattle.qs_store.specs.Content.{Content}
-use Rattle.qs_store.specs.ActiveGraph.{active_graph}
+use Rattle.qs_store.specs.inner.ActiveGraph.{active_graph}
 use Rattle.qs_store.specs.declared.active.Active.{Active}
 use Rattle.qs_store.specs.declared.default_graph.DefaultGraph.{DefaultGraph}
 use Rattle.qs_algebra_patterns.specs.Basic.{Graph}

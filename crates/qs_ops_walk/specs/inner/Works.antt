@@ -10,8 +10,8 @@ use Rattle.qs_algebra_patterns.specs.Eval.{rows_of}
 use Rattle.qs_algebra_patterns.specs.declared.table.Table.{Table}
 use Rattle.qs_algebra_patterns.specs.declared.pattern.TriplePattern.{TriplePattern}
 use Rattle.qs_algebra_patterns.specs.declared.pattern.PathPattern.{PathPattern}
-use Rattle.qs_store.specs.ActiveGraph.{active_graph}
-use Rattle.qs_store.specs.Graphs.{AreGraphs}
+use Rattle.qs_store.specs.inner.ActiveGraph.{active_graph}
+use Rattle.qs_store.specs.inner.Graphs.{AreGraphs}
 use Rattle.qs_store.specs.declared.active.Active.{Active}
 use Rattle.qs_plan_meaning.specs.Scans.{path_pairs}
 use Rattle.qs_ops_scans.specs.inner.Paths.{row_ends, ArePairs, Serve}
@@ -20,9 +20,9 @@ use Rattle.qs_ops_walk.specs.declared.work.KeptPairs.{KeptPairs}
 use Rattle.qs_ops_walk.specs.declared.work.Trail.{Trail}
 use Rattle.qs_ops_walk.specs.declared.work.Naming.{Naming}
 use Rattle.qs_expr_meaning.specs.declared.expr.Expr.{Expr}
-use Rattle.qs_expr.specs.Cell.{Cells, cell_at, denoted_if, FitsIf}
-use Rattle.qs_expr.specs.Row.{no_cells}
-use Rattle.qs_expr.specs.Condition.{Prepared, IsPreparedFor}
+use Rattle.qs_expr.specs.inner.Cell.{Cells, cell_at, denoted_if, FitsIf}
+use Rattle.qs_expr.specs.inner.Row.{no_cells}
+use Rattle.qs_expr.specs.inner.Condition.{Prepared, IsPreparedFor}
 use Rattle.qs_expr.specs.declared.cell.Cell.{Cell}
 use Rattle.qs_plan_meaning.specs.declared.stage.Look.{Look}
 use Rattle.qs_plan_meaning.specs.declared.stage.Stage.{Stage}

@@ -7,8 +7,8 @@ use Rattle.qs_terms.specs.Dataset.{Triple, triple_of}
 use Rattle.qs_terms.specs.Term.{same_term}
 use Rattle.qs_dict.specs.Dict.{number_of, term_at}
 use Rattle.qs_store.specs.Content.{Content}
-use Rattle.qs_store.specs.Entries.{statement_of}
-use Rattle.qs_store.specs.Triples.{AreTriples}
+use Rattle.qs_store.specs.inner.Entries.{statement_of}
+use Rattle.qs_store.specs.inner.Triples.{AreTriples}
 use Rattle.qs_store.specs.declared.active.Active.{Active}
 use Rattle.qs_store.specs.declared.default_graph.DefaultGraph.{DefaultGraph}
 use Rattle.qs_syntax_ast.specs.declared.path.NegatedIri.{NegatedIri}

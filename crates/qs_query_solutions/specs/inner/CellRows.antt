@@ -6,7 +6,7 @@ use Rattle.qs_terms.specs.Outcome.{Outcome}
 use Rattle.qs_terms.specs.declared.fault.QFault.TheVariants.{Memory, TooManyRows}
 use Rattle.qs_terms.specs.declared.term.Term.{Term}
 use Rattle.qs_algebra_solutions.specs.Solution.{Solution}
-use Rattle.qs_expr.specs.Cell.{Cells, row_solution, FitsRow}
+use Rattle.qs_expr.specs.inner.Cell.{Cells, row_solution, FitsRow}
 use Rattle.qs_query_solutions.specs.declared.cell_rows.CellRows.{CellRows}
 
 -- the rows denote all solutions, in some order, and are no more than max_rows

@@ -6,7 +6,7 @@ use Rattle.qs_algebra_solutions.specs.Solution.{Solution, projected, same_soluti
 use Rattle.qs_algebra_solutions.specs.inner.Some.{is_enough}
 use Rattle.qs_expr.specs.declared.cell.Cell.{Cell}
 use Rattle.qs_expr.specs.declared.cell.Cell.TheVariants as cell
-use Rattle.qs_expr.specs.Cell.{Cells, row_solution, same_cell}
+use Rattle.qs_expr.specs.inner.Cell.{Cells, row_solution, same_cell}
 use Rattle.qs_query_solutions.specs.declared.distinct_rows.KeyCell.{KeyCell}
 use Rattle.qs_query_solutions.specs.declared.distinct_rows.KeyCell.TheVariants.{Unbound, Known, Scratch}
 

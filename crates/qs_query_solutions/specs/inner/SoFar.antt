@@ -3,7 +3,7 @@ use Rattle.std.specs.Prelude.{ℕ, ◌-◌, List, Option, Some, None}
 use Rattle.std.specs.List.{All}
 use Rattle.qs_terms.specs.declared.term.Term.{Term}
 use Rattle.qs_algebra_solutions.specs.Solution.{Solution}
-use Rattle.qs_expr.specs.Cell.{Cells, row_solution, FitsRow}
+use Rattle.qs_expr.specs.inner.Cell.{Cells, row_solution, FitsRow}
 use Rattle.qs_query_order.specs.inner.Keyed.{AreKeptIf, IsKeyed, solutions_of}
 use Rattle.qs_query_order.specs.declared.condition.OrderCondition.{OrderCondition}
 use Rattle.qs_query_order.specs.declared.keyed.KeyedRow.{KeyedRow}

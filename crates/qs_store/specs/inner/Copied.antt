@@ -1,12 +1,12 @@
 -- Entries of whole graphs.
 use Rattle.std.specs.Prelude.{◌≡◌, ◌≢◌, ◌↔◌, ℕ, ◌<◌, List, ◌∷◌}
 use Rattle.std.specs.List.{Contains}
-use Rattle.qs_index.specs.Graph.{graph_of}
+use Rattle.qs_index.specs.inner.Graph.{graph_of}
 use Rattle.qs_terms.specs.Statement.{Statement}
 use Rattle.qs_terms.specs.declared.term.Term.{Term}
-use Rattle.qs_store.specs.Entries.{said, AreEntries}
+use Rattle.qs_store.specs.inner.Entries.{said, AreEntries}
 use Rattle.qs_store.specs.Same.{SameSet}
-use Rattle.qs_store.specs.Scans.{triple_of}
+use Rattle.qs_store.specs.inner.Scans.{triple_of}
 
 -- the triple of an entry of one graph, put into another
 pub record IsCopy (entries : List (List ℕ)) (from to : ℕ) (y : List ℕ) : Type 0 where

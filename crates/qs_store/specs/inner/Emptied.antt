@@ -1,8 +1,8 @@
 -- Graphs of which a draft has removed all entries of its store.
 use Rattle.std.specs.Prelude.{◌≡◌, ◌⊎◌, ℕ, true, List}
 use Rattle.std.specs.List.{All, Contains}
-use Rattle.qs_index.specs.Entry.{IsAscending}
-use Rattle.qs_index.specs.Graph.{graph_of, is_named}
+use Rattle.qs_index.specs.inner.Entry.{IsAscending}
+use Rattle.qs_index.specs.inner.Graph.{graph_of, is_named}
 use Rattle.qs_store.specs.declared.graphs.Graphs.{Graphs}
 use Rattle.qs_store.specs.declared.graphs.Graphs.TheVariants.{Nothing, One, Named}
 

@@ -2,7 +2,7 @@
 use Rattle.std.specs.Prelude.{◌≡◌, ℕ, ◌<◌, ◌≤◌, List}
 use Rattle.std.specs.List.{Contains}
 use Rattle.std.specs.List.Sorted.{IsStrictlyIncreasing}
-use Rattle.qs_index.specs.Graph.{graph_of}
+use Rattle.qs_index.specs.inner.Graph.{graph_of}
 
 -- an entry of the graph
 pub record HasGraph (entries : List (List ℕ)) (graph : ℕ) : Type 0 where

@@ -2,9 +2,9 @@
 use Rattle.std.specs.Str.{bytes_eq}
 use Rattle.std.specs.Prelude.{ℕ, ◌≤◌, List, ◌++◌, length, not}
 use Rattle.std.specs.List.{Contains, filter, list_any}
-use Rattle.qs_index.specs.Entry.{IsAscending}
-use Rattle.qs_index.specs.Graph.{named_entries}
-use Rattle.qs_index.specs.Index.{IndexState}
+use Rattle.qs_index.specs.inner.Entry.{IsAscending}
+use Rattle.qs_index.specs.inner.Graph.{named_entries}
+use Rattle.qs_index.specs.inner.Index.{IndexState}
 use Rattle.qs_store.specs.inner.Emptied.{AreEmptied}
 
 -- the entries of a store, and those that its draft would make of them

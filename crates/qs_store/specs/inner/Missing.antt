@@ -1,7 +1,7 @@
 -- Entries that a draft lacks unless it adds them.
 use Rattle.std.specs.Prelude.{◌⊎◌, ℕ, ◌<◌, List, length}
 use Rattle.std.specs.List.{Contains}
-use Rattle.qs_index.specs.Entry.{IsAscending}
+use Rattle.qs_index.specs.inner.Entry.{IsAscending}
 
 -- the entries of a list, and those of another that are chosen
 pub record IsUnionWith (old more : List (List ℕ)) (Chosen : List ℕ → Type 0) (new : List (List ℕ)) : Type 0 where

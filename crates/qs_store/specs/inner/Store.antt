@@ -5,7 +5,7 @@ use Rattle.qs_terms.specs.Bag.{Distinct}
 use Rattle.qs_terms.specs.Dataset.{is_above_blanks}
 use Rattle.qs_terms.specs.Term.{same_term}
 use Rattle.qs_terms.specs.declared.term.Term.{Term}
-use Rattle.qs_store.specs.Entries.{said, AreEntries}
+use Rattle.qs_store.specs.inner.Entries.{said, AreEntries}
 
 -- the dictionary's terms, the entries of the store and of its draft, how many of the terms the store knows, and the next numbers of both
 pub record IsStore (terms : List Term) (base draft : List (List ℕ)) (known next draft_next : ℕ) : Type 0 where

@@ -6,7 +6,7 @@ use Rattle.qs_nquads.specs.Nquads.{IsNquads, IsFault}
 use Rattle.qs_nquads.specs.inner.Unread.{Unread, HasRead}
 use Rattle.qs_store.specs.Change.{with_terms_of}
 use Rattle.qs_store.specs.Content.{Held}
-use Rattle.qs_store.specs.Entries.{AreEntries, said}
+use Rattle.qs_store.specs.inner.Entries.{AreEntries, said}
 use Rattle.qs_store.specs.declared.fault.StoreFault.{StoreFault}
 use Rattle.qs_store.specs.declared.fault.StoreFault.TheVariants as store_fault
 use Rattle.qs_store_load.specs.declared.fault.LoadFault.{LoadFault}

@@ -2,7 +2,7 @@
 use Rattle.std.specs.Prelude.{◌≡◌, ℕ, List, [], Option, None, Some, slice_get}
 use Rattle.qs_terms.specs.Statement.{Statement}
 use Rattle.qs_terms.specs.declared.term.Term.{Term}
-use Rattle.qs_store.specs.References.{referred, referred_graph, referred_quad, IsReferred, IsReferredGraph, IsReferredQuad}
+use Rattle.qs_store.specs.inner.References.{referred, referred_graph, referred_quad, IsReferred, IsReferredGraph, IsReferredQuad}
 use Rattle.qs_store.specs.declared.reference.TermRef.{TermRef}
 use Rattle.qs_store.specs.declared.reference.QuadRef.{QuadRef}
 use Rattle.qs_query_template.specs.Instances.{fresh, lawful}

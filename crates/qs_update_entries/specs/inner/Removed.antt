@@ -3,7 +3,7 @@ use Rattle.std.specs.Prelude.{ℕ, List}
 use Rattle.std.specs.List.{filter_map, flat_map}
 use Rattle.qs_terms.specs.declared.term.Term.{Term}
 use Rattle.qs_algebra_solutions.specs.Solution.{Solution}
-use Rattle.qs_store.specs.Entries.{entry_of}
+use Rattle.qs_store.specs.inner.Entries.{entry_of}
 use Rattle.qs_query_template.specs.Instances.{instance}
 use Rattle.qs_query_template.specs.declared.template.Template.{Template}
 

@@ -4,7 +4,7 @@ use Rattle.qs_terms.specs.Statement.{Statement}
 use Rattle.qs_terms.specs.declared.term.Term.{Term}
 use Rattle.qs_store.specs.Change.{with_terms_of}
 use Rattle.qs_store.specs.Content.{Held}
-use Rattle.qs_store.specs.Entries.{AreEntries, said}
+use Rattle.qs_store.specs.inner.Entries.{AreEntries, said}
 
 -- a draft has learnt terms, and is otherwise as it was
 pub record Learns (old new : Held) : Type 0 where

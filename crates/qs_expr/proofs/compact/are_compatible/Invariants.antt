@@ -1,5 +1,5 @@
 use Rattle.std.proofs.Common.{◌≡◌, drop}
-use Rattle.qs_expr.specs.Row.{compatible_cells}
+use Rattle.qs_expr.specs.inner.Row.{compatible_cells}
 use Rattle.qs_expr.specs.inner.Compact.{cells_of}
 use Rattle.qs_expr.proofs.compact.are_compatible.Given as goal
 

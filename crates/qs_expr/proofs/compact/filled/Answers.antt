@@ -1,7 +1,7 @@
 use Rattle.std.proofs.Common.{◌≡◌, ◌<◌, ◌∙◌, ◌++◌, ◌-◌, ℕ, take, drop, length-drop, subst, ap, length, min, arith}
 use Rattle.std.proofs.lemmas.List.{take_all}
 use Rattle.std.proofs.Math.ListN.{length-set}
-use Rattle.qs_expr.specs.Row.{merged_cells}
+use Rattle.qs_expr.specs.inner.Row.{merged_cells}
 use Rattle.qs_expr.specs.inner.Compact.{cells_of}
 use Rattle.qs_expr.proofs.Compacts.{filled_one, filled_all}
 use Rattle.qs_expr.proofs.compact.filled.Goals as goal

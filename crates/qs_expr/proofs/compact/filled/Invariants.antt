@@ -1,5 +1,5 @@
 use Rattle.std.proofs.Common.{◌≡◌, ◌++◌, length, take, drop}
-use Rattle.qs_expr.specs.Row.{merged_cells}
+use Rattle.qs_expr.specs.inner.Row.{merged_cells}
 use Rattle.qs_expr.specs.inner.Compact.{cells_of}
 use Rattle.qs_expr.proofs.compact.filled.Given as goal
 

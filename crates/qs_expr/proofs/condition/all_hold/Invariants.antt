@@ -1,5 +1,5 @@
 use Rattle.std.proofs.Common.{◌≡◌, true, take}
-use Rattle.qs_expr.specs.Cell.{row_solution}
+use Rattle.qs_expr.specs.inner.Cell.{row_solution}
 use Rattle.qs_expr.specs.inner.Parts.{all_hold}
 use Rattle.qs_expr.proofs.condition.all_hold.Given as goal
 

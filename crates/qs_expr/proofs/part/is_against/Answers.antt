@@ -1,6 +1,6 @@
 use Rattle.std.proofs.Common.{refl, sym}
 use Rattle.qs_expr_values.specs.inner.Value.{term_of}
-use Rattle.qs_expr.specs.Cell.{row_solution}
+use Rattle.qs_expr.specs.inner.Cell.{row_solution}
 use Rattle.qs_expr.proofs.RowTerms.{term_read}
 use Rattle.qs_expr.proofs.part.is_against.Goals as goal
 

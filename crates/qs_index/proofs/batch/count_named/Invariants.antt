@@ -1,5 +1,5 @@
 use Rattle.std.proofs.Common.{◌≡◌, ◌≤◌, length, take}
-use Rattle.qs_index.specs.Graph.{named_entries}
+use Rattle.qs_index.specs.inner.Graph.{named_entries}
 use Rattle.qs_index.proofs.batch.count_named.Given as goal
 
 abbrev pub invariant-loop-i : goal.invariant-loop-i

@@ -1,7 +1,7 @@
 use Rattle.std.proofs.Common.{◌≡◌, ◌≤◌, true, false, length}
 use Rattle.std.specs.List.{AllWithin}
 use Rattle.std.specs.List.Sorted.{IsPermutation}
-use Rattle.qs_index.specs.Graph.{is_named}
+use Rattle.qs_index.specs.inner.Graph.{is_named}
 use Rattle.qs_index.proofs.batch.default_first.Given as goal
 
 abbrev pub invariant-loop-i : goal.invariant-loop-i

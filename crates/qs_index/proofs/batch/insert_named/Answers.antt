@@ -1,9 +1,9 @@
 use Rattle.std.proofs.Common.{◌++◌, ◌≡◌, length, arith, ap, ◌∙◌, map, drop, sym, subst}
 use Rattle.std.specs.List.Sorted.{IsPermutation}
 use Rattle.std.proofs.lemmas.List.Sorted.{IsPermutation-append_right, IsPermutation-trans}
-use Rattle.qs_index.specs.Entries.{IsUnion}
-use Rattle.qs_index.specs.Graph.{named_entries}
-use Rattle.qs_index.specs.Permutation.{turned}
+use Rattle.qs_index.specs.inner.Entries.{IsUnion}
+use Rattle.qs_index.specs.inner.Graph.{named_entries}
+use Rattle.qs_index.specs.inner.Permutation.{turned}
 use Rattle.qs_index.proofs.NamedOrders.{named_union, named_count-parted}
 use Rattle.qs_index.proofs.Unions.{IsOrderOf-union}
 use Rattle.qs_index.proofs.batch.insert_named.Goals as goal

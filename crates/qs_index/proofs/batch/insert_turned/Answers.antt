@@ -2,9 +2,9 @@ use Rattle.std.proofs.Common.{map, ap, sym, ◌∙◌, subst}
 use Rattle.std.specs.List.{All}
 use Rattle.std.specs.List.Sorted.{IsPermutation}
 use Rattle.std.proofs.lemmas.List.Sorted.{IsPermutation-map}
-use Rattle.qs_index.specs.Entries.{IsUnion}
-use Rattle.qs_index.specs.Entry.{IsEntry}
-use Rattle.qs_index.specs.Permutation.{turned, restored}
+use Rattle.qs_index.specs.inner.Entries.{IsUnion}
+use Rattle.qs_index.specs.inner.Entry.{IsEntry}
+use Rattle.qs_index.specs.inner.Permutation.{turned, restored}
 use Rattle.qs_index.proofs.Distinct.{map-map}
 use Rattle.qs_index.proofs.Turned.{restored-turned}
 use Rattle.qs_index.proofs.Unions.{IsUnion-permutation}

@@ -1,9 +1,9 @@
 use Rattle.std.proofs.Common.{◌++◌, map, drop, sym, subst}
 use Rattle.std.specs.List.Sorted.{IsPermutation}
 use Rattle.std.proofs.lemmas.List.Sorted.{IsPermutation-append_right, IsPermutation-trans}
-use Rattle.qs_index.specs.Entries.{IsDifference}
-use Rattle.qs_index.specs.Graph.{named_entries}
-use Rattle.qs_index.specs.Permutation.{turned}
+use Rattle.qs_index.specs.inner.Entries.{IsDifference}
+use Rattle.qs_index.specs.inner.Graph.{named_entries}
+use Rattle.qs_index.specs.inner.Permutation.{turned}
 use Rattle.qs_index.proofs.NamedOrders.{named_difference}
 use Rattle.qs_index.proofs.Differences.{IsOrderOf-difference}
 use Rattle.qs_index.proofs.batch.remove_named.Goals as goal

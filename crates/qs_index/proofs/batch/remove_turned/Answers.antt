@@ -1,8 +1,8 @@
 use Rattle.std.proofs.Common.{map, ap, sym, ◌∙◌, subst}
 use Rattle.std.specs.List.Sorted.{IsPermutation}
 use Rattle.std.proofs.lemmas.List.Sorted.{IsPermutation-map}
-use Rattle.qs_index.specs.Entries.{IsDifference}
-use Rattle.qs_index.specs.Permutation.{turned, restored}
+use Rattle.qs_index.specs.inner.Entries.{IsDifference}
+use Rattle.qs_index.specs.inner.Permutation.{turned, restored}
 use Rattle.qs_index.proofs.Distinct.{map-map}
 use Rattle.qs_index.proofs.Turned.{restored-turned}
 use Rattle.qs_index.proofs.Differences.{IsDifference-permutation}

@@ -1,6 +1,6 @@
 use Rattle.std.proofs.Common.{rules}
 use Rattle.std.proofs.lemmas.List.Sorted.{IsNonDecreasingBy-from_sort_by_key}
-use Rattle.qs_index.specs.Entry.{number_of}
+use Rattle.qs_index.specs.inner.Entry.{number_of}
 use Rattle.qs_index.proofs.batch.sort.Goals as goal
 
 pub returns-clause-ascending : goal.returns-clause-ascending

@@ -1,5 +1,5 @@
 use Rattle.std.proofs.Common.{◌≡◌, drop}
-use Rattle.qs_index.specs.Entry.{begins}
+use Rattle.qs_index.specs.inner.Entry.{begins}
 use Rattle.qs_index.proofs.entry.begins.Given as goal
 
 abbrev pub invariant-loop-k : goal.invariant-loop-k

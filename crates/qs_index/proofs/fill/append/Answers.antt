@@ -1,7 +1,7 @@
 use Rattle.std.proofs.Common.{◌≡◌, ◌+◌, ◌-◌, [], ◌∷◌, length, arith, sym, ap, ◌∙◌}
 use Rattle.std.specs.List.{insert}
 use Rattle.std.proofs.lemmas.List.{length-set, length_push}
-use Rattle.qs_index.specs.Layout.{joined, page_at, rest_at}
+use Rattle.qs_index.specs.inner.Layout.{joined, page_at, rest_at}
 use Rattle.qs_index.proofs.EntryEdits.{put_in_order}
 use Rattle.qs_index.proofs.Filled.{with_behind, rest_last, used_put, joined_open, used_open}
 use Rattle.qs_index.proofs.fill.append.Goals as goal

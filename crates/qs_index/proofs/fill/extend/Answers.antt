@@ -1,6 +1,6 @@
 use Rattle.std.proofs.Common.{◌≡◌, ◌-◌, ◌<◌, [], length, arith, ap, ◌∙◌}
 use Rattle.std.proofs.lemmas.List.{get_or-set_same}
-use Rattle.qs_index.specs.Layout.{page_at}
+use Rattle.qs_index.specs.inner.Layout.{page_at}
 use Rattle.qs_index.specs.inner.Extending.{extended}
 use Rattle.qs_index.proofs.Extending.{length-extended}
 use Rattle.qs_index.proofs.fill.extend.Goals as goal

@@ -1,8 +1,8 @@
 use Rattle.std.proofs.Common.{◌+◌, ◌-◌, ◌≤◌, [], length, get_or, take, drop, refl, arith, rules, ap, sym, ◌∙◌, subst}
 use Rattle.std.specs.Cmp.Lexicographic.{bytes_decides}
 use Rattle.std.proofs.lemmas.List.{take_rest}
-use Rattle.qs_index.specs.Entries.{HaveFour, IsUnion}
-use Rattle.qs_index.specs.Layout.{joined, room_of}
+use Rattle.qs_index.specs.inner.Entries.{HaveFour, IsUnion}
+use Rattle.qs_index.specs.inner.Layout.{joined, room_of}
 use Rattle.qs_index.proofs.Distinct.{nothing_in_nil}
 use Rattle.qs_index.proofs.Filled.{Filling, filling_first, filling_behind, filling_both, filling_same, filling_spare, some_of}
 use Rattle.qs_index.proofs.Spares.{spare_for_first}

@@ -1,5 +1,5 @@
 use Rattle.std.proofs.Common.{◌≡◌, ◌+◌, ◌-◌, length, length-take, length-drop, ap, sym, subst, ◌∙◌, arith, ◌≤◌}
-use Rattle.qs_index.specs.Layout.{joined, page_at, rest_at, room_of, open_room_of}
+use Rattle.qs_index.specs.inner.Layout.{joined, page_at, rest_at, room_of, open_room_of}
 use Rattle.qs_index.proofs.Spares.{page_split_low, page_split_high, rest_split_low, rest_split_high, joined-split, room_split}
 use Rattle.qs_index.proofs.order.make_room.Goals as goal
 

@@ -1,5 +1,5 @@
 use Rattle.std.proofs.Common.{ap, ◌∙◌}
-use Rattle.qs_index.specs.Layout.{joined}
+use Rattle.qs_index.specs.inner.Layout.{joined}
 use Rattle.qs_index.proofs.EntryEdits.{put_in_order}
 use Rattle.qs_index.proofs.Spares.{room_put}
 use Rattle.qs_index.proofs.order.put_before.Goals as goal

@@ -1,6 +1,6 @@
 use Rattle.std.proofs.Common.{◌≡◌, ◌+◌, length, arith, ap, sym, ◌∙◌}
 use Rattle.std.proofs.lemmas.Bool.{eqb-true}
-use Rattle.qs_index.specs.Entry.{run_of}
+use Rattle.qs_index.specs.inner.Entry.{run_of}
 use Rattle.qs_index.proofs.Places.{rest_end, rest_next_page}
 use Rattle.qs_index.proofs.Prefixes.{whole_ends}
 use Rattle.qs_index.proofs.order_scan.step.Goals as goal

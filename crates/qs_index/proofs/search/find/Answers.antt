@@ -1,6 +1,6 @@
 use Rattle.std.proofs.Common.{◌≡◌, ◌-◌, ◌<◌, refl, length, arith, ap, ◌∙◌, sym, subst}
-use Rattle.qs_index.specs.Layout.{page_at}
-use Rattle.qs_index.specs.Entry.{skip_before}
+use Rattle.qs_index.specs.inner.Layout.{page_at}
+use Rattle.qs_index.specs.inner.Entry.{skip_before}
 use Rattle.qs_index.specs.inner.PagePosition.{IsReached}
 use Rattle.qs_index.proofs.DigitLaws.{digits-le}
 use Rattle.qs_index.proofs.Looks.{page_looks, entry_looks}

@@ -1,6 +1,6 @@
 use Rattle.std.proofs.Common.{◌≡◌, ◌+◌, ◌-◌, [], length, get_or, arith, ap, sym, ◌∙◌}
-use Rattle.qs_index.specs.Entry.{is_before, skip_before}
-use Rattle.qs_index.specs.Layout.{page_at}
+use Rattle.qs_index.specs.inner.Entry.{is_before, skip_before}
+use Rattle.qs_index.specs.inner.Layout.{page_at}
 use Rattle.qs_index.proofs.Looks.{entry_looks}
 use Rattle.qs_index.proofs.Places.{rest_end, skip_page, skip_in_page, skip_to_page}
 use Rattle.qs_index.proofs.search.find_after.Goals as goal

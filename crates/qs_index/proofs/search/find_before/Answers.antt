@@ -1,6 +1,6 @@
 use Rattle.std.proofs.Common.{◌≡◌, ◌+◌, ◌-◌, true, [], get_or, arith, ap, sym, ◌∙◌}
-use Rattle.qs_index.specs.Entry.{is_before, skip_before}
-use Rattle.qs_index.specs.Layout.{joined, page_at, rest_at}
+use Rattle.qs_index.specs.inner.Entry.{is_before, skip_before}
+use Rattle.qs_index.specs.inner.Layout.{joined, page_at, rest_at}
 use Rattle.qs_index.proofs.Places.{skip_place, skip_done}
 use Rattle.qs_index.proofs.search.find_before.Goals as goal
 

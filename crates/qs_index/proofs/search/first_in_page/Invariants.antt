@@ -1,7 +1,7 @@
 use Rattle.std.proofs.Common.{◌≡◌, ◌+◌, ◌-◌, ◌<◌, ◌≤◌, length, drop, get_or, false, []}
-use Rattle.qs_index.specs.Digits.{digits}
-use Rattle.qs_index.specs.Layout.{joined, page_at, rest_at}
-use Rattle.qs_index.specs.Entry.{is_before, skip_before}
+use Rattle.qs_index.specs.inner.Digits.{digits}
+use Rattle.qs_index.specs.inner.Layout.{joined, page_at, rest_at}
+use Rattle.qs_index.specs.inner.Entry.{is_before, skip_before}
 use Rattle.qs_index.proofs.search.first_in_page.Given as goal
 
 abbrev pub decreases-loop-low : goal.decreases-loop-low

@@ -1,6 +1,6 @@
 use Rattle.std.proofs.Common.{◌≡◌, ◌+◌, ◌-◌, ◌/◌, [], length, get_or, arith, ap, sym, ◌∙◌}
-use Rattle.qs_index.specs.Entry.{is_before}
-use Rattle.qs_index.specs.Layout.{page_at}
+use Rattle.qs_index.specs.inner.Entry.{is_before}
+use Rattle.qs_index.specs.inner.Layout.{page_at}
 use Rattle.qs_index.proofs.DigitLaws.{digits_left, digits_right, middle_below}
 use Rattle.qs_index.proofs.Places.{skip_page}
 use Rattle.qs_index.proofs.search.first_page.Goals as goal

@@ -1,7 +1,7 @@
 use Rattle.std.proofs.Common.{◌≡◌, ◌+◌, ◌-◌, ◌<◌, ◌≤◌, length, drop}
-use Rattle.qs_index.specs.Digits.{digits}
-use Rattle.qs_index.specs.Layout.{joined, page_at}
-use Rattle.qs_index.specs.Entry.{skip_before}
+use Rattle.qs_index.specs.inner.Digits.{digits}
+use Rattle.qs_index.specs.inner.Layout.{joined, page_at}
+use Rattle.qs_index.specs.inner.Entry.{skip_before}
 use Rattle.qs_index.specs.inner.PagePosition.{IsReached}
 use Rattle.qs_index.proofs.search.first_page.Given as goal
 

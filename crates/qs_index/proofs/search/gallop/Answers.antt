@@ -1,6 +1,6 @@
 use Rattle.std.proofs.Common.{◌≡◌, ◌+◌, ◌-◌, [], length, get_or, refl, arith, ap, sym, ◌∙◌}
-use Rattle.qs_index.specs.Entry.{is_before}
-use Rattle.qs_index.specs.Layout.{page_at}
+use Rattle.qs_index.specs.inner.Entry.{is_before}
+use Rattle.qs_index.specs.inner.Layout.{page_at}
 use Rattle.qs_index.proofs.DigitLaws.{digits_half, digits_doubled, digits-le}
 use Rattle.qs_index.proofs.Places.{skip_in_page}
 use Rattle.qs_index.proofs.search.gallop.Goals as goal

@@ -1,7 +1,7 @@
 use Rattle.std.proofs.Common.{◌≡◌, ◌+◌, ◌-◌, ◌<◌, ◌≤◌, drop}
-use Rattle.qs_index.specs.Digits.{digits}
-use Rattle.qs_index.specs.Layout.{joined, rest_at}
-use Rattle.qs_index.specs.Entry.{skip_before}
+use Rattle.qs_index.specs.inner.Digits.{digits}
+use Rattle.qs_index.specs.inner.Layout.{joined, rest_at}
+use Rattle.qs_index.specs.inner.Entry.{skip_before}
 use Rattle.qs_index.proofs.search.gallop.Given as goal
 
 abbrev pub decreases-loop-low : goal.decreases-loop-low

@@ -2,8 +2,8 @@ use Rattle.std.proofs.Common.{◌≡◌, length, sym, ap, ◌∙◌, arith, rule
 use Rattle.std.proofs.lemmas.Bool.{false≢true}
 use Rattle.std.proofs.lemmas.List.{take_all}
 use Rattle.std.specs.Cmp.Lexicographic.{bytes_decides}
-use Rattle.qs_index.specs.Layout.{joined}
-use Rattle.qs_index.specs.Entry.{skip_before}
+use Rattle.qs_index.specs.inner.Layout.{joined}
+use Rattle.qs_index.specs.inner.Entry.{skip_before}
 use Rattle.qs_index.proofs.Looks.{start_fits_later}
 use Rattle.qs_index.proofs.Places.{rest_end}
 use Rattle.qs_index.proofs.FoundPlaces.{place_at_end, place_of_other, place_of_it}

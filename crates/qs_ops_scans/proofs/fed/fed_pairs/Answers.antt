@@ -1,5 +1,5 @@
 use Rattle.std.proofs.Common.{sym, ◌∙◌, subst}
-use Rattle.qs_store.specs.ActiveGraph.{active_graph}
+use Rattle.qs_store.specs.inner.ActiveGraph.{active_graph}
 use Rattle.qs_ops_scans.specs.inner.Paths.{Serve}
 use Rattle.qs_ops_scans.proofs.FedPairs.{fed_found, fed_left, fed_right}
 use Rattle.qs_ops_scans.proofs.fed.fed_pairs.Goals as goal

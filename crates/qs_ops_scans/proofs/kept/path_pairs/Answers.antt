@@ -1,4 +1,4 @@
-use Rattle.qs_store.specs.ActiveGraph.{active_graph}
+use Rattle.qs_store.specs.inner.ActiveGraph.{active_graph}
 use Rattle.qs_ops_scans.proofs.Collected.{pairs_are}
 use Rattle.qs_ops_scans.proofs.Spans.{pairs_moved}
 use Rattle.qs_ops_scans.proofs.kept.path_pairs.Goals as goal

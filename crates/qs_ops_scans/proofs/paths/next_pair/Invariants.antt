@@ -1,6 +1,6 @@
 use Rattle.std.proofs.Common.{◌≡◌, drop, take}
 use Rattle.std.specs.List.{filter_map}
-use Rattle.qs_expr.specs.Cell.{Cells}
+use Rattle.qs_expr.specs.inner.Cell.{Cells}
 use Rattle.qs_ops_scans.specs.inner.Ends.{act_made}
 use Rattle.qs_ops_scans.proofs.paths.next_pair.Given as goal
 

@@ -1,7 +1,7 @@
 use Rattle.std.proofs.Common.{◌≡◌, drop}
 use Rattle.qs_algebra_solutions.specs.Solution.{bind_all, binding}
-use Rattle.qs_expr.specs.Cell.{FitsRow, row_solution}
-use Rattle.qs_expr.specs.Scratch.{Grows}
+use Rattle.qs_expr.specs.inner.Cell.{FitsRow, row_solution}
+use Rattle.qs_expr.specs.inner.Scratch.{Grows}
 use Rattle.qs_ops_tables.proofs.values.binding_row.Given as goal
 
 abbrev pub invariant-loop-at : goal.invariant-loop-at

@@ -1,4 +1,4 @@
-use Rattle.qs_store.specs.ActiveGraph.{active_graph}
+use Rattle.qs_store.specs.inner.ActiveGraph.{active_graph}
 use Rattle.qs_ops_scans.proofs.FedPairs.{serve_all}
 use Rattle.qs_ops_scans.specs.inner.Paths.{row_ends}
 use Rattle.qs_ops_walk.specs.inner.Setting.{known_of}

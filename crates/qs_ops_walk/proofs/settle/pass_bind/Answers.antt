@@ -1,5 +1,5 @@
 use Rattle.std.proofs.Common.{Option, Some, None, sym, ap, subst, ◌∙◌, refl}
-use Rattle.qs_expr.specs.Cell.{denoted_if, FitsIf}
+use Rattle.qs_expr.specs.inner.Cell.{denoted_if, FitsIf}
 use Rattle.qs_expr.specs.declared.cell.Cell.{Cell}
 use Rattle.qs_ops_walk.specs.inner.Setting.{Setting, known_of}
 use Rattle.qs_ops_walk.specs.inner.Moves.{bound_named}

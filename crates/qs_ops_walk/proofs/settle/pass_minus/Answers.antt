@@ -1,7 +1,7 @@
 use Rattle.std.proofs.Common.{◌∙◌, ap, sym, subst, take}
 use Rattle.std.specs.List.{list_any}
 use Rattle.qs_algebra_solutions.specs.Operators.{excludes}
-use Rattle.qs_expr.specs.Cell.{row_solution}
+use Rattle.qs_expr.specs.inner.Cell.{row_solution}
 use Rattle.qs_ops_tables.specs.inner.Tables.{KeptRows, TellsExcluded, row_solutions}
 use Rattle.qs_ops_walk.specs.declared.settle.Passes.{Passes}
 use Rattle.qs_ops_walk.specs.inner.Setting.{known_of}

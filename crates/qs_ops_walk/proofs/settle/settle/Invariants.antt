@@ -1,4 +1,4 @@
-use Rattle.qs_expr.specs.Scratch.{Grows}
+use Rattle.qs_expr.specs.inner.Scratch.{Grows}
 use Rattle.qs_ops_walk.specs.inner.Setting.{known_of}
 use Rattle.qs_ops_walk.specs.inner.Works.{AreReady, code_of}
 use Rattle.qs_ops_walk.specs.inner.Moves.{Goes}

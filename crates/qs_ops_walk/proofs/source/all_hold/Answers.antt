@@ -1,5 +1,5 @@
 use Rattle.std.proofs.Common.{take, sym, ◌∙◌}
-use Rattle.qs_expr.specs.Cell.{row_solution}
+use Rattle.qs_expr.specs.inner.Cell.{row_solution}
 use Rattle.qs_ops_walk.specs.inner.Setting.{known_of}
 use Rattle.qs_ops_walk.proofs.Conditions.{conditions_fail, conditions_more}
 use Rattle.qs_ops_walk.proofs.source.all_hold.Goals as goal

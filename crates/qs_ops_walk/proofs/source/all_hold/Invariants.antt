@@ -1,6 +1,6 @@
 use Rattle.std.proofs.Common.{◌≡◌, true, map, take}
 use Rattle.qs_algebra_patterns.specs.Eval.{all_hold}
-use Rattle.qs_expr.specs.Cell.{row_solution}
+use Rattle.qs_expr.specs.inner.Cell.{row_solution}
 use Rattle.qs_ops_walk.specs.inner.Setting.{known_of}
 use Rattle.qs_ops_walk.specs.inner.Works.{expr_of}
 use Rattle.qs_ops_walk.proofs.source.all_hold.Given as goal

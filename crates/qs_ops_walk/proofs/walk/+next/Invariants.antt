@@ -1,7 +1,7 @@
 use Rattle.std.proofs.Common.{◌≡◌, ◌≤◌, ◌+◌, ◌*◌, length, map, take}
 use Rattle.qs_terms.specs.Bag.{SameBag}
-use Rattle.qs_expr.specs.Cell.{row_solution}
-use Rattle.qs_expr.specs.Scratch.{Grows}
+use Rattle.qs_expr.specs.inner.Cell.{row_solution}
+use Rattle.qs_expr.specs.inner.Scratch.{Grows}
 use Rattle.qs_ops_program.specs.inner.Heights.{stages_height}
 use Rattle.qs_ops_walk.specs.inner.Setting.{known_of, through_in}
 use Rattle.qs_ops_walk.specs.inner.Works.{code_of, height_of, heights_of}

@@ -1,5 +1,5 @@
 use Rattle.std.proofs.Common.{◌≡◌, true, false, Option, subst}
-use Rattle.qs_expr.specs.Row.{TellsCompatible, BindsTermIf, FitsWithIf}
+use Rattle.qs_expr.specs.inner.Row.{TellsCompatible, BindsTermIf, FitsWithIf}
 use Rattle.qs_expr.specs.declared.cell.Cell.{Cell}
 use Rattle.qs_ops_walk.proofs.OpensName.{IsNameRow, name_excluded, name_merged}
 use Rattle.qs_ops_walk.proofs.walk.open_name.Goals as goal

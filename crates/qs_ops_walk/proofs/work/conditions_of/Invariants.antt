@@ -1,6 +1,6 @@
 use Rattle.std.proofs.Common.{◌≡◌, map, take}
 use Rattle.std.specs.List.{AllByRecursion}
-use Rattle.qs_expr.specs.Condition.{IsPreparedFor}
+use Rattle.qs_expr.specs.inner.Condition.{IsPreparedFor}
 use Rattle.qs_ops_walk.specs.inner.Setting.{known_of}
 use Rattle.qs_ops_walk.specs.inner.Works.{expr_of}
 use Rattle.qs_ops_walk.proofs.work.conditions_of.Given as goal

@@ -1,5 +1,5 @@
-use Rattle.qs_store.specs.ActiveGraph.{active_graph}
-use Rattle.qs_expr.specs.Cell.{denoted_if}
+use Rattle.qs_store.specs.inner.ActiveGraph.{active_graph}
+use Rattle.qs_expr.specs.inner.Cell.{denoted_if}
 use Rattle.qs_paths.specs.inner.Nodes.{named_end}
 use Rattle.qs_paths.proofs.Naming.{all_denoted, name, named_given, naming}
 use Rattle.qs_paths.proofs.Opening.{asked_left}

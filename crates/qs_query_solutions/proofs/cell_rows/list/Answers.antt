@@ -1,6 +1,6 @@
 use Rattle.std.proofs.Common.{◌∙◌, ◌∷◌, [], length, length-append, ap, refl, sym, subst, arith}
-use Rattle.qs_expr.specs.Cell.{row_solution}
-use Rattle.qs_expr.specs.Scratch.{Grows}
+use Rattle.qs_expr.specs.inner.Cell.{row_solution}
+use Rattle.qs_expr.specs.inner.Scratch.{Grows}
 use Rattle.qs_query_solutions.proofs.Coming.{fewer}
 use Rattle.qs_query_solutions.proofs.Listing.{Fitting, IsOnTheWay, none_more, one_fits, one_more, still_fit, too_many}
 use Rattle.qs_query_solutions.proofs.cell_rows.list.Goals as goal

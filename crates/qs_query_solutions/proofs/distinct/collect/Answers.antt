@@ -1,8 +1,8 @@
 use Rattle.std.proofs.Common.{◌<◌, ◌≤◌, [], length, unwrap_or, sym, subst, arith}
 use Rattle.std.specs.List.{AllByRecursion}
-use Rattle.qs_expr.specs.Cell.{row_solution, FitsRow}
-use Rattle.qs_expr.specs.Scratch.{Grows, IsTable}
-use Rattle.qs_ops_walk.specs.Stream.{Stream}
+use Rattle.qs_expr.specs.inner.Cell.{row_solution, FitsRow}
+use Rattle.qs_expr.specs.inner.Scratch.{Grows, IsTable}
+use Rattle.qs_ops_walk.specs.inner.Stream.{Stream}
 use Rattle.qs_query_solutions.specs.inner.Distinct.{IsDistinctWay}
 use Rattle.qs_query_solutions.proofs.Coming.{fewer}
 use Rattle.qs_query_solutions.proofs.EachOnce.{alike_passed, at_start, none_fit, fit_still, way_still, more_fit, no_more, one_more, none_more}

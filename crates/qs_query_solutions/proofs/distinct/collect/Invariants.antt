@@ -1,7 +1,7 @@
 use Rattle.std.proofs.Common.{[], length, unwrap_or}
 use Rattle.std.specs.List.{AllByRecursion}
-use Rattle.qs_expr.specs.Cell.{FitsRow}
-use Rattle.qs_expr.specs.Scratch.{IsTable}
+use Rattle.qs_expr.specs.inner.Cell.{FitsRow}
+use Rattle.qs_expr.specs.inner.Scratch.{IsTable}
 use Rattle.qs_query_solutions.specs.inner.Distinct.{IsDistinctWay}
 use Rattle.qs_query_solutions.proofs.distinct.collect.Given as goal
 

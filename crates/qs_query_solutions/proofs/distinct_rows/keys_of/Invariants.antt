@@ -1,5 +1,5 @@
 use Rattle.std.proofs.Common.{◌≡◌, map, take}
-use Rattle.qs_expr.specs.Cell.{cell_at}
+use Rattle.qs_expr.specs.inner.Cell.{cell_at}
 use Rattle.qs_query_solutions.specs.inner.Distinct.{cell_of}
 use Rattle.qs_query_solutions.proofs.distinct_rows.keys_of.Given as goal
 

@@ -1,5 +1,5 @@
 use Rattle.std.proofs.Common.{◌≡◌, map}
-use Rattle.qs_expr.specs.Cell.{row_solution}
+use Rattle.qs_expr.specs.inner.Cell.{row_solution}
 use Rattle.qs_query_solutions.specs.inner.Distinct.{cell_of}
 use Rattle.qs_query_solutions.specs.inner.Front.{front}
 use Rattle.qs_query_solutions.proofs.distinct_rows.made.Given as goal

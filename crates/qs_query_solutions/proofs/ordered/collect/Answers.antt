@@ -1,7 +1,7 @@
 use Rattle.std.proofs.Common.{length, unwrap_or, [], ◌<◌, sym, subst}
-use Rattle.qs_expr.specs.Cell.{row_solution}
-use Rattle.qs_expr.specs.Scratch.{Grows}
-use Rattle.qs_ops_walk.specs.Stream.{Stream}
+use Rattle.qs_expr.specs.inner.Cell.{row_solution}
+use Rattle.qs_expr.specs.inner.Scratch.{Grows}
+use Rattle.qs_ops_walk.specs.inner.Stream.{Stream}
 use Rattle.qs_query_order.proofs.Keeping.{none_in_front}
 use Rattle.qs_query_solutions.specs.inner.SoFar.{Fit}
 use Rattle.qs_query_solutions.proofs.Coming.{fewer}

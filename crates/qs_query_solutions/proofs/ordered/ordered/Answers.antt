@@ -1,6 +1,6 @@
 use Rattle.std.proofs.Common.{map, drop, ap, subst, sym, ◌∙◌}
 use Rattle.std.specs.Option.{option_copied}
-use Rattle.qs_expr.specs.Cell.{row_solution}
+use Rattle.qs_expr.specs.inner.Cell.{row_solution}
 use Rattle.qs_query_order.specs.inner.Keyed.{solutions_of}
 use Rattle.qs_query_solutions.specs.inner.After.{projected_if}
 use Rattle.qs_query_solutions.specs.inner.SoFar.{Fit}

@@ -1,5 +1,5 @@
 use Rattle.std.proofs.Common.{◌∷◌, ◌++◌, [], ap, sym, subst}
-use Rattle.qs_expr.specs.Cell.{row_solution, FitsRow}
+use Rattle.qs_expr.specs.inner.Cell.{row_solution, FitsRow}
 use Rattle.qs_query_solutions.specs.inner.SoFar.{AreSoFar}
 use Rattle.qs_query_solutions.proofs.InOrder.{one_fits, one_so_far}
 use Rattle.qs_query_solutions.proofs.ordered.take_in.Goals as goal

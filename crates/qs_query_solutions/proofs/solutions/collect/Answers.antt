@@ -1,6 +1,6 @@
 use Rattle.std.proofs.Common.{sym, subst, length, unwrap_or, [], ◌<◌}
-use Rattle.qs_expr.specs.Cell.{row_solution}
-use Rattle.qs_ops_walk.specs.Stream.{Stream}
+use Rattle.qs_expr.specs.inner.Cell.{row_solution}
+use Rattle.qs_ops_walk.specs.inner.Stream.{Stream}
 use Rattle.qs_query_solutions.proofs.Coming.{IsOnTheWay, one_more, fewer}
 use Rattle.qs_query_solutions.proofs.solutions.collect.Goals as goal
 

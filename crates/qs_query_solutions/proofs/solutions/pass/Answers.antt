@@ -1,6 +1,6 @@
 use Rattle.std.proofs.Common.{◌+◌, arith, sym, subst}
-use Rattle.qs_expr.specs.Cell.{row_solution}
-use Rattle.qs_ops_walk.specs.Stream.{Stream}
+use Rattle.qs_expr.specs.inner.Cell.{row_solution}
+use Rattle.qs_ops_walk.specs.inner.Stream.{Stream}
 use Rattle.qs_query_solutions.proofs.Coming.{IsPassing, none_passed_yet, one_passed}
 use Rattle.qs_query_solutions.proofs.solutions.pass.Goals as goal
 

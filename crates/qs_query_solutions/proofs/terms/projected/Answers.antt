@@ -1,5 +1,5 @@
 use Rattle.std.specs.Option.{option_copied}
-use Rattle.qs_expr.specs.Cell.{row_solution}
+use Rattle.qs_expr.specs.inner.Cell.{row_solution}
 use Rattle.qs_query_solutions.proofs.Fronts.{column_more, columns_whole}
 use Rattle.qs_query_solutions.proofs.terms.projected.Goals as goal
 

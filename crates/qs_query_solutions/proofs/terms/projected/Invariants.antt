@@ -1,6 +1,6 @@
 use Rattle.std.proofs.Common.{◌≡◌}
 use Rattle.qs_algebra_solutions.specs.Solution.{projected}
-use Rattle.qs_expr.specs.Cell.{row_solution}
+use Rattle.qs_expr.specs.inner.Cell.{row_solution}
 use Rattle.qs_query_solutions.specs.inner.Front.{front}
 use Rattle.qs_query_solutions.proofs.terms.projected.Given as goal
 

@@ -1,5 +1,5 @@
 use Rattle.std.proofs.Common.{None, sym, ◌∙◌}
-use Rattle.qs_index.specs.Permutation.{turned, order_used}
+use Rattle.qs_index.specs.inner.Permutation.{turned, order_used}
 use Rattle.qs_store.proofs.Out.{scanned_out}
 use Rattle.qs_store.proofs.Scanned.{scan_of_one}
 use Rattle.qs_store.proofs.emptied_graphs.is_emptied.Goals as goal

@@ -1,7 +1,7 @@
 use Rattle.std.proofs.Common.{None, length, ap, subst, arith}
 use Rattle.std.proofs.lemmas.List.Sorted.{length_permutation}
-use Rattle.qs_index.specs.Agreeing.{agreeing}
-use Rattle.qs_index.specs.Entries.{IsUnion}
+use Rattle.qs_index.specs.inner.Agreeing.{agreeing}
+use Rattle.qs_index.specs.inner.Entries.{IsUnion}
 use Rattle.qs_store.proofs.Cleared.{removes_agreeing, removes_none}
 use Rattle.qs_store.proofs.Drafted.{union_fits}
 use Rattle.qs_store.proofs.layers.remove_graph.Goals as goal

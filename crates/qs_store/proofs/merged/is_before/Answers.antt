@@ -1,7 +1,7 @@
 use Rattle.std.proofs.Common.{◌≡◌, take, ap, ◌∙◌, arith}
 use Rattle.std.proofs.lemmas.List.{take_all}
-use Rattle.qs_index.specs.Entry.{is_before}
-use Rattle.qs_index.specs.Permutation.{turned}
+use Rattle.qs_index.specs.inner.Entry.{is_before}
+use Rattle.qs_index.specs.inner.Permutation.{turned}
 use Rattle.qs_store.proofs.merged.is_before.Goals as goal
 
 pub returns : goal.returns

@@ -1,6 +1,6 @@
 use Rattle.std.proofs.Common.{◌≡◌, Some, subst}
 use Rattle.qs_dict.specs.Dict.{number_of}
-use Rattle.qs_store.specs.Entries.{graph_number}
+use Rattle.qs_store.specs.inner.Entries.{graph_number}
 use Rattle.qs_store.proofs.Terms.{entry_in_steps}
 use Rattle.qs_store.proofs.numbers.numbered.Goals as goal
 

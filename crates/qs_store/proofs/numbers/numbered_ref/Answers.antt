@@ -1,6 +1,6 @@
 use Rattle.std.proofs.Common.{◌∙◌}
 use Rattle.std.proofs.lemmas.Result.{err_from_is_err_and}
-use Rattle.qs_store.specs.References.{referred_quad}
+use Rattle.qs_store.specs.inner.References.{referred_quad}
 use Rattle.qs_store.proofs.References.{in_steps, full_at_predicate, full_at_object}
 use Rattle.qs_store.proofs.Terms.{entry_in_steps, front_refl, front_trans}
 use Rattle.qs_store.proofs.numbers.numbered_ref.Goals as goal

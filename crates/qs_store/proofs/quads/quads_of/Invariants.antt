@@ -1,5 +1,5 @@
 use Rattle.std.proofs.Common.{◌≡◌, take}
-use Rattle.qs_store.specs.Entries.{said}
+use Rattle.qs_store.specs.inner.Entries.{said}
 use Rattle.qs_store.proofs.quads.quads_of.Given as goal
 
 abbrev pub invariant-loop-entry : goal.invariant-loop-entry

@@ -1,6 +1,6 @@
 use Rattle.std.proofs.Common.{◌≡◌, map, length}
-use Rattle.qs_store.specs.Scans.{triple_of, unrepeated}
-use Rattle.qs_store.specs.Sources.{entries_left}
+use Rattle.qs_store.specs.inner.Scans.{triple_of, unrepeated}
+use Rattle.qs_store.specs.inner.Sources.{entries_left}
 use Rattle.qs_store.proofs.triples.next_other.Given as goal
 
 abbrev pub invariant-entries : goal.invariant-entries

@@ -1,7 +1,7 @@
 use Rattle.std.proofs.Common.{[], sym, subst}
 use Rattle.std.specs.Option.{option_copied}
 use Rattle.qs_store.specs.Change.{IsChanged}
-use Rattle.qs_store.specs.Entries.{said, AreEntries}
+use Rattle.qs_store.specs.inner.Entries.{said, AreEntries}
 use Rattle.qs_store.specs.WholeGraphs.{in_graph}
 use Rattle.qs_store.proofs.Copied.{cleared_said, entries_left, none_cleared, unknown_said}
 use Rattle.qs_store.proofs.whole_graphs.clear.Goals as goal

@@ -1,7 +1,7 @@
 use Rattle.std.proofs.Common.{sym}
 use Rattle.std.specs.Option.{option_copied}
 use Rattle.qs_store.specs.inner.Copied.{AreCopies, AreEntriesOf}
-use Rattle.qs_store.specs.Entries.{said}
+use Rattle.qs_store.specs.inner.Entries.{said}
 use Rattle.qs_store.specs.WholeGraphs.{in_graph}
 use Rattle.qs_store.proofs.Copied.{found_so, in_graph_said, none_said, same_entries, unknown_said}
 use Rattle.qs_store.proofs.GraphsSaid.{have_four}

@@ -1,6 +1,6 @@
 use Rattle.std.specs.List.{filter}
 use Rattle.qs_store.specs.inner.Copied.{AreNamed, AreEntriesOf}
-use Rattle.qs_store.specs.Entries.{said}
+use Rattle.qs_store.specs.inner.Entries.{said}
 use Rattle.qs_store.specs.WholeGraphs.{is_named}
 use Rattle.qs_store.proofs.Copied.{found_so, named_said}
 use Rattle.qs_store.proofs.GraphsSaid.{have_four}

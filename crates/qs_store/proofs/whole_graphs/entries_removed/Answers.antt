@@ -1,7 +1,7 @@
 use Rattle.std.proofs.Common.{◌++◌, sym, subst}
 use Rattle.std.specs.Option.{option_copied}
 use Rattle.qs_store.specs.inner.Copied.{AreEntriesOf}
-use Rattle.qs_store.specs.Entries.{said}
+use Rattle.qs_store.specs.inner.Entries.{said}
 use Rattle.qs_store.specs.WholeGraphs.{in_graph, removed_by}
 use Rattle.qs_store.proofs.Copied.{both_said, same_entries}
 use Rattle.qs_store.proofs.whole_graphs.entries_removed.Goals as goal

@@ -1,6 +1,6 @@
 use Rattle.std.proofs.Common.{[]}
 use Rattle.qs_store.specs.Change.{IsChanged}
-use Rattle.qs_store.specs.Entries.{said, AreEntries}
+use Rattle.qs_store.specs.inner.Entries.{said, AreEntries}
 use Rattle.qs_store.proofs.Copied.{done_so, changed_said, entries_changed}
 use Rattle.qs_store.proofs.Members.{nothing}
 use Rattle.qs_store.proofs.whole_graphs.remove.Goals as goal

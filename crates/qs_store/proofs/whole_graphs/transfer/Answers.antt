@@ -1,7 +1,7 @@
 use Rattle.std.proofs.Common.{sym, subst}
 use Rattle.std.specs.Option.{option_copied}
 use Rattle.qs_store.specs.Change.{IsChanged}
-use Rattle.qs_store.specs.Entries.{said, AreEntries}
+use Rattle.qs_store.specs.inner.Entries.{said, AreEntries}
 use Rattle.qs_store.specs.WholeGraphs.{copies, removed_by}
 use Rattle.qs_store.proofs.Copied.{later_entries, same_entries, transferred_said, transferred_entries}
 use Rattle.qs_store.proofs.whole_graphs.transfer.Goals as goal

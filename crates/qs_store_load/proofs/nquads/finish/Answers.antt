@@ -1,6 +1,6 @@
 use Rattle.std.proofs.Common.{◌≤◌, IsTrue, ap, subst, sym, ◌∙◌}
 use Rattle.qs_terms.specs.Dataset.{is_above_blanks}
-use Rattle.qs_store.specs.Entries.{said}
+use Rattle.qs_store.specs.inner.Entries.{said}
 use Rattle.qs_store_load.specs.inner.Loading.{IsNumbered}
 use Rattle.qs_store_load.proofs.Loads.{loaded}
 use Rattle.qs_store_load.proofs.nquads.finish.Goals as goal

@@ -1,6 +1,6 @@
 use Rattle.std.proofs.Common.{◌≡◌, ℕ, [], length}
 use Rattle.qs_nquads.specs.inner.Unread.{HasRead}
-use Rattle.qs_store.specs.Entries.{said}
+use Rattle.qs_store.specs.inner.Entries.{said}
 use Rattle.qs_store_load.specs.inner.Loading.{Learns, Say}
 use Rattle.qs_store_load.proofs.nquads.put_all.Given as goal
 

@@ -1,6 +1,6 @@
 use Rattle.std.proofs.Common.{◌++◌, ◌∙◌, length, map, take, ap, sym, subst}
 use Rattle.std.proofs.lemmas.Result.{err_from_is_err_and}
-use Rattle.qs_expr.specs.Cell.{row_solution, FitsRow}
+use Rattle.qs_expr.specs.inner.Cell.{row_solution, FitsRow}
 use Rattle.qs_query_template.specs.Instances.{instances, instances_under}
 use Rattle.qs_store.specs.Change.{with_terms_of, IsFullAt}
 use Rattle.qs_store.proofs.Terms.{front_trans}

@@ -1,5 +1,5 @@
 use Rattle.std.proofs.Common.{◌≡◌, map, take}
-use Rattle.qs_expr.specs.Cell.{row_solution}
+use Rattle.qs_expr.specs.inner.Cell.{row_solution}
 use Rattle.qs_query_template.specs.Instances.{instances, next_after}
 use Rattle.qs_store.specs.inner.Store.{IsFront}
 use Rattle.qs_update_entries.specs.inner.Say.{Learns, Say}

@@ -1,4 +1,4 @@
-use Rattle.qs_store.specs.References.{referred_quad}
+use Rattle.qs_store.specs.inner.References.{referred_quad}
 use Rattle.qs_store.specs.inner.Store.{IsFront}
 use Rattle.qs_update_entries.proofs.Saying.{front_of_one, on_ok}
 use Rattle.qs_update_entries.proofs.added.put_added.Goals as goal

@@ -1,9 +1,9 @@
 use Rattle.std.proofs.Common.{◌≡◌, ◌++◌, ◌<◌, ◌∙◌, [], append-nil, get_or, length, take, ap, sym, subst}
 use Rattle.std.specs.List.{flat_map}
 use Rattle.std.proofs.lemmas.Result.{err_from_is_err_and}
-use Rattle.qs_expr.specs.Cell.{row_solution}
+use Rattle.qs_expr.specs.inner.Cell.{row_solution}
 use Rattle.qs_query_template.specs.Instances.{instance}
-use Rattle.qs_store.specs.References.{referred_quad}
+use Rattle.qs_store.specs.inner.References.{referred_quad}
 use Rattle.qs_store.proofs.Terms.{front_trans}
 use Rattle.qs_update_entries.specs.inner.Refers.{AreFresh, if_lawful}
 use Rattle.qs_update_entries.specs.inner.Say.{Say}

@@ -1,10 +1,10 @@
 use Rattle.std.proofs.Common.{◌≡◌, ◌∙◌, map, subst, sym}
 use Rattle.std.specs.List.{filter_map}
 use Rattle.std.proofs.lemmas.Result.{on_ok_weaker}
-use Rattle.qs_expr.specs.Cell.{row_solution}
+use Rattle.qs_expr.specs.inner.Cell.{row_solution}
 use Rattle.qs_query_template.specs.Instances.{instances}
 use Rattle.qs_store.specs.Change.{IsChanged}
-use Rattle.qs_store.specs.Entries.{entry_of, said, AreEntries}
+use Rattle.qs_store.specs.inner.Entries.{entry_of, said, AreEntries}
 use Rattle.qs_update_entries.proofs.Changing.{found_entries, instances_lawful}
 use Rattle.qs_update_entries.proofs.Removing.{removed_as_quads, under_all}
 use Rattle.qs_update_entries.proofs.change.change_under.Goals as goal

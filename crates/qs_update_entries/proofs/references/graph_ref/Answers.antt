@@ -1,5 +1,5 @@
 use Rattle.std.proofs.Common.{Some, None, sym, subst}
-use Rattle.qs_expr.specs.Cell.{row_solution}
+use Rattle.qs_expr.specs.inner.Cell.{row_solution}
 use Rattle.qs_query_template.specs.Instances.{slot_term, graph_term}
 use Rattle.qs_update_entries.specs.inner.Refers.{RefersToGraph}
 use Rattle.qs_update_entries.proofs.Referring.{graph_none, graph_some}

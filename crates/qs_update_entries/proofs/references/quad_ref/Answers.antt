@@ -1,5 +1,5 @@
 use Rattle.std.proofs.Common.{sym, subst}
-use Rattle.qs_expr.specs.Cell.{row_solution}
+use Rattle.qs_expr.specs.inner.Cell.{row_solution}
 use Rattle.qs_query_template.specs.Instances.{slot_term, graph_term}
 use Rattle.qs_update_entries.specs.inner.Refers.{RefersToQuad}
 use Rattle.qs_update_entries.proofs.Referring.{no_graph, no_subject, no_predicate, no_object, all_four}

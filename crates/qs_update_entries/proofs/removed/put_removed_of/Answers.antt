@@ -1,6 +1,6 @@
 use Rattle.std.proofs.Common.{◌≡◌, ◌++◌, ◌∙◌, OnOk, append-nil, subst, sym, ap}
 use Rattle.std.specs.List.{filter_map}
-use Rattle.qs_store.specs.Entries.{entry_of}
+use Rattle.qs_store.specs.inner.Entries.{entry_of}
 use Rattle.qs_update_entries.proofs.Removing.{none_are_fresh}
 use Rattle.qs_update_entries.proofs.removed.put_removed_of.Goals as goal
 

@@ -1,9 +1,9 @@
 use Rattle.std.proofs.Common.{◌++◌, ◌+◌, ◌∙◌, append_assoc, take, ap, sym}
 use Rattle.std.specs.List.{filter_map, flat_map}
-use Rattle.qs_expr.specs.Cell.{row_solution}
+use Rattle.qs_expr.specs.inner.Cell.{row_solution}
 use Rattle.qs_query_template.specs.Instances.{instance}
 use Rattle.qs_query_template.specs.declared.template.QuadTemplate.{QuadTemplate}
-use Rattle.qs_store.specs.Entries.{entry_of}
+use Rattle.qs_store.specs.inner.Entries.{entry_of}
 use Rattle.qs_update_entries.proofs.Adding.{one_more}
 use Rattle.qs_update_entries.proofs.removed.put_removed_under.Goals as goal
 

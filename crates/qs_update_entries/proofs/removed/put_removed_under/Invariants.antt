@@ -1,8 +1,8 @@
 use Rattle.std.proofs.Common.{◌≡◌, ◌++◌, take}
 use Rattle.std.specs.List.{filter_map, flat_map}
-use Rattle.qs_expr.specs.Cell.{row_solution}
+use Rattle.qs_expr.specs.inner.Cell.{row_solution}
 use Rattle.qs_query_template.specs.Instances.{instance}
-use Rattle.qs_store.specs.Entries.{entry_of}
+use Rattle.qs_store.specs.inner.Entries.{entry_of}
 use Rattle.qs_update_entries.proofs.removed.put_removed_under.Given as goal
 
 abbrev pub invariant-loop-quad : goal.invariant-loop-quad

@@ -1,5 +1,5 @@
-use Rattle.qs_expr.specs.Cell.{FitsRow}
-use Rattle.qs_expr.specs.Scratch.{IsTable}
+use Rattle.qs_expr.specs.inner.Cell.{FitsRow}
+use Rattle.qs_expr.specs.inner.Scratch.{IsTable}
 use Rattle.tests_expr.proofs.sample.bind_all.Given as goal
 
 abbrev pub invariant-loop-variable : goal.invariant-loop-variable

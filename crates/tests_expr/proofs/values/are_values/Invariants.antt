@@ -1,5 +1,5 @@
-use Rattle.qs_expr.specs.Cell.{FitsRow}
-use Rattle.qs_expr.specs.Scratch.{IsTable}
+use Rattle.qs_expr.specs.inner.Cell.{FitsRow}
+use Rattle.qs_expr.specs.inner.Scratch.{IsTable}
 use Rattle.tests_expr.proofs.values.are_values.Given as goal
 
 abbrev pub invariant-loop-a : goal.invariant-loop-a

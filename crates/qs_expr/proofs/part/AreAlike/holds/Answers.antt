@@ -1,5 +1,5 @@
 use Rattle.std.proofs.Common.{◌≡◌, Some, refl, sym, ◌∙◌}
-use Rattle.qs_expr.specs.Cell.{cell_at, denoted, row_solution}
+use Rattle.qs_expr.specs.inner.Cell.{cell_at, denoted, row_solution}
 use Rattle.qs_expr.proofs.Finding.{term_there}
 use Rattle.qs_expr.proofs.RowTerms.{term_read}
 use Rattle.qs_expr.proofs.part.AreAlike.holds.Goals as goal

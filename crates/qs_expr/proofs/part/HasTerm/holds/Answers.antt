@@ -1,5 +1,5 @@
 use Rattle.std.proofs.Common.{not, if◌then◌else◌, sym, ◌∙◌, ap}
-use Rattle.qs_expr.specs.Cell.{row_solution}
+use Rattle.qs_expr.specs.inner.Cell.{row_solution}
 use Rattle.qs_expr.proofs.RowTerms.{has_there, has_nowhere}
 use Rattle.qs_expr.proofs.part.HasTerm.holds.Goals as goal
 

@@ -1,5 +1,5 @@
 use Rattle.std.proofs.Common.{Some, ap, sym, subst, ◌∙◌}
-use Rattle.qs_expr.specs.Cell.{row_solution, FitsRow}
+use Rattle.qs_expr.specs.inner.Cell.{row_solution, FitsRow}
 use Rattle.qs_expr.proofs.Compacts.{put_one}
 use Rattle.qs_expr.proofs.Rows.{bound_terms, bound_fits}
 use Rattle.qs_expr.proofs.row.Row.bind.Goals as goal

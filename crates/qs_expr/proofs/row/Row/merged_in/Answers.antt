@@ -1,5 +1,5 @@
 use Rattle.std.proofs.Common.{ap, sym, subst, ◌∙◌}
-use Rattle.qs_expr.specs.Cell.{row_solution, FitsRow}
+use Rattle.qs_expr.specs.inner.Cell.{row_solution, FitsRow}
 use Rattle.qs_expr.proofs.Rows.{merged_terms, merged_fits}
 use Rattle.qs_expr.proofs.row.Row.merged_in.Goals as goal
 

@@ -1,5 +1,5 @@
 use Rattle.std.proofs.Common.{ap, ◌∙◌}
-use Rattle.qs_expr.specs.Cell.{row_solution}
+use Rattle.qs_expr.specs.inner.Cell.{row_solution}
 use Rattle.qs_expr.proofs.Rows.{no_cells_unbound}
 use Rattle.qs_expr.proofs.row.Row.unbound.Goals as goal
 

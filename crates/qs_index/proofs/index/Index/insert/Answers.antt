@@ -1,10 +1,10 @@
 use Rattle.std.proofs.Common.{◌≡◌, rules, refl, sym, subst, ◌∷◌}
 use Rattle.std.specs.List.{Contains}
 use Rattle.std.specs.List.Sorted.{IsPermutation}
-use Rattle.qs_index.specs.Entry.{with_entry}
-use Rattle.qs_index.specs.Index.{IsOneSet}
-use Rattle.qs_index.specs.OrderOf.{IsOrderOf}
-use Rattle.qs_index.specs.Entry.{IsEntry}
+use Rattle.qs_index.specs.inner.Entry.{with_entry}
+use Rattle.qs_index.specs.inner.Index.{IsOneSet}
+use Rattle.qs_index.specs.inner.OrderOf.{IsOrderOf}
+use Rattle.qs_index.specs.inner.Entry.{IsEntry}
 use Rattle.qs_index.specs.declared.permutation.Permutation.TheVariants.{Gspo, Gpos, Gosp}
 use Rattle.qs_index.proofs.Members.{IsPermutation-with}
 use Rattle.qs_index.proofs.Turned.{IsOrderOf-itself, order_added, entries_with}

@@ -2,10 +2,10 @@ use Rattle.std.proofs.Common.{◌≡◌, [], map, subst, sym, ap, arith}
 use Rattle.std.specs.List.{All}
 use Rattle.std.proofs.lemmas.List.Elements.{All-contains}
 use Rattle.std.proofs.lemmas.List.Sorted.{IsPermutation-map, IsPermutation-trans, IsPermutation-sym}
-use Rattle.qs_index.specs.Entries.{IsUnion}
-use Rattle.qs_index.specs.Entry.{IsEntry, IsAscending}
-use Rattle.qs_index.specs.Named.{AreNamedOf}
-use Rattle.qs_index.specs.Permutation.{turned}
+use Rattle.qs_index.specs.inner.Entries.{IsUnion}
+use Rattle.qs_index.specs.inner.Entry.{IsEntry, IsAscending}
+use Rattle.qs_index.specs.inner.Named.{AreNamedOf}
+use Rattle.qs_index.specs.inner.Permutation.{turned}
 use Rattle.qs_index.specs.declared.permutation.Permutation.TheVariants.{Gpos, Gosp}
 use Rattle.qs_index.proofs.NamedOrders.{named_count-permutation}
 use Rattle.qs_index.proofs.Filled.{nothing_where_empty}

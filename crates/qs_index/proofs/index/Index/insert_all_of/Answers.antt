@@ -1,5 +1,5 @@
 use Rattle.std.proofs.Common.{length, arith, ap, ⊎_elim}
-use Rattle.qs_index.specs.Graph.{named_entries}
+use Rattle.qs_index.specs.inner.Graph.{named_entries}
 use Rattle.qs_index.specs.declared.permutation.Permutation.TheVariants.{Gpos, Gosp}
 use Rattle.qs_index.proofs.OtherOrders.{few_named, lengths_of, order_with_all}
 use Rattle.qs_index.proofs.Turned.{IsOrderOf-itself}

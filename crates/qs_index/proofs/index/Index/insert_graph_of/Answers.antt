@@ -1,7 +1,7 @@
 use Rattle.std.proofs.Common.{◌∙◌, [], ◌∷◌, None, length, arith, ap, subst, sym, ⊎_elim}
-use Rattle.qs_index.specs.Agreeing.{agreeing}
-use Rattle.qs_index.specs.Entries.{IsUnion}
-use Rattle.qs_index.specs.Entry.{begins}
+use Rattle.qs_index.specs.inner.Agreeing.{agreeing}
+use Rattle.qs_index.specs.inner.Entries.{IsUnion}
+use Rattle.qs_index.specs.inner.Entry.{begins}
 use Rattle.qs_index.specs.declared.permutation.Permutation.TheVariants.{Gpos, Gosp}
 use Rattle.qs_index.proofs.Distinct.{member_of_filter}
 use Rattle.qs_index.proofs.GraphParts.{parts_of}

@@ -1,5 +1,5 @@
 use Rattle.std.proofs.Common.{length, ap, ◌∙◌}
-use Rattle.qs_index.specs.Graph.{is_named, named_entries}
+use Rattle.qs_index.specs.inner.Graph.{is_named, named_entries}
 use Rattle.qs_index.specs.declared.permutation.Permutation.TheVariants.{Spog}
 use Rattle.qs_index.proofs.Distinct.{IsAscending-filter}
 use Rattle.qs_index.proofs.Turned.{order_length}

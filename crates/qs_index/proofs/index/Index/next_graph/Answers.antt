@@ -1,7 +1,7 @@
 use Rattle.std.proofs.Common.{ℕ, ◌≤◌, ◌≡◌, List, [], subst, arith}
 use Rattle.std.specs.List.{All}
-use Rattle.qs_index.specs.Entry.{skip_before}
-use Rattle.qs_index.specs.Graph.{graph_of, IsNextGraph}
+use Rattle.qs_index.specs.inner.Entry.{skip_before}
+use Rattle.qs_index.specs.inner.Graph.{graph_of, IsNextGraph}
 use Rattle.qs_index.proofs.Graphs.{none_later, next_later, none_above_all, if_none_from}
 use Rattle.qs_index.proofs.index.Index.next_graph.Goals as goal
 

@@ -1,9 +1,9 @@
 use Rattle.std.proofs.Common.{◌≡◌, refl, sym, subst, ◌∷◌}
 use Rattle.std.specs.List.{Contains}
 use Rattle.std.specs.List.Sorted.{IsPermutation}
-use Rattle.qs_index.specs.Entry.{without_entry}
-use Rattle.qs_index.specs.Index.{IsOneSet}
-use Rattle.qs_index.specs.OrderOf.{IsOrderOf}
+use Rattle.qs_index.specs.inner.Entry.{without_entry}
+use Rattle.qs_index.specs.inner.Index.{IsOneSet}
+use Rattle.qs_index.specs.inner.OrderOf.{IsOrderOf}
 use Rattle.qs_index.specs.declared.permutation.Permutation.TheVariants.{Gspo, Gpos, Gosp}
 use Rattle.qs_index.proofs.Members.{IsPermutation-without, member_of_without, skip_of_member}
 use Rattle.qs_index.proofs.Turned.{IsOrderOf-itself, order_removed}

@@ -1,9 +1,9 @@
 use Rattle.std.proofs.Common.{◌≡◌, [], map, subst, sym}
 use Rattle.std.proofs.lemmas.List.Sorted.{IsPermutation-map, IsPermutation-trans, IsPermutation-sym}
-use Rattle.qs_index.specs.Entries.{IsDifference}
-use Rattle.qs_index.specs.Entry.{IsAscending}
-use Rattle.qs_index.specs.Named.{AreNamedOf}
-use Rattle.qs_index.specs.Permutation.{turned}
+use Rattle.qs_index.specs.inner.Entries.{IsDifference}
+use Rattle.qs_index.specs.inner.Entry.{IsAscending}
+use Rattle.qs_index.specs.inner.Named.{AreNamedOf}
+use Rattle.qs_index.specs.inner.Permutation.{turned}
 use Rattle.qs_index.specs.declared.permutation.Permutation.TheVariants.{Gpos, Gosp}
 use Rattle.qs_index.proofs.Filled.{nothing_where_empty}
 use Rattle.qs_index.proofs.Turned.{IsOrderOf-itself}

@@ -1,9 +1,9 @@
 use Rattle.std.proofs.Common.{◌≡◌, map, sym, subst, ap, ◌∙◌}
 use Rattle.std.specs.List.Sorted.{IsPermutation}
-use Rattle.qs_index.specs.Agreeing.{agreeing}
-use Rattle.qs_index.specs.Entry.{beginning, IsAscending}
-use Rattle.qs_index.specs.OrderOf.{IsOrderOf}
-use Rattle.qs_index.specs.Permutation.{order_used, prefix_of, restored, turned}
+use Rattle.qs_index.specs.inner.Agreeing.{agreeing}
+use Rattle.qs_index.specs.inner.Entry.{beginning, IsAscending}
+use Rattle.qs_index.specs.inner.OrderOf.{IsOrderOf}
+use Rattle.qs_index.specs.inner.Permutation.{order_used, prefix_of, restored, turned}
 use Rattle.qs_index.proofs.NamedOrders.{order_of_used}
 use Rattle.qs_index.proofs.Turned.{scan_agrees, scan_ascends, order_length}
 use Rattle.qs_index.proofs.index.Index.scan_from.Goals as goal

@@ -1,10 +1,10 @@
 use Rattle.std.proofs.Common.{◌≡◌, map, sym, subst, ap, ◌∙◌}
 use Rattle.std.specs.List.Sorted.{IsPermutation}
-use Rattle.qs_index.specs.Agreeing.{agreeing_named}
-use Rattle.qs_index.specs.Entry.{beginning, IsAscending}
-use Rattle.qs_index.specs.Graph.{is_named, named_entries}
-use Rattle.qs_index.specs.OrderOf.{IsOrderOf}
-use Rattle.qs_index.specs.Permutation.{named_order_used, named_prefix_of, restored, turned}
+use Rattle.qs_index.specs.inner.Agreeing.{agreeing_named}
+use Rattle.qs_index.specs.inner.Entry.{beginning, IsAscending}
+use Rattle.qs_index.specs.inner.Graph.{is_named, named_entries}
+use Rattle.qs_index.specs.inner.OrderOf.{IsOrderOf}
+use Rattle.qs_index.specs.inner.Permutation.{named_order_used, named_prefix_of, restored, turned}
 use Rattle.qs_index.proofs.Distinct.{IsAscending-filter}
 use Rattle.qs_index.proofs.NamedOrders.{order_of_named, scan_agrees_named}
 use Rattle.qs_index.proofs.Turned.{scan_ascends, order_length}

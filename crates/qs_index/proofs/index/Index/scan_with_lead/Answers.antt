@@ -1,10 +1,10 @@
 use Rattle.std.proofs.Common.{◌≡◌, map, sym, subst, ap, ◌∙◌}
 use Rattle.std.specs.List.Sorted.{IsPermutation}
-use Rattle.qs_index.specs.Agreeing.{agreeing}
-use Rattle.qs_index.specs.Entry.{beginning, IsAscending}
+use Rattle.qs_index.specs.inner.Agreeing.{agreeing}
+use Rattle.qs_index.specs.inner.Entry.{beginning, IsAscending}
 use Rattle.qs_index.specs.inner.Lead.{order_with_lead}
-use Rattle.qs_index.specs.OrderOf.{IsOrderOf}
-use Rattle.qs_index.specs.Permutation.{prefix_of, restored, turned}
+use Rattle.qs_index.specs.inner.OrderOf.{IsOrderOf}
+use Rattle.qs_index.specs.inner.Permutation.{prefix_of, restored, turned}
 use Rattle.qs_index.proofs.Led.{order_of_led, scan_agrees_led}
 use Rattle.qs_index.proofs.Turned.{scan_ascends, order_length}
 use Rattle.qs_index.proofs.index.Index.scan_with_lead.Goals as goal

@@ -1,6 +1,6 @@
 use Rattle.std.proofs.Common.{◌≡◌, true, false, sym, subst}
-use Rattle.qs_index.specs.Graph.{is_named}
-use Rattle.qs_index.specs.Named.{AreNamedOf}
+use Rattle.qs_index.specs.inner.Graph.{is_named}
+use Rattle.qs_index.specs.inner.Named.{AreNamedOf}
 use Rattle.qs_index.specs.declared.permutation.Permutation.TheVariants.{Spog, Posg, Ospg}
 use Rattle.qs_index.proofs.NamedOrders.{AreNamedOf-with_none, order_with}
 use Rattle.qs_index.proofs.named.Named.insert.Goals as goal

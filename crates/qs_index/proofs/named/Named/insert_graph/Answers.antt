@@ -1,7 +1,7 @@
 use Rattle.std.proofs.Common.{[], ◌∷◌, arith, sym, subst}
-use Rattle.qs_index.specs.Entries.{IsUnion}
-use Rattle.qs_index.specs.Entry.{beginning}
-use Rattle.qs_index.specs.Named.{AreNamedOf}
+use Rattle.qs_index.specs.inner.Entries.{IsUnion}
+use Rattle.qs_index.specs.inner.Entry.{beginning}
+use Rattle.qs_index.specs.inner.Named.{AreNamedOf}
 use Rattle.qs_index.proofs.GraphParts.{AreNamedOf-with_default, AreNamedOf-with_graph}
 use Rattle.qs_index.proofs.named.Named.insert_graph.Goals as goal
 

@@ -1,5 +1,5 @@
 use Rattle.std.proofs.Common.{sym, subst}
-use Rattle.qs_index.specs.Named.{AreNamedOf}
+use Rattle.qs_index.specs.inner.Named.{AreNamedOf}
 use Rattle.qs_index.proofs.OtherOrders.{AreNamedOf-without_all}
 use Rattle.qs_index.proofs.named.Named.remove_all_of.Goals as goal
 

@@ -1,6 +1,6 @@
 use Rattle.std.proofs.Common.{◌≡◌, ◌-◌, length, take, drop, length-drop, arith, subst}
 use Rattle.std.proofs.lemmas.List.{take-append-drop, take_all}
-use Rattle.qs_index.specs.Entries.{IsUnion}
+use Rattle.qs_index.specs.inner.Entries.{IsUnion}
 use Rattle.qs_index.proofs.Unions.{IsUnion-then}
 use Rattle.qs_index.proofs.order.Order.insert_all.Goals as goal
 

@@ -1,5 +1,5 @@
 use Rattle.std.proofs.Common.{◌+◌, ◌≤◌, take}
-use Rattle.qs_index.specs.Entries.{IsUnion}
+use Rattle.qs_index.specs.inner.Entries.{IsUnion}
 use Rattle.qs_index.proofs.order.Order.insert_each.Given as goal
 
 abbrev pub invariant-loop-entry : goal.invariant-loop-entry

@@ -1,8 +1,8 @@
 use Rattle.std.proofs.Common.{◌≡◌, ◌+◌, [], ◌∷◌, ◌++◌, length, arith, rules, sym, ap, ◌∙◌, subst}
 use Rattle.std.proofs.lemmas.List.{nil_from_length}
-use Rattle.qs_index.specs.Layout.{joined}
-use Rattle.qs_index.specs.Entries.{IsOrdered}
-use Rattle.qs_index.specs.Entry.{IsAscending, with_entry}
+use Rattle.qs_index.specs.inner.Layout.{joined}
+use Rattle.qs_index.specs.inner.Entries.{IsOrdered}
+use Rattle.qs_index.specs.inner.Entry.{IsAscending, with_entry}
 use Rattle.qs_index.proofs.EntryEdits.{IsAscending-with}
 use Rattle.qs_index.proofs.Members.{not_first_if_missing, length-with}
 use Rattle.qs_index.proofs.Places.{joined_le}

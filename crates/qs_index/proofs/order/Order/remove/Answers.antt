@@ -1,7 +1,7 @@
 use Rattle.std.proofs.Common.{◌-◌, ◌≤◌, arith, sym, ap, ◌∙◌, subst}
-use Rattle.qs_index.specs.Layout.{joined, room_of}
-use Rattle.qs_index.specs.Entries.{IsOrdered}
-use Rattle.qs_index.specs.Entry.{IsAscending, without_entry}
+use Rattle.qs_index.specs.inner.Layout.{joined, room_of}
+use Rattle.qs_index.specs.inner.Entries.{IsOrdered}
+use Rattle.qs_index.specs.inner.Entry.{IsAscending, without_entry}
 use Rattle.qs_index.proofs.EntryEdits.{IsAscending-without}
 use Rattle.qs_index.proofs.Members.{member_of_without, length-without}
 use Rattle.qs_index.proofs.Removals.{taken_entries, taken_room}

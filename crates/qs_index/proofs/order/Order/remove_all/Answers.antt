@@ -1,6 +1,6 @@
 use Rattle.std.proofs.Common.{◌≡◌, ◌-◌, ◌++◌, length, take, drop, length-drop, arith, sym, ap, ◌∙◌, subst, take-add}
 use Rattle.std.proofs.lemmas.List.{take_all}
-use Rattle.qs_index.specs.Entries.{IsDifference}
+use Rattle.qs_index.specs.inner.Entries.{IsDifference}
 use Rattle.qs_index.proofs.Leaving.{IsDifference-then}
 use Rattle.qs_index.proofs.order.Order.remove_all.Goals as goal
 

@@ -1,5 +1,5 @@
 use Rattle.std.proofs.Common.{◌-◌, ◌≤◌, take, length}
-use Rattle.qs_index.specs.Entries.{IsDifference}
+use Rattle.qs_index.specs.inner.Entries.{IsDifference}
 use Rattle.qs_index.proofs.order.Order.remove_all.Given as goal
 
 abbrev pub decreases-loop-done : goal.decreases-loop-done

@@ -1,6 +1,6 @@
 use Rattle.std.proofs.Common.{◌≤◌, [], length, take, drop, get_or, arith, refl, sym, subst}
-use Rattle.qs_index.specs.Layout.{joined, page_at, room_of}
-use Rattle.qs_index.specs.Entries.{IsDifference}
+use Rattle.qs_index.specs.inner.Layout.{joined, page_at, room_of}
+use Rattle.qs_index.specs.inner.Entries.{IsDifference}
 use Rattle.qs_index.specs.inner.Leaving.{left_from, with_page}
 use Rattle.qs_index.proofs.Leaving.{left_count, left_difference, left_room, length-left, met_at_place, met_few}
 use Rattle.qs_index.proofs.order.Order.remove_met.Goals as goal

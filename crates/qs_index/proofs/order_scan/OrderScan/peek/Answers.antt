@@ -1,6 +1,6 @@
 use Rattle.std.proofs.Common.{length, arith, subst}
-use Rattle.qs_index.specs.Entries.{HaveFour}
-use Rattle.qs_index.specs.Entry.{IsAscending}
+use Rattle.qs_index.specs.inner.Entries.{HaveFour}
+use Rattle.qs_index.specs.inner.Entry.{IsAscending}
 use Rattle.qs_index.specs.inner.OrderScan.{left_from}
 use Rattle.qs_index.proofs.Looks.{looks_fit}
 use Rattle.qs_index.proofs.Seeking.{left_ascends, left_four}

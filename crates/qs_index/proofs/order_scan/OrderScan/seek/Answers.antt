@@ -1,5 +1,5 @@
 use Rattle.std.proofs.Common.{◌≡◌, ◌+◌, ◌≤◌, None, Some, length, refl, ap, sym, ◌∙◌, subst, arith}
-use Rattle.qs_index.specs.Entry.{run_of, skip_before}
+use Rattle.qs_index.specs.inner.Entry.{run_of, skip_before}
 use Rattle.qs_index.specs.inner.OrderScan.{left_from, StartsBefore}
 use Rattle.qs_index.proofs.Looks.{counts_fit, looks_fit}
 use Rattle.qs_index.proofs.ScanSteps.{run_at_end, sound_skipped}

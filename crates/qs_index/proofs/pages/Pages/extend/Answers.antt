@@ -1,7 +1,7 @@
 use Rattle.std.proofs.Common.{◌<◌, length, arith, [], sym, ap, ◌∙◌, subst}
 use Rattle.std.proofs.lemmas.List.{length-set, get_or-set_same}
 use Rattle.std.proofs.lemmas.List.Elements.{All-set}
-use Rattle.qs_index.specs.Layout.{HasPageSizes, IsPageSize, page_at, over}
+use Rattle.qs_index.specs.inner.Layout.{HasPageSizes, IsPageSize, page_at, over}
 use Rattle.qs_index.specs.inner.Extending.{extended}
 use Rattle.qs_index.proofs.Extending.{length-extended}
 use Rattle.qs_index.proofs.Spares.{over_few, over-set}

@@ -3,7 +3,7 @@ use Rattle.std.specs.List.{insert}
 use Rattle.std.proofs.lemmas.List.{length-set, get_or-set_same}
 use Rattle.std.proofs.lemmas.List.Edits.{length-insert}
 use Rattle.std.proofs.lemmas.List.Elements.{All-set}
-use Rattle.qs_index.specs.Layout.{HasPageSizes, IsPageSize, page_at, over}
+use Rattle.qs_index.specs.inner.Layout.{HasPageSizes, IsPageSize, page_at, over}
 use Rattle.qs_index.proofs.Spares.{over_few, over-set}
 use Rattle.qs_index.proofs.pages.Pages.put.Goals as goal
 

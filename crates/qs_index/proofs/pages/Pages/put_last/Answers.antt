@@ -1,7 +1,7 @@
 use Rattle.std.proofs.Common.{◌≡◌, ◌++◌, [], ◌∷◌, length, Some, arith, sym, ap, ◌∙◌, subst}
 use Rattle.std.proofs.lemmas.List.{length_push}
 use Rattle.std.proofs.lemmas.List.Elements.{All-append, All-cons, All-nil, All-pop}
-use Rattle.qs_index.specs.Layout.{IsPageSize, HasPageSizes, over}
+use Rattle.qs_index.specs.inner.Layout.{IsPageSize, HasPageSizes, over}
 use Rattle.qs_index.proofs.Filled.{insert_last}
 use Rattle.qs_index.proofs.PageEdits.{lengths_pop}
 use Rattle.qs_index.proofs.Spares.{over-append}

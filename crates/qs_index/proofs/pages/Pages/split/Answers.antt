@@ -1,7 +1,7 @@
 use Rattle.std.proofs.Common.{◌≡◌, ◌+◌, ◌<◌, length, set, take, drop, arith, [], Some, sym, ap, ◌∙◌, subst}
 use Rattle.std.specs.List.{insert}
 use Rattle.std.proofs.lemmas.List.Elements.{All-pop}
-use Rattle.qs_index.specs.Layout.{page_at, over, split_at}
+use Rattle.qs_index.specs.inner.Layout.{page_at, over, split_at}
 use Rattle.qs_index.proofs.Spares.{over-split, length-split}
 use Rattle.qs_index.proofs.PageEdits.{insert-set, split_sizes, lengths_pop}
 use Rattle.qs_index.proofs.pages.Pages.split.Goals as goal

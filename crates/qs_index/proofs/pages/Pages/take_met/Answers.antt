@@ -3,7 +3,7 @@ use Rattle.std.specs.List.{All, remove}
 use Rattle.std.proofs.lemmas.List.{length-set, get_or-set_same, nil_from_length}
 use Rattle.std.proofs.lemmas.List.Edits.{length-remove}
 use Rattle.std.proofs.lemmas.List.Elements.{All-set}
-use Rattle.qs_index.specs.Layout.{HasPageSizes, IsPageSize, page_at, over}
+use Rattle.qs_index.specs.inner.Layout.{HasPageSizes, IsPageSize, page_at, over}
 use Rattle.qs_index.specs.inner.Leaving.{left_from, with_page}
 use Rattle.qs_index.proofs.Leaving.{length-left, over_without, with_none}
 use Rattle.qs_index.proofs.Spares.{over_few, over-set}

@@ -3,7 +3,7 @@ use Rattle.std.specs.List.{All, remove}
 use Rattle.std.proofs.lemmas.List.{length-set, get_or-set_same}
 use Rattle.std.proofs.lemmas.List.Edits.{length-remove}
 use Rattle.std.proofs.lemmas.List.Elements.{All-set}
-use Rattle.qs_index.specs.Layout.{HasPageSizes, IsPageSize, page_at, over}
+use Rattle.qs_index.specs.inner.Layout.{HasPageSizes, IsPageSize, page_at, over}
 use Rattle.qs_index.proofs.Spares.{over_few, over-set, over-remove_one}
 use Rattle.qs_index.proofs.PageEdits.{HasPageSizes-remove, remove-set, emptied, insert_empty}
 use Rattle.qs_index.proofs.pages.Pages.take_out.Goals as goal

@@ -1,5 +1,5 @@
 use Rattle.std.proofs.Common.{◌++◌, [], map, take, drop, set, get_or, ap, sym, ◌∙◌, arith, add-one}
-use Rattle.qs_index.specs.Permutation.{restored}
+use Rattle.qs_index.specs.inner.Permutation.{restored}
 use Rattle.qs_index.proofs.Unions.{mapped_more}
 use Rattle.qs_index.proofs.permutation.Permutation.restore_all.Goals as goal
 

@@ -2,8 +2,8 @@ use Rattle.std.proofs.Common.{◌<◌, ◌++◌, subst, [], map, take, drop, set
 use Rattle.std.specs.List.{All}
 use Rattle.std.proofs.lemmas.List.{take_more_set}
 use Rattle.std.proofs.lemmas.List.Elements.{All-push}
-use Rattle.qs_index.specs.Entry.{IsEntry}
-use Rattle.qs_index.specs.Permutation.{turned}
+use Rattle.qs_index.specs.inner.Entry.{IsEntry}
+use Rattle.qs_index.specs.inner.Permutation.{turned}
 use Rattle.qs_index.proofs.Unions.{mapped_more}
 use Rattle.qs_index.proofs.permutation.Permutation.turn_all.Goals as goal
 

@@ -1,7 +1,7 @@
 use Rattle.std.proofs.Common.{◌≡◌, ◌++◌, map, take, drop}
 use Rattle.std.specs.List.{All}
-use Rattle.qs_index.specs.Entry.{IsEntry}
-use Rattle.qs_index.specs.Permutation.{turned}
+use Rattle.qs_index.specs.inner.Entry.{IsEntry}
+use Rattle.qs_index.specs.inner.Permutation.{turned}
 use Rattle.qs_index.proofs.permutation.Permutation.turn_all.Given as goal
 
 abbrev pub invariant-loop-entry : goal.invariant-loop-entry

@@ -1,5 +1,5 @@
 use Rattle.std.proofs.Common.{◌≡◌, length, rules, ap, ◌∙◌}
-use Rattle.qs_index.specs.Entry.{is_before}
+use Rattle.qs_index.specs.inner.Entry.{is_before}
 use Rattle.qs_index.proofs.Prefixes.{before_filled}
 use Rattle.qs_index.proofs.prefix.Prefix.is_after.Goals as goal
 

@@ -1,8 +1,8 @@
 use Rattle.std.proofs.Common.{◌≡◌, true, ◌∷◌, drop, map, take, ap, sym, ◌∙◌, subst}
-use Rattle.qs_index.specs.Agreeing.{agrees_anywhere}
-use Rattle.qs_index.specs.Entries.{HaveFour}
-use Rattle.qs_index.specs.Entry.{skip_before, IsAscending}
-use Rattle.qs_index.specs.Permutation.{restored}
+use Rattle.qs_index.specs.inner.Agreeing.{agrees_anywhere}
+use Rattle.qs_index.specs.inner.Entries.{HaveFour}
+use Rattle.qs_index.specs.inner.Entry.{skip_before, IsAscending}
+use Rattle.qs_index.specs.inner.Permutation.{restored}
 use Rattle.qs_index.specs.inner.Skipped.{SkipsAgreeing}
 use Rattle.qs_index.specs.inner.Depth.{depth}
 use Rattle.qs_index.specs.inner.Prefix.{IsAfter}

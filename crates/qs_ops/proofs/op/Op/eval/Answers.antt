@@ -1,6 +1,6 @@
 use Rattle.std.proofs.Common.{subst}
-use Rattle.qs_expr.specs.Evaluated.{Evaluates}
-use Rattle.qs_ops_walk.specs.Stream.{Stream}
+use Rattle.qs_expr.specs.inner.Evaluated.{Evaluates}
+use Rattle.qs_ops_walk.specs.inner.Stream.{Stream}
 use Rattle.qs_ops.proofs.op.Op.eval.Goals as goal
 
 -- an evaluation is seen as its cursor is

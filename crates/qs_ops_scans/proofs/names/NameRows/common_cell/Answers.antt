@@ -1,5 +1,5 @@
 use Rattle.std.proofs.Common.{List, sym, subst}
-use Rattle.qs_expr.specs.Cell.{Cells}
+use Rattle.qs_expr.specs.inner.Cell.{Cells}
 use Rattle.qs_ops_scans.proofs.Common.{HaveIf, names_have}
 use Rattle.qs_ops_scans.proofs.names.NameRows.common_cell.Goals as goal
 

@@ -1,6 +1,6 @@
 use Rattle.std.proofs.Common.{◌≡◌, List, Some, IfSome, drop, subst}
 use Rattle.std.specs.List.{AllByRecursion}
-use Rattle.qs_expr.specs.Cell.{Cells, cell_at}
+use Rattle.qs_expr.specs.inner.Cell.{Cells, cell_at}
 use Rattle.qs_ops_tables.proofs.Common.{merges_have}
 use Rattle.qs_ops_tables.proofs.probe.Probe.common_cell.Goals as goal
 

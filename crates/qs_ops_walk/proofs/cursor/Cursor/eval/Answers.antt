@@ -1,6 +1,6 @@
 use Rattle.std.proofs.Common.{◌∙◌, ap, subst}
-use Rattle.qs_expr.specs.Evaluated.{Evaluates}
-use Rattle.qs_ops_walk.specs.Stream.{Stream}
+use Rattle.qs_expr.specs.inner.Evaluated.{Evaluates}
+use Rattle.qs_ops_walk.specs.inner.Stream.{Stream}
 use Rattle.qs_ops_walk.proofs.Cursors.{still_op, still_left}
 use Rattle.qs_ops_walk.proofs.cursor.Cursor.eval.Goals as goal
 

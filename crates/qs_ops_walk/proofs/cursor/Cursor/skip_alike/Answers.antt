@@ -1,8 +1,8 @@
 use Rattle.std.proofs.Common.{◌≡◌, false, sym, ◌∙◌, ap, subst}
 use Rattle.qs_ops_walk.specs.inner.Cursor.{rows_left}
 use Rattle.qs_ops_walk.specs.inner.Alike.{SkipsAlike}
-use Rattle.qs_ops_walk.specs.Stream.{PassesAlike}
-use Rattle.qs_expr.specs.Cell.{row_solution}
+use Rattle.qs_ops_walk.specs.inner.Stream.{PassesAlike}
+use Rattle.qs_expr.specs.inner.Cell.{row_solution}
 use Rattle.qs_ops_walk.specs.declared.cursor.Cursor.TheInside.{Inside}
 use Rattle.qs_ops_walk.proofs.AlikeRows.{op_passes}
 use Rattle.qs_ops_walk.proofs.cursor.Cursor.skip_alike.Goals as goal

@@ -1,5 +1,5 @@
 use Rattle.std.proofs.Common.{subst}
-use Rattle.qs_expr.specs.Evaluated.{Evaluates}
+use Rattle.qs_expr.specs.inner.Evaluated.{Evaluates}
 use Rattle.qs_ops_walk.specs.inner.Setting.{Setting, known_of}
 use Rattle.qs_ops_walk.proofs.reader.Reader.eval.Goals as goal
 

@@ -1,6 +1,6 @@
 use Rattle.std.proofs.Common.{take, arith}
 use Rattle.qs_expr_meaning.specs.Meaning.{meaning}
-use Rattle.qs_expr.specs.Cell.{row_solution}
+use Rattle.qs_expr.specs.inner.Cell.{row_solution}
 use Rattle.qs_ops_walk.specs.inner.Setting.{known_of}
 use Rattle.qs_ops_walk.proofs.Readings.{whole_value, front_value, cell_is, cell_fits}
 use Rattle.qs_ops_walk.proofs.reader.Reader.value.Goals as goal

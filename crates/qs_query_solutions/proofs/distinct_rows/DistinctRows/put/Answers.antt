@@ -1,6 +1,6 @@
 use Rattle.std.proofs.Common.{List, map, ◌∙◌, ap}
 use Rattle.qs_terms.specs.Bag.{with_new}
-use Rattle.qs_expr.specs.Cell.{Cells}
+use Rattle.qs_expr.specs.inner.Cell.{Cells}
 use Rattle.qs_query_solutions.specs.inner.Distinct.{cells_of, same_cells}
 use Rattle.qs_query_solutions.proofs.Keys.{put_is}
 use Rattle.qs_query_solutions.proofs.distinct_rows.DistinctRows.put.Goals as goal

@@ -1,6 +1,6 @@
 use Rattle.std.proofs.Common.{List, map, sym, subst, ◌∙◌, ap}
 use Rattle.std.specs.List.{AllByRecursion}
-use Rattle.qs_expr.specs.Cell.{Cells, FitsRow}
+use Rattle.qs_expr.specs.inner.Cell.{Cells, FitsRow}
 use Rattle.qs_query_solutions.specs.declared.distinct_rows.KeyCell.{KeyCell}
 use Rattle.qs_query_solutions.specs.inner.Distinct.{cell_of, cells_of}
 use Rattle.qs_query_solutions.proofs.Keys.{in_keys}

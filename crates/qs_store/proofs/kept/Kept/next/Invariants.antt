@@ -1,5 +1,5 @@
 use Rattle.std.proofs.Common.{◌≡◌, length}
-use Rattle.qs_store.specs.Scans.{without, led}
+use Rattle.qs_store.specs.inner.Scans.{without, led}
 use Rattle.qs_store.proofs.kept.Kept.next.Given as goal
 
 abbrev pub invariant-entries : goal.invariant-entries

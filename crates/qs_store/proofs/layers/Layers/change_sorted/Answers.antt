@@ -1,6 +1,6 @@
 use Rattle.std.proofs.Common.{◌≡◌, ◌≤◌, length, drop, ap, sym, subst, arith}
 use Rattle.std.proofs.lemmas.Bool.{eqb-true}
-use Rattle.qs_index.specs.Graph.{named_entries}
+use Rattle.qs_index.specs.inner.Graph.{named_entries}
 use Rattle.qs_store.specs.inner.Emptied.{AreEmptied}
 use Rattle.qs_store.specs.Change.{IsChanged}
 use Rattle.qs_store.specs.inner.Missing.{IsMissing, MayBeMissing}

@@ -1,5 +1,5 @@
 use Rattle.std.proofs.Common.{refl, subst}
-use Rattle.qs_store.specs.Scans.{AreTriplesOf}
+use Rattle.qs_store.specs.inner.Scans.{AreTriplesOf}
 use Rattle.qs_store.proofs.Out.{removal, triples_of_added}
 use Rattle.qs_store.proofs.layers.Layers.scan_draft.Goals as goal
 

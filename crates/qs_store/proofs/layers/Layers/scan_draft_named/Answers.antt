@@ -1,5 +1,5 @@
 use Rattle.std.proofs.Common.{refl, subst}
-use Rattle.qs_store.specs.Scans.{AreNamedQuadsOf}
+use Rattle.qs_store.specs.inner.Scans.{AreNamedQuadsOf}
 use Rattle.qs_store.proofs.Out.{quads_of_added, removal}
 use Rattle.qs_store.proofs.layers.Layers.scan_draft_named.Goals as goal
 

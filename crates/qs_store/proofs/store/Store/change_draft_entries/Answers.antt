@@ -1,7 +1,7 @@
 use Rattle.std.proofs.Common.{◌≤◌, IsTrue, sym, subst}
 use Rattle.qs_terms.specs.Dataset.{is_above_blanks}
 use Rattle.qs_store.specs.Change.{IsChanged}
-use Rattle.qs_store.specs.Entries.{AreEntries, said}
+use Rattle.qs_store.specs.inner.Entries.{AreEntries, said}
 use Rattle.qs_store.specs.inner.Store.{IsStore}
 use Rattle.qs_store.proofs.References.{entries_changed, said_changed}
 use Rattle.qs_store.proofs.Stored.{store_changed}

@@ -1,6 +1,6 @@
 use Rattle.std.proofs.Common.{[], subst}
 use Rattle.qs_store.specs.Change.{IsChanged}
-use Rattle.qs_store.specs.Entries.{said}
+use Rattle.qs_store.specs.inner.Entries.{said}
 use Rattle.qs_store.proofs.Emptied.{store_emptied, emptied_of, all_entries}
 use Rattle.qs_store.proofs.store.Store.clear_draft_all.Goals as goal
 

@@ -1,7 +1,7 @@
 use Rattle.std.proofs.Common.{[], subst}
 use Rattle.std.specs.Option.{option_copied}
 use Rattle.qs_store.specs.Change.{IsChanged}
-use Rattle.qs_store.specs.Entries.{said}
+use Rattle.qs_store.specs.inner.Entries.{said}
 use Rattle.qs_store.specs.WholeGraphs.{in_graph}
 use Rattle.qs_store.proofs.Emptied.{store_emptied}
 use Rattle.qs_store.proofs.store.Store.clear_draft_graph.Goals as goal

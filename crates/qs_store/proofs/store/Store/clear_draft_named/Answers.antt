@@ -1,7 +1,7 @@
 use Rattle.std.proofs.Common.{[], subst}
 use Rattle.std.specs.List.{filter}
 use Rattle.qs_store.specs.Change.{IsChanged}
-use Rattle.qs_store.specs.Entries.{said}
+use Rattle.qs_store.specs.inner.Entries.{said}
 use Rattle.qs_store.specs.WholeGraphs.{is_named}
 use Rattle.qs_store.proofs.Emptied.{store_emptied, emptied_of}
 use Rattle.qs_store.proofs.store.Store.clear_draft_named.Goals as goal

@@ -1,5 +1,5 @@
 use Rattle.std.proofs.Common.{subst}
-use Rattle.qs_store.specs.Graphs.{AreGraphs}
+use Rattle.qs_store.specs.inner.Graphs.{AreGraphs}
 use Rattle.qs_store.proofs.GraphsSaid.{draft_graphs_said, have_four}
 use Rattle.qs_store.proofs.store.Store.draft_graphs.Goals as goal
 

@@ -1,5 +1,5 @@
 use Rattle.std.proofs.Common.{◌≡◌, true, false, Some, sym, subst}
-use Rattle.qs_store.specs.Entries.{said}
+use Rattle.qs_store.specs.inner.Entries.{said}
 use Rattle.qs_store.specs.WholeGraphs.{exists}
 use Rattle.qs_store.proofs.Copied.{held_said, no_graph}
 use Rattle.qs_store.proofs.store.Store.draft_has_graph.Goals as goal

@@ -1,5 +1,5 @@
 use Rattle.std.proofs.Common.{subst}
-use Rattle.qs_store.specs.Graphs.{AreGraphs}
+use Rattle.qs_store.specs.inner.Graphs.{AreGraphs}
 use Rattle.qs_store.proofs.GraphsSaid.{store_graphs_said}
 use Rattle.qs_store.proofs.store.Store.graphs.Goals as goal
 

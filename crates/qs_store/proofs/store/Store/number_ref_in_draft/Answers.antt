@@ -2,8 +2,8 @@ use Rattle.std.proofs.Common.{◌≡◌, ◌∷◌, ◌++◌, [], List, IsTrue, 
 use Rattle.qs_terms.specs.Statement.{Statement, fits_places}
 use Rattle.qs_terms.specs.declared.term.Term.{Term}
 use Rattle.qs_store.specs.Change.{IsFullAt, with_terms_of}
-use Rattle.qs_store.specs.Entries.{AreEntries, IsSaidBehind}
-use Rattle.qs_store.specs.References.{referred_quad}
+use Rattle.qs_store.specs.inner.Entries.{AreEntries, IsSaidBehind}
+use Rattle.qs_store.specs.inner.References.{referred_quad}
 use Rattle.qs_store.proofs.Loaded.{store_more, draft_said, said_behind, known_behind, full_behind}
 use Rattle.qs_store.proofs.Stored.{base_same}
 use Rattle.qs_store.proofs.store.Store.number_ref_in_draft.Goals as goal

@@ -1,5 +1,5 @@
 use Rattle.std.proofs.Common.{sym, subst, ◌∙◌}
-use Rattle.qs_store.specs.Entries.{AreEntries}
+use Rattle.qs_store.specs.inner.Entries.{AreEntries}
 use Rattle.qs_store.proofs.Entries.{whole_entries}
 use Rattle.qs_store.proofs.store.Store.quads.Goals as goal
 

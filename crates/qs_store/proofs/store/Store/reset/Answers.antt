@@ -1,5 +1,5 @@
 use Rattle.std.proofs.Common.{take, ap, sym, subst, ◌∙◌}
-use Rattle.qs_store.specs.Entries.{said}
+use Rattle.qs_store.specs.inner.Entries.{said}
 use Rattle.qs_store.specs.inner.Store.{IsStore}
 use Rattle.qs_store.proofs.Stored.{content, store_reset, base_after_cut, draft_after_cut}
 use Rattle.qs_store.proofs.store.Store.reset.Goals as goal

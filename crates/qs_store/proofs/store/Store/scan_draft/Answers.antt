@@ -1,5 +1,5 @@
 use Rattle.std.proofs.Common.{subst}
-use Rattle.qs_store.specs.Triples.{AreTriples}
+use Rattle.qs_store.specs.inner.Triples.{AreTriples}
 use Rattle.qs_store.proofs.TriplesSaid.{draft_triples}
 use Rattle.qs_store.proofs.store.Store.scan_draft.Goals as goal
 

@@ -1,5 +1,5 @@
 use Rattle.std.proofs.Common.{subst}
-use Rattle.qs_store.specs.NamedQuads.{AreNamedQuads}
+use Rattle.qs_store.specs.inner.NamedQuads.{AreNamedQuads}
 use Rattle.qs_store.proofs.NamedQuadsSaid.{draft_named_quads}
 use Rattle.qs_store.proofs.store.Store.scan_draft_named.Goals as goal
 

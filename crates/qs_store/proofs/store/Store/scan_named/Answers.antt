@@ -1,5 +1,5 @@
 use Rattle.std.proofs.Common.{subst}
-use Rattle.qs_store.specs.NamedQuads.{AreNamedQuads}
+use Rattle.qs_store.specs.inner.NamedQuads.{AreNamedQuads}
 use Rattle.qs_store.proofs.NamedQuadsSaid.{store_named_quads}
 use Rattle.qs_store.proofs.store.Store.scan_named.Goals as goal
 

@@ -1,5 +1,5 @@
 use Rattle.std.proofs.Common.{subst}
-use Rattle.qs_store.specs.Triples.{AreTriplesAnyhow}
+use Rattle.qs_store.specs.inner.Triples.{AreTriplesAnyhow}
 use Rattle.qs_store.proofs.TriplesSaid.{store_triples_anyhow}
 use Rattle.qs_store.proofs.store.Store.scan_with_lead.Goals as goal
 

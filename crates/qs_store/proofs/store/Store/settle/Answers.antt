@@ -1,5 +1,5 @@
 use Rattle.std.proofs.Common.{sym, subst}
-use Rattle.qs_store.specs.Entries.{said}
+use Rattle.qs_store.specs.inner.Entries.{said}
 use Rattle.qs_store.specs.Same.{SameSet}
 use Rattle.qs_store.specs.inner.Store.{IsStore}
 use Rattle.qs_store.proofs.Stored.{store_settled, said_settled}

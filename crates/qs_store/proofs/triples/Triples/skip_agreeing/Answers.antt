@@ -1,9 +1,9 @@
 use Rattle.std.proofs.Common.{◌≡◌, true, List, ℕ, sym, ◌∙◌, subst}
 use Rattle.std.proofs.lemmas.Bool.{false≢true}
 use Rattle.qs_index.specs.inner.Skipped.{IsSkipped}
-use Rattle.qs_store.specs.Scans.{LastFits, triples_left}
-use Rattle.qs_store.specs.Sources.{entries_left}
-use Rattle.qs_store.specs.Triples.{triple_fits}
+use Rattle.qs_store.specs.inner.Scans.{LastFits, triples_left}
+use Rattle.qs_store.specs.inner.Sources.{entries_left}
+use Rattle.qs_store.specs.inner.Triples.{triple_fits}
 use Rattle.qs_store.proofs.Skipping.{triples_skipped}
 use Rattle.qs_store.proofs.triples.Triples.skip_agreeing.Goals.{else-self-via-then-self+else-not-last_fits, else-self-via-else-self}
 use Rattle.qs_store.proofs.triples.Triples.skip_agreeing.Goals as goal

@@ -3,8 +3,8 @@ use Rattle.std.specs.Prelude.{◌≡◌, ℕ, zero, suc, slice_set, take, Bool, 
 use Rattle.qs_expr.specs.declared.cell.Cell.{Cell}
 use Rattle.qs_terms.specs.declared.term.Term.{Term}
 use Rattle.qs_algebra_solutions.specs.Solution.{compatible, merge}
-use Rattle.qs_expr.specs.Cell.{Cells, denoted, denoted_if, row_solution, same_cell, FitsCell, FitsIf, FitsRow}
-use Rattle.qs_expr.specs.Scratch.{IsTable}
+use Rattle.qs_expr.specs.inner.Cell.{Cells, denoted, denoted_if, row_solution, same_cell, FitsCell, FitsIf, FitsRow}
+use Rattle.qs_expr.specs.inner.Scratch.{IsTable}
 
 -- n variables, none of them bound
 abbrev pub no_cells : ℕ → Cells

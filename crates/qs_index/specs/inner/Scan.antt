@@ -2,7 +2,7 @@
 use Rattle.std.specs.Prelude.{ℕ, List, Option, ◌≡◌, ◌+◌, ◌*◌, ◌≤◌}
 use Rattle.std.specs.Iterator.{YieldsFirst}
 use Rattle.std.specs.Option.{MatchOption}
-use Rattle.qs_index.specs.Digits.{digits}
+use Rattle.qs_index.specs.inner.Digits.{digits}
 
 -- a scan: what it has still to hand out, how many entries it has handed out, how many of its
 -- searches skipped some, how many looks it has made, and how many entries there are

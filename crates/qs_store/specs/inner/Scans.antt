@@ -2,12 +2,12 @@
 use Rattle.std.specs.Prelude.{◌≡◌, ℕ, Bool, true, false, cond, List, [], ◌∷◌, map, drop, Option, Some, None}
 use Rattle.std.specs.Str.{bytes_eq}
 use Rattle.std.specs.List.{Contains}
-use Rattle.qs_index.specs.Agreeing.{agrees, agrees_anywhere}
-use Rattle.qs_index.specs.Entry.{IsAscending, is_before}
-use Rattle.qs_index.specs.Graph.{is_named}
-use Rattle.qs_index.specs.Permutation.{turned, order_used, named_order_used}
+use Rattle.qs_index.specs.inner.Agreeing.{agrees, agrees_anywhere}
+use Rattle.qs_index.specs.inner.Entry.{IsAscending, is_before}
+use Rattle.qs_index.specs.inner.Graph.{is_named}
+use Rattle.qs_index.specs.inner.Permutation.{turned, order_used, named_order_used}
 use Rattle.qs_index.specs.declared.permutation.Permutation.{Permutation}
-use Rattle.qs_store.specs.Triples.{turned_triple, triple_fits}
+use Rattle.qs_store.specs.inner.Triples.{turned_triple, triple_fits}
 use Rattle.qs_store.specs.declared.active.Active.{Active}
 use Rattle.qs_store.specs.declared.active.Active.TheVariants.{Default, Graph, Empty}
 use Rattle.qs_store.specs.declared.default_graph.DefaultGraph.{DefaultGraph}

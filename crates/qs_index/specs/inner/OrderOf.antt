@@ -1,8 +1,8 @@
 -- Orders of a set: its entries with their places in the order of a permutation, ascending.
 use Rattle.std.specs.Prelude.{ℕ, List}
 use Rattle.std.specs.List.{Contains}
-use Rattle.qs_index.specs.Entry.{IsAscending}
-use Rattle.qs_index.specs.Permutation.{turned}
+use Rattle.qs_index.specs.inner.Entry.{IsAscending}
+use Rattle.qs_index.specs.inner.Permutation.{turned}
 use Rattle.qs_index.specs.declared.permutation.Permutation.{Permutation}
 
 -- an order has the same entries as the list, turned, in ascending order

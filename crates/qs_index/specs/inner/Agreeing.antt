@@ -1,7 +1,7 @@
 -- The entries that agree with what a scan gives: those of a graph, or of all named graphs.
 use Rattle.std.specs.Prelude.{ℕ, Bool, true, false, ◌==◌, ◌&&◌, List, [], ◌∷◌, Option, Some, None}
 use Rattle.std.specs.List.{filter}
-use Rattle.qs_index.specs.Graph.{named_entries}
+use Rattle.qs_index.specs.inner.Graph.{named_entries}
 
 -- whether a number is the one that is given, if one is
 abbrev pub fits : Option ℕ → ℕ → Bool

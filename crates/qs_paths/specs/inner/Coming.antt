@@ -9,7 +9,7 @@ use Rattle.qs_store.specs.declared.default_graph.DefaultGraph.{DefaultGraph}
 use Rattle.qs_paths_meaning.specs.Pair.{Pair, pair}
 use Rattle.qs_paths_meaning.specs.Walk.{IsIn}
 use Rattle.qs_expr.specs.declared.cell.Cell.{Cell}
-use Rattle.qs_expr.specs.Cell.{denoted}
+use Rattle.qs_expr.specs.inner.Cell.{denoted}
 use Rattle.qs_paths.specs.declared.stream.Pairs.{Pairs}
 use Rattle.qs_paths.specs.inner.Nodes.{IsNaming, IsTooFar, cell_of}
 use Rattle.qs_paths.specs.inner.Seen.{graph_in, known_in}

@@ -1,9 +1,9 @@
 -- The index: one set of entries in several orders, seen as its ascending list.
 use Rattle.std.specs.Prelude.{ℕ, List, min}
 use Rattle.std.specs.List.{Contains}
-use Rattle.qs_index.specs.Entry.{IsEntry}
-use Rattle.qs_index.specs.OrderOf.{IsOrderOf}
-use Rattle.qs_index.specs.Named.{NamedOrders, AreNamedOf}
+use Rattle.qs_index.specs.inner.Entry.{IsEntry}
+use Rattle.qs_index.specs.inner.OrderOf.{IsOrderOf}
+use Rattle.qs_index.specs.inner.Named.{NamedOrders, AreNamedOf}
 use Rattle.qs_index.specs.declared.permutation.Permutation.TheVariants.{Gspo, Gpos, Gosp}
 
 -- an ascending list of entries, how many inserts need no memory, and how many of entries of named graphs need none in the orders of these

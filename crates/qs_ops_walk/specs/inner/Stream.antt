@@ -4,7 +4,7 @@ use Rattle.std.specs.List.{AllByRecursion}
 use Rattle.qs_terms.specs.Bag.{SameBag}
 use Rattle.qs_terms.specs.declared.term.Term.{Term}
 use Rattle.qs_algebra_solutions.specs.Solution.{Solution, projected}
-use Rattle.qs_expr.specs.Cell.{Cells, row_solution}
+use Rattle.qs_expr.specs.inner.Cell.{Cells, row_solution}
 
 -- the solutions that are still to come, none after an error; whether the end was reached, after which each answer is that none is left; the
 -- terms of the dictionary; and those of the scratch table

@@ -8,7 +8,7 @@ use Rattle.qs_expr_meaning.specs.Meaning.{holds, meaning}
 use Rattle.qs_expr_meaning.specs.declared.expr.Expr.{Expr}
 use Rattle.qs_expr_meaning.specs.declared.fault.ExprFault.{ExprFault}
 use Rattle.qs_expr.specs.declared.cell.Cell.{Cell}
-use Rattle.qs_expr.specs.Cell.{Cells, denoted, row_solution}
+use Rattle.qs_expr.specs.inner.Cell.{Cells, denoted, row_solution}
 
 -- what the expression means at the row
 abbrev pub value_at : List Term → List Term → Cells → Expr → Option Term

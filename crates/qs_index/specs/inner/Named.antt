@@ -1,7 +1,7 @@
 -- The orders of the named graphs, SPOG, POSG and OSPG, which have the entries of these alone.
 use Rattle.std.specs.Prelude.{ℕ, List}
-use Rattle.qs_index.specs.Graph.{named_entries}
-use Rattle.qs_index.specs.OrderOf.{IsOrderOf}
+use Rattle.qs_index.specs.inner.Graph.{named_entries}
+use Rattle.qs_index.specs.inner.OrderOf.{IsOrderOf}
 use Rattle.qs_index.specs.declared.permutation.Permutation.{Permutation}
 use Rattle.qs_index.specs.declared.permutation.Permutation.TheVariants.{Gspo, Gpos, Gosp, Spog, Posg, Ospg}
 

@@ -1,7 +1,7 @@
 -- Sets of entries, each seen as its ascending list, so that equal lists are equal sets.
 use Rattle.std.specs.Prelude.{ℕ, ◌⊎◌, ◌≡◌, List, length}
 use Rattle.std.specs.List.{Contains}
-use Rattle.qs_index.specs.Entry.{IsAscending}
+use Rattle.qs_index.specs.inner.Entry.{IsAscending}
 
 -- an ascending list of entries, and how many inserts need no memory
 pub record Entries : Type 0 where

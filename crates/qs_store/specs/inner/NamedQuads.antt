@@ -5,9 +5,9 @@ use Rattle.std.specs.List.{Contains}
 use Rattle.qs_terms.specs.Statement.{Statement}
 use Rattle.qs_terms.specs.declared.term.Term.{Term}
 use Rattle.qs_dict.specs.Dict.{term_at}
-use Rattle.qs_index.specs.Agreeing.{fits}
-use Rattle.qs_index.specs.Entry.{IsAscending}
-use Rattle.qs_index.specs.Permutation.{turned, named_order_used}
+use Rattle.qs_index.specs.inner.Agreeing.{fits}
+use Rattle.qs_index.specs.inner.Entry.{IsAscending}
+use Rattle.qs_index.specs.inner.Permutation.{turned, named_order_used}
 use Rattle.qs_store.specs.Content.{Content}
 
 -- the numbers are those of the graph's name and of the subject, predicate and object of a quad of a named graph, and are the ones that are

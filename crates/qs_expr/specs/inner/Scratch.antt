@@ -4,7 +4,7 @@ use Rattle.std.specs.List.{list_any}
 use Rattle.qs_terms.specs.Term.{same_term}
 use Rattle.qs_terms.specs.declared.term.Term.{Term}
 use Rattle.qs_expr.specs.declared.cell.Cell.{Cell}
-use Rattle.qs_expr.specs.Cell.{denoted}
+use Rattle.qs_expr.specs.inner.Cell.{denoted}
 
 -- each term has one cell: it stands once in the dictionary, or once in the table, and not in both
 pub record IsTable (known table : List Term) : Type 0 where

@@ -3,7 +3,7 @@ use Rattle.std.specs.Prelude.{ℕ, List, Option, Some, None}
 use Rattle.qs_terms.specs.Statement.{Statement}
 use Rattle.qs_terms.specs.declared.term.Term.{Term}
 use Rattle.qs_dict.specs.Dict.{IsInUse}
-use Rattle.qs_store.specs.Entries.{term_or}
+use Rattle.qs_store.specs.inner.Entries.{term_or}
 use Rattle.qs_store.specs.declared.reference.TermRef.{TermRef}
 use Rattle.qs_store.specs.declared.reference.TermRef.TheVariants as term
 use Rattle.qs_store.specs.declared.reference.QuadRef.{QuadRef}
