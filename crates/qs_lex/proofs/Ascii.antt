@@ -80,3 +80,25 @@ word_iri c h =
     let n7 : (c == 96) ≡ false = apart is_word_char c 96 h refl in
     let n8 : (c == 92) ≡ false = apart is_word_char c 92 h refl in
     rw (b, n0, n1, n2, n3, n4, n5, n6, n7, n8) refl
+
+past_blanks : (c : ℕ) → is_in_range 35 59 c ≡ true → leb c 32 ≡ false
+past_blanks c h = from (leb c 32) refl where
+  from : (b : Bool) → leb c 32 ≡ b → leb c 32 ≡ false
+  from true e = let le : c ≤ 32 = leb-true c 32 e in absurd (true≢false (sym h ∙ above 35 59 c le (lit≤ tt)))
+  from false e = e
+
+-- from `#` to `;` no character is excluded
+pub middle_iri : (c : ℕ) → is_in_range 35 59 c ≡ true → is_iri_char c ≡ true
+unfolding is_iri_char
+middle_iri c h =
+    let b : leb c 32 ≡ false = past_blanks c h in
+    let n0 : (c == 60) ≡ false = apart (λ x. is_in_range 35 59 x) c 60 h refl in
+    let n1 : (c == 62) ≡ false = apart (λ x. is_in_range 35 59 x) c 62 h refl in
+    let n2 : (c == 34) ≡ false = apart (λ x. is_in_range 35 59 x) c 34 h refl in
+    let n3 : (c == 123) ≡ false = apart (λ x. is_in_range 35 59 x) c 123 h refl in
+    let n4 : (c == 125) ≡ false = apart (λ x. is_in_range 35 59 x) c 125 h refl in
+    let n5 : (c == 124) ≡ false = apart (λ x. is_in_range 35 59 x) c 124 h refl in
+    let n6 : (c == 94) ≡ false = apart (λ x. is_in_range 35 59 x) c 94 h refl in
+    let n7 : (c == 96) ≡ false = apart (λ x. is_in_range 35 59 x) c 96 h refl in
+    let n8 : (c == 92) ≡ false = apart (λ x. is_in_range 35 59 x) c 92 h refl in
+    rw (b, n0, n1, n2, n3, n4, n5, n6, n7, n8) refl

@@ -3,15 +3,17 @@ use Rattle.std.proofs.Common.{◌≡◌, ℕ, Bool, true, false, not, ◌==◌, 
 use Rattle.std.proofs.Math.Bool.{or-false}
 use Rattle.qs_lex_regular.specs.Longest.{advance}
 use Rattle.qs_lex_regular.specs.Character.{is_one_of, is_pn_chars_u, is_digit, is_pn_chars, is_mark_in_name, is_iri_char}
-use Rattle.qs_lex.specs.Table.{is_word_char}
+use Rattle.qs_lex.specs.Table.{is_exponent, is_word_char}
 use Rattle.qs_lex.specs.inner.NameState.{left_of_name}
 use Rattle.qs_lex.specs.inner.IriState.{left_of_iri}
+use Rattle.qs_lex.specs.inner.NumberState.{left_of_number}
 use Rattle.qs_lex.specs.inner.StringState.{left_of_string}
 use Rattle.qs_lex.specs.declared.quote.Quote.{Quote}
 use Rattle.qs_lex.specs.declared.name_state.NameState.TheVariants as name
 use Rattle.qs_lex.specs.declared.iri_state.IriState.TheVariants as iri
+use Rattle.qs_lex.specs.declared.number_state.NumberState.TheVariants as number
 use Rattle.qs_lex.specs.declared.string_state.StringState.TheVariants as string
-use Rattle.qs_lex.proofs.Apart.{apart, word_chars, word_colon, chars_percent, chars_backslash, iri_backslash, iri_greater}
+use Rattle.qs_lex.proofs.Apart.{apart, word_chars, word_colon, chars_percent, chars_backslash, iri_backslash, iri_greater, digit_dot, digit_exponent}
 
 pub plain : (c : ℕ) → is_word_char c ≡ true → advance (left_of_name name.Plain) c ≡ left_of_name name.Plain
 plain c h = simp h
@@ -39,6 +41,12 @@ in_variable c h =
 
 pub variable : (c : ℕ) → is_word_char c ≡ true → advance (left_of_name name.Variable) c ≡ left_of_name name.Variable
 variable c h = let g : (is_pn_chars_u c || is_digit c || is_mark_in_name c) ≡ true = in_variable c h in simp g
+
+pub whole : (c : ℕ) → is_digit c ≡ true → advance (left_of_number number.Whole) c ≡ left_of_number number.Whole
+whole c h = let d : (c == 46) ≡ false = digit_dot c h in let e : is_exponent c ≡ false = digit_exponent c h in simp (h, d, e)
+
+pub signed_whole : (c : ℕ) → is_digit c ≡ true → advance (left_of_number number.SignedWhole) c ≡ left_of_number number.SignedWhole
+signed_whole c h = let d : (c == 46) ≡ false = digit_dot c h in let e : is_exponent c ≡ false = digit_exponent c h in simp (h, d, e)
 
 pub body : (c : ℕ) → is_iri_char c ≡ true → advance (left_of_iri iri.Body) c ≡ left_of_iri iri.Body
 body c h =

@@ -1,6 +1,7 @@
 //! Classes of characters: those of SPARQL alone, and those of names and IRIs with ASCII or letters first, which most are.
 
 ghost use Rattle.std.specs.Prelude.{◌≡◌};
+ghost use Rattle.std.specs.Int.{is_in_range};
 ghost use Rattle.qs_lex_regular.specs.Character.{is_base, is_pn_chars, is_iri_char, is_pn_chars_u};
 ghost use Rattle.qs_lex.specs.Table.{is_escapable, is_exponent, is_sign, is_word_char};
 
@@ -91,10 +92,17 @@ pub fn is_pn_chars(c: char) -> bool
     }
 }
 
+/// A character from `#` to `;`: digits, and most of the marks of IRIs.
+fn is_from_hash_to_semicolon(c: char) -> bool
+    ensures { result ≡ is_in_range 35 59 c }
+{
+    c >= '#' && c <= ';'
+}
+
 /// What an IRI may hold.
-#[tactic(auto, using(crate::proofs::Ascii::word_iri))]
+#[tactic(auto, using(crate::proofs::Ascii::word_iri, crate::proofs::Ascii::middle_iri))]
 pub fn is_iri_char(c: char) -> bool
     ensures { result ≡ is_iri_char c }
 {
-    is_word_char(c) || character::is_iri_char(c)
+    is_from_hash_to_semicolon(c) || is_word_char(c) || character::is_iri_char(c)
 }

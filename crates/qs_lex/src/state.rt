@@ -71,13 +71,14 @@ impl State {
     }
 
     /// Characters that leave all as it is, where a token may hold many of them in a row.
-    #[tactic(auto, using(crate::proofs::Stays::plain, crate::proofs::Stays::word, crate::proofs::Stays::local, crate::proofs::Stays::variable, crate::proofs::Stays::body, crate::proofs::Stays::short, crate::proofs::Stays::long))]
+    #[tactic(auto, using(crate::proofs::Stays::plain, crate::proofs::Stays::word, crate::proofs::Stays::local, crate::proofs::Stays::variable, crate::proofs::Stays::whole, crate::proofs::Stays::signed_whole, crate::proofs::Stays::body, crate::proofs::Stays::short, crate::proofs::Stays::long))]
     pub fn steady(self) -> Option<Steady>
         ensures { IfSome result (λ kept. (c : ℕ) → is_steady kept c ≡ true → advance (left self) c ≡ left self) }
     {
         match self {
             State::Name(NameState::Plain | NameState::Word) => Some(Steady::Word),
             State::Name(NameState::Local | NameState::Variable) => Some(Steady::Word),
+            State::Number(NumberState::Whole | NumberState::SignedWhole) => Some(Steady::Digit),
             State::Iri(IriState::Body) => Some(Steady::Iri),
             State::String(StringState::Short(quote)) => Some(Steady::Quoted(quote)),
             State::String(StringState::Long(quote)) => Some(Steady::Quoted(quote)),

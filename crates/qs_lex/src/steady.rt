@@ -1,7 +1,7 @@
 //! Characters of which tokens hold many in a row.
 //!
-//! Letters, digits and `_` in names, what IRIs hold, and what strings hold but their marks, backslashes and line ends are passed
-//! over at once. They leave what is left of the token's form as it is.
+//! Letters, digits and `_` in names, digits in integers, what IRIs hold, and what strings hold but their marks, backslashes and line ends
+//! are passed over at once. They leave what is left of the token's form as it is.
 
 ghost use Rattle.std.specs.Prelude.{◌≡◌, ◌≤◌, length};
 ghost use Rattle.std.specs.Str.{chars};
@@ -10,12 +10,15 @@ ghost use Rattle.qs_lex.specs.inner.Steady.{is_steady, pass};
 
 use crate::letter::{is_iri_char, is_word_char};
 use crate::quote::Quote;
+use qs_lex_regular::character::is_digit;
 
 /// Which characters leave a state as it is, by a quick test.
 #[derive(Clone, Copy)]
 pub enum Steady {
     /// letters, digits and `_`
     Word,
+    /// digits
+    Digit,
     /// what an IRI may hold
     Iri,
     /// what a string may hold, but quotation marks of its kind, backslashes and line ends
@@ -30,6 +33,7 @@ impl Steady {
     {
         match self {
             Steady::Word => is_word_char(c),
+            Steady::Digit => is_digit(c),
             Steady::Iri => is_iri_char(c),
             Steady::Quoted(quote) => !(c == quote.mark || c == '\\' || c == '\n' || c == '\r'),
         }
@@ -59,6 +63,7 @@ impl Steady {
     {
         match self {
             Steady::Word => Steady::Word.pass(text),
+            Steady::Digit => Steady::Digit.pass(text),
             Steady::Iri => Steady::Iri.pass(text),
             Steady::Quoted(quote) => Steady::Quoted(quote).pass(text),
         }

@@ -4,6 +4,7 @@
 #![tactic(auto)]
 
 mod drop_tree;
+mod frequent;
 pub mod laws;
 pub mod parse;
 mod resolve_and_check;

@@ -6,10 +6,10 @@ ghost use Rattle.qs_lex.specs.Lexes.{lexeme};
 ghost use Rattle.qs_syntax.specs.Kinds.{kind_of, token_of};
 ghost use Rattle.qs_syntax.specs.Text.{AreTokensOf};
 
+use crate::frequent::{mark_kind, word_kind};
 use qs_lex::{Class, Lexer};
 use qs_syntax_tree::kind::Kind;
 use qs_syntax_tree::token::{Span, Token};
-use qs_syntax_tree::words::{mark_kind, word_kind};
 use qs_terms::QFault;
 use std::alloc::Global;
 
