@@ -36,6 +36,12 @@ def program_to_run():
     return asked(ROOT, os.environ.get("BENCH_PROGRAM"))
 
 
+def fetched(peer):
+    """Returns where a peer stands, or None: what bench/fetch-peers fetched, else the one of the system."""
+    found = f"{os.environ.get('PEERS', f'{ROOT}/.out/peers')}/{peer}/{peer}.sh"
+    return found if os.access(found, os.X_OK) else shutil.which(peer)
+
+
 def script(name):
     """Returns the module bench/NAME/run."""
     loader = importlib.machinery.SourceFileLoader(name, f"{ROOT}/bench/{name}/run")
@@ -229,9 +235,8 @@ class Oxigraph(Running):
 
     @staticmethod
     def path():
-        """Returns where Oxigraph stands, or None: what bench/fetch-oxigraph fetched, else the one of the system."""
-        fetched = f"{os.environ.get('PEERS', f'{ROOT}/.out/peers')}/oxigraph/oxigraph.sh"
-        return fetched if os.access(fetched, os.X_OK) else shutil.which("oxigraph")
+        """Returns where Oxigraph stands, or None: what bench/fetch-peers fetched, else the one of the system."""
+        return fetched("oxigraph")
 
     def __enter__(self):
         self.port = free_port()
