@@ -2,8 +2,8 @@
 //!
 //! `active` tells which graph is read, `counts` what a plan is ordered by, and `planned` makes the plan that is run. `terms` makes the terms
 //! of a row of cells, `collected` keeps them, and `solutions` asks the plan of the pattern for one solution after another, until the caller has
-//! enough. `cell_rows` lists all rows as they are. `distinct` keeps distinct rows of cells (`distinct_rows`). `ordered` keeps rows of cells with their keys, where they are asked for in
-//! an order.
+//! enough. `cell_rows` lists all rows as they are. `distinct` keeps distinct rows of cells (`distinct_rows`). `ordered` keeps rows of cells
+//! with their keys, where they are asked for in an order.
 #![tactic(auto)]
 
 mod active;

@@ -16,7 +16,7 @@ use std::alloc::Global;
 
 /// Removes from the draft the quads that one template makes of rows of cells, and then adds those that another makes of them, whose fresh
 /// blank nodes have the numbers from the draft's next one on. `after` is the number after these. Numbers in the rows are of the draft's
-/// terms. A term that the draft knows isn't looked up by its text.
+/// terms. A term that a row gives by its number isn't looked up by its text.
 ///
 /// # Errors
 /// `StoreFault::Full` exactly where the known terms and the other terms of what is added are more than the store's limit, as far as there
