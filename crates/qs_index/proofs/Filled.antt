@@ -18,7 +18,7 @@ use Rattle.qs_index.proofs.Members.{length-with}
 use Rattle.qs_index.proofs.Turned.{four_with, only_entry}
 use Rattle.qs_index.proofs.Unions.{IsUnion-nil, IsUnion-more}
 use Rattle.qs_index.proofs.Places.{joined-append, skip_to, rest_end, rest_next_page}
-use Rattle.qs_index.proofs.Spares.{over-append, over-set, first_page_none}
+use Rattle.qs_index.proofs.Spares.{over-append, over-set}
 
 pub some_of : (xs : List (List ℕ)) → false ≡ (length xs == 0) → 0 < length xs
 some_of [] e = absurd (false≢true e)
@@ -75,10 +75,6 @@ used_open pages x h =
     let n = length_push pages (x ∷ []) in
     let last : length (page_at (pages ++ (x ∷ []) ∷ []) (length (pages ++ (x ∷ []) ∷ []) - 1)) ≡ 1 = ap length (get_or_at pages (x ∷ []) [] [] (length (pages ++ (x ∷ []) ∷ []) - 1) (omega arith)) in
     omega arith
-
--- the room that filled pages leave
-pub room_filled : (pages : List (List (List ℕ))) (spare left read : ℕ) → 0 < length pages → used_of pages ≤ read + 128 → length pages + left ≡ spare → room_of [] spare ≤ room_of pages left + read
-room_filled pages spare left read h u a = let f = first_page_none pages 0 h in omega arith
 
 -- what holds while a list is read and pages are filled
 pub record Filling (all : List (List ℕ)) (whole read count : ℕ) (last : List ℕ) (pages : List (List (List ℕ))) (spare : ℕ) : Type 0 where
