@@ -35,7 +35,7 @@ fn update_of(alloc: Global, text: &str, tokens: &[Token]) -> Result<Update, QFau
 {
     check_tokens(alloc, text, tokens)?;
     let tree = update_of_tokens(alloc, text.len(), tokens)?;
-    resolve_and_check_update(alloc, text, tokens, &tree)
+    resolve_and_check_update(alloc, text, tokens, tree)
 }
 
 /// The query of a text, with its names resolved (SPARQL 1.1 Query, 19.8, [1]).

@@ -215,12 +215,12 @@ fn update_within(
     alloc: Global,
     text: &str,
     tokens: &[Token],
-    tree: &WrittenUpdate,
+    tree: WrittenUpdate,
 ) -> Result<Update, QFault>
-    ensures { OrOutOfMemory (spec.by_place (resolved_update text.now (spec.variables_of text.now tokens.now) tree.now) (large.update tree.now)) result }
+    ensures { OrOutOfMemory (spec.by_place (resolved_update text.now (spec.variables_of text.now tokens.now) tree) (large.update tree)) result }
 {
-    let large = large_update(tree);
-    let variables = variables_within(alloc, text, tokens, large)?;
+    let large = large_update(&tree);
+    let (tree, variables) = keep_beside(tree, variables_within(alloc, text, tokens, large))?;
     let resolved = resolve_update(alloc, text, variables, tree);
     by_place(resolved, large)
 }
@@ -231,9 +231,9 @@ pub(crate) fn resolve_and_check_update(
     alloc: Global,
     text: &str,
     tokens: &[Token],
-    tree: &WrittenUpdate,
+    tree: WrittenUpdate,
 ) -> Result<Update, QFault>
-    ensures { OrOutOfMemory (spec.update_outcome text.now tokens.now tree.now) result }
+    ensures { OrOutOfMemory (spec.update_outcome text.now tokens.now tree) result }
 {
     let update = update_within(alloc, text, tokens, tree)?;
     let update = scoped_update(alloc, update)?;

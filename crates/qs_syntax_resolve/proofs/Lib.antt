@@ -7,3 +7,4 @@ pub mod Equations
 pub mod TripleEquations
 pub mod PatternEquations
 pub mod Again
+pub mod Modifies

@@ -22,6 +22,7 @@ mod piece;
 mod query;
 mod resolve;
 mod resolver;
+mod reversed;
 mod table;
 mod triples;
 mod update;

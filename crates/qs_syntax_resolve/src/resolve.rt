@@ -48,7 +48,7 @@ pub fn resolve_query(
 }
 
 /// The update of a text with its names resolved, in the same way. Prefixes of a later prologue are added to the earlier ones, and a
-/// later declaration of a prefix replaces the earlier from there on.
+/// later declaration of a prefix replaces the earlier from there on. The tree is dropped part by part, each once it is resolved.
 ///
 /// # Errors
 /// As of `resolve_query`.
@@ -57,9 +57,9 @@ pub fn resolve_update(
     alloc: Global,
     text: &str,
     variables: Items<Variable>,
-    update: &WrittenUpdate,
+    update: WrittenUpdate,
 ) -> Result<Option<Update>, QFault>
-    ensures { OrOutOfMemory (spec.resolved_update text.now variables update.now) result }
+    ensures { OrOutOfMemory (spec.resolved_update text.now variables update) result }
 {
     let mut resolver = Resolver::new(Names::new(alloc, text));
     let update = resolver.update(alloc, variables, update);

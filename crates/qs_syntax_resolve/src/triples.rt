@@ -3,7 +3,7 @@
 //! Lists of properties and objects are written out, a triple before those of its object's brackets, so that each blank node first
 //! appears where the text has it.
 
-ghost use Rattle.std.specs.Prelude.{◌≡◌};
+ghost use Rattle.std.specs.Prelude.{◌≡◌, []};
 ghost use Rattle.qs_syntax_resolve.specs.Leaves.{term_of};
 ghost use Rattle.qs_syntax_resolve.specs.Triples as spec;
 ghost use Rattle.qs_syntax_resolve.specs.Resolving.{Resolves, Collects, Opens};
@@ -26,6 +26,14 @@ fn simplified(path: Path) -> Verb
     match path {
         Path::Iri(iri) => Verb::Iri(iri),
         other => Verb::Path(other),
+    }
+}
+
+// takes no memory
+fn no_triples(alloc: Global) -> TriplesSameSubject {
+    TriplesSameSubject {
+        subject: GraphNode::Term(WrittenTerm::Anonymous),
+        properties: Items::new(alloc),
     }
 }
 
@@ -228,5 +236,34 @@ impl<'a> Resolver<'a> {
             self.same_subject(alloc, found, triples)?;
         }
         Ok(())
+    }
+
+    /// Puts the triples of a block after those that are found already. The tree of each is dropped once it is resolved.
+    fn consumed_triples(
+        &mut self,
+        alloc: Global,
+        found: &mut Items<Triple>,
+        all: &mut Items<TriplesSameSubject>,
+    ) -> Result<(), QFault>
+        ensures { Collects (spec.triples_behind found.old all.old self.old) result found.new self.new }
+    {
+        for at in 0..all.len() {
+            self.same_subject(alloc, found, &all.as_slice()[at])?;
+            all.set(at, no_triples(alloc));
+        }
+        Ok(())
+    }
+
+    /// The triples of a block. The tree of each is dropped once it is resolved.
+    pub fn consumed_template(
+        &mut self,
+        alloc: Global,
+        mut triples: Items<TriplesSameSubject>,
+    ) -> Result<Items<Triple>, QFault>
+        ensures { Resolves (spec.triples_behind [] triples self.old) result self.new }
+    {
+        let mut found = Items::from_vec(Vec::with_capacity(alloc, triples.len())?);
+        self.consumed_triples(alloc, &mut found, &mut triples)?;
+        Ok(found)
     }
 }

@@ -1,14 +1,18 @@
 //! Updates.
 
+ghost use Rattle.qs_syntax_resolve.specs.Pattern.{group_of};
 ghost use Rattle.qs_syntax_resolve.specs.Resolving.{Resolves, Collects};
 ghost use Rattle.qs_syntax_resolve.specs.Update as spec;
 
 use crate::resolver::Resolver;
-use qs_base::keep_beside;
+use crate::reversed::reversed;
+use qs_base::{drop_value, keep_beside};
+use qs_syntax_ast::pattern::Group;
 use qs_syntax_ast::term::Variable;
 use qs_syntax_ast::update::{
     GraphOrDefault, GraphTarget, Modify, Operation, QuadBlock, Transfer, Update,
 };
+use qs_syntax_tree::pattern::Group as WrittenGroup;
 use qs_syntax_tree::term::Iri as WrittenIri;
 use qs_syntax_tree::update::{
     GraphOrDefault as WrittenEnd, GraphTarget as WrittenTarget, Modify as WrittenModify,
@@ -20,20 +24,20 @@ use sqlite_items::Items;
 use std::alloc::Global;
 
 impl<'a> Resolver<'a> {
-    fn block(&mut self, alloc: Global, quads: &Quads) -> Result<QuadBlock, QFault>
-        ensures { Resolves (spec.block quads.now self.old) result self.new }
+    fn block(&mut self, alloc: Global, quads: Quads) -> Result<QuadBlock, QFault>
+        ensures { Resolves (spec.block quads self.old) result self.new }
     {
         match quads {
             Quads::Triples(triples) => {
-                let triples = self.template(alloc, triples.as_slice())?;
+                let triples = self.consumed_template(alloc, triples)?;
                 Ok(QuadBlock {
                     graph: None,
                     triples,
                 })
             }
             Quads::Graph(name, triples) => {
-                let name = self.var_or_iri(*name)?;
-                let triples = self.template(alloc, triples.as_slice())?;
+                let (triples, name) = keep_beside(triples, self.var_or_iri(name))?;
+                let triples = self.consumed_template(alloc, triples)?;
                 Ok(QuadBlock {
                     graph: Some(name),
                     triples,
@@ -42,12 +46,13 @@ impl<'a> Resolver<'a> {
         }
     }
 
-    fn quads(&mut self, alloc: Global, all: &[QuadElement]) -> Result<Items<QuadBlock>, QFault>
-        ensures { Resolves (spec.quads all.now self.old) result self.new }
+    fn quads(&mut self, alloc: Global, all: Items<QuadElement>) -> Result<Items<QuadBlock>, QFault>
+        ensures { Resolves (spec.quads all self.old) result self.new }
     {
-        let mut found = Items::from_vec(Vec::with_capacity(alloc, all.len())?);
-        for element in all {
-            let next = self.block(alloc, &element.quads)?;
+        let mut rest = reversed(alloc, all)?;
+        let mut found = Items::from_vec(Vec::with_capacity(alloc, rest.len())?);
+        while let Some(element) = rest.pop() {
+            let next = self.block(alloc, element.quads)?;
             found.push(next)?;
         }
         Ok(found)
@@ -56,13 +61,13 @@ impl<'a> Resolver<'a> {
     fn optional_quads(
         &mut self,
         alloc: Global,
-        quads: &Option<QuadPattern>,
+        quads: Option<QuadPattern>,
     ) -> Result<Items<QuadBlock>, QFault>
-        ensures { Resolves (spec.template quads.now self.old) result self.new }
+        ensures { Resolves (spec.template quads self.old) result self.new }
     {
         match quads {
             None => Ok(Items::new(alloc)),
-            Some(quads) => self.quads(alloc, quads.elements.as_slice()),
+            Some(quads) => self.quads(alloc, quads.elements),
         }
     }
 
@@ -108,16 +113,44 @@ impl<'a> Resolver<'a> {
         }
     }
 
-    #[tactic(auto, unfolding(crate::specs::Update::modify))]
-    fn modify(&mut self, alloc: Global, modify: &WrittenModify) -> Result<Modify, QFault>
-        ensures { Resolves (spec.modify modify.now self.old) result self.new }
+    #[tactic(auto, unfolding(crate::specs::Update::templates))]
+    fn templates(
+        &mut self,
+        alloc: Global,
+        with: Option<WrittenIri>,
+        written: (Option<QuadPattern>, Option<QuadPattern>),
+    ) -> Result<((Option<Iri>, Items<QuadBlock>), Items<QuadBlock>), QFault>
+        ensures { Resolves (spec.templates with written.0 written.1 self.old) result self.new }
     {
-        let with = self.with_graph(modify.with)?;
-        let delete = keep_beside(with, self.optional_quads(alloc, &modify.delete))?;
-        let insert = keep_beside(delete, self.optional_quads(alloc, &modify.insert))?;
-        let (((with, delete), insert), pattern) = keep_beside(
+        let ((delete, insert), with) = keep_beside(written, self.with_graph(with))?;
+        let rest = (with, insert);
+        let ((with, insert), delete) = keep_beside(rest, self.optional_quads(alloc, delete))?;
+        keep_beside((with, delete), self.optional_quads(alloc, insert))
+    }
+
+    fn consumed_group(&mut self, alloc: Global, pattern: WrittenGroup) -> Result<Group, QFault>
+        ensures { Resolves (group_of pattern self.old) result self.new }
+    {
+        let group = self.group(alloc, &pattern);
+        drop_value(pattern);
+        group
+    }
+
+    #[tactic(auto, using(crate::proofs::Modifies::modify_is))]
+    fn modify(&mut self, alloc: Global, modify: WrittenModify) -> Result<Modify, QFault>
+        ensures { Resolves (spec.modify modify self.old) result self.new }
+    {
+        let WrittenModify {
+            with,
+            delete,
             insert,
-            self.group(alloc, &modify.pattern),
+            pattern,
+        } = modify;
+        let templates = self.templates(alloc, with, (delete, insert));
+        let (pattern, templates) = keep_beside(pattern, templates)?;
+        let (((with, delete), insert), pattern) = keep_beside(
+            templates,
+            self.consumed_group(alloc, pattern),
         )?;
         Ok(Modify {
             with,
@@ -128,32 +161,19 @@ impl<'a> Resolver<'a> {
     }
 
     #[tactic(auto, unfolding(crate::specs::Update::operation_of))]
-    fn operation(
-        &mut self,
-        alloc: Global,
-        operation: &WrittenOperation,
-    ) -> Result<Operation, QFault>
-        ensures { Resolves (spec.operation_of operation.now self.old) result self.new }
+    fn operation(&mut self, alloc: Global, operation: WrittenOperation) -> Result<Operation, QFault>
+        ensures { Resolves (spec.operation_of operation self.old) result self.new }
     {
         match operation {
-            WrittenOperation::InsertData(quads) => match self.quads(
-                alloc,
-                quads.elements.as_slice(),
-            ) {
+            WrittenOperation::InsertData(quads) => match self.quads(alloc, quads.elements) {
                 Ok(found) => Ok(Operation::InsertData(found)),
                 Err(fault) => Err(fault),
             },
-            WrittenOperation::DeleteData(quads) => match self.quads(
-                alloc,
-                quads.elements.as_slice(),
-            ) {
+            WrittenOperation::DeleteData(quads) => match self.quads(alloc, quads.elements) {
                 Ok(found) => Ok(Operation::DeleteData(found)),
                 Err(fault) => Err(fault),
             },
-            WrittenOperation::DeleteWhere(quads) => match self.quads(
-                alloc,
-                quads.elements.as_slice(),
-            ) {
+            WrittenOperation::DeleteWhere(quads) => match self.quads(alloc, quads.elements) {
                 Ok(found) => Ok(Operation::DeleteWhere(found)),
                 Err(fault) => Err(fault),
             },
@@ -161,27 +181,27 @@ impl<'a> Resolver<'a> {
                 Ok(found) => Ok(Operation::Modify(found)),
                 Err(fault) => Err(fault),
             },
-            WrittenOperation::Clear(silent, target) => match self.target(*target) {
-                Ok(found) => Ok(Operation::Clear(*silent, found)),
+            WrittenOperation::Clear(silent, target) => match self.target(target) {
+                Ok(found) => Ok(Operation::Clear(silent, found)),
                 Err(fault) => Err(fault),
             },
-            WrittenOperation::Drop(silent, target) => match self.target(*target) {
-                Ok(found) => Ok(Operation::Drop(*silent, found)),
+            WrittenOperation::Drop(silent, target) => match self.target(target) {
+                Ok(found) => Ok(Operation::Drop(silent, found)),
                 Err(fault) => Err(fault),
             },
-            WrittenOperation::Create(silent, iri) => match self.iri(*iri) {
-                Ok(found) => Ok(Operation::Create(*silent, found)),
+            WrittenOperation::Create(silent, iri) => match self.iri(iri) {
+                Ok(found) => Ok(Operation::Create(silent, found)),
                 Err(fault) => Err(fault),
             },
-            WrittenOperation::Add(transfer) => match self.transfer(*transfer) {
+            WrittenOperation::Add(transfer) => match self.transfer(transfer) {
                 Ok(found) => Ok(Operation::Add(found)),
                 Err(fault) => Err(fault),
             },
-            WrittenOperation::Move(transfer) => match self.transfer(*transfer) {
+            WrittenOperation::Move(transfer) => match self.transfer(transfer) {
                 Ok(found) => Ok(Operation::Move(found)),
                 Err(fault) => Err(fault),
             },
-            WrittenOperation::Copy(transfer) => match self.transfer(*transfer) {
+            WrittenOperation::Copy(transfer) => match self.transfer(transfer) {
                 Ok(found) => Ok(Operation::Copy(found)),
                 Err(fault) => Err(fault),
             },
@@ -192,9 +212,9 @@ impl<'a> Resolver<'a> {
         &mut self,
         alloc: Global,
         found: &mut Items<Operation>,
-        operation: &Option<WrittenOperation>,
+        operation: Option<WrittenOperation>,
     ) -> Result<(), QFault>
-        ensures { Collects (spec.operation_behind found.old operation.now self.old) result found.new self.new }
+        ensures { Collects (spec.operation_behind found.old operation self.old) result found.new self.new }
     {
         match operation {
             None => Ok(()),
@@ -210,40 +230,49 @@ impl<'a> Resolver<'a> {
         &mut self,
         alloc: Global,
         found: &mut Items<Operation>,
-        step: &UpdateStep,
+        step: UpdateStep,
     ) -> Result<(), QFault>
-        ensures { Collects (spec.step found.old step.now self.old) result found.new self.new }
+        ensures { Collects (spec.step found.old step self.old) result found.new self.new }
     {
-        self.prologue(step.prologue.as_slice())?;
-        self.operation_behind(alloc, found, &step.operation)
+        let UpdateStep {
+            prologue,
+            operation,
+        } = step;
+        let (operation, _done) = keep_beside(operation, self.prologue(prologue.as_slice()))?;
+        self.operation_behind(alloc, found, operation)
     }
 
     fn steps(
         &mut self,
         alloc: Global,
         found: &mut Items<Operation>,
-        all: &[UpdateStep],
+        all: Items<UpdateStep>,
     ) -> Result<(), QFault>
-        ensures { Collects (spec.steps found.old all.now self.old) result found.new self.new }
+        ensures { Collects (spec.steps found.old all self.old) result found.new self.new }
     {
-        for step in all {
+        let mut rest = reversed(alloc, all)?;
+        while let Some(step) = rest.pop() {
             self.step(alloc, found, step)?;
         }
         Ok(())
     }
 
-    /// The operations of an update, with the variables of its text.
+    /// The operations of an update, with the variables of its text. Each part of the tree is dropped once it is resolved, so that
+    /// what is resolved next is put into its memory.
     #[tactic(auto, unfolding(crate::specs::Update::update))]
     pub fn update(
         &mut self,
         alloc: Global,
         variables: Items<Variable>,
-        update: &WrittenUpdate,
+        update: WrittenUpdate,
     ) -> Result<Update, QFault>
-        ensures { Resolves (spec.update variables update.now self.old) result self.new }
+        ensures { Resolves (spec.update variables update self.old) result self.new }
     {
-        let mut operations = Items::from_vec(Vec::with_capacity(alloc, update.steps.len())?);
-        self.steps(alloc, &mut operations, update.steps.as_slice())?;
+        let WrittenUpdate { steps } = update;
+        let room = Vec::with_capacity(alloc, steps.len());
+        let (steps, room) = keep_beside(steps, room)?;
+        let mut operations = Items::from_vec(room);
+        self.steps(alloc, &mut operations, steps)?;
         Ok(Update {
             operations,
             variables,
