@@ -102,8 +102,3 @@ steps found (u ∷ us) = step found u >>= (λ more. steps more us)
 -- the update, with the variables of its text
 unfoldable pub update : List Variable → WrittenUpdate → Resolving Update
 update variables u = steps [] u.steps >>= (λ found. pure (record { operations = found; variables = variables }))
-
--- ---- the parts of the above
-
-unfoldable pub templates : Option Iri → Option QuadPattern → Option QuadPattern → Resolving ((Option (List ℕ) × List QuadBlock) × List QuadBlock)
-templates with delete insert = with_graph with >>= (λ w. template delete >>= (λ d. template insert >>= (λ i. pure ((w, d), i))))

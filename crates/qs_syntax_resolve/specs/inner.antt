@@ -1,2 +1,3 @@
 -- What serves proofs alone: no promise of the product is read by it.
 pub mod Refused
+pub mod Templates

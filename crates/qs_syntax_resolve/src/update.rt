@@ -3,6 +3,7 @@
 ghost use Rattle.qs_syntax_resolve.specs.Pattern.{group_of};
 ghost use Rattle.qs_syntax_resolve.specs.Resolving.{Resolves, Collects};
 ghost use Rattle.qs_syntax_resolve.specs.Update as spec;
+ghost use Rattle.qs_syntax_resolve.specs.inner.Templates.{templates};
 
 use crate::resolver::Resolver;
 use crate::reversed::reversed;
@@ -113,14 +114,14 @@ impl<'a> Resolver<'a> {
         }
     }
 
-    #[tactic(auto, unfolding(crate::specs::Update::templates))]
+    #[tactic(auto, unfolding(crate::specs::inner::Templates::templates))]
     fn templates(
         &mut self,
         alloc: Global,
         with: Option<WrittenIri>,
         written: (Option<QuadPattern>, Option<QuadPattern>),
     ) -> Result<((Option<Iri>, Items<QuadBlock>), Items<QuadBlock>), QFault>
-        ensures { Resolves (spec.templates with written.0 written.1 self.old) result self.new }
+        ensures { Resolves (templates with written.0 written.1 self.old) result self.new }
     {
         let ((delete, insert), with) = keep_beside(written, self.with_graph(with))?;
         let rest = (with, insert);
