@@ -8,10 +8,12 @@ use Rattle.std.proofs.lemmas.List.{take-append-le, take_more, take_more_set}
 use Rattle.std.proofs.lemmas.List.Elements.{filter-append}
 use Rattle.std.proofs.lemmas.List.Elements.{Contains-append_left, Contains-append_right, Contains-append_cases}
 use Rattle.qs_index.specs.inner.Entries.{IsUnion, IsDifference}
+use Rattle.qs_index.specs.inner.Entry.{IsAscending}
 use Rattle.qs_index.specs.inner.Graph.{is_named, named_entries}
+use Rattle.qs_index.specs.inner.Index.{IndexState}
 use Rattle.qs_store.specs.Change.{IsChanged}
 use Rattle.qs_store.specs.inner.Missing.{IsMissing, IsUnionWith, MayBeMissing}
-use Rattle.qs_store.specs.inner.Layers.{drafted, IsDraft, IsPartOf}
+use Rattle.qs_store.specs.inner.Layers.{drafted, AreLayers, IsDraft, IsPartOf}
 use Rattle.std.proofs.lemmas.List.Filters.{length-filter_both}
 use Rattle.qs_terms.specs.Bag.{Distinct}
 use Rattle.qs_store.proofs.Members.{Entries, nothing, lacking, lacks, Stays, is_in, not_true, only_if, any_if, ascending_fits, head_or_tail, member_of_filter, filter_has, ascending_once, both_once, filter_ascends}
@@ -236,3 +238,20 @@ drafted_count i r a d =
 -- no more are removed than the store has
 pub removed_few : (i r a : Entries) → IsDraft i r a → length r ≤ length i
 removed_few i r a d = ascending_fits r i d.removed_once d.taken
+
+-- layers without a draft
+pub nothing_drafted : (index removed added : IndexState) (emptied : List ℕ) (room : ℕ) → IsAscending index.entries → removed.entries ≡ [] → added.entries ≡ [] → emptied ≡ [] → AreLayers index removed added emptied room
+nothing_drafted index removed added emptied room h r a e = record {
+  parted = rw (r, a) record {
+    once = h;
+    added_once = tt;
+    removed_once = tt;
+    apart = λ x m n. absurd (nothing x m);
+    taken = λ x m. absurd (nothing x m);
+  };
+  out = rw e (λ k d h. absurd (omega (arith, h)));
+  spare = let l : length added.entries ≡ 0 = ap length a in omega (arith, l);
+  named_spare = let l : length (named_entries added.entries) ≡ 0 = ap (λ k. length (named_entries k)) a in omega (arith, l);
+  removed_room = let l : length removed.entries ≡ 0 = ap length r in omega (arith, l);
+  added_room = let l : length added.entries ≡ 0 = ap length a in omega (arith, l);
+}

@@ -1,7 +1,10 @@
 use Rattle.std.proofs.Common.{[], ap, ◌∙◌}
 use Rattle.qs_store.specs.inner.Layers.{drafted}
-use Rattle.qs_store.proofs.Drafted.{drafted_none}
+use Rattle.qs_store.proofs.Drafted.{nothing_drafted, drafted_none}
 use Rattle.qs_store.proofs.layers.Layers.reset.Goals as goal
+
+pub invariant_of-self : goal.invariant_of-self
+invariant_of-self c = nothing_drafted _ _ _ _ _ c.self.invariant.parted.once c.new.ensures.entries c.new-2.ensures.entries c.new-3.ensures
 
 pub returns-clause-draft : goal.returns-clause-draft
 returns-clause-draft c =

@@ -1,8 +1,11 @@
 use Rattle.std.proofs.Common.{[], ap, subst, ◌∙◌}
 use Rattle.qs_store.specs.inner.Layers.{drafted}
 use Rattle.qs_store.specs.Same.{SameSet}
-use Rattle.qs_store.proofs.Drafted.{settled, drafted_none}
+use Rattle.qs_store.proofs.Drafted.{nothing_drafted, settled, drafted_none}
 use Rattle.qs_store.proofs.layers.Layers.settle.Goals as goal
+
+pub invariant_of-self : goal.invariant_of-self
+invariant_of-self c = nothing_drafted _ _ _ _ _ c.put_all.ensures.union.ascending c.new.ensures.entries c.new-2.ensures.entries c.new-3.ensures
 
 pub returns-clause-base : goal.returns-clause-base
 returns-clause-base c =
