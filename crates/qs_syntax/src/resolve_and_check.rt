@@ -220,7 +220,7 @@ fn update_within(
     ensures { OrOutOfMemory (spec.by_place (resolved_update text.now (spec.variables_of text.now tokens.now) tree) (large.update tree)) result }
 {
     let large = large_update(&tree);
-    let (tree, variables) = keep_beside(tree, variables_within(alloc, text, tokens, large))?;
+    let variables = variables_within(alloc, text, tokens, large)?;
     let resolved = resolve_update(alloc, text, variables, tree);
     by_place(resolved, large)
 }
