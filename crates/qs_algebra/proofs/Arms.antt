@@ -14,11 +14,11 @@ use Rattle.qs_algebra_patterns.specs.declared.pattern.PatternNode.TheVariants.{B
 use Rattle.qs_algebra_patterns.specs.declared.pattern.Step.{Step}
 use Rattle.qs_algebra_patterns.specs.declared.pattern.Step.TheVariants.{Join, LeftJoin, Minus, Extend}
 use Rattle.qs_algebra_patterns.specs.declared.table.Table.{Table}
-use Rattle.qs_algebra_patterns.specs.Basic.{occurs}
-use Rattle.qs_algebra.specs.Flags.{flags_from}
+use Rattle.qs_algebra_patterns.specs.inner.Basic.{occurs}
+use Rattle.qs_algebra.specs.inner.Flags.{flags_from}
 use Rattle.qs_algebra.specs.inner.Flags.{flag_at}
-use Rattle.qs_algebra.specs.Certain.{is_certain, is_certain_step, is_column, is_set}
-use Rattle.qs_algebra.specs.Possible.{is_possible, is_possible_step}
+use Rattle.qs_algebra.specs.inner.Certain.{is_certain, is_certain_step, is_column, is_set}
+use Rattle.qs_algebra.specs.inner.Possible.{is_possible, is_possible_step}
 use Rattle.qs_algebra.proofs.FlagLaws.{same_flags, flag_is}
 use Rattle.qs_algebra.proofs.Variants.{certain_basic, certain_group, certain_union, certain_graph, certain_each_graph, certain_values, certain_join, certain_left_join, certain_minus, certain_extend, possible_basic, possible_group, possible_union, possible_graph, possible_each_graph, possible_values, possible_join, possible_left_join, possible_minus, possible_extend}
 use Rattle.qs_algebra.proofs.ColumnLaws.{set_here}

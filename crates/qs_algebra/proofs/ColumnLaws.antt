@@ -2,7 +2,7 @@
 use Rattle.std.proofs.Common.{◌≡◌, ℕ, ◌+◌, ◌<◌, Bool, ◌||◌, ◌&&◌, ◌==◌, List, length, take, get_or, slice_set, true, sym, ap, ◌∙◌, arith}
 use Rattle.std.specs.List.{list_any}
 use Rattle.std.proofs.lemmas.List.Folds.{list_any_more}
-use Rattle.qs_algebra.specs.Flags.{flags_from}
+use Rattle.qs_algebra.specs.inner.Flags.{flags_from}
 use Rattle.qs_algebra.specs.inner.Flags.{flag_at}
 use Rattle.qs_algebra.proofs.FlagLaws.{same_flags, flag_is}
 use Rattle.qs_algebra.proofs.MentionLaws.{set_one}

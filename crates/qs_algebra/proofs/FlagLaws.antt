@@ -1,6 +1,6 @@
 -- Flags, one more and by their numbers.
 use Rattle.std.proofs.Common.{◌≡◌, ℕ, zero, suc, ◌+◌, ◌≤◌, ◌<◌, Bool, [], ◌∷◌, ◌++◌, refl, ap, ◌∙◌, arith, add-one}
-use Rattle.qs_algebra.specs.Flags.{flags_from}
+use Rattle.qs_algebra.specs.inner.Flags.{flags_from}
 use Rattle.qs_algebra.specs.inner.Flags.{flag_at}
 
 at_last : (f : ℕ → Bool) (v w n : ℕ) → w ≡ v + n → flags_from f v (suc n) ≡ flags_from f v n ++ f w ∷ []

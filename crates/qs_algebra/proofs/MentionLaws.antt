@@ -6,8 +6,9 @@ use Rattle.qs_algebra_patterns.specs.declared.pattern.Slot.{Slot}
 use Rattle.qs_algebra_patterns.specs.declared.pattern.Slot.TheVariants as slot
 use Rattle.qs_algebra_patterns.specs.declared.pattern.TriplePattern.{TriplePattern}
 use Rattle.qs_algebra_patterns.specs.declared.pattern.PathPattern.{PathPattern}
-use Rattle.qs_algebra_patterns.specs.Basic.{is_variable, mentions, is_end}
-use Rattle.qs_algebra.specs.Flags.{flags_from}
+use Rattle.qs_algebra_patterns.specs.Basic.{is_variable, mentions}
+use Rattle.qs_algebra_patterns.specs.inner.Basic.{is_end}
+use Rattle.qs_algebra.specs.inner.Flags.{flags_from}
 use Rattle.qs_algebra.specs.inner.Flags.{with_slot, with_triple, with_ends}
 use Rattle.qs_algebra.proofs.FlagLaws.{same_flags}
 

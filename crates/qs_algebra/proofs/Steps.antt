@@ -8,7 +8,8 @@ use Rattle.qs_algebra_patterns.specs.declared.pattern.PatternNode.{PatternNode}
 use Rattle.qs_algebra_patterns.specs.declared.pattern.Step.{Step}
 use Rattle.qs_algebra_patterns.specs.declared.pattern.Step.TheVariants.{Join}
 use Rattle.qs_syntax_scope.specs.Names.{Name}
-use Rattle.qs_algebra.specs.Translation.{one_or_union, closed, step_level, group_level, group_parts, group_pattern, step_of}
+use Rattle.qs_algebra.specs.Translation.{one_or_union, closed, step_level, group_level, group_parts, group_pattern}
+use Rattle.qs_algebra.specs.inner.Translation.{step_of}
 use Rattle.qs_algebra.specs.declared.parts.GroupParts.{GroupParts}
 
 each_closed : (names : List Name) (groups : List Group) → map closed (map (group_parts names) groups) ≡ map (group_pattern names) groups

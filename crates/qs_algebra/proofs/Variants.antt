@@ -10,9 +10,9 @@ use Rattle.qs_algebra_patterns.specs.declared.pattern.Step.TheVariants.{Join, Le
 use Rattle.qs_algebra_patterns.specs.declared.pattern.PatternNode.{PatternNode, fold-roll-PatternNode}
 use Rattle.qs_algebra_patterns.specs.declared.pattern.PatternNode.TheOpen as level
 use Rattle.qs_algebra_patterns.specs.declared.pattern.PatternNode.TheVariants.{Basic, Group, Union, Graph, EachGraph, Values, rolls-Basic, rolls-Group, rolls-Union, rolls-Graph, rolls-EachGraph, rolls-Values}
-use Rattle.qs_algebra_patterns.specs.Basic.{occurs}
-use Rattle.qs_algebra.specs.Certain.{is_column, is_set, is_certain, is_certain_step, is_certain_level, is_certain_step_level}
-use Rattle.qs_algebra.specs.Possible.{is_possible, is_possible_step, is_possible_level, is_possible_step_level}
+use Rattle.qs_algebra_patterns.specs.inner.Basic.{occurs}
+use Rattle.qs_algebra.specs.inner.Certain.{is_column, is_set, is_certain, is_certain_step, is_certain_level, is_certain_step_level}
+use Rattle.qs_algebra.specs.inner.Possible.{is_possible, is_possible_step, is_possible_level, is_possible_step_level}
 
 any_map : (f : PatternNode → ℕ → Bool) (v : ℕ) (parts : List PatternNode) → list_any (λ (part : ℕ → Bool). part v) (map f parts) ≡ list_any (λ part. f part v) parts
 any_map f v [] = refl

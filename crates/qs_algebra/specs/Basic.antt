@@ -1,5 +1,5 @@
--- Basic graph patterns of triples (SPARQL 1.1 Query, 18.2.2.5), and the path patterns among them (18.2.2.4): a triple whose verb is a path
--- of more than one IRI.
+-- Basic graph patterns of triples (SPARQL 1.1 Query, 18.2.2.5), and the path patterns among them
+-- (18.2.2.4): a triple whose verb is a path of more than one IRI.
 use Rattle.std.specs.Prelude.{List, Option, Some, None, option_map}
 use Rattle.std.specs.List.{filter_map}
 use Rattle.qs_terms.specs.declared.term.Term.TheVariants as value
@@ -32,12 +32,12 @@ verb_slot names (verb.Iri i) = Some (slot.Term (value.Iri i))
 verb_slot names (verb.Path p) = None
 
 abbrev pub path_of : Verb → Option Path
-path_of (verb.Variable v) = None
-path_of (verb.Iri i) = None
 path_of (verb.Path p) = Some p
+path_of _ = None
 
 abbrev pub triple_between : Slot → Slot → Slot → TriplePattern
-triple_between subject object predicate = record { subject = subject; predicate = predicate; object = object }
+triple_between subject object predicate =
+    record { subject = subject; predicate = predicate; object = object }
 
 abbrev pub path_between : Slot → Slot → Path → PathPattern
 path_between subject object path = record { subject = subject; path = path; object = object }
@@ -45,16 +45,24 @@ path_between subject object path = record { subject = subject; path = path; obje
 -- a triple whose verb is no path is a triple pattern
 abbrev pub triple_pattern : List Name → Hidden → Triple → Option TriplePattern
 triple_pattern names hidden t =
-    option_map (triple_between (term_slot names hidden t.subject) (term_slot names hidden t.object)) (verb_slot names t.verb)
+    option_map (triple_between (term_slot names hidden t.subject) (term_slot names hidden t.object))
+    (verb_slot names t.verb)
 
 -- and one whose verb is a path, a path pattern
 abbrev pub path_pattern : List Name → Hidden → Triple → Option PathPattern
-path_pattern names hidden t = option_map (path_between (term_slot names hidden t.subject) (term_slot names hidden t.object)) (path_of t.verb)
+path_pattern names hidden t =
+    option_map (path_between (term_slot names hidden t.subject) (term_slot names hidden t.object))
+    (path_of t.verb)
 
 -- both in the order of the text; the hidden variables are those of all
 abbrev pub basic_of : List Name → Hidden → List Triple → BasicPattern
 basic_of names hidden triples =
-    record { triples = filter_map (triple_pattern names hidden) triples; paths = filter_map (path_pattern names hidden) triples; hidden = width hidden }
+    record {
+      triples = filter_map (triple_pattern names hidden) triples;
+      paths = filter_map
+          (path_pattern names hidden) triples;
+      hidden = width hidden;
+    }
 
 -- the basic graph pattern of these triples
 abbrev pub basic_pattern : List Name → List Triple → BasicPattern

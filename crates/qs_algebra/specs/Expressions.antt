@@ -1,6 +1,6 @@
 -- The expressions of a text, with their variables by numbers (SPARQL 1.1 Query, 17).
--- A product of no operands, which no text has, is a COALESCE of nothing and errs. A variable that isn't in the list has the
--- number past the last.
+-- A product of no operands, which no text has, is a COALESCE of nothing and errs. A variable that
+-- isn't in the list has the number past the last.
 use Rattle.std.specs.Prelude.{List, [], ◌∷◌}
 use Rattle.qs_terms.specs.declared.term.Term.TheVariants as term
 use Rattle.qs_syntax_tree.specs.declared.expression.Comparison.{Comparison as WrittenComparison}
@@ -12,16 +12,23 @@ use Rattle.qs_syntax_tree.specs.declared.expression.UnaryFunction.TheVariants as
 use Rattle.qs_syntax_tree.specs.declared.expression.BinaryFunction.{BinaryFunction as WrittenBinary}
 use Rattle.qs_syntax_tree.specs.declared.expression.BinaryFunction.TheVariants as written_binary
 use Rattle.qs_syntax_ast.specs.declared.expression.Expression.{Expression, fold-Expression}
-use Rattle.qs_syntax_ast.specs.declared.expression.Addend.{Addend as WrittenAddend, fold-Addend}
 use Rattle.qs_syntax_ast.specs.declared.expression.Expression.TheOpen.{Expression-F, Addend-F}
 use Rattle.qs_expr_meaning.specs.declared.operator.Comparison.{Comparison}
-use Rattle.qs_expr_meaning.specs.declared.operator.Comparison.TheVariants.{Equal, NotEqual, Less, Greater, LessOrEqual, GreaterOrEqual}
+use Rattle.qs_expr_meaning.specs.declared.operator.Comparison.TheVariants.{Equal, NotEqual, Less}
+use Rattle.qs_expr_meaning.specs.declared.operator.Comparison.TheVariants.{Greater, LessOrEqual}
+use Rattle.qs_expr_meaning.specs.declared.operator.Comparison.TheVariants.{GreaterOrEqual}
 use Rattle.qs_expr_meaning.specs.declared.operator.Sign.{Sign}
 use Rattle.qs_expr_meaning.specs.declared.operator.Sign.TheVariants.{Plus, Minus}
 use Rattle.qs_expr_meaning.specs.declared.operator.UnaryFunction.{UnaryFunction}
-use Rattle.qs_expr_meaning.specs.declared.operator.UnaryFunction.TheVariants.{IsIri, IsBlank, IsLiteral, IsNumeric, Str, Lang, Datatype, StrLen}
+use Rattle.qs_expr_meaning.specs.declared.operator.UnaryFunction.TheVariants.{IsIri, IsBlank}
+use Rattle.qs_expr_meaning.specs.declared.operator.UnaryFunction.TheVariants.{IsLiteral, IsNumeric}
+use Rattle.qs_expr_meaning.specs.declared.operator.UnaryFunction.TheVariants.{Str, Lang, Datatype}
+use Rattle.qs_expr_meaning.specs.declared.operator.UnaryFunction.TheVariants.{StrLen}
 use Rattle.qs_expr_meaning.specs.declared.operator.BinaryFunction.{BinaryFunction}
-use Rattle.qs_expr_meaning.specs.declared.operator.BinaryFunction.TheVariants.{SameTerm, LangMatches, Contains, StrStarts, StrEnds}
+use Rattle.qs_expr_meaning.specs.declared.operator.BinaryFunction.TheVariants.{SameTerm}
+use Rattle.qs_expr_meaning.specs.declared.operator.BinaryFunction.TheVariants.{LangMatches}
+use Rattle.qs_expr_meaning.specs.declared.operator.BinaryFunction.TheVariants.{Contains, StrStarts}
+use Rattle.qs_expr_meaning.specs.declared.operator.BinaryFunction.TheVariants.{StrEnds}
 use Rattle.qs_expr_meaning.specs.declared.expr.Expr.{Expr}
 use Rattle.qs_expr_meaning.specs.declared.expr.Expr.TheVariants as expr
 use Rattle.qs_expr_meaning.specs.declared.expr.Addend.{Addend}
@@ -88,6 +95,3 @@ addend_level a = record { sign = sign a.sign; operand = a.operand }
 -- the expression, where these are the names of the variables in the order of their numbers
 abbrev pub expr_of : List Name → Expression → Expr
 expr_of names = fold-Expression Expr Addend (expr_level names) addend_level
-
-abbrev pub addend_of : List Name → WrittenAddend → Addend
-addend_of names = fold-Addend Expr Addend (expr_level names) addend_level

@@ -1,12 +1,14 @@
--- The pattern of a group (SPARQL 1.1 Query, 18.2.2): what its steps make of the empty solution, in the order of the text, as far as its
--- filters hold. The simplification of a single part (18.2.2.8) holds for a pattern that is joined alone.
--- `{ OPTIONAL { .. } }` stays a left join of the empty solution.
+-- The pattern of a group (SPARQL 1.1 Query, 18.2.2): what its steps make of the empty solution, in
+-- the order of the text, as far as its filters hold. The simplification of a single part (18.2.2.8)
+-- holds for a pattern that is joined alone. `{ OPTIONAL { .. } }` stays a left join of the empty
+-- solution.
 use Rattle.std.specs.Prelude.{ℕ, List, [], ◌∷◌, ◌++◌, map, Option, Some, None}
 use Rattle.std.specs.List.{flat_map}
 use Rattle.qs_terms.specs.declared.term.Term.TheVariants as value
 use Rattle.qs_syntax_ast.specs.declared.pattern.Group.{Group, fold-Group}
-use Rattle.qs_syntax_ast.specs.declared.pattern.GraphPattern.{GraphPattern, fold-GraphPattern}
-use Rattle.qs_syntax_ast.specs.declared.pattern.GraphPattern.TheOpen.{Group-F, GraphPattern-F, Triples, Union, Optional, Minus, Graph, Bind, Values}
+use Rattle.qs_syntax_ast.specs.declared.pattern.GraphPattern.TheOpen.{Group-F, GraphPattern-F}
+use Rattle.qs_syntax_ast.specs.declared.pattern.GraphPattern.TheOpen.{Triples, Union, Optional}
+use Rattle.qs_syntax_ast.specs.declared.pattern.GraphPattern.TheOpen.{Minus, Graph, Bind, Values}
 use Rattle.qs_syntax_ast.specs.declared.pattern.InlineData.{InlineData}
 use Rattle.qs_syntax_ast.specs.declared.pattern.Triple.{Triple}
 use Rattle.qs_syntax_ast.specs.declared.query.Projection.{Projection}
@@ -52,16 +54,14 @@ number_of names v = place_of names v.name
 
 -- the table of VALUES
 abbrev pub table_of : List Name → InlineData → Table
-table_of names table = record { variables = map (number_of names) table.variables; rows = table.rows }
+table_of names t = record { variables = map (number_of names) t.variables; rows = t.rows }
 
 -- ---- the steps and the filters of a group, and the group that is closed after them
 
 -- the only step of a group: a pattern that is joined to the empty solution alone is that pattern
 abbrev pub alone : Step → level.Step-F PatternNode Step → PatternNode
 alone s (level.Join part) = part
-alone s (level.LeftJoin part conditions) = pattern.Group (s ∷ []) []
-alone s (level.Minus part) = pattern.Group (s ∷ []) []
-alone s (level.Extend v e) = pattern.Group (s ∷ []) []
+alone s _ = pattern.Group (s ∷ []) []
 
 -- the steps without filters
 abbrev pub unfiltered : List Step → PatternNode
@@ -87,19 +87,15 @@ step_level names (Union groups) = step.Join (one_or_union (map closed groups))
 step_level names (Optional group) = optional group
 step_level names (Minus group) = step.Minus (closed group)
 step_level names (Graph graph group) = step.Join (in_graph names graph (closed group))
-step_level names (Bind value variable) = step.Extend (number_of names variable) (expr_of names value)
+step_level names (Bind value v) = step.Extend (number_of names v) (expr_of names value)
 step_level names (Values table) = step.Join (pattern.Values (table_of names table))
 
 abbrev pub group_level : List Name → Group-F Step GroupParts → GroupParts
-group_level names group = record { steps = group.patterns; conditions = map (expr_of names) group.filters }
+group_level names g = record { steps = g.patterns; conditions = map (expr_of names) g.filters }
 
 -- the steps and the filters of a group
 abbrev pub group_parts : List Name → Group → GroupParts
 group_parts names = fold-Group Step GroupParts (step_level names) (group_level names)
-
--- the step that a part of a group is
-abbrev pub step_of : List Name → GraphPattern → Step
-step_of names = fold-GraphPattern Step GroupParts (step_level names) (group_level names)
 
 -- the pattern of a group
 abbrev pub group_pattern : List Name → Group → PatternNode
@@ -111,9 +107,9 @@ template_or_group names template None = pattern.Basic (basic_pattern names templ
 template_or_group names template (Some group) = group_pattern names group
 
 abbrev pub form_pattern : List Name → QueryForm → PatternNode
-form_pattern names (form.Select select) = group_pattern names select.pattern
-form_pattern names (form.Construct construct) = template_or_group names construct.template construct.pattern
-form_pattern names (form.Ask ask) = group_pattern names ask.pattern
+form_pattern names (form.Select s) = group_pattern names s.pattern
+form_pattern names (form.Construct c) = template_or_group names c.template c.pattern
+form_pattern names (form.Ask a) = group_pattern names a.pattern
 
 -- the trailing VALUES, if there is one (18.2.4.3)
 abbrev pub trailing_steps : List Name → Option InlineData → List Step
@@ -132,10 +128,10 @@ projection_steps names (projection.Items items) = flat_map (item_steps names) it
 -- the select expressions, from left to right
 abbrev pub selected_steps : List Name → QueryForm → List Step
 selected_steps names (form.Select select) = projection_steps names select.projection
-selected_steps names (form.Construct construct) = []
-selected_steps names (form.Ask ask) = []
+selected_steps names _ = []
 
--- what stands after a query's pattern: it is joined with the trailing VALUES, and then extended by the select expressions
+-- what stands after a query's pattern: it is joined with the trailing VALUES, and then extended by
+-- the select expressions
 abbrev pub behind : List Name → Query → List Step
 behind names query = trailing_steps names query.values ++ selected_steps names query.form
 
@@ -144,7 +140,9 @@ with_steps steps part = unfiltered (step.Join part ∷ steps)
 
 -- the pattern of a query, whose variables have the numbers of their places in its list
 abbrev pub query_pattern : Query → PatternNode
-query_pattern query = with_steps (behind (names_of query.variables) query) (form_pattern (names_of query.variables) query.form)
+query_pattern query =
+    with_steps (behind (names_of query.variables) query)
+    (form_pattern (names_of query.variables) query.form)
 
 -- a pattern with the names of its variables
 abbrev pub named : List Variable → PatternNode → Pattern
@@ -165,8 +163,10 @@ in_block names None part = part
 in_block names (Some graph) part = in_graph names graph part
 
 abbrev pub block_step : List Name → QuadBlock → Step
-block_step names b = step.Join (in_block names b.graph (pattern.Basic (basic_pattern names b.triples)))
+block_step vs b = step.Join (in_block vs b.graph (pattern.Basic (basic_pattern vs b.triples)))
 
--- the pattern of blocks of triples, each of the default graph or of the graph that it names, with the variables of its operation
+-- the pattern of blocks of triples, each of the default graph or of the graph that it names, with
+-- the variables of its operation
 abbrev pub translated_blocks : List Variable → List QuadBlock → Pattern
-translated_blocks variables blocks = named variables (unfiltered (map (block_step (names_of variables)) blocks))
+translated_blocks variables blocks =
+    named variables (unfiltered (map (block_step (names_of variables)) blocks))

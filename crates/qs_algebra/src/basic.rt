@@ -1,6 +1,6 @@
 //! Basic graph patterns (SPARQL 1.1 Query, 18.2.2.5).
 //!
-//! A slot or a path that equals that of the same place of the pattern before shares it. The pattern before takes no memory, where
+//! A slot that equals that of the same place of the pattern before shares it. The pattern before takes no memory, where
 //! a table of all terms would; the triples of one subject or verb are one after another. Those of brackets are between them:
 //! there a term is copied once more.
 
@@ -11,7 +11,6 @@ ghost use Rattle.qs_algebra_patterns.specs.declared.pattern.Slot.TheVariants as 
 ghost use Rattle.qs_terms.specs.declared.term.Term.TheVariants as value;
 
 use crate::hidden::{Hidden, hidden_of};
-use crate::path::shared;
 use qs_algebra_patterns::{BasicPattern, PathPattern, Slot, TriplePattern};
 use qs_base::{Shared, keep_beside};
 use qs_syntax_ast::path::Path;
@@ -110,11 +109,11 @@ fn triple_pattern<'a>(
     ensures { IfOk result (λ p. p ≡ spec.triple_pattern names.now hidden.now triple.now) }
 {
     let above = before.map(|pattern| &pattern.predicate);
-    let Some(predicate) = verb_slot(alloc, names, above, triple.verb.get())? else {
+    let Some(predicate) = verb_slot(alloc, names, above, &triple.verb)? else {
         return Ok(None);
     };
     let above = before.map(|pattern| &pattern.subject);
-    let subject = term_slot(alloc, names, hidden, above, triple.subject.get())?;
+    let subject = term_slot(alloc, names, hidden, above, &triple.subject)?;
     let above = before.map(|pattern| &pattern.object);
     let object = term_slot(alloc, names, hidden, above, &triple.object)?;
     Ok(Some(TriplePattern {
@@ -131,7 +130,8 @@ fn triple_patterns<'a>(
     hidden: &Hidden<'a>,
     triples: &'a [Triple],
 ) -> Result<Items<TriplePattern>, AllocError>
-    ensures { IfOk result (λ patterns. patterns ≡ filter_map (spec.triple_pattern names.now hidden.now) triples.now) }
+    ensures { IfOk result
+        (λ patterns. patterns ≡ filter_map (spec.triple_pattern names.now hidden.now) triples.now) }
 {
     let mut patterns = Items::new(alloc);
     for triple in triples {
@@ -143,22 +143,18 @@ fn triple_patterns<'a>(
     Ok(patterns)
 }
 
-/// The verb's path, which is shared with the one before it where that is the same.
-fn path_of(
-    alloc: Global,
-    before: Option<&Shared<Path>>,
-    verb: &Verb,
-) -> Result<Option<Shared<Path>>, AllocError>
+/// The verb's path, shared with the verb.
+fn path_of(verb: &Verb) -> Result<Option<Shared<Path>>, AllocError>
     ensures { IfOk result (λ path. path ≡ spec.path_of verb.now) }
 {
     match verb {
-        Verb::Path(path) => Ok(Some(shared(alloc, before, path)?)),
+        Verb::Path(path) => Ok(Some(path.share()?)),
         _ => Ok(None),
     }
 }
 
-/// The path pattern of a triple whose verb is a path. It shares its path and the terms of its ends with the one before it, where
-/// that has the same.
+/// The path pattern of a triple whose verb is a path. It shares the path with the verb, and the terms of its ends with the pattern
+/// before it, where that has the same.
 fn path_pattern<'a>(
     alloc: Global,
     names: &NameList<'a>,
@@ -168,12 +164,11 @@ fn path_pattern<'a>(
 ) -> Result<Option<PathPattern>, AllocError>
     ensures { IfOk result (λ p. p ≡ spec.path_pattern names.now hidden.now triple.now) }
 {
-    let above = before.map(|pattern| &pattern.path);
-    let Some(path) = path_of(alloc, above, triple.verb.get())? else {
+    let Some(path) = path_of(&triple.verb)? else {
         return Ok(None);
     };
     let above = before.map(|pattern| &pattern.subject);
-    let left = term_slot(alloc, names, hidden, above, triple.subject.get())?;
+    let left = term_slot(alloc, names, hidden, above, &triple.subject)?;
     let above = before.map(|pattern| &pattern.object);
     let right = term_slot(alloc, names, hidden, above, &triple.object)?;
     Ok(Some(PathPattern {
@@ -190,7 +185,8 @@ fn path_patterns<'a>(
     hidden: &Hidden<'a>,
     triples: &'a [Triple],
 ) -> Result<Items<PathPattern>, AllocError>
-    ensures { IfOk result (λ patterns. patterns ≡ filter_map (spec.path_pattern names.now hidden.now) triples.now) }
+    ensures { IfOk result
+        (λ patterns. patterns ≡ filter_map (spec.path_pattern names.now hidden.now) triples.now) }
 {
     let mut patterns = Items::new(alloc);
     for triple in triples {

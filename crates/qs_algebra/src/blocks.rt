@@ -62,7 +62,9 @@ fn blocks_pattern(
     variables: &[Variable],
     blocks: &[QuadBlock],
 ) -> Result<PatternNode, AllocError>
-    ensures { IfOk result (λ p. p ≡ spec.unfiltered (map (spec.block_step (first.names_of variables.now)) blocks.now)) }
+    ensures { IfOk result
+        (λ p. p ≡ spec.unfiltered
+        (map (spec.block_step (first.names_of variables.now)) blocks.now)) }
 {
     let names = number_names(alloc, variables)?;
     let steps = block_steps(alloc, &names, blocks)?;

@@ -4,8 +4,8 @@ ghost use Rattle.std.specs.Prelude.{◌≡◌, ◌==◌, ◌&&◌, IfOk};
 ghost use Rattle.std.specs.List.{list_any, list_all};
 ghost use Rattle.std.specs.Option.{is_some};
 ghost use Rattle.qs_algebra_solutions.specs.Solution.{term_at, binding};
-ghost use Rattle.qs_algebra.specs.Certain.{is_column};
-ghost use Rattle.qs_algebra.specs.Flags.{flags_from};
+ghost use Rattle.qs_algebra.specs.inner.Certain.{is_column};
+ghost use Rattle.qs_algebra.specs.inner.Flags.{flags_from};
 
 use crate::flags::{alike, both, flag};
 use qs_algebra_patterns::Table;
@@ -21,7 +21,8 @@ pub(crate) fn columns(
     width: usize,
     variables: &[usize],
 ) -> Result<Vec<bool>, AllocError>
-    ensures { IfOk result (λ flags. flags.items ≡ flags_from (λ v. list_any (λ w. w == v) variables.now) 0 width) }
+    ensures { IfOk result
+        (λ flags. flags.items ≡ flags_from (λ v. list_any (λ w. w == v) variables.now) 0 width) }
 {
     let mut flags = alike(alloc, width, false)?;
     for at in 0..variables.len() {
@@ -42,7 +43,8 @@ fn is_bound(row: &Row, variable: usize) -> bool
 /// The variables that the row binds.
 #[tactic(auto, using(crate::proofs::FlagLaws::flags_more))]
 fn bound_in(alloc: Global, width: usize, row: &Row) -> Result<Vec<bool>, AllocError>
-    ensures { IfOk result (λ flags. flags.items ≡ flags_from (λ v. is_some (term_at row.now v)) 0 width) }
+    ensures { IfOk result (λ flags. flags.items ≡ flags_from (λ v. is_some (term_at row.now v)) 0
+        width) }
 {
     let mut flags = Vec::new(alloc);
     for variable in 0..width {
@@ -58,7 +60,9 @@ fn bound_by(
     variables: &[usize],
     terms: &[Option<Term>],
 ) -> Result<Vec<bool>, AllocError>
-    ensures { IfOk result (λ flags. flags.items ≡ flags_from (λ v. is_some (term_at (binding width variables.now terms.now) v)) 0 width) }
+    ensures { IfOk result
+        (λ flags. flags.items ≡ flags_from
+        (λ v. is_some (term_at (binding width variables.now terms.now) v)) 0 width) }
 {
     let row = Row::binding(alloc, width, variables, terms)?;
     let flags = bound_in(alloc, width, &row)?;
@@ -72,7 +76,10 @@ fn bound_by_all(
     variables: &[usize],
     rows: &[Items<Option<Term>>],
 ) -> Result<Vec<bool>, AllocError>
-    ensures { IfOk result (λ flags. flags.items ≡ flags_from (λ v. list_all (λ row. is_some (term_at (binding width variables.now row) v)) rows.now) 0 width) }
+    ensures { IfOk result
+        (λ flags. flags.items ≡ flags_from
+        (λ v. list_all (λ row. is_some (term_at (binding width variables.now row) v)) rows.now)
+        0 width) }
 {
     let mut flags = alike(alloc, width, true)?;
     for row in rows {
@@ -88,7 +95,10 @@ pub(crate) fn certain_of_table(
     width: usize,
     table: &Table,
 ) -> Result<Vec<bool>, AllocError>
-    ensures { IfOk result (λ flags. flags.items ≡ flags_from (λ v. is_column table.now v && list_all (λ row. is_some (term_at (binding width table.now.variables row) v)) table.now.rows) 0 width) }
+    ensures { IfOk result
+        (λ flags. flags.items ≡ flags_from (λ v. is_column table.now v
+        && list_all (λ row. is_some (term_at (binding width table.now.variables row) v))
+        table.now.rows) 0 width) }
 {
     let variables = table.variables.as_slice();
     let columns = columns(alloc, width, variables)?;

@@ -2,8 +2,8 @@
 
 ghost use Rattle.std.specs.Prelude.{◌≡◌, length, IfOk};
 ghost use Rattle.std.specs.List.{list_any, list_all};
-ghost use Rattle.qs_algebra.specs.Flags.{flags_from};
-ghost use Rattle.qs_algebra.specs.Certain.{certain_in, is_certain, is_certain_step};
+ghost use Rattle.qs_algebra.specs.inner.Flags.{flags_from};
+ghost use Rattle.qs_algebra.specs.inner.Certain.{certain_in, is_certain, is_certain_step};
 
 use crate::bound_columns::certain_of_table;
 use crate::flags::{alike, both, either, flag};
@@ -18,7 +18,8 @@ use std::alloc::{AllocError, Global};
 /// # Errors
 /// `AllocError` where memory runs out.
 pub fn certain(alloc: Global, pattern: &Pattern) -> Result<Vec<bool>, AllocError>
-    ensures { IfOk result (λ flags. flags.items ≡ flags_from (certain_in pattern.now) 0 (length pattern.now.names)) }
+    ensures { IfOk result (λ flags. flags.items ≡ flags_from (certain_in pattern.now) 0
+        (length pattern.now.names)) }
 {
     certain_of_node(alloc, pattern.names.len(), &pattern.root)
 }
@@ -30,7 +31,8 @@ fn certain_of_node(
     width: usize,
     pattern: &PatternNode,
 ) -> Result<Vec<bool>, AllocError>
-    ensures { IfOk result (λ flags. flags.items ≡ flags_from (is_certain width pattern.now) 0 width) }
+    ensures { IfOk result (λ flags. flags.items ≡ flags_from (is_certain width pattern.now) 0
+        width) }
 {
     match pattern {
         PatternNode::Basic(basic) => {
@@ -64,7 +66,9 @@ fn certain_of_node(
 /// The variables that are certain in one of the steps.
 #[cycle(certain)]
 fn certain_in_steps(alloc: Global, width: usize, steps: &[Step]) -> Result<Vec<bool>, AllocError>
-    ensures { IfOk result (λ flags. flags.items ≡ flags_from (λ v. list_any (λ s. is_certain_step width s v) steps.now) 0 width) }
+    ensures { IfOk result
+        (λ flags. flags.items ≡ flags_from
+        (λ v. list_any (λ s. is_certain_step width s v) steps.now) 0 width) }
 {
     let mut flags = alike(alloc, width, false)?;
     for one in steps {
@@ -77,7 +81,8 @@ fn certain_in_steps(alloc: Global, width: usize, steps: &[Step]) -> Result<Vec<b
 /// The variables that the step makes certain.
 #[cycle(certain)]
 fn certain_of_step(alloc: Global, width: usize, one: &Step) -> Result<Vec<bool>, AllocError>
-    ensures { IfOk result (λ flags. flags.items ≡ flags_from (is_certain_step width one.now) 0 width) }
+    ensures { IfOk result (λ flags. flags.items ≡ flags_from (is_certain_step width one.now) 0
+        width) }
 {
     match one {
         Step::Join(part) => {
@@ -106,7 +111,9 @@ fn certain_in_every(
     width: usize,
     parts: &[PatternNode],
 ) -> Result<Vec<bool>, AllocError>
-    ensures { IfOk result (λ flags. flags.items ≡ flags_from (λ v. list_all (λ part. is_certain width part v) parts.now) 0 width) }
+    ensures { IfOk result
+        (λ flags. flags.items ≡ flags_from
+        (λ v. list_all (λ part. is_certain width part v) parts.now) 0 width) }
 {
     let mut flags = alike(alloc, width, true)?;
     for part in parts {

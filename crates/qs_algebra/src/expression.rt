@@ -2,6 +2,7 @@
 
 ghost use Rattle.std.specs.Prelude.{◌≡◌, map, IfOk};
 ghost use Rattle.qs_algebra.specs.Expressions as spec;
+ghost use Rattle.qs_algebra.specs.inner.Expressions as inner_spec;
 
 use crate::operator::{binary_function, comparison, sign, unary_function};
 use qs_base::keep_beside;
@@ -130,7 +131,7 @@ fn addends_of<'a>(
     names: &NameList<'a>,
     written: &'a [WrittenAddend],
 ) -> Result<Items<Addend>, AllocError>
-    ensures { IfOk result (λ addends. addends ≡ map (spec.addend_of names.now) written.now) }
+    ensures { IfOk result (λ addends. addends ≡ map (inner_spec.addend_of names.now) written.now) }
 {
     let mut addends = Items::new(alloc);
     for addend in written {

@@ -1,7 +1,7 @@
 //! Flags at the numbers of variables.
 
 ghost use Rattle.std.specs.Prelude.{◌≡◌, ◌||◌, ◌&&◌, true, slice_set, IfOk};
-ghost use Rattle.qs_algebra.specs.Flags.{flags_from};
+ghost use Rattle.qs_algebra.specs.inner.Flags.{flags_from};
 ghost use Rattle.qs_algebra.specs.inner.Flags.{flag_at};
 
 use std::alloc::{AllocError, Global};
@@ -45,7 +45,9 @@ pub(crate) fn either(
     left: &[bool],
     right: &[bool],
 ) -> Result<Vec<bool>, AllocError>
-    ensures { IfOk result (λ flags. flags.items ≡ flags_from (λ v. flag_at left.now v || flag_at right.now v) 0 width) }
+    ensures { IfOk result
+        (λ flags. flags.items ≡ flags_from (λ v. flag_at left.now v || flag_at right.now v) 0
+        width) }
 {
     let mut flags = Vec::new(alloc);
     for variable in 0..width {
@@ -64,7 +66,9 @@ pub(crate) fn both(
     left: &[bool],
     right: &[bool],
 ) -> Result<Vec<bool>, AllocError>
-    ensures { IfOk result (λ flags. flags.items ≡ flags_from (λ v. flag_at left.now v && flag_at right.now v) 0 width) }
+    ensures { IfOk result
+        (λ flags. flags.items ≡ flags_from (λ v. flag_at left.now v && flag_at right.now v) 0
+        width) }
 {
     let mut flags = Vec::new(alloc);
     for variable in 0..width {

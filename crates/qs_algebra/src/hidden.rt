@@ -112,7 +112,7 @@ impl<'a> Hidden<'a> {
     pub fn add_triple(&mut self, triple: &'a Triple) -> Result<(), AllocError>
         ensures { OnOk result (self.new ≡ spec.add_triple self.old triple.now) }
     {
-        self.add_term(triple.subject.get())?;
+        self.add_term(&triple.subject)?;
         self.add_term(&triple.object)
     }
 

@@ -12,7 +12,6 @@ mod hidden;
 mod mentioned;
 mod operator;
 mod parts;
-mod path;
 mod pattern;
 mod possible_variables;
 mod query;

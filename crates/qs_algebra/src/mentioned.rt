@@ -1,8 +1,9 @@
 //! The variables that stand in a basic graph pattern.
 
 ghost use Rattle.std.specs.Prelude.{◌≡◌, IfOk};
-ghost use Rattle.qs_algebra_patterns.specs.Basic.{mentions, is_end, occurs};
-ghost use Rattle.qs_algebra.specs.Flags.{flags_from};
+ghost use Rattle.qs_algebra_patterns.specs.Basic.{mentions};
+ghost use Rattle.qs_algebra_patterns.specs.inner.Basic.{is_end, occurs};
+ghost use Rattle.qs_algebra.specs.inner.Flags.{flags_from};
 ghost use Rattle.qs_algebra.specs.inner.Flags.{with_slot, with_triple, with_ends};
 
 use crate::flags::{alike, either, flag};

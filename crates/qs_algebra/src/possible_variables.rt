@@ -5,8 +5,8 @@
 
 ghost use Rattle.std.specs.Prelude.{◌≡◌, length, IfOk};
 ghost use Rattle.std.specs.List.{list_any};
-ghost use Rattle.qs_algebra.specs.Flags.{flags_from};
-ghost use Rattle.qs_algebra.specs.Possible.{is_possible, is_possible_step, possible_in};
+ghost use Rattle.qs_algebra.specs.inner.Flags.{flags_from};
+ghost use Rattle.qs_algebra.specs.inner.Possible.{is_possible, is_possible_step, possible_in};
 
 use crate::bound_columns::columns;
 use crate::flags::{alike, either, flag};
@@ -19,7 +19,8 @@ use std::alloc::{AllocError, Global};
 /// # Errors
 /// `AllocError` where memory runs out.
 pub fn possible(alloc: Global, pattern: &Pattern) -> Result<Vec<bool>, AllocError>
-    ensures { IfOk result (λ flags. flags.items ≡ flags_from (possible_in pattern.now) 0 (length pattern.now.names)) }
+    ensures { IfOk result (λ flags. flags.items ≡ flags_from (possible_in pattern.now) 0
+        (length pattern.now.names)) }
 {
     possible_of_node(alloc, pattern.names.len(), &pattern.root)
 }
@@ -31,7 +32,8 @@ fn possible_of_node(
     width: usize,
     pattern: &PatternNode,
 ) -> Result<Vec<bool>, AllocError>
-    ensures { IfOk result (λ flags. flags.items ≡ flags_from (is_possible width pattern.now) 0 width) }
+    ensures { IfOk result (λ flags. flags.items ≡ flags_from (is_possible width pattern.now) 0
+        width) }
 {
     match pattern {
         PatternNode::Basic(basic) => {
@@ -65,7 +67,9 @@ fn possible_of_node(
 /// The variables that are possible in one of the steps.
 #[cycle(possible)]
 fn possible_in_steps(alloc: Global, width: usize, steps: &[Step]) -> Result<Vec<bool>, AllocError>
-    ensures { IfOk result (λ flags. flags.items ≡ flags_from (λ v. list_any (λ s. is_possible_step width s v) steps.now) 0 width) }
+    ensures { IfOk result
+        (λ flags. flags.items ≡ flags_from
+        (λ v. list_any (λ s. is_possible_step width s v) steps.now) 0 width) }
 {
     let mut flags = alike(alloc, width, false)?;
     for one in steps {
@@ -78,7 +82,8 @@ fn possible_in_steps(alloc: Global, width: usize, steps: &[Step]) -> Result<Vec<
 /// The variables that the step may bind.
 #[cycle(possible)]
 fn possible_of_step(alloc: Global, width: usize, one: &Step) -> Result<Vec<bool>, AllocError>
-    ensures { IfOk result (λ flags. flags.items ≡ flags_from (is_possible_step width one.now) 0 width) }
+    ensures { IfOk result (λ flags. flags.items ≡ flags_from (is_possible_step width one.now) 0
+        width) }
 {
     match one {
         Step::Join(part) => {
@@ -108,7 +113,9 @@ fn possible_in_some(
     width: usize,
     parts: &[PatternNode],
 ) -> Result<Vec<bool>, AllocError>
-    ensures { IfOk result (λ flags. flags.items ≡ flags_from (λ v. list_any (λ part. is_possible width part v) parts.now) 0 width) }
+    ensures { IfOk result
+        (λ flags. flags.items ≡ flags_from
+        (λ v. list_any (λ part. is_possible width part v) parts.now) 0 width) }
 {
     let mut flags = alike(alloc, width, false)?;
     for part in parts {

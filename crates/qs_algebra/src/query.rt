@@ -7,7 +7,7 @@ ghost use Rattle.std.specs.List.{flat_map};
 ghost use Rattle.std.specs.Prelude.{◌≡◌, ◌++◌, IfOk, IfErr, OnOk};
 ghost use Rattle.qs_terms.specs.declared.fault.QFault.TheVariants.{Memory};
 ghost use Rattle.qs_syntax_scope.specs.Firsts as first;
-ghost use Rattle.qs_syntax_scope.specs.VariablesIn.{group_variables};
+ghost use Rattle.qs_syntax_scope.specs.inner.VariablesIn.{group_variables};
 ghost use Rattle.qs_algebra.specs.Translation as spec;
 
 use crate::basic::basic_pattern;
@@ -29,7 +29,8 @@ fn construct_pattern<'a>(
     names: &NameList<'a>,
     construct: &'a Construct,
 ) -> Result<PatternNode, AllocError>
-    ensures { IfOk result (λ p. p ≡ spec.template_or_group names.now construct.now.template construct.now.pattern) }
+    ensures { IfOk result (λ p. p ≡ spec.template_or_group names.now construct.now.template
+        construct.now.pattern) }
 {
     match &construct.pattern {
         None => {
@@ -96,7 +97,8 @@ fn put_items<'a>(
     items: &'a [SelectItem],
     steps: &mut Items<Step>,
 ) -> Result<(), AllocError>
-    ensures { OnOk result (steps.new ≡ steps.old ++ flat_map (spec.item_steps names.now) items.now) }
+    ensures { OnOk result (steps.new ≡ steps.old ++ flat_map (spec.item_steps names.now)
+        items.now) }
 {
     for item in items {
         put_item(alloc, names, item, steps)?;
@@ -207,7 +209,8 @@ fn where_pattern(
 /// # Errors
 /// `QFault::Memory` where memory runs out; no other fault.
 pub fn translate_where(alloc: Global, group: &Group) -> Result<Pattern, QFault>
-    ensures pattern { IfOk result (λ p. p ≡ spec.translated_where (group_variables group.now) group.now) }
+    ensures pattern { IfOk result (λ p. p ≡ spec.translated_where (group_variables group.now)
+        group.now) }
     ensures memory { IfErr result (λ fault. fault ≡ Memory) }
 {
     let variables = group_variables(alloc, group)?;

@@ -2,6 +2,7 @@
 
 ghost use Rattle.std.specs.Prelude.{◌≡◌, map, IfOk};
 ghost use Rattle.qs_algebra.specs.Translation as spec;
+ghost use Rattle.qs_algebra.specs.inner.Translation as inner;
 
 use crate::basic::basic_pattern;
 use crate::expression::{expr_of, exprs_of};
@@ -127,7 +128,7 @@ fn steps<'a>(
     names: &NameList<'a>,
     patterns: &'a [GraphPattern],
 ) -> Result<Items<Step>, AllocError>
-    ensures { IfOk result (λ steps. steps ≡ map (spec.step_of names.now) patterns.now) }
+    ensures { IfOk result (λ steps. steps ≡ map (inner.step_of names.now) patterns.now) }
 {
     let mut steps = Items::new(alloc);
     for pattern in patterns {
@@ -143,7 +144,7 @@ fn step<'a>(
     names: &NameList<'a>,
     pattern: &'a GraphPattern,
 ) -> Result<Step, AllocError>
-    ensures { IfOk result (λ step. step ≡ spec.step_of names.now pattern.now) }
+    ensures { IfOk result (λ step. step ≡ inner.step_of names.now pattern.now) }
 {
     match pattern {
         GraphPattern::Triples(triples) => {

@@ -1,8 +1,11 @@
--- The solutions of a basic graph pattern (SPARQL 1.1 Query, 18.3.1): the maps that put each of its triples into the graph, each once. They
--- map the variables of the triples, hidden ones too, to terms of the graph. They are joined with the solutions of each of its paths (18.4).
--- Hidden variables are then taken away, and counts stay. No map binds a variable past the last, so a basic graph pattern of it has no
--- solutions. At the end of a path and as the name of a GRAPH such a variable stays unbound.
-use Rattle.std.specs.Prelude.{ℕ, zero, suc, ◌+◌, Bool, false, not, ◌||◌, ◌==◌, List, [], ◌∷◌, map, take, Option, Some, None, if◌then◌else◌, slice_set}
+-- The solutions of a basic graph pattern (SPARQL 1.1 Query, 18.3.1): the maps that put each of its
+-- triples into the graph, each once. They map the variables of the triples, hidden ones too, to
+-- terms of the graph. They are joined with the solutions of each of its paths (18.4). Hidden
+-- variables are then taken away, and counts stay. No map binds a variable past the last, so a basic
+-- graph pattern of it has no solutions. At the end of a path and as the name of a GRAPH such a
+-- variable stays unbound.
+use Rattle.std.specs.Prelude.{ℕ, zero, suc, ◌+◌, Bool, false, not, ◌||◌, ◌==◌, List, [], ◌∷◌, map}
+use Rattle.std.specs.Prelude.{take, Option, Some, None, if◌then◌else◌, slice_set}
 use Rattle.std.specs.List.{filter, flat_map, fold, list_any, list_all}
 use Rattle.qs_terms.specs.declared.term.Term.{Term}
 use Rattle.qs_terms.specs.Bag.{once}
@@ -49,7 +52,9 @@ is_variable (slot.Variable w) v = w == v
 -- the variable stands in a triple pattern
 abbrev pub mentions : List TriplePattern → ℕ → Bool
 mentions [] v = false
-mentions (p ∷ ps) v = is_variable p.subject v || (is_variable p.predicate v || (is_variable p.object v || mentions ps v))
+mentions (p ∷ ps) v =
+    is_variable p.subject v
+    || (is_variable p.predicate v || (is_variable p.object v || mentions ps v))
 
 abbrev pub terms_of_triple : Triple → List Term
 terms_of_triple t = t.subject ∷ t.predicate ∷ t.object ∷ []
@@ -62,12 +67,13 @@ terms_of graph = once same_term (flat_map terms_of_triple graph)
 abbrev pub all_maps : (ℕ → Bool) → List Term → ℕ → ℕ → List Solution
 all_maps is_bound terms v zero = [] ∷ []
 all_maps is_bound terms v (suc n) =
-    if is_bound v then flat_map (λ t. map (λ m. Some t ∷ m) (all_maps is_bound terms (v + 1) n)) terms
+    if is_bound v then flat_map (λ t. map (λ m. Some t ∷ m) (all_maps is_bound terms (v + 1) n))
+    terms
     else map (λ m. None ∷ m) (all_maps is_bound terms (v + 1) n)
 
 -- the maps of n variables that put the triples into the graph
 abbrev pub matches : ℕ → List TriplePattern → Graph → List Solution
-matches n triples graph = filter (puts_into graph triples) (all_maps (mentions triples) (terms_of graph) 0 n)
+matches n ts g = filter (puts_into g ts) (all_maps (mentions ts) (terms_of g) 0 n)
 
 -- ---- paths
 
@@ -96,25 +102,17 @@ ends_bound n p e = with_term p.object e.right (with_term p.subject e.left (unbou
 
 -- the solutions of n variables of a path pattern: one for each pair of its path
 abbrev pub path_solutions : ℕ → Graph → PathPattern → List Solution
-path_solutions n graph p = map (ends_bound n p) (filter (fits p) (pairs graph p.path (end_of p.subject) (end_of p.object)))
+path_solutions n graph p =
+    map (ends_bound n p) (filter (fits p) (pairs graph p.path (end_of p.subject) (end_of p.object)))
 
 -- these solutions, joined with those of one path pattern after another
 abbrev pub with_paths : ℕ → Graph → List PathPattern → List Solution → List Solution
 with_paths n graph paths left = fold (λ found p. join found (path_solutions n graph p)) left paths
-
--- the variable stands at an end of a path pattern
-abbrev pub is_end : List PathPattern → ℕ → Bool
-is_end [] v = false
-is_end (p ∷ ps) v = is_variable p.subject v || (is_variable p.object v || is_end ps v)
-
--- the variable stands in the basic graph pattern
-abbrev pub occurs : BasicPattern → ℕ → Bool
-occurs pattern v = mentions pattern.triples v || is_end pattern.paths v
 
 -- ---- both
 
 -- the solutions of a basic graph pattern, of `width` named variables
 abbrev pub basic : ℕ → BasicPattern → Graph → List Solution
 basic width pattern graph =
-    map (take width)
-    (with_paths (width + pattern.hidden) graph pattern.paths (matches (width + pattern.hidden) pattern.triples graph))
+    map (take width) (with_paths (width + pattern.hidden) graph pattern.paths
+    (matches (width + pattern.hidden) pattern.triples graph))

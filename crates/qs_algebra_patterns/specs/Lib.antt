@@ -1,2 +1,3 @@
 pub mod Basic
 pub mod Eval
+pub mod inner

@@ -1,5 +1,7 @@
--- Solution mappings (SPARQL 1.1 Query, 18.1.8 and 18.3): at each variable's number its term, or none where it is not bound.
-use Rattle.std.specs.Prelude.{ℕ, zero, suc, Bool, true, false, ◌&&◌, ◌||◌, List, [], ◌∷◌, Option, Some, None, slice_index_or, slice_set, map}
+-- Solution mappings (SPARQL 1.1 Query, 18.1.8 and 18.3): at each variable's number its term, or
+-- none where it is not bound.
+use Rattle.std.specs.Prelude.{ℕ, zero, suc, Bool, true, false, ◌&&◌, ◌||◌, List, [], ◌∷◌, Option}
+use Rattle.std.specs.Prelude.{Some, None, slice_index_or, slice_set, map}
 use Rattle.qs_terms.specs.declared.term.Term.{Term}
 use Rattle.qs_terms.specs.Term.{same_term}
 
@@ -19,26 +21,24 @@ abbrev pub unbound : ℕ → Solution
 unbound zero = []
 unbound (suc n) = None ∷ unbound n
 
--- a with these variables bound to these terms, one after another; a variable past the last stays unbound
+-- a with these variables bound to these terms, one after another; a variable past the last stays
+-- unbound
 abbrev pub bind_all : Solution → List ℕ → List (Option Term) → Solution
-bind_all a [] terms = a
-bind_all a (v ∷ vs) [] = a
 bind_all a (v ∷ vs) (t ∷ terms) = bind_all (slice_set a v t) vs terms
+bind_all a _ _ = a
 
 -- n variables, of which these are bound to these terms, and no other
 abbrev pub binding : ℕ → List ℕ → List (Option Term) → Solution
 binding n vs terms = bind_all (unbound n) vs terms
 
 abbrev pub compatible_terms : Option Term → Option Term → Bool
-compatible_terms None y = true
-compatible_terms (Some x) None = true
 compatible_terms (Some x) (Some y) = same_term x y
+compatible_terms _ _ = true
 
 -- each variable bound in both has the same term; so the integers `"01"` and `"1"` don't meet
 abbrev pub compatible : Solution → Solution → Bool
-compatible [] b = true
-compatible (x ∷ a) [] = true
 compatible (x ∷ a) (y ∷ b) = compatible_terms x y && compatible a b
+compatible _ _ = true
 
 abbrev pub first_bound : Option Term → Option Term → Option Term
 first_bound None y = y
@@ -51,25 +51,21 @@ merge (x ∷ a) [] = x ∷ a
 merge (x ∷ a) (y ∷ b) = first_bound x y ∷ merge a b
 
 abbrev pub both_bound : Option Term → Option Term → Bool
-both_bound None y = false
-both_bound (Some x) None = false
 both_bound (Some x) (Some y) = true
+both_bound _ _ = false
 
 -- some variable is bound in both
 abbrev pub share : Solution → Solution → Bool
-share [] b = false
-share (x ∷ a) [] = false
 share (x ∷ a) (y ∷ b) = both_bound x y || share a b
+share _ _ = false
 
 abbrev pub same_cell : Option Term → Option Term → Bool
 same_cell None None = true
-same_cell None (Some y) = false
-same_cell (Some x) None = false
 same_cell (Some x) (Some y) = same_term x y
+same_cell _ _ = false
 
 -- the same term at each variable
 abbrev pub same_solution : Solution → Solution → Bool
 same_solution [] [] = true
-same_solution [] (y ∷ b) = false
-same_solution (x ∷ a) [] = false
 same_solution (x ∷ a) (y ∷ b) = same_cell x y && same_solution a b
+same_solution _ _ = false

@@ -18,12 +18,14 @@ use Rattle.qs_algebra_patterns.specs.declared.pattern.Step.TheVariants.{Join, Le
 use Rattle.qs_algebra_patterns.specs.declared.pattern.PatternNode.{PatternNode, map-PatternNode, roll-PatternNode, ind-PatternNode}
 use Rattle.qs_algebra_patterns.specs.declared.pattern.PatternNode.TheOpen as level
 use Rattle.qs_algebra_patterns.specs.declared.pattern.PatternNode.TheVariants.{Basic, Values, rolls-Basic, rolls-Group, rolls-Union, rolls-Graph, rolls-EachGraph, rolls-Values}
-use Rattle.qs_algebra_patterns.specs.Basic.{Graph as Triples, mentions, puts_into, terms_of, all_maps, matches, is_end, occurs, with_paths}
-use Rattle.qs_algebra_patterns.specs.Eval.{eval, step, all_hold, extended, in_each, rows_of}
+use Rattle.qs_algebra_patterns.specs.Basic.{Graph as Triples, mentions, puts_into, terms_of, all_maps, matches, with_paths}
+use Rattle.qs_algebra_patterns.specs.inner.Basic.{is_end, occurs}
+use Rattle.qs_algebra_patterns.specs.Eval.{eval, all_hold, extended, in_each, rows_of}
+use Rattle.qs_algebra_patterns.specs.inner.Eval.{step}
 use Rattle.qs_algebra_patterns.proofs.Meaning.{eval_basic, eval_group, eval_union, eval_graph, eval_each_graph, eval_values, step_join, step_left_join, step_minus, step_extend}
 use Rattle.qs_expr_meaning.specs.Meaning.{meaning}
-use Rattle.qs_algebra.specs.Certain.{is_certain, is_certain_step, is_column, is_set}
-use Rattle.qs_algebra.specs.Possible.{is_possible, is_possible_step}
+use Rattle.qs_algebra.specs.inner.Certain.{is_certain, is_certain_step, is_column, is_set}
+use Rattle.qs_algebra.specs.inner.Possible.{is_possible, is_possible_step}
 use Rattle.qs_algebra.proofs.Variants.{certain_basic, certain_group, certain_union, certain_graph, certain_each_graph, certain_values, certain_join, certain_left_join, certain_minus, certain_extend, possible_basic, possible_group, possible_union, possible_graph, possible_each_graph, possible_values, possible_join, possible_left_join, possible_extend}
 use Rattle.qs_algebra_variables.proofs.BoundCells.{Bound, Unbound, each_append, each_of, each_filter, each_map, join_left, join_right, join_neither, left_join_left, left_join_neither, minus_each, unbound_at, maps_bind, maps_leave, take_bound, take_unbound, take_past}
 use Rattle.qs_algebra_variables.proofs.PathCells.{still_bound as paths_keep, paths_bind, paths_leave}

@@ -24,9 +24,10 @@ use Rattle.qs_algebra_patterns.specs.declared.pattern.Step.{Step, map-Step, out-
 use Rattle.qs_algebra.specs.Basic.{basic_pattern}
 use Rattle.qs_algebra.specs.Expressions.{expr_of}
 use Rattle.qs_algebra.specs.Numbers.{hidden_of}
-use Rattle.qs_algebra.specs.Translation.{one_or_union, in_graph, number_of, table_of, alone, unfiltered, filtered, closed, step_level, group_level, group_parts, step_of, group_pattern}
+use Rattle.qs_algebra.specs.Translation.{one_or_union, in_graph, number_of, table_of, alone, unfiltered, filtered, closed, step_level, group_level, group_parts, group_pattern}
+use Rattle.qs_algebra.specs.inner.Translation.{step_of}
 use Rattle.qs_algebra.specs.declared.parts.GroupParts.{GroupParts}
-use Rattle.qs_algebra.specs.Possible.{is_possible, is_possible_step, is_possible_level, is_possible_step_level}
+use Rattle.qs_algebra.specs.inner.Possible.{is_possible, is_possible_step, is_possible_level, is_possible_step_level}
 use Rattle.qs_algebra_variables.proofs.Numbers.{or_false, number_is, basic_is, columns_are}
 use Rattle.qs_algebra.proofs.Variants.{possible_basic, possible_group, possible_union, possible_graph, possible_each_graph, possible_values, possible_join, possible_left_join, possible_minus, possible_extend}
 

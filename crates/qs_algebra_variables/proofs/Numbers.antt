@@ -16,7 +16,8 @@ use Rattle.qs_syntax_ast.specs.declared.term.Variable.{Variable}
 use Rattle.qs_syntax_scope.specs.Names.{Name, contains}
 use Rattle.qs_syntax_scope.specs.Places.{place_of}
 use Rattle.qs_syntax_scope.specs.Variables.{term_variables, verb_variables, triple_variables}
-use Rattle.qs_algebra_patterns.specs.Basic.{is_variable, mentions, is_end, occurs}
+use Rattle.qs_algebra_patterns.specs.Basic.{is_variable, mentions}
+use Rattle.qs_algebra_patterns.specs.inner.Basic.{is_end, occurs}
 use Rattle.qs_algebra.specs.Basic.{term_slot, verb_slot, path_of, triple_between, path_between, triple_pattern, path_pattern, basic_of}
 use Rattle.qs_algebra.specs.Numbers.{hidden_number}
 use Rattle.qs_algebra.specs.Translation.{number_of}

@@ -9,7 +9,8 @@ use Rattle.qs_algebra_solutions.specs.Solution.{Solution, term_at, unbound}
 use Rattle.qs_algebra_patterns.specs.declared.pattern.Slot.{Slot}
 use Rattle.qs_algebra_patterns.specs.declared.pattern.Slot.TheVariants as slot
 use Rattle.qs_algebra_patterns.specs.declared.pattern.PathPattern.{PathPattern}
-use Rattle.qs_algebra_patterns.specs.Basic.{Graph, is_variable, end_of, fits, with_term, ends_bound, path_solutions, with_paths, is_end}
+use Rattle.qs_algebra_patterns.specs.Basic.{Graph, is_variable, end_of, fits, with_term, ends_bound, path_solutions, with_paths}
+use Rattle.qs_algebra_patterns.specs.inner.Basic.{is_end}
 use Rattle.qs_algebra_variables.proofs.BoundCells.{Bound, Unbound, unbound_at, each_of, each_map, join_left, join_right, join_neither}
 use Rattle.qs_algebra_variables.proofs.SetCells.{set_other, other_number, same_number, still_set, set_length, unbound_length}
 

@@ -1,2 +1,1 @@
-pub mod Hashed
-pub mod Lent
+pub mod inner

@@ -7,7 +7,7 @@
 ghost use Rattle.std.specs.Prelude.{◌≡◌, nat_eq, refl, Some};
 ghost use Rattle.std.specs.Ordering.{nat_cmp, on, ordering_then, then_cmp, eq_of_both};
 ghost use Rattle.std.specs.Cmp.{partial_equiv_from_equiv, nat_eq_equiv, nat_cmp_total, on_per, on_equiv, on_total, and_per, and_equiv, then_total, both_tied, unsigned_ties, partial_order_from_agreeing_total};
-ghost use Rattle.qs_base.specs.Hashed.{hash_of};
+ghost use Rattle.qs_base.specs.inner.Hashed.{hash_of};
 
 use std::cmp::Ordering;
 use std::hash::{FoldHasher, Hash, Hasher};
@@ -22,7 +22,7 @@ pub struct Hashed<T: Hash> {
 
 impl<T: Hash> Model for Hashed<T> {
     ghost use Rattle.std.specs.Prelude.{◌≡◌};
-    ghost use Rattle.qs_base.specs.Hashed.{hash_of};
+    ghost use Rattle.qs_base.specs.inner.Hashed.{hash_of};
 
     ghost Value = { T };
 
@@ -34,7 +34,7 @@ impl<T: Hash> Model for Hashed<T> {
 }
 
 /// The hash of a value. It takes in no secret: who chooses values may choose some with equal hashes.
-#[tactic(auto, unfolding(crate::specs::Hashed::hash_of))]
+#[tactic(auto, unfolding(crate::specs::inner::Hashed::hash_of))]
 pub fn hash_of<T: Hash>(value: &T) -> u64
     ensures { result ≡ hash_of (T.hash_input value.now) }
 {

@@ -10,7 +10,7 @@ use Rattle.qs_terms.specs.Term.{same_term}
 use Rattle.qs_terms.specs.declared.term.Term.{Term}
 use Rattle.qs_terms.specs.contracts.term.TermPartialEq.TheImpl as equ
 use Rattle.qs_terms.proofs.SameTerm.{same_term-Decides, eq_is}
-use Rattle.qs_dict.specs.Dict.{term_at, number_of, KeepsNumbers}
+use Rattle.qs_dict.specs.inner.Dict.{term_at, number_of, KeepsNumbers}
 use Rattle.qs_dict.proofs.Places.{slice_get-front, slice_get-take, any_at_place, Distinct-keys, slice_get-position, position-slice_get}
 
 -- the set's test of its keys

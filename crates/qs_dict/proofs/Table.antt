@@ -11,7 +11,7 @@ use Rattle.qs_terms.specs.contracts.term.TermPartialEq.TheImpl as equ
 use Rattle.qs_terms.proofs.SameTerm.{same_term-Decides, eq_is}
 use Rattle.qs_expr_values.specs.declared.term_value.TermValue.{TermValue}
 use Rattle.qs_expr_values.specs.inner.TermValue.{term_value}
-use Rattle.qs_dict.specs.Dict.{term_at}
+use Rattle.qs_dict.specs.inner.Dict.{term_at}
 
 is_lacking : (is_new there : Bool) → is_new ≡ true → is_new ≡ not there → there ≡ false
 is_lacking is_new true n e = cc

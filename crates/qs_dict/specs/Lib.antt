@@ -1,1 +1,1 @@
-pub mod Dict
+pub mod inner

@@ -9,7 +9,7 @@ ghost use Rattle.qs_terms.specs.Bag.{with_new};
 ghost use Rattle.qs_terms.specs.Term.{same_term};
 ghost use Rattle.qs_expr_values.specs.inner.TermValue.{term_value};
 ghost use Rattle.qs_dict.specs.declared.fault.DictFault.TheVariants.{Full, Memory};
-ghost use Rattle.qs_dict.specs.Dict.{IsDictionary, IsInUse, KeepsNumbers, term_at, number_of};
+ghost use Rattle.qs_dict.specs.inner.Dict.{IsDictionary, IsInUse, KeepsNumbers, term_at, number_of};
 
 use crate::fault::DictFault;
 use crate::number_cache::NumberCache;
@@ -34,7 +34,7 @@ pub struct Dict {
 impl Model for Dict {
     ghost use Rattle.std.specs.Prelude.{◌≡◌, map};
     ghost use Rattle.qs_expr_values.specs.inner.TermValue.{term_value};
-    ghost use Rattle.qs_dict.specs.Dict.{Dictionary, IsDictionary};
+    ghost use Rattle.qs_dict.specs.inner.Dict.{Dictionary, IsDictionary};
 
     ghost Value = { Dictionary };
 
@@ -127,7 +127,8 @@ impl Dict {
     fn known(&self, term: &Term, fault: DictFault) -> Result<u32, DictFault>
         ensures known { IfOk result (λ n. number_of self.now.terms term.now ≡ Some n) }
         ensures same { OnOk result (self.now.terms ≡ with_new same_term self.now.terms term.now) }
-        ensures absent { IfErr result (λ f. (f ≡ fault) × (number_of self.now.terms term.now ≡ None)) }
+        ensures absent { IfErr result
+            (λ f. (f ≡ fault) × (number_of self.now.terms term.now ≡ None)) }
         ensures lawful { IsDictionary self.now }
     {
         let _count = self.len();
@@ -145,7 +146,8 @@ impl Dict {
         ensures limit { self.new.limit ≡ self.old.limit }
         ensures lawful { IsDictionary self.new }
         ensures refused { OnErr result (self.new ≡ self.old) }
-        ensures present { (n : ℕ) → number_of self.old.terms term ≡ Some n → (result ≡ Ok n) × (self.new ≡ self.old) }
+        ensures present { (n : ℕ) → number_of self.old.terms term ≡ Some n → (result ≡ Ok n)
+            × (self.new ≡ self.old) }
         ensures memory { IfErr result (λ fault. fault ≡ Memory) }
         ensures kept { KeepsNumbers (length self.old.terms) self.old.terms self.new.terms }
     {
@@ -160,8 +162,11 @@ impl Dict {
         ensures limit { self.new.limit ≡ self.old.limit }
         ensures lawful { IsDictionary self.new }
         ensures refused { OnErr result (self.new ≡ self.old) }
-        ensures present { (n : ℕ) → number_of self.old.terms term.now ≡ Some n → (result ≡ Ok n) × (self.new ≡ self.old) }
-        ensures full { (result ≡ Err Full) ↔ ((number_of self.old.terms term.now ≡ None) × (length self.old.terms ≡ self.old.limit)) }
+        ensures present { (n : ℕ) → number_of self.old.terms term.now ≡ Some n → (result ≡ Ok n)
+            × (self.new ≡ self.old) }
+        ensures full { (result ≡ Err Full)
+            ↔ ((number_of self.old.terms term.now ≡ None)
+            × (length self.old.terms ≡ self.old.limit)) }
         ensures kept { KeepsNumbers (length self.old.terms) self.old.terms self.new.terms }
     {
         let len = self.len();
@@ -184,8 +189,11 @@ impl Dict {
         ensures refused { OnErr result (self.new ≡ self.old) }
 
         // A term that is there is never refused, and a new one is `Full` exactly where the limit is reached.
-        ensures present { (n : ℕ) → number_of self.old.terms term.now ≡ Some n → (result ≡ Ok n) × (self.new ≡ self.old) }
-        ensures full { (result ≡ Err Full) ↔ ((number_of self.old.terms term.now ≡ None) × (length self.old.terms ≡ self.old.limit)) }
+        ensures present { (n : ℕ) → number_of self.old.terms term.now ≡ Some n → (result ≡ Ok n)
+            × (self.new ≡ self.old) }
+        ensures full { (result ≡ Err Full)
+            ↔ ((number_of self.old.terms term.now ≡ None)
+            × (length self.old.terms ≡ self.old.limit)) }
         ensures kept { KeepsNumbers (length self.old.terms) self.old.terms self.new.terms }
     {
         if let Some(number) = self.recent(term) {

@@ -5,7 +5,7 @@ ghost use Rattle.std.specs.Option.{option_map};
 ghost use Rattle.qs_terms.specs.Bag.{Distinct, with_new};
 ghost use Rattle.qs_terms.specs.Term.{same_term};
 ghost use Rattle.qs_expr_values.specs.inner.TermValue.{term_value};
-ghost use Rattle.qs_dict.specs.Dict.{number_of};
+ghost use Rattle.qs_dict.specs.inner.Dict.{number_of};
 ghost use Rattle.qs_dict.specs.declared.fault.DictFault.TheVariants.{Memory};
 
 use crate::fault::DictFault;

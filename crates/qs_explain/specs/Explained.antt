@@ -1,5 +1,5 @@
--- What the explanation of a text results in: the fault that its query or its update has for the text, or some explanation. No more is said
--- of an explanation than that it is a text.
+-- What the explanation of a text results in: the fault that its query or its update has for the
+-- text, or some explanation. No more is said of an explanation than that it is a text.
 use Rattle.std.specs.Prelude.{◌≡◌, ℕ, List, Ok, Err}
 use Rattle.qs_terms.specs.Outcome.{Outcome}
 use Rattle.qs_syntax_ast.specs.declared.query.Query.{Query}
@@ -14,8 +14,10 @@ IsExplanationOf (Err f) outcome = outcome ≡ Err f
 
 -- the text is a query's
 abbrev pub IsExplainedQuery : List ℕ → Outcome (List ℕ) → Type 0
-IsExplainedQuery text outcome = (parsed : Outcome Query) × IsQueryOutcome text parsed × IsExplanationOf parsed outcome
+IsExplainedQuery text outcome =
+    (parsed : Outcome Query) × IsQueryOutcome text parsed × IsExplanationOf parsed outcome
 
 -- the text is an update's
 abbrev pub IsExplainedUpdate : List ℕ → Outcome (List ℕ) → Type 0
-IsExplainedUpdate text outcome = (parsed : Outcome Update) × IsUpdateOutcome text parsed × IsExplanationOf parsed outcome
+IsExplainedUpdate text outcome =
+    (parsed : Outcome Update) × IsUpdateOutcome text parsed × IsExplanationOf parsed outcome

@@ -7,6 +7,8 @@ ghost use Rattle.qs_explain.specs.Explained.{IsExplainedQuery, IsExplainedUpdate
 
 /// The explanation of a text is refused with a fault just where its query is, or its update, for its text.
 pub fn explanations_are_refused_alike()
-    ensures query { (text : List ℕ) (f : QFault) → IsExplainedQuery text (Err f) ↔ IsQueryOutcome text (Err f) }
-    ensures update { (text : List ℕ) (f : QFault) → IsExplainedUpdate text (Err f) ↔ IsUpdateOutcome text (Err f) }
+    ensures query { (text : List ℕ) (f : QFault) → IsExplainedQuery text (Err f)
+        ↔ IsQueryOutcome text (Err f) }
+    ensures update { (text : List ℕ) (f : QFault) → IsExplainedUpdate text (Err f)
+        ↔ IsUpdateOutcome text (Err f) }
 {}

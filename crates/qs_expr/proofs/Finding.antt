@@ -10,7 +10,7 @@ use Rattle.qs_terms.specs.Bag.{Distinct}
 use Rattle.qs_terms.specs.Term.{same_term}
 use Rattle.qs_terms.proofs.SameTerm.{same_term-Decides}
 use Rattle.qs_terms.proofs.FirstOnes.{or_second}
-use Rattle.qs_dict.specs.Dict.{IsInUse, term_at}
+use Rattle.qs_dict.specs.inner.Dict.{IsInUse, term_at}
 use Rattle.qs_dict.proofs.Numbers.{exact_number}
 use Rattle.qs_expr.specs.declared.cell.Cell.{Cell}
 use Rattle.qs_expr.specs.declared.cell.Cell.TheVariants.{Known, Scratch}

@@ -4,7 +4,7 @@ use Rattle.std.specs.Prelude.{is_some, slice_get}
 use Rattle.qs_terms.specs.declared.term.Term.{Term}
 use Rattle.qs_terms.specs.Term.{same_term}
 use Rattle.qs_terms.proofs.SameTerm.{same_term-Decides}
-use Rattle.qs_dict.specs.Dict.{number_of}
+use Rattle.qs_dict.specs.inner.Dict.{number_of}
 use Rattle.qs_expr.specs.declared.cell.Cell.TheVariants.{Known, Scratch}
 use Rattle.qs_expr.specs.declared.cell.Cell.{Cell}
 use Rattle.qs_expr.specs.inner.Cell.{Cells, cell_at, denoted, FitsRow}

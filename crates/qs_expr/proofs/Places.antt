@@ -11,7 +11,7 @@ use Rattle.qs_terms.specs.Bag.{with_new}
 use Rattle.qs_terms.specs.Term.{same_term}
 use Rattle.qs_terms.proofs.SameTerm.{same_term-Decides, eq_is}
 use Rattle.qs_terms.specs.contracts.term.TermPartialEq.TheImpl as equ
-use Rattle.qs_dict.specs.Dict.{term_at, number_of}
+use Rattle.qs_dict.specs.inner.Dict.{term_at, number_of}
 use Rattle.qs_dict.proofs.Places.{slice_get-position}
 use Rattle.qs_expr.specs.inner.Scratch.{IsTable, Grows, with_term}
 use Rattle.qs_expr.proofs.Finding.{numbered, still_one}

@@ -7,7 +7,7 @@ use Rattle.std.specs.Option.{option_map}
 use Rattle.std.proofs.lemmas.Option.{same_Some}
 use Rattle.qs_expr_values.specs.inner.TermValue.{term_value}
 use Rattle.qs_expr_values.specs.declared.term_value.TermValue.{TermValue}
-use Rattle.qs_dict.specs.Dict as dict
+use Rattle.qs_dict.specs.inner.Dict as dict
 use Rattle.qs_algebra_solutions.specs.Solution.{term_at}
 use Rattle.qs_expr_meaning.specs.Meaning.{meaning}
 use Rattle.qs_expr_meaning.specs.declared.expr.Expr.{Expr}

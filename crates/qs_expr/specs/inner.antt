@@ -1,4 +1,4 @@
--- What layers and proofs read: the definitions of the headline cite none of it.
+-- For proofs and the layers between: no clause of the headline cites a definition of these files.
 pub mod Cell
 pub mod Condition
 pub mod Evaluated

@@ -121,7 +121,8 @@ pub(crate) fn filled(
     mut cells: Vec<CompactCell>,
     others: &[CompactCell],
 ) -> Result<Vec<CompactCell>, AllocError>
-    ensures { IfOk result (λ v. cells_of v.items ≡ merged_cells (cells_of cells.items) (cells_of others.now)) }
+    ensures { IfOk result (λ v. cells_of v.items ≡ merged_cells (cells_of cells.items)
+        (cells_of others.now)) }
 {
     let common = cells.len().min(others.len());
     for variable in 0..common {

@@ -1,7 +1,7 @@
 //! Conditions that are prepared once and asked of many rows.
 
 ghost use Rattle.std.specs.Prelude.{◌≡◌, true, IfOk, OnErr};
-ghost use Rattle.qs_expr_meaning.specs.Makes.{makes};
+ghost use Rattle.qs_expr_meaning.specs.inner.Makes.{makes};
 ghost use Rattle.qs_expr.specs.inner.Cell.{row_solution, FitsRow};
 ghost use Rattle.qs_expr.specs.inner.Evaluated.{holds_at};
 ghost use Rattle.qs_expr.specs.inner.Condition.{AreNumbersOf, IsPreparedFor};
@@ -53,7 +53,9 @@ fn all_hold<V: View>(
     requires numbers { AreNumbersOf (V.content view.now).known (numbers_of parts.now) }
     requires table { IsTable (V.content view.now).known scratch.now }
     requires row { FitsRow (V.content view.now).known scratch.now row.now }
-    ensures value { IfOk result (λ b. b ≡ all_hold (row_solution (V.content view.now).known scratch.now row.now) parts.now) }
+    ensures value { IfOk result
+        (λ b. b ≡ all_hold (row_solution (V.content view.now).known scratch.now row.now)
+        parts.now) }
     ensures memory { OnErr result (some_make parts.now ≡ true) }
 {
     for part in parts {
@@ -97,7 +99,8 @@ impl<'e> Condition<'e> {
         requires prepared { IsPreparedFor (V.content view.now).known self.now }
         requires table { IsTable (V.content view.now).known scratch.now }
         requires row { FitsRow (V.content view.now).known scratch.now row.now }
-        ensures value { IfOk result (λ b. b ≡ holds_at (V.content view.now).known scratch.now row.now self.now.expr) }
+        ensures value { IfOk result
+            (λ b. b ≡ holds_at (V.content view.now).known scratch.now row.now self.now.expr) }
         ensures memory { OnErr result (makes self.now.expr ≡ true) }
     {
         all_hold(alloc, self.parts.as_slice(), row, view, scratch)

@@ -29,7 +29,8 @@ pub(crate) struct AgainstConstant<'e> {
 /// The form of a literal, as what it is worth.
 #[tactic(auto, using(crate::proofs::Said::text_is_form))]
 fn form_of(term: &Term) -> Worth<'_>
-    ensures { (s : List ℕ) → of_terms.worth term.now ≡ of_terms.text s → seen result ≡ of_terms.text s }
+    ensures { (s : List ℕ) → of_terms.worth term.now ≡ of_terms.text s
+        → seen result ≡ of_terms.text s }
 {
     match term {
         Term::Literal(lit) => Worth::Text(lit.form()),
@@ -90,7 +91,8 @@ impl<'e> AgainstConstant<'e> {
 
     // How the value compares with the constant, or the constant with the value where the constant is the first operand.
     fn order(&self, value: &Value<'_>) -> Option<Ordering>
-        ensures { result ≡ ordered self.now.first (seen self.now.worth) (of_terms.worth (term_of value.entry.now)) }
+        ensures { result ≡ ordered self.now.first (seen self.now.worth)
+            (of_terms.worth (term_of value.entry.now)) }
     {
         if self.first {
             compare(self.worth, worth_of(value))
@@ -101,7 +103,9 @@ impl<'e> AgainstConstant<'e> {
 
     /// Whether the comparison is true of the value, where both are worth something of one kind.
     pub(crate) fn compare(&self, value: &Value<'_>) -> Option<bool>
-        ensures { (m : Solution) (b : Bool) → term_at m self.now.variable ≡ Some (term_of value.entry.now) → result ≡ Some b → spec.holds m self.now.expr.now ≡ b }
+        ensures { (m : Solution) (b : Bool) → term_at m self.now.variable
+            ≡ Some (term_of value.entry.now) → result ≡ Some b → spec.holds m self.now.expr.now
+            ≡ b }
     {
         match self.order(value) {
             Some(order) => Some(satisfies(self.comparison, order)),

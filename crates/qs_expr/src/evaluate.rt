@@ -1,10 +1,11 @@
 //! Values of expressions at rows of cells (SPARQL 1.1 Query, 17).
 
 ghost use Rattle.std.specs.Prelude.{◌≡◌, false, true, IfOk, OnErr, IsTrue};
-ghost use Rattle.qs_expr_meaning.specs.Comes.{Comes};
-ghost use Rattle.qs_expr_meaning.specs.Makes.{makes};
+ghost use Rattle.qs_expr_meaning.specs.inner.Comes.{Comes};
+ghost use Rattle.qs_expr_meaning.specs.inner.Makes.{makes};
 ghost use Rattle.qs_expr_meaning.specs.Meaning as spec;
-ghost use Rattle.qs_expr_values.specs.Sorting.{key_of, has_text};
+ghost use Rattle.qs_expr_values.specs.Sorting.{key_of};
+ghost use Rattle.qs_expr_values.specs.inner.Sorting.{has_text};
 ghost use Rattle.qs_expr.specs.inner.Cell.{denoted, denoted_if, FitsCell, FitsIf, FitsRow};
 ghost use Rattle.qs_expr.specs.inner.Evaluated.{Evaluates, holds_at};
 ghost use Rattle.qs_expr.specs.inner.Scratch.{IsTable, Grows};
@@ -30,7 +31,8 @@ fn computed<V: View>(
     requires table { IsTable (V.content view.now).known scratch.old }
     requires row { FitsRow (V.content view.now).known scratch.old row.now }
     ensures grows { Grows (V.content view.now).known scratch.old scratch.new }
-    ensures value { Evaluates (V.content view.now).known scratch.old scratch.new row.now expr.now result }
+    ensures value { Evaluates (V.content view.now).known scratch.old scratch.new row.now expr.now
+        result }
 {
     let value = eval_terms(alloc, expr, &Reading::new(row, view, scratch));
     match value {
@@ -57,7 +59,8 @@ pub fn eval<V: View>(
     requires table { IsTable (V.content view.now).known scratch.old }
     requires row { FitsRow (V.content view.now).known scratch.old row.now }
     ensures grows { Grows (V.content view.now).known scratch.old scratch.new }
-    ensures value { Evaluates (V.content view.now).known scratch.old scratch.new row.now expr.now result }
+    ensures value { Evaluates (V.content view.now).known scratch.old scratch.new row.now expr.now
+        result }
 {
     match expr {
         Expr::Variable(variable) => match row.cell(*variable) {
@@ -74,7 +77,8 @@ pub fn eval<V: View>(
 /// `TypeError` where the term has none.
 pub fn ebv<V: View>(cell: Cell, view: &V, scratch: &Scratch) -> Result<bool, ExprFault>
     requires { FitsCell (V.content view.now).known scratch.now cell }
-    ensures { Comes false (spec.truth (denoted (V.content view.now).known scratch.now cell)) result }
+    ensures { Comes false (spec.truth (denoted (V.content view.now).known scratch.now cell))
+        result }
 {
     let term = term(cell, view, scratch);
     ebv_terms(term)
@@ -91,8 +95,10 @@ pub fn order_key<V: View>(
     scratch: &Scratch,
 ) -> Result<Key, AllocError>
     requires { FitsIf (V.content view.now).known scratch.now cell }
-    ensures key { IfOk result (λ k. k ≡ key_of (denoted_if (V.content view.now).known scratch.now cell)) }
-    ensures memory { OnErr result (IsTrue (has_text (key_of (denoted_if (V.content view.now).known scratch.now cell)))) }
+    ensures key { IfOk result
+        (λ k. k ≡ key_of (denoted_if (V.content view.now).known scratch.now cell)) }
+    ensures memory { OnErr result
+        (IsTrue (has_text (key_of (denoted_if (V.content view.now).known scratch.now cell)))) }
 {
     match cell {
         Some(cell) => {
@@ -115,7 +121,8 @@ pub fn holds<V: View>(
     scratch: &Scratch,
 ) -> Result<bool, AllocError>
     requires { FitsRow (V.content view.now).known scratch.now row.now }
-    ensures value { IfOk result (λ b. b ≡ holds_at (V.content view.now).known scratch.now row.now expr.now) }
+    ensures value { IfOk result (λ b. b ≡ holds_at (V.content view.now).known scratch.now row.now
+        expr.now) }
     ensures memory { OnErr result (makes expr.now ≡ true) }
 {
     qs_expr_meaning::holds(alloc, expr, &Reading::new(row, view, scratch))

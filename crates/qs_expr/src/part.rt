@@ -3,9 +3,9 @@
 ghost use Rattle.std.specs.Prelude.{◌≡◌, ℕ, List, Bool, Some, true, false, not, is_some, slice_get, IfOk, IsTrue, OnErr};
 ghost use Rattle.qs_terms.specs.Term.{same_term};
 ghost use Rattle.qs_terms.specs.declared.term.Term.{Term as TermValue};
-ghost use Rattle.qs_dict.specs.Dict.{number_of};
+ghost use Rattle.qs_dict.specs.inner.Dict.{number_of};
 ghost use Rattle.qs_algebra_solutions.specs.Solution.{Solution, term_at};
-ghost use Rattle.qs_expr_meaning.specs.Makes.{makes};
+ghost use Rattle.qs_expr_meaning.specs.inner.Makes.{makes};
 ghost use Rattle.qs_expr_meaning.specs.Meaning as spec;
 ghost use Rattle.qs_expr.specs.inner.Cell.{denoted, FitsRow};
 ghost use Rattle.qs_expr.specs.inner.Evaluated.{holds_at};
@@ -62,7 +62,8 @@ impl<'e> HasTerm<'e> {
     // Whether the term at the place is this one.
     fn is_at(&self, place: u64, scratch: &Scratch) -> bool
         requires { IsTrue (is_some (slice_get scratch.now place)) }
-        ensures { (x : TermValue) → slice_get scratch.now place ≡ Some x → result ≡ same_term x self.now.term.now }
+        ensures { (x : TermValue) → slice_get scratch.now place ≡ Some x
+            → result ≡ same_term x self.now.term.now }
     {
         let Some(term) = scratch.get(place) else {
             unreachable!()
@@ -74,7 +75,9 @@ impl<'e> HasTerm<'e> {
     #[tactic(auto, using(crate::proofs::Numbered::known_is, crate::proofs::Numbered::known_is_not, crate::proofs::Numbered::scratch_is_not))]
     fn is_it(&self, cell: Cell, scratch: &Scratch) -> bool
         requires { (k : ℕ) → cell ≡ cells.Scratch k → IsTrue (is_some (slice_get scratch.now k)) }
-        ensures { (known : List TermValue) (x : TermValue) → IsTable known scratch.now → self.now.number ≡ number_of known self.now.term.now → denoted known scratch.now cell ≡ Some x → result ≡ same_term x self.now.term.now }
+        ensures { (known : List TermValue) (x : TermValue) → IsTable known scratch.now
+            → self.now.number ≡ number_of known self.now.term.now → denoted known scratch.now cell
+            ≡ Some x → result ≡ same_term x self.now.term.now }
     {
         match (cell, self.number) {
             (Cell::Known(number), Some(own)) => number == own,
@@ -90,7 +93,8 @@ impl<'e> HasTerm<'e> {
         requires table { IsTable (V.content view.now).known scratch.now }
         requires row { FitsRow (V.content view.now).known scratch.now row.now }
         requires number { self.now.number ≡ number_of (V.content view.now).known self.now.term.now }
-        ensures { result ≡ holds_at (V.content view.now).known scratch.now row.now self.now.expr.now }
+        ensures { result ≡ holds_at (V.content view.now).known scratch.now row.now
+            self.now.expr.now }
     {
         match row.cell(self.variable) {
             Some(cell) => {
@@ -108,7 +112,10 @@ impl<'e> HasTerm<'e> {
 impl<'e> AreAlike<'e> {
     // What it is of two cells, where the cells tell.
     fn told(&self, a: Cell, other: Cell) -> Option<bool>
-        ensures { (known table : List TermValue) (x y : TermValue) (m : Solution) (b : Bool) → IsTable known table → denoted known table a ≡ Some x → denoted known table other ≡ Some y → term_at m self.now.first ≡ Some x → term_at m self.now.second ≡ Some y → result ≡ Some b → spec.holds m self.now.expr.now ≡ b }
+        ensures { (known table : List TermValue) (x y : TermValue) (m : Solution) (b : Bool)
+            → IsTable known table → denoted known table a ≡ Some x → denoted known table other
+            ≡ Some y → term_at m self.now.first ≡ Some x → term_at m self.now.second ≡ Some y
+            → result ≡ Some b → spec.holds m self.now.expr.now ≡ b }
     {
         if is_same(a, other) {
             Some(self.truth)
@@ -129,7 +136,8 @@ impl<'e> AreAlike<'e> {
     ) -> Result<bool, AllocError>
         requires table { IsTable (V.content view.now).known scratch.now }
         requires row { FitsRow (V.content view.now).known scratch.now row.now }
-        ensures value { IfOk result (λ b. b ≡ holds_at (V.content view.now).known scratch.now row.now self.now.expr.now) }
+        ensures value { IfOk result
+            (λ b. b ≡ holds_at (V.content view.now).known scratch.now row.now self.now.expr.now) }
         ensures memory { OnErr result (makes self.now.expr.now ≡ true) }
     {
         if let (Some(a), Some(b)) = (row.cell(self.first), row.cell(self.second)) {
@@ -150,7 +158,8 @@ fn is_against<V: View>(
     scratch: &Scratch,
 ) -> Result<bool, AllocError>
     requires row { FitsRow (V.content view.now).known scratch.now row.now }
-    ensures value { IfOk result (λ b. b ≡ holds_at (V.content view.now).known scratch.now row.now against.now.expr.now) }
+    ensures value { IfOk result (λ b. b ≡ holds_at (V.content view.now).known scratch.now row.now
+        against.now.expr.now) }
     ensures memory { OnErr result (makes against.now.expr.now ≡ true) }
 {
     if let Some(cell) = row.cell(against.variable) {
@@ -163,7 +172,7 @@ fn is_against<V: View>(
 
 impl<'e> Part<'e> {
     ghost use Rattle.std.specs.Prelude.{◌≡◌, true, IfOk, OnErr};
-    ghost use Rattle.qs_expr_meaning.specs.Makes.{makes};
+    ghost use Rattle.qs_expr_meaning.specs.inner.Makes.{makes};
     ghost use Rattle.qs_expr.specs.inner.Cell.{FitsRow};
     ghost use Rattle.qs_expr.specs.inner.Evaluated.{holds_at};
     ghost use Rattle.qs_expr.specs.inner.Scratch.{IsTable};
@@ -180,7 +189,8 @@ impl<'e> Part<'e> {
         requires number { IsNumbered (V.content view.now).known self.now }
         requires table { IsTable (V.content view.now).known scratch.now }
         requires row { FitsRow (V.content view.now).known scratch.now row.now }
-        ensures value { IfOk result (λ b. b ≡ holds_at (V.content view.now).known scratch.now row.now (asked self.now)) }
+        ensures value { IfOk result
+            (λ b. b ≡ holds_at (V.content view.now).known scratch.now row.now (asked self.now)) }
         ensures memory { OnErr result (makes (asked self.now) ≡ true) }
     {
         match self {

@@ -2,9 +2,9 @@
 
 ghost use Rattle.std.specs.Prelude.{◌≡◌, ◌&&◌, ◌||◌, [], ◌∷◌, OnOk};
 ghost use Rattle.std.specs.List.{list_all, list_any};
-ghost use Rattle.qs_dict.specs.Dict.{number_of};
+ghost use Rattle.qs_dict.specs.inner.Dict.{number_of};
 ghost use Rattle.qs_algebra_solutions.specs.Solution.{Solution, term_at};
-ghost use Rattle.qs_expr_meaning.specs.Makes.{makes};
+ghost use Rattle.qs_expr_meaning.specs.inner.Makes.{makes};
 ghost use Rattle.qs_expr_meaning.specs.Meaning as spec;
 ghost use Rattle.qs_expr_meaning.specs.declared.expr.Expr.TheVariants as expr_of;
 ghost use Rattle.qs_expr_meaning.specs.declared.operator.BinaryFunction.TheVariants as binary_function;
@@ -28,7 +28,8 @@ fn has_part<'e, V: View>(
     apart: bool,
     view: &V,
 ) -> Part<'e>
-    requires { (m : Solution) → spec.holds m expr.now ≡ has_term apart term.now (term_at m variable) }
+    requires { (m : Solution) → spec.holds m expr.now ≡ has_term apart term.now
+        (term_at m variable) }
     ensures asked { asked result ≡ expr.now }
     ensures number { IsNumbered (V.content view.now).known result }
 {
@@ -81,7 +82,8 @@ fn variables_part<'e>(
     first: usize,
     second: usize,
 ) -> Part<'e>
-    requires { expr.now ≡ expr_of.Compare comparison (expr_of.Variable first) (expr_of.Variable second) }
+    requires { expr.now ≡ expr_of.Compare comparison (expr_of.Variable first)
+        (expr_of.Variable second) }
     ensures asked { asked result ≡ expr.now }
     ensures number { numbers_of (result ∷ []) ≡ [] }
 {
@@ -128,7 +130,8 @@ fn comparison_part<'e, V: View>(
 // sameTerm of two variables.
 #[tactic(auto, using(crate::proofs::Said::same_term_alike, crate::proofs::Said::same_term_unlike))]
 fn same_variables<'e>(expr: &'e Expr, first: usize, second: usize) -> Part<'e>
-    requires { expr.now ≡ expr_of.Binary binary_function.SameTerm (expr_of.Variable first) (expr_of.Variable second) }
+    requires { expr.now ≡ expr_of.Binary binary_function.SameTerm (expr_of.Variable first)
+        (expr_of.Variable second) }
     ensures asked { asked result ≡ expr.now }
     ensures number { numbers_of (result ∷ []) ≡ [] }
 {
@@ -183,9 +186,13 @@ pub(crate) fn put_parts<'e, V: View>(
     view: &V,
     parts: &mut Vec<Part<'e>>,
 ) -> Result<(), AllocError>
-    ensures hold { OnOk result ((m : Solution) → all_hold m parts.new.items ≡ (all_hold m parts.old.items && spec.holds m expr.now)) }
-    ensures make { OnOk result (some_make parts.new.items ≡ (some_make parts.old.items || makes expr.now)) }
-    ensures numbers { OnOk result (AreNumbersOf (V.content view.now).known (numbers_of parts.old.items) → AreNumbersOf (V.content view.now).known (numbers_of parts.new.items)) }
+    ensures hold { OnOk result ((m : Solution) → all_hold m parts.new.items
+        ≡ (all_hold m parts.old.items && spec.holds m expr.now)) }
+    ensures make { OnOk result
+        (some_make parts.new.items ≡ (some_make parts.old.items || makes expr.now)) }
+    ensures numbers { OnOk result
+        (AreNumbersOf (V.content view.now).known (numbers_of parts.old.items)
+        → AreNumbersOf (V.content view.now).known (numbers_of parts.new.items)) }
 {
     match expr {
         Expr::And(conjuncts) => put_all(conjuncts.as_slice(), view, parts),
@@ -203,9 +210,13 @@ fn put_all<'e, V: View>(
     view: &V,
     parts: &mut Vec<Part<'e>>,
 ) -> Result<(), AllocError>
-    ensures hold { OnOk result ((m : Solution) → all_hold m parts.new.items ≡ (all_hold m parts.old.items && list_all (spec.holds m) exprs.now)) }
-    ensures make { OnOk result (some_make parts.new.items ≡ (some_make parts.old.items || list_any makes exprs.now)) }
-    ensures numbers { OnOk result (AreNumbersOf (V.content view.now).known (numbers_of parts.old.items) → AreNumbersOf (V.content view.now).known (numbers_of parts.new.items)) }
+    ensures hold { OnOk result ((m : Solution) → all_hold m parts.new.items
+        ≡ (all_hold m parts.old.items && list_all (spec.holds m) exprs.now)) }
+    ensures make { OnOk result
+        (some_make parts.new.items ≡ (some_make parts.old.items || list_any makes exprs.now)) }
+    ensures numbers { OnOk result
+        (AreNumbersOf (V.content view.now).known (numbers_of parts.old.items)
+        → AreNumbersOf (V.content view.now).known (numbers_of parts.new.items)) }
 {
     for expr in exprs {
         put_parts(expr, view, parts)?;

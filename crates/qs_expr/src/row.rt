@@ -56,7 +56,8 @@ impl Row {
     #[tactic(auto, using(crate::proofs::Rows::no_cells_unbound, crate::proofs::Rows::no_cells_fit))]
     pub fn unbound(alloc: Global, width: usize) -> Result<Row, AllocError>
         ensures cells { IfOk result (λ r. r ≡ no_cells width) }
-        ensures terms { IfOk result (λ r. (known table : List TermValue) → row_solution known table r ≡ unbound width) }
+        ensures terms { IfOk result (λ r. (known table : List TermValue)
+            → row_solution known table r ≡ unbound width) }
         ensures fits { IfOk result (λ r. (known table : List TermValue) → FitsRow known table r) }
     {
         let cells = no_cells(alloc, width)?;

@@ -5,7 +5,7 @@ ghost use Rattle.std.specs.Option.{option_copied};
 ghost use Rattle.qs_terms.specs.Bag.{with_new};
 ghost use Rattle.qs_terms.specs.Term.{same_term};
 ghost use Rattle.qs_expr_values.specs.inner.Value.{term_of};
-ghost use Rattle.qs_dict.specs.Dict.{IsInUse, term_at};
+ghost use Rattle.qs_dict.specs.inner.Dict.{IsInUse, term_at};
 ghost use Rattle.qs_expr.specs.inner.Cell.{denoted, FitsCell};
 ghost use Rattle.qs_expr.specs.inner.Scratch.{IsTable, Grows, with_term};
 
@@ -116,7 +116,8 @@ pub fn intern_owned<V: View>(
 ) -> Result<Cell, AllocError>
     requires { IsTable (V.content view.now).known scratch.old }
     ensures cell { IfOk result (λ c. denoted (V.content view.now).known scratch.new c ≡ Some term) }
-    ensures table { OnOk result (scratch.new ≡ with_term (V.content view.now).known scratch.old term) }
+    ensures table { OnOk result (scratch.new ≡ with_term (V.content view.now).known scratch.old
+        term) }
     ensures grows { Grows (V.content view.now).known scratch.old scratch.new }
     ensures refused { OnErr result (scratch.new ≡ scratch.old) }
 {
@@ -138,8 +139,10 @@ pub fn intern_owned<V: View>(
 /// Out of memory, which changes nothing.
 pub fn intern<V: View>(term: &Term, view: &V, scratch: &mut Scratch) -> Result<Cell, AllocError>
     requires { IsTable (V.content view.now).known scratch.old }
-    ensures cell { IfOk result (λ c. denoted (V.content view.now).known scratch.new c ≡ Some term.now) }
-    ensures table { OnOk result (scratch.new ≡ with_term (V.content view.now).known scratch.old term.now) }
+    ensures cell { IfOk result (λ c. denoted (V.content view.now).known scratch.new c
+        ≡ Some term.now) }
+    ensures table { OnOk result (scratch.new ≡ with_term (V.content view.now).known scratch.old
+        term.now) }
     ensures grows { Grows (V.content view.now).known scratch.old scratch.new }
     ensures refused { OnErr result (scratch.new ≡ scratch.old) }
 {

@@ -5,9 +5,9 @@ use Rattle.std.proofs.lemmas.List.{drop_all}
 use Rattle.qs_algebra_solutions.specs.Solution.{Solution}
 use Rattle.qs_terms.specs.declared.term.Term.{Term}
 use Rattle.qs_expr_meaning.specs.Calls.{joined, strings}
-use Rattle.qs_expr_meaning.specs.Comes.{Errs}
+use Rattle.qs_expr_meaning.specs.inner.Comes.{Errs}
 use Rattle.qs_expr_meaning.specs.inner.Joined.{SoFar, nothing, with_value, finished, joined_from}
-use Rattle.qs_expr_meaning.specs.Makes.{makes, some}
+use Rattle.qs_expr_meaning.specs.inner.Makes.{makes, some}
 use Rattle.qs_expr_meaning.specs.Meaning.{meaning}
 use Rattle.qs_expr_meaning.specs.inner.SoFar.{so_far}
 use Rattle.qs_expr_meaning.specs.Truth.{either, both}

@@ -8,8 +8,9 @@ use Rattle.qs_expr_values.specs.Number.{in_range}
 use Rattle.qs_expr_values.specs.Values.{boolean_term}
 use Rattle.qs_expr_meaning.specs.Truth.{any, every, denied}
 use Rattle.qs_expr_meaning.specs.Calls.{joined, strings, unary, binary}
-use Rattle.qs_expr_meaning.specs.Makes.{makes, addend_makes, some}
-use Rattle.qs_expr_meaning.specs.Meaning.{truth, boolean_value, compared, of_both, among, number, integer_value, added, multiplied, with_sign, choice, first_value, meaning, addend_meaning}
+use Rattle.qs_expr_meaning.specs.inner.Makes.{makes, addend_makes, some}
+use Rattle.qs_expr_meaning.specs.Meaning.{truth, boolean_value, compared, of_both, among, number, integer_value, added, multiplied, with_sign, choice, first_value, meaning}
+use Rattle.qs_expr_meaning.specs.inner.Meaning.{addend_meaning}
 use Rattle.qs_expr_meaning.specs.declared.operator.Comparison.{Comparison}
 use Rattle.qs_expr_meaning.specs.declared.operator.Sign.{Sign}
 use Rattle.qs_expr_meaning.specs.declared.operator.UnaryFunction.{UnaryFunction}

@@ -1,6 +1,6 @@
 -- Where a part takes memory, the whole does.
 use Rattle.std.proofs.Common.{◌≡◌, ℕ, zero, suc, ◌<◌, Bool, true, false, ◌||◌, List, [], ◌∷◌, map, length, get_or, refl, ap, sym, ◌∙◌, arith}
-use Rattle.qs_expr_meaning.specs.Makes.{some}
+use Rattle.qs_expr_meaning.specs.inner.Makes.{some}
 
 pub first_of_two : (a b : Bool) → a ≡ true → (a || b) ≡ true
 first_of_two a b h = ap (λ x. x || b) h

@@ -7,10 +7,11 @@ use Rattle.qs_expr_values.specs.Number.{in_range}
 use Rattle.qs_expr_values.proofs.Numbers.{fits}
 use Rattle.qs_algebra_solutions.specs.Solution.{Solution}
 use Rattle.qs_expr_meaning.specs.Calls.{Value}
-use Rattle.qs_expr_meaning.specs.Meaning.{SignedValue, meaning, addend_meaning, added, multiplied}
+use Rattle.qs_expr_meaning.specs.Meaning.{SignedValue, meaning, added, multiplied}
+use Rattle.qs_expr_meaning.specs.inner.Meaning.{addend_meaning}
 use Rattle.std.specs.List.{fold}
-use Rattle.qs_expr_meaning.specs.Comes.{Errs}
-use Rattle.qs_expr_meaning.specs.Makes.{makes, addend_makes, some}
+use Rattle.qs_expr_meaning.specs.inner.Comes.{Errs}
+use Rattle.qs_expr_meaning.specs.inner.Makes.{makes, addend_makes, some}
 use Rattle.qs_expr_meaning.proofs.Flags.{some_at}
 use Rattle.qs_expr_meaning.specs.declared.fault.ExprFault.{ExprFault}
 use Rattle.qs_expr_meaning.specs.declared.fault.ExprFault.TheVariants.{TypeError, Memory}

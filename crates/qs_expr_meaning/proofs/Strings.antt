@@ -7,7 +7,7 @@ use Rattle.qs_terms.specs.Literal.{xsd_string, xsd_integer, xsd_boolean, rdf_lan
 use Rattle.qs_terms.specs.declared.term.Term.{Term}
 use Rattle.qs_terms.specs.declared.term.Term.TheVariants.{Iri, Blank, Literal as OfLiteral}
 use Rattle.qs_expr_values.specs.Values.{boolean_term, integer_term, text_term, strung}
-use Rattle.qs_expr_meaning.specs.Comes.{tagged_datatype}
+use Rattle.qs_expr_meaning.specs.inner.Comes.{tagged_datatype}
 use Rattle.qs_expr_meaning.specs.inner.Joined.{tag_of_term}
 use Rattle.qs_expr_meaning.specs.Calls.{form_of, tag_of, datatype_of, string_of, string_parts, length_of, literal_parts, Parts}
 

@@ -3,7 +3,7 @@ use Rattle.std.proofs.Common.{◌≡◌, Bool, true, false, List, [], ◌∷◌,
 use Rattle.std.specs.List.{list_any}
 use Rattle.std.specs.Option.{is_none}
 use Rattle.qs_expr_meaning.specs.Truth.{either, both, any, every}
-use Rattle.qs_expr_meaning.specs.Words.{is, any_said, every_said}
+use Rattle.qs_expr_meaning.specs.inner.Words.{is, any_said, every_said}
 
 either_error : (t e : Bool) → either None (if t then Some true else (if e then None else Some false)) ≡ (if t then Some true else None)
 either_error true e = refl

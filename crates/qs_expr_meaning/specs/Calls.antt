@@ -1,5 +1,6 @@
 -- The functions of the profile (SPARQL 1.1 Query, 17.4): a term, or none where they err.
-use Rattle.std.specs.Prelude.{ℕ, Bool, true, false, ◌||◌, not, List, [], ◌∷◌, ◌++◌, length, Option, Some, None, if◌then◌else◌, pos, ℤ, nat_eq}
+use Rattle.std.specs.Prelude.{ℕ, Bool, true, false, ◌||◌, not, List, [], ◌∷◌, ◌++◌, length, Option}
+use Rattle.std.specs.Prelude.{Some, None, if◌then◌else◌, pos, ℤ, nat_eq}
 use Rattle.std.specs.Option.{is_some, unwrap_or, option_map, option_and_then}
 use Rattle.std.specs.List.{fold, starts_with, ends_with}
 use Rattle.std.specs.Str.{bytes_eq, chars}
@@ -9,11 +10,18 @@ use Rattle.qs_terms.specs.Term.{same_term, same_tag}
 use Rattle.qs_terms.specs.declared.term.Term.{Term}
 use Rattle.qs_terms.specs.declared.term.Term.TheVariants as term
 use Rattle.qs_expr_values.specs.Text.{stands_in, matches_range}
-use Rattle.qs_expr_values.specs.Values.{Worth, integer, boolean, text, other, worth, is_literal, boolean_term, integer_term, text_term, strung}
+use Rattle.qs_expr_values.specs.Values.{Worth, integer, boolean, text, other, worth, is_literal}
+use Rattle.qs_expr_values.specs.Values.{boolean_term, integer_term, text_term, strung}
 use Rattle.qs_expr_meaning.specs.declared.operator.UnaryFunction.{UnaryFunction}
-use Rattle.qs_expr_meaning.specs.declared.operator.UnaryFunction.TheVariants.{IsIri, IsBlank, IsLiteral, IsNumeric, Str, Lang, Datatype, StrLen}
+use Rattle.qs_expr_meaning.specs.declared.operator.UnaryFunction.TheVariants.{IsIri, IsBlank}
+use Rattle.qs_expr_meaning.specs.declared.operator.UnaryFunction.TheVariants.{IsLiteral, IsNumeric}
+use Rattle.qs_expr_meaning.specs.declared.operator.UnaryFunction.TheVariants.{Str, Lang, Datatype}
+use Rattle.qs_expr_meaning.specs.declared.operator.UnaryFunction.TheVariants.{StrLen}
 use Rattle.qs_expr_meaning.specs.declared.operator.BinaryFunction.{BinaryFunction}
-use Rattle.qs_expr_meaning.specs.declared.operator.BinaryFunction.TheVariants.{SameTerm, LangMatches, Contains, StrStarts, StrEnds}
+use Rattle.qs_expr_meaning.specs.declared.operator.BinaryFunction.TheVariants.{SameTerm}
+use Rattle.qs_expr_meaning.specs.declared.operator.BinaryFunction.TheVariants.{LangMatches}
+use Rattle.qs_expr_meaning.specs.declared.operator.BinaryFunction.TheVariants.{Contains, StrStarts}
+use Rattle.qs_expr_meaning.specs.declared.operator.BinaryFunction.TheVariants.{StrEnds}
 
 -- a value, or none where there is an error
 abbrev pub Value : Type 0
@@ -22,21 +30,17 @@ Value = Option Term
 -- the integer of the range, if it is worth one
 abbrev pub integer_of_worth : Worth → Option ℤ
 integer_of_worth (integer z) = Some z
-integer_of_worth (boolean b) = None
-integer_of_worth (text s) = None
-integer_of_worth other = None
+integer_of_worth _ = None
 
 -- ---- kinds and parts (17.4.2)
 
 abbrev pub is_iri : Term → Bool
 is_iri (term.Iri i) = true
-is_iri (term.Blank n) = false
-is_iri (term.Literal l) = false
+is_iri _ = false
 
 abbrev pub is_blank : Term → Bool
-is_blank (term.Iri i) = false
 is_blank (term.Blank n) = true
-is_blank (term.Literal l) = false
+is_blank _ = false
 
 abbrev pub is_numeric : Term → Bool
 is_numeric t = is_some (integer_of_worth (worth t))
@@ -49,23 +53,21 @@ form_of (term.Literal l) = Some (text_term l.form)
 
 -- LANG
 abbrev pub tag_of : Term → Value
-tag_of (term.Iri i) = None
-tag_of (term.Blank n) = None
 tag_of (term.Literal l) = Some (text_term (unwrap_or l.tag []))
+tag_of _ = None
 
 -- DATATYPE
 abbrev pub datatype_of : Term → Value
-datatype_of (term.Iri i) = None
-datatype_of (term.Blank n) = None
 datatype_of (term.Literal l) = Some (term.Iri l.datatype)
+datatype_of _ = None
 
 -- ---- strings (17.4.3)
 
 -- a string: an xsd:string or a literal with a tag
 abbrev pub string_of : Term → Option lit.Literal
-string_of (term.Iri i) = None
-string_of (term.Blank n) = None
-string_of (term.Literal l) = if bytes_eq l.datatype xsd_string || is_some l.tag then Some l else None
+string_of (term.Literal l) =
+    if bytes_eq l.datatype xsd_string || is_some l.tag then Some l else None
+string_of _ = None
 
 -- how many code points it has
 abbrev pub length_of : lit.Literal → Term
@@ -101,16 +103,15 @@ agreeing x y = if compatible x.1 y.1 then Some (x.0, y.0) else None
 
 -- the forms of two strings whose tags agree
 abbrev pub both_forms : Term → Term → Option (List ℕ × List ℕ)
-both_forms a b = option_and_then (λ x. option_and_then (agreeing x) (string_parts b)) (string_parts a)
+both_forms a b =
+    option_and_then (λ x. option_and_then (agreeing x) (string_parts b)) (string_parts a)
 
 abbrev pub of_strings : (List ℕ → List ℕ → Bool) → Term → Term → Value
 of_strings test a b = option_map (λ p. boolean_term (test p.0 p.1)) (both_forms a b)
 
 abbrev pub text_of_worth : Worth → Option (List ℕ)
-text_of_worth (integer z) = None
-text_of_worth (boolean b) = None
 text_of_worth (text s) = Some s
-text_of_worth other = None
+text_of_worth _ = None
 
 abbrev pub of_texts : (List ℕ → List ℕ → Bool) → Option (List ℕ) → Option (List ℕ) → Value
 of_texts test a b = option_and_then (λ x. option_map (λ y. boolean_term (test x y)) b) a
@@ -132,7 +133,8 @@ binary StrEnds a b = of_strings (ends_with nat_eq) a b
 -- the strings, if all values are strings
 abbrev pub strings : List Value → Option (List lit.Literal)
 strings [] = Some []
-strings (x ∷ xs) = option_and_then (λ l. option_map (λ ls. l ∷ ls) (strings xs)) (option_and_then string_of x)
+strings (x ∷ xs) =
+    option_and_then (λ l. option_map (λ ls. l ∷ ls) (strings xs)) (option_and_then string_of x)
 
 abbrev pub forms : List lit.Literal → List ℕ
 forms [] = []

@@ -1,21 +1,25 @@
 -- What an expression means in a solution (SPARQL 1.1 Query, 17): a term, or none where it errs.
--- Unary `+` computes: `+ "01"^^xsd:integer` is `1`, while the token `+1` is a literal as it is written.
-use Rattle.std.specs.Prelude.{Bool, true, false, List, [], ◌∷◌, map, Option, Some, None, ℤ, ◌+ℤ◌, ◌-ℤ◌, ◌*ℤ◌, neg_ℤ}
+-- Unary `+` computes: `+ "01"^^xsd:integer` is `1`, while the token `+1` is a literal as it is
+-- written.
+use Rattle.std.specs.Prelude.{Bool, true, false, List, [], ◌∷◌, map, Option, Some, None, ℤ, ◌+ℤ◌}
+use Rattle.std.specs.Prelude.{◌-ℤ◌, ◌*ℤ◌, neg_ℤ}
 use Rattle.std.specs.Option.{is_some, option_map, option_and_then}
 use Rattle.std.specs.List.{fold}
 use Rattle.std.specs.Ordering.{is_lt, is_gt, is_le, is_ge}
 use Rattle.qs_terms.specs.declared.term.Term.{Term}
 use Rattle.qs_algebra_solutions.specs.Solution.{Solution, term_at}
 use Rattle.qs_expr_values.specs.Number.{in_range}
-use Rattle.qs_expr_values.specs.Values.{worth, ebv, equal, compare, boolean_term, integer_term, is_true}
+use Rattle.qs_expr_values.specs.Values.{worth, ebv, equal, compare, boolean_term, integer_term}
+use Rattle.qs_expr_values.specs.Values.{is_true}
 use Rattle.qs_expr_meaning.specs.Calls.{Value, integer_of_worth, unary, binary, strings, joined}
 use Rattle.qs_expr_meaning.specs.Truth.{any, every, denied}
 use Rattle.qs_expr_meaning.specs.declared.operator.Comparison.{Comparison}
-use Rattle.qs_expr_meaning.specs.declared.operator.Comparison.TheVariants.{Equal, NotEqual, Less, Greater, LessOrEqual, GreaterOrEqual}
+use Rattle.qs_expr_meaning.specs.declared.operator.Comparison.TheVariants.{Equal, NotEqual, Less}
+use Rattle.qs_expr_meaning.specs.declared.operator.Comparison.TheVariants.{Greater, LessOrEqual}
+use Rattle.qs_expr_meaning.specs.declared.operator.Comparison.TheVariants.{GreaterOrEqual}
 use Rattle.qs_expr_meaning.specs.declared.operator.Sign.{Sign}
 use Rattle.qs_expr_meaning.specs.declared.operator.Sign.TheVariants.{Plus, Minus}
 use Rattle.qs_expr_meaning.specs.declared.expr.Expr.{Expr, fold-Expr}
-use Rattle.qs_expr_meaning.specs.declared.expr.Addend.{Addend, fold-Addend}
 use Rattle.qs_expr_meaning.specs.declared.expr.Expr.TheOpen.{Expr-F, Addend-F}
 
 -- the effective boolean value, or none for an error (17.2.2)
@@ -53,9 +57,8 @@ abbrev pub integer_value : Option ℤ → Value
 integer_value x = option_map integer_term x
 
 abbrev pub applied : (ℤ → ℤ → ℤ) → Option ℤ → Option ℤ → Option ℤ
-applied f None y = None
-applied f (Some a) None = None
 applied f (Some a) (Some b) = in_range (Some (f a b))
+applied f _ _ = None
 
 abbrev pub by_sign : Sign → ℤ → ℤ → ℤ
 by_sign Plus a b = a +ℤ b
@@ -118,9 +121,6 @@ addend_level a = (a.sign, a.operand)
 
 abbrev pub meaning : Solution → Expr → Value
 meaning m = fold-Expr Value SignedValue (level m) addend_level
-
-abbrev pub addend_meaning : Solution → Addend → SignedValue
-addend_meaning m = fold-Addend Value SignedValue (level m) addend_level
 
 -- whether the condition is true in the solution; an error isn't true (17.2 and 18.5, Filter)
 abbrev pub holds : Solution → Expr → Bool

@@ -6,7 +6,7 @@ ghost use Rattle.qs_terms.specs.declared.term.Term.TheVariants as rdf;
 ghost use Rattle.qs_expr_values.specs.inner.Value.{term_of};
 ghost use Rattle.qs_expr_values.specs.Values as of;
 ghost use Rattle.qs_expr_meaning.specs.Calls as spec;
-ghost use Rattle.qs_expr_meaning.specs.Comes.{parts_seen, forms_seen, iri_of, tagged_datatype};
+ghost use Rattle.qs_expr_meaning.specs.inner.Comes.{parts_seen, forms_seen, iri_of, tagged_datatype};
 ghost use Rattle.qs_expr_meaning.specs.declared.operator.UnaryFunction.TheVariants as unary_function;
 ghost use Rattle.qs_expr_meaning.specs.declared.operator.BinaryFunction.TheVariants as binary_function;
 
@@ -218,7 +218,8 @@ pub(crate) fn string_of<'a>(value: &'a Value<'_>) -> Option<(&'a str, Option<&'a
 /// STRLEN
 #[tactic(auto, using(crate::proofs::Strings::length_by_parts))]
 fn length(value: &Value<'_>) -> Option<i128>
-    ensures { option_map of.integer_term result ≡ spec.unary unary_function.StrLen (term_of value.entry.now) }
+    ensures { option_map of.integer_term result ≡ spec.unary unary_function.StrLen
+        (term_of value.entry.now) }
 {
     match string_of(value) {
         Some((form, _)) => Some(count(form) as i128),
@@ -258,7 +259,8 @@ fn is_compatible(a: Option<&str>, b: Option<&str>) -> bool
 }
 
 fn both_forms<'a>(a: &'a Value<'_>, b: &'a Value<'_>) -> Option<(&'a str, &'a str)>
-    ensures { option_map forms_seen result ≡ spec.both_forms (term_of a.entry.now) (term_of b.entry.now) }
+    ensures { option_map forms_seen result ≡ spec.both_forms (term_of a.entry.now)
+        (term_of b.entry.now) }
 {
     match (string_of(a), string_of(b)) {
         (Some((s, own)), Some((t, other))) => {
@@ -283,7 +285,8 @@ fn plain_text<'a>(value: &'a Value<'_>) -> Option<&'a str>
 
 /// LANGMATCHES
 fn is_in_range(tag: &Value<'_>, range: &Value<'_>) -> Option<bool>
-    ensures { option_map of.boolean_term result ≡ spec.binary binary_function.LangMatches (term_of tag.entry.now) (term_of range.entry.now) }
+    ensures { option_map of.boolean_term result ≡ spec.binary binary_function.LangMatches
+        (term_of tag.entry.now) (term_of range.entry.now) }
 {
     match (plain_text(tag), plain_text(range)) {
         (Some(tag), Some(range)) => Some(matches_range(range, tag)),
@@ -293,7 +296,8 @@ fn is_in_range(tag: &Value<'_>, range: &Value<'_>) -> Option<bool>
 
 /// The functions of two arguments; none is an error.
 pub(crate) fn binary(function: BinaryFunction, a: &Value<'_>, b: &Value<'_>) -> Option<bool>
-    ensures { option_map of.boolean_term result ≡ spec.binary function (term_of a.entry.now) (term_of b.entry.now) }
+    ensures { option_map of.boolean_term result ≡ spec.binary function (term_of a.entry.now)
+        (term_of b.entry.now) }
 {
     match function {
         BinaryFunction::SameTerm => Some(is_same(a, b)),

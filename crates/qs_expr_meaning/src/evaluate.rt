@@ -8,10 +8,11 @@ ghost use Rattle.qs_expr_values.specs.inner.Value.{term_of};
 ghost use Rattle.qs_expr_values.specs.Values as of_terms;
 ghost use Rattle.qs_expr_values.specs.declared.value.Value.TheVariants as seen;
 ghost use Rattle.qs_expr_meaning.specs.Calls as of_calls;
-ghost use Rattle.qs_expr_meaning.specs.Comes.{Comes, ComesAs, Tells};
+ghost use Rattle.qs_expr_meaning.specs.inner.Comes.{Comes, ComesAs, Tells};
 ghost use Rattle.qs_expr_meaning.specs.inner.Joined as joining;
-ghost use Rattle.qs_expr_meaning.specs.Makes.{makes, addend_makes, some};
+ghost use Rattle.qs_expr_meaning.specs.inner.Makes.{makes, addend_makes, some};
 ghost use Rattle.qs_expr_meaning.specs.Meaning as spec;
+ghost use Rattle.qs_expr_meaning.specs.inner.Meaning as inner_spec;
 ghost use Rattle.qs_expr_meaning.specs.Truth as of;
 ghost use Rattle.qs_expr_meaning.specs.declared.fault.ExprFault.TheVariants as faults;
 
@@ -45,7 +46,8 @@ fn integer_of_option(number: Option<i128>) -> Result<i128, ExprFault>
 }
 
 fn denied(truth: Result<bool, ExprFault>) -> Result<bool, ExprFault>
-    ensures { MatchResult truth (λ b. result ≡ Ok (Rattle.std.specs.Prelude.not b)) (λ f. result ≡ Err f) }
+    ensures { MatchResult truth (λ b. result ≡ Ok (Rattle.std.specs.Prelude.not b))
+        (λ f. result ≡ Err f) }
 {
     match truth {
         Ok(truth) => Ok(!truth),
@@ -69,7 +71,8 @@ pub fn value<'a, B: Bindings>(
     expr: &'a Expr,
     bindings: &'a B,
 ) -> Result<Value<'a>, ExprFault>
-    ensures { ComesAs (makes expr.entry.now) (spec.meaning (B.solution bindings.entry.now) expr.entry.now) result }
+    ensures { ComesAs (makes expr.entry.now)
+        (spec.meaning (B.solution bindings.entry.now) expr.entry.now) result }
 {
     match expr {
         Expr::Variable(variable) => match bindings.value(*variable) {
@@ -89,7 +92,8 @@ fn composed<'a, B: Bindings>(
     expr: &'a Expr,
     bindings: &'a B,
 ) -> Result<Value<'a>, ExprFault>
-    ensures { ComesAs (makes expr.entry.now) (spec.meaning (B.solution bindings.entry.now) expr.entry.now) result }
+    ensures { ComesAs (makes expr.entry.now)
+        (spec.meaning (B.solution bindings.entry.now) expr.entry.now) result }
 {
     match expr {
         Expr::Variable(variable) => match bindings.value(*variable) {
@@ -162,7 +166,8 @@ fn composed<'a, B: Bindings>(
 #[cycle(value)]
 #[tactic(auto, using(crate::proofs::Truths::truth_of, crate::proofs::Truths::truth_told))]
 pub fn truth<B: Bindings>(alloc: Global, expr: &Expr, bindings: &B) -> Result<bool, ExprFault>
-    ensures { Comes (makes expr.now) (spec.truth (spec.meaning (B.solution bindings.now) expr.now)) result }
+    ensures { Comes (makes expr.now) (spec.truth (spec.meaning (B.solution bindings.now) expr.now))
+        result }
 {
     match expr {
         Expr::Or(parts) => is_any(alloc, parts.as_slice(), bindings),
@@ -182,7 +187,8 @@ pub fn truth<B: Bindings>(alloc: Global, expr: &Expr, bindings: &B) -> Result<bo
 #[cycle(value)]
 #[inline(never)]
 fn truth_of_value<B: Bindings>(alloc: Global, expr: &Expr, bindings: &B) -> Result<bool, ExprFault>
-    ensures { Comes (makes expr.now) (spec.truth (spec.meaning (B.solution bindings.now) expr.now)) result }
+    ensures { Comes (makes expr.now) (spec.truth (spec.meaning (B.solution bindings.now) expr.now))
+        result }
 {
     let value = value(alloc, expr, bindings)?;
     of_option(ebv(&value))
@@ -192,7 +198,8 @@ fn truth_of_value<B: Bindings>(alloc: Global, expr: &Expr, bindings: &B) -> Resu
 #[cycle(value)]
 #[inline(never)]
 fn is_any<B: Bindings>(alloc: Global, parts: &[Expr], bindings: &B) -> Result<bool, ExprFault>
-    ensures { Comes (some (map makes parts.now)) (of.any (map spec.truth (map (spec.meaning (B.solution bindings.now)) parts.now))) result }
+    ensures { Comes (some (map makes parts.now))
+        (of.any (map spec.truth (map (spec.meaning (B.solution bindings.now)) parts.now))) result }
 {
     let mut errs = false;
     for disjunct in parts {
@@ -214,7 +221,9 @@ fn is_any<B: Bindings>(alloc: Global, parts: &[Expr], bindings: &B) -> Result<bo
 #[cycle(value)]
 #[inline(never)]
 fn is_every<B: Bindings>(alloc: Global, parts: &[Expr], bindings: &B) -> Result<bool, ExprFault>
-    ensures { Comes (some (map makes parts.now)) (of.every (map spec.truth (map (spec.meaning (B.solution bindings.now)) parts.now))) result }
+    ensures { Comes (some (map makes parts.now))
+        (of.every (map spec.truth (map (spec.meaning (B.solution bindings.now)) parts.now)))
+        result }
 {
     let mut fails = false;
     for conjunct in parts {
@@ -242,7 +251,9 @@ fn is_related<B: Bindings>(
     b: &Expr,
     bindings: &B,
 ) -> Result<bool, ExprFault>
-    ensures { Comes (makes b.now) (spec.of_both (spec.compared comparison) (Some (term_of x.entry.now)) (spec.meaning (B.solution bindings.now) b.now)) result }
+    ensures { Comes (makes b.now)
+        (spec.of_both (spec.compared comparison) (Some (term_of x.entry.now))
+        (spec.meaning (B.solution bindings.now) b.now)) result }
 {
     let y = value(alloc, b, bindings)?;
     of_option(compared(comparison, x, &y))
@@ -258,7 +269,9 @@ fn is_tested<B: Bindings>(
     b: &Expr,
     bindings: &B,
 ) -> Result<bool, ExprFault>
-    ensures { Tells (makes b.now) (spec.of_both (of_calls.binary function) (Some (term_of x.entry.now)) (spec.meaning (B.solution bindings.now) b.now)) result }
+    ensures { Tells (makes b.now)
+        (spec.of_both (of_calls.binary function) (Some (term_of x.entry.now))
+        (spec.meaning (B.solution bindings.now) b.now)) result }
 {
     let y = value(alloc, b, bindings)?;
     of_option(binary(function, x, &y))
@@ -273,7 +286,9 @@ fn function_of<'a, B: Bindings>(
     argument: &'a Expr,
     bindings: &'a B,
 ) -> Result<Value<'a>, ExprFault>
-    ensures { ComesAs (makes argument.entry.now) (option_and_then (of_calls.unary function) (spec.meaning (B.solution bindings.entry.now) argument.entry.now)) result }
+    ensures { ComesAs (makes argument.entry.now)
+        (option_and_then (of_calls.unary function)
+        (spec.meaning (B.solution bindings.entry.now) argument.entry.now)) result }
 {
     match value(alloc, argument, bindings) {
         Ok(argument) => match unary(function, argument) {
@@ -293,7 +308,9 @@ fn is_among<B: Bindings>(
     parts: &[Expr],
     bindings: &B,
 ) -> Result<bool, ExprFault>
-    ensures { Comes (some (map makes parts.now)) (spec.among (Some (term_of x.entry.now)) (map (spec.meaning (B.solution bindings.now)) parts.now)) result }
+    ensures { Comes (some (map makes parts.now))
+        (spec.among (Some (term_of x.entry.now))
+        (map (spec.meaning (B.solution bindings.now)) parts.now)) result }
 {
     let mut unknown = false;
     for member in parts {
@@ -318,7 +335,8 @@ fn is_equal<B: Bindings>(
     part: &Expr,
     bindings: &B,
 ) -> Result<bool, ExprFault>
-    ensures { Comes (makes part.now) (spec.of_both of_terms.equal (Some (term_of x.entry.now)) (spec.meaning (B.solution bindings.now) part.now)) result }
+    ensures { Comes (makes part.now) (spec.of_both of_terms.equal (Some (term_of x.entry.now))
+        (spec.meaning (B.solution bindings.now) part.now)) result }
 {
     let y = value(alloc, part, bindings)?;
     of_option(equal(x, &y))
@@ -327,7 +345,8 @@ fn is_equal<B: Bindings>(
 /// The integer that the expression is worth.
 #[cycle(value)]
 fn integer<B: Bindings>(alloc: Global, expr: &Expr, bindings: &B) -> Result<i128, ExprFault>
-    ensures { Comes (makes expr.now) (spec.number (spec.meaning (B.solution bindings.now) expr.now)) result }
+    ensures { Comes (makes expr.now) (spec.number (spec.meaning (B.solution bindings.now) expr.now))
+        result }
 {
     let value = value(alloc, expr, bindings)?;
     integer_of_option(number(&value))
@@ -340,7 +359,10 @@ fn signed<B: Bindings>(
     inner: &Expr,
     bindings: &B,
 ) -> Result<i128, ExprFault>
-    ensures { Comes (makes inner.now) (in_range (option_map (spec.with_sign sign) (spec.number (spec.meaning (B.solution bindings.now) inner.now)))) result }
+    ensures { Comes (makes inner.now)
+        (in_range
+        (option_map (spec.with_sign sign)
+        (spec.number (spec.meaning (B.solution bindings.now) inner.now)))) result }
 {
     let number = integer(alloc, inner, bindings)?;
     integer_of_option(with_sign(sign, number))
@@ -354,7 +376,9 @@ fn with_addends<B: Bindings>(
     more: &[Addend],
     bindings: &B,
 ) -> Result<i128, ExprFault>
-    ensures { Comes (some (map addend_makes more.now)) (fold spec.added (Some first) (map (spec.addend_meaning (B.solution bindings.now)) more.now)) result }
+    ensures { Comes (some (map addend_makes more.now))
+        (fold spec.added (Some first) (map (inner_spec.addend_meaning (B.solution bindings.now))
+        more.now)) result }
 {
     let mut sum = first;
     for addend in more {
@@ -373,7 +397,9 @@ fn summed<B: Bindings>(
     addend: &Addend,
     bindings: &B,
 ) -> Result<i128, ExprFault>
-    ensures { Comes (addend_makes addend.now) (spec.added (Some sum) (spec.addend_meaning (B.solution bindings.now) addend.now)) result }
+    ensures { Comes (addend_makes addend.now)
+        (spec.added (Some sum) (inner_spec.addend_meaning (B.solution bindings.now) addend.now))
+        result }
 {
     let part = integer(alloc, &addend.operand, bindings)?;
     integer_of_option(with_part(addend.sign, sum, part))
@@ -387,7 +413,9 @@ fn with_factors<B: Bindings>(
     more: &[Expr],
     bindings: &B,
 ) -> Result<i128, ExprFault>
-    ensures { Comes (some (map makes more.now)) (fold spec.multiplied (Some first) (map (spec.meaning (B.solution bindings.now)) more.now)) result }
+    ensures { Comes (some (map makes more.now))
+        (fold spec.multiplied (Some first) (map (spec.meaning (B.solution bindings.now)) more.now))
+        result }
 {
     let mut product = first;
     for part in more {
@@ -406,7 +434,9 @@ fn timed<B: Bindings>(
     factor: &Expr,
     bindings: &B,
 ) -> Result<i128, ExprFault>
-    ensures { Comes (makes factor.now) (spec.multiplied (Some product) (spec.meaning (B.solution bindings.now) factor.now)) result }
+    ensures { Comes (makes factor.now)
+        (spec.multiplied (Some product) (spec.meaning (B.solution bindings.now) factor.now))
+        result }
 {
     let factor = integer(alloc, factor, bindings)?;
     integer_of_option(with_factor(product, factor))
@@ -420,7 +450,9 @@ fn first_of<'a, B: Bindings>(
     parts: &'a [Expr],
     bindings: &'a B,
 ) -> Result<Value<'a>, ExprFault>
-    ensures { ComesAs (some (map makes parts.entry.now)) (spec.first_value (map (spec.meaning (B.solution bindings.entry.now)) parts.entry.now)) result }
+    ensures { ComesAs (some (map makes parts.entry.now))
+        (spec.first_value (map (spec.meaning (B.solution bindings.entry.now)) parts.entry.now))
+        result }
 {
     for part in parts {
         match value(alloc, part, bindings) {
@@ -440,7 +472,10 @@ fn concatenation<'a, B: Bindings>(
     parts: &'a [Expr],
     bindings: &'a B,
 ) -> Result<Value<'a>, ExprFault>
-    ensures { ComesAs true (option_map of_calls.joined (of_calls.strings (map (spec.meaning (B.solution bindings.entry.now)) parts.entry.now))) result }
+    ensures { ComesAs true
+        (option_map of_calls.joined
+        (of_calls.strings (map (spec.meaning (B.solution bindings.entry.now)) parts.entry.now)))
+        result }
 {
     let mut form = String::new(alloc);
     let mut tag = None;
@@ -461,7 +496,10 @@ fn add_string<'a, B: Bindings>(
     part: &'a Expr,
     bindings: &'a B,
 ) -> Result<Option<&'a Lit>, ExprFault>
-    ensures { joining.JoinsTo (option_and_then (joining.with_value (string_bytes form.old, joining.tag_seen tag.entry)) (spec.meaning (B.solution bindings.entry.now) part.entry.now)) (string_bytes form.new) result }
+    ensures { joining.JoinsTo
+        (option_and_then (joining.with_value (string_bytes form.old, joining.tag_seen tag.entry))
+        (spec.meaning (B.solution bindings.entry.now) part.entry.now)) (string_bytes form.new)
+        result }
 {
     match value(alloc, part, bindings) {
         Ok(value) => add(form, tag, &value),

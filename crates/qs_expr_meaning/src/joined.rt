@@ -55,7 +55,8 @@ fn is_same_tag(a: Option<&str>, b: Option<&str>) -> bool
 
 // The tag so far, if the next string has it too.
 fn agreed<'a>(tag: Option<Option<&'a Lit>>, next: Option<&'a Lit>) -> Option<&'a Lit>
-    ensures { spec.tag_in (option_copied result) ≡ spec.with_tag (spec.tag_seen tag.entry) (spec.tag_in (option_copied next.entry)) }
+    ensures { spec.tag_in (option_copied result) ≡ spec.with_tag (spec.tag_seen tag.entry)
+        (spec.tag_in (option_copied next.entry)) }
 {
     match tag {
         None => next,
@@ -76,7 +77,8 @@ pub(crate) fn add<'a>(
     tag: Option<Option<&'a Lit>>,
     value: &Value<'a>,
 ) -> Result<Option<&'a Lit>, ExprFault>
-    ensures { spec.JoinsTo (spec.with_value (string_bytes form.old, spec.tag_seen tag.entry) (term_of value.entry.now)) (string_bytes form.new) result }
+    ensures { spec.JoinsTo (spec.with_value (string_bytes form.old, spec.tag_seen tag.entry)
+        (term_of value.entry.now)) (string_bytes form.new) result }
 {
     match string_of(value) {
         None => Err(ExprFault::TypeError),

@@ -2,7 +2,7 @@
 
 ghost use Rattle.std.specs.Prelude.{◌≡◌, Bool, List, Option};
 ghost use Rattle.qs_expr_meaning.specs.Truth.{any, every};
-ghost use Rattle.qs_expr_meaning.specs.Words.{any_said, every_said};
+ghost use Rattle.qs_expr_meaning.specs.inner.Words.{any_said, every_said};
 
 /// The chains of `||` and `&&` in the words of SPARQL 1.1 Query, 17.2.
 #[tactic(auto, using(crate::proofs::Words::any_in_words, crate::proofs::Words::every_in_words))]

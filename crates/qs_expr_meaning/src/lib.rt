@@ -5,7 +5,7 @@
 //! makes the term, `truth` is the effective boolean value, `holds` what FILTER asks, and `order_key_terms` what ORDER BY sorts by.
 //!
 //! The definitions stand in `specs/`: truth with errors in `Truth.antt`, calls in `Calls.antt`, expressions in `Meaning.antt`, which
-//! ones take memory in `Makes.antt`; how answers stand to what is due in `Comes.antt`.
+//! ones take memory in `inner/Makes.antt`; how answers stand to what is due in `inner/Comes.antt`.
 #![tactic(auto)]
 
 mod bindings;

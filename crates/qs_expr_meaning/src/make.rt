@@ -2,9 +2,10 @@
 
 ghost use Rattle.std.specs.Prelude.{◌≡◌, ◌||◌, false, true, IfOk, OnErr};
 ghost use Rattle.std.specs.Option.{is_some};
-ghost use Rattle.qs_expr_values.specs.Sorting.{key_of, has_text};
-ghost use Rattle.qs_expr_meaning.specs.Comes.{Comes};
-ghost use Rattle.qs_expr_meaning.specs.Makes.{makes};
+ghost use Rattle.qs_expr_values.specs.Sorting.{key_of};
+ghost use Rattle.qs_expr_values.specs.inner.Sorting.{has_text};
+ghost use Rattle.qs_expr_meaning.specs.inner.Comes.{Comes};
+ghost use Rattle.qs_expr_meaning.specs.inner.Makes.{makes};
 ghost use Rattle.qs_expr_meaning.specs.Meaning.{meaning};
 ghost use Rattle.qs_expr_meaning.specs.Meaning as spec;
 ghost use Rattle.qs_expr_values.specs.Values as of_terms;
@@ -19,7 +20,8 @@ use std::alloc::{AllocError, Global};
 
 /// The term that the expression means. Memory is taken for the term, and by CONCAT.
 pub fn eval_terms<B: Bindings>(alloc: Global, expr: &Expr, bindings: &B) -> Result<Term, ExprFault>
-    ensures { Comes (makes expr.now || is_some (meaning (B.solution bindings.now) expr.now)) (meaning (B.solution bindings.now) expr.now) result }
+    ensures { Comes (makes expr.now || is_some (meaning (B.solution bindings.now) expr.now))
+        (meaning (B.solution bindings.now) expr.now) result }
 {
     let value = value(alloc, expr, bindings)?;
     match make_term(alloc, value) {
@@ -57,7 +59,9 @@ pub fn order_key_terms<B: Bindings>(
     bindings: &B,
 ) -> Result<Key, AllocError>
     ensures key { IfOk result (λ k. k ≡ key_of (meaning (B.solution bindings.now) expr.now)) }
-    ensures memory { OnErr result ((makes expr.now || has_text (key_of (meaning (B.solution bindings.now) expr.now))) ≡ true) }
+    ensures memory { OnErr result
+        ((makes expr.now || has_text (key_of (meaning (B.solution bindings.now) expr.now)))
+        ≡ true) }
 {
     match value(alloc, expr, bindings) {
         Ok(value) => qs_expr_values::order_key(alloc, Some(&value)),

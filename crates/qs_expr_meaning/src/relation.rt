@@ -13,7 +13,8 @@ use qs_expr_values::{Value, Worth, add, equal, multiply, negate, subtract, worth
 use std::cmp::Ordering;
 
 fn order(a: &Value<'_>, b: &Value<'_>) -> Option<Ordering>
-    ensures { result ≡ of.compare (of.worth (term_of a.entry.now)) (of.worth (term_of b.entry.now)) }
+    ensures { result ≡ of.compare (of.worth (term_of a.entry.now))
+        (of.worth (term_of b.entry.now)) }
 {
     qs_expr_values::compare(worth_of(a), worth_of(b))
 }

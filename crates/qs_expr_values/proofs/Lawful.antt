@@ -5,11 +5,13 @@ use Rattle.std.specs.Prelude.{not, IfErr, if◌then◌else◌}
 use Rattle.std.specs.Str.{bytes_eq}
 use Rattle.std.specs.List.{list_any}
 use Rattle.std.proofs.lemmas.Slice.Eq.{bytes_eq-Decides}
-use Rattle.qs_terms.specs.Iri.{is_iri_text, checked_iri, has_scheme, is_excluded}
-use Rattle.qs_terms.specs.Literal.{Literal, is_literal, fits_tag, is_lower_tag, checked_tagged, tagged, rdf_lang_string, xsd_string, xsd_integer, xsd_boolean}
-use Rattle.qs_terms.specs.OrOutOf.{ValueOrOutOfMemory}
+use Rattle.qs_terms.specs.Iri.{checked_iri, has_scheme, is_excluded}
+use Rattle.qs_terms.specs.inner.Iri.{is_iri_text}
+use Rattle.qs_terms.specs.Literal.{Literal, checked_tagged, tagged, rdf_lang_string, xsd_string, xsd_integer, xsd_boolean}
+use Rattle.qs_terms.specs.inner.Literal.{is_literal, fits_tag, is_lower_tag}
+use Rattle.qs_terms.specs.inner.OrOutOf.{ValueOrOutOfMemory}
 use Rattle.qs_terms.specs.Tag.{lowered, is_tag}
-use Rattle.qs_terms.specs.Term.{iri_of}
+use Rattle.qs_terms.specs.inner.Term.{iri_of}
 use Rattle.qs_terms.specs.declared.fault.TermFault.{TermFault}
 use Rattle.qs_terms.specs.declared.fault.TermFault.TheVariants.{Memory, NotAbsolute, BadChar, BadTag}
 use Rattle.qs_terms.specs.declared.term.Term.{Term}

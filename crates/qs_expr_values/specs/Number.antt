@@ -1,5 +1,7 @@
--- Integers as texts (XML Schema 1.1 part 2, 3.4.13): the whole number that a form denotes, and the form that a number is written in.
-use Rattle.std.specs.Prelude.{ℕ, ◌+◌, ◌-◌, ◌*◌, ◌^◌, ◌==◌, Bool, false, nat_lt, List, [], ◌∷◌, Option, Some, None, if◌then◌else◌, ℤ, pos, negsuc, neg_ℤ}
+-- Integers as texts (XML Schema 1.1 part 2, 3.4.13): the whole number that a form denotes, and the
+-- form that a number is written in.
+use Rattle.std.specs.Prelude.{ℕ, ◌+◌, ◌-◌, ◌*◌, ◌^◌, ◌==◌, Bool, false, nat_lt, List, [], ◌∷◌}
+use Rattle.std.specs.Prelude.{Option, Some, None, if◌then◌else◌, ℤ, pos, negsuc, neg_ℤ}
 use Rattle.std.specs.Str.{all_ascii_digits}
 use Rattle.std.specs.Fmt.{signed_decimal}
 
@@ -22,9 +24,11 @@ signed sign digits = if is_numeral digits then Some (sign (value_behind 0 digits
 -- an optional sign, and digits; leading zeros change nothing, and `-0` is 0
 abbrev pub whole_number : List ℕ → Option ℤ
 whole_number [] = None
-whole_number (c ∷ cs) = if c == 43 then signed pos cs else (if c == 45 then signed minus cs else signed pos (c ∷ cs))
+whole_number (c ∷ cs) = if c == 43 then signed pos cs
+    else (if c == 45 then signed minus cs else signed pos (c ∷ cs))
 
--- the range of integers: that of signed 128 bits. It stands here alone; a computed number out of it is an error
+-- the range of integers: that of signed 128 bits. It stands here alone; a computed number out of it
+-- is an error
 abbrev pub is_in_range : ℤ → Bool
 is_in_range (pos n) = nat_lt n (2 ^ 127)
 is_in_range (negsuc n) = nat_lt n (2 ^ 127)

@@ -1,6 +1,7 @@
--- The order of ORDER BY (SPARQL 1.1 Query, 15.1): kinds in their order, and within a kind its own; equal keys tie.
--- Ill-formed booleans and integers, and integers out of range, sort among all other literals.
-use Rattle.std.specs.Prelude.{ℕ, Bool, true, false, List, Option, Some, None}
+-- The order of ORDER BY (SPARQL 1.1 Query, 15.1): kinds in their order, and within a kind its own;
+-- equal keys tie. Ill-formed booleans and integers, and integers out of range, sort among all other
+-- literals.
+use Rattle.std.specs.Prelude.{ℕ, List, Option, Some, None}
 use Rattle.std.specs.declared.cmp.Ordering.{Ordering}
 use Rattle.std.specs.declared.cmp.Ordering.TheVariants.{Equal}
 use Rattle.std.specs.Ordering.{nat_cmp, bool_cmp, int_cmp, ordering_then}
@@ -10,7 +11,8 @@ use Rattle.qs_terms.specs.declared.term.Term.{Term}
 use Rattle.qs_terms.specs.declared.term.Term.TheVariants as rdf
 use Rattle.qs_expr_values.specs.Values.{Worth, integer, boolean, text, other, worth}
 use Rattle.qs_expr_values.specs.declared.key.Key.{Key}
-use Rattle.qs_expr_values.specs.declared.key.Key.TheVariants.{Unbound, Blank, Iri, Boolean, Integer, String, Other}
+use Rattle.qs_expr_values.specs.declared.key.Key.TheVariants.{Unbound, Blank, Iri, Boolean, Integer}
+use Rattle.qs_expr_values.specs.declared.key.Key.TheVariants.{String, Other}
 
 abbrev pub other_key : List ℕ → List ℕ → Option (List ℕ) → Key
 other_key form datatype tag = Other datatype form tag
@@ -32,16 +34,6 @@ abbrev pub key_of : Option Term → Key
 key_of None = Unbound
 key_of (Some t) = key_by_worth (worth t) t
 
--- whether the key holds a text
-abbrev pub has_text : Key → Bool
-has_text Unbound = false
-has_text (Blank n) = false
-has_text (Iri i) = true
-has_text (Boolean b) = false
-has_text (Integer z) = false
-has_text (String s) = true
-has_text (Other datatype form tag) = true
-
 -- unbound or an error, blank nodes, IRIs, booleans, integers, strings, all other literals
 abbrev pub rank : Key → ℕ
 rank Unbound = 0
@@ -56,14 +48,16 @@ rank (Other datatype form tag) = 6
 abbrev pub texts : List ℕ → List ℕ → Ordering
 texts = slice_cmp nat_cmp
 
--- two keys of one kind: blank nodes by number, false before true, integers by value, others by datatype, form and tag
+-- two keys of one kind: blank nodes by number, false before true, integers by value, others by
+-- datatype, form and tag
 abbrev pub within : Key → Key → Ordering
 within (Blank m) (Blank n) = nat_cmp m n
 within (Iri a) (Iri b) = texts a b
 within (Boolean a) (Boolean b) = bool_cmp a b
 within (Integer a) (Integer b) = int_cmp a b
 within (String a) (String b) = texts a b
-within (Other d f t) (Other e g u) = ordering_then (texts d e) (ordering_then (texts f g) (option_cmp texts t u))
+within (Other d f t) (Other e g u) =
+    ordering_then (texts d e) (ordering_then (texts f g) (option_cmp texts t u))
 within _ _ = Equal
 
 -- by kind, and within a kind by its own order

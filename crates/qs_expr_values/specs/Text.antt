@@ -1,6 +1,7 @@
--- Texts in texts (SPARQL 1.1 Query, 17.4.3, CONTAINS), and language ranges (17.4.3, langMatches; RFC 4647, 3.3.1).
--- Texts are compared by bytes. By laws of the crate that says the same as by characters, where they are UTF-8, and so it does of a front,
--- an end and the order of texts. The empty language range matches the empty tag alone; RFC 4647 has no empty range.
+-- Texts in texts (SPARQL 1.1 Query, 17.4.3, CONTAINS), and language ranges (17.4.3, langMatches;
+-- RFC 4647, 3.3.1). Texts are compared by bytes. By laws of the crate that says the same as by
+-- characters, where they are UTF-8, and so it does of a front, an end and the order of texts. The
+-- empty language range matches the empty tag alone; RFC 4647 has no empty range.
 use Rattle.std.specs.Prelude.{ℕ, Bool, false, ◌||◌, List, [], ◌∷◌, ◌++◌, codes, nat_eq}
 use Rattle.std.specs.List.{starts_with}
 use Rattle.std.specs.Str.{bytes_eq}
@@ -21,6 +22,9 @@ abbrev pub begins_with_range : List ℕ → List ℕ → Bool
 begins_with_range [] tag = false
 begins_with_range (c ∷ range) tag = starts_with nat_eq tag ((c ∷ range) ++ codes "-")
 
--- basic filtering: the range and the tag are the same but for case, or the range is a front of the tag's subtags (RFC 4647, 3.3.1)
+-- basic filtering: the range and the tag are the same but for case, or the range is a front of the
+-- tag's subtags (RFC 4647, 3.3.1)
 abbrev pub matches_range : List ℕ → List ℕ → Bool
-matches_range range tag = is_any_range range tag || (bytes_eq (lowered tag) (lowered range) || begins_with_range (lowered range) (lowered tag))
+matches_range range tag =
+    is_any_range range tag
+    || (bytes_eq (lowered tag) (lowered range) || begins_with_range (lowered range) (lowered tag))

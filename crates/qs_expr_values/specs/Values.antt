@@ -1,5 +1,7 @@
--- The values of terms (SPARQL 1.1 Query, 17.1 to 17.4): booleans, integers and strings; what is true of a term, and how terms compare.
-use Rattle.std.specs.Prelude.{ℕ, Bool, true, false, ◌&&◌, ◌||◌, ◌==◌, not, List, [], ◌∷◌, codes, Option, Some, None, if◌then◌else◌, ℤ, pos, negsuc}
+-- The values of terms (SPARQL 1.1 Query, 17.1 to 17.4): booleans, integers and strings; what is
+-- true of a term, and how terms compare.
+use Rattle.std.specs.Prelude.{ℕ, Bool, true, false, ◌&&◌, ◌||◌, ◌==◌, not, List, [], ◌∷◌, codes}
+use Rattle.std.specs.Prelude.{Option, Some, None, if◌then◌else◌, ℤ, pos, negsuc}
 use Rattle.std.specs.Option.{is_some}
 use Rattle.std.specs.Str.{bytes_eq}
 use Rattle.std.specs.declared.cmp.Ordering.{Ordering}
@@ -20,7 +22,8 @@ boolean_of form =
     if bytes_eq form (codes "true") || bytes_eq form (codes "1") then Some true
     else (if bytes_eq form (codes "false") || bytes_eq form (codes "0") then Some false else None)
 
--- what a literal is worth: an integer of the range, a boolean, a string without a tag, or nothing of these
+-- what a literal is worth: an integer of the range, a boolean, a string without a tag, or nothing
+-- of these
 pub data Worth : Type 0 where
   integer : ℤ → Worth
   boolean : Bool → Worth
@@ -42,9 +45,8 @@ worth_of_literal form datatype =
     else (if bytes_eq datatype xsd_string then text form else other))
 
 abbrev pub worth : Term → Worth
-worth (Iri i) = other
-worth (Blank n) = other
 worth (Literal l) = worth_of_literal l.form l.datatype
+worth _ = other
 
 -- ---- terms that are computed
 
@@ -64,7 +66,8 @@ text_term form = Literal (lit.typed form xsd_string)
 -- a string of this form, with this tag if there is one
 abbrev pub strung : Option (List ℕ) → List ℕ → Term
 strung None form = text_term form
-strung (Some tag) form = Literal (record { form = form; datatype = lit.rdf_lang_string; tag = Some tag })
+strung (Some tag) form =
+    Literal (record { form = form; datatype = lit.rdf_lang_string; tag = Some tag })
 
 -- ---- what is true (17.2.2)
 
@@ -82,8 +85,8 @@ abbrev pub is_not_empty : List ℕ → Bool
 is_not_empty [] = false
 is_not_empty (c ∷ cs) = true
 
--- of a boolean its value, of an integer whether it isn't 0, of a string, with a tag or without, whether it isn't empty; else an error; an
--- ill-formed boolean or integer is false
+-- of a boolean its value, of an integer whether it isn't 0, of a string, with a tag or without,
+-- whether it isn't empty; else an error; an ill-formed boolean or integer is false
 abbrev pub ebv_of_literal : List ℕ → List ℕ → Option (List ℕ) → Option Bool
 ebv_of_literal form datatype tag =
     if bytes_eq datatype xsd_boolean then Some (is_true (boolean_of form))
@@ -91,13 +94,13 @@ ebv_of_literal form datatype tag =
     else (if bytes_eq datatype xsd_string || is_some tag then Some (is_not_empty form) else None))
 
 abbrev pub ebv : Term → Option Bool
-ebv (Iri i) = None
-ebv (Blank n) = None
 ebv (Literal l) = ebv_of_literal l.form l.datatype l.tag
+ebv _ = None
 
 -- ---- comparisons (17.3 and 17.4.1.7)
 
--- how two values of one kind stand to each other, false before true, texts by code points; an error for all others
+-- how two values of one kind stand to each other, false before true, texts by code points; an error
+-- for all others
 abbrev pub compare : Worth → Worth → Option Ordering
 compare (integer a) (integer b) = Some (int_cmp a b)
 compare (boolean a) (boolean b) = Some (bool_cmp a b)
@@ -105,13 +108,14 @@ compare (text a) (text b) = Some (slice_cmp nat_cmp a b)
 compare _ _ = None
 
 abbrev pub is_literal : Term → Bool
-is_literal (Iri i) = false
-is_literal (Blank n) = false
 is_literal (Literal l) = true
+is_literal _ = false
 
--- terms without values of one kind are equal where they are the same; two other literals are neither equal nor unequal
+-- terms without values of one kind are equal where they are the same; two other literals are
+-- neither equal nor unequal
 abbrev pub equal_terms : Term → Term → Option Bool
-equal_terms a b = if same_term a b then Some true else (if is_literal a && is_literal b then None else Some false)
+equal_terms a b = if same_term a b then Some true
+    else (if is_literal a && is_literal b then None else Some false)
 
 abbrev pub by_order : Option Ordering → Option Bool → Option Bool
 by_order (Some o) x = Some (is_eq o)

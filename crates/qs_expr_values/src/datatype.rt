@@ -1,7 +1,7 @@
 //! Datatypes of values.
 
 ghost use Rattle.std.specs.Prelude.{◌≡◌, IsTrue};
-ghost use Rattle.qs_terms.specs.Iri.{is_iri_text};
+ghost use Rattle.qs_terms.specs.inner.Iri.{is_iri_text};
 ghost use Rattle.qs_expr_values.specs.inner.Value.{datatype_text};
 
 use qs_terms::{Lit, datatype};

@@ -3,6 +3,7 @@
 ghost use Rattle.std.specs.Prelude.{◌≡◌, IfOk, OnErr, IsTrue};
 ghost use Rattle.std.specs.Option.{option_copied, option_map};
 ghost use Rattle.qs_expr_values.specs.Sorting as spec;
+ghost use Rattle.qs_expr_values.specs.inner.Sorting as inner;
 ghost use Rattle.qs_expr_values.specs.inner.Value.{term_of, parts_of};
 ghost use Rattle.qs_expr_values.specs.Values.{worth};
 
@@ -54,7 +55,8 @@ fn other_key(
     datatype: &str,
     tag: Option<&str>,
 ) -> Result<Key, AllocError>
-    ensures { IfOk result (λ k. k ≡ spec.other_key form.now datatype.now (option_copied tag.entry)) }
+    ensures { IfOk result
+        (λ k. k ≡ spec.other_key form.now datatype.now (option_copied tag.entry)) }
 {
     let datatype = Text::new(alloc, datatype)?;
     let form = Text::new(alloc, form)?;
@@ -65,7 +67,8 @@ fn other_key(
 // The key of a term of these parts that is worth nothing.
 fn plain_key(alloc: Global, parts: Parts<'_>) -> Result<Key, AllocError>
     ensures key { IfOk result (λ k. k ≡ spec.plain_key (parts_of parts.entry)) }
-    ensures memory { OnErr result (IsTrue (spec.has_text (spec.plain_key (parts_of parts.entry)))) }
+    ensures memory { OnErr result
+        (IsTrue (inner.has_text (spec.plain_key (parts_of parts.entry)))) }
 {
     match parts {
         Parts::Iri(text) => Ok(Key::Iri(Text::new(alloc, text)?)),
@@ -76,8 +79,12 @@ fn plain_key(alloc: Global, parts: Parts<'_>) -> Result<Key, AllocError>
 
 // The key of a value. Of a boolean and of an integer nothing but the worth is read.
 fn key_of(alloc: Global, value: &Value<'_>) -> Result<Key, AllocError>
-    ensures key { IfOk result (λ k. k ≡ spec.key_by_worth (worth (term_of value.entry.now)) (term_of value.entry.now)) }
-    ensures memory { OnErr result (IsTrue (spec.has_text (spec.key_by_worth (worth (term_of value.entry.now)) (term_of value.entry.now)))) }
+    ensures key { IfOk result (λ k. k ≡ spec.key_by_worth (worth (term_of value.entry.now))
+        (term_of value.entry.now)) }
+    ensures memory { OnErr result
+        (IsTrue
+        (inner.has_text (spec.key_by_worth (worth (term_of value.entry.now))
+        (term_of value.entry.now)))) }
 {
     match worth_of(value) {
         Worth::Boolean(truth) => Ok(Key::Boolean(truth)),
@@ -92,8 +99,10 @@ fn key_of(alloc: Global, value: &Value<'_>) -> Result<Key, AllocError>
 
 /// The key of a value, none being an unbound variable or an error. It takes memory for texts alone.
 pub fn order_key(alloc: Global, value: Option<&Value<'_>>) -> Result<Key, AllocError>
-    ensures key { IfOk result (λ k. k ≡ spec.key_of (option_map term_of (option_copied value.entry))) }
-    ensures memory { OnErr result (IsTrue (spec.has_text (spec.key_of (option_map term_of (option_copied value.entry))))) }
+    ensures key { IfOk result
+        (λ k. k ≡ spec.key_of (option_map term_of (option_copied value.entry))) }
+    ensures memory { OnErr result
+        (IsTrue (inner.has_text (spec.key_of (option_map term_of (option_copied value.entry))))) }
 {
     match value {
         None => Ok(Key::Unbound),

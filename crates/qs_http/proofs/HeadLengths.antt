@@ -2,7 +2,8 @@
 use Rattle.std.proofs.Common.{◌≡◌, ◌≤◌, ◌<◌, ◌+◌, ◌^◌, ℕ, List, [], ◌++◌, length, codes, sym, subst, inl, inr, lit≤, lit<, arith, length-append}
 use Rattle.std.specs.Fmt.{decimal, digits}
 use Rattle.std.proofs.lemmas.Fmt.{length-decimal-le}
-use Rattle.qs_http.specs.Reply.{line, phrase_of, media_text, status_line, closing, body_fields, head_of, IsReplyStatus}
+use Rattle.qs_http.specs.Reply.{line, phrase_of, media_text, status_line, closing, body_fields, head_of}
+use Rattle.qs_http.specs.inner.Reply.{IsReplyStatus}
 use Rattle.qs_http.specs.declared.media.Media.{Media}
 use Rattle.qs_http.specs.declared.media.Media.TheVariants.{Results, NTriples, NQuads, Text}
 

@@ -16,9 +16,9 @@ use Rattle.qs_http.specs.inner.HeadState.{place_after, ends_head, end_from, plac
 use Rattle.qs_http.specs.Head.{Head, is_get, is_post, at_query, at_update, at_data, body_length}
 use Rattle.qs_http.specs.Checks.{first_due, head_checks, lacks_host, is_unknown_path, query_method_not_allowed, update_method_not_allowed, data_method_not_allowed, lacks_length, has_bad_length, has_long_body}
 use Rattle.qs_http.specs.RequestOf.{IsReading, ReadsHead, outcome_at, of_reading, of_sound_head, of_body, unless_due, IsRequestOf}
-use Rattle.qs_http.specs.Stage.{AwaitsBody, EndsAt, IsStep, IsHeadStep}
-use Rattle.qs_http.specs.Feeding.{Seen, Reading, Done, seen_at, StandsAt, Feeds, FeedsAll}
-use Rattle.qs_http.specs.Laws.{joined}
+use Rattle.qs_http.specs.inner.Stage.{AwaitsBody, EndsAt, IsStep, IsHeadStep}
+use Rattle.qs_http.specs.inner.Feeding.{Seen, Reading, Done, seen_at, StandsAt, Feeds, FeedsAll}
+use Rattle.qs_http.specs.inner.Laws.{joined}
 use Rattle.qs_http.proofs.RequestLaws.{reading_unique}
 use Rattle.qs_http.proofs.Ends.{Some-None, end_from-nil, end_from-append, end_from-kept, end_from-on, end_from-found, place_from-append, end_from-front, head_end-searched}
 

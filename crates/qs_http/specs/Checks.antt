@@ -1,9 +1,14 @@
--- The checks of a head that was parsed, in their order: Host, the path, the method, the body's length, its media type. The parameters are
--- checked after these.
-use Rattle.std.specs.Prelude.{Bool, ◌&&◌, ◌||◌, not, ◌==◌, nat_lt, if◌then◌else◌, List, [], ◌∷◌, length, codes, Option, None, Some}
+-- The checks of a head that was parsed, in their order: Host, the path, the method, the body's
+-- length, its media type. The parameters are checked after these.
+use Rattle.std.specs.Prelude.{Bool, ◌&&◌, ◌||◌, not, ◌==◌, nat_lt, if◌then◌else◌, List, [], ◌∷◌}
+use Rattle.std.specs.Prelude.{length, codes, Option, None, Some}
 use Rattle.qs_http.specs.declared.fixed_reply.Fixed.{Fixed}
-use Rattle.qs_http.specs.declared.fixed_reply.Fixed.TheVariants.{BadRequest, NotFound, QueryMethod, UpdateMethod, DataMethod, NoLength, BodyTooLarge, MediaType}
-use Rattle.qs_http.specs.Head.{Head, values_of, has_one, first_of, is_get, is_post, at_query, at_update, at_data, is_form, is_direct, lengths, is_number, body_length}
+use Rattle.qs_http.specs.declared.fixed_reply.Fixed.TheVariants.{BadRequest, NotFound, QueryMethod}
+use Rattle.qs_http.specs.declared.fixed_reply.Fixed.TheVariants.{UpdateMethod, DataMethod, NoLength}
+use Rattle.qs_http.specs.declared.fixed_reply.Fixed.TheVariants.{BodyTooLarge, MediaType}
+use Rattle.qs_http.specs.Head.{Head, values_of, has_one, first_of, is_get, is_post, at_query}
+use Rattle.qs_http.specs.Head.{at_update, at_data, is_form, is_direct, lengths, is_number}
+use Rattle.qs_http.specs.Head.{body_length}
 
 -- a test, and the reply that is due where it holds
 abbrev pub Check : Type 0
@@ -34,7 +39,9 @@ data_method_not_allowed h = at_data h && not (is_get h)
 
 -- the rest are checks of a POST: there is a Transfer-Encoding, or no Content-Length
 unfoldable pub lacks_length : Head → Bool
-lacks_length h = is_post h && (not (length (values_of (codes "transfer-encoding") h) == 0) || length (lengths h) == 0)
+lacks_length h =
+    is_post h && (not (length (values_of (codes "transfer-encoding") h) == 0)
+    || length (lengths h) == 0)
 
 -- there are two Content-Length fields, or the value isn't digits alone
 unfoldable pub has_bad_length : Head → Bool

@@ -1,5 +1,6 @@
 -- The head of a request (RFC 9112, 3 and 5), and what the checks read in it.
-use Rattle.std.specs.Prelude.{ℕ, ◌+◌, Bool, ◌&&◌, ◌==◌, nat_lt, if◌then◌else◌, List, [], ◌∷◌, length, take, drop, map, filter, codes}
+use Rattle.std.specs.Prelude.{ℕ, ◌+◌, Bool, ◌&&◌, ◌==◌, nat_lt, if◌then◌else◌, List, [], ◌∷◌}
+use Rattle.std.specs.Prelude.{length, take, drop, map, filter, codes}
 use Rattle.std.specs.List.{list_all, position_or_len}
 use Rattle.std.specs.Char.{is_ascii_digit}
 use Rattle.std.specs.Str.{bytes_eq, str_eq_ignore_ascii_case}
@@ -16,7 +17,14 @@ pub record Head : Type 0 where
 
 -- the same of a head as the parser's grammar reads it
 abbrev pub plain_head : RequestHead → Head
-plain_head h = record { method = h.method; target = h.target; minor = h.minor; fields = map name_and_value h.fields }
+plain_head h =
+    record {
+      method = h.method;
+      target = h.target;
+      minor = h.minor;
+      fields = map name_and_value
+          h.fields;
+    }
 
 -- the values of the fields of that name, ASCII case aside (RFC 9110, 5.1)
 unfoldable pub values_in : List ℕ → List (List ℕ × List ℕ) → List (List ℕ)
@@ -69,7 +77,8 @@ is_form h = str_eq_ignore_ascii_case (media_of h) (codes "application/x-www-form
 -- the media type of the path's text by itself (SPARQL 1.1 Protocol, 2.1.3 and 2.2.2)
 unfoldable pub is_direct : Head → Bool
 is_direct h =
-    str_eq_ignore_ascii_case (media_of h) (if at_query h then codes "application/sparql-query" else codes "application/sparql-update")
+    str_eq_ignore_ascii_case (media_of h) (if at_query h then codes "application/sparql-query"
+    else codes "application/sparql-update")
 
 abbrev pub lengths : Head → List (List ℕ)
 lengths h = values_of (codes "content-length") h

@@ -1,6 +1,7 @@
--- Where the head of a request ends, among the bytes that a connection brought (RFC 9112, 2.1 and 2.2). Line ends before the head are passed
--- over.
-use Rattle.std.specs.Prelude.{ℕ, ◌+◌, Bool, false, ◌&&◌, ◌||◌, not, ◌==◌, if◌then◌else◌, List, [], ◌∷◌, take, drop, Option, None, Some}
+-- Where the head of a request ends, among the bytes that a connection brought (RFC 9112, 2.1 and
+-- 2.2). Line ends before the head are passed over.
+use Rattle.std.specs.Prelude.{ℕ, ◌+◌, Bool, false, ◌&&◌, ◌||◌, not, ◌==◌, if◌then◌else◌, List, []}
+use Rattle.std.specs.Prelude.{◌∷◌, take, drop, Option, None, Some}
 use Rattle.std.specs.List.{position_or_len}
 
 abbrev pub carriage_return : ℕ
@@ -40,7 +41,8 @@ abbrev pub later : ℕ → Option ℕ → Option ℕ
 later i None = None
 later i (Some n) = Some (i + n)
 
--- how many bytes there are up to the first LF that directly follows an LF or an LF CR, that one counted; None: there is none
+-- how many bytes there are up to the first LF that directly follows an LF or an LF CR, that one
+-- counted; None: there is none
 unfoldable pub end_of_head : List ℕ → Option ℕ
 end_of_head [] = None
 end_of_head (b ∷ bytes) =
@@ -52,6 +54,8 @@ end_of_head (b ∷ bytes) =
 abbrev pub head_limit : ℕ
 head_limit = 16384
 
--- how many bytes there are up to the head's end, the leading CR and LF bytes counted; None: the end isn't among the first 16,384 bytes
+-- how many bytes there are up to the head's end, the leading CR and LF bytes counted; None: the end
+-- isn't among the first 16,384 bytes
 unfoldable pub head_end : List ℕ → Option ℕ
-head_end bytes = let front = take head_limit bytes in later (leading front) (end_of_head (without_leading front))
+head_end bytes = let front =
+    take head_limit bytes in later (leading front) (end_of_head (without_leading front))

@@ -4,8 +4,5 @@ pub mod Head
 pub mod Checks
 pub mod Parameters
 pub mod RequestOf
-pub mod Feeding
-pub mod Stage
 pub mod Reply
-pub mod Laws
 pub mod inner

@@ -1,5 +1,7 @@
--- The parameters of a request (SPARQL 1.1 Protocol, 2): the pairs of a form, as `form_urlencoded` reads them (URL Standard, 5.1).
-use Rattle.std.specs.Prelude.{ℕ, Bool, ◌||◌, if◌then◌else◌, List, [], ◌∷◌, map, filter, codes, Option, None, Some}
+-- The parameters of a request (SPARQL 1.1 Protocol, 2): the pairs of a form, as `form_urlencoded`
+-- reads them (URL Standard, 5.1).
+use Rattle.std.specs.Prelude.{ℕ, Bool, ◌||◌, if◌then◌else◌, List, [], ◌∷◌, map, filter, codes}
+use Rattle.std.specs.Prelude.{Option, None, Some}
 use Rattle.std.specs.List.{list_any}
 use Rattle.std.specs.Str.{bytes_eq}
 use Rattle.std.specs.Str.Lossy.{utf8_lossy}
@@ -26,9 +28,8 @@ values_named name pairs = map (λ p. p.1) (filter (λ p. bytes_eq name p.0) pair
 
 -- the value, where there is exactly one
 abbrev pub only : List (List ℕ) → Option (List ℕ)
-only [] = None
 only (value ∷ []) = Some value
-only (value ∷ other ∷ values) = None
+only _ = None
 
 -- the value of the one pair of that name; None: there isn't exactly one
 unfoldable pub only_value : List ℕ → List ℕ → Option (List ℕ)
@@ -37,7 +38,8 @@ only_value name text = only (values_named name (pairs_of text))
 -- the names by which a request would choose its graphs (SPARQL 1.1 Protocol, 2.1.4 and 2.2.3)
 abbrev pub graph_names : List (List ℕ)
 graph_names =
-    codes "default-graph-uri" ∷ codes "named-graph-uri" ∷ codes "using-graph-uri" ∷ codes "using-named-graph-uri" ∷ []
+    codes "default-graph-uri" ∷ codes "named-graph-uri" ∷ codes "using-graph-uri"
+    ∷ codes "using-named-graph-uri" ∷ []
 
 abbrev pub is_graph_name : List ℕ → Bool
 is_graph_name name = list_any (bytes_eq name) graph_names
@@ -54,4 +56,5 @@ of_text asks (Some text) = Ready (asks text)
 -- the parameters hold exactly one pair of that name, and no graph is chosen there or in the target
 unfoldable pub of_pairs : List ℕ → (List ℕ → Request) → List ℕ → List ℕ → Outcome
 of_pairs name asks pairs target =
-    if has_graph pairs || has_graph target then Refused BadRequest else of_text asks (only_value name pairs)
+    if has_graph pairs || has_graph target then Refused BadRequest
+    else of_text asks (only_value name pairs)

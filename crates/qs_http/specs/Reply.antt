@@ -1,8 +1,11 @@
 -- The bytes of a reply (RFC 9112, 4 and 5).
-use Rattle.std.specs.Prelude.{ℕ, List, [], ◌∷◌, ◌++◌, length, codes, ◌==◌, ◌≡◌, ◌⊎◌, if◌then◌else◌}
+use Rattle.std.specs.Prelude.{ℕ, List, [], ◌∷◌, ◌++◌, length, codes, ◌==◌, if◌then◌else◌}
 use Rattle.std.specs.Fmt.{decimal}
 use Rattle.qs_http.specs.declared.fixed_reply.Fixed.{Fixed}
-use Rattle.qs_http.specs.declared.fixed_reply.Fixed.TheVariants.{NoContent, BadRequest, NotFound, QueryMethod, UpdateMethod, DataMethod, NoLength, BodyTooLarge, MediaType, HeadTooLarge, Memory}
+use Rattle.qs_http.specs.declared.fixed_reply.Fixed.TheVariants.{NoContent, BadRequest, NotFound}
+use Rattle.qs_http.specs.declared.fixed_reply.Fixed.TheVariants.{QueryMethod, UpdateMethod}
+use Rattle.qs_http.specs.declared.fixed_reply.Fixed.TheVariants.{DataMethod, NoLength, BodyTooLarge}
+use Rattle.qs_http.specs.declared.fixed_reply.Fixed.TheVariants.{MediaType, HeadTooLarge, Memory}
 use Rattle.qs_http.specs.declared.media.Media.{Media}
 use Rattle.qs_http.specs.declared.media.Media.TheVariants.{Results, NTriples, NQuads, Text}
 
@@ -12,7 +15,8 @@ line text = text ++ 13 ∷ 10 ∷ []
 
 -- the phrase of a reply that isn't fixed (RFC 9110, 15)
 abbrev pub phrase_of : ℕ → List ℕ
-phrase_of status = if status == 200 then codes "OK" else (if status == 400 then codes "Bad Request" else codes "Internal Server Error")
+phrase_of status = if status == 200 then codes "OK"
+    else (if status == 400 then codes "Bad Request" else codes "Internal Server Error")
 
 -- the media types of SPARQL 1.1 Query Results JSON, N-Triples and N-Quads
 abbrev pub media_text : Media → List ℕ
@@ -40,15 +44,11 @@ with_body media body = body_fields media (length body) ++ body
 
 -- all that stands before the body in a reply with that status and type, and a body of so many bytes
 unfoldable pub head_of : ℕ → Media → ℕ → List ℕ
-head_of status media size = status_line status (phrase_of status) ++ closing ++ body_fields media size
+head_of status m size = status_line status (phrase_of status) ++ closing ++ body_fields m size
 
 -- a reply with that status, type and body
 unfoldable pub reply_of : ℕ → Media → List ℕ → List ℕ
 reply_of status media body = head_of status media (length body) ++ body
-
--- the statuses of such a reply
-abbrev pub IsReplyStatus : ℕ → Type 0
-IsReplyStatus status = (status ≡ 200) ⊎ ((status ≡ 400) ⊎ (status ≡ 500))
 
 abbrev pub status_of : Fixed → ℕ
 status_of NoContent = 204
@@ -95,4 +95,5 @@ fixed_rest fixed = with_body Text (fixed_body fixed)
 
 -- the reply that is the same bytes each time
 unfoldable pub fixed_of : Fixed → List ℕ
-fixed_of fixed = status_line (status_of fixed) (fixed_phrase fixed) ++ closing ++ allow_line fixed ++ fixed_rest fixed
+fixed_of fixed = status_line (status_of fixed) (fixed_phrase fixed) ++ closing ++ allow_line fixed
+    ++ fixed_rest fixed

@@ -1,6 +1,8 @@
--- The request that a connection's joined bytes ask (RFC 9112, 2 to 6; SPARQL 1.1 Protocol, 2), by six checks in their order. The first that
--- fails decides the reply: the head's length, its grammar and Host, its path, its method, its body's length and media type, its parameters.
-use Rattle.std.specs.Prelude.{◌≡◌, ℕ, ◌≤◌, ◌<◌, not, ◌&&◌, nat_lt, nat_le, if◌then◌else◌, List, [], length, take, drop, codes, Option, None, Some}
+-- The request that a connection's joined bytes ask (RFC 9112, 2 to 6; SPARQL 1.1 Protocol, 2), by
+-- six checks in their order. The first that fails decides the reply: the head's length, its grammar
+-- and Host, its path, its method, its body's length and media type, its parameters.
+use Rattle.std.specs.Prelude.{◌≡◌, ℕ, ◌≤◌, ◌<◌, not, ◌&&◌, nat_lt, nat_le, if◌then◌else◌, List, []}
+use Rattle.std.specs.Prelude.{length, take, drop, codes, Option, None, Some}
 use Rattle.std.specs.Str.{is_utf8}
 use Rattle.httparse.specs.Grammar.{RequestHead, ReadsRequest}
 use Rattle.qs_http.specs.declared.fixed_reply.Fixed.{Fixed}
@@ -8,7 +10,8 @@ use Rattle.qs_http.specs.declared.fixed_reply.Fixed.TheVariants.{BadRequest, Hea
 use Rattle.qs_http.specs.declared.request.Request.TheVariants.{Query, Update, Dump}
 use Rattle.qs_http.specs.Outcome.{Outcome, More, Ready, Refused}
 use Rattle.qs_http.specs.HeadEnd.{head_end, head_limit, without_leading}
-use Rattle.qs_http.specs.Head.{Head, plain_head, is_get, at_query, at_data, is_form, body_length, parameters_of}
+use Rattle.qs_http.specs.Head.{Head, plain_head, is_get, at_query, at_data, is_form, body_length}
+use Rattle.qs_http.specs.Head.{parameters_of}
 use Rattle.qs_http.specs.Checks.{first_due, head_checks}
 use Rattle.qs_http.specs.Parameters.{of_pairs, has_graph}
 
@@ -22,7 +25,8 @@ IsReading bytes None = (h : RequestHead) → ReadsRequest bytes h [] → 64 < le
 unfoldable pub of_body : Head → List ℕ → Outcome
 of_body h body =
     if is_form h
-    then (if at_query h then of_pairs (codes "query") Query body (parameters_of h) else of_pairs (codes "update") Update body (parameters_of h))
+    then (if at_query h then of_pairs (codes "query") Query body (parameters_of h)
+    else of_pairs (codes "update") Update body (parameters_of h))
     else (if is_utf8 body && not (has_graph (parameters_of h))
     then Ready (if at_query h then Query body else Update body) else Refused BadRequest)
 
@@ -30,11 +34,13 @@ of_body h body =
 unfoldable pub of_get : Head → Outcome
 of_get h = if at_data h then Ready Dump else of_pairs (codes "query") Query (parameters_of h) []
 
--- what a head that passed the checks asks with these bytes after it: a GET ends with its head, a POST with the last byte of its body
+-- what a head that passed the checks asks with these bytes after it: a GET ends with its head, a
+-- POST with the last byte of its body
 abbrev pub of_sound_head : Head → List ℕ → Outcome
 of_sound_head h behind =
     if is_get h then of_get h
-    else (if nat_lt (length behind) (body_length h) then More else of_body h (take (body_length h) behind))
+    else (if nat_lt (length behind) (body_length h) then More
+    else of_body h (take (body_length h) behind))
 
 abbrev pub unless_due : Option Fixed → Outcome → Outcome
 unless_due None outcome = outcome
@@ -47,8 +53,8 @@ of_reading (Some h) behind = unless_due (first_due (head_checks h)) (of_sound_he
 
 -- the first check: the head ends within its limit
 abbrev pub outcome_at : Option ℕ → Option Head → List ℕ → Outcome
-outcome_at None reading bytes = if nat_le head_limit (length bytes) then Refused HeadTooLarge else More
-outcome_at (Some end) reading bytes = of_reading reading (drop end bytes)
+outcome_at None r bytes = if nat_le head_limit (length bytes) then Refused HeadTooLarge else More
+outcome_at (Some end) r bytes = of_reading r (drop end bytes)
 
 -- how the head reads, where it has ended
 abbrev pub ReadsHead : List ℕ → Option ℕ → Option Head → Type 0

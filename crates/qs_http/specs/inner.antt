@@ -1,3 +1,7 @@
--- What serves proofs alone: no promise of the product is read by it.
+-- For proofs and the layers between: no clause of the headline cites a definition of these files.
 pub mod HeadView
 pub mod HeadState
+pub mod Feeding
+pub mod Laws
+pub mod Stage
+pub mod Reply

@@ -2,8 +2,8 @@
 
 ghost use Rattle.std.specs.Prelude.{◌≡◌, ◌<◌, ◌≤◌, ◌+◌, ◌++◌, length, Some, IfOk};
 ghost use Rattle.qs_http.specs.HeadEnd.{head_end, head_limit};
-ghost use Rattle.qs_http.specs.Feeding.{Feeds, StandsAt};
-ghost use Rattle.qs_http.specs.Stage.{AwaitsBody, EndsAt, IsStage, seen_of};
+ghost use Rattle.qs_http.specs.inner.Feeding.{Feeds, StandsAt};
+ghost use Rattle.qs_http.specs.inner.Stage.{AwaitsBody, EndsAt, IsStage, seen_of};
 
 use crate::bytes::front_of;
 use crate::conclude::conclude;

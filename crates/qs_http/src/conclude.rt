@@ -7,7 +7,7 @@ ghost use Rattle.std.specs.Prelude.{◌≡◌, ◌≤◌, length, Some};
 ghost use Rattle.qs_http.specs.HeadEnd.{head_end};
 ghost use Rattle.qs_http.specs.inner.HeadView.{plain, IsSound};
 ghost use Rattle.qs_http.specs.RequestOf.{of_body, of_get};
-ghost use Rattle.qs_http.specs.Stage.{IsStep, IsAnswer, IsUtf8Text, step_from, IsHeadStep};
+ghost use Rattle.qs_http.specs.inner.Stage.{IsStep, IsAnswer, IsUtf8Text, step_from, IsHeadStep};
 
 use crate::bytes::leading_len;
 use crate::fixed_reply::Fixed;

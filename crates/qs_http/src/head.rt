@@ -55,7 +55,8 @@ impl<'b> Values<'b> {
     /// One value more.
     fn and(self, value: &'b [u8]) -> Values<'b>
         requires { self.count < 64 }
-        ensures more { (values : List (List ℕ)) → AreValues self.entry values → AreValues result (values ++ value.now ∷ []) }
+        ensures more { (values : List (List ℕ)) → AreValues self.entry values
+            → AreValues result (values ++ value.now ∷ []) }
         ensures count { result.count ≡ self.entry.count + 1 }
     {
         Values {
@@ -154,7 +155,8 @@ impl<'b> Head<'b> {
     #[tactic(auto, unfolding(crate::specs::Head::body_length))]
     pub fn body_length(&self) -> Option<usize>
         requires { IsSound self.now }
-        ensures { SomeIff result (body_length (plain self.now) ≤ 4194304) (body_length (plain self.now)) }
+        ensures { SomeIff result (body_length (plain self.now) ≤ 4194304)
+            (body_length (plain self.now)) }
     {
         number_up_to(self.values(b"content-length").first, BODY_LIMIT)
     }

@@ -1,6 +1,6 @@
 //! What holds of all bytes of requests.
 
-ghost use Rattle.qs_http.specs.Laws.{RequestsAreUnique, RequestsAreKept, UnfinishedRequestsAreShort, CutsDoNotMatter};
+ghost use Rattle.qs_http.specs.inner.Laws.{RequestsAreUnique, RequestsAreKept, UnfinishedRequestsAreShort, CutsDoNotMatter};
 
 /// Bytes result in one thing at most: a request, a refusal, or more bytes are wanted.
 pub fn requests_are_unique()

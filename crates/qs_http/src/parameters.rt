@@ -7,7 +7,7 @@ ghost use Rattle.std.specs.Prelude.{◌≡◌, List, ℕ, IfOk};
 ghost use Rattle.std.specs.Str.{bytes_eq};
 ghost use Rattle.qs_http.specs.declared.request.Request.{Request};
 ghost use Rattle.qs_http.specs.Parameters.{decoded, is_graph_name, has_graph, only_value, of_pairs};
-ghost use Rattle.qs_http.specs.Stage.{IsText};
+ghost use Rattle.qs_http.specs.inner.Stage.{IsText};
 
 use crate::fixed_reply::Fixed;
 use form_urlencoded::{decode, raw_pairs};
@@ -17,7 +17,8 @@ use std::alloc::{AllocError, Global};
 /// The text of the one pair of that name, where no graph is chosen there or in the target.
 #[tactic(auto, unfolding(crate::specs::Parameters::of_pairs))]
 pub fn text_of_pairs(alloc: Global, name: &[u8], pairs: &[u8], target: &[u8]) -> Result<Text, Fixed>
-    ensures { (asks : List ℕ → Request) → IsText asks (of_pairs name.now asks pairs.now target.now) result }
+    ensures { (asks : List ℕ → Request) → IsText asks (of_pairs name.now asks pairs.now target.now)
+        result }
 {
     if names_graph(alloc, pairs)? || names_graph(alloc, target)? {
         return Err(Fixed::BadRequest);

@@ -1,7 +1,8 @@
 //! The bytes of replies.
 
 ghost use Rattle.std.specs.Prelude.{◌≡◌, ◌++◌, ◌≤◌, IfOk, vec_len};
-ghost use Rattle.qs_http.specs.Reply.{line, phrase_of, status_line, body_fields, head_of, reply_of, fixed_of, IsReplyStatus};
+ghost use Rattle.qs_http.specs.Reply.{line, phrase_of, status_line, body_fields, head_of, reply_of, fixed_of};
+ghost use Rattle.qs_http.specs.inner.Reply.{IsReplyStatus};
 
 use crate::fixed_reply::Fixed;
 use crate::media::Media;

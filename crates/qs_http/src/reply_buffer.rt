@@ -4,7 +4,8 @@
 //! head then directly before it. A body of 100 MB isn't copied.
 
 ghost use Rattle.std.specs.Prelude.{◌≡◌, ◌≤◌, ◌++◌, ◌-◌, IfOk, drop, length, vec_len};
-ghost use Rattle.qs_http.specs.Reply.{reply_of, IsReplyStatus};
+ghost use Rattle.qs_http.specs.Reply.{reply_of};
+ghost use Rattle.qs_http.specs.inner.Reply.{IsReplyStatus};
 
 use crate::media::Media;
 use crate::replies::reply_head;
@@ -50,7 +51,8 @@ impl ReplyBuffer {
     ) -> Result<ReplyBuffer, AllocError>
         requires status { IsReplyStatus status }
         requires room { HEAD_ROOM ≤ vec_len buffer }
-        ensures { IfOk result (λ reply. reply ≡ reply_of status media (drop HEAD_ROOM buffer.items)) }
+        ensures { IfOk result
+            (λ reply. reply ≡ reply_of status media (drop HEAD_ROOM buffer.items)) }
     {
         let head = reply_head(alloc, status, media, buffer.len() - HEAD_ROOM)?;
         put_before(buffer.as_mut_slice(), HEAD_ROOM, head.as_slice());

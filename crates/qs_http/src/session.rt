@@ -2,7 +2,7 @@
 
 ghost use Rattle.std.specs.Prelude.{◌≡◌, []};
 ghost use Rattle.std.specs.Option.{option_copied};
-ghost use Rattle.qs_http.specs.Feeding.{Reading, Feeds};
+ghost use Rattle.qs_http.specs.inner.Feeding.{Reading, Feeds};
 
 use crate::advance::advance;
 use crate::fixed_reply::Fixed;
@@ -36,11 +36,11 @@ pub struct Session {
 }
 
 impl Model for Session {
-    ghost use Rattle.qs_http.specs.Feeding.{Seen};
+    ghost use Rattle.qs_http.specs.inner.Feeding.{Seen};
 
     ghost Value = { Seen };
 
-    ghost use Rattle.qs_http.specs.Stage.{seen_of, IsStage};
+    ghost use Rattle.qs_http.specs.inner.Stage.{seen_of, IsStage};
 
     ghost view = { λ s. seen_of s.stage };
 
@@ -48,7 +48,7 @@ impl Model for Session {
 }
 
 impl Session {
-    ghost use Rattle.qs_http.specs.Stage.{progress_of, request_in};
+    ghost use Rattle.qs_http.specs.inner.Stage.{progress_of, request_in};
 
     /// A session that has read nothing. It takes no memory.
     pub fn new(alloc: Global) -> Self

@@ -1,5 +1,5 @@
 -- Pages that are filled whole.
-use Rattle.std.proofs.Common.{◌≡◌, ℕ, ◌+◌, ◌-◌, ◌<◌, ◌≤◌, ◌==◌, Bool, true, false, List, [], ◌∷◌, ◌++◌, length, get_or, take, drop, set, refl, ap, sym, ◌∙◌, arith, subst, append-nil, length-append}
+use Rattle.std.proofs.Common.{◌≡◌, ℕ, ◌+◌, ◌-◌, ◌*◌, ◌<◌, ◌≤◌, ◌==◌, Bool, true, false, List, [], ◌∷◌, ◌++◌, length, get_or, take, drop, set, refl, ap, sym, ◌∙◌, arith, subst, append-nil, length-append}
 use Rattle.std.specs.List.{Contains, insert}
 use Rattle.std.specs.Prelude.{nat_lt}
 use Rattle.std.specs.Str.{bytes_eq}
@@ -10,7 +10,7 @@ use Rattle.std.proofs.lemmas.List.Edits.{length-insert, insert_end}
 use Rattle.std.proofs.lemmas.List.Elements.{Contains-get_or}
 use Rattle.qs_index.specs.inner.Entries.{HaveFour, IsUnion}
 use Rattle.qs_index.specs.inner.Entry.{is_before, IsAscending, IsNotFirst, skip_before, keep_before, with_entry}
-use Rattle.qs_index.specs.inner.Layout.{joined, page_at, rest_at, room_of, used_of}
+use Rattle.qs_index.specs.inner.Layout.{filled_of, joined, page_at, rest_at, used_of}
 use Rattle.qs_index.specs.inner.Extending.{extended, taken_in}
 use Rattle.qs_index.proofs.EntryEdits.{keep-skip, IsAscending-with, put_in_order}
 use Rattle.qs_index.proofs.Extending.{extended_step, taken_step, extended_full, taken_full, length-extended}
@@ -65,6 +65,18 @@ used_put pages m at x h l =
     same : (n m : ℕ) → m + 1 ≡ n → n - 1 ≡ m
     same n m e = omega arith
 
+pub filled_put : (pages : List (List (List ℕ))) (m at : ℕ) (x : List ℕ) → m + 1 ≡ length pages → at ≤ length (page_at pages m) → filled_of (set pages m (insert (page_at pages m) at x)) ≤ filled_of pages + 1
+filled_put pages m at x h l =
+    let new = insert (page_at pages m) at x in
+    let n = length-insert (page_at pages m) at x l in
+    let s = length-set pages m new in
+    let last : length (page_at (set pages m new) (length (set pages m new) - 1)) ≡ length new = ap (λ k. length (page_at (set pages m new) k)) (same (length (set pages m new)) m (omega arith)) ∙ ap length (get_or-set_same pages m new [] (omega arith)) in
+    let old : length (page_at pages (length pages - 1)) ≡ length (page_at pages m) = ap (λ k. length (page_at pages k)) (same (length pages) m (omega arith)) in
+    omega arith
+  where
+    same : (n m : ℕ) → m + 1 ≡ n → n - 1 ≡ m
+    same n m e = omega arith
+
 -- or into a new one
 pub joined_open : (pages : List (List (List ℕ))) (x : List ℕ) → joined (pages ++ (x ∷ []) ∷ []) ≡ joined pages ++ x ∷ []
 joined_open pages x = joined-append pages ((x ∷ []) ∷ [])
@@ -72,6 +84,12 @@ joined_open pages x = joined-append pages ((x ∷ []) ∷ [])
 pub used_open : (pages : List (List (List ℕ))) (x : List ℕ) → 256 ≤ length (page_at pages (length pages - 1)) → used_of (pages ++ (x ∷ []) ∷ []) ≤ used_of pages + 1
 used_open pages x h =
     let o = over-append pages ((x ∷ []) ∷ []) in
+    let n = length_push pages (x ∷ []) in
+    let last : length (page_at (pages ++ (x ∷ []) ∷ []) (length (pages ++ (x ∷ []) ∷ []) - 1)) ≡ 1 = ap length (get_or_at pages (x ∷ []) [] [] (length (pages ++ (x ∷ []) ∷ []) - 1) (omega arith)) in
+    omega arith
+
+pub filled_open : (pages : List (List (List ℕ))) (x : List ℕ) → 0 < length pages → 256 ≤ length (page_at pages (length pages - 1)) → filled_of (pages ++ (x ∷ []) ∷ []) ≤ filled_of pages + 1
+filled_open pages x some h =
     let n = length_push pages (x ∷ []) in
     let last : length (page_at (pages ++ (x ∷ []) ∷ []) (length (pages ++ (x ∷ []) ∷ []) - 1)) ≡ 1 = ap length (get_or_at pages (x ∷ []) [] [] (length (pages ++ (x ∷ []) ∷ []) - 1) (omega arith)) in
     omega arith
@@ -88,6 +106,7 @@ pub record Filling (all : List (List ℕ)) (whole read count : ℕ) (last : List
   pub within : read ≤ length all
   pub seen : last ≡ get_or all (read - 1) []
   pub used : used_of pages ≤ read + 128
+  pub filled : filled_of pages ≤ read
   pub sum : length pages + spare ≡ whole
 
 before_next : (read : ℕ) → read ≡ read + 1 - 1
@@ -107,6 +126,7 @@ filling_first all whole spare x pages new n e s l r f =
       within = omega (arith, l);
       seen = r;
       used = omega arith;
+      filled = omega arith;
       sum = omega arith;
     }
 
@@ -114,8 +134,8 @@ pub filling_behind : (all : List (List ℕ)) (whole read count spare : ℕ) (las
 filling_behind all whole read count spare last e pages u b =
     all_before e (joined pages) u.union.ascending (omega (arith, u.some, u.counted)) (ap (λ r. is_before r e) (sym u.last_is) ∙ b)
 
-pub filling_more : (all : List (List ℕ)) (whole read count spare less : ℕ) (last e : List ℕ) (pages new : List (List (List ℕ))) → Filling all whole read count last pages spare → read < length all → e ≡ get_or all read [] → length e ≡ 4 → is_before last e ≡ true → 0 < length new → joined new ≡ with_entry e (joined pages) → used_of new ≤ used_of pages + 1 → length new + less ≡ length pages + spare → Filling all whole (read + 1) (count + 1) e new less
-filling_more all whole read count spare less last e pages new u l r f b held made used sum =
+pub filling_more : (all : List (List ℕ)) (whole read count spare less : ℕ) (last e : List ℕ) (pages new : List (List (List ℕ))) → Filling all whole read count last pages spare → read < length all → e ≡ get_or all read [] → length e ≡ 4 → is_before last e ≡ true → 0 < length new → joined new ≡ with_entry e (joined pages) → used_of new ≤ used_of pages + 1 → filled_of new ≤ filled_of pages + 1 → length new + less ≡ length pages + spare → Filling all whole (read + 1) (count + 1) e new less
+filling_more all whole read count spare less last e pages new u l r f b held made used filled sum =
     let none = filling_behind all whole read count spare last e pages u b in
     let ascending = IsAscending-with e (joined pages) u.union.ascending (subst (IsNotFirst e) (sym none) tt) in
     let n = ap length made ∙ length-with e (joined pages) in
@@ -130,6 +150,7 @@ filling_more all whole read count spare less last e pages new u l r f b held mad
       within = omega (arith, l);
       seen = r ∙ ap (λ k. get_or all k []) (before_next read);
       used = omega (arith, u.used);
+      filled = omega (arith, u.filled);
       sum = omega (arith, u.sum);
     }
 
@@ -147,11 +168,12 @@ filling_same all whole read count spare last e pages u l r s =
       within = omega (arith, l);
       seen = sym s ∙ r ∙ ap (λ k. get_or all k []) (before_next read);
       used = omega (arith, u.used);
+      filled = omega (arith, u.filled);
       sum = u.sum;
     }
 
-pub filling_spare : (all : List (List ℕ)) (whole read count spare : ℕ) (last : List ℕ) (pages : List (List (List ℕ))) → Filling all whole read count last pages spare → read < length all → length all ≤ room_of [] whole → 256 ≤ length (page_at pages (length pages - 1)) → 0 < spare
-filling_spare all whole read count spare last pages u l r h = omega (arith, u.used, u.sum, u.held)
+pub filling_spare : (all : List (List ℕ)) (whole read count spare : ℕ) (last : List ℕ) (pages : List (List (List ℕ))) → Filling all whole read count last pages spare → read < length all → length all ≤ 256 * whole → 256 ≤ length (page_at pages (length pages - 1)) → 0 < spare
+filling_spare all whole read count spare last pages u l r h = omega (arith, u.filled, u.sum, u.held)
 
 -- ---- a page filled at once
 
@@ -210,7 +232,8 @@ fills_one all whole spare m four e es page put pass pages read count last u p n 
         let none = filling_behind all whole read count spare last e pages u b in
         let made : joined new ≡ with_entry e (joined pages) = ap joined same ∙ put_in_order e pages m (length (page_at pages m)) less (omega arith) (rest_last pages m n ∙ sym none) in
         let used : used_of new ≤ used_of pages + 1 = subst (λ x. used_of x ≤ used_of pages + 1) (sym same) (used_put pages m (length (page_at pages m)) e n (omega arith)) in
-        let u2 = filling_more all whole read count spare spare last e pages new u some it (ap length it ∙ four read some) b (omega (arith, long, u.held)) made used (omega (arith, long)) in
+        let filled : filled_of new ≤ filled_of pages + 1 = subst (λ x. filled_of x ≤ filled_of pages + 1) (sym same) (filled_put pages m (length (page_at pages m)) e n (omega arith)) in
+        let u2 = filling_more all whole read count spare spare last e pages new u some it (ap length it ∙ four read some) b (omega (arith, long, u.held)) made used filled (omega (arith, long)) in
         let w = length-append page (e ∷ []) in
         let grown = length-extended e page2 es (omega (arith, w, room)) in
         let size = ap length step in
@@ -245,11 +268,11 @@ filling_page all whole spare m four [] page = λ pages read count last u p n d r
 filling_page all whole spare m four (e ∷ es) page = fills_one all whole spare m four e es page (filling_page all whole spare m four es (page ++ e ∷ [])) (filling_page all whole spare m four es page)
 
 -- an entry after all others, and then those after it that its page takes
-pub filling_both : (all : List (List ℕ)) (whole read count spare less : ℕ) (last : List ℕ) (pages mid new : List (List (List ℕ))) (rest : List (List ℕ)) (r k : ℕ) → rest ≡ drop (read + 1) all → Filling all whole read count last pages spare → read < length all → ((k : ℕ) → k < length all → length (get_or all k []) ≡ 4) → is_before last (get_or all read []) ≡ true → 0 < length mid → joined mid ≡ with_entry (get_or all read []) (joined pages) → used_of mid ≤ used_of pages + 1 → length mid + less ≡ length pages + spare → r ≡ taken_in (get_or all read []) (page_at mid (length mid - 1)) rest → new ≡ set mid (length mid - 1) (extended (get_or all read []) (page_at mid (length mid - 1)) rest) → k + length (page_at mid (length mid - 1)) ≡ length (extended (get_or all read []) (page_at mid (length mid - 1)) rest) → Filling all whole (read + (1 + r)) (count + (1 + k)) (get_or all (read + (1 + r) - 1) []) new less
-filling_both all whole read count spare less last pages mid new rest r k w u l four b held made used sum hr e hk =
+pub filling_both : (all : List (List ℕ)) (whole read count spare less : ℕ) (last : List ℕ) (pages mid new : List (List (List ℕ))) (rest : List (List ℕ)) (r k : ℕ) → rest ≡ drop (read + 1) all → Filling all whole read count last pages spare → read < length all → ((k : ℕ) → k < length all → length (get_or all k []) ≡ 4) → is_before last (get_or all read []) ≡ true → 0 < length mid → joined mid ≡ with_entry (get_or all read []) (joined pages) → used_of mid ≤ used_of pages + 1 → filled_of mid ≤ filled_of pages + 1 → length mid + less ≡ length pages + spare → r ≡ taken_in (get_or all read []) (page_at mid (length mid - 1)) rest → new ≡ set mid (length mid - 1) (extended (get_or all read []) (page_at mid (length mid - 1)) rest) → k + length (page_at mid (length mid - 1)) ≡ length (extended (get_or all read []) (page_at mid (length mid - 1)) rest) → Filling all whole (read + (1 + r)) (count + (1 + k)) (get_or all (read + (1 + r) - 1) []) new less
+filling_both all whole read count spare less last pages mid new rest r k w u l four b held made used filled sum hr e hk =
     let it = get_or all read [] in
     let m = length mid - 1 in
-    let one = filling_more all whole read count spare less last it pages mid u l refl (four read l) b held made used sum in
+    let one = filling_more all whole read count spare less last it pages mid u l refl (four read l) b held made used filled sum in
     let v = filling_page all whole less m four rest (page_at mid m) mid (read + 1) (count + 1) it one refl (omega (arith, held)) w r k hr hk in
     filling_as all whole less (read + 1 + r) (count + 1 + k) (get_or all (read + 1 + r - 1) []) (set mid m (extended it (page_at mid m) rest)) (read + (1 + r)) (count + (1 + k)) (get_or all (read + (1 + r) - 1) []) new
     (omega arith) (omega arith) (ap (λ n. get_or all n []) (sums read r)) (sym e) v

@@ -9,6 +9,7 @@ pub mod EntryEdits
 pub mod Spares
 pub mod FoundPlaces
 pub mod Removals
+pub mod Runs
 pub mod Members
 pub mod Distinct
 pub mod Turned

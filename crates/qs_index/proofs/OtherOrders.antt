@@ -1,7 +1,6 @@
 -- The orders of one set put into, or taken out of, those of another.
-use Rattle.std.proofs.Common.{◌≡◌, ◌≤◌, ℕ, Bool, true, false, cond, arith, List, [], ◌∷◌, length, refl, ap, inl, inr, ⊎_elim}
+use Rattle.std.proofs.Common.{◌≡◌, ◌≤◌, ℕ, Bool, true, false, cond, arith, List, [], ◌∷◌, length, inl, inr, ⊎_elim}
 use Rattle.qs_index.specs.inner.Entries.{IsUnion, IsDifference}
-use Rattle.qs_index.specs.inner.Entry.{beginning}
 use Rattle.qs_index.specs.inner.Graph.{is_named, named_entries}
 use Rattle.qs_index.specs.inner.Index.{IsOneSet}
 use Rattle.qs_index.specs.inner.Named.{NamedOrders, AreNamedOf}
@@ -11,11 +10,6 @@ use Rattle.qs_index.specs.declared.permutation.Permutation.{Permutation}
 use Rattle.qs_index.specs.declared.permutation.Permutation.TheVariants.{Gpos, Gosp, Spog, Posg, Ospg}
 use Rattle.qs_index.proofs.Distinct.{IsAscending-filter, filter_has, member_of_filter}
 use Rattle.qs_index.proofs.Turned.{order_length}
-
--- all entries begin with nothing
-pub beginning_with_none : (xs : List (List ℕ)) → beginning [] xs ≡ xs
-beginning_with_none [] = refl
-beginning_with_none (x ∷ xs) = ap (λ r. x ∷ r) (beginning_with_none xs)
 
 pub order_without_all : (p : Permutation) (xs ds new ys zs new_ys : List (List ℕ)) → IsDifference xs ds new → IsOrderOf p ds zs → IsDifference ys zs new_ys → IsOrderOf p xs ys → IsOrderOf p new new_ys
 order_without_all p xs ds new ys zs new_ys u d v o = record {

@@ -83,9 +83,6 @@ over-split pages m h e =
 pub spare_for_split : (pages : Pages') (spare m : ℕ) → m < length pages → length (page_at pages m) ≡ 256 → 0 < room_of pages spare → 0 < spare
 spare_for_split pages spare m h e r = let b = over-at pages m h in omega arith
 
-pub spare_for_first : (spare : ℕ) → 0 < room_of [] spare → 0 < spare
-spare_for_first spare r = omega arith
-
 pub room_split : (pages : Pages') (spare less m : ℕ) → m < length pages → length (page_at pages m) ≡ 256 → less + 1 ≡ spare → room_of pages spare ≤ open_room_of (split_at pages m) less
 room_split pages spare less m h e s =
     let a = over-split pages m h e in

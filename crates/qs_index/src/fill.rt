@@ -2,12 +2,12 @@
 //!
 //! A list put into an empty order fills pages whole as far as it ascends. Only an empty order is filled so: after pages that
 //! aren't full, a page would cost more room than its entry. A reserve counts half a page for the first, so the room falls by no
-//! more than the entries.
-ghost use Rattle.std.specs.Prelude.{◌≡◌, ◌+◌, ◌-◌, ◌<◌, ◌≤◌, [], length, take, slice_set};
+//! more than the entries. What is filled so needs half the pages of a reserve: one for each 256 entries.
+ghost use Rattle.std.specs.Prelude.{◌≡◌, ◌+◌, ◌-◌, ◌*◌, ◌<◌, ◌≤◌, [], length, take, slice_set};
 ghost use Rattle.qs_index.specs.inner.Entries.{HaveFour, IsUnion};
 ghost use Rattle.qs_index.specs.inner.Entry.{skip_before, with_entry};
 ghost use Rattle.qs_index.specs.inner.Extending.{extended, taken_in};
-ghost use Rattle.qs_index.specs.inner.Layout.{joined, page_at, room_of, used_of};
+ghost use Rattle.qs_index.specs.inner.Layout.{filled_of, joined, page_at, room_of, used_of};
 
 use crate::entry::{is_less, is_same};
 use crate::pages::{PAGE, PagePosition, Pages};
@@ -16,11 +16,14 @@ use crate::pages::{PAGE, PagePosition, Pages};
 fn append(pages: &mut Pages, entry: [u32; 4])
     requires some { 0 < length pages.old.pages }
     requires behind { skip_before entry (joined pages.old.pages) ≡ [] }
-    requires spare { 256 ≤ length (page_at pages.old.pages (length pages.old.pages - 1)) → 0 < pages.old.spare }
+    requires spare { 256 ≤ length (page_at pages.old.pages (length pages.old.pages - 1))
+        → 0 < pages.old.spare }
     ensures some { 0 < length pages.new.pages }
     ensures entries { joined pages.new.pages ≡ with_entry entry (joined pages.old.pages) }
     ensures used { used_of pages.new.pages ≤ used_of pages.old.pages + 1 }
-    ensures all { length pages.new.pages + pages.new.spare ≡ length pages.old.pages + pages.old.spare }
+    ensures filled { filled_of pages.new.pages ≤ filled_of pages.old.pages + 1 }
+    ensures all { length pages.new.pages + pages.new.spare ≡ length pages.old.pages
+        + pages.old.spare }
 {
     let page = pages.len() - 1;
     let at = pages.page_len(page);
@@ -34,9 +37,13 @@ fn append(pages: &mut Pages, entry: [u32; 4])
 // Puts entries after the last one of the last page, which is `last`, as far as there is room and they ascend.
 fn extend(pages: &mut Pages, last: &[u32; 4], entries: &[[u32; 4]]) -> Filled
     requires { 0 < length pages.old.pages }
-    ensures read { result.read ≡ taken_in last.now (page_at pages.old.pages (length pages.old.pages - 1)) entries.now }
-    ensures pages { pages.new.pages ≡ slice_set pages.old.pages (length pages.old.pages - 1) (extended last.now (page_at pages.old.pages (length pages.old.pages - 1)) entries.now) }
-    ensures count { result.count + length (page_at pages.old.pages (length pages.old.pages - 1)) ≡ length (extended last.now (page_at pages.old.pages (length pages.old.pages - 1)) entries.now) }
+    ensures read { result.read ≡ taken_in last.now
+        (page_at pages.old.pages (length pages.old.pages - 1)) entries.now }
+    ensures pages { pages.new.pages ≡ slice_set pages.old.pages (length pages.old.pages - 1)
+        (extended last.now (page_at pages.old.pages (length pages.old.pages - 1)) entries.now) }
+    ensures count { result.count + length (page_at pages.old.pages (length pages.old.pages - 1))
+        ≡ length (extended last.now (page_at pages.old.pages (length pages.old.pages - 1))
+        entries.now) }
     ensures spare { pages.new.spare ≡ pages.old.spare }
 {
     let page = pages.len() - 1;
@@ -58,12 +65,13 @@ pub struct Filled {
 /// entries once.
 pub fn fill(pages: &mut Pages, entries: &[[u32; 4]]) -> Filled
     requires none { pages.old.pages ≡ [] }
-    requires room { length entries.now ≤ room_of pages.old.pages pages.old.spare }
+    requires room { length entries.now ≤ 256 * pages.old.spare }
     ensures within { result.read ≤ length entries.now }
     ensures union { IsUnion [] (take result.read entries.now) (joined pages.new.pages) }
     ensures four { HaveFour (joined pages.new.pages) }
     ensures count { result.count ≡ length (joined pages.new.pages) }
-    ensures room { room_of pages.old.pages pages.old.spare ≤ room_of pages.new.pages pages.new.spare + result.read }
+    ensures room { room_of pages.old.pages pages.old.spare ≤ room_of pages.new.pages pages.new.spare
+        + result.read }
 {
     if entries.is_empty() {
         return Filled { read: 0, count: 0 };

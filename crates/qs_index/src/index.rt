@@ -3,7 +3,7 @@
 //! `insert_all` sorts its slice for each order in place, without memory, since single inserts can ascend in one order alone. A
 //! reserve whose count of pages passes 64 bits answers out of memory, as std's does. The count of entries is below 2^72, so the
 //! count of a draft fits 128 bits.
-ghost use Rattle.std.specs.Prelude.{◌≡◌, ℕ, ◌+◌, ◌<◌, ◌≤◌, ◌^◌, ◌↔◌, min, Bool, true, false, List, [], ◌∷◌, length, map, None, IsTrue, IfSome, IfNone};
+ghost use Rattle.std.specs.Prelude.{◌≡◌, ℕ, ◌+◌, ◌<◌, ◌≤◌, ◌^◌, ◌↔◌, min, Bool, true, false, List, [], ◌∷◌, length, map, None, IfOk, IsTrue, IfSome, IfNone};
 ghost use Rattle.std.specs.Bool.{OnTrue, OnFalse};
 ghost use Rattle.std.specs.Result.{OnOk};
 ghost use Rattle.std.specs.List.{All, Contains};
@@ -18,7 +18,7 @@ ghost use Rattle.qs_index.specs.inner.Named.{held_by};
 ghost use Rattle.qs_index.specs.inner.OrderOf.{IsOrderOf};
 ghost use Rattle.qs_index.specs.inner.Permutation.{order_used, named_order_used, turned};
 
-use crate::batch::{insert_both, remove_both};
+use crate::batch::{both_orders, insert_both, remove_both};
 use crate::named::Named;
 use crate::order::Order;
 use crate::pages::PagePosition;
@@ -61,6 +61,27 @@ impl Index {
             gosp: Order::new(alloc),
             named: Named::new(alloc),
         }
+    }
+
+    /// An index of `entries`, which it leaves in some order: they are sorted for each order. It fills pages whole, and so takes half the pages
+    /// that a reserve for as many inserts sets aside.
+    pub fn from_entries(alloc: Global, entries: &mut [[u32; 4]]) -> Result<Index, AllocError>
+        ensures union { IfOk result (λ index. IsUnion [] entries.old index.entries) }
+        ensures permutation { IsPermutation entries.old entries.new }
+    {
+        let by_subject = both_orders(alloc, Permutation::Gspo, Permutation::Spog, entries)?;
+        let by_predicate = both_orders(alloc, Permutation::Gpos, Permutation::Posg, entries)?;
+        let by_object = both_orders(alloc, Permutation::Gosp, Permutation::Ospg, entries)?;
+        Ok(Index {
+            gspo: by_subject.all,
+            gpos: by_predicate.all,
+            gosp: by_object.all,
+            named: Named {
+                spog: by_subject.named,
+                posg: by_predicate.named,
+                ospg: by_object.named,
+            },
+        })
     }
 
     /// Makes room for `n` inserts, of entries of any graphs. A refusal leaves the entries, and no less room than there was.
@@ -109,7 +130,8 @@ impl Index {
         ensures new { IsTrue result ↔ (¬ Contains self.old.entries entry) }
         ensures stood { OnFalse result (Contains self.old.entries entry) }
         ensures added { OnTrue result (self.new.entries ≡ with_entry entry self.old.entries) }
-        ensures members { OnTrue result (IsPermutation (entry ∷ self.old.entries) self.new.entries) }
+        ensures members { OnTrue result
+            (IsPermutation (entry ∷ self.old.entries) self.new.entries) }
         ensures kept { OnFalse result (self.new.entries ≡ self.old.entries) }
         ensures ascending { IsAscending self.new.entries }
         ensures room { spare_of self.old ≤ spare_of self.new + 1 }
@@ -132,7 +154,8 @@ impl Index {
         requires named_room { length (named_entries entries.old) ≤ self.old.named_spare }
         ensures union { IsUnion self.old.entries entries.old self.new.entries }
         ensures spare { self.old.spare ≤ self.new.spare + length entries.old }
-        ensures named_spare { self.old.named_spare ≤ self.new.named_spare + length (named_entries entries.old) }
+        ensures named_spare { self.old.named_spare ≤ self.new.named_spare
+            + length (named_entries entries.old) }
         ensures permutation { IsPermutation entries.old entries.new }
     {
         let _count = self.gspo.len();
@@ -167,7 +190,8 @@ impl Index {
     pub fn remove(&mut self, entry: [u32; 4]) -> bool
         ensures stood { IsTrue result ↔ Contains self.old.entries entry }
         ensures taken { OnTrue result (self.new.entries ≡ without_entry entry self.old.entries) }
-        ensures members { OnTrue result (IsPermutation self.old.entries (entry ∷ self.new.entries)) }
+        ensures members { OnTrue result
+            (IsPermutation self.old.entries (entry ∷ self.new.entries)) }
         ensures kept { OnFalse result (self.new.entries ≡ self.old.entries) }
         ensures ascending { IsAscending self.new.entries }
         ensures spare { self.old.spare ≤ self.new.spare }
@@ -228,7 +252,8 @@ impl Index {
         requires named_room { length (named_entries other.now.entries) ≤ self.old.named_spare }
         ensures union { IsUnion self.old.entries other.now.entries self.new.entries }
         ensures spare { self.old.spare ≤ self.new.spare + length other.now.entries }
-        ensures named_spare { self.old.named_spare ≤ self.new.named_spare + length (named_entries other.now.entries) }
+        ensures named_spare { self.old.named_spare ≤ self.new.named_spare
+            + length (named_entries other.now.entries) }
     {
         self.gspo.insert_all_of(&other.gspo, batch);
         self.gpos.insert_all_of(&other.gpos, batch);
@@ -251,12 +276,17 @@ impl Index {
 
     /// Puts the entries of a graph of another index in, as `insert_all_of` puts all of them in.
     pub fn insert_graph_of(&mut self, other: &Index, graph: u32, batch: &mut [[u32; 4]])
-        requires batch { length (agreeing graph None None None other.now.entries) ≤ length batch.old }
+        requires batch { length (agreeing graph None None None other.now.entries)
+            ≤ length batch.old }
         requires room { length (agreeing graph None None None other.now.entries) ≤ self.old.spare }
-        requires named_room { 0 < graph → length (agreeing graph None None None other.now.entries) ≤ self.old.named_spare }
-        ensures union { IsUnion self.old.entries (agreeing graph None None None other.now.entries) self.new.entries }
-        ensures spare { self.old.spare ≤ self.new.spare + length (agreeing graph None None None other.now.entries) }
-        ensures named_spare { self.old.named_spare ≤ self.new.named_spare + length (agreeing graph None None None other.now.entries) }
+        requires named_room { 0 < graph → length (agreeing graph None None None other.now.entries)
+            ≤ self.old.named_spare }
+        ensures union { IsUnion self.old.entries (agreeing graph None None None other.now.entries)
+            self.new.entries }
+        ensures spare { self.old.spare ≤ self.new.spare
+            + length (agreeing graph None None None other.now.entries) }
+        ensures named_spare { self.old.named_spare ≤ self.new.named_spare
+            + length (agreeing graph None None None other.now.entries) }
     {
         self.gspo.insert_graph(&other.gspo, graph, batch);
         self.gpos.insert_graph(&other.gpos, graph, batch);
@@ -312,7 +342,8 @@ impl Index {
 
     /// The order of a permutation.
     fn order(&self, permutation: Permutation) -> &Order
-        ensures order { IsOrderOf permutation (held_by permutation self.now.entries) result.now.entries }
+        ensures order { IsOrderOf permutation (held_by permutation self.now.entries)
+            result.now.entries }
         ensures entries { (x : List ℕ) → Contains self.now.entries x → IsEntry x }
         ensures ascending { IsAscending self.now.entries }
     {
@@ -336,8 +367,10 @@ impl Index {
         predicate: Option<u32>,
         object: Option<u32>,
     ) -> Scan<'_>
-        ensures agreeing { IsPermutation (agreeing graph subject predicate object self.now.entries) result.rest }
-        ensures ascending { IsAscending (map (turned (order_used subject predicate object)) result.rest) }
+        ensures agreeing { IsPermutation (agreeing graph subject predicate object self.now.entries)
+            result.rest }
+        ensures ascending { IsAscending
+            (map (turned (order_used subject predicate object)) result.rest) }
         ensures handed { result.handed ≡ 0 }
         ensures skips { result.skips ≡ 0 }
         ensures size { result.size ≡ length self.now.entries }
@@ -356,8 +389,10 @@ impl Index {
         predicate: Option<u32>,
         object: Option<u32>,
     ) -> Scan<'_>
-        ensures agreeing { IsPermutation (agreeing graph subject predicate object self.now.entries) result.rest }
-        ensures ascending { IsAscending (map (turned (order_used subject predicate object)) result.rest) }
+        ensures agreeing { IsPermutation (agreeing graph subject predicate object self.now.entries)
+            result.rest }
+        ensures ascending { IsAscending
+            (map (turned (order_used subject predicate object)) result.rest) }
         ensures handed { result.handed ≡ 0 }
         ensures skips { result.skips ≡ 0 }
         ensures size { result.size ≡ length self.now.entries }
@@ -379,8 +414,10 @@ impl Index {
         predicate: Option<u32>,
         object: Option<u32>,
     ) -> Scan<'_>
-        ensures agreeing { IsPermutation (agreeing_named subject predicate object self.now.entries) result.rest }
-        ensures ascending { IsAscending (map (turned (named_order_used subject predicate object)) result.rest) }
+        ensures agreeing { IsPermutation (agreeing_named subject predicate object self.now.entries)
+            result.rest }
+        ensures ascending { IsAscending
+            (map (turned (named_order_used subject predicate object)) result.rest) }
         ensures handed { result.handed ≡ 0 }
         ensures skips { result.skips ≡ 0 }
         ensures size { result.size ≡ length (named_entries self.now.entries) }
@@ -398,8 +435,10 @@ impl Index {
         predicate: Option<u32>,
         object: Option<u32>,
     ) -> Scan<'_>
-        ensures agreeing { IsPermutation (agreeing_named subject predicate object self.now.entries) result.rest }
-        ensures ascending { IsAscending (map (turned (named_order_used subject predicate object)) result.rest) }
+        ensures agreeing { IsPermutation (agreeing_named subject predicate object self.now.entries)
+            result.rest }
+        ensures ascending { IsAscending
+            (map (turned (named_order_used subject predicate object)) result.rest) }
         ensures handed { result.handed ≡ 0 }
         ensures skips { result.skips ≡ 0 }
         ensures size { result.size ≡ length (named_entries self.now.entries) }
@@ -421,8 +460,10 @@ impl Index {
         predicate: Option<u32>,
         object: Option<u32>,
     ) -> Scan<'_>
-        ensures agreeing { IsPermutation (agreeing graph subject predicate object self.now.entries) result.rest }
-        ensures ascending { IsAscending (map (turned (order_with_lead subject predicate object lead)) result.rest) }
+        ensures agreeing { IsPermutation (agreeing graph subject predicate object self.now.entries)
+            result.rest }
+        ensures ascending { IsAscending
+            (map (turned (order_with_lead subject predicate object lead)) result.rest) }
         ensures handed { result.handed ≡ 0 }
         ensures skips { result.skips ≡ 0 }
         ensures size { result.size ≡ length self.now.entries }
@@ -443,8 +484,10 @@ impl Index {
         predicate: Option<u32>,
         object: Option<u32>,
     ) -> Scan<'_>
-        ensures agreeing { IsPermutation (agreeing_named subject predicate object self.now.entries) result.rest }
-        ensures ascending { IsAscending (map (turned (named_order_with_lead subject predicate object lead)) result.rest) }
+        ensures agreeing { IsPermutation (agreeing_named subject predicate object self.now.entries)
+            result.rest }
+        ensures ascending { IsAscending
+            (map (turned (named_order_with_lead subject predicate object lead)) result.rest) }
         ensures handed { result.handed ≡ 0 }
         ensures skips { result.skips ≡ 0 }
         ensures size { result.size ≡ length (named_entries self.now.entries) }

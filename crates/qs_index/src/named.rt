@@ -78,7 +78,8 @@ impl Named {
     /// Puts an entry in that isn't there.
     pub fn insert(&mut self, entry: [u32; 4])
         requires { is_named entry ≡ true → 0 < self.old.spare }
-        ensures orders { (xs : List (List ℕ)) → (¬ Contains xs entry) → AreNamedOf xs self.old → AreNamedOf (with_entry entry xs) self.new }
+        ensures orders { (xs : List (List ℕ)) → (¬ Contains xs entry) → AreNamedOf xs self.old
+            → AreNamedOf (with_entry entry xs) self.new }
         ensures spare { self.old.spare ≤ self.new.spare + 1 }
     {
         if !is_named(&entry) {
@@ -91,7 +92,8 @@ impl Named {
 
     /// Takes an entry out that is there.
     pub fn remove(&mut self, entry: [u32; 4])
-        ensures orders { (xs : List (List ℕ)) → IsAscending xs → Contains xs entry → AreNamedOf xs self.old → AreNamedOf (without_entry entry xs) self.new }
+        ensures orders { (xs : List (List ℕ)) → IsAscending xs → Contains xs entry
+            → AreNamedOf xs self.old → AreNamedOf (without_entry entry xs) self.new }
         ensures spare { self.old.spare ≤ self.new.spare }
     {
         if !is_named(&entry) {
@@ -107,8 +109,10 @@ impl Named {
         requires subject { length other.now.by_subject ≤ min (length batch.old) self.old.spare }
         requires predicate { length other.now.by_predicate ≤ min (length batch.old) self.old.spare }
         requires object { length other.now.by_object ≤ min (length batch.old) self.old.spare }
-        ensures orders { (xs ds ys : List (List ℕ)) → IsUnion xs ds ys → AreNamedOf ds other.now → AreNamedOf xs self.old → AreNamedOf ys self.new }
-        ensures spare { (n : ℕ) → length other.now.by_subject ≤ n → length other.now.by_predicate ≤ n → length other.now.by_object ≤ n → self.old.spare ≤ self.new.spare + n }
+        ensures orders { (xs ds ys : List (List ℕ)) → IsUnion xs ds ys → AreNamedOf ds other.now
+            → AreNamedOf xs self.old → AreNamedOf ys self.new }
+        ensures spare { (n : ℕ) → length other.now.by_subject ≤ n → length other.now.by_predicate
+            ≤ n → length other.now.by_object ≤ n → self.old.spare ≤ self.new.spare + n }
     {
         self.spog.insert_all_of(&other.spog, batch);
         self.posg.insert_all_of(&other.posg, batch);
@@ -124,11 +128,22 @@ impl Named {
         graph: u32,
         batch: &mut [[u32; 4]],
     )
-        requires subject { 0 < graph → length (beginning (graph ∷ []) gspo.now.entries) ≤ min (length batch.old) self.old.spare }
-        requires predicate { 0 < graph → length (beginning (graph ∷ []) gpos.now.entries) ≤ min (length batch.old) self.old.spare }
-        requires object { 0 < graph → length (beginning (graph ∷ []) gosp.now.entries) ≤ min (length batch.old) self.old.spare }
-        ensures orders { (xs ys : List (List ℕ)) → HaveFour gspo.now.entries → IsOrderOf Gspo gspo.now.entries gspo.now.entries → IsOrderOf Gpos gspo.now.entries gpos.now.entries → IsOrderOf Gosp gspo.now.entries gosp.now.entries → IsUnion xs (beginning (graph ∷ []) gspo.now.entries) ys → AreNamedOf xs self.old → AreNamedOf ys self.new }
-        ensures spare { (n : ℕ) → length (beginning (graph ∷ []) gspo.now.entries) ≤ n → length (beginning (graph ∷ []) gpos.now.entries) ≤ n → length (beginning (graph ∷ []) gosp.now.entries) ≤ n → self.old.spare ≤ self.new.spare + n }
+        requires subject { 0 < graph → length (beginning (graph ∷ []) gspo.now.entries)
+            ≤ min (length batch.old) self.old.spare }
+        requires predicate { 0 < graph → length (beginning (graph ∷ []) gpos.now.entries)
+            ≤ min (length batch.old) self.old.spare }
+        requires object { 0 < graph → length (beginning (graph ∷ []) gosp.now.entries)
+            ≤ min (length batch.old) self.old.spare }
+        ensures orders { (xs ys : List (List ℕ)) → HaveFour gspo.now.entries
+            → IsOrderOf Gspo gspo.now.entries gspo.now.entries
+            → IsOrderOf Gpos gspo.now.entries gpos.now.entries
+            → IsOrderOf Gosp gspo.now.entries gosp.now.entries
+            → IsUnion xs (beginning (graph ∷ []) gspo.now.entries) ys → AreNamedOf xs self.old
+            → AreNamedOf ys self.new }
+        ensures spare { (n : ℕ) → length (beginning (graph ∷ []) gspo.now.entries) ≤ n
+            → length (beginning (graph ∷ []) gpos.now.entries) ≤ n
+            → length (beginning (graph ∷ []) gosp.now.entries) ≤ n → self.old.spare ≤ self.new.spare
+            + n }
     {
         if graph == 0 {
             return;
@@ -143,7 +158,8 @@ impl Named {
         requires subject { length other.now.by_subject ≤ length batch.old }
         requires predicate { length other.now.by_predicate ≤ length batch.old }
         requires object { length other.now.by_object ≤ length batch.old }
-        ensures orders { (xs ds ys : List (List ℕ)) → IsDifference xs ds ys → AreNamedOf ds other.now → AreNamedOf xs self.old → AreNamedOf ys self.new }
+        ensures orders { (xs ds ys : List (List ℕ)) → IsDifference xs ds ys
+            → AreNamedOf ds other.now → AreNamedOf xs self.old → AreNamedOf ys self.new }
         ensures spare { self.old.spare ≤ self.new.spare }
     {
         self.spog.remove_all_of(&other.spog, batch);

@@ -1,11 +1,11 @@
 //! One order of the entries: sorted pages seen as one ascending list.
-ghost use Rattle.std.specs.Prelude.{◌≡◌, ℕ, ◌+◌, ◌-◌, ◌<◌, ◌≤◌, ◌^◌, List, [], ◌∷◌, length, map, take, drop, IsTrue, ◌↔◌, MatchOption};
+ghost use Rattle.std.specs.Prelude.{◌≡◌, ℕ, ◌+◌, ◌-◌, ◌<◌, ◌≤◌, ◌^◌, List, [], ◌∷◌, length, map, take, drop, IfOk, IsTrue, ◌↔◌, MatchOption};
 ghost use Rattle.std.specs.Bool.{OnTrue, OnFalse};
 ghost use Rattle.std.specs.Result.{OnOk};
 ghost use Rattle.std.specs.List.{Contains};
 ghost use Rattle.qs_index.specs.inner.Layout.{Layout, joined, open_room_of, page_at, rest_at, room_of};
 ghost use Rattle.qs_index.specs.inner.Entries.{Entries, IsUnion, IsDifference, IsOrdered};
-ghost use Rattle.qs_index.specs.inner.Entry.{IsAscending, skip_before, with_entry, without_entry, beginning};
+ghost use Rattle.qs_index.specs.inner.Entry.{IsAscending, skip_before, with_entry, without_entry, beginning, run_of};
 ghost use Rattle.qs_index.specs.inner.Permutation.{turned};
 ghost use Rattle.qs_index.specs.declared.permutation.Permutation.TheVariants.{Spog};
 
@@ -23,9 +23,11 @@ fn put_before(pages: &mut Pages, place: PagePosition, entry: [u32; 4])
     requires page { place.page < length pages.old.pages }
     requires at { place.at ≤ length (page_at pages.old.pages place.page) }
     requires free { length (page_at pages.old.pages place.page) < 256 }
-    requires before { rest_at pages.old.pages place.page place.at ≡ skip_before entry (joined pages.old.pages) }
+    requires before { rest_at pages.old.pages place.page place.at ≡ skip_before entry
+        (joined pages.old.pages) }
     ensures entries { joined pages.new.pages ≡ with_entry entry (joined pages.old.pages) }
-    ensures room { open_room_of pages.old.pages pages.old.spare ≤ room_of pages.new.pages pages.new.spare + 1 }
+    ensures room { open_room_of pages.old.pages pages.old.spare ≤ room_of pages.new.pages
+        pages.new.spare + 1 }
 {
     pages.put(place, entry);
 }
@@ -38,9 +40,11 @@ fn make_room(pages: &mut Pages, place: PagePosition) -> PagePosition
     ensures page { result.page < length pages.new.pages }
     ensures at { result.at ≤ length (page_at pages.new.pages result.page) }
     ensures free { length (page_at pages.new.pages result.page) < 256 }
-    ensures rest { rest_at pages.new.pages result.page result.at ≡ rest_at pages.old.pages place.page place.at }
+    ensures rest { rest_at pages.new.pages result.page result.at ≡ rest_at pages.old.pages
+        place.page place.at }
     ensures entries { joined pages.new.pages ≡ joined pages.old.pages }
-    ensures room { room_of pages.old.pages pages.old.spare ≤ open_room_of pages.new.pages pages.new.spare }
+    ensures room { room_of pages.old.pages pages.old.spare ≤ open_room_of pages.new.pages
+        pages.new.spare }
 {
     let _count = pages.len();
     if pages.page_len(place.page) < PAGE {
@@ -70,17 +74,32 @@ struct Passed {
     place: PagePosition,
 }
 
-// Writes what a scan gives to the front of `batch`, and tells how many entries it gave.
-fn copy(scan: OrderScan<'_>, batch: &mut [[u32; 4]]) -> usize
-    requires { length scan.rest ≤ length batch.old }
-    ensures entries { take result batch.new ≡ scan.entry.rest }
+// Writes the entries from a place on to the front of `batch`, as far as they begin with the prefix, and tells how many they are. Those of a
+// page are written at once, which takes far less time than a scan.
+fn copy(pages: &Pages, from: PagePosition, prefix: &Prefix, batch: &mut [[u32; 4]]) -> usize
+    requires at { from.page < length pages.now.pages
+        → from.at ≤ length (page_at pages.now.pages from.page) }
+    requires batch { length (run_of prefix.now (rest_at pages.now.pages from.page from.at))
+        ≤ length batch.old }
+    ensures entries { take result batch.new ≡ run_of prefix.now
+        (rest_at pages.now.pages from.page from.at) }
     ensures within { result ≤ length batch.new }
     ensures long { length batch.new ≡ length batch.old }
 {
-    let mut count: usize = 0;
-    for entry in scan {
-        batch[count] = entry;
-        count += 1;
+    let mut looked: u128 = 0;
+    let mut count = 0;
+    let mut page = from.page;
+    let mut at = from.at;
+    while page < pages.len() {
+        let left = pages.page_len(page) - at;
+        let place = PagePosition { page, at };
+        let run = pages.copy_run(place, prefix, &mut batch[count..], &mut looked);
+        count += run;
+        if run < left {
+            return count;
+        }
+        page += 1;
+        at = 0;
     }
     count
 }
@@ -127,6 +146,23 @@ impl Order {
         }
     }
 
+    /// An order of `entries`. Where they ascend it takes a page for each 256 of them, and half of what a reserve for as many inserts sets aside.
+    pub fn from_entries(alloc: Global, entries: &[[u32; 4]]) -> Result<Order, AllocError>
+        ensures { IfOk result (λ order. IsUnion [] entries.now order.entries) }
+    {
+        let mut pages = Pages::new(alloc);
+        pages.set_aside(entries.len().div_ceil(PAGE))?;
+        let filled = fill(&mut pages, entries);
+        let mut order = Order {
+            pages,
+            count: filled.count,
+        };
+        let rest = &entries[filled.read..];
+        order.reserve(rest.len() as u64)?;
+        order.insert_each(rest);
+        Ok(order)
+    }
+
     /// Makes room for `n` inserts: a page for each, or for as many as the pages that there are can be split into, where these are fewer.
     /// Where there are none, nothing is set aside.
     pub fn reserve(&mut self, n: u64) -> Result<(), AllocError>
@@ -161,7 +197,8 @@ impl Order {
         requires { 0 < self.old.spare }
         ensures new { IsTrue result.is_done ↔ (¬ Contains self.old.entries entry) }
         ensures stood { OnFalse result.is_done (Contains self.old.entries entry) }
-        ensures added { OnTrue result.is_done (self.new.entries ≡ with_entry entry self.old.entries) }
+        ensures added { OnTrue result.is_done
+            (self.new.entries ≡ with_entry entry self.old.entries) }
         ensures kept { OnFalse result.is_done (self.new.entries ≡ self.old.entries) }
         ensures ascending { IsAscending self.new.entries }
         ensures spare { self.old.spare ≤ self.new.spare + 1 }
@@ -270,7 +307,8 @@ impl Order {
         requires { 0 < length entries.now }
         ensures some { 0 < result.count }
         ensures within { result.count ≤ length entries.now }
-        ensures difference { IsDifference self.old.entries (take result.count entries.now) self.new.entries }
+        ensures difference { IsDifference self.old.entries (take result.count entries.now)
+            self.new.entries }
         ensures spare { self.old.spare ≤ self.new.spare }
     {
         let count = self.pages.len();
@@ -313,14 +351,14 @@ impl Order {
     }
 
     /// Writes the entries to the front of `batch`, in order, and tells how many they are.
-    #[tactic(auto, using(crate::proofs::OtherOrders::beginning_with_none))]
     pub fn copy_to(&self, batch: &mut [[u32; 4]]) -> usize
         requires { length self.now.entries ≤ length batch.old }
         ensures entries { take result batch.new ≡ self.now.entries }
         ensures within { result ≤ length batch.new }
         ensures long { length batch.new ≡ length batch.old }
     {
-        copy(self.scan(NOWHERE, [0, 0, 0, 0], 0), batch)
+        let front = PagePosition { page: 0, at: 0 };
+        copy(&self.pages, front, &Prefix::new([0, 0, 0, 0], 0), batch)
     }
 
     /// Writes the entries that begin with the number of a graph to the front of `batch`, in order, and tells how many they are.
@@ -330,15 +368,23 @@ impl Order {
         ensures within { result ≤ length batch.new }
         ensures long { length batch.new ≡ length batch.old }
     {
-        copy(self.scan(NOWHERE, [graph, 0, 0, 0], 1), batch)
+        let _count = self.pages.len();
+        let mut reader = Reader::new(&self.pages);
+        let prefix = Prefix::new([graph, 0, 0, 0], 1);
+        match find(&mut reader, &prefix) {
+            Some(found) => copy(&self.pages, found.place, &prefix, batch),
+            None => 0,
+        }
     }
 
     /// Puts the entries of another order in that begin with the number of a graph, by way of `batch`.
     pub fn insert_graph(&mut self, other: &Order, graph: u32, batch: &mut [[u32; 4]])
         requires batch { length (beginning (graph ∷ []) other.now.entries) ≤ length batch.old }
         requires room { length (beginning (graph ∷ []) other.now.entries) ≤ self.old.spare }
-        ensures union { IsUnion self.old.entries (beginning (graph ∷ []) other.now.entries) self.new.entries }
-        ensures spare { self.old.spare ≤ self.new.spare + length (beginning (graph ∷ []) other.now.entries) }
+        ensures union { IsUnion self.old.entries (beginning (graph ∷ []) other.now.entries)
+            self.new.entries }
+        ensures spare { self.old.spare ≤ self.new.spare
+            + length (beginning (graph ∷ []) other.now.entries) }
         ensures long { length batch.new ≡ length batch.old }
     {
         let count = other.copy_graph(graph, batch);
@@ -349,8 +395,10 @@ impl Order {
     pub fn insert_graph_last(&mut self, other: &Order, graph: u32, batch: &mut [[u32; 4]])
         requires batch { length (beginning (graph ∷ []) other.now.entries) ≤ length batch.old }
         requires room { length (beginning (graph ∷ []) other.now.entries) ≤ self.old.spare }
-        ensures union { IsUnion self.old.entries (map (turned Spog) (beginning (graph ∷ []) other.now.entries)) self.new.entries }
-        ensures spare { self.old.spare ≤ self.new.spare + length (beginning (graph ∷ []) other.now.entries) }
+        ensures union { IsUnion self.old.entries
+            (map (turned Spog) (beginning (graph ∷ []) other.now.entries)) self.new.entries }
+        ensures spare { self.old.spare ≤ self.new.spare
+            + length (beginning (graph ∷ []) other.now.entries) }
         ensures long { length batch.new ≡ length batch.old }
     {
         let count = other.copy_graph(graph, batch);
@@ -421,7 +469,9 @@ impl Order {
 
     /// The first entry that doesn't stand before all entries that begin with `prefix`.
     pub fn first_from(&self, prefix: &Prefix) -> Option<[u32; 4]>
-        ensures { MatchOption result (skip_before prefix.now self.now.entries ≡ []) (λ e. skip_before prefix.now self.now.entries ≡ e ∷ drop 1 (skip_before prefix.now self.now.entries)) }
+        ensures { MatchOption result (skip_before prefix.now self.now.entries ≡ [])
+            (λ e. skip_before prefix.now self.now.entries ≡ e
+            ∷ drop 1 (skip_before prefix.now self.now.entries)) }
     {
         let _count = self.pages.len();
         let mut reader = Reader::new(&self.pages);

@@ -41,9 +41,12 @@ fn step(reader: &Reader<'_>, prefix: &Prefix, place: PagePosition) -> PagePositi
     requires at { place.at < length (page_at reader.now.pages place.page) }
     requires ascending { IsAscending (joined reader.now.pages) }
     requires entries { HaveFour (joined reader.now.pages) }
-    requires begins { begins prefix.now (slice_index_or (page_at reader.now.pages place.page) place.at []) ≡ true }
-    ensures within { result.page < length reader.now.pages → result.at < length (page_at reader.now.pages result.page) }
-    ensures run { run_of prefix.now (rest_at reader.now.pages result.page result.at) ≡ run_of prefix.now (rest_at reader.now.pages place.page (place.at + 1)) }
+    requires begins { begins prefix.now
+        (slice_index_or (page_at reader.now.pages place.page) place.at []) ≡ true }
+    ensures within { result.page < length reader.now.pages
+        → result.at < length (page_at reader.now.pages result.page) }
+    ensures run { run_of prefix.now (rest_at reader.now.pages result.page result.at)
+        ≡ run_of prefix.now (rest_at reader.now.pages place.page (place.at + 1)) }
 {
     let held = reader.len();
     if prefix.is_whole() {
@@ -136,7 +139,8 @@ impl<'a> OrderScan<'a> {
 
     /// The entry that comes next, which stays to be handed out; none where none is left.
     pub fn peek(&mut self) -> Option<[u32; 4]>
-        ensures next { MatchOption result (self.old.rest ≡ []) (λ e. self.old.rest ≡ e ∷ drop 1 self.old.rest) }
+        ensures next { MatchOption result (self.old.rest ≡ [])
+            (λ e. self.old.rest ≡ e ∷ drop 1 self.old.rest) }
         ensures rest { self.new.rest ≡ self.old.rest }
         ensures handed { self.new.handed ≡ self.old.handed }
         ensures skips { self.new.skips ≡ self.old.skips }

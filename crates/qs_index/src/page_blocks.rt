@@ -88,7 +88,8 @@ impl Block {
         requires page { page < length self.old }
         requires from { from ≤ length (page_at self.old page) }
         ensures met { result ≡ met (drop from (page_at self.old page)) entries.now }
-        ensures left { self.new ≡ slice_set self.old page (left_from from (page_at self.old page) entries.now) }
+        ensures left { self.new ≡ slice_set self.old page
+            (left_from from (page_at self.old page) entries.now) }
     {
         let held = &mut self.pages[page];
         held.take_met(from, entries)
@@ -97,7 +98,8 @@ impl Block {
     fn extend(&mut self, page: usize, last: &[u32; 4], entries: &[[u32; 4]]) -> usize
         requires { page < length self.old }
         ensures taken { result ≡ taken_in last.now (page_at self.old page) entries.now }
-        ensures items { self.new ≡ slice_set self.old page (extended last.now (page_at self.old page) entries.now) }
+        ensures items { self.new ≡ slice_set self.old page
+            (extended last.now (page_at self.old page) entries.now) }
     {
         let held = &mut self.pages[page];
         held.extend(last, entries)
@@ -199,7 +201,8 @@ fn close_gap(blocks: &mut Vec<Block>, first: usize, count: usize)
     requires fits { count ≤ 256 * length blocks.old.items }
     requires gap { HasGap blocks.old.items first count }
     ensures same { flat blocks.new.items ≡ flat blocks.old.items }
-    ensures filled { (j : ℕ) → length (block_at blocks.new.items j) ≡ min 256 (count - 1 - 256 * j) }
+    ensures filled { (j : ℕ) → length (block_at blocks.new.items j)
+        ≡ min 256 (count - 1 - 256 * j) }
     ensures count { length blocks.new.items ≡ length blocks.old.items }
 {
     let last = (count - 1) / BLOCK;
@@ -262,7 +265,8 @@ impl PageBlocks {
         requires page { page < length self.old.items }
         requires at { at ≤ length (page_at self.old.items page) }
         requires room { length (page_at self.old.items page) < 256 }
-        ensures items { self.new.items ≡ slice_set self.old.items page (insert (page_at self.old.items page) at entry) }
+        ensures items { self.new.items ≡ slice_set self.old.items page
+            (insert (page_at self.old.items page) at entry) }
         ensures room { self.new.room ≡ self.old.room }
     {
         let block = &mut self.blocks[page / BLOCK];
@@ -273,7 +277,8 @@ impl PageBlocks {
     pub fn take_out(&mut self, page: usize, at: usize)
         requires page { page < length self.old.items }
         requires at { at < length (page_at self.old.items page) }
-        ensures items { self.new.items ≡ slice_set self.old.items page (remove (page_at self.old.items page) at) }
+        ensures items { self.new.items ≡ slice_set self.old.items page
+            (remove (page_at self.old.items page) at) }
         ensures room { self.new.room ≡ self.old.room }
     {
         let block = &mut self.blocks[page / BLOCK];
@@ -285,7 +290,8 @@ impl PageBlocks {
         requires page { page < length self.old.items }
         requires from { from ≤ length (page_at self.old.items page) }
         ensures met { result ≡ met (drop from (page_at self.old.items page)) entries.now }
-        ensures items { self.new.items ≡ slice_set self.old.items page (left_from from (page_at self.old.items page) entries.now) }
+        ensures items { self.new.items ≡ slice_set self.old.items page
+            (left_from from (page_at self.old.items page) entries.now) }
         ensures room { self.new.room ≡ self.old.room }
     {
         let block = &mut self.blocks[page / BLOCK];
@@ -297,7 +303,8 @@ impl PageBlocks {
     pub fn extend(&mut self, page: usize, last: &[u32; 4], entries: &[[u32; 4]]) -> usize
         requires { page < length self.old.items }
         ensures taken { result ≡ taken_in last.now (page_at self.old.items page) entries.now }
-        ensures items { self.new.items ≡ slice_set self.old.items page (extended last.now (page_at self.old.items page) entries.now) }
+        ensures items { self.new.items ≡ slice_set self.old.items page
+            (extended last.now (page_at self.old.items page) entries.now) }
         ensures room { self.new.room ≡ self.old.room }
     {
         let block = &mut self.blocks[page / BLOCK];
@@ -309,7 +316,8 @@ impl PageBlocks {
         requires page { page < length self.old.items }
         requires full { length (page_at self.old.items page) ≡ 256 }
         requires empty { upper.old ≡ [] }
-        ensures lower { self.new.items ≡ slice_set self.old.items page (take 128 (page_at self.old.items page)) }
+        ensures lower { self.new.items ≡ slice_set self.old.items page
+            (take 128 (page_at self.old.items page)) }
         ensures upper { upper.new ≡ drop 128 (page_at self.old.items page) }
         ensures room { self.new.room ≡ self.old.room }
     {

@@ -99,7 +99,8 @@ impl Lookup {
     ) -> Lookup
         ensures permutation { result.permutation ≡ order_used subject predicate object }
         ensures short { result.given ≤ 4 }
-        ensures prefix { take result.given result.prefix ≡ prefix_of graph subject predicate object }
+        ensures prefix { take result.given result.prefix ≡ prefix_of graph subject predicate
+            object }
     {
         let (permutation, prefix, given) = match (subject, predicate, object) {
             (None, None, None) => (Permutation::Gspo, [graph, 0, 0, 0], 1),
@@ -121,7 +122,8 @@ impl Lookup {
     pub fn of_named(subject: Option<u32>, predicate: Option<u32>, object: Option<u32>) -> Lookup
         ensures permutation { result.permutation ≡ named_order_used subject predicate object }
         ensures short { result.given ≤ 4 }
-        ensures prefix { take result.given result.prefix ≡ named_prefix_of subject predicate object }
+        ensures prefix { take result.given result.prefix ≡ named_prefix_of subject predicate
+            object }
     {
         let (permutation, prefix, given) = match (subject, predicate, object) {
             (None, None, None) => (Permutation::Spog, [0, 0, 0, 0], 0),
@@ -150,7 +152,8 @@ impl Lookup {
     ) -> Lookup
         ensures permutation { result.permutation ≡ order_with_lead subject predicate object lead }
         ensures short { result.given ≤ 4 }
-        ensures prefix { take result.given result.prefix ≡ prefix_of graph subject predicate object }
+        ensures prefix { take result.given result.prefix ≡ prefix_of graph subject predicate
+            object }
     {
         match (subject, predicate, object) {
             (None, None, None) => Lookup {
@@ -173,9 +176,11 @@ impl Lookup {
         predicate: Option<u32>,
         object: Option<u32>,
     ) -> Lookup
-        ensures permutation { result.permutation ≡ named_order_with_lead subject predicate object lead }
+        ensures permutation { result.permutation ≡ named_order_with_lead subject predicate object
+            lead }
         ensures short { result.given ≤ 4 }
-        ensures prefix { take result.given result.prefix ≡ named_prefix_of subject predicate object }
+        ensures prefix { take result.given result.prefix ≡ named_prefix_of subject predicate
+            object }
     {
         match (subject, predicate, object) {
             (None, None, None) => Lookup {

@@ -1,6 +1,6 @@
 //! What the entries of a scan begin with.
 ghost use Rattle.std.specs.Prelude.{◌≡◌, ℕ, ◌≤◌, ◌==◌, List, length, take, IfSome, IfNone};
-ghost use Rattle.qs_index.specs.inner.Entry.{is_before, begins};
+ghost use Rattle.qs_index.specs.inner.Entry.{is_before, begins, run_of};
 ghost use Rattle.qs_index.specs.inner.Prefix.{IsFilled, IsAfter, HasAfter};
 
 use crate::entry::{begins, is_less};
@@ -91,5 +91,17 @@ impl Prefix {
         ensures { result ≡ begins self.now entry.now }
     {
         begins(&self.filled[..self.given], entry)
+    }
+
+    /// How many entries at the front of a list begin with the prefix.
+    pub fn run_len(&self, entries: &[[u32; 4]]) -> usize
+        ensures { result ≡ length (run_of self.now entries.now) }
+    {
+        for i in 0..entries.len() {
+            if !self.begins(&entries[i]) {
+                return i;
+            }
+        }
+        entries.len()
     }
 }

@@ -27,7 +27,8 @@ impl<'a> Model for Scan<'a> {
 
 impl<'a> Scan<'a> {
     pub(crate) fn new(inner: OrderScan<'a>, permutation: Permutation) -> Scan<'a>
-        ensures { result ≡ record inner.entry { rest = map (restored permutation) inner.entry.rest } }
+        ensures { result
+            ≡ record inner.entry { rest = map (restored permutation) inner.entry.rest } }
     {
         Scan { inner, permutation }
     }
@@ -51,7 +52,8 @@ impl<'a> Scan<'a> {
         ensures skipped { SkipsAgreeing subject predicate object self.old.rest self.new.rest }
         ensures handed { self.new.handed ≡ self.old.handed }
         ensures skips { self.new.skips ≤ self.old.skips + 1 }
-        ensures counted { self.new.skips + length self.new.rest ≤ self.old.skips + length self.old.rest }
+        ensures counted { self.new.skips + length self.new.rest ≤ self.old.skips
+            + length self.old.rest }
         ensures size { self.new.size ≡ self.old.size }
         ensures rises { self.old.looked ≤ self.new.looked }
     {

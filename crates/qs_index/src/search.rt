@@ -39,9 +39,12 @@ fn first_page(reader: &mut Reader<'_>, prefix: &Prefix) -> Bound
     requires ascending { IsAscending (joined reader.old.pages) }
     requires countable { reader.old.looked + digits (length reader.old.pages) < 2 ^ 128 }
     ensures within { result.at ≤ length reader.old.pages }
-    ensures skips { skip_before prefix.now (joined reader.old.pages) ≡ skip_before prefix.now (joined (drop result.at reader.old.pages)) }
-    ensures reached { result.at < length reader.old.pages → IsReached prefix.now reader.old.pages result.at (length (page_at reader.old.pages result.at) - 1) result.entry }
-    ensures looked { result.at < length reader.old.pages → reader.old.looked + 1 ≤ reader.new.looked }
+    ensures skips { skip_before prefix.now (joined reader.old.pages) ≡ skip_before prefix.now
+        (joined (drop result.at reader.old.pages)) }
+    ensures reached { result.at < length reader.old.pages → IsReached prefix.now reader.old.pages
+        result.at (length (page_at reader.old.pages result.at) - 1) result.entry }
+    ensures looked { result.at < length reader.old.pages → reader.old.looked + 1
+        ≤ reader.new.looked }
     ensures rising { reader.old.looked ≤ reader.new.looked }
     ensures pages { reader.new.pages ≡ reader.old.pages }
     ensures counted { reader.new.looked ≤ reader.old.looked + digits (length reader.old.pages) }
@@ -77,11 +80,13 @@ fn first_in_page(
     requires ascending { IsAscending (joined reader.old.pages) }
     requires page_in { page < length reader.old.pages }
     requires ordered { from ≤ to.at }
-    requires passed { skip_before prefix.now (joined (drop page reader.old.pages)) ≡ skip_before prefix.now (rest_at reader.old.pages page from) }
+    requires passed { skip_before prefix.now (joined (drop page reader.old.pages))
+        ≡ skip_before prefix.now (rest_at reader.old.pages page from) }
     requires reached { IsReached prefix.now reader.old.pages page to.at to.entry }
     requires countable { reader.old.looked + digits (to.at - from) < 2 ^ 128 }
     ensures within { result.at < length (page_at reader.old.pages page) }
-    ensures skips { skip_before prefix.now (joined (drop page reader.old.pages)) ≡ rest_at reader.old.pages page result.at }
+    ensures skips { skip_before prefix.now (joined (drop page reader.old.pages))
+        ≡ rest_at reader.old.pages page result.at }
     ensures entry { result.entry ≡ slice_index_or (page_at reader.old.pages page) result.at [] }
     ensures pages { reader.new.pages ≡ reader.old.pages }
     ensures looked { reader.old.looked ≤ reader.new.looked }
@@ -111,13 +116,16 @@ fn first_in_page(
 #[inline(always)]
 pub fn find(reader: &mut Reader<'_>, prefix: &Prefix) -> Option<Found>
     requires ascending { IsAscending (joined reader.old.pages) }
-    requires countable { reader.old.looked + 2 * digits (length (joined reader.old.pages)) < 2 ^ 128 }
-    ensures some { IfSome result (λ found. IsFound prefix.now reader.old.pages found.place.page found.place.at found.entry) }
+    requires countable { reader.old.looked + 2 * digits (length (joined reader.old.pages))
+        < 2 ^ 128 }
+    ensures some { IfSome result (λ found. IsFound prefix.now reader.old.pages found.place.page
+        found.place.at found.entry) }
     ensures none { IfNone result (skip_before prefix.now (joined reader.old.pages) ≡ []) }
     ensures looked { IfSome result (λ _. reader.old.looked + 1 ≤ reader.new.looked) }
     ensures rising { reader.old.looked ≤ reader.new.looked }
     ensures pages { reader.new.pages ≡ reader.old.pages }
-    ensures counted { reader.new.looked ≤ reader.old.looked + 2 * digits (length (joined reader.old.pages)) }
+    ensures counted { reader.new.looked ≤ reader.old.looked + 2 * digits
+        (length (joined reader.old.pages)) }
 {
     let held = reader.len();
     let page = first_page(reader, prefix);
@@ -150,15 +158,19 @@ fn gallop(reader: &mut Reader<'_>, page: usize, from: usize, last: Bound, prefix
     requires page_in { page < length reader.old.pages }
     requires size { length (page_at reader.old.pages page) ≤ 256 }
     requires ordered { from ≤ last.at }
-    requires passed { skip_before prefix.now (joined (drop page reader.old.pages)) ≡ skip_before prefix.now (rest_at reader.old.pages page from) }
+    requires passed { skip_before prefix.now (joined (drop page reader.old.pages))
+        ≡ skip_before prefix.now (rest_at reader.old.pages page from) }
     requires reached { IsReached prefix.now reader.old.pages page last.at last.entry }
-    requires countable { reader.old.looked + digits (length (page_at reader.old.pages page)) < 2 ^ 128 }
+    requires countable { reader.old.looked + digits (length (page_at reader.old.pages page))
+        < 2 ^ 128 }
     ensures ordered { result.from ≤ result.to.at }
-    ensures skips { skip_before prefix.now (joined (drop page reader.old.pages)) ≡ skip_before prefix.now (rest_at reader.old.pages page result.from) }
+    ensures skips { skip_before prefix.now (joined (drop page reader.old.pages))
+        ≡ skip_before prefix.now (rest_at reader.old.pages page result.from) }
     ensures reached { IsReached prefix.now reader.old.pages page result.to.at result.to.entry }
     ensures pages { reader.new.pages ≡ reader.old.pages }
     ensures looked { reader.old.looked ≤ reader.new.looked }
-    ensures counted { reader.new.looked + digits (result.to.at - result.from) ≤ reader.old.looked + 2 * digits (length (page_at reader.old.pages page)) }
+    ensures counted { reader.new.looked + digits (result.to.at - result.from) ≤ reader.old.looked
+        + 2 * digits (length (page_at reader.old.pages page)) }
 {
     let mut low = from;
     let mut step = 1;
@@ -186,13 +198,17 @@ pub fn find_after(reader: &mut Reader<'_>, from: PagePosition, prefix: &Prefix) 
     requires ascending { IsAscending (joined reader.old.pages) }
     requires page { from.page < length reader.old.pages }
     requires at { from.at < length (page_at reader.old.pages from.page) }
-    requires passed { is_before (slice_index_or (page_at reader.old.pages from.page) from.at []) prefix.now ≡ true }
-    requires countable { reader.old.looked + 1 + 2 * digits (length (joined reader.old.pages)) < 2 ^ 128 }
-    ensures some { IfSome result (λ found. IsFound prefix.now reader.old.pages found.place.page found.place.at found.entry) }
+    requires passed { is_before (slice_index_or (page_at reader.old.pages from.page) from.at [])
+        prefix.now ≡ true }
+    requires countable { reader.old.looked + 1 + 2 * digits (length (joined reader.old.pages))
+        < 2 ^ 128 }
+    ensures some { IfSome result (λ found. IsFound prefix.now reader.old.pages found.place.page
+        found.place.at found.entry) }
     ensures none { IfNone result (skip_before prefix.now (joined reader.old.pages) ≡ []) }
     ensures pages { reader.new.pages ≡ reader.old.pages }
     ensures looked { reader.old.looked + 1 ≤ reader.new.looked }
-    ensures counted { reader.new.looked ≤ reader.old.looked + 1 + 2 * digits (length (joined reader.old.pages)) }
+    ensures counted { reader.new.looked ≤ reader.old.looked + 1 + 2 * digits
+        (length (joined reader.old.pages)) }
 {
     let held = reader.len();
     let page = from.page;
@@ -217,13 +233,17 @@ pub fn find_after(reader: &mut Reader<'_>, from: PagePosition, prefix: &Prefix) 
 fn find_before(reader: &mut Reader<'_>, from: Found, prefix: &Prefix) -> Option<Found>
     requires ascending { IsAscending (joined reader.old.pages) }
     requires page { from.place.page < length reader.old.pages }
-    requires reached { IsReached prefix.now reader.old.pages from.place.page from.place.at from.entry }
-    requires countable { reader.old.looked + 1 + 2 * digits (length (joined reader.old.pages)) < 2 ^ 128 }
-    ensures some { IfSome result (λ found. IsFound prefix.now reader.old.pages found.place.page found.place.at found.entry) }
+    requires reached { IsReached prefix.now reader.old.pages from.place.page from.place.at
+        from.entry }
+    requires countable { reader.old.looked + 1 + 2 * digits (length (joined reader.old.pages))
+        < 2 ^ 128 }
+    ensures some { IfSome result (λ found. IsFound prefix.now reader.old.pages found.place.page
+        found.place.at found.entry) }
     ensures none { IfNone result (skip_before prefix.now (joined reader.old.pages) ≡ []) }
     ensures pages { reader.new.pages ≡ reader.old.pages }
     ensures looked { IfSome result (λ _. reader.old.looked ≤ reader.new.looked) }
-    ensures counted { reader.new.looked ≤ reader.old.looked + 1 + 2 * digits (length (joined reader.old.pages)) }
+    ensures counted { reader.new.looked ≤ reader.old.looked + 1 + 2 * digits
+        (length (joined reader.old.pages)) }
 {
     let place = from.place;
     if place.at == 0 {
@@ -243,12 +263,15 @@ fn find_before(reader: &mut Reader<'_>, from: Found, prefix: &Prefix) -> Option<
 #[inline(always)]
 pub fn find_from(reader: &mut Reader<'_>, from: PagePosition, prefix: &Prefix) -> Option<Found>
     requires ascending { IsAscending (joined reader.old.pages) }
-    requires countable { reader.old.looked + 2 + 2 * digits (length (joined reader.old.pages)) < 2 ^ 128 }
-    ensures some { IfSome result (λ found. IsFound prefix.now reader.old.pages found.place.page found.place.at found.entry) }
+    requires countable { reader.old.looked + 2 + 2 * digits (length (joined reader.old.pages))
+        < 2 ^ 128 }
+    ensures some { IfSome result (λ found. IsFound prefix.now reader.old.pages found.place.page
+        found.place.at found.entry) }
     ensures none { IfNone result (skip_before prefix.now (joined reader.old.pages) ≡ []) }
     ensures pages { reader.new.pages ≡ reader.old.pages }
     ensures looked { IfSome result (λ _. reader.old.looked + 1 ≤ reader.new.looked) }
-    ensures counted { reader.new.looked ≤ reader.old.looked + 2 + 2 * digits (length (joined reader.old.pages)) }
+    ensures counted { reader.new.looked ≤ reader.old.looked + 2 + 2 * digits
+        (length (joined reader.old.pages)) }
 {
     let held = reader.len();
     if from.page >= held {
@@ -274,8 +297,10 @@ fn locate_in(
     requires ascending { IsAscending (joined reader.pages) }
     requires some { 0 < length reader.pages }
     requires unread { reader.looked ≡ 0 }
-    ensures found { IfOk result (λ place. IsPlaceOf entry.now reader.entry.pages place.page place.at) }
-    ensures missing { IfErr result (λ place. IsPlaceFor entry.now reader.entry.pages place.page place.at) }
+    ensures found { IfOk result (λ place. IsPlaceOf entry.now reader.entry.pages place.page
+        place.at) }
+    ensures missing { IfErr result (λ place. IsPlaceFor entry.now reader.entry.pages place.page
+        place.at) }
 {
     let mut reader = reader;
     let count = reader.len();
@@ -301,7 +326,8 @@ pub fn locate_from(
     requires ascending { IsAscending (joined pages.now.pages) }
     requires some { 0 < length pages.now.pages }
     ensures found { IfOk result (λ place. IsPlaceOf entry.now pages.now.pages place.page place.at) }
-    ensures missing { IfErr result (λ place. IsPlaceFor entry.now pages.now.pages place.page place.at) }
+    ensures missing { IfErr result
+        (λ place. IsPlaceFor entry.now pages.now.pages place.page place.at) }
 {
     locate_in(Reader::new(pages), from, entry)
 }
@@ -312,7 +338,8 @@ pub fn locate(pages: &Pages, entry: &[u32; 4]) -> Result<PagePosition, PagePosit
     requires ascending { IsAscending (joined pages.now.pages) }
     requires some { 0 < length pages.now.pages }
     ensures found { IfOk result (λ place. IsPlaceOf entry.now pages.now.pages place.page place.at) }
-    ensures missing { IfErr result (λ place. IsPlaceFor entry.now pages.now.pages place.page place.at) }
+    ensures missing { IfErr result
+        (λ place. IsPlaceFor entry.now pages.now.pages place.page place.at) }
 {
     locate_from(pages, NOWHERE, entry)
 }

@@ -2,7 +2,8 @@
 use Rattle.std.proofs.Common.{◌≡◌, ◌≤◌, ◌<◌, ℕ, ◌+◌, ◌-◌, Bool, true, false, cond, List, [], ◌∷◌, ◌++◌, Option, Some, None, option_map, length, refl, sym, ap, ◌∙◌, arith, add_assoc, encode_utf8, encode_utf8_all, length-append, IsUtf8, chars}
 use Rattle.std.specs.Char.{len_utf8}
 use Rattle.std.proofs.lemmas.Str.{chars_past_char, length-encode, len_utf8_bounds, encodes-chars}
-use Rattle.qs_lex_regular.specs.Longest.{Table, advance, here, longer, best}
+use Rattle.qs_lex_regular.specs.Longest.{Table}
+use Rattle.qs_lex_regular.specs.inner.Best.{advance, here, longer, best}
 use Rattle.qs_lex_regular.specs.inner.Scan.{later}
 use Rattle.qs_lex.specs.inner.Steady.{pass}
 use Rattle.qs_lex.proofs.TokenList.{nothing_left}

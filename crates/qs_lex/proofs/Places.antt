@@ -3,8 +3,9 @@ use Rattle.std.proofs.Common.{◌≡◌, ◌≤◌, ◌<◌, ℕ, ◌+◌, Bool,
 use Rattle.std.proofs.lemmas.List.Elements.{All-cons, All-nil}
 use Rattle.std.proofs.lemmas.List.Kept.{AllPairs-cons}
 use Rattle.std.proofs.lemmas.Str.{encodes-append, encodes-chars, length-le-encodes}
-use Rattle.qs_lex.specs.Lexes.{Lexes, Reads, skip, is_blank, is_line_end, lexeme}
-use Rattle.qs_lex.specs.Place.{IsSliceOf, StandsBefore}
+use Rattle.qs_lex.specs.Lexes.{Lexes, Reads, skip, is_blank, is_line_end}
+use Rattle.qs_lex.specs.inner.Lexes.{lexeme}
+use Rattle.qs_lex.specs.inner.Place.{IsSliceOf, StandsBefore}
 use Rattle.qs_lex.specs.declared.token.Token.{Token}
 use Rattle.qs_lex.proofs.TokenList.{nonempty}
 use Rattle.qs_lex.proofs.Unique.{empty_token}

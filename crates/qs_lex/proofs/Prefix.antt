@@ -5,8 +5,9 @@ use Rattle.std.proofs.lemmas.Str.{length-encode, len_utf8_bounds, chars_past_cha
 use Rattle.std.proofs.lemmas.List.{nil_from_length}
 use Rattle.qs_lex_regular.specs.Form.{one, many, ◌⨾◌, char, maybe}
 use Rattle.qs_lex_regular.specs.Character.{is_pn_chars, is_letter}
-use Rattle.qs_lex.specs.Table.{is_word_char, local_first, table, Left}
-use Rattle.qs_lex_regular.specs.Longest.{advance, here, longer, best}
+use Rattle.qs_lex.specs.Table.{is_word_char, local_first, table}
+use Rattle.qs_lex.specs.inner.Table.{Left}
+use Rattle.qs_lex_regular.specs.inner.Best.{advance, here, longer, best}
 use Rattle.qs_lex_regular.specs.inner.Scan.{later}
 use Rattle.qs_lex.specs.inner.NameState.{named, inner, local_rest}
 use Rattle.qs_lex.specs.inner.Prefix.{names, IsBarren, IsNoPrefix, plain}

@@ -1,7 +1,8 @@
 -- Each text has a token list, or a place at which no token begins.
 use Rattle.std.proofs.Common.{◌≡◌, ◌⊎◌, inl, inr, ◌≤◌, ◌<◌, ℕ, zero, suc, ◌+◌, ◌-◌, false, List, [], ◌∷◌, ◌++◌, Option, Some, None, length, refl, sym, ap, ◌∙◌, subst, arith, encode_utf8_all, chars, IsUtf8, length-append}
 use Rattle.std.proofs.lemmas.Str.{encodes-append, encodes-chars}
-use Rattle.qs_lex_regular.specs.Longest.{best, LongestFront}
+use Rattle.qs_lex_regular.specs.Longest.{LongestFront}
+use Rattle.qs_lex_regular.specs.inner.Best.{best}
 use Rattle.qs_lex_regular.proofs.Longest.{best-some, best-none}
 use Rattle.qs_lex.specs.Lexes.{Lexeme, Lexes, StopsAt, Reads, HasNoToken, IsPlace, IsLongest, skip}
 use Rattle.qs_lex.specs.Table.{table, IsToken}

@@ -1,7 +1,7 @@
 -- Characters that leave what has been read of a token as it is.
 use Rattle.std.proofs.Common.{◌≡◌, ℕ, Bool, true, false, not, ◌==◌, ◌||◌, [], ◌∷◌, refl, sym, ap, ◌∙◌, true≢false}
 use Rattle.std.proofs.Math.Bool.{or-false}
-use Rattle.qs_lex_regular.specs.Longest.{advance}
+use Rattle.qs_lex_regular.specs.inner.Best.{advance}
 use Rattle.qs_lex_regular.specs.Character.{is_one_of, is_pn_chars_u, is_digit, is_pn_chars, is_mark_in_name, is_iri_char}
 use Rattle.qs_lex.specs.Table.{is_exponent, is_word_char}
 use Rattle.qs_lex.specs.inner.NameState.{left_of_name}

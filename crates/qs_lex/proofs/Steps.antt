@@ -1,6 +1,6 @@
 -- What one step of a lexer does.
 use Rattle.std.proofs.Common.{◌≡◌, ◌≤◌, ◌<◌, ℕ, ◌-◌, false, List, [], ◌∷◌, ◌++◌, None, length, sym, ◌∙◌, subst, encode_utf8_all, chars, IsUtf8}
-use Rattle.qs_lex_regular.specs.Longest.{best}
+use Rattle.qs_lex_regular.specs.inner.Best.{best}
 use Rattle.qs_lex_regular.proofs.Longest.{best-none}
 use Rattle.qs_lex.specs.Lexes.{Lexeme, IsLongest, IsPlace, StopsAt, skip}
 use Rattle.qs_lex.specs.Table.{table}

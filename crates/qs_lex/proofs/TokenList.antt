@@ -4,7 +4,8 @@ use Rattle.std.specs.Str.{all_scalars}
 use Rattle.std.proofs.lemmas.Str.{encodes-append, encodes-chars, scalars-chars, chars-encodes, length-le-encodes, IsCharBoundary-at_seam, chars-nil, chars_past_char}
 use Rattle.std.proofs.lemmas.List.{nil_from_length}
 use Rattle.qs_lex.specs.Table.{table}
-use Rattle.qs_lex_regular.specs.Longest.{IsFirst, best, LongestFront}
+use Rattle.qs_lex_regular.specs.Longest.{IsFirst, LongestFront}
+use Rattle.qs_lex_regular.specs.inner.Best.{best}
 use Rattle.qs_lex.specs.Lexes.{Lexeme, Reads, IsLongest, IsPlace, skip}
 use Rattle.qs_lex.specs.declared.token.Class.{Class}
 use Rattle.qs_lex_regular.proofs.Longest.{best-some, here-none}

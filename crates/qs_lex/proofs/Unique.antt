@@ -1,7 +1,7 @@
 -- A text has one reading.
 use Rattle.std.proofs.Common.{◌≡◌, ◌≤◌, ◌<◌, ℕ, false, List, [], ◌∷◌, ◌++◌, length, refl, sym, ap, ◌∙◌, subst, arith, encode_utf8_all, chars}
 use Rattle.std.proofs.lemmas.Str.{chars-nil}
-use Rattle.qs_lex.specs.Fault.{HasToken}
+use Rattle.qs_lex.specs.inner.Fault.{HasToken}
 use Rattle.qs_lex.specs.Table.{table, IsToken}
 use Rattle.qs_lex.specs.Lexes.{Lexeme, Lexes, StopsAt, Reads, HasNoToken, skip}
 use Rattle.qs_lex.specs.declared.token.Class.{Class}

@@ -1,20 +1,17 @@
--- The token list of a text (SPARQL 1.1 Query, 19.8): after white space and comments the longest token, again and again, until only white
--- space and comments are left. So `<=>` is an IRI, where `<` could begin a comparison.
-use Rattle.std.specs.Prelude.{◌≡◌, ◌≤◌, ◌<◌, ℕ, ◌+◌, Bool, true, false, not, cond, ◌||◌, ◌==◌, List, [], ◌∷◌, ◌++◌, length}
+-- The token list of a text (SPARQL 1.1 Query, 19.8): after white space and comments the longest
+-- token, again and again, until only white space and comments are left. So `<=>` is an IRI, where
+-- `<` could begin a comparison.
+use Rattle.std.specs.Prelude.{◌≡◌, ◌≤◌, ◌<◌, ℕ, ◌+◌, Bool, true, false, not, cond, ◌||◌, ◌==◌, List}
+use Rattle.std.specs.Prelude.{[], ◌∷◌, ◌++◌, length}
 use Rattle.std.specs.Str.{chars, encode_utf8_all}
 use Rattle.qs_lex.specs.Table.{IsToken}
 use Rattle.qs_lex.specs.declared.token.Class.{Class}
-use Rattle.qs_lex.specs.declared.token.Token.{Token}
 
 -- a token, with the place of its first byte and its bytes
 pub record Lexeme : Type 0 where
   pub class : Class
   pub place : ℕ
   pub text : List ℕ
-
--- what contracts see of a token
-abbrev pub lexeme : Token → Lexeme
-lexeme t = record { class = t.class; place = t.place; text = t.text.now }
 
 -- white space (SPARQL 1.1 Query, 19.8, [162]): space, tab, LF, CR
 unfoldable pub is_blank : ℕ → Bool
@@ -24,7 +21,8 @@ is_blank c = c == 32 || c == 9 || c == 10 || c == 13
 unfoldable pub is_line_end : ℕ → Bool
 is_line_end c = c == 10 || c == 13
 
--- the characters without the white space and the comments at their front, which may begin within a comment
+-- the characters without the white space and the comments at their front, which may begin within a
+-- comment
 abbrev pub skip : Bool → List ℕ → List ℕ
 skip in_comment [] = []
 skip true (c ∷ cs) = skip (not (is_line_end c)) cs
@@ -43,18 +41,23 @@ HasNoToken cs = (k : Class) (u v : List ℕ) → cs ≡ u ++ v → IsToken k u �
 abbrev pub IsPlace : ℕ → List ℕ → ℕ → Type 0
 IsPlace n cs place = place + length (encode_utf8_all cs) ≡ n
 
--- Of a text of n bytes the characters cs are left; they begin with these tokens, and after them with rest.
+-- Of a text of n bytes the characters cs are left; they begin with these tokens, and after them
+-- with rest.
 abbrev pub Reads : ℕ → List ℕ → List Lexeme → List ℕ → Type 0
 Reads n cs [] rest = cs ≡ rest
 Reads n cs (t ∷ ts) rest =
-    (x : List ℕ) × (more : List ℕ) × (skip false cs ≡ x ++ more) × IsLongest t.class x more × (t.text ≡ encode_utf8_all x) × IsPlace n (x ++ more) t.place
+    (x : List ℕ) × (more : List ℕ) × (skip false cs ≡ x ++ more) × IsLongest t.class x more
+    × (t.text ≡ encode_utf8_all x) × IsPlace n (x ++ more) t.place
     × Reads n more ts rest
 
 -- the tokens of the text are these
 abbrev pub Lexes : List ℕ → List Lexeme → Type 0
 Lexes text ts = (rest : List ℕ) × Reads (length text) (chars text) ts rest × (skip false rest ≡ [])
 
--- after some tokens, white space and comments something is left of which no front is a token; it begins at this byte place
+-- after some tokens, white space and comments something is left of which no front is a token; it
+-- begins at this byte place
 abbrev pub StopsAt : List ℕ → ℕ → Type 0
 StopsAt text place =
-    (ts : List Lexeme) × (rest : List ℕ) × Reads (length text) (chars text) ts rest × (0 < length (skip false rest)) × HasNoToken (skip false rest) × IsPlace (length text) (skip false rest) place
+    (ts : List Lexeme) × (rest : List ℕ) × Reads (length text) (chars text) ts rest
+    × (0 < length (skip false rest)) × HasNoToken (skip false rest)
+    × IsPlace (length text) (skip false rest) place

@@ -1,9 +1,6 @@
 pub use Rattle.qs_lex_regular.specs.Character
 pub use Rattle.qs_lex_regular.specs.Form
-pub use Rattle.qs_lex_regular.specs.Derivative
 pub use Rattle.qs_lex_regular.specs.Longest
 pub mod Table
 pub mod Lexes
-pub mod Place
-pub mod Fault
 pub mod inner

@@ -1,4 +1,4 @@
--- What serves proofs alone: no promise of the product is read by it.
+-- For proofs and the layers between: no clause of the headline cites a definition of these files.
 pub mod Start
 pub mod State
 pub mod IriState
@@ -10,3 +10,7 @@ pub mod Prefix
 pub mod Steady
 pub mod Parts
 pub mod Unread
+pub mod Fault
+pub mod Place
+pub mod Lexes
+pub mod Table

@@ -20,7 +20,8 @@ fn is_line_end(c: char) -> bool
 
 /// Whether a comment goes on after a character, or `None` where it is neither white space nor in a comment.
 fn within_gap(in_comment: bool, c: char) -> Option<bool>
-    ensures { MatchOption result ((cs : List ℕ) → skip in_comment (c ∷ cs) ≡ c ∷ cs) (λ next. (cs : List ℕ) → skip in_comment (c ∷ cs) ≡ skip next cs) }
+    ensures { MatchOption result ((cs : List ℕ) → skip in_comment (c ∷ cs) ≡ c ∷ cs)
+        (λ next. (cs : List ℕ) → skip in_comment (c ∷ cs) ≡ skip next cs) }
 {
     if in_comment {
         Some(!is_line_end(c))

@@ -1,7 +1,7 @@
 //! IRIs, `<` and `<=`, a character at a time.
 
 ghost use Rattle.std.specs.Prelude.{◌≡◌, MatchOption, [], ◌<◌, ◌≤◌, ◌^◌, ◌-◌, ◌+◌, ◌*◌, IsTrue};
-ghost use Rattle.qs_lex_regular.specs.Longest.{advance, here};
+ghost use Rattle.qs_lex_regular.specs.inner.Best.{advance, here};
 ghost use Rattle.qs_lex_regular.specs.Character.{is_hex, hex_value, is_iri_scalar};
 ghost use Rattle.qs_lex.specs.inner.IriState.{left_of_iri};
 ghost use Rattle.qs_lex.specs.declared.iri_state.IriState.TheVariants.{Body};
@@ -44,7 +44,8 @@ impl IriState {
     /// What has been read with one more character, or `None` where no IRI and no mark goes on so.
     #[tactic(auto, using(crate::proofs::Apart::iri_backslash, crate::proofs::Apart::iri_greater, crate::proofs::Apart::equal_iri, crate::proofs::Apart::greater_iri, crate::proofs::Apart::backslash_iri))]
     pub fn step(self, c: char) -> Option<IriState>
-        ensures { MatchOption result (advance (left_of_iri self) c ≡ []) (λ next. advance (left_of_iri self) c ≡ left_of_iri next) }
+        ensures { MatchOption result (advance (left_of_iri self) c ≡ [])
+            (λ next. advance (left_of_iri self) c ≡ left_of_iri next) }
     {
         match self {
             IriState::Less => {
@@ -85,7 +86,8 @@ impl IriState {
 
 #[tactic(auto, using(crate::proofs::Apart::iri_backslash, crate::proofs::Apart::iri_greater, crate::proofs::Apart::equal_iri, crate::proofs::Apart::greater_iri, crate::proofs::Apart::backslash_iri))]
 fn in_body(c: char) -> Option<IriState>
-    ensures { MatchOption result (advance (left_of_iri Body) c ≡ []) (λ next. advance (left_of_iri Body) c ≡ left_of_iri next) }
+    ensures { MatchOption result (advance (left_of_iri Body) c ≡ [])
+        (λ next. advance (left_of_iri Body) c ≡ left_of_iri next) }
 {
     if is_iri_char(c) {
         Some(IriState::Body)

@@ -57,10 +57,14 @@ impl<'a> Lexer<'a> {
     /// The first byte place, after white space and comments, at which no token begins.
     pub fn next(&mut self) -> Result<Option<Token<'a>>, usize>
         ensures bytes { self.new.bytes ≡ self.old.bytes }
-        ensures next { IfOk result (λ next. (ts : List Lexeme) → HasRead ts self.old → HasComeTo ts next self.new) }
-        ensures shorter { IfOk result (λ next. OnSome next (length self.new.rest < length self.old.rest)) }
-        ensures within { IfOk result (λ next. IfSome next (λ t. t.place + length t.text.now ≤ length self.old.bytes)) }
-        ensures fault { IfErr result (λ place. (ts : List Lexeme) → HasRead ts self.old → StopsAt self.old.bytes place) }
+        ensures next { IfOk result (λ next. (ts : List Lexeme) → HasRead ts self.old
+            → HasComeTo ts next self.new) }
+        ensures shorter { IfOk result
+            (λ next. OnSome next (length self.new.rest < length self.old.rest)) }
+        ensures within { IfOk result
+            (λ next. IfSome next (λ t. t.place + length t.text.now ≤ length self.old.bytes)) }
+        ensures fault { IfErr result (λ place. (ts : List Lexeme) → HasRead ts self.old
+            → StopsAt self.old.bytes place) }
         ensures kept { IfErr result (λ _. self.new ≡ self.old) }
     {
         let front = after_gap(self.rest);

@@ -2,7 +2,7 @@
 
 ghost use Rattle.std.specs.Prelude.{◌≡◌, ◌⊎◌, ◌≤◌, ◌-◌, length, MatchOption, [], true};
 ghost use Rattle.std.specs.Str.{chars};
-ghost use Rattle.qs_lex_regular.specs.Longest.{best, here};
+ghost use Rattle.qs_lex_regular.specs.inner.Best.{best, here};
 ghost use Rattle.qs_lex_regular.specs.inner.Scan.{hold, later};
 ghost use Rattle.qs_lex_regular.specs.Character.{is_letter};
 ghost use Rattle.qs_lex.specs.Table.{table};
@@ -26,7 +26,8 @@ fn kept(found: Option<(Class, usize)>, state: State, len: usize) -> Option<(Clas
 
 /// The state after the first character of a token, where a letter begins a prefix or not.
 fn begin(c: char, no_prefix: bool) -> Option<State>
-    ensures { MatchOption result (begun c ≡ []) (λ next. (begun c ≡ left next) ⊎ ((no_prefix ≡ true) × (is_letter c ≡ true) × (left next ≡ plain))) }
+    ensures { MatchOption result (begun c ≡ []) (λ next. (begun c ≡ left next)
+        ⊎ ((no_prefix ≡ true) × (is_letter c ≡ true) × (left next ≡ plain))) }
 {
     if no_prefix && is_letter(c) {
         return Some(State::Name(NameState::Plain));
@@ -37,7 +38,8 @@ fn begin(c: char, no_prefix: bool) -> Option<State>
 /// The text after the characters at its front that leave the state as it is.
 fn past(state: State, text: &str) -> &str
     ensures len { length result.now ≤ length text.now }
-    ensures found { best (left state) (chars text.now) ≡ later (best (left state) (chars result.now)) (length text.now - length result.now) None }
+    ensures found { best (left state) (chars text.now)
+        ≡ later (best (left state) (chars result.now)) (length text.now - length result.now) None }
 {
     match state.steady() {
         Some(steady) => steady.behind(text),

@@ -1,7 +1,7 @@
 //! Marks of one or two characters, a character at a time.
 
 ghost use Rattle.std.specs.Prelude.{◌≡◌, MatchOption, []};
-ghost use Rattle.qs_lex_regular.specs.Longest.{advance, here};
+ghost use Rattle.qs_lex_regular.specs.inner.Best.{advance, here};
 ghost use Rattle.qs_lex.specs.inner.MarkState.{left_of_mark};
 
 use crate::token::Class;
@@ -36,7 +36,8 @@ impl MarkState {
 
     /// What has been read with one more character, or `None` where no mark goes on so.
     pub fn step(self, c: char) -> Option<MarkState>
-        ensures { MatchOption result (advance (left_of_mark self) c ≡ []) (λ next. advance (left_of_mark self) c ≡ left_of_mark next) }
+        ensures { MatchOption result (advance (left_of_mark self) c ≡ [])
+            (λ next. advance (left_of_mark self) c ≡ left_of_mark next) }
     {
         match self {
             MarkState::Bar => {

@@ -1,7 +1,7 @@
 //! Names, words, blank node labels, variables and language tags, a character at a time.
 
 ghost use Rattle.std.specs.Prelude.{◌≡◌, MatchOption, []};
-ghost use Rattle.qs_lex_regular.specs.Longest.{advance, here};
+ghost use Rattle.qs_lex_regular.specs.inner.Best.{advance, here};
 ghost use Rattle.qs_lex.specs.inner.NameState.{left_of_name};
 
 use crate::letter::{is_escapable, is_pn_chars, is_pn_chars_u, is_word_char};
@@ -81,7 +81,8 @@ impl NameState {
     /// What has been read with one more character, or `None` where nothing goes on so.
     #[tactic(auto, using(crate::proofs::Apart::chars_colon, crate::proofs::Apart::chars_percent, crate::proofs::Apart::chars_backslash, crate::proofs::Apart::word_colon, crate::proofs::Apart::u_percent, crate::proofs::Apart::u_backslash, crate::proofs::Apart::digit_percent, crate::proofs::Apart::digit_backslash, crate::proofs::Apart::letter_dash, crate::proofs::Apart::letter_or_digit_dash, crate::proofs::Apart::colon_chars, crate::proofs::Apart::colon_u, crate::proofs::Apart::colon_word, crate::proofs::Apart::dot_word, crate::proofs::Apart::word_chars))]
     pub fn step(self, c: char) -> Option<NameState>
-        ensures { MatchOption result (advance (left_of_name self) c ≡ []) (λ next. advance (left_of_name self) c ≡ left_of_name next) }
+        ensures { MatchOption result (advance (left_of_name self) c ≡ [])
+            (λ next. advance (left_of_name self) c ≡ left_of_name next) }
     {
         match self {
             NameState::Plain => {

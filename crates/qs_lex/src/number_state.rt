@@ -1,7 +1,7 @@
 //! Numbers, a character at a time.
 
 ghost use Rattle.std.specs.Prelude.{◌≡◌, MatchOption, []};
-ghost use Rattle.qs_lex_regular.specs.Longest.{advance, here};
+ghost use Rattle.qs_lex_regular.specs.inner.Best.{advance, here};
 ghost use Rattle.qs_lex.specs.inner.NumberState.{left_of_number};
 
 use crate::letter::{is_exponent, is_sign};
@@ -54,7 +54,8 @@ impl NumberState {
     /// What has been read with one more character, or `None` where no number goes on so.
     #[tactic(auto, using(crate::proofs::Apart::digit_dot, crate::proofs::Apart::digit_exponent, crate::proofs::Apart::digit_sign, crate::proofs::Apart::dot_digit, crate::proofs::Apart::dot_exponent, crate::proofs::Apart::dot_sign))]
     pub fn step(self, c: char) -> Option<NumberState>
-        ensures { MatchOption result (advance (left_of_number self) c ≡ []) (λ next. advance (left_of_number self) c ≡ left_of_number next) }
+        ensures { MatchOption result (advance (left_of_number self) c ≡ [])
+            (λ next. advance (left_of_number self) c ≡ left_of_number next) }
     {
         match self {
             NumberState::Sign => {

@@ -17,7 +17,9 @@ pub struct Run {
 /// Whether the last character of a run is no dot, or `None` where the run ends.
 #[tactic(auto, using(crate::proofs::Apart::base_chars, crate::proofs::Apart::letter_is_base))]
 fn goes_on(last: bool, c: char) -> Option<bool>
-    ensures { MatchOption result ((cs : List ℕ) → names last (c ∷ cs) ≡ (c == 58 && last)) (λ next. ((cs : List ℕ) → names last (c ∷ cs) ≡ names next cs) × (is_letter c ≡ true → next ≡ true)) }
+    ensures { MatchOption result ((cs : List ℕ) → names last (c ∷ cs) ≡ (c == 58 && last))
+        (λ next. ((cs : List ℕ) → names last (c ∷ cs) ≡ names next cs)
+        × (is_letter c ≡ true → next ≡ true)) }
 {
     if is_pn_chars(c) {
         Some(true)

@@ -1,7 +1,7 @@
 //! The state of the scanner within a token.
 
 ghost use Rattle.std.specs.Prelude.{◌≡◌, IfSome, MatchOption, ℕ, [], false, true};
-ghost use Rattle.qs_lex_regular.specs.Longest.{advance, here};
+ghost use Rattle.qs_lex_regular.specs.inner.Best.{advance, here};
 ghost use Rattle.qs_lex_regular.specs.Character.{is_base, is_digit, is_letter};
 ghost use Rattle.qs_lex.specs.inner.Start.{begun};
 ghost use Rattle.qs_lex.specs.inner.State.{left};
@@ -31,7 +31,8 @@ pub enum State {
 impl State {
     /// What has been read with one more character, or `None` where no token goes on so.
     pub fn step(self, c: char) -> Option<State>
-        ensures { MatchOption result (advance (left self) c ≡ []) (λ next. advance (left self) c ≡ left next) }
+        ensures { MatchOption result (advance (left self) c ≡ [])
+            (λ next. advance (left self) c ≡ left next) }
     {
         match self {
             State::Iri(state) => match state.step(c) {
@@ -73,7 +74,8 @@ impl State {
     /// Characters that leave all as it is, where a token may hold many of them in a row.
     #[tactic(auto, using(crate::proofs::Stays::plain, crate::proofs::Stays::word, crate::proofs::Stays::local, crate::proofs::Stays::variable, crate::proofs::Stays::whole, crate::proofs::Stays::signed_whole, crate::proofs::Stays::body, crate::proofs::Stays::short, crate::proofs::Stays::long))]
     pub fn steady(self) -> Option<Steady>
-        ensures { IfSome result (λ kept. (c : ℕ) → is_steady kept c ≡ true → advance (left self) c ≡ left self) }
+        ensures { IfSome result (λ kept. (c : ℕ) → is_steady kept c ≡ true → advance (left self) c
+            ≡ left self) }
     {
         match self {
             State::Name(NameState::Plain | NameState::Word) => Some(Steady::Word),

@@ -1,7 +1,7 @@
 //! Strings, a character at a time.
 
 ghost use Rattle.std.specs.Prelude.{◌≡◌, MatchOption, []};
-ghost use Rattle.qs_lex_regular.specs.Longest.{advance, here};
+ghost use Rattle.qs_lex_regular.specs.inner.Best.{advance, here};
 ghost use Rattle.qs_lex.specs.inner.StringState.{left_of_string};
 
 use crate::quote::Quote;
@@ -51,7 +51,8 @@ impl StringState {
     /// What has been read with one more character, or `None` where no string goes on so.
     #[tactic(auto, using(crate::proofs::Apart::escaped_u, crate::proofs::Apart::escaped_long_u))]
     pub fn step(self, c: char) -> Option<StringState>
-        ensures { MatchOption result (advance (left_of_string self) c ≡ []) (λ next. advance (left_of_string self) c ≡ left_of_string next) }
+        ensures { MatchOption result (advance (left_of_string self) c ≡ [])
+            (λ next. advance (left_of_string self) c ≡ left_of_string next) }
     {
         match self {
             StringState::Opened(quote) => {

@@ -1,9 +1,10 @@
 //! From a text to its tokens.
 
 ghost use Rattle.std.specs.Prelude.{map, All, AllPairs, IfOk, MatchResult};
-ghost use Rattle.qs_lex.specs.Fault.{IsFaultOf};
-ghost use Rattle.qs_lex.specs.Lexes.{Lexes, lexeme};
-ghost use Rattle.qs_lex.specs.Place.{IsSliceOf, StandsBefore};
+ghost use Rattle.qs_lex.specs.inner.Fault.{IsFaultOf};
+ghost use Rattle.qs_lex.specs.Lexes.{Lexes};
+ghost use Rattle.qs_lex.specs.inner.Lexes.{lexeme};
+ghost use Rattle.qs_lex.specs.inner.Place.{IsSliceOf, StandsBefore};
 
 use crate::lexer::Lexer;
 use crate::token::Token;
@@ -16,7 +17,8 @@ use std::alloc::Global;
 /// `QFault::Syntax` with the first byte place, after white space and comments, at which no token begins. `QFault::Memory`
 /// where a growth was refused, which is asked for only once a token was read.
 pub fn tokens(alloc: Global, text: &str) -> Result<Vec<Token<'_>>, QFault>
-    ensures reading { MatchResult result (λ v. Lexes text.now (map lexeme v.items)) (λ fault. IsFaultOf text.now fault) }
+    ensures reading { MatchResult result (λ v. Lexes text.now (map lexeme v.items))
+        (λ fault. IsFaultOf text.now fault) }
     ensures slices { IfOk result (λ v. All (IsSliceOf text.now) v.items) }
     ensures ascending { IfOk result (λ v. AllPairs StandsBefore v.items) }
 {

@@ -8,7 +8,8 @@ use Rattle.qs_lex_escapes.specs.declared.escape.Escape.{Escape}
 use Rattle.qs_lex_escapes.specs.declared.escape.Escapes.{Escapes}
 use Rattle.qs_lex_escapes.specs.declared.escape.Escapes.TheVariants.{Codepoints, Strings}
 use Rattle.qs_lex_escapes.specs.Decoded.{length_of}
-use Rattle.qs_lex_escapes.specs.Escape.{hex_number, escape_of, uchar, echar_of, echar_or, string_escape, escape}
+use Rattle.qs_lex_escapes.specs.Escape.{hex_number, escape_of, uchar, echar_of, echar_or, string_escape}
+use Rattle.qs_lex_escapes.specs.inner.Escape.{escape}
 
 -- the bytes have an ASCII byte at the place
 abbrev HasAscii : List ℕ → ℕ → Type 0

@@ -4,8 +4,9 @@ ghost use Rattle.std.specs.Prelude.{◌≡◌, ◌++◌, IfOk, OnOk, string_byte
 ghost use Rattle.std.specs.List.{list_any};
 ghost use Rattle.std.specs.Str.{IsCharBoundary};
 ghost use Rattle.std.specs.Option.{ForSome};
-ghost use Rattle.qs_lex_escapes.specs.Decoded.{is_backslash, stands_for, length_of, decoded, unescaped};
-ghost use Rattle.qs_lex_escapes.specs.Escape.{escape};
+ghost use Rattle.qs_lex_escapes.specs.Decoded.{stands_for, length_of, decoded, unescaped};
+ghost use Rattle.qs_lex_escapes.specs.inner.Decoded.{is_backslash};
+ghost use Rattle.qs_lex_escapes.specs.inner.Escape.{escape};
 
 use crate::escape::{Escape, Escapes, first_escape};
 use qs_terms::Text;
@@ -18,7 +19,8 @@ fn push_escape<'t>(
     found: Option<Escape>,
 ) -> Result<&'t str, AllocError>
     requires { ForSome found (λ e. IsCharBoundary behind.now e.length) }
-    ensures written { OnOk result (string_bytes out.new ≡ string_bytes out.old ++ stands_for found) }
+    ensures written { OnOk result (string_bytes out.new ≡ string_bytes out.old
+        ++ stands_for found) }
     ensures rest { IfOk result (λ rest. rest.now ≡ drop (length_of found) behind.now) }
 {
     match found {

@@ -1,7 +1,8 @@
 //! Escapes, as they stand after their backslash.
 
 ghost use Rattle.std.specs.Prelude.{◌≡◌, ◌<◌, ◌≤◌, ◌+◌, ◌-◌, IfSome, List, ℕ, length, slice_index};
-ghost use Rattle.qs_lex_escapes.specs.Escape.{hex_number, uchar, echar_of, string_escape, escape};
+ghost use Rattle.qs_lex_escapes.specs.Escape.{hex_number, uchar, echar_of, string_escape};
+ghost use Rattle.qs_lex_escapes.specs.inner.Escape.{escape};
 
 use qs_lex_regular::hex_digits::HexDigits;
 use qs_lex_regular::push::{PushResult, push};

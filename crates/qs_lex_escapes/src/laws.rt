@@ -20,19 +20,27 @@ ghost use Rattle.qs_lex_escapes.specs.inner.StandsFor.{StandsFor};
 
 /// What stands in a text is the piece of it from where it begins to where it ends.
 pub fn parts_are_pieces()
-    ensures { (text before found after : List ℕ) → IsUtf8 text → IsUtf8 found → text ≡ before ++ (found ++ after) → piece text (length before) (length before + length found) ≡ found }
+    ensures { (text before found after : List ℕ) → IsUtf8 text → IsUtf8 found
+        → text ≡ before ++ (found ++ after)
+        → piece text (length before) (length before + length found) ≡ found }
 {}
 
 /// Characters that denote others have an escape at each backslash, and decoded they are those others.
 pub fn escapes_stand_for_characters()
-    ensures begin { (escape : List ℕ → Option Escape) (x y : List ℕ) → StandsFor escape x y → IsTrue (escapes_begin escape (encode_utf8_all x)) }
-    ensures decoded { (escape : List ℕ → Option Escape) (x y : List ℕ) → StandsFor escape x y → decoded escape (encode_utf8_all x) ≡ encode_utf8_all y }
+    ensures begin { (escape : List ℕ → Option Escape) (x y : List ℕ) → StandsFor escape x y
+        → IsTrue (escapes_begin escape (encode_utf8_all x)) }
+    ensures decoded { (escape : List ℕ → Option Escape) (x y : List ℕ) → StandsFor escape x y
+        → decoded escape (encode_utf8_all x) ≡ encode_utf8_all y }
 {}
 
 /// What is spelled as an IRI, with escapes for characters of IRIs alone, has an escape at each backslash and, decoded, no character
 /// that IRIs exclude; and what is spelled as a language tag is one in the eyes of the terms.
 pub fn spelled_texts_are_lawful()
-    ensures escapes { (x : List ℕ) → Spells (many (one is_iri_char ∣ form.uchar is_iri_scalar)) x → IsTrue (escapes_begin uchar (encode_utf8_all x)) }
-    ensures iri { (x : List ℕ) → Spells (many (one is_iri_char ∣ form.uchar is_iri_scalar)) x → list_any is_excluded (decoded uchar (encode_utf8_all x)) ≡ false }
-    ensures tag { (x : List ℕ) → Spells (plus (one is_letter) ⨾ many (char 45 ⨾ plus (one is_letter_or_digit))) x → IsTrue (is_tag (encode_utf8_all x)) }
+    ensures escapes { (x : List ℕ) → Spells (many (one is_iri_char ∣ form.uchar is_iri_scalar)) x
+        → IsTrue (escapes_begin uchar (encode_utf8_all x)) }
+    ensures iri { (x : List ℕ) → Spells (many (one is_iri_char ∣ form.uchar is_iri_scalar)) x
+        → list_any is_excluded (decoded uchar (encode_utf8_all x)) ≡ false }
+    ensures tag { (x : List ℕ)
+        → Spells (plus (one is_letter) ⨾ many (char 45 ⨾ plus (one is_letter_or_digit))) x
+        → IsTrue (is_tag (encode_utf8_all x)) }
 {}

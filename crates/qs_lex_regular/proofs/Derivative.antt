@@ -1,6 +1,6 @@
 -- Derivatives of forms: what is left of a form after its first character.
 use Rattle.std.proofs.Common.{◌≡◌, ◌⊎◌, ℕ, zero, suc, ◌+◌, ◌*◌, Bool, true, false, cond, ◌||◌, ◌&&◌, List, [], ◌∷◌, ◌++◌, refl, sym, ap, ◌∙◌, subst, inl, inr, true≢false}
-use Rattle.qs_lex_regular.specs.Derivative.{join, or_never, choose, nullable, derive}
+use Rattle.qs_lex_regular.specs.inner.Derivative.{join, or_never, choose, nullable, derive}
 use Rattle.qs_lex_regular.specs.Character.{is_hex, hex_value}
 use Rattle.qs_lex_regular.specs.Form.{Form, never, nothing, one, hexes, then, either, many, AreHexes, Pieces, none, more, Spells}
 

@@ -3,8 +3,9 @@ use Rattle.std.proofs.Common.{◌≡◌, ◌⊎◌, ◌≤◌, ℕ, ◌+◌, Boo
 use Rattle.std.specs.Char.{len_utf8}
 use Rattle.std.proofs.lemmas.Str.{length-encode}
 use Rattle.qs_lex_regular.specs.Form.{Form, never, nothing, one, hexes, then, either, many, Spells}
-use Rattle.qs_lex_regular.specs.Derivative.{derive, nullable}
-use Rattle.qs_lex_regular.specs.Longest.{Table, IsFirst, HasNoFront, LongestFront, keep, advance, here, longer, best}
+use Rattle.qs_lex_regular.specs.inner.Derivative.{derive, nullable}
+use Rattle.qs_lex_regular.specs.Longest.{Table, IsFirst, HasNoFront, LongestFront}
+use Rattle.qs_lex_regular.specs.inner.Best.{keep, advance, here, longer, best}
 use Rattle.qs_lex_regular.proofs.Derivative.{derive-to, derive-from, nullable-to, nullable-from}
 
 -- ---- `keep` and `advance`

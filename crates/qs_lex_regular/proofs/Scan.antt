@@ -3,7 +3,8 @@ use Rattle.std.proofs.Common.{◌≡◌, ℕ, ◌+◌, List, [], ◌∷◌, Opti
 use Rattle.std.proofs.lemmas.Str.{chars_past_char, chars-nil, length-encode}
 use Rattle.std.proofs.lemmas.List.{nil_from_length}
 use Rattle.std.specs.Char.{len_utf8}
-use Rattle.qs_lex_regular.specs.Longest.{Table, advance, here, longer, best}
+use Rattle.qs_lex_regular.specs.Longest.{Table}
+use Rattle.qs_lex_regular.specs.inner.Best.{advance, here, longer, best}
 use Rattle.qs_lex_regular.specs.inner.Scan.{hold, later}
 
 pub best-dead : (K : Type 0) (cs : List ℕ) → best {K = K} [] cs ≡ None

@@ -1,7 +1,9 @@
--- Classes of characters of names and of IRIs that SPARQL and N-Quads share, each as a test of a code point (SPARQL 1.1 Query, 19.8; RDF 1.1
--- N-Quads, 4).
-use Rattle.std.specs.Prelude.{ℕ, Bool, false, not, ◌||◌, ◌&&◌, ◌==◌, nat_le, nat_lt, List, [], ◌∷◌, codes}
-use Rattle.std.specs.Char.{is_ascii_digit, is_ascii_alphabetic, is_ascii_alphanumeric, is_ascii_hexdigit, digit_value}
+-- Classes of characters of names and of IRIs that SPARQL and N-Quads share, each as a test of a
+-- code point (SPARQL 1.1 Query, 19.8; RDF 1.1 N-Quads, 4).
+use Rattle.std.specs.Prelude.{ℕ, Bool, false, not, ◌||◌, ◌&&◌, ◌==◌, nat_le, nat_lt, List, [], ◌∷◌}
+use Rattle.std.specs.Prelude.{codes}
+use Rattle.std.specs.Char.{is_ascii_digit, is_ascii_alphabetic, is_ascii_alphanumeric}
+use Rattle.std.specs.Char.{is_ascii_hexdigit, digit_value}
 
 abbrev pub within : ℕ → ℕ → ℕ → Bool
 within low high c = nat_le low c && nat_le c high
@@ -33,8 +35,10 @@ hex_value = digit_value
 -- BASE: PN_CHARS_BASE (SPARQL 1.1 Query, 19.8, [164]; RDF 1.1 N-Quads, 4)
 unfoldable pub is_base : ℕ → Bool
 is_base c =
-    is_ascii_alphabetic c || within 0xC0 0xD6 c || within 0xD8 0xF6 c || within 0xF8 0x2FF c || within 0x370 0x37D c || within 0x37F 0x1FFF c
-    || within 0x200C 0x200D c || within 0x2070 0x218F c || within 0x2C00 0x2FEF c || within 0x3001 0xD7FF c || within 0xF900 0xFDCF c
+    is_ascii_alphabetic c || within 0xC0 0xD6 c || within 0xD8 0xF6 c || within 0xF8 0x2FF c
+    || within 0x370 0x37D c || within 0x37F 0x1FFF c
+    || within 0x200C 0x200D c || within 0x2070 0x218F c || within 0x2C00 0x2FEF c
+    || within 0x3001 0xD7FF c || within 0xF900 0xFDCF c
     || within 0xFDF0 0xFFFD c || within 0x1_0000 0xE_FFFF c
 
 -- U: PN_CHARS_U of SPARQL (1.1 Query, 19.8, [165]), BASE or `_`; that of N-Quads has `:` too
@@ -49,7 +53,8 @@ is_mark_in_name c = c == 0xB7 || within 0x300 0x36F c || within 0x203F 0x2040 c
 unfoldable pub is_pn_chars : ℕ → Bool
 is_pn_chars c = is_pn_chars_u c || c == 45 || is_digit c || is_mark_in_name c
 
--- what an IRI holds (SPARQL 1.1 Query, 19.8, [139]): no character up to U+0020 and none of < > " { } | ^ ` \
+-- what an IRI holds (SPARQL 1.1 Query, 19.8, [139]): no character up to U+0020 and none of < > " {
+-- } | ^ ` \
 unfoldable pub is_iri_char : ℕ → Bool
 is_iri_char c = not (nat_le c 0x20 || is_one_of (codes "<>\"{}|^`\\") c)
 

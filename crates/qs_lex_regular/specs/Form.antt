@@ -1,5 +1,6 @@
 -- Regular forms over characters, and which characters spell one.
-use Rattle.std.specs.Prelude.{◌≡◌, ◌⊎◌, ℕ, zero, suc, ◌+◌, ◌*◌, Bool, true, ◌==◌, List, [], ◌∷◌, ◌++◌, codes}
+use Rattle.std.specs.Prelude.{◌≡◌, ◌⊎◌, ℕ, zero, suc, ◌+◌, ◌*◌, Bool, true, ◌==◌, List, [], ◌∷◌}
+use Rattle.std.specs.Prelude.{◌++◌, codes}
 use Prim.Native.String.{String}
 use Rattle.qs_lex_regular.specs.Character.{is_hex, hex_value, is_escaped}
 
@@ -22,7 +23,8 @@ pub data Form : Type 0 where
 -- n hexadecimal digits, which after digits of the value v name a number that passes the test
 abbrev pub AreHexes : ℕ → ℕ → (ℕ → Bool) → List ℕ → Type 0
 AreHexes zero v p cs = (cs ≡ []) × (p v ≡ true)
-AreHexes (suc n) v p cs = (c : ℕ) × (ds : List ℕ) × (cs ≡ c ∷ ds) × (is_hex c ≡ true) × AreHexes n (v * 16 + hex_value c) p ds
+AreHexes (suc n) v p cs = (c : ℕ) × (ds : List ℕ) × (cs ≡ c ∷ ds) × (is_hex c ≡ true)
+    × AreHexes n (v * 16 + hex_value c) p ds
 
 -- pieces of the language, one after another
 pub data Pieces (P : List ℕ → Type 0) : List ℕ → Type 0 where
@@ -73,6 +75,7 @@ literal s = spelled (codes s)
 abbrev pub echar : Form
 echar = char 92 ⨾ one is_escaped
 
--- UCHAR (RDF 1.1 N-Quads, 4): `\u` with 4 or `\U` with 8 hexadecimal digits, which name a character that passes the test
+-- UCHAR (RDF 1.1 N-Quads, 4): `\u` with 4 or `\U` with 8 hexadecimal digits, which name a character
+-- that passes the test
 abbrev pub uchar : (ℕ → Bool) → Form
 uchar p = char 92 ⨾ (char 117 ⨾ hexes 4 0 p ∣ char 85 ⨾ hexes 8 0 p)

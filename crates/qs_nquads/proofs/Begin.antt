@@ -3,11 +3,11 @@ use Rattle.std.proofs.Common.{◌≡◌, ℕ, List, [], ◌∷◌, None, refl, s
 use Rattle.std.proofs.lemmas.Str.{chars_past_char, chars-nil}
 use Rattle.std.proofs.lemmas.List.{nil_from_length}
 use Rattle.std.specs.Char.{len_utf8}
-use Rattle.qs_lex_regular.specs.Longest.{best}
+use Rattle.qs_lex_regular.specs.inner.Best.{best}
 use Rattle.qs_lex_regular.specs.inner.Scan.{later}
 use Rattle.qs_lex_regular.proofs.Scan as scan
-use Rattle.qs_nquads.specs.Table.{Left, table}
-use Rattle.qs_nquads.specs.inner.State.{begun}
+use Rattle.qs_nquads.specs.Table.{table}
+use Rattle.qs_nquads.specs.inner.State.{Left, begun}
 
 pub at_first : (next : Left) (c : ℕ) (cs : List ℕ) → begun c ≡ next → best table (c ∷ cs) ≡ later (best next cs) (len_utf8 c) None
 unfolding begun

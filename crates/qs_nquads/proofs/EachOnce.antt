@@ -7,7 +7,7 @@ use Rattle.std.specs.Cmp.Lexicographic.{slice_cmp}
 use Rattle.std.specs.List.{Contains}
 use Rattle.qs_terms.specs.Statement.{Statement}
 use Rattle.qs_nquads.specs.Written.{line, put_in, ordered}
-use Rattle.qs_nquads.specs.Renumbered.{IsQuad, AreQuads}
+use Rattle.qs_nquads.specs.inner.Renumbered.{IsQuad, AreQuads}
 use Rattle.qs_nquads.proofs.Sorting.{In, has_lines}
 use Rattle.qs_nquads.proofs.WholeText.{ordered_quads}
 use Rattle.qs_nquads.proofs.OneReading.{same_line}

@@ -3,7 +3,8 @@ use Rattle.std.proofs.Common.{◌≡◌, ◌<◌, ℕ, Bool, true, false, ◌&&�
 use Rattle.std.specs.Str.{all_scalars}
 use Rattle.std.proofs.lemmas.Str.{encodes-append, encodes-chars, scalars-chars, length-le-encodes, IsCharBoundary-at_seam}
 use Rattle.qs_nquads.specs.Table.{table}
-use Rattle.qs_lex_regular.specs.Longest.{IsFirst, best, LongestFront}
+use Rattle.qs_lex_regular.specs.Longest.{IsFirst, LongestFront}
+use Rattle.qs_lex_regular.specs.inner.Best.{best}
 use Rattle.qs_nquads.specs.declared.class.Class.{Class}
 use Rattle.qs_lex_regular.proofs.Longest.{best-some, here-none}
 

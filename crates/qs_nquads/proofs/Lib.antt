@@ -1,3 +1,10 @@
+pub mod Documents
+pub mod PartFaults
+pub mod TextTokens
+pub mod Bridge
+pub mod FaultBridge
+pub mod HandedOut
+pub mod AfterStatement
 pub mod Apart
 pub mod Runs
 pub mod Start

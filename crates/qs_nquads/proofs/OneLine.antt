@@ -7,28 +7,29 @@ use Rattle.std.proofs.lemmas.List.{take-append-le, take_all, drop-append-le, dro
 use Rattle.std.proofs.lemmas.Slice.Eq.{bytes_eq-Decides}
 use Rattle.std.proofs.lemmas.Str.{IsUtf8-append, IsUtf8-nil}
 use Rattle.qs_terms.specs.Bag.{once}
-use Rattle.qs_terms.specs.Iri.{is_iri_text}
+use Rattle.qs_terms.specs.inner.Iri.{is_iri_text}
 use Rattle.qs_terms.specs.Tag.{is_tag, lowered}
-use Rattle.qs_terms.specs.Literal.{Literal, typed, tagged, checked_typed, checked_tagged, rdf_lang_string, fits_tag, is_lower_tag}
+use Rattle.qs_terms.specs.Literal.{Literal, typed, tagged, checked_typed, checked_tagged, rdf_lang_string}
+use Rattle.qs_terms.specs.inner.Literal.{fits_tag, is_lower_tag}
 use Rattle.qs_terms.specs.Statement.{Statement, is_iri, is_node, is_graph}
 use Rattle.qs_terms.specs.declared.term.Term.{Term}
 use Rattle.qs_terms.specs.declared.term.Term.TheVariants as term
-use Rattle.qs_nquads.specs.Gap.{behind_gap}
+use Rattle.qs_nquads.specs.inner.Gap.{behind_gap}
 use Rattle.qs_nquads.specs.Labels.{Numbering, number}
-use Rattle.qs_nquads.specs.Part.{takes_label}
+use Rattle.qs_nquads.specs.inner.PartAt.{takes_label}
 use Rattle.qs_terms.specs.Literal.{xsd_string}
-use Rattle.qs_nquads.specs.StatementState.{term_of, statement, goes_on, with_literal, after}
-use Rattle.qs_nquads.specs.Reading.{Reading, State, goes, step, read, taken, placed, Comes, here, on}
+use Rattle.qs_nquads.specs.inner.StatementState.{term_of, statement, goes_on, with_literal, after}
+use Rattle.qs_nquads.specs.inner.Reading.{Reading, State, goes, step, read, taken, placed, Comes, here, on}
 use Rattle.qs_nquads.specs.declared.node.Node.{Node}
 use Rattle.qs_nquads.specs.declared.node.Node.TheVariants as node
 use Rattle.qs_nquads.specs.declared.part.Part.{Part}
 use Rattle.qs_nquads.specs.declared.part.Part.TheVariants as part
 use Rattle.qs_nquads.specs.declared.statement_state.StatementState.{StatementState}
 use Rattle.qs_nquads.specs.declared.statement_state.StatementState.TheVariants as place
-use Rattle.qs_nquads.specs.Next as next
+use Rattle.qs_nquads.specs.inner.Next as next
 use Rattle.qs_nquads.proofs.Steps as steps
 use Rattle.qs_nquads.specs.Written.{label, iri_text, quoted, suffix, term_text, behind_space, with_graph, line}
-use Rattle.qs_nquads.specs.Renumbered.{blanks_in, blanks_of, before, renumbered_term, renumbered, IsTerm, IsName, IsQuad}
+use Rattle.qs_nquads.specs.inner.Renumbered.{blanks_in, blanks_of, before, renumbered_term, renumbered, IsTerm, IsName, IsQuad}
 use Rattle.qs_nquads.proofs.WrittenTokens.{Says, token_utf8, longest_of, no_gap, one_space, ascii_text, iri_says, string_says, carets_say, dot_says, end_says, tag_says, label_says, label_utf8, not-false}
 use Rattle.qs_nquads.proofs.Renumbering.{same, Agrees, Numbered, numbered, keeps, is_there, once_longer}
 

@@ -12,10 +12,10 @@ use Rattle.qs_terms.specs.declared.term.Term.{Term}
 use Rattle.qs_terms.specs.declared.term.Term.TheVariants as term
 use Rattle.qs_terms.proofs.FirstOnes.{once_with}
 use Rattle.qs_nquads.specs.Labels.{Numbering, from}
-use Rattle.qs_nquads.specs.Reading.{State, goes, ends, step, Comes, here, on}
+use Rattle.qs_nquads.specs.inner.Reading.{State, goes, ends, step, Comes, here, on}
 use Rattle.qs_nquads.specs.declared.statement_state.StatementState.TheVariants as place
 use Rattle.qs_nquads.specs.Written.{label, line}
-use Rattle.qs_nquads.specs.Renumbered.{blanks_in, blanks_in_name, blanks_of, before, renumbered_term, renumbered_name, renumbered, IsTerm, IsName, IsQuad}
+use Rattle.qs_nquads.specs.inner.Renumbered.{blanks_in, blanks_in_name, blanks_of, before, renumbered_term, renumbered_name, renumbered, IsTerm, IsName, IsQuad}
 use Rattle.qs_nquads.proofs.Renumbering.{same, exact, none_yet, found, is_there, with_keeps}
 use Rattle.qs_nquads.proofs.OneLine.{at, given, LineRead, line_read, line_then, line_before}
 

@@ -6,15 +6,15 @@ use Rattle.qs_terms.specs.Literal.{Literal, xsd_string, typed, checked_typed, ch
 use Rattle.qs_terms.specs.declared.fault.TermFault.{TermFault}
 use Rattle.qs_terms.specs.declared.term.Term.{Term}
 use Rattle.qs_terms.specs.declared.term.Term.TheVariants as term
-use Rattle.qs_nquads.specs.StatementState.{term_of, with_literal, at_start, at_subject, at_predicate, at_object, at_form, at_typed, at_label, at_done, after}
+use Rattle.qs_nquads.specs.inner.StatementState.{term_of, with_literal, at_start, at_subject, at_predicate, at_object, at_form, at_typed, at_label, at_done, after}
 use Rattle.qs_nquads.specs.declared.fault.NqFaultKind.{NqFaultKind}
 use Rattle.qs_nquads.specs.declared.node.Node.{Node}
 use Rattle.qs_nquads.specs.declared.part.Part.{Part}
 use Rattle.qs_nquads.specs.declared.part.Part.TheVariants as part
 use Rattle.qs_nquads.specs.declared.statement_state.StatementState.{StatementState}
 use Rattle.qs_nquads.specs.declared.statement_state.StatementState.TheVariants as place
-use Rattle.qs_nquads.specs.Next.{Next}
-use Rattle.qs_nquads.specs.Next as next
+use Rattle.qs_nquads.specs.inner.Next.{Next}
+use Rattle.qs_nquads.specs.inner.Next as next
 use Rattle.qs_nquads.proofs.Larger.{larger_than_term}
 
 abbrev is_node_below : ℕ → Node → Bool

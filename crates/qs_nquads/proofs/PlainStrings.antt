@@ -3,7 +3,7 @@ use Rattle.std.proofs.Common.{◌≡◌, ◌≢◌, ◌⊎◌, inl, inr, ℕ, Li
 use Rattle.qs_terms.specs.Literal.{Literal, xsd_string, typed}
 use Rattle.qs_terms.specs.Statement.{Statement}
 use Rattle.qs_terms.specs.declared.term.Term.TheVariants as term
-use Rattle.qs_nquads.specs.StatementState.{at_form, at_object}
+use Rattle.qs_nquads.specs.inner.StatementState.{at_form, at_object}
 use Rattle.qs_nquads.specs.inner.Unread.{GoesOn}
 use Rattle.qs_nquads.specs.declared.fault.NqFaultKind.{NqFaultKind}
 use Rattle.qs_nquads.specs.declared.fault.NqFaultKind.TheVariants.{Memory}

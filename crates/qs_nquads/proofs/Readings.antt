@@ -1,17 +1,17 @@
 -- One front more.
 use Rattle.std.proofs.Common.{◌≡◌, List, ℕ, Result, Ok, Err, sym, ap, ◌∙◌, subst}
 use Rattle.qs_terms.specs.Statement.{Statement}
-use Rattle.qs_terms.specs.OrOutOf.{BecomesOrOutOfMemory}
+use Rattle.qs_terms.specs.inner.OrOutOf.{BecomesOrOutOfMemory}
 use Rattle.qs_nquads.specs.Labels.{Numbering}
-use Rattle.qs_nquads.specs.Part.{part_of}
-use Rattle.qs_nquads.specs.StatementState.{after}
-use Rattle.qs_nquads.specs.Reading.{Reading, placed, taken, read}
+use Rattle.qs_nquads.specs.inner.PartAt.{part_of}
+use Rattle.qs_nquads.specs.inner.StatementState.{after}
+use Rattle.qs_nquads.specs.inner.Reading.{Reading, placed, taken, read}
 use Rattle.qs_nquads.specs.declared.class.Class.{Class}
 use Rattle.qs_nquads.specs.declared.fault.NqFaultKind.{NqFaultKind}
 use Rattle.qs_nquads.specs.declared.fault.NqFaultKind.TheVariants.{Memory}
 use Rattle.qs_nquads.specs.declared.part.Part.{Part}
 use Rattle.qs_nquads.specs.declared.statement_state.StatementState.{StatementState}
-use Rattle.qs_nquads.specs.Next.{Next}
+use Rattle.qs_nquads.specs.inner.Next.{Next}
 
 module _ (p old : StatementState) (before labels : Numbering) (quads : List Statement) (k : Class) (t : List ℕ) (part : Part)
     (h : part_of p before k t ≡ Ok (part, labels)) (e : old ≡ p) where

@@ -2,16 +2,17 @@
 use Rattle.std.proofs.Common.{◌≡◌, ◌≤◌, ℕ, Bool, true, false, List, [], ◌∷◌, Option, Some, None, Result, Ok, Err, IfOk, take, drop, refl, subst, arith, le_refl, lt-ltb, chars}
 use Rattle.std.specs.Prelude.{⊤}
 use Rattle.std.proofs.lemmas.Bool.{cond_both}
-use Rattle.qs_lex_regular.specs.Longest.{best}
+use Rattle.qs_lex_regular.specs.inner.Best.{best}
 use Rattle.qs_terms.specs.Dataset.{is_above_blanks}
 use Rattle.qs_terms.specs.Statement.{Statement}
 use Rattle.qs_terms.specs.declared.fault.TermFault.{TermFault}
-use Rattle.qs_nquads.specs.Gap.{behind_gap}
+use Rattle.qs_nquads.specs.inner.Gap.{behind_gap}
 use Rattle.qs_nquads.specs.Labels.{Numbering, number}
-use Rattle.qs_nquads.specs.Part.{part_of, iri_part, blank_part, label_part, takes_label, behind}
-use Rattle.qs_nquads.specs.StatementState.{after, may_end}
-use Rattle.qs_nquads.specs.Reading.{Reading, State, Step, at_first, start, goes, ends, stops, step_from, step_over, stepped, read, taken, placed, Comes, here, on}
-use Rattle.qs_nquads.specs.Nquads.{IsNquads}
+use Rattle.qs_nquads.specs.Part.{iri_part, blank_part, behind}
+use Rattle.qs_nquads.specs.inner.PartAt.{part_of, label_part, takes_label}
+use Rattle.qs_nquads.specs.inner.StatementState.{after, may_end}
+use Rattle.qs_nquads.specs.inner.Reading.{Reading, State, Step, at_first, start, goes, ends, stops, step_from, step_over, stepped, read, taken, placed, Comes, here, on}
+use Rattle.qs_nquads.specs.inner.Outcome.{ReadsAll}
 use Rattle.qs_nquads.specs.Table.{table}
 use Rattle.qs_nquads.specs.declared.class.Class.{Class}
 use Rattle.qs_nquads.specs.declared.class.Class.TheVariants as class
@@ -20,8 +21,8 @@ use Rattle.qs_nquads.specs.declared.fault.NqFaultKind.TheVariants as fault
 use Rattle.qs_nquads.specs.declared.part.Part.{Part}
 use Rattle.qs_nquads.specs.declared.part.Part.TheVariants as part
 use Rattle.qs_nquads.specs.declared.statement_state.StatementState.{StatementState}
-use Rattle.qs_nquads.specs.Next.{Next}
-use Rattle.qs_nquads.specs.Next as next
+use Rattle.qs_nquads.specs.inner.Next.{Next}
+use Rattle.qs_nquads.specs.inner.Next as next
 use Rattle.qs_nquads.proofs.Larger.{larger_than_quads, above_one_more}
 use Rattle.qs_nquads.proofs.NumbersBelow.{IsUnused, Gives, unused_at_first, numbers}
 use Rattle.qs_nquads.proofs.PlacesBelow.{is_place_below, is_part_below, is_outcome_below, larger_than_place, below_after}
@@ -112,13 +113,13 @@ stays_below : (first : ℕ) (s t : State) → Comes s t → IsBelow first s.read
 stays_below first s _ here b = b
 stays_below first s _ (on t u c e) b = subst (λ z. GoesBelow first z) e (below_from first t.reading (behind_gap t.rest) (stays_below first s t c b))
 
-below_at_end : (bytes : List ℕ) (first : ℕ) (quads : List Statement) (next : ℕ) (h : IsNquads bytes first quads next) → IsBelow first h.1.0
+below_at_end : (bytes : List ℕ) (first : ℕ) (quads : List Statement) (next : ℕ) (h : ReadsAll bytes first quads next) → IsBelow first h.1.0
 below_at_end bytes first quads next h = stays_below first (start first bytes) (record { reading = h.1.0; rest = h.1.1.0 }) h.1.1.1 (below_at_first first)
 
-pub above_all : (bytes : List ℕ) (first : ℕ) (quads : List Statement) (next : ℕ) → IsNquads bytes first quads next → is_above_blanks next quads ≡ true
+pub above_all : (bytes : List ℕ) (first : ℕ) (quads : List Statement) (next : ℕ) → ReadsAll bytes first quads next → is_above_blanks next quads ≡ true
 above_all bytes first quads next h =
     subst (λ n. is_above_blanks n quads ≡ true) h.1.3
     (subst (λ q. is_above_blanks h.1.0.labels.next q ≡ true) h.1.2 (below_at_end bytes first quads next h).quads)
 
-pub no_smaller : (bytes : List ℕ) (first : ℕ) (quads : List Statement) (next : ℕ) → IsNquads bytes first quads next → first ≤ next
+pub no_smaller : (bytes : List ℕ) (first : ℕ) (quads : List Statement) (next : ℕ) → ReadsAll bytes first quads next → first ≤ next
 no_smaller bytes first quads next h = subst (λ n. first ≤ n) h.1.3 (below_at_end bytes first quads next h).at_least

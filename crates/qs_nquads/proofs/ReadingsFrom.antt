@@ -7,19 +7,20 @@ use Rattle.std.specs.Str.{bytes_eq}
 use Rattle.std.proofs.lemmas.Bool.{cond_both}
 use Rattle.std.proofs.lemmas.List.Elements.{All-nil, All-cons, All-append}
 use Rattle.std.proofs.lemmas.Map.Views.{IfSome-lookup_from_All}
-use Rattle.qs_lex_regular.specs.Longest.{best}
+use Rattle.qs_lex_regular.specs.inner.Best.{best}
 use Rattle.qs_terms.specs.Literal.{Literal, checked_typed, checked_tagged}
 use Rattle.qs_terms.specs.Statement.{Statement}
 use Rattle.qs_terms.specs.declared.fault.TermFault.{TermFault}
 use Rattle.qs_terms.specs.declared.term.Term.{Term}
 use Rattle.qs_terms.specs.declared.term.Term.TheVariants as term
-use Rattle.qs_nquads.specs.Gap.{behind_gap}
+use Rattle.qs_nquads.specs.inner.Gap.{behind_gap}
 use Rattle.qs_nquads.specs.Labels.{Numbering, with_label, add, known_or_new, number}
-use Rattle.qs_nquads.specs.Part.{part_of, iri_part, blank_part, label_part, takes_label, behind}
-use Rattle.qs_nquads.specs.StatementState.{term_of, with_literal, at_start, at_subject, at_predicate, at_object, at_form, at_typed, at_label, at_done, after, may_end}
-use Rattle.qs_nquads.specs.Reading.{Reading, State, Step, at_first, start, goes, ends, stops, step_from, step_over, stepped, read, taken, placed, Comes, here, on}
-use Rattle.qs_nquads.specs.Nquads.{IsNquads}
-use Rattle.qs_nquads.specs.Renumbered.{blanks_in, blanks_in_name, blanks_of}
+use Rattle.qs_nquads.specs.Part.{iri_part, blank_part, behind}
+use Rattle.qs_nquads.specs.inner.PartAt.{part_of, label_part, takes_label}
+use Rattle.qs_nquads.specs.inner.StatementState.{term_of, with_literal, at_start, at_subject, at_predicate, at_object, at_form, at_typed, at_label, at_done, after, may_end}
+use Rattle.qs_nquads.specs.inner.Reading.{Reading, State, Step, at_first, start, goes, ends, stops, step_from, step_over, stepped, read, taken, placed, Comes, here, on}
+use Rattle.qs_nquads.specs.inner.Outcome.{ReadsAll}
+use Rattle.qs_nquads.specs.inner.Renumbered.{blanks_in, blanks_in_name, blanks_of}
 use Rattle.qs_nquads.specs.Table.{table}
 use Rattle.qs_nquads.proofs.Numbers.{values_last}
 use Rattle.qs_nquads.specs.declared.class.Class.{Class}
@@ -32,8 +33,8 @@ use Rattle.qs_nquads.specs.declared.part.Part.{Part}
 use Rattle.qs_nquads.specs.declared.part.Part.TheVariants as part
 use Rattle.qs_nquads.specs.declared.statement_state.StatementState.{StatementState}
 use Rattle.qs_nquads.specs.declared.statement_state.StatementState.TheVariants as place
-use Rattle.qs_nquads.specs.Next.{Next}
-use Rattle.qs_nquads.specs.Next as next
+use Rattle.qs_nquads.specs.inner.Next.{Next}
+use Rattle.qs_nquads.specs.inner.Next as next
 
 -- ---- what is read from a number on
 
@@ -266,7 +267,7 @@ module _ (first : ℕ) where
 at_begin : (first : ℕ) → OfReading first (at_first first)
 at_begin first = record { place = tt; labels = record { next = le_refl first; numbers = All-nil (λ k. first ≤ k) }; quads = tt }
 
-pub from_first : (bytes : List ℕ) (first : ℕ) (quads : List Statement) (next : ℕ) → IsNquads bytes first quads next → All (λ b. first ≤ b) (flat_map blanks_of quads)
+pub from_first : (bytes : List ℕ) (first : ℕ) (quads : List Statement) (next : ℕ) → ReadsAll bytes first quads next → All (λ b. first ≤ b) (flat_map blanks_of quads)
 from_first bytes first quads next h =
     let read : OfReading first h.1.0 = of_comes first (start first bytes) (record { reading = h.1.0; rest = h.1.1.0 }) h.1.1.1 (at_begin first) in
     subst (λ qs. All (λ b. first ≤ b) (flat_map blanks_of qs)) h.1.2 (quads_list first h.1.0.quads read.quads)

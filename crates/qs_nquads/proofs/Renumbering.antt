@@ -14,7 +14,7 @@ use Rattle.qs_terms.proofs.FirstOnes.{once_with, or_left_false, or_right_false, 
 use Rattle.qs_nquads.specs.Labels.{Numbering, with_label, number, known_or_new, from}
 use Rattle.qs_nquads.specs.declared.fault.NqFaultKind.TheVariants as fault
 use Rattle.qs_nquads.specs.Written.{label}
-use Rattle.qs_nquads.specs.Renumbered.{before}
+use Rattle.qs_nquads.specs.inner.Renumbered.{before}
 use Rattle.qs_nquads.proofs.Numbers.{put_last}
 
 abbrev pub same : ℕ → ℕ → Bool

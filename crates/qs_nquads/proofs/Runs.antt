@@ -8,11 +8,11 @@ use Rattle.std.proofs.lemmas.Bool.{ltb-false}
 use Rattle.std.specs.Char.{len_utf8}
 use Rattle.std.specs.List.{position_or_len, position}
 use Rattle.qs_lex_regular.specs.Character.{is_iri_char}
-use Rattle.qs_lex_regular.specs.Longest.{advance, here, longer, best}
+use Rattle.qs_lex_regular.specs.inner.Best.{advance, here, longer, best}
 use Rattle.qs_lex_regular.specs.inner.Scan.{hold, later}
 use Rattle.qs_lex_regular.proofs.Scan.{at_step}
-use Rattle.qs_nquads.specs.Table.{Left, is_string_char}
-use Rattle.qs_nquads.specs.inner.State.{left}
+use Rattle.qs_nquads.specs.Table.{is_string_char}
+use Rattle.qs_nquads.specs.inner.State.{Left, left}
 use Rattle.qs_nquads.proofs.Apart.{iri_backslash, iri_greater, string_backslash, string_quote}
 use Rattle.qs_nquads.specs.inner.Run.{ends_in_iri, ends_in_string, HasRun}
 use Rattle.qs_nquads.specs.declared.class.Class.{Class}

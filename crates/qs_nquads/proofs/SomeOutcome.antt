@@ -5,12 +5,14 @@ use Rattle.std.proofs.lemmas.Str.{IsUtf8-from_is_utf8, is_utf8-from_IsUtf8, enco
 use Rattle.std.specs.Prelude.{if◌then◌else◌}
 use Rattle.std.specs.Str.{IsValidUpTo, is_utf8, all_scalars}
 use Rattle.std.specs.Str.Lossy.{valid_len_up_to}
-use Rattle.qs_lex_regular.specs.Longest.{best}
+use Rattle.qs_lex_regular.specs.inner.Best.{best}
 use Rattle.qs_terms.specs.Statement.{Statement}
-use Rattle.qs_nquads.specs.Gap.{behind_gap, skip, is_blank, is_line_end}
-use Rattle.qs_nquads.specs.Nquads.{Ends, StopsAt, IsNquads, IsFault, line_at}
-use Rattle.qs_nquads.specs.StatementState.{may_end}
-use Rattle.qs_nquads.specs.Reading.{Reading, State, Step, goes, ends, stops, step, step_from, step_over, stepped, read, start, Comes, here, on}
+use Rattle.qs_nquads.specs.Gap.{skip, is_blank, is_line_end}
+use Rattle.qs_nquads.specs.inner.Gap.{behind_gap}
+use Rattle.qs_nquads.specs.Nquads.{line_at}
+use Rattle.qs_nquads.specs.inner.Outcome.{Ends, StopsAt, ReadsAll, FailsAt}
+use Rattle.qs_nquads.specs.inner.StatementState.{may_end}
+use Rattle.qs_nquads.specs.inner.Reading.{Reading, State, Step, goes, ends, stops, step, step_from, step_over, stepped, read, start, Comes, here, on}
 use Rattle.qs_nquads.specs.Table.{table}
 use Rattle.qs_nquads.specs.declared.class.Class.{Class}
 use Rattle.qs_nquads.specs.declared.fault.NqFaultKind.{NqFaultKind}
@@ -58,7 +60,7 @@ valid_up_to bs never =
 
 -- ---- a gap is a front, so that reading goes on with less
 
-abbrev Gap : Bool → List ℕ → Type 0
+abbrev pub Gap : Bool → List ℕ → Type 0
 Gap b cs = (g : List ℕ) × (cs ≡ g ++ skip b cs)
 
 in_comment : (a : Bool) (c : ℕ) (cs : List ℕ) → Gap true cs → (g : List ℕ) × (c ∷ cs ≡ g ++ cond a (c ∷ cs) (skip true cs))
@@ -70,7 +72,7 @@ in_blanks true b c cs f t = (c ∷ f.0, ap (λ z. c ∷ z) f.1)
 in_blanks false true c cs f t = (c ∷ t.0, ap (λ z. c ∷ z) t.1)
 in_blanks false false c cs f t = ([], refl)
 
-gap : (b : Bool) (cs : List ℕ) → Gap b cs
+pub gap : (b : Bool) (cs : List ℕ) → Gap b cs
 gap true [] = ([], refl)
 gap false [] = ([], refl)
 gap true (c ∷ cs) = in_comment (is_line_end c) c cs (gap true cs)
@@ -129,8 +131,8 @@ run (suc fuel) from s c u l (goes t) e =
     let m : Less s t = from_front s t (behind_gap s.rest) (behind s.rest u) e in
     run fuel from t (on s t c e) m.utf8 (omega (arith, m.less, l)) (step t) refl
 
-abbrev Outcome : List ℕ → ℕ → Type 0
-Outcome bytes first = ((quads : List Statement) × (next : ℕ) × IsNquads bytes first quads next) ⊎ ((kind : NqFaultKind) × (line : ℕ) × (kind ≢ fault.Memory) × IsFault bytes first kind line)
+abbrev pub Outcome : List ℕ → ℕ → Type 0
+Outcome bytes first = ((quads : List Statement) × (next : ℕ) × ReadsAll bytes first quads next) ⊎ ((kind : NqFaultKind) × (line : ℕ) × (kind ≢ fault.Memory) × FailsAt bytes first kind line)
 
 of_text : (bytes : List ℕ) (first : ℕ) → IsUtf8 bytes → Outcome bytes first
 of_text bytes first u = elim (run (length bytes) (start first bytes) (start first bytes) here u (omega arith) (step (start first bytes)) refl) [

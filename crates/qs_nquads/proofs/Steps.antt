@@ -2,11 +2,11 @@
 use Rattle.std.proofs.Common.{◌≡◌, ◌<◌, ℕ, zero, suc, true, false, ◌==◌, List, [], ◌∷◌, Some, None, Ok, Err, length, take, drop, refl, sym, ap, ◌∙◌, arith, chars, true≢false}
 use Rattle.std.proofs.lemmas.List.{nil_from_length}
 use Rattle.std.specs.Prelude.{if◌then◌else◌}
-use Rattle.qs_lex_regular.specs.Longest.{best}
+use Rattle.qs_lex_regular.specs.inner.Best.{best}
 use Rattle.qs_nquads.specs.Table.{table}
-use Rattle.qs_nquads.specs.Gap.{behind_gap}
-use Rattle.qs_nquads.specs.StatementState.{may_end}
-use Rattle.qs_nquads.specs.Reading.{Reading, State, goes, ends, stops, stepped, step_over, step_from, step, read}
+use Rattle.qs_nquads.specs.inner.Gap.{behind_gap}
+use Rattle.qs_nquads.specs.inner.StatementState.{may_end}
+use Rattle.qs_nquads.specs.inner.Reading.{Reading, State, goes, ends, stops, stepped, step_over, step_from, step, read}
 use Rattle.qs_nquads.specs.declared.class.Class.{Class}
 use Rattle.qs_nquads.specs.declared.fault.NqFaultKind.{NqFaultKind}
 use Rattle.qs_nquads.specs.declared.fault.NqFaultKind.TheVariants as fault
@@ -15,7 +15,7 @@ pub some_from : (n : ℕ) → false ≡ (n == 0) → 0 < n
 some_from zero e = absurd (true≢false (sym e))
 some_from (suc n) e = omega arith
 
-at_front : (r : Reading) (front : List ℕ) → 0 < length front → step_from r front ≡ step_over r front (best table (chars front))
+pub at_front : (r : Reading) (front : List ℕ) → 0 < length front → step_from r front ≡ step_over r front (best table (chars front))
 at_front r [] h = absurd (omega arith)
 at_front r (b ∷ bs) h = refl
 

@@ -4,12 +4,13 @@ use Rattle.std.specs.Prelude.{if◌then◌else◌, ◌+◌, ◌^◌, nat_lt}
 use Rattle.qs_terms.specs.Literal.{Literal}
 use Rattle.qs_terms.specs.Statement.{Statement}
 use Rattle.qs_terms.specs.declared.fault.TermFault.{TermFault}
-use Rattle.qs_nquads.specs.Gap.{behind_gap}
+use Rattle.qs_nquads.specs.inner.Gap.{behind_gap}
 use Rattle.qs_nquads.specs.Labels.{Numbering, with_label, known_or_new, number}
-use Rattle.qs_nquads.specs.Part.{part_of, iri_part, blank_part, label_part, takes_label, behind}
-use Rattle.qs_nquads.specs.StatementState.{after, with_literal, may_end}
-use Rattle.qs_nquads.specs.Reading.{Reading, State, Step, goes, ends, stops, step, step_from, step_over, stepped, read, taken, placed}
-use Rattle.qs_nquads.specs.Nquads.{IsStop, StopsAt, ComesTo}
+use Rattle.qs_nquads.specs.Part.{iri_part, blank_part, behind}
+use Rattle.qs_nquads.specs.inner.PartAt.{part_of, label_part, takes_label}
+use Rattle.qs_nquads.specs.inner.StatementState.{after, with_literal, may_end}
+use Rattle.qs_nquads.specs.inner.Reading.{Reading, State, Step, goes, ends, stops, step, step_from, step_over, stepped, read, taken, placed}
+use Rattle.qs_nquads.specs.inner.Outcome.{IsStop, StopsAt, ComesTo}
 use Rattle.qs_nquads.specs.declared.class.Class.{Class}
 use Rattle.qs_nquads.specs.declared.class.Class.TheVariants as class
 use Rattle.qs_nquads.specs.declared.fault.NqFaultKind.{NqFaultKind}
@@ -19,9 +20,9 @@ use Rattle.qs_nquads.specs.declared.part.Part.{Part}
 use Rattle.qs_nquads.specs.declared.part.Part.TheVariants as part
 use Rattle.qs_nquads.specs.declared.statement_state.StatementState.{StatementState}
 use Rattle.qs_nquads.specs.declared.statement_state.StatementState.TheVariants as place
-use Rattle.qs_nquads.specs.Next.{Next}
-use Rattle.qs_nquads.specs.Next as next
-use Rattle.qs_lex_regular.specs.Longest.{best}
+use Rattle.qs_nquads.specs.inner.Next.{Next}
+use Rattle.qs_nquads.specs.inner.Next as next
+use Rattle.qs_lex_regular.specs.inner.Best.{best}
 use Rattle.qs_nquads.specs.Table.{table}
 use Rattle.std.specs.Str.{chars}
 

@@ -3,8 +3,9 @@ use Rattle.std.proofs.Common.{◌≡◌, ◌≢◌, ◌⊎◌, inl, inr, ℕ, �
 use Rattle.std.specs.Str.{IsValidUpTo}
 use Rattle.std.proofs.lemmas.Str.{utf8_valid_len-IsValidUpTo}
 use Rattle.qs_terms.specs.Statement.{Statement}
-use Rattle.qs_nquads.specs.Reading.{Reading, State, goes, ends, stops, step, start, Comes, here, on}
-use Rattle.qs_nquads.specs.Nquads.{Ends, StopsAt, IsStop, IsNquads, IsFault, line_at}
+use Rattle.qs_nquads.specs.inner.Reading.{Reading, State, goes, ends, stops, step, start, Comes, here, on}
+use Rattle.qs_nquads.specs.Nquads.{line_at}
+use Rattle.qs_nquads.specs.inner.Outcome.{Ends, StopsAt, IsStop, ReadsAll, FailsAt}
 use Rattle.qs_nquads.specs.declared.fault.NqFaultKind.{NqFaultKind}
 use Rattle.qs_nquads.specs.declared.fault.NqFaultKind.TheVariants as fault
 
@@ -76,7 +77,7 @@ one_stop from f g m n a b =
     let s : stops f a.1 ≡ stops g b.1 = sym a.3 ∙ (ap step e ∙ b.3) in
     (stops_kind f g a.1 b.1 s, a.4 ∙ (ap length (stops_rest f g a.1 b.1 s) ∙ sym b.4))
 
-stops_at : (from : State) (f : NqFaultKind) (left : ℕ) → f ≢ fault.Memory → IsStop from f left → StopsAt from f left
+pub stops_at : (from : State) (f : NqFaultKind) (left : ℕ) → f ≢ fault.Memory → IsStop from f left → StopsAt from f left
 stops_at from fault.Memory left n s = absurd (n refl)
 stops_at from fault.Utf8 left n s = absurd s
 stops_at from fault.Token left n s = s
@@ -89,19 +90,19 @@ stops_at from fault.Full left n s = s
 one_valid : (bytes : List ℕ) (m n : ℕ) → IsValidUpTo bytes m → IsValidUpTo bytes n → m ≡ n
 one_valid bytes m n a b = sym (utf8_valid_len-IsValidUpTo bytes m a) ∙ utf8_valid_len-IsValidUpTo bytes n b
 
-pub one_nquads : (bytes : List ℕ) (first : ℕ) (q r : List Statement) (m n : ℕ) → IsNquads bytes first q m → IsNquads bytes first r n → (q ≡ r) × (m ≡ n)
+pub one_nquads : (bytes : List ℕ) (first : ℕ) (q r : List Statement) (m n : ℕ) → ReadsAll bytes first q m → ReadsAll bytes first r n → (q ≡ r) × (m ≡ n)
 one_nquads bytes first q r m n a b =
     let e : a.1.0 ≡ b.1.0 = one_reading (start first bytes) a.1.0 b.1.0 a.1.1 b.1.1 in
     (sym a.1.2 ∙ (ap (λ (z : Reading). z.quads) e ∙ b.1.2), sym a.1.3 ∙ (ap (λ (z : Reading). z.labels.next) e ∙ b.1.3))
 
-pub nquads_or_fault : (bytes : List ℕ) (first : ℕ) (q : List Statement) (m : ℕ) (f : NqFaultKind) (line : ℕ) → f ≢ fault.Memory → IsNquads bytes first q m → IsFault bytes first f line → ⊥
+pub nquads_or_fault : (bytes : List ℕ) (first : ℕ) (q : List Statement) (m : ℕ) (f : NqFaultKind) (line : ℕ) → f ≢ fault.Memory → ReadsAll bytes first q m → FailsAt bytes first f line → ⊥
 nquads_or_fault bytes first q m f line n a b =
     elim b as (λ _. ⊥) [
       | inl u ↦ u.1 a.0
       | inr s ↦ end_or_stop (start first bytes) a.1.0 f s.1.0 a.1.1 (stops_at (start first bytes) f s.1.0 n s.1.1)
     ]
 
-pub one_fault : (bytes : List ℕ) (first : ℕ) (f g : NqFaultKind) (line place : ℕ) → f ≢ fault.Memory → g ≢ fault.Memory → IsFault bytes first f line → IsFault bytes first g place → (f ≡ g) × (line ≡ place)
+pub one_fault : (bytes : List ℕ) (first : ℕ) (f g : NqFaultKind) (line place : ℕ) → f ≢ fault.Memory → g ≢ fault.Memory → FailsAt bytes first f line → FailsAt bytes first g place → (f ≡ g) × (line ≡ place)
 one_fault bytes first f g line place m n a b =
     elim a as (λ _. (f ≡ g) × (line ≡ place)) [
       | inl u ↦ (elim b as (λ _. (f ≡ g) × (line ≡ place)) [

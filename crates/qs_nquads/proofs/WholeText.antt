@@ -9,11 +9,12 @@ use Rattle.std.proofs.lemmas.Str.{IsUtf8-nil}
 use Rattle.qs_terms.specs.Bag.{once}
 use Rattle.qs_terms.specs.Statement.{Statement}
 use Rattle.qs_nquads.specs.Labels.{Numbering, from}
-use Rattle.qs_nquads.specs.Reading.{Reading, step, ends, Comes, here}
-use Rattle.qs_nquads.specs.Nquads.{IsNquads}
+use Rattle.qs_nquads.specs.inner.Reading.{Reading, step, ends, Comes, here}
+use Rattle.qs_nquads.specs.inner.Outcome.{ReadsAll}
 use Rattle.qs_nquads.specs.declared.statement_state.StatementState.TheVariants as place
 use Rattle.qs_nquads.specs.Written.{line, put_in, ordered, nquads_of}
-use Rattle.qs_nquads.specs.Renumbered.{blanks_of, first_blanks, before, renumbered, IsQuad, AreQuads, number_from, ReadsBack}
+use Rattle.qs_nquads.specs.inner.Renumbered.{blanks_of, first_blanks, before, renumbered, IsQuad, AreQuads, number_from, ReadsBack}
+use Rattle.qs_nquads.proofs.Bridge.{to_nquads}
 use Rattle.qs_nquads.proofs.Renumbering.{same, Agrees, none_yet}
 use Rattle.qs_nquads.proofs.OneLine.{at, joined, given, LineRead, line_read, line_then, line_before, line_utf8}
 
@@ -65,7 +66,7 @@ at_end r n qs = refl
 
 -- quads in any order
 pub all_read : (qs : List Statement) (first : ℕ) → AreQuads qs → first + length (once same (flat_map blanks_of qs)) < 2 ^ 64
-    → IsNquads (text_of qs) first (map (renumbered (λ b. first + before b (once same (flat_map blanks_of qs)))) qs) (first + length (once same (flat_map blanks_of qs)))
+    → ReadsAll (text_of qs) first (map (renumbered (λ b. first + before b (once same (flat_map blanks_of qs)))) qs) (first + length (once same (flat_map blanks_of qs)))
 all_read qs first h suffice =
     let all : List ℕ = flat_map blanks_of qs in
     let r : Read first all suffice (from first) [] [] qs = lines_read first all suffice qs (from first) [] [] [] h (sym (append-nil all)) (none_yet first) in
@@ -92,8 +93,9 @@ ordered_quads (q ∷ qs) h = put_in_quads q (ordered qs) h.0 (ordered_quads qs h
 pub read_back : (qs : List Statement) (first : ℕ) → AreQuads qs → ReadsBack qs first
 unfolding nquads_of first_blanks
 read_back qs first h suffice =
-    subst (λ z. IsNquads z first (map (renumbered (number_from first (ordered qs))) (ordered qs)) (first + length (first_blanks (ordered qs)))) (sym (text_is (ordered qs)))
-    (all_read (ordered qs) first (ordered_quads qs h) suffice)
+    to_nquads (nquads_of qs) first (map (renumbered (number_from first (ordered qs))) (ordered qs)) (first + length (first_blanks (ordered qs)))
+    (subst (λ z. ReadsAll z first (map (renumbered (number_from first (ordered qs))) (ordered qs)) (first + length (first_blanks (ordered qs)))) (sym (text_is (ordered qs)))
+    (all_read (ordered qs) first (ordered_quads qs h) suffice))
 
 pub written_utf8 : (qs : List Statement) → AreQuads qs → IsUtf8 (nquads_of qs)
 unfolding nquads_of

@@ -8,10 +8,10 @@ use Rattle.std.proofs.lemmas.Str.{length-encode}
 use Rattle.std.proofs.lemmas.Fmt.{decimal_by_steps}
 use lib.Utf8.{encode, encodes}
 use Rattle.qs_lex_regular.specs.Character.{is_iri_char, is_escaped, is_letter, is_letter_or_digit, is_digit, is_pn_chars, is_pn_chars_u, is_base, is_mark_in_name}
-use Rattle.qs_lex_regular.specs.Longest.{best, longer, here, advance}
+use Rattle.qs_lex_regular.specs.inner.Best.{best, longer, here, advance}
 use Rattle.qs_terms.specs.Tag.{is_tag, is_tag_rest, is_subtag_char}
-use Rattle.qs_nquads.specs.Table.{Left, table, is_string_char, is_label_start, is_label_char}
-use Rattle.qs_nquads.specs.inner.State.{left}
+use Rattle.qs_nquads.specs.Table.{table, is_string_char, is_label_start, is_label_char}
+use Rattle.qs_nquads.specs.inner.State.{Left, left}
 use Rattle.qs_nquads.specs.declared.class.Class.{Class}
 use Rattle.qs_nquads.specs.declared.class.Class.TheVariants as class
 use Rattle.qs_nquads.specs.declared.state.State.{State}

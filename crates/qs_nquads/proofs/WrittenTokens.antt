@@ -11,15 +11,18 @@ use Rattle.std.proofs.lemmas.Str.{IsUtf8-append, chars-append, chars-encodes, en
 use Rattle.std.proofs.lemmas.Fmt.{decimal_by_steps}
 use lib.Utf8.{scalar, scalars, encode, encodes, low_scalar}
 use Rattle.qs_lex_regular.specs.Character.{is_iri_char}
-use Rattle.qs_lex_regular.specs.Longest.{best}
+use Rattle.qs_lex_regular.specs.inner.Best.{best}
 use Rattle.qs_lex_escapes.specs.Escape.{uchar, string_escape}
 use Rattle.qs_lex_escapes.specs.Decoded.{decoded, decoded_behind}
 use Rattle.qs_lex_escapes.proofs.Pieces as pieces
-use Rattle.qs_terms.specs.Iri.{is_excluded, is_iri_text, has_scheme, checked_iri}
+use Rattle.qs_terms.specs.Iri.{is_excluded, has_scheme, checked_iri}
+use Rattle.qs_terms.specs.inner.Iri.{is_iri_text}
 use Rattle.qs_terms.specs.Tag.{is_tag, is_tag_rest, is_subtag_char}
-use Rattle.qs_nquads.specs.Gap.{behind_gap, skip, is_blank}
+use Rattle.qs_nquads.specs.Gap.{skip, is_blank}
+use Rattle.qs_nquads.specs.inner.Gap.{behind_gap}
 use Rattle.qs_nquads.specs.Labels.{Numbering, number}
-use Rattle.qs_nquads.specs.Part.{part_of, inside, behind, takes_label, iri_part, label_part, blank_part}
+use Rattle.qs_nquads.specs.Part.{inside, behind, iri_part, blank_part}
+use Rattle.qs_nquads.specs.inner.PartAt.{part_of, takes_label, label_part}
 use Rattle.qs_nquads.specs.Table.{table}
 use Rattle.qs_nquads.specs.declared.class.Class.{Class}
 use Rattle.qs_nquads.specs.declared.class.Class.TheVariants as class

@@ -1,12 +1,14 @@
--- Numbers of blank nodes, by their labels (RDF 1.1 N-Quads, 2.4): a label is numbered where it first appears.
-use Rattle.std.specs.Prelude.{ℕ, ◌+◌, ◌^◌, nat_lt, List, [], ◌∷◌, ◌++◌, Option, Some, None, Result, Ok, Err, if◌then◌else◌}
+-- Numbers of blank nodes, by their labels (RDF 1.1 N-Quads, 2.4): a label is numbered where it
+-- first appears.
+use Rattle.std.specs.Prelude.{ℕ, ◌+◌, ◌^◌, nat_lt, List, [], ◌∷◌, ◌++◌, if◌then◌else◌}
+use Rattle.std.specs.Prelude.{Option, Some, None, Result, Ok, Err}
 use Rattle.std.specs.Str.{bytes_eq}
 use Rattle.std.specs.Map.{lookup}
 use Rattle.qs_nquads.specs.declared.fault.NqFaultKind.{NqFaultKind}
 use Rattle.qs_nquads.specs.declared.fault.NqFaultKind.TheVariants as fault
 
--- the labels that were met, each once and with its number, in the order in which they first appeared, and the number that the next new
--- one gets
+-- the labels that were met, each once and with its number, in the order in which they first
+-- appeared, and the number that the next new one gets
 pub record Numbering : Type 0 where
   pub numbers : List (List ℕ × ℕ)
   pub next : ℕ

@@ -2,11 +2,7 @@ pub mod Table
 pub mod Gap
 pub mod Labels
 pub mod Part
-pub mod StatementState
-pub mod Reading
-pub mod Next
+pub mod Document
 pub mod Nquads
 pub mod Written
-pub mod Renumbered
-pub mod WriteFault
 pub mod inner

@@ -1,8 +1,6 @@
--- What the longest front says in a statement (RDF 1.1 N-Quads, 4): an absolute IRI or a literal's form, with escapes decoded, a tag, a
--- blank node or a mark; or a fault.
--- A relative IRI that has no place in its statement is `iri`, any other token without a place is `shape`. `literal` comes only after a `^^`
--- that had its place. An escape that gives an excluded character of an IRI is `iri`, looked for once the token was read.
-use Rattle.std.specs.Prelude.{ℕ, Bool, true, false, ◌-◌, List, length, Result, Ok, Err}
+-- What a token says (RDF 1.1 N-Quads, 4): an absolute IRI or the form of a literal, with escapes
+-- decoded, a tag, a blank node or a mark.
+use Rattle.std.specs.Prelude.{ℕ, ◌-◌, List, length, Result, Ok, Err}
 use Rattle.qs_lex_escapes.specs.Decoded.{decoded}
 use Rattle.qs_lex_escapes.specs.Escape.{uchar, string_escape}
 use Rattle.qs_lex_escapes.specs.Piece.{piece}
@@ -15,50 +13,34 @@ use Rattle.qs_nquads.specs.declared.fault.NqFaultKind.{NqFaultKind}
 use Rattle.qs_nquads.specs.declared.fault.NqFaultKind.TheVariants as fault
 use Rattle.qs_nquads.specs.declared.part.Part.{Part}
 use Rattle.qs_nquads.specs.declared.part.Part.TheVariants as part
-use Rattle.qs_nquads.specs.declared.statement_state.StatementState.{StatementState}
-use Rattle.qs_nquads.specs.declared.statement_state.StatementState.TheVariants as place
 
--- the token without its first bytes, and without as many at its end
+-- the token without its first bytes, and without one at each end
 abbrev pub behind : List ℕ → ℕ → List ℕ
 behind token n = piece token n (length token)
 
 abbrev pub inside : List ℕ → List ℕ
 inside token = piece token 1 (length token - 1)
 
--- a statement takes a blank node here: as subject, object or name of a graph ([3], [5], [6])
-abbrev pub takes_label : StatementState → Bool
-takes_label place.Start = true
-takes_label (place.Subject s) = false
-takes_label (place.Predicate s p) = true
-takes_label (place.Form s p form) = true
-takes_label (place.Typed s p form) = false
-takes_label (place.Object s p o) = true
-takes_label (place.Label s p o g) = false
-takes_label place.Done = false
-
 -- the IRI, unless it has no scheme or an escape in it gave a character that IRIs exclude
 abbrev pub iri_part : Numbering → Result (List ℕ) TermFault → Result (Part × Numbering) NqFaultKind
 iri_part n (Ok i) = Ok (part.Iri i, n)
 iri_part n (Err f) = Err fault.Iri
 
+-- the blank node, unless its label is new and no number is left
 abbrev pub blank_part : Result (ℕ × Numbering) NqFaultKind → Result (Part × Numbering) NqFaultKind
 blank_part (Ok numbered) = Ok (part.Blank numbered.0, numbered.1)
 blank_part (Err f) = Err f
 
--- a label where it has its place
-abbrev pub label_part : Numbering → Bool → List ℕ → Result (Part × Numbering) NqFaultKind
-label_part n true label = blank_part (number n label)
-label_part n false label = Err fault.Shape
-
--- what the front of a class, of these bytes, says at a place of a statement; a front that is no token is `token`, or `escape` where it ends
--- at a backslash that begins no escape
-abbrev pub part_of : StatementState → Numbering → Class → List ℕ → Result (Part × Numbering) NqFaultKind
-part_of p n class.Iri token = iri_part n (checked_iri (decoded uchar (inside token)))
-part_of p n class.String token = Ok (part.Form (decoded string_escape (inside token)), n)
-part_of p n class.Tag token = Ok (part.Tag (behind token 1), n)
-part_of p n class.Label token = label_part n (takes_label p) (behind token 2)
-part_of p n class.Carets token = Ok (part.Carets, n)
-part_of p n class.Dot token = Ok (part.Dot, n)
-part_of p n class.LineEnd token = Ok (part.LineEnd, n)
-part_of p n class.Open token = Err fault.Token
-part_of p n class.Broken token = Err fault.Escape
+-- What a longest front of a class, of these bytes, says, with the numbers of labels before and
+-- after it; or its fault. A front that is no token is `token`, or `escape` where it ends at a
+-- backslash that begins no escape.
+abbrev pub said : Numbering → Class → List ℕ → Result (Part × Numbering) NqFaultKind
+said n class.Iri token = iri_part n (checked_iri (decoded uchar (inside token)))
+said n class.String token = Ok (part.Form (decoded string_escape (inside token)), n)
+said n class.Tag token = Ok (part.Tag (behind token 1), n)
+said n class.Label token = blank_part (number n (behind token 2))
+said n class.Carets token = Ok (part.Carets, n)
+said n class.Dot token = Ok (part.Dot, n)
+said n class.LineEnd token = Ok (part.LineEnd, n)
+said n class.Open token = Err fault.Token
+said n class.Broken token = Err fault.Escape

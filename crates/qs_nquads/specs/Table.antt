@@ -1,9 +1,11 @@
 -- The token table: each class of fronts of a text as a form over characters (RDF 1.1 N-Quads, 4).
--- Two more classes are an IRI or a string without its end, and each of them up to a backslash. The longest front decides: a `\`
--- in an IRI or a string that begins no lawful escape is `escape`, also one cut short by the end of the bytes. A `\` elsewhere is
--- `token`.
+-- Productions have the standard's numbers. Two more classes are an IRI or a string without its
+-- end, and each of them up to a backslash. The longest front decides: a `\` in an IRI or a string
+-- that begins no lawful escape is `escape`, also one cut short by the end of the bytes. A `\`
+-- elsewhere is `token`.
 use Rattle.std.specs.Prelude.{ℕ, Bool, not, ◌||◌, ◌==◌, [], ◌∷◌}
-use Rattle.qs_lex_regular.specs.Character.{is_one_of, is_digit, is_letter, is_letter_or_digit, is_pn_chars_u, is_pn_chars, is_iri_char, is_scalar}
+use Rattle.qs_lex_regular.specs.Character.{is_one_of, is_digit, is_letter, is_letter_or_digit}
+use Rattle.qs_lex_regular.specs.Character.{is_pn_chars_u, is_pn_chars, is_iri_char, is_scalar}
 use Rattle.qs_lex_regular.specs.Form.{Form, one, many, ◌⨾◌, ◌∣◌, maybe, plus, char, echar, uchar}
 use Rattle.qs_lex_regular.specs.Longest.{Table}
 use Rattle.qs_nquads.specs.declared.class.Class.{Class}
@@ -11,11 +13,11 @@ use Rattle.qs_nquads.specs.declared.class.Class.TheVariants as class
 
 -- ---- classes of characters
 
--- what a string holds beside escapes ([9]): no `"`, `\`, LF or CR
+-- what a string holds beside escapes ([11]): no `"`, `\`, LF or CR
 unfoldable pub is_string_char : ℕ → Bool
 is_string_char c = not (is_one_of (34 ∷ 92 ∷ 10 ∷ 13 ∷ []) c)
 
--- what a label begins with ([6]): PN_CHARS_U, in which N-Quads has `:` ([158s]), or a digit
+-- what a label begins with ([141s]): PN_CHARS_U, in which N-Quads has `:` ([158s]), or a digit
 unfoldable pub is_label_start : ℕ → Bool
 is_label_start c = is_pn_chars_u c || c == 58 || is_digit c
 
@@ -29,7 +31,8 @@ is_label_inner c = is_label_char c || c == 46
 
 -- ---- IRIs and strings without their ends
 
--- IRIREF ([10]): `<`, then characters of IRIs and UCHAR; whether an escape names a character of IRIs is asked later
+-- IRIREF ([10]): `<`, then characters of IRIs and UCHAR; whether an escape names a character of
+-- IRIs is asked later
 abbrev pub iri_body : Form
 iri_body = many (one is_iri_char ∣ uchar is_scalar)
 
@@ -53,9 +56,14 @@ table =
     ∷ (class.String, char 34 ⨾ string_body ⨾ char 34)
     -- LANGTAG ([144s]): `@`, letters, then any number of `-` with letters and digits
     ∷ (class.Tag, char 64 ⨾ plus (one is_letter) ⨾ many (char 45 ⨾ plus (one is_letter_or_digit)))
-    -- BLANK_NODE_LABEL ([141s]): `_:`, a first character, then optionally characters and dots, and no dot at the end
-    ∷ (class.Label, char 95 ⨾ char 58 ⨾ one is_label_start ⨾ maybe (many (one is_label_inner) ⨾ one is_label_char))
-    -- `^^` of a literal's datatype ([6])
+    -- BLANK_NODE_LABEL ([141s]): `_:`, a first character, then optionally characters and dots,
+    -- and no dot at the end
+    ∷ (
+      class.Label,
+      char 95 ⨾ char 58 ⨾ one is_label_start
+          ⨾ maybe (many (one is_label_inner) ⨾ one is_label_char),
+    )
+    -- `^^` of a literal's datatype ([7])
     ∷ (class.Carets, char 94 ⨾ char 94)
     -- the `.` of a statement ([2])
     ∷ (class.Dot, char 46)
@@ -63,10 +71,7 @@ table =
     ∷ (class.LineEnd, one (is_one_of (10 ∷ 13 ∷ [])))
     -- no token: an IRI or a string without its end
     ∷ (class.Open, open_iri ∣ open_string)
-    -- no token: the same up to a backslash, which is the longest front only where no escape begins at that backslash
+    -- no token: the same up to a backslash, which is the longest front only where no escape
+    -- begins at that backslash
     ∷ (class.Broken, open_iri ⨾ char 92 ∣ open_string ⨾ char 92)
     ∷ []
-
--- what is left of the table after some characters
-abbrev pub Left : Type 0
-Left = Table Class

@@ -1,5 +1,7 @@
--- Quads as N-Quads text (RDF 1.1 N-Quads, 2 to 4): one line a quad, lines ascending by their bytes, equal lines once.
-use Rattle.std.specs.Prelude.{ℕ, ◌==◌, List, [], ◌∷◌, ◌++◌, decimal, Option, Some, None, if◌then◌else◌}
+-- Quads as N-Quads text (RDF 1.1 N-Quads, 2 to 4): one line a quad, lines ascending by their bytes,
+-- equal lines once.
+use Rattle.std.specs.Prelude.{ℕ, ◌==◌, List, [], ◌∷◌, ◌++◌, decimal, Option, Some, None}
+use Rattle.std.specs.Prelude.{if◌then◌else◌}
 use Rattle.std.specs.List.{flat_map}
 use Rattle.std.specs.Str.{bytes_eq}
 use Rattle.std.specs.Ordering.{nat_cmp, match_ordering}
@@ -12,7 +14,9 @@ use Rattle.qs_terms.specs.Literal.{xsd_string}
 -- `"`, `\`, LF and CR after a backslash; every other byte is itself
 abbrev pub escaped_byte : ℕ → List ℕ
 escaped_byte c =
-    if c == 34 then (92 ∷ 34 ∷ []) else (if c == 92 then (92 ∷ 92 ∷ []) else (if c == 10 then (92 ∷ 110 ∷ []) else (if c == 13 then (92 ∷ 114 ∷ []) else (c ∷ []))))
+    if c == 34 then (92 ∷ 34 ∷ [])
+    else (if c == 92 then (92 ∷ 92 ∷ [])
+    else (if c == 10 then (92 ∷ 110 ∷ []) else (if c == 13 then (92 ∷ 114 ∷ []) else (c ∷ []))))
 
 abbrev pub escaped : List ℕ → List ℕ
 escaped [] = []
@@ -50,12 +54,15 @@ with_graph (Some name) rest = behind_space name rest
 
 -- a statement: its terms with one space between, ` .` and LF
 abbrev pub line : Statement → List ℕ
-line q = term_text q.subject ++ behind_space q.predicate (behind_space q.object (with_graph q.graph (32 ∷ 46 ∷ 10 ∷ [])))
+line q =
+    term_text q.subject ++ behind_space q.predicate
+    (behind_space q.object (with_graph q.graph (32 ∷ 46 ∷ 10 ∷ [])))
 
 -- the statement among statements whose lines ascend, unless its line is there
 unfoldable pub put_in : Statement → List Statement → List Statement
 put_in q [] = q ∷ []
-put_in q (r ∷ rs) = match_ordering (slice_cmp nat_cmp (line q) (line r)) (q ∷ r ∷ rs) (r ∷ rs) (r ∷ put_in q rs)
+put_in q (r ∷ rs) =
+    match_ordering (slice_cmp nat_cmp (line q) (line r)) (q ∷ r ∷ rs) (r ∷ rs) (r ∷ put_in q rs)
 
 -- the statements in the order of their lines, each line once
 unfoldable pub ordered : List Statement → List Statement

@@ -2,7 +2,8 @@
 
 ghost use Rattle.std.specs.Prelude.{◌≡◌, ◌≤◌, length, MatchOption, List, ℕ, ◌∷◌, false};
 ghost use Rattle.std.specs.Str.{chars};
-ghost use Rattle.qs_nquads.specs.Gap.{is_blank, is_line_end, skip, behind_gap};
+ghost use Rattle.qs_nquads.specs.Gap.{is_blank, is_line_end, skip};
+ghost use Rattle.qs_nquads.specs.inner.Gap.{behind_gap};
 
 #[tactic(auto, unfolding(crate::specs::Gap::is_blank))]
 fn is_blank(c: char) -> bool
@@ -20,7 +21,8 @@ fn is_line_end(c: char) -> bool
 
 // Whether a comment goes on after a character, or `None` where the gap ends before it.
 fn within_gap(in_comment: bool, c: char) -> Option<bool>
-    ensures { MatchOption result ((cs : List ℕ) → skip in_comment (c ∷ cs) ≡ c ∷ cs) (λ next. (cs : List ℕ) → skip in_comment (c ∷ cs) ≡ skip next cs) }
+    ensures { MatchOption result ((cs : List ℕ) → skip in_comment (c ∷ cs) ≡ c ∷ cs)
+        (λ next. (cs : List ℕ) → skip in_comment (c ∷ cs) ≡ skip next cs) }
 {
     if in_comment {
         if is_line_end(c) { None } else { Some(true) }

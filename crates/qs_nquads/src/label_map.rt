@@ -41,7 +41,8 @@ impl LabelMap {
     pub fn put(&mut self, label: String, number: u64) -> Result<(), AllocFailed<(String, u64)>>
         requires new { lookup (bytes_eq (string_bytes label)) (numbers_of self.old) ≡ None }
         requires last { AreBelow number (numbers_of self.old) }
-        ensures put { OnOk result (numbers_of self.new ≡ numbers_of self.old ++ (string_bytes label, number) ∷ []) }
+        ensures put { OnOk result (numbers_of self.new ≡ numbers_of self.old
+            ++ (string_bytes label, number) ∷ []) }
         ensures refused { OnErr result (self.new ≡ self.old) }
     {
         match self {

@@ -5,7 +5,7 @@
 ghost use Rattle.std.specs.Prelude.{◌≡◌, ℕ, [], Ok, Some, OnErr};
 ghost use Rattle.std.specs.Map.{lookup};
 ghost use Rattle.std.specs.Str.{bytes_eq};
-ghost use Rattle.qs_terms.specs.OrOutOf.{WithOrOutOfMemory};
+ghost use Rattle.qs_terms.specs.inner.OrOutOf.{WithOrOutOfMemory};
 ghost use Rattle.qs_nquads.specs.declared.fault.NqFaultKind.TheVariants.{Memory};
 ghost use Rattle.qs_nquads.specs.Labels.{from, number};
 ghost use Rattle.qs_nquads.specs.inner.LabelMap.{numbers_of};
@@ -78,7 +78,8 @@ impl Labels {
     /// `NqFaultKind::Full` where it is new and no number would be left after it, and `NqFaultKind::Memory`.
     pub fn number(&mut self, alloc: Global, label: &str) -> Result<u64, NqFaultKind>
         ensures number { WithOrOutOfMemory Memory (number self.old label.now) result self.new }
-        ensures known { (k : ℕ) → lookup (bytes_eq label.now) self.old.numbers ≡ Some k → result ≡ Ok k }
+        ensures known { (k : ℕ) → lookup (bytes_eq label.now) self.old.numbers ≡ Some k
+            → result ≡ Ok k }
         ensures refused { OnErr result (self.new ≡ self.old) }
     {
         if let Some(number) = self.numbers.get(label) {

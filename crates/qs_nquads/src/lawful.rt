@@ -1,7 +1,7 @@
 //! The quads of a program are what the laws ask for.
 
 ghost use Rattle.std.specs.Option.{option_copied};
-ghost use Rattle.qs_nquads.specs.Renumbered.{IsTerm, IsName, IsQuad, AreQuads};
+ghost use Rattle.qs_nquads.specs.inner.Renumbered.{IsTerm, IsName, IsQuad, AreQuads};
 
 use qs_terms::{Quad, Term};
 

@@ -1,8 +1,8 @@
 //! N-Quads: the quads that bytes say, or the first fault with its line; and quads as bytes (RDF 1.1 N-Quads, 3 and 4).
 //!
-//! The definitions stand in `specs/`. Of reading: the tokens in `Table.antt`, what each says in `Part.antt`, statements in `StatementState.antt`,
-//! the numbers of labels in `Labels.antt`, what a whole text results in in `Reading.antt` and `Nquads.antt`, and a text that is read a
-//! statement at a time in `Unread.antt`. Of writing: the text in `Written.antt`, and what reading it gives in `Renumbered.antt`.
+//! The definitions stand in `specs/`. Of reading: the tokens in `Table.antt`, what each says in `Part.antt`, the grammar of statements and
+//! documents in `Document.antt`, the numbers of labels in `Labels.antt`, what bytes say in `Nquads.antt`, and a text that is read a statement
+//! at a time in `inner/Unread.antt`. Of writing: the text in `Written.antt`, and what reading it gives in `Renumbered.antt`.
 #![tactic(auto)]
 
 mod class;

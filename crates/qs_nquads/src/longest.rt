@@ -2,7 +2,7 @@
 
 ghost use Rattle.std.specs.Prelude.{◌≡◌};
 ghost use Rattle.std.specs.Str.{chars};
-ghost use Rattle.qs_lex_regular.specs.Longest.{best, here};
+ghost use Rattle.qs_lex_regular.specs.inner.Best.{best, here};
 ghost use Rattle.qs_lex_regular.specs.inner.Scan.{hold};
 ghost use Rattle.qs_nquads.specs.Table.{table};
 ghost use Rattle.qs_nquads.specs.inner.State.{left};

@@ -1,7 +1,7 @@
 //! Subjects and names of graphs.
 
 ghost use Rattle.std.specs.Prelude.{◌≡◌};
-ghost use Rattle.qs_nquads.specs.StatementState.{term_of};
+ghost use Rattle.qs_nquads.specs.inner.StatementState.{term_of};
 
 use qs_terms::{Iri, Term};
 

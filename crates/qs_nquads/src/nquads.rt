@@ -21,7 +21,9 @@ fn push<T: Drop>(items: &mut Vec<T>, item: T) -> Result<(), AllocError>
 
 // Puts the statements that are left after the quads, and tells the number that the next new label would get.
 fn read_into(reader: &mut Reader<'_>, quads: &mut Vec<Quad>) -> Result<u64, NqFault>
-    ensures { (first : ℕ) → HasRead first quads.old.items reader.old → MatchResult result (λ next. IsNquads reader.old.bytes first quads.new.items next) (λ fault. IsFault reader.old.bytes first fault.kind fault.line) }
+    ensures { (first : ℕ) → HasRead first quads.old.items reader.old
+        → MatchResult result (λ next. IsNquads reader.old.bytes first quads.new.items next)
+        (λ fault. IsFault reader.old.bytes first fault.kind fault.line) }
 {
     'statements: loop {
         match reader.next() {
@@ -38,7 +40,9 @@ fn read_into(reader: &mut Reader<'_>, quads: &mut Vec<Quad>) -> Result<u64, NqFa
 
 // The quads of the bytes, and the number that the next new label would get, from these labels.
 fn read_with(alloc: Global, labels: Labels, bytes: &[u8]) -> Result<(Vec<Quad>, u64), NqFault>
-    ensures { (first : ℕ) → labels ≡ from first → MatchResult result (λ r. IsNquads bytes.now first r.0.items r.1) (λ fault. IsFault bytes.now first fault.kind fault.line) }
+    ensures { (first : ℕ) → labels ≡ from first
+        → MatchResult result (λ r. IsNquads bytes.now first r.0.items r.1)
+        (λ fault. IsFault bytes.now first fault.kind fault.line) }
 {
     let mut reader = match Reader::with_labels(alloc, labels, bytes) {
         Ok(reader) => reader,
@@ -64,7 +68,8 @@ fn read_with(alloc: Global, labels: Labels, bytes: &[u8]) -> Result<(Vec<Quad>, 
 /// The first fault from left to right, with its line: `NqFaultKind::Utf8` before all others. `NqFaultKind::Memory` may come at
 /// any token, with the line of that token.
 pub fn read(alloc: Global, bytes: &[u8], first_blank: u64) -> Result<(Vec<Quad>, u64), NqFault>
-    ensures { MatchResult result (λ r. IsNquads bytes.now first_blank r.0.items r.1) (λ fault. IsFault bytes.now first_blank fault.kind fault.line) }
+    ensures { MatchResult result (λ r. IsNquads bytes.now first_blank r.0.items r.1)
+        (λ fault. IsFault bytes.now first_blank fault.kind fault.line) }
 {
     read_with(alloc, Labels::ordered(alloc, first_blank), bytes)
 }
@@ -82,7 +87,8 @@ pub fn read_hashed(
     bytes: &[u8],
     first_blank: u64,
 ) -> Result<(Vec<Quad>, u64), NqFault>
-    ensures { MatchResult result (λ r. IsNquads bytes.now first_blank r.0.items r.1) (λ fault. IsFault bytes.now first_blank fault.kind fault.line) }
+    ensures { MatchResult result (λ r. IsNquads bytes.now first_blank r.0.items r.1)
+        (λ fault. IsFault bytes.now first_blank fault.kind fault.line) }
 {
     read_with(alloc, Labels::hashed(alloc, hasher, first_blank), bytes)
 }

@@ -9,7 +9,7 @@ ghost use Rattle.std.specs.Io.KnownBytes.{Appends};
 ghost use Rattle.qs_terms.specs.Device.{one_more};
 ghost use Rattle.qs_nquads.specs.Written.{line, ordered, nquads_of};
 ghost use Rattle.qs_nquads.specs.inner.Joined.{joined};
-ghost use Rattle.qs_nquads.specs.WriteFault.{MatchFault};
+ghost use Rattle.qs_nquads.specs.inner.WriteFault.{MatchFault};
 
 use crate::lawful::lawful_quads;
 use crate::line::Line;
@@ -126,11 +126,13 @@ pub fn write<S: Sink>(alloc: Global, quads: &[Quad], out: &mut S) -> Result<(), 
     ensures written { MatchResult result
         (λ _. Appends (S.taken out.old) (S.taken out.new) (nquads_of quads.now))
         (λ f. MatchFault f
-        (λ n. (n < length (nquads_of quads.now)) × Appends (S.taken out.old) (S.taken out.new) (take n (nquads_of quads.now)))
+        (λ n. (n < length (nquads_of quads.now)) × Appends (S.taken out.old) (S.taken out.new)
+        (take n (nquads_of quads.now)))
         (out.new ≡ out.old)) }
     ensures faults { MatchResult result
         (λ _. S.faults out.new ≡ S.faults out.old)
-        (λ f. MatchFault f (λ n. S.faults out.new ≡ one_more (S.faults out.old)) (S.faults out.new ≡ S.faults out.old)) }
+        (λ f. MatchFault f (λ n. S.faults out.new ≡ one_more (S.faults out.old))
+        (S.faults out.new ≡ S.faults out.old)) }
 {
     let lines = match ordered_lines(alloc, quads) {
         Ok(lines) => lines,

@@ -1,11 +1,12 @@
 //! What tokens say in a statement.
 
 ghost use Rattle.std.specs.Prelude.{◌≡◌, ◌-◌, length};
-ghost use Rattle.qs_terms.specs.OrOutOf.{OrOutOf, WithOrOutOfMemory};
+ghost use Rattle.qs_terms.specs.inner.OrOutOf.{OrOutOf, WithOrOutOfMemory};
 ghost use Rattle.qs_nquads.specs.declared.fault.NqFaultKind.TheVariants.{Memory};
 ghost use Rattle.qs_lex_escapes.specs.Decoded.{decoded as decoded_text};
 ghost use Rattle.qs_lex_escapes.specs.Escape.{uchar};
-ghost use Rattle.qs_nquads.specs.Part.{takes_label, label_part, iri_part, part_of};
+ghost use Rattle.qs_nquads.specs.Part.{iri_part};
+ghost use Rattle.qs_nquads.specs.inner.PartAt.{takes_label, label_part, part_of};
 ghost use Rattle.qs_nquads.specs.Labels.{Numbering};
 ghost use Rattle.qs_terms.specs.Iri.{checked_iri};
 
@@ -71,7 +72,8 @@ fn blank(
     labels: &mut Labels,
     label: &str,
 ) -> Result<Part, NqFaultKind>
-    ensures { WithOrOutOfMemory Memory (label_part labels.old (takes_label place.now) label.now) result labels.new }
+    ensures { WithOrOutOfMemory Memory (label_part labels.old (takes_label place.now) label.now)
+        result labels.new }
 {
     if !takes_label(place) {
         return Err(NqFaultKind::Shape);
@@ -82,7 +84,9 @@ fn blank(
 
 // The IRI of a text that wasn't read not long ago, which is noted.
 fn new_iri(alloc: Global, recent: &mut IriCache, text: &str) -> Result<Part, NqFaultKind>
-    ensures { (n : Numbering) → WithOrOutOfMemory Memory (iri_part n (checked_iri (decoded_text uchar text.now))) result n }
+    ensures { (n : Numbering)
+        → WithOrOutOfMemory Memory (iri_part n (checked_iri (decoded_text uchar text.now))) result
+        n }
 {
     let text = decode(alloc, text, Escapes::Codepoints)?;
     match Iri::new(alloc, text) {
@@ -98,7 +102,9 @@ fn new_iri(alloc: Global, recent: &mut IriCache, text: &str) -> Result<Part, NqF
 // The IRI of a text, which is neither checked nor copied where it was read not long ago.
 #[tactic(auto, using(crate::proofs::WrittenTokens::iri_again))]
 fn iri(alloc: Global, recent: &mut IriCache, text: &str) -> Result<Part, NqFaultKind>
-    ensures { (n : Numbering) → WithOrOutOfMemory Memory (iri_part n (checked_iri (decoded_text uchar text.now))) result n }
+    ensures { (n : Numbering)
+        → WithOrOutOfMemory Memory (iri_part n (checked_iri (decoded_text uchar text.now))) result
+        n }
 {
     match recent.iri("", text)? {
         Some(known) => Ok(Part::Iri(known)),
@@ -118,7 +124,8 @@ pub fn part_of(
     class: Class,
     token: &str,
 ) -> Result<Part, NqFaultKind>
-    ensures { WithOrOutOfMemory Memory (part_of place.now labels.old class token.now) result labels.new }
+    ensures { WithOrOutOfMemory Memory (part_of place.now labels.old class token.now) result
+        labels.new }
 {
     match class {
         Class::Iri => iri(alloc, recent, inside(token)),

@@ -1,7 +1,7 @@
 //! A text that is read a statement at a time.
 //!
 //! A fault's line is counted once, when reading stops, over the bytes before the place. Out of memory has the line of a token to
-//! which reading comes; a caller of `Reader` that meets it tells it with the line of the next token.
+//! which reading comes; a caller of `Reader` that meets it tells it with the line of the statement that it was handed.
 //!
 //! A reader after a fault is of no use, as it has given up the statement that it was in. Its caller stops there.
 
@@ -9,9 +9,11 @@ ghost use Rattle.std.specs.Prelude.{◌≡◌, ◌≢◌, ◌<◌, ◌≤◌, �
 ghost use Rattle.qs_terms.specs.Statement.{Statement};
 ghost use Rattle.qs_nquads.specs.declared.fault.NqFaultKind.TheVariants.{Memory, Utf8};
 ghost use Rattle.qs_nquads.specs.Labels.{from};
-ghost use Rattle.qs_nquads.specs.Nquads.{IsFault, IsStop, line_at};
-ghost use Rattle.qs_nquads.specs.Reading.{read, placed, Comes, State};
-ghost use Rattle.qs_nquads.specs.inner.Unread.{HasRead, HasComeTo, reading, state, with_next, IsNextOf};
+ghost use Rattle.qs_nquads.specs.Nquads.{IsFault, line_at};
+ghost use Rattle.qs_nquads.specs.inner.Outcome.{IsStop};
+ghost use Rattle.qs_nquads.specs.inner.Reading.{read, placed, Comes, State};
+ghost use Rattle.qs_nquads.specs.inner.Unread.{HasRead, HasComeTo, IsAfterStatement, reading, state, with_next, IsNextOf};
+ghost use Rattle.qs_nquads.specs.declared.statement_state.StatementState.TheVariants.{Done};
 
 use crate::class::Class;
 use crate::fault::{NqFault, NqFaultKind};
@@ -67,8 +69,11 @@ fn read_front(
     class: Class,
     token: &str,
 ) -> Result<Option<Quad>, NqFaultKind>
-    ensures read { IfOk result (λ next. (quads : List Statement) → read (reading place.old labels.old quads) class token.now ≡ Ok (reading place.new labels.new (with_next quads next))) }
-    ensures fault { IfErr result (λ fault. (quads : List Statement) → fault ≢ Memory → read (reading place.old labels.old quads) class token.now ≡ Err fault) }
+    ensures read { IfOk result (λ next. (quads : List Statement)
+        → read (reading place.old labels.old quads) class token.now
+        ≡ Ok (reading place.new labels.new (with_next quads next))) }
+    ensures fault { IfErr result (λ fault. (quads : List Statement) → fault ≢ Memory
+        → read (reading place.old labels.old quads) class token.now ≡ Err fault) }
 {
     let part = part_of(alloc, place, labels, recent, class, token)?;
     after(alloc, place, part)
@@ -83,9 +88,14 @@ fn read_statement<'a>(
     text: &'a str,
 ) -> Result<(Option<Quad>, &'a str), Stop>
     ensures shorter { IfOk result (λ r. OnSome r.0 (length r.1.now < length text.now)) }
+    ensures done { IfOk result (λ r. OnSome r.0 (place.new ≡ Done)) }
     ensures read { MatchResult result
-        (λ r. (from : State) (quads : List Statement) → Comes from (state place.old labels.old text.now quads) → IsNextOf from quads r.0 place.new labels.new r.1.now)
-        (λ stop. (from : State) (quads : List Statement) → Comes from (state place.old labels.old text.now quads) → IsStop from stop.kind stop.left) }
+        (λ r. (from : State) (quads : List Statement)
+        → Comes from (state place.old labels.old text.now quads)
+        → IsNextOf from quads r.0 place.new labels.new r.1.now)
+        (λ stop. (from : State) (quads : List Statement)
+        → Comes from (state place.old labels.old text.now quads)
+        → IsStop from stop.kind stop.left) }
 {
     let mut rest = text;
     'tokens: loop {
@@ -124,8 +134,11 @@ impl<'a> Reader<'a> {
         bytes: &'a [u8],
     ) -> Result<Reader<'a>, NqFault>
         ensures bytes { IfOk result (λ reader. reader.bytes ≡ bytes.now) }
-        ensures read { IfOk result (λ reader. (first : ℕ) → labels ≡ from first → HasRead first [] reader) }
-        ensures fault { (first : ℕ) → IfErr result (λ fault. (fault.kind ≡ Utf8) × IsFault bytes.now first fault.kind fault.line) }
+        ensures read { IfOk result (λ reader. (first : ℕ) → labels ≡ from first
+            → HasRead first [] reader) }
+        ensures fault { (first : ℕ)
+            → IfErr result (λ fault. (fault.kind ≡ Utf8)
+            × IsFault bytes.now first fault.kind fault.line) }
     {
         match std::str::from_utf8(bytes) {
             Ok(text) => Ok(Reader {
@@ -156,7 +169,8 @@ impl<'a> Reader<'a> {
     ) -> Result<Reader<'a>, NqFault>
         ensures bytes { IfOk result (λ reader. reader.bytes ≡ bytes.now) }
         ensures read { IfOk result (λ reader. HasRead first_blank [] reader) }
-        ensures fault { IfErr result (λ fault. (fault.kind ≡ Utf8) × IsFault bytes.now first_blank fault.kind fault.line) }
+        ensures fault { IfErr result (λ fault. (fault.kind ≡ Utf8)
+            × IsFault bytes.now first_blank fault.kind fault.line) }
     {
         Reader::with_labels(alloc, Labels::hashed(alloc, hasher, first_blank), bytes)
     }
@@ -175,9 +189,14 @@ impl<'a> Reader<'a> {
     /// The first fault from left to right, with its line. `NqFaultKind::Memory` may come at any token, with the line of that token.
     pub fn next(&mut self) -> Result<Option<Quad>, NqFault>
         ensures bytes { self.new.bytes ≡ self.old.bytes }
-        ensures next { IfOk result (λ next. (first : ℕ) (quads : List Statement) → HasRead first quads self.old → HasComeTo first quads next self.new) }
-        ensures shorter { IfOk result (λ next. OnSome next (length self.new.rest < length self.old.rest)) }
-        ensures fault { IfErr result (λ fault. (first : ℕ) (quads : List Statement) → HasRead first quads self.old → IsFault self.old.bytes first fault.kind fault.line) }
+        ensures next { IfOk result (λ next. (first : ℕ) (quads : List Statement)
+            → HasRead first quads self.old → HasComeTo first quads next self.new) }
+        ensures shorter { IfOk result
+            (λ next. OnSome next (length self.new.rest < length self.old.rest)) }
+        ensures after { IfOk result (λ next. OnSome next (IsAfterStatement self.new)) }
+        ensures fault { IfErr result (λ fault. (first : ℕ) (quads : List Statement)
+            → HasRead first quads self.old → IsFault self.old.bytes first fault.kind
+            fault.line) }
     {
         match read_statement(
             self.alloc,
@@ -197,14 +216,15 @@ impl<'a> Reader<'a> {
         }
     }
 
-    /// Running out of memory, with the line of the next token: for a caller that finds no room for what was read.
+    /// Running out of memory, with the line of the statement that was handed out last: for a caller that finds no room for it.
     pub fn out_of_memory(&self) -> NqFault
         ensures kind { result.kind ≡ Memory }
-        ensures fault { (first : ℕ) (quads : List Statement) → HasRead first quads self.now → IsFault self.now.bytes first result.kind result.line }
+        ensures fault { (first : ℕ) (quads : List Statement) → HasRead first quads self.now
+            → IsAfterStatement self.now → IsFault self.now.bytes first result.kind result.line }
     {
-        let left = behind_gap(self.rest).len();
+        // (the `.` of the statement takes one byte)
         NqFault {
-            line: self.line(left),
+            line: self.line(self.rest.len() + 1),
             kind: NqFaultKind::Memory,
         }
     }

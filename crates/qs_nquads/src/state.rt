@@ -1,7 +1,7 @@
 //! Fronts of a text, a character at a time.
 
 ghost use Rattle.std.specs.Prelude.{◌≡◌, MatchOption, []};
-ghost use Rattle.qs_lex_regular.specs.Longest.{advance, here};
+ghost use Rattle.qs_lex_regular.specs.inner.Best.{advance, here};
 ghost use Rattle.qs_nquads.specs.Table.{is_string_char, is_label_start, is_label_char};
 ghost use Rattle.qs_nquads.specs.inner.State.{begun, left};
 ghost use Rattle.qs_nquads.specs.declared.state.State.TheVariants as state;
@@ -82,7 +82,8 @@ fn is_label_char(c: char) -> bool
 
 #[tactic(auto, using(crate::proofs::Apart::iri_backslash, crate::proofs::Apart::iri_greater, crate::proofs::Apart::greater_iri, crate::proofs::Apart::backslash_iri))]
 fn in_iri(c: char) -> Option<State>
-    ensures { MatchOption result (advance (left state.Iri) c ≡ []) (λ next. advance (left state.Iri) c ≡ left next) }
+    ensures { MatchOption result (advance (left state.Iri) c ≡ [])
+        (λ next. advance (left state.Iri) c ≡ left next) }
 {
     if is_iri_char(c) {
         Some(State::Iri)
@@ -96,7 +97,8 @@ fn in_iri(c: char) -> Option<State>
 }
 
 fn behind_iri_backslash(c: char) -> Option<State>
-    ensures { MatchOption result (advance (left state.IriBackslash) c ≡ []) (λ next. advance (left state.IriBackslash) c ≡ left next) }
+    ensures { MatchOption result (advance (left state.IriBackslash) c ≡ [])
+        (λ next. advance (left state.IriBackslash) c ≡ left next) }
 {
     if c == 'u' {
         Some(State::IriHex(HexDigits::new(3)))
@@ -108,7 +110,8 @@ fn behind_iri_backslash(c: char) -> Option<State>
 }
 
 fn in_iri_escape(digits: HexDigits, c: char) -> Option<State>
-    ensures { MatchOption result (advance (left (state.IriHex digits)) c ≡ []) (λ next. advance (left (state.IriHex digits)) c ≡ left next) }
+    ensures { MatchOption result (advance (left (state.IriHex digits)) c ≡ [])
+        (λ next. advance (left (state.IriHex digits)) c ≡ left next) }
 {
     match push(digits, c) {
         PushResult::Digit(next) => Some(State::IriHex(next)),
@@ -125,7 +128,8 @@ fn in_iri_escape(digits: HexDigits, c: char) -> Option<State>
 
 #[tactic(auto, using(crate::proofs::Apart::string_quote, crate::proofs::Apart::string_backslash, crate::proofs::Apart::quote_string, crate::proofs::Apart::backslash_string))]
 fn in_string(c: char) -> Option<State>
-    ensures { MatchOption result (advance (left state.String) c ≡ []) (λ next. advance (left state.String) c ≡ left next) }
+    ensures { MatchOption result (advance (left state.String) c ≡ [])
+        (λ next. advance (left state.String) c ≡ left next) }
 {
     if is_string_char(c) {
         Some(State::String)
@@ -140,7 +144,8 @@ fn in_string(c: char) -> Option<State>
 
 #[tactic(auto, using(crate::proofs::Apart::escaped_u, crate::proofs::Apart::escaped_long_u))]
 fn behind_string_backslash(c: char) -> Option<State>
-    ensures { MatchOption result (advance (left state.StringBackslash) c ≡ []) (λ next. advance (left state.StringBackslash) c ≡ left next) }
+    ensures { MatchOption result (advance (left state.StringBackslash) c ≡ [])
+        (λ next. advance (left state.StringBackslash) c ≡ left next) }
 {
     if is_escaped(c) {
         Some(State::String)
@@ -154,7 +159,8 @@ fn behind_string_backslash(c: char) -> Option<State>
 }
 
 fn in_string_escape(digits: HexDigits, c: char) -> Option<State>
-    ensures { MatchOption result (advance (left (state.StringHex digits)) c ≡ []) (λ next. advance (left (state.StringHex digits)) c ≡ left next) }
+    ensures { MatchOption result (advance (left (state.StringHex digits)) c ≡ [])
+        (λ next. advance (left (state.StringHex digits)) c ≡ left next) }
 {
     match push(digits, c) {
         PushResult::Digit(next) => Some(State::StringHex(next)),
@@ -171,7 +177,8 @@ fn in_string_escape(digits: HexDigits, c: char) -> Option<State>
 
 #[tactic(auto, using(crate::proofs::Apart::letter_dash))]
 fn in_tag(c: char) -> Option<State>
-    ensures { MatchOption result (advance (left state.Tag) c ≡ []) (λ next. advance (left state.Tag) c ≡ left next) }
+    ensures { MatchOption result (advance (left state.Tag) c ≡ [])
+        (λ next. advance (left state.Tag) c ≡ left next) }
 {
     if is_letter(c) {
         Some(State::Tag)
@@ -184,7 +191,8 @@ fn in_tag(c: char) -> Option<State>
 
 #[tactic(auto, using(crate::proofs::Apart::letter_or_digit_dash))]
 fn in_tag_part(c: char) -> Option<State>
-    ensures { MatchOption result (advance (left state.TagPart) c ≡ []) (λ next. advance (left state.TagPart) c ≡ left next) }
+    ensures { MatchOption result (advance (left state.TagPart) c ≡ [])
+        (λ next. advance (left state.TagPart) c ≡ left next) }
 {
     if is_letter_or_digit(c) {
         Some(State::TagPart)
@@ -197,7 +205,8 @@ fn in_tag_part(c: char) -> Option<State>
 
 #[tactic(auto, using(crate::proofs::Apart::label_dot))]
 fn in_label(c: char) -> Option<State>
-    ensures { MatchOption result (advance (left state.Label) c ≡ []) (λ next. advance (left state.Label) c ≡ left next) }
+    ensures { MatchOption result (advance (left state.Label) c ≡ [])
+        (λ next. advance (left state.Label) c ≡ left next) }
 {
     if is_label_char(c) {
         Some(State::Label)
@@ -210,7 +219,8 @@ fn in_label(c: char) -> Option<State>
 
 #[tactic(auto, using(crate::proofs::Apart::label_dot))]
 fn behind_label_dot(c: char) -> Option<State>
-    ensures { MatchOption result (advance (left state.LabelDot) c ≡ []) (λ next. advance (left state.LabelDot) c ≡ left next) }
+    ensures { MatchOption result (advance (left state.LabelDot) c ≡ [])
+        (λ next. advance (left state.LabelDot) c ≡ left next) }
 {
     if is_label_char(c) {
         Some(State::Label)
@@ -263,7 +273,8 @@ impl State {
 
     /// What has been read with one more character, or `None` where no front goes on so.
     pub fn step(self, c: char) -> Option<State>
-        ensures { MatchOption result (advance (left self) c ≡ []) (λ next. advance (left self) c ≡ left next) }
+        ensures { MatchOption result (advance (left self) c ≡ [])
+            (λ next. advance (left self) c ≡ left next) }
     {
         match self {
             State::Iri => in_iri(c),

@@ -2,9 +2,9 @@
 
 ghost use Rattle.std.specs.Prelude.{◌≡◌, ◌≢◌, Ok, Err, MatchResult};
 ghost use Rattle.qs_terms.specs.Literal.{typed, xsd_string};
-ghost use Rattle.qs_terms.specs.OrOutOf.{OrOutOf};
+ghost use Rattle.qs_terms.specs.inner.OrOutOf.{OrOutOf};
 ghost use Rattle.qs_nquads.specs.declared.fault.NqFaultKind.TheVariants.{Memory};
-ghost use Rattle.qs_nquads.specs.StatementState.{statement, may_end};
+ghost use Rattle.qs_nquads.specs.inner.StatementState.{statement, may_end};
 ghost use Rattle.qs_nquads.specs.inner.Unread.{GoesOn};
 
 use crate::fault::NqFaultKind;
@@ -72,7 +72,9 @@ fn plain(alloc: Global, form: Text) -> Result<Lit, NqFaultKind>
 }
 
 fn at_start(place: &mut StatementState, part: Part) -> Result<Option<Quad>, NqFaultKind>
-    ensures { MatchResult result (λ next. GoesOn (Rattle.qs_nquads.specs.StatementState.at_start part) next place.new) (λ fault. Rattle.qs_nquads.specs.StatementState.at_start part ≡ Err fault) }
+    ensures { MatchResult result
+        (λ next. GoesOn (Rattle.qs_nquads.specs.inner.StatementState.at_start part) next place.new)
+        (λ fault. Rattle.qs_nquads.specs.inner.StatementState.at_start part ≡ Err fault) }
 {
     match part {
         Part::Iri(iri) => {
@@ -96,7 +98,10 @@ fn at_subject(
     subject: Node,
     part: Part,
 ) -> Result<Option<Quad>, NqFaultKind>
-    ensures { MatchResult result (λ next. GoesOn (Rattle.qs_nquads.specs.StatementState.at_subject subject part) next place.new) (λ fault. Rattle.qs_nquads.specs.StatementState.at_subject subject part ≡ Err fault) }
+    ensures { MatchResult result
+        (λ next. GoesOn (Rattle.qs_nquads.specs.inner.StatementState.at_subject subject part) next
+        place.new) (λ fault. Rattle.qs_nquads.specs.inner.StatementState.at_subject subject part
+        ≡ Err fault) }
 {
     match part {
         Part::Iri(predicate) => {
@@ -113,7 +118,11 @@ fn at_predicate(
     predicate: Iri,
     part: Part,
 ) -> Result<Option<Quad>, NqFaultKind>
-    ensures { MatchResult result (λ next. GoesOn (Rattle.qs_nquads.specs.StatementState.at_predicate subject predicate part) next place.new) (λ fault. Rattle.qs_nquads.specs.StatementState.at_predicate subject predicate part ≡ Err fault) }
+    ensures { MatchResult result
+        (λ next. GoesOn (Rattle.qs_nquads.specs.inner.StatementState.at_predicate subject predicate
+        part) next place.new)
+        (λ fault. Rattle.qs_nquads.specs.inner.StatementState.at_predicate subject predicate part
+        ≡ Err fault) }
 {
     match part {
         Part::Iri(iri) => {
@@ -145,7 +154,11 @@ fn at_object(
     object: Term,
     part: Part,
 ) -> Result<Option<Quad>, NqFaultKind>
-    ensures { MatchResult result (λ next. GoesOn (Rattle.qs_nquads.specs.StatementState.at_object subject predicate object part) next place.new) (λ fault. Rattle.qs_nquads.specs.StatementState.at_object subject predicate object part ≡ Err fault) }
+    ensures { MatchResult result
+        (λ next. GoesOn (Rattle.qs_nquads.specs.inner.StatementState.at_object subject predicate
+        object part) next place.new)
+        (λ fault. Rattle.qs_nquads.specs.inner.StatementState.at_object subject predicate object
+        part ≡ Err fault) }
 {
     match part {
         Part::Iri(name) => {
@@ -178,7 +191,11 @@ fn at_form(
     form: Text,
     part: Part,
 ) -> Result<Option<Quad>, NqFaultKind>
-    ensures { MatchResult result (λ next. GoesOn (Rattle.qs_nquads.specs.StatementState.at_form subject predicate form part) next place.new) (λ fault. fault ≢ Memory → Rattle.qs_nquads.specs.StatementState.at_form subject predicate form part ≡ Err fault) }
+    ensures { MatchResult result
+        (λ next. GoesOn (Rattle.qs_nquads.specs.inner.StatementState.at_form subject predicate form
+        part) next place.new) (λ fault. fault ≢ Memory
+        → Rattle.qs_nquads.specs.inner.StatementState.at_form subject predicate form part
+        ≡ Err fault) }
 {
     match part {
         Part::Tag(tag) => match Lit::with_tag(alloc, form, tag) {
@@ -212,7 +229,11 @@ fn at_typed(
     form: Text,
     part: Part,
 ) -> Result<Option<Quad>, NqFaultKind>
-    ensures { MatchResult result (λ next. GoesOn (Rattle.qs_nquads.specs.StatementState.at_typed subject predicate form part) next place.new) (λ fault. fault ≢ Memory → Rattle.qs_nquads.specs.StatementState.at_typed subject predicate form part ≡ Err fault) }
+    ensures { MatchResult result
+        (λ next. GoesOn (Rattle.qs_nquads.specs.inner.StatementState.at_typed subject predicate form
+        part) next place.new) (λ fault. fault ≢ Memory
+        → Rattle.qs_nquads.specs.inner.StatementState.at_typed subject predicate form part
+        ≡ Err fault) }
 {
     match part {
         Part::Iri(datatype) => match Lit::with_datatype(alloc, form, datatype) {
@@ -238,7 +259,11 @@ fn at_label(
     name: Node,
     part: Part,
 ) -> Result<Option<Quad>, NqFaultKind>
-    ensures { MatchResult result (λ next. GoesOn (Rattle.qs_nquads.specs.StatementState.at_label subject predicate object name part) next place.new) (λ fault. Rattle.qs_nquads.specs.StatementState.at_label subject predicate object name part ≡ Err fault) }
+    ensures { MatchResult result
+        (λ next. GoesOn (Rattle.qs_nquads.specs.inner.StatementState.at_label subject predicate
+        object name part) next place.new)
+        (λ fault. Rattle.qs_nquads.specs.inner.StatementState.at_label subject predicate object name
+        part ≡ Err fault) }
 {
     match part {
         Part::Dot => {
@@ -250,7 +275,9 @@ fn at_label(
 }
 
 fn at_done(place: &mut StatementState, part: Part) -> Result<Option<Quad>, NqFaultKind>
-    ensures { MatchResult result (λ next. GoesOn (Rattle.qs_nquads.specs.StatementState.at_done part) next place.new) (λ fault. Rattle.qs_nquads.specs.StatementState.at_done part ≡ Err fault) }
+    ensures { MatchResult result
+        (λ next. GoesOn (Rattle.qs_nquads.specs.inner.StatementState.at_done part) next place.new)
+        (λ fault. Rattle.qs_nquads.specs.inner.StatementState.at_done part ≡ Err fault) }
 {
     match part {
         Part::LineEnd => {
@@ -272,7 +299,10 @@ pub fn after(
     place: &mut StatementState,
     part: Part,
 ) -> Result<Option<Quad>, NqFaultKind>
-    ensures { MatchResult result (λ next. GoesOn (Rattle.qs_nquads.specs.StatementState.after place.old part) next place.new) (λ fault. fault ≢ Memory → Rattle.qs_nquads.specs.StatementState.after place.old part ≡ Err fault) }
+    ensures { MatchResult result
+        (λ next. GoesOn (Rattle.qs_nquads.specs.inner.StatementState.after place.old part) next
+        place.new) (λ fault. fault ≢ Memory → Rattle.qs_nquads.specs.inner.StatementState.after
+        place.old part ≡ Err fault) }
 {
     match mem::replace(place, StatementState::Start) {
         StatementState::Start => at_start(place, part),

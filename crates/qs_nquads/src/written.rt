@@ -60,7 +60,8 @@ fn is_xsd_string(text: &str) -> bool
 }
 
 fn push_suffix(out: &mut Vec<u8>, datatype: &str, tag: Option<&str>) -> Result<(), AllocError>
-    ensures { OnOk result (out.new.items ≡ out.old.items ++ suffix datatype.now (option_copied tag.entry)) }
+    ensures { OnOk result (out.new.items ≡ out.old.items ++ suffix datatype.now
+        (option_copied tag.entry)) }
 {
     if let Some(tag) = tag {
         out.push(b'@')?;
@@ -74,7 +75,9 @@ fn push_suffix(out: &mut Vec<u8>, datatype: &str, tag: Option<&str>) -> Result<(
 }
 
 fn push_literal(out: &mut Vec<u8>, literal: &Lit) -> Result<(), AllocError>
-    ensures { OnOk result (out.new.items ≡ out.old.items ++ (quoted literal.now.form ++ suffix literal.now.datatype literal.now.tag)) }
+    ensures { OnOk result
+        (out.new.items ≡ out.old.items
+        ++ (quoted literal.now.form ++ suffix literal.now.datatype literal.now.tag)) }
 {
     push_quoted(out, literal.form())?;
     push_suffix(out, literal.datatype(), literal.tag())

@@ -9,7 +9,7 @@ ghost use Rattle.qs_expr.specs.inner.Cell.{denoted, row_solution, FitsCell, Fits
 ghost use Rattle.qs_expr.specs.inner.Evaluated.{Evaluates};
 ghost use Rattle.qs_expr.specs.inner.Scratch.{IsTable, Grows};
 ghost use Rattle.qs_ops_walk.specs.inner.Stream.{AreToCome, GivesOne, PassesAlike, solution_if};
-ghost use Rattle.qs_plan.specs.Plans.{plan_list};
+ghost use Rattle.qs_plan.specs.inner.Plans.{plan_list};
 
 use qs_expr::{Cell, Row, Scratch};
 use qs_expr_meaning::{Expr, ExprFault};
@@ -42,7 +42,10 @@ impl<'a, V: View> Op<'a, V> {
     /// # Errors
     /// `QFault::Memory` where memory runs out.
     pub fn start(alloc: Global, plan: &'a Plan, view: &'a V) -> Result<Op<'a, V>, QFault>
-        ensures rows { IfOk result (λ o. AreToCome (plan_list plan.now (V.content view.now).quads (active_graph (V.content view.now) (V.default_seen view.now) Default)) o.rows) }
+        ensures rows { IfOk result
+            (λ o. AreToCome
+            (plan_list plan.now (V.content view.now).quads
+            (active_graph (V.content view.now) (V.default_seen view.now) Default)) o.rows) }
         ensures known { IfOk result (λ o. o.known ≡ (V.content view.now).known) }
         ensures table { IfOk result (λ o. IsTable o.known o.table) }
         ensures fault { IfErr result (λ f. f ≡ Memory) }
@@ -61,7 +64,10 @@ impl<'a, V: View> Op<'a, V> {
         view: &'a V,
         active: Active,
     ) -> Result<Op<'a, V>, QFault>
-        ensures rows { IfOk result (λ o. AreToCome (plan_list plan.now (V.content view.now).quads (active_graph (V.content view.now) (V.default_seen view.now) active)) o.rows) }
+        ensures rows { IfOk result
+            (λ o. AreToCome
+            (plan_list plan.now (V.content view.now).quads
+            (active_graph (V.content view.now) (V.default_seen view.now) active)) o.rows) }
         ensures known { IfOk result (λ o. o.known ≡ (V.content view.now).known) }
         ensures table { IfOk result (λ o. IsTable o.known o.table) }
         ensures fault { IfErr result (λ f. f ≡ Memory) }
@@ -82,7 +88,10 @@ impl<'a, V: View> Op<'a, V> {
         active: Active,
         columns: &'a [usize],
     ) -> Result<Op<'a, V>, QFault>
-        ensures rows { IfOk result (λ o. AreToCome (plan_list plan.now (V.content view.now).quads (active_graph (V.content view.now) (V.default_seen view.now) active)) o.rows) }
+        ensures rows { IfOk result
+            (λ o. AreToCome
+            (plan_list plan.now (V.content view.now).quads
+            (active_graph (V.content view.now) (V.default_seen view.now) active)) o.rows) }
         ensures known { IfOk result (λ o. o.known ≡ (V.content view.now).known) }
         ensures table { IfOk result (λ o. IsTable o.known o.table) }
         ensures fault { IfErr result (λ f. f ≡ Memory) }
@@ -99,7 +108,9 @@ impl<'a, V: View> Op<'a, V> {
     /// `QFault::Memory` where memory runs out; each further call answers the same.
     #[inline(always)]
     pub fn next(&mut self) -> Result<Option<Row>, QFault>
-        ensures rows { IfOk result (λ o. GivesOne self.old.rows (solution_if self.new.known self.new.table o) self.new.rows) }
+        ensures rows { IfOk result
+            (λ o. GivesOne self.old.rows (solution_if self.new.known self.new.table o)
+            self.new.rows) }
         ensures fits { IfOk result (λ o. IfSome o (λ m. FitsRow self.new.known self.new.table m)) }
         ensures fault { IfErr result (λ f. f ≡ Memory) }
         ensures failed { OnErr result (self.new.rows ≡ None) }
@@ -115,7 +126,8 @@ impl<'a, V: View> Op<'a, V> {
     /// made, and none of another term is passed over. So a caller who asks for distinct terms goes over fewer rows.
     pub fn skip_alike(&mut self, columns: &[usize], row: &Row)
         requires { FitsRow self.old.known self.old.table row.now }
-        ensures rows { PassesAlike columns.now (row_solution self.old.known self.old.table row.now) self.old.rows self.new.rows }
+        ensures rows { PassesAlike columns.now (row_solution self.old.known self.old.table row.now)
+            self.old.rows self.new.rows }
         ensures over { self.old.is_over ≡ true → self.new.is_over ≡ true }
         ensures known { self.new.known ≡ self.old.known }
         ensures table { self.new.table ≡ self.old.table }
@@ -145,7 +157,8 @@ impl<'a, V: View> Op<'a, V> {
     /// `TypeError` where the expression errs. `Memory` where memory runs out: for a value, and by CONCAT.
     pub fn eval(&mut self, expr: &Expr, row: &Row) -> Result<Cell, ExprFault>
         requires { FitsRow self.old.known self.old.table row.now }
-        ensures value { Evaluates self.old.known self.old.table self.new.table row.now expr.now result }
+        ensures value { Evaluates self.old.known self.old.table self.new.table row.now expr.now
+            result }
         ensures rows { self.new.rows ≡ self.old.rows }
         ensures over { self.new.is_over ≡ self.old.is_over }
         ensures known { self.new.known ≡ self.old.known }

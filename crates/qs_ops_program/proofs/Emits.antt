@@ -8,7 +8,7 @@ use Rattle.qs_algebra_patterns.specs.Basic.{Graph}
 use Rattle.qs_plan_meaning.specs.declared.stage.Group.{Group}
 use Rattle.qs_plan_meaning.specs.declared.stage.Stage.{Stage}
 use Rattle.qs_plan_meaning.specs.declared.stage.Stage.TheVariants.{Union}
-use Rattle.qs_plan_meaning.specs.Stages.{gives, through}
+use Rattle.qs_plan_meaning.specs.inner.Stages.{gives, through}
 use Rattle.qs_ops_program.specs.inner.Emitted.{Emitted, Forked}
 use Rattle.qs_ops_program.specs.inner.Flow.{Instruction, IsForward, is_union, flow}
 use Rattle.qs_ops_program.specs.inner.Heights.{IsLow, most, stages_height}

@@ -4,7 +4,7 @@ use Rattle.std.specs.List.{AllByRecursion, flat_map}
 use Rattle.std.proofs.lemmas.List.{get_or_past}
 use Rattle.qs_algebra_solutions.specs.Solution.{Solution}
 use Rattle.qs_plan_meaning.specs.declared.stage.Stage.{Stage}
-use Rattle.qs_plan_meaning.specs.Stages.{Made}
+use Rattle.qs_plan_meaning.specs.inner.Stages.{Made}
 use Rattle.qs_ops_program.specs.inner.Flow.{is_union}
 use Rattle.qs_ops_program.specs.inner.Flow.{Instruction, IsForward, finished, nothing, at, instr_made, meanings, flow}
 use Rattle.qs_ops_program.proofs.Positions.{same_functions, LooksBefore, values_length, values_keep, values_at}

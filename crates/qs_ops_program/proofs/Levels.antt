@@ -18,8 +18,8 @@ use Rattle.qs_plan_meaning.specs.declared.stage.Group.{Group, fold-Group, the_le
 use Rattle.qs_plan_meaning.specs.declared.stage.Stage.{Stage, fold-roll-Stage, the_lemmas}
 use Rattle.qs_plan_meaning.specs.declared.stage.Stage.TheOpen as level
 use Rattle.qs_plan_meaning.specs.declared.stage.Stage.TheVariants.{Triple, Path, Exists, Names, Name, Filter, Bind, Values, Union, Optional, Fed, Minus, Apart, rolls-Triple, rolls-Path, rolls-Exists, rolls-Names, rolls-Name, rolls-Filter, rolls-Bind, rolls-Values, rolls-Union, rolls-Optional, rolls-Fed, rolls-Minus, rolls-Apart}
-use Rattle.qs_plan_meaning.specs.Scans.{extensions, path_extensions}
-use Rattle.qs_plan_meaning.specs.Stages.{Made, looked, if_named, each_named, kept_if, aside, fed_rows, along, gives_level, group_level, gives, through}
+use Rattle.qs_plan_meaning.specs.inner.Scans.{extensions, path_extensions}
+use Rattle.qs_plan_meaning.specs.inner.Stages.{Made, looked, if_named, each_named, kept_if, aside, fed_rows, along, gives_level, group_level, gives, through}
 use Rattle.std.proofs.lemmas.Grind.{flat_map-append}
 
 module _ (width : ℕ) (quads : List Statement) (active : Graph) where

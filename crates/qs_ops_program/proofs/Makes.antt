@@ -5,7 +5,7 @@ use Rattle.std.proofs.lemmas.Grind.{flat_map-append}
 use Rattle.std.proofs.lemmas.List.{get_or_at, length-append}
 use Rattle.qs_algebra_solutions.specs.Solution.{Solution}
 use Rattle.qs_plan_meaning.specs.declared.stage.Stage.{Stage}
-use Rattle.qs_plan_meaning.specs.Stages.{Made, along}
+use Rattle.qs_plan_meaning.specs.inner.Stages.{Made, along}
 use Rattle.qs_ops_program.specs.inner.Flow.{is_union}
 use Rattle.qs_ops_program.specs.inner.Flow.{Instruction, IsForward, meanings, flow}
 use Rattle.qs_ops_program.proofs.Levels.{flat_flat, one_each, flat_ap}

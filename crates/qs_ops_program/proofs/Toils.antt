@@ -6,7 +6,7 @@ use Rattle.std.proofs.lemmas.List.Sums.{sum_by-cons}
 use Rattle.std.proofs.lemmas.List.Sorted.{sum_by-IsPermutation}
 use Rattle.qs_algebra_solutions.specs.Solution.{Solution}
 use Rattle.qs_plan_meaning.specs.declared.stage.Stage.{Stage}
-use Rattle.qs_plan_meaning.specs.Stages.{Made}
+use Rattle.qs_plan_meaning.specs.inner.Stages.{Made}
 use Rattle.qs_ops_program.specs.inner.Flow.{is_union}
 use Rattle.qs_ops_program.specs.inner.Flow.{Instruction, IsForward}
 use Rattle.qs_ops_program.specs.inner.Toil.{summed, Moves, no_moves, moves_at, instr_moves, all_moves, toil}

@@ -1,4 +1,4 @@
--- What serves proofs and the layers between: no contract of the product cites it.
+-- For proofs and the layers between: no clause of the headline cites a definition of these files.
 pub mod Flow
 pub mod Toil
 pub mod Heights

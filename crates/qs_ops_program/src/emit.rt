@@ -69,7 +69,8 @@ fn emit_branches<'a>(
 ) -> Result<Vec<usize>, AllocError>
     requires next { next ≤ length code.old.items }
     requires forward { IsForward code.old.items }
-    ensures { IfOk result (λ starts. Forked code.old.items code.new.items starts.items next branches.now) }
+    ensures { IfOk result (λ starts. Forked code.old.items code.new.items starts.items next
+        branches.now) }
 {
     let mut starts = Vec::new(alloc);
     for branch in branches {
@@ -87,7 +88,8 @@ pub fn compile<'a>(alloc: Global, stages: &'a [Stage]) -> Result<Program<'a>, Al
     ensures start { IfOk result (λ p. p.start ≤ length p.code.items) }
     ensures forward { IfOk result (λ p. IsForward p.code.items) }
     ensures makes { IfOk result (λ p. Carries p.code.items p.start stages.now) }
-    ensures low { IfOk result (λ p. AllByRecursion (IsLow (stages_height stages.now)) p.code.items) }
+    ensures low { IfOk result
+        (λ p. AllByRecursion (IsLow (stages_height stages.now)) p.code.items) }
 {
     let mut code = Vec::new(alloc);
     let start = emit_stages(alloc, stages, 0, &mut code)?;

@@ -10,7 +10,8 @@ use Rattle.qs_terms.specs.declared.term.Term.{Term}
 use Rattle.qs_store.specs.Content.{Content}
 use Rattle.qs_store.specs.declared.default_graph.DefaultGraph.{DefaultGraph}
 use Rattle.qs_store.proofs.Members.{here, there}
-use Rattle.qs_paths_meaning.specs.Pair.{Pair, same_pair}
+use Rattle.qs_paths_meaning.specs.Pair.{Pair}
+use Rattle.qs_paths_meaning.specs.inner.Pair.{same_pair}
 use Rattle.qs_paths_meaning.specs.Pairs.{pairs}
 use Rattle.qs_paths_meaning.proofs.Arms.{filter_same_by, same_pair-Decides}
 use Rattle.qs_algebra_patterns.specs.Basic.{end_of, is_repeated, Graph}
@@ -24,7 +25,7 @@ use Rattle.qs_paths.proofs.Lists.{map_has, member_of_map}
 use Rattle.qs_paths.specs.inner.Coming.{AreAll, GivesPair, IsToCome}
 use Rattle.qs_paths.specs.declared.stream.Pairs.{Pairs}
 use Rattle.qs_paths.specs.inner.Seen.{known_in}
-use Rattle.qs_plan_meaning.specs.Scans.{path_pairs}
+use Rattle.qs_plan_meaning.specs.inner.Scans.{path_pairs}
 use Rattle.qs_ops_scans.specs.inner.Paths.{denoted_pair, pair_if, ArePairs}
 use Rattle.qs_ops_scans.specs.inner.Kept.{keeps, kept_with, AreCollected, IsTaken}
 

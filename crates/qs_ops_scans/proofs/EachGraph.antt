@@ -12,12 +12,13 @@ use Rattle.qs_terms.specs.Statement.{Statement, same_graph, same_statement}
 use Rattle.qs_terms.specs.declared.term.Term.{Term}
 use Rattle.qs_terms.proofs.FirstOnes.{distinct_kept}
 use Rattle.qs_terms.proofs.SameStatement.{same_graph-Decides, same_statement-Decides}
-use Rattle.qs_dict.specs.Dict.{term_at}
+use Rattle.qs_dict.specs.inner.Dict.{term_at}
 use Rattle.qs_index.specs.inner.Entry.{IsAscending}
 use Rattle.qs_index.specs.inner.Permutation.{named_order_used, turned}
 use Rattle.qs_index.specs.declared.permutation.Permutation.{Permutation}
 use Rattle.qs_store.specs.inner.ActiveGraph.{IsSeen, is_named}
-use Rattle.qs_store.specs.Content.{Content, HasKnownTerms}
+use Rattle.qs_store.specs.Content.{Content}
+use Rattle.qs_store.specs.inner.Content.{HasKnownTerms}
 use Rattle.qs_store.specs.inner.Entries.{or_blank}
 use Rattle.qs_store.proofs.Members.{filter_has, here, member_of_filter, there}
 use Rattle.qs_algebra_solutions.specs.Solution.{Solution, term_at as bound_term}
@@ -29,8 +30,8 @@ use Rattle.qs_expr.proofs.Finding.{some_of}
 use Rattle.qs_expr.proofs.Rows.{bound_fits, bound_terms}
 use Rattle.qs_paths.proofs.Lists.{map_has, member_of_map, same_members}
 use Rattle.qs_paths.proofs.Scanned.{number_there}
-use Rattle.qs_plan_meaning.specs.Scans.{bound_triple, extensions}
-use Rattle.qs_plan_meaning.specs.Stages.{graph_named}
+use Rattle.qs_plan_meaning.specs.inner.Scans.{bound_triple, extensions}
+use Rattle.qs_plan_meaning.specs.inner.Stages.{graph_named}
 use Rattle.qs_ops_scans.specs.inner.Each.{each_extension, misses}
 use Rattle.qs_ops_scans.specs.inner.Makes.{AreMade, Makes}
 use Rattle.qs_ops_scans.specs.inner.Prepared.{prepared_triple}

@@ -10,7 +10,8 @@ use Rattle.qs_terms.specs.declared.term.Term.{Term}
 use Rattle.qs_terms.proofs.SameTerm.{same_term-Decides}
 use Rattle.qs_store.specs.Content.{Content}
 use Rattle.qs_store.specs.declared.default_graph.DefaultGraph.{DefaultGraph}
-use Rattle.qs_paths_meaning.specs.Pair.{Pair, same_pair}
+use Rattle.qs_paths_meaning.specs.Pair.{Pair}
+use Rattle.qs_paths_meaning.specs.inner.Pair.{same_pair}
 use Rattle.qs_paths_meaning.specs.Pairs.{pairs}
 use Rattle.qs_paths_meaning.specs.Steps.{is_between}
 use Rattle.qs_paths_meaning.proofs.Arms.{filter_same_by, same_pair-Decides}
@@ -27,7 +28,7 @@ use Rattle.qs_expr.proofs.Growth.{goes_on}
 use Rattle.qs_paths.specs.inner.Coming.{IsToCome}
 use Rattle.qs_paths.specs.declared.stream.Pairs.{Pairs}
 use Rattle.qs_paths.specs.inner.Seen.{known_in}
-use Rattle.qs_plan_meaning.specs.Scans.{path_pairs}
+use Rattle.qs_plan_meaning.specs.inner.Scans.{path_pairs}
 use Rattle.qs_ops_scans.specs.inner.Paths.{ArePairs, Serve, ServeBetween}
 use Rattle.qs_ops_scans.specs.declared.bound.RowEnds.{RowEnds}
 use Rattle.qs_ops_scans.specs.inner.Given.{IsGiven, IsOutside}

@@ -7,7 +7,8 @@ use Rattle.qs_terms.specs.Term.{same_term}
 use Rattle.qs_terms.specs.declared.term.Term.{Term}
 use Rattle.qs_terms.proofs.SameTerm.{same_term-Decides}
 use Rattle.qs_syntax_ast.specs.declared.path.Path.{Path}
-use Rattle.qs_paths_meaning.specs.Pair.{Pair, same_pair}
+use Rattle.qs_paths_meaning.specs.Pair.{Pair}
+use Rattle.qs_paths_meaning.specs.inner.Pair.{same_pair}
 use Rattle.qs_paths_meaning.specs.Pairs.{AtEnds, pairs}
 use Rattle.qs_paths_meaning.specs.Steps.{Graph, agrees, is_between}
 use Rattle.qs_paths_meaning.proofs.Arms.{filter_same_by, same_pair-Decides}

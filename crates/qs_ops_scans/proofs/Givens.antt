@@ -7,11 +7,12 @@ use Rattle.qs_terms.specs.Statement.{Statement}
 use Rattle.qs_terms.specs.Term.{same_term}
 use Rattle.qs_terms.specs.declared.term.Term.{Term}
 use Rattle.qs_terms.proofs.SameTerm.{same_term-Decides}
-use Rattle.qs_dict.specs.Dict.{number_of, term_at}
+use Rattle.qs_dict.specs.inner.Dict.{number_of, term_at}
 use Rattle.qs_dict.proofs.Numbers.{exact_number}
 use Rattle.qs_index.specs.inner.Agreeing.{fits}
 use Rattle.qs_store.specs.inner.ActiveGraph.{IsSeen}
-use Rattle.qs_store.specs.Content.{Content, HasKnownTerms}
+use Rattle.qs_store.specs.Content.{Content}
+use Rattle.qs_store.specs.inner.Content.{HasKnownTerms}
 use Rattle.qs_store.proofs.TriplesSaid.{same_number}
 use Rattle.qs_algebra_solutions.specs.Solution.{Solution, compatible_terms}
 use Rattle.qs_algebra_patterns.specs.declared.pattern.Slot.{Slot}

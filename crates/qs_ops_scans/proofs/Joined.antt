@@ -24,8 +24,8 @@ use Rattle.qs_expr.specs.declared.cell.Cell.TheVariants.{Known}
 use Rattle.qs_expr.specs.inner.Cell.{Cells, cell_at, denoted_if, row_solution, FitsRow}
 use Rattle.qs_expr.proofs.RowTerms.{term_at_row}
 use Rattle.qs_expr.proofs.Rows.{set_fits, set_terms}
-use Rattle.qs_plan_meaning.specs.Scans.{bound_at, bound_slot, bound_triple, extensions, then_bound}
-use Rattle.qs_plan_meaning.specs.Stages.{graph_named}
+use Rattle.qs_plan_meaning.specs.inner.Scans.{bound_at, bound_slot, bound_triple, extensions, then_bound}
+use Rattle.qs_plan_meaning.specs.inner.Stages.{graph_named}
 use Rattle.qs_ops_scans.specs.inner.Each.{each_extension, each_joined, misses, place_misses}
 use Rattle.qs_ops_scans.specs.inner.Makes.{AreMade, Makes}
 use Rattle.qs_ops_scans.specs.inner.Prepared.{place_of, prepared_triple}

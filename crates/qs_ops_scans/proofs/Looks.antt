@@ -6,7 +6,7 @@ use Rattle.qs_terms.specs.Dataset.{graph_of, triple_of}
 use Rattle.qs_terms.specs.Statement.{Statement, same_graph}
 use Rattle.qs_terms.specs.declared.term.Term.{Term}
 use Rattle.qs_terms.proofs.SameStatement.{same_graph-Decides}
-use Rattle.qs_dict.specs.Dict.{number_of, term_at}
+use Rattle.qs_dict.specs.inner.Dict.{number_of, term_at}
 use Rattle.qs_dict.proofs.Numbers.{exact_number}
 use Rattle.qs_store.specs.inner.ActiveGraph.{IsSeen, active_graph}
 use Rattle.qs_store.specs.Content.{Content}
@@ -25,7 +25,7 @@ use Rattle.qs_expr.proofs.RowTerms.{term_at_row}
 use Rattle.qs_paths.proofs.Scanned.{number_there}
 use Rattle.qs_plan_meaning.specs.declared.stage.Look.{Look}
 use Rattle.qs_plan_meaning.specs.declared.stage.Look.TheVariants as look
-use Rattle.qs_plan_meaning.specs.Stages.{graph_named, looked}
+use Rattle.qs_plan_meaning.specs.inner.Stages.{graph_named, looked}
 use Rattle.qs_ops_scans.specs.inner.Makes.{AreMade}
 use Rattle.qs_ops_scans.specs.inner.Prepared.{graph_by, graph_of_cell, named_look, prepared_look}
 use Rattle.qs_ops_scans.specs.declared.look.PreparedLook.{PreparedLook}

@@ -12,7 +12,7 @@ use Rattle.qs_algebra_patterns.specs.declared.pattern.Slot.{Slot}
 use Rattle.qs_algebra_patterns.specs.declared.pattern.Slot.TheVariants as slot
 use Rattle.qs_algebra_patterns.specs.declared.pattern.TriplePattern.{TriplePattern}
 use Rattle.qs_algebra_patterns.specs.Basic.{Graph, value}
-use Rattle.qs_plan_meaning.specs.Scans.{bound_at, bound_slot, then_bound, bound_triple, extensions}
+use Rattle.qs_plan_meaning.specs.inner.Scans.{bound_at, bound_slot, then_bound, bound_triple, extensions}
 
 -- the slot's term, or its variable's where that is bound, is this one
 abbrev pub agrees : Solution → Slot → Term → Bool

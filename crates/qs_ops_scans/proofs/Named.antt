@@ -14,7 +14,7 @@ use Rattle.qs_terms.specs.Term.{same_term}
 use Rattle.qs_terms.specs.declared.term.Term.{Term}
 use Rattle.qs_terms.proofs.FirstOnes.{once_distinct}
 use Rattle.qs_terms.proofs.SameTerm.{same_term-Decides}
-use Rattle.qs_dict.specs.Dict.{number_of, term_at}
+use Rattle.qs_dict.specs.inner.Dict.{number_of, term_at}
 use Rattle.qs_dict.proofs.Numbers.{exact_number}
 use Rattle.qs_store.specs.inner.ActiveGraph.{IsSeen}
 use Rattle.qs_store.specs.Content.{Content}
@@ -33,7 +33,7 @@ use Rattle.qs_expr.proofs.Finding.{some_of}
 use Rattle.qs_expr.proofs.Rows.{bound_fits, bound_terms}
 use Rattle.qs_paths.proofs.Lists.{any_of, map_has, member_of_map, of_any, once_has, once_only, same_members}
 use Rattle.qs_paths.proofs.Scanned.{number_there}
-use Rattle.qs_plan_meaning.specs.Stages.{each_named}
+use Rattle.qs_plan_meaning.specs.inner.Stages.{each_named}
 use Rattle.qs_ops_scans.specs.inner.Makes.{AreMade, Makes}
 use Rattle.qs_ops_scans.specs.inner.Names.{rows_named}
 

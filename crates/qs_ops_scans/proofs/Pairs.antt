@@ -20,7 +20,7 @@ use Rattle.qs_expr.specs.declared.cell.Cell.{Cell}
 use Rattle.qs_expr.specs.inner.Cell.{Cells, cell_at, denoted, row_solution, FitsRow}
 use Rattle.qs_expr.specs.inner.Scratch.{IsTable}
 use Rattle.qs_paths.proofs.Lists.{map_has, member_of_map}
-use Rattle.qs_plan_meaning.specs.Scans.{bound_end, bound_ends, path_extensions, path_pairs}
+use Rattle.qs_plan_meaning.specs.inner.Scans.{bound_end, bound_ends, path_extensions, path_pairs}
 use Rattle.qs_ops_scans.specs.inner.Makes.{AreMade}
 use Rattle.qs_ops_scans.specs.inner.Paths.{denoted_pair, pair_if, ArePairs}
 use Rattle.qs_ops_scans.specs.declared.ends.Ends.{Ends}

@@ -2,7 +2,8 @@
 use Rattle.std.proofs.Common.{◌≡◌, ℕ, ◌+◌, Bool, true, false, cond, ⊎_elim, Option, Some, None, List, [], ◌∷◌, refl, sym, ◌∙◌, subst, arith}
 use Rattle.std.specs.Bool.{Decides}
 use Rattle.std.specs.List.{Contains, filter, filter_map, flat_map, list_any}
-use Rattle.qs_terms.specs.Bag.{Distinct, SameBag, times}
+use Rattle.qs_terms.specs.Bag.{Distinct, SameBag}
+use Rattle.qs_terms.specs.inner.Bag.{times}
 use Rattle.qs_terms.specs.Dataset.{names_of}
 use Rattle.qs_terms.specs.Statement.{Statement, same_graph}
 use Rattle.qs_terms.specs.Term.{same_term}

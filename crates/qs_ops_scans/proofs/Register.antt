@@ -11,7 +11,7 @@ use Rattle.qs_algebra_solutions.specs.Solution.{Solution, term_at}
 use Rattle.qs_algebra_patterns.specs.declared.pattern.Slot.{Slot}
 use Rattle.qs_algebra_patterns.specs.declared.pattern.Slot.TheVariants as slot
 use Rattle.qs_algebra_patterns.specs.declared.pattern.TriplePattern.{TriplePattern}
-use Rattle.qs_plan_meaning.specs.Scans.{bound_at, bound_slot, then_bound, bound_triple}
+use Rattle.qs_plan_meaning.specs.inner.Scans.{bound_at, bound_slot, then_bound, bound_triple}
 use Rattle.qs_ops_scans.specs.inner.Each.{misses, place_misses}
 use Rattle.qs_ops_scans.specs.inner.Prepared.{place_of, prepared_triple}
 

@@ -3,17 +3,19 @@ use Rattle.std.proofs.Common.{◌≡◌, ℕ, Bool, true, false, Option, Some, N
 use Rattle.std.specs.Prelude.{option_to_list}
 use Rattle.std.specs.List.{AllByRecursion, Contains, filter, filter_map, flat_map}
 use Rattle.std.proofs.lemmas.List.Sorted.{IsPermutation-refl}
-use Rattle.qs_terms.specs.Bag.{times, Distinct, SameBag}
+use Rattle.qs_terms.specs.Bag.{Distinct, SameBag}
+use Rattle.qs_terms.specs.inner.Bag.{times}
 use Rattle.qs_terms.specs.Dataset.{Triple, triple_of, same_triple}
 use Rattle.qs_terms.specs.Statement.{Statement}
 use Rattle.qs_terms.specs.declared.term.Term.{Term}
 use Rattle.qs_terms.proofs.Counts.{times-flat_map, times-same, total-same, total-ap, same_from_times}
 use Rattle.qs_terms.proofs.FirstOnes.{distinct_kept}
-use Rattle.qs_dict.specs.Dict.{term_at}
+use Rattle.qs_dict.specs.inner.Dict.{term_at}
 use Rattle.qs_index.specs.inner.Entry.{IsAscending}
 use Rattle.qs_index.specs.declared.permutation.Permutation.{Permutation}
 use Rattle.qs_store.specs.inner.ActiveGraph.{IsSeen, active_graph}
-use Rattle.qs_store.specs.Content.{Content, HasKnownTerms}
+use Rattle.qs_store.specs.Content.{Content}
+use Rattle.qs_store.specs.inner.Content.{HasKnownTerms}
 use Rattle.qs_store.specs.inner.Entries.{or_blank}
 use Rattle.qs_store.specs.inner.Triples.{IsActive, IsMatch, IsTriple, AreTriplesAnyhow, turned_triple}
 use Rattle.qs_store.specs.declared.active.Active.{Active}
@@ -29,7 +31,7 @@ use Rattle.qs_expr.specs.inner.Scratch.{IsTable}
 use Rattle.qs_paths.proofs.Active.{active_has, active_only, active_once, same_triple-Decides}
 use Rattle.qs_paths.proofs.Lists.{map_has, member_of_map, same_members}
 use Rattle.qs_paths.proofs.Scanned.{number_there}
-use Rattle.qs_plan_meaning.specs.Scans.{bound_triple, extensions}
+use Rattle.qs_plan_meaning.specs.inner.Scans.{bound_triple, extensions}
 use Rattle.qs_ops_scans.specs.inner.Makes.{AreMade, Makes}
 use Rattle.qs_ops_scans.specs.inner.Prepared.{prepared_triple}
 use Rattle.qs_ops_scans.specs.declared.opened.Given.{Given}

@@ -18,7 +18,7 @@ use Rattle.qs_expr.specs.declared.cell.Cell.{Cell}
 use Rattle.qs_expr.specs.inner.Cell.{Cells, denoted_if, row_solution, FitsRow}
 use Rattle.qs_expr.specs.inner.Scratch.{IsTable}
 use Rattle.qs_expr.proofs.RowTerms.{term_at_row}
-use Rattle.qs_plan_meaning.specs.Scans.{bound_end, bound_ends, path_extensions, path_pairs, then_bound}
+use Rattle.qs_plan_meaning.specs.inner.Scans.{bound_end, bound_ends, path_extensions, path_pairs, then_bound}
 use Rattle.qs_ops_scans.specs.inner.Makes.{AreMade}
 use Rattle.qs_ops_scans.specs.inner.Paths.{row_end, row_ends, Serve}
 use Rattle.qs_ops_scans.specs.declared.ends.Ends.{Ends}

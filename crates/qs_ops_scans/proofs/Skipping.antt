@@ -10,7 +10,7 @@ use Rattle.qs_store.specs.inner.Triples.{triple_fits}
 use Rattle.qs_expr.specs.declared.cell.Cell.{Cell}
 use Rattle.qs_expr.specs.declared.cell.Cell.TheVariants.{Known}
 use Rattle.qs_expr.specs.inner.Cell.{Cells, cell_at}
-use Rattle.qs_ops_scans.specs.Skipped.{SharesCellAt, ShareCells, SkipsRows}
+use Rattle.qs_ops_scans.specs.inner.Skipped.{SharesCellAt, ShareCells, SkipsRows}
 use Rattle.qs_ops_scans.specs.declared.opened.Act.{Act}
 use Rattle.qs_ops_scans.specs.declared.opened.Act.TheVariants.{Pass, Bind, AsSubject, AsPredicate}
 use Rattle.qs_ops_scans.specs.declared.opened.Acts.{Acts}

@@ -13,7 +13,7 @@ use Rattle.qs_expr.specs.declared.cell.Cell.TheVariants.{Known}
 use Rattle.qs_expr.specs.inner.Cell.{Cells, same_cell, FitsRow}
 use Rattle.qs_expr.specs.inner.Scratch.{IsTable}
 use Rattle.qs_expr.proofs.Finding.{same_cell-Decides}
-use Rattle.qs_plan_meaning.specs.Scans.{path_extensions, path_pairs}
+use Rattle.qs_plan_meaning.specs.inner.Scans.{path_extensions, path_pairs}
 use Rattle.qs_ops_scans.specs.inner.Makes.{AreMade}
 use Rattle.qs_ops_scans.specs.inner.Paths.{denoted_pair, ArePairs}
 use Rattle.qs_ops_scans.specs.declared.ends.Ends.{Ends}

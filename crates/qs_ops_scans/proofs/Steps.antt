@@ -6,7 +6,7 @@ use Rattle.qs_terms.specs.Dataset.{Triple}
 use Rattle.qs_terms.specs.Bag.{Distinct}
 use Rattle.qs_terms.specs.Term.{same_term}
 use Rattle.qs_terms.proofs.SameTerm.{same_term-Decides}
-use Rattle.qs_dict.specs.Dict.{number_of, term_at}
+use Rattle.qs_dict.specs.inner.Dict.{number_of, term_at}
 use Rattle.qs_dict.proofs.Numbers.{exact_number}
 use Rattle.qs_algebra_solutions.specs.Solution.{Solution, term_at as bound_term}
 use Rattle.qs_algebra_patterns.specs.declared.pattern.Slot.{Slot}
@@ -19,7 +19,7 @@ use Rattle.qs_expr.specs.inner.Scratch.{IsTable}
 use Rattle.qs_expr.proofs.Finding.{same_cells, some_of, term_there}
 use Rattle.qs_expr.proofs.RowTerms.{term_at_row}
 use Rattle.qs_expr.proofs.Rows.{bound_fits, bound_terms}
-use Rattle.qs_plan_meaning.specs.Scans.{bound_at, bound_slot, bound_triple, then_bound}
+use Rattle.qs_plan_meaning.specs.inner.Scans.{bound_at, bound_slot, bound_triple, then_bound}
 use Rattle.qs_ops_scans.specs.declared.pattern.Place.{Place}
 use Rattle.qs_ops_scans.specs.declared.pattern.Place.TheVariants as place
 use Rattle.qs_ops_scans.specs.declared.pattern.PreparedTriple.{PreparedTriple}

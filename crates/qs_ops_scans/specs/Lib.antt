@@ -1,2 +1,1 @@
-pub mod Skipped
 pub mod inner

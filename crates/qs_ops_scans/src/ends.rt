@@ -170,7 +170,8 @@ pub(crate) fn bind_pair(row: &mut Row, acts: &EndActs, cells: &(Cell, Cell))
 /// Whether the act leaves the variable as it is.
 #[tactic(auto, using(crate::proofs::Common::set_other))]
 fn act_leaves(act: EndAct, variable: usize) -> bool
-    ensures { result ≡ true → (c : CellValue) (m : Cells) → cell_at (act_bound act c m) variable ≡ cell_at m variable }
+    ensures { result ≡ true → (c : CellValue) (m : Cells) → cell_at (act_bound act c m) variable
+        ≡ cell_at m variable }
 {
     match act {
         EndAct::Bind(other) => other != variable,
@@ -180,7 +181,8 @@ fn act_leaves(act: EndAct, variable: usize) -> bool
 
 /// Whether no pair binds the variable.
 pub(crate) fn leaves(acts: &EndActs, variable: usize) -> bool
-    ensures { result ≡ true → (cells : CellValue × CellValue) (m : Cells) → cell_at (acts_bound acts.now cells m) variable ≡ cell_at m variable }
+    ensures { result ≡ true → (cells : CellValue × CellValue) (m : Cells)
+        → cell_at (acts_bound acts.now cells m) variable ≡ cell_at m variable }
 {
     act_leaves(acts.subject, variable) && act_leaves(acts.object, variable)
 }

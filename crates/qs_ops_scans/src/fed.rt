@@ -36,7 +36,9 @@ fn given_end<V: View>(
     other: Option<Cell>,
     bound: Option<Cell>,
 ) -> Option<Option<Cell>>
-    ensures { IsGiven (V.content view.now).known (active_graph (V.content view.now) (V.default_seen view.now) graph) text other bound result }
+    ensures { IsGiven (V.content view.now).known
+        (active_graph (V.content view.now) (V.default_seen view.now) graph) text other bound
+        result }
 {
     if text.is_some() {
         return Some(text);

@@ -8,7 +8,7 @@ ghost use Rattle.qs_algebra_patterns.specs.Basic.{end_of};
 ghost use Rattle.qs_expr.specs.inner.Cell.{FitsIf, denoted_if};
 ghost use Rattle.qs_expr.specs.inner.Scratch.{Grows, IsTable};
 ghost use Rattle.qs_paths.specs.inner.Coming.{AreAll};
-ghost use Rattle.qs_plan_meaning.specs.Scans.{path_pairs};
+ghost use Rattle.qs_plan_meaning.specs.inner.Scans.{path_pairs};
 ghost use Rattle.qs_ops_scans.specs.inner.Paths.{ArePairs};
 ghost use Rattle.qs_ops_scans.specs.inner.Kept.{AreCollected, IsTaken, kept_with};
 ghost use Rattle.qs_ops_scans.specs.inner.Sides.{cell_key, end_at, side_key, IsSpan, IsSpanOf};
@@ -65,7 +65,8 @@ fn take_next<V: View>(
     kept: &mut Vec<(Cell, Cell)>,
     repeated: bool,
 ) -> Result<bool, AllocError>
-    ensures { IfOk result (λ taken. IsTaken V.content V.default_seen repeated pairs.old kept.old.items taken pairs.new kept.new.items) }
+    ensures { IfOk result (λ taken. IsTaken V.content V.default_seen repeated pairs.old
+        kept.old.items taken pairs.new kept.new.items) }
 {
     match pairs.next() {
         None => Ok(false),
@@ -84,7 +85,8 @@ fn rest_if<V: View>(
     repeated: bool,
 ) -> Result<Option<Vec<(Cell, Cell)>>, AllocError>
     ensures any { IfOk result (λ o. IfSome o (λ rest. repeated ≡ false)) }
-    ensures all { IfOk result (λ o. IfSome o (λ rest. AreAll V.content V.default_seen pairs.now rest.items)) }
+    ensures all { IfOk result
+        (λ o. IfSome o (λ rest. AreAll V.content V.default_seen pairs.now rest.items)) }
 {
     if repeated {
         return Ok(None);
@@ -112,7 +114,8 @@ fn collected<V: View>(
     pairs: &mut Pairs<'_, V>,
     repeated: bool,
 ) -> Result<Vec<(Cell, Cell)>, AllocError>
-    ensures { IfOk result (λ kept. AreCollected V.content V.default_seen pairs.old repeated kept.items) }
+    ensures { IfOk result (λ kept. AreCollected V.content V.default_seen pairs.old repeated
+        kept.items) }
 {
     let mut kept = Vec::new(alloc);
     'pairs: for _at in 0..u64::MAX {
@@ -132,7 +135,8 @@ pub(crate) fn all_collected<V: View>(
     pairs: Pairs<'_, V>,
     repeated: bool,
 ) -> Result<Vec<(Cell, Cell)>, AllocError>
-    ensures { IfOk result (λ kept. AreCollected V.content V.default_seen pairs.entry repeated kept.items) }
+    ensures { IfOk result (λ kept. AreCollected V.content V.default_seen pairs.entry repeated
+        kept.items) }
 {
     let mut pairs = pairs;
     let kept = collected(alloc, &mut pairs, repeated);
@@ -148,7 +152,8 @@ pub(crate) fn end_cell<V: View>(
 ) -> Result<Option<Cell>, AllocError>
     requires { IsTable (V.content view.now).known scratch.old }
     ensures grows { Grows (V.content view.now).known scratch.old scratch.new }
-    ensures is { IfOk result (λ o. denoted_if (V.content view.now).known scratch.new o ≡ end_of slot.now) }
+    ensures is { IfOk result (λ o. denoted_if (V.content view.now).known scratch.new o
+        ≡ end_of slot.now) }
     ensures fits { IfOk result (λ o. FitsIf (V.content view.now).known scratch.new o) }
 {
     match slot {
@@ -272,7 +277,9 @@ pub fn path_pairs<V: View>(
 ) -> Result<PathPairs, AllocError>
     requires { IsTable (V.content view.now).known scratch.old }
     ensures grows { Grows (V.content view.now).known scratch.old scratch.new }
-    ensures pairs { IfOk result (λ kept. ArePairs (V.content view.now).known scratch.new kept (path_pairs pattern.now (active_graph (V.content view.now) (V.default_seen view.now) graph))) }
+    ensures pairs { IfOk result (λ kept. ArePairs (V.content view.now).known scratch.new kept
+        (path_pairs pattern.now (active_graph (V.content view.now) (V.default_seen view.now)
+        graph))) }
 {
     let left = end_cell(view, &pattern.subject, scratch)?;
     let right = end_cell(view, &pattern.object, scratch)?;

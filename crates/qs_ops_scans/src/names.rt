@@ -6,7 +6,7 @@ ghost use Rattle.qs_terms.specs.Dataset.{names_of};
 ghost use Rattle.qs_terms.specs.Term.{same_term};
 ghost use Rattle.qs_store.specs.inner.Graphs.{AreGraphs};
 ghost use Rattle.qs_expr.specs.inner.Cell.{cell_at};
-ghost use Rattle.qs_plan_meaning.specs.Stages.{each_named};
+ghost use Rattle.qs_plan_meaning.specs.inner.Stages.{each_named};
 ghost use Rattle.qs_ops_scans.specs.inner.Each.{NamesGraph};
 ghost use Rattle.qs_ops_scans.specs.inner.Makes.{GivesFirst, Makes};
 ghost use Rattle.qs_ops_scans.specs.inner.Names.{HasQuads};
@@ -132,7 +132,8 @@ pub fn name_rows<V: View>(
     register: usize,
     row: Row,
 ) -> NameRows
-    ensures { AreGraphs (V.content view.now) numbers.items → Makes (V.content view.now).known (each_named (V.content view.now).quads register) row result }
+    ensures { AreGraphs (V.content view.now) numbers.items → Makes (V.content view.now).known
+        (each_named (V.content view.now).quads register) row result }
 {
     content_is_lawful(view);
     NameRows {

@@ -18,7 +18,9 @@ fn numbers_are_few<V: View>(view: &V)
 
 /// Whether a triple begins or ends at the term with this number.
 fn is_known_node<V: View>(view: &V, graph: Active, number: u32) -> bool
-    ensures { TellsNode (V.content view.now).known (active_graph (V.content view.now) (V.default_seen view.now) graph) (cell_is.Known number) result }
+    ensures { TellsNode (V.content view.now).known
+        (active_graph (V.content view.now) (V.default_seen view.now) graph) (cell_is.Known number)
+        result }
 {
     content_is_lawful(view);
     numbers_are_few(view);
@@ -32,7 +34,8 @@ fn is_known_node<V: View>(view: &V, graph: Active, number: u32) -> bool
 
 /// Whether a triple of the graph begins or ends at the term of the cell. No triple has a term that the dictionary lacks.
 pub(crate) fn is_node<V: View>(view: &V, graph: Active, cell: Cell) -> bool
-    ensures { TellsNode (V.content view.now).known (active_graph (V.content view.now) (V.default_seen view.now) graph) cell result }
+    ensures { TellsNode (V.content view.now).known
+        (active_graph (V.content view.now) (V.default_seen view.now) graph) cell result }
 {
     content_is_lawful(view);
     match cell {

@@ -168,7 +168,8 @@ pub(crate) fn passes(acts: &Acts, triple: &[u32; 3]) -> bool
 /// Whether the act leaves the variable as it is.
 #[tactic(auto, using(crate::proofs::Common::set_other))]
 fn act_leaves(act: Act, variable: usize) -> bool
-    ensures { result ≡ true → (n : ℕ) (m : Cells) → cell_at (act_bound act n m) variable ≡ cell_at m variable }
+    ensures { result ≡ true → (n : ℕ) (m : Cells) → cell_at (act_bound act n m) variable
+        ≡ cell_at m variable }
 {
     match act {
         Act::Bind(other) => other != variable,
@@ -178,7 +179,8 @@ fn act_leaves(act: Act, variable: usize) -> bool
 
 /// Whether no triple binds the variable.
 pub(crate) fn leaves(acts: &Acts, variable: usize) -> bool
-    ensures { result ≡ true → (x : List ℕ) (m : Cells) → cell_at (bound acts.now x m) variable ≡ cell_at m variable }
+    ensures { result ≡ true → (x : List ℕ) (m : Cells) → cell_at (bound acts.now x m) variable
+        ≡ cell_at m variable }
 {
     act_leaves(acts.subject, variable)
         && act_leaves(acts.predicate, variable)

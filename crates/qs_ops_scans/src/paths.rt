@@ -7,7 +7,7 @@ ghost use Rattle.qs_terms.specs.declared.term.Term.{Term};
 ghost use Rattle.qs_algebra_patterns.specs.Basic.{Graph};
 ghost use Rattle.qs_expr.specs.inner.Cell.{Cells, cell_at, FitsRow};
 ghost use Rattle.qs_expr.specs.inner.Scratch.{IsTable};
-ghost use Rattle.qs_plan_meaning.specs.Scans.{path_extensions, path_pairs};
+ghost use Rattle.qs_plan_meaning.specs.inner.Scans.{path_extensions, path_pairs};
 ghost use Rattle.qs_ops_scans.specs.inner.Makes.{AreMade, GivesFirst};
 ghost use Rattle.qs_ops_scans.specs.inner.Paths.{ArePairs, Serve, row_ends};
 ghost use Rattle.qs_ops_scans.specs.inner.Ends.{IsNextPair};
@@ -109,10 +109,12 @@ impl PathRows {
 /// The rows that the pairs of the path pattern make of the row (SPARQL 1.1 Query, 18.4). Pairs that serve rows with its cells at the ends
 /// make the same rows as all pairs.
 pub fn path_rows(pairs: Shared<PathPairs>, pattern: &PathPattern, row: Row) -> PathRows
-    ensures pairs { (known table : List Term) (graph : Graph) → IsTable known table → FitsRow known table row
+    ensures pairs { (known table : List Term) (graph : Graph) → IsTable known table
+        → FitsRow known table row
         → ArePairs known table pairs (path_pairs pattern.now graph)
         → AreMade known table (path_extensions pattern.now graph) row result }
-    ensures serve { (known table : List Term) (graph : Graph) → IsTable known table → FitsRow known table row
+    ensures serve { (known table : List Term) (graph : Graph) → IsTable known table
+        → FitsRow known table row
         → Serve known table pattern.now graph (row_ends pattern.now row) pairs
         → AreMade known table (path_extensions pattern.now graph) row result }
 {

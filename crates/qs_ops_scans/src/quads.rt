@@ -179,7 +179,8 @@ pub fn quad_rows<'a, V: View>(
     requires apart { misses register pattern.now ≡ true }
     requires cell { register < length row }
     ensures { (p : TriplePattern) → pattern.now ≡ prepared_triple (V.content view.now).known p
-        → Makes (V.content view.now).known (each_extension (V.content view.now).quads register p) row result }
+        → Makes (V.content view.now).known (each_extension (V.content view.now).quads register p)
+        row result }
 {
     content_is_lawful(view);
     let acts = acts_of(pattern, &row);
@@ -211,7 +212,8 @@ pub fn joined_quad_rows<'a, V: View>(
     requires wide { width ≤ register }
     requires open { cell_at row variable ≡ None }
     ensures { (p : TriplePattern) → pattern.now ≡ prepared_triple (V.content view.now).known p
-        → Makes (V.content view.now).known (each_joined (V.content view.now).quads width variable register p) row result }
+        → Makes (V.content view.now).known
+        (each_joined (V.content view.now).quads width variable register p) row result }
 {
     content_is_lawful(view);
     let acts = acts_of(pattern, &row);

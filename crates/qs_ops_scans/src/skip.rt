@@ -5,7 +5,7 @@ ghost use Rattle.std.specs.Prelude.{◌≡◌, ℕ, List, true, false, Some};
 ghost use Rattle.std.specs.List.{AllByRecursion};
 ghost use Rattle.qs_store.specs.inner.Triples.{triple_fits};
 ghost use Rattle.qs_expr.specs.inner.Cell.{Cells, cell_at};
-ghost use Rattle.qs_ops_scans.specs.Skipped.{SharesCellAt};
+ghost use Rattle.qs_ops_scans.specs.inner.Skipped.{SharesCellAt};
 ghost use Rattle.qs_ops_scans.specs.declared.opened.Act.TheVariants as act_of;
 ghost use Rattle.qs_ops_scans.specs.inner.Opened.{act_bound, bound};
 ghost use Rattle.qs_ops_scans.specs.inner.Skipped.{IsNumberOf, Tells};
@@ -62,7 +62,8 @@ pub(crate) fn wanted_of(acts: &Acts, columns: &[usize], row: &Row) -> Given {
 
 fn binds_it(act: Act, variable: usize) -> bool
     ensures bind { result ≡ true → act ≡ act_of.Bind variable }
-    ensures leaves { result ≡ false → (n : ℕ) (m : Cells) → cell_at (act_bound act n m) variable ≡ cell_at m variable }
+    ensures leaves { result ≡ false → (n : ℕ) (m : Cells) → cell_at (act_bound act n m) variable
+        ≡ cell_at m variable }
 {
     match act {
         Act::Bind(other) => other == variable,

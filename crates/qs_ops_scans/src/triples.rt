@@ -7,10 +7,10 @@ ghost use Rattle.qs_store.specs.inner.ActiveGraph.{active_graph};
 ghost use Rattle.qs_algebra_patterns.specs.declared.pattern.TriplePattern.{TriplePattern};
 ghost use Rattle.qs_expr.specs.inner.Cell.{cell_at};
 ghost use Rattle.qs_plan_meaning.specs.declared.stage.Look.{Look};
-ghost use Rattle.qs_plan_meaning.specs.Scans.{extensions};
-ghost use Rattle.qs_plan_meaning.specs.Stages.{looked};
+ghost use Rattle.qs_plan_meaning.specs.inner.Scans.{extensions};
+ghost use Rattle.qs_plan_meaning.specs.inner.Stages.{looked};
 ghost use Rattle.qs_ops_scans.specs.inner.Makes.{GivesFirst, Makes};
-ghost use Rattle.qs_ops_scans.specs.Skipped.{SkipsRows};
+ghost use Rattle.qs_ops_scans.specs.inner.Skipped.{SkipsRows};
 ghost use Rattle.qs_ops_scans.specs.inner.Prepared.{prepared_look, prepared_triple};
 ghost use Rattle.qs_store.specs.Content.{Content};
 ghost use Rattle.qs_store.specs.declared.default_graph.DefaultGraph.{DefaultGraph};
@@ -122,7 +122,8 @@ impl<'a> TripleRows<'a> {
 
 /// The graph that a scan reads, and the numbers that are given to it; an empty graph where a place has a term that the dictionary lacks.
 fn asked(graph: Active, given: Option<Given>) -> (Active, Given)
-    ensures { (c : Content) (d : DefaultGraph) (triples : List (List ℕ)) → IsAsked c d result.0 result.1 triples → IsScannedBy c d graph given triples }
+    ensures { (c : Content) (d : DefaultGraph) (triples : List (List ℕ))
+        → IsAsked c d result.0 result.1 triples → IsScannedBy c d graph given triples }
 {
     match given {
         Some(given) => (graph, given),
@@ -138,7 +139,8 @@ fn scan_of<'a, V: View>(
     row: &Row,
     lead: Lead,
 ) -> Triples<'a>
-    ensures { IsScanned (V.content view.now) (V.default_seen view.now) graph pattern.now row.now result }
+    ensures { IsScanned (V.content view.now) (V.default_seen view.now) graph pattern.now row.now
+        result }
 {
     // One call, so that a scan, which is large, isn't moved where two branches meet.
     let (graph, given) = asked(graph, givens(pattern, row));
@@ -155,7 +157,9 @@ pub fn triple_rows<'a, V: View>(
     wanted: &[usize],
 ) -> TripleRows<'a>
     ensures { (p : TriplePattern) → pattern.now ≡ prepared_triple (V.content view.now).known p
-        → Makes (V.content view.now).known (extensions p (active_graph (V.content view.now) (V.default_seen view.now) graph)) row result }
+        → Makes (V.content view.now).known
+        (extensions p (active_graph (V.content view.now) (V.default_seen view.now) graph)) row
+        result }
 {
     content_is_lawful(view);
     let acts = acts_of(pattern, &row);
@@ -173,9 +177,14 @@ pub fn open_triple<'a, V: View>(
     row: Row,
     wanted: &[usize],
 ) -> TripleRows<'a>
-    ensures { (place : Look) (p : TriplePattern) → look ≡ prepared_look (V.content view.now).known place
+    ensures { (place : Look) (p : TriplePattern) → look ≡ prepared_look (V.content view.now).known
+        place
         → pattern.now ≡ prepared_triple (V.content view.now).known p
-        → Makes (V.content view.now).known (λ m. extensions p (looked (V.content view.now).quads (active_graph (V.content view.now) (V.default_seen view.now) active) place m) m) row result }
+        → Makes (V.content view.now).known
+        (λ m. extensions p
+        (looked (V.content view.now).quads
+        (active_graph (V.content view.now) (V.default_seen view.now) active) place m) m) row
+        result }
 {
     let graph = graph_of_look(view, look, &row, active);
     triple_rows(view, graph, pattern, row, wanted)

@@ -35,7 +35,8 @@ fn excludes(row: &Row, other: &Row, width: usize) -> bool
 
 /// Whether one of the rows takes the row's first `width` variables away.
 pub(crate) fn is_excluded(rows: &[Row], index: &Index, row: &Row, width: usize) -> bool
-    requires { IsIndex index.now.key.items index.now.mask rows.now index.now.heads.items index.now.links.items }
+    requires { IsIndex index.now.key.items index.now.mask rows.now index.now.heads.items
+        index.now.links.items }
     ensures { result ≡ list_any (excludes_cells (take width row.now)) rows.now }
 {
     let hash = hash_of(index.key.as_slice(), row, width);

@@ -117,7 +117,8 @@ fn linked(
     count: u32,
 ) -> Result<Option<Index>, AllocError>
     requires { count ≡ length rows.now }
-    ensures { IfOk result (λ o. IfSome o (λ x. IsIndex x.key.items x.mask rows.now x.heads.items x.links.items)) }
+    ensures { IfOk result
+        (λ o. IfSome o (λ x. IsIndex x.key.items x.mask rows.now x.heads.items x.links.items)) }
 {
     let mask = mask_for(count);
     let mut heads = no_heads(alloc, mask as usize + 1, count)?;
@@ -166,7 +167,8 @@ pub(crate) fn index_of(alloc: Global, rows: &[Row], first: &Row) -> Result<Index
 
 /// The place of the first row that may be compatible with rows of this hash.
 pub(crate) fn first_for(rows: &[Row], index: &Index, hash: Option<u32>) -> usize
-    requires { IsIndex index.now.key.items index.now.mask rows.now index.now.heads.items index.now.links.items }
+    requires { IsIndex index.now.key.items index.now.mask rows.now index.now.heads.items
+        index.now.links.items }
     ensures { Passes index.now.key.items hash rows.now 0 result }
 {
     let Some(hash) = hash else {
@@ -180,7 +182,8 @@ pub(crate) fn first_for(rows: &[Row], index: &Index, hash: Option<u32>) -> usize
 
 /// The place after this one of the next row that may be compatible with rows of this hash.
 fn after(rows: &[Row], index: &Index, hash: u32, link: Link, at: usize) -> usize
-    requires index { IsIndex index.now.key.items index.now.mask rows.now index.now.heads.items index.now.links.items }
+    requires index { IsIndex index.now.key.items index.now.mask rows.now index.now.heads.items
+        index.now.links.items }
     requires at { at < length rows.now }
     requires fits { at + 1 < 2 ^ 64 }
     requires link { at < length index.now.links.items }
@@ -201,8 +204,10 @@ pub(crate) fn row_from<'t>(
     hash: Option<u32>,
     at: usize,
 ) -> Option<(&'t Row, usize)>
-    requires { IsIndex index.now.key.items index.now.mask rows.now index.now.heads.items index.now.links.items }
-    ensures { MatchOption result (MeetsNone index.now.key.items hash rows.now at) (λ p. Meets index.now.key.items hash rows.now at p.0.now p.1) }
+    requires { IsIndex index.now.key.items index.now.mask rows.now index.now.heads.items
+        index.now.links.items }
+    ensures { MatchOption result (MeetsNone index.now.key.items hash rows.now at)
+        (λ p. Meets index.now.key.items hash rows.now at p.0.now p.1) }
 {
     let mut place = at;
     loop {

@@ -66,7 +66,9 @@ impl KeptTable {
         at: usize,
     ) -> Option<(&Row, usize)>
         requires { IsHashOf self.now.key hash row.now }
-        ensures { MatchOption result (partners (drop at self.now.rows) row.now ≡ []) (λ p. partners (drop at self.now.rows) row.now ≡ p.0.now ∷ partners (drop p.1 self.now.rows) row.now) }
+        ensures { MatchOption result (partners (drop at self.now.rows) row.now ≡ [])
+            (λ p. partners (drop at self.now.rows) row.now ≡ p.0.now ∷ partners
+            (drop p.1 self.now.rows) row.now) }
     {
         let rows = self.rows.as_slice();
         let mut place = at;

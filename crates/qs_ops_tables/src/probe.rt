@@ -56,7 +56,8 @@ impl Probe {
     /// # Errors
     /// Out of memory, which takes no merge away.
     pub fn next(&mut self, alloc: Global, spare: &mut Vec<Row>) -> Result<Option<Row>, AllocError>
-        ensures next { IfOk result (λ o. MatchOption o ((self.old ≡ []) × (self.new ≡ [])) (λ m. self.old ≡ m ∷ self.new)) }
+        ensures next { IfOk result (λ o. MatchOption o ((self.old ≡ []) × (self.new ≡ []))
+            (λ m. self.old ≡ m ∷ self.new)) }
         ensures refused { OnErr result (self.new ≡ self.old) }
     {
         let kept = self.kept.get();

@@ -22,7 +22,8 @@ fn cell_of<V: View>(
     scratch: &mut Scratch,
 ) -> Result<Option<Cell>, AllocError>
     requires { IsTable (V.content view.now).known scratch.old }
-    ensures term { IfOk result (λ x. denoted_if (V.content view.now).known scratch.new x ≡ option_copied term.entry) }
+    ensures term { IfOk result (λ x. denoted_if (V.content view.now).known scratch.new x
+        ≡ option_copied term.entry) }
     ensures fits { IfOk result (λ x. FitsIf (V.content view.now).known scratch.new x) }
     ensures grows { Grows (V.content view.now).known scratch.old scratch.new }
 {
@@ -45,7 +46,8 @@ fn binding_row<V: View>(
     terms: &[Option<Term>],
 ) -> Result<Row, AllocError>
     requires { IsTable (V.content view.now).known scratch.old }
-    ensures terms { IfOk result (λ r. row_solution (V.content view.now).known scratch.new r ≡ binding width variables.now terms.now) }
+    ensures terms { IfOk result (λ r. row_solution (V.content view.now).known scratch.new r
+        ≡ binding width variables.now terms.now) }
     ensures fits { IfOk result (λ r. FitsRow (V.content view.now).known scratch.new r) }
     ensures grows { Grows (V.content view.now).known scratch.old scratch.new }
 {
@@ -70,7 +72,8 @@ pub fn table_rows<V: View>(
     width: usize,
 ) -> Result<Vec<Row>, AllocError>
     requires { IsTable (V.content view.now).known scratch.old }
-    ensures rows { IfOk result (λ rows. row_solutions (V.content view.now).known scratch.new rows.items ≡ rows_of width table.now) }
+    ensures rows { IfOk result (λ rows. row_solutions (V.content view.now).known scratch.new
+        rows.items ≡ rows_of width table.now) }
     ensures fits { IfOk result (λ rows. FitRows (V.content view.now).known scratch.new rows.items) }
     ensures grows { Grows (V.content view.now).known scratch.old scratch.new }
 {

@@ -4,7 +4,8 @@ use Rattle.std.proofs.lemmas.List.Sorted.{IsPermutation-refl, IsPermutation-tran
 use Rattle.std.proofs.Common.{Bool, cond}
 use Rattle.std.proofs.lemmas.List.Sorted.{IsPermutation-map}
 use Rattle.std.specs.List.{filter, flat_map}
-use Rattle.qs_terms.specs.Bag.{times, SameBag}
+use Rattle.qs_terms.specs.Bag.{SameBag}
+use Rattle.qs_terms.specs.inner.Bag.{times}
 use Rattle.qs_terms.proofs.Counts.{times-flat_map, times-filter, times-same, total-same, same_from_times}
 use Rattle.qs_algebra_solutions.specs.Solution.{Solution, same_solution, compatible, merge}
 use Rattle.qs_algebra_solutions.specs.Operators.{merges, or_alone}

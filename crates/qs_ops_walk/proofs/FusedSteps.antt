@@ -2,14 +2,14 @@
 use Rattle.std.proofs.Common.{◌≡◌, ℕ, suc, ◌<◌, List, [], ◌∷◌, ◌++◌, length, get_or, Option, None, Some, refl, ◌∙◌, ap, subst}
 use Rattle.qs_terms.specs.declared.term.Term.{Term}
 use Rattle.qs_algebra_solutions.specs.Solution.{term_at}
-use Rattle.qs_dict.specs.Dict.{number_of}
+use Rattle.qs_dict.specs.inner.Dict.{number_of}
 use Rattle.qs_expr.specs.inner.Cell.{Cells, FitsRow}
 use Rattle.qs_expr.specs.inner.Scratch.{IsTable}
 use Rattle.qs_plan_meaning.specs.declared.stage.Look.{Look}
 use Rattle.qs_plan_meaning.specs.declared.stage.Look.TheVariants as look
 use Rattle.qs_plan_meaning.specs.declared.stage.Stage.TheVariants as stage
-use Rattle.qs_plan_meaning.specs.Scans.{extensions}
-use Rattle.qs_plan_meaning.specs.Stages.{each_named, graph_named}
+use Rattle.qs_plan_meaning.specs.inner.Scans.{extensions}
+use Rattle.qs_plan_meaning.specs.inner.Stages.{each_named, graph_named}
 use Rattle.qs_ops_scans.specs.inner.Each.{each_extension}
 use Rattle.qs_ops_scans.specs.inner.Makes.{AreMade}
 use Rattle.qs_ops_scans.specs.inner.Prepared.{named_look, prepared_look}

@@ -10,8 +10,8 @@ use Rattle.qs_expr.specs.inner.Scratch.{IsTable}
 use Rattle.qs_plan_meaning.specs.declared.stage.Look.{Look}
 use Rattle.qs_plan_meaning.specs.declared.stage.Look.TheVariants as look
 use Rattle.qs_plan_meaning.specs.declared.stage.Stage.TheVariants as stage
-use Rattle.qs_plan_meaning.specs.Scans.{extensions}
-use Rattle.qs_plan_meaning.specs.Stages.{each_named, graph_named}
+use Rattle.qs_plan_meaning.specs.inner.Scans.{extensions}
+use Rattle.qs_plan_meaning.specs.inner.Stages.{each_named, graph_named}
 use Rattle.qs_ops_program.specs.inner.Flow.{Instruction}
 use Rattle.qs_ops_scans.specs.inner.Each.{each_joined}
 use Rattle.qs_ops_scans.specs.inner.Makes.{AreMade, Makes}

@@ -11,8 +11,8 @@ use Rattle.qs_expr.specs.inner.Scratch.{IsTable}
 use Rattle.qs_plan_meaning.specs.declared.stage.Look.TheVariants as look
 use Rattle.qs_plan_meaning.specs.declared.stage.Stage.{Stage}
 use Rattle.qs_plan_meaning.specs.declared.stage.Stage.TheVariants as stage
-use Rattle.qs_plan_meaning.specs.Scans.{extensions}
-use Rattle.qs_plan_meaning.specs.Stages.{each_named, graph_named}
+use Rattle.qs_plan_meaning.specs.inner.Scans.{extensions}
+use Rattle.qs_plan_meaning.specs.inner.Stages.{each_named, graph_named}
 use Rattle.qs_ops_program.specs.inner.Flow.{Instruction, IsForward, flow, is_union}
 use Rattle.qs_ops_program.specs.inner.Toil.{summed, toil}
 use Rattle.qs_ops_program.proofs.Flows.{flow_step}

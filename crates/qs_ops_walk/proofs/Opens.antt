@@ -11,8 +11,8 @@ use Rattle.qs_algebra_patterns.specs.declared.table.Table.{Table}
 use Rattle.qs_expr.specs.inner.Cell.{Cells, row_solution, FitsRow}
 use Rattle.qs_plan_meaning.specs.declared.stage.Stage.{Stage}
 use Rattle.qs_plan_meaning.specs.declared.stage.Stage.TheVariants as stage
-use Rattle.qs_plan_meaning.specs.Stages.{aside, each_named, fed_rows, looked, kept_if}
-use Rattle.qs_plan_meaning.specs.Scans.{extensions, path_extensions}
+use Rattle.qs_plan_meaning.specs.inner.Stages.{aside, each_named, fed_rows, looked, kept_if}
+use Rattle.qs_plan_meaning.specs.inner.Scans.{extensions, path_extensions}
 use Rattle.qs_ops_program.proofs.Levels.{gives_names, gives_path, gives_triple, gives_values, gives_optional, gives_fed, gives_minus, gives_apart}
 use Rattle.qs_ops_program.specs.inner.Flow.{Instruction, IsForward, flow, is_union, instr_made, meanings}
 use Rattle.qs_ops_program.specs.inner.Toil.{summed, toil, instr_moves, all_moves}

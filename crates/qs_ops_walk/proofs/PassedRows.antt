@@ -12,7 +12,7 @@ use Rattle.qs_expr.specs.declared.cell.Cell.{Cell}
 use Rattle.qs_expr.specs.inner.Cell.{Cells, cell_at, row_solution, FitsRow}
 use Rattle.qs_plan.proofs.Widths.{all_append}
 use Rattle.qs_ops_program.specs.inner.Flow.{flow}
-use Rattle.qs_ops_scans.specs.Skipped.{SharesCellAt, ShareCells, SkipsRows}
+use Rattle.qs_ops_scans.specs.inner.Skipped.{SharesCellAt, ShareCells, SkipsRows}
 use Rattle.qs_ops_tables.specs.inner.Tables.{FitRows, row_solutions}
 use Rattle.qs_ops_walk.specs.declared.source.Level.{Level}
 use Rattle.qs_ops_walk.specs.declared.source.Source.{Source}

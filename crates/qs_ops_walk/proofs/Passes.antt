@@ -19,7 +19,7 @@ use Rattle.qs_expr.proofs.Finding.{term_there}
 use Rattle.qs_expr.specs.declared.cell.Cell.{Cell}
 use Rattle.qs_plan_meaning.specs.declared.stage.Stage.{Stage}
 use Rattle.qs_plan_meaning.specs.declared.stage.Stage.TheVariants as stage
-use Rattle.qs_plan_meaning.specs.Stages.{kept_if, aside, only}
+use Rattle.qs_plan_meaning.specs.inner.Stages.{kept_if, aside, only}
 use Rattle.qs_ops_program.proofs.Levels.{gives_filter, gives_bind, gives_exists, gives_minus}
 use Rattle.std.proofs.lemmas.List.Sorted.{list_any-IsPermutation}
 use Rattle.qs_terms.specs.Dataset.{names_of}

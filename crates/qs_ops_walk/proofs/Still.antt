@@ -10,7 +10,7 @@ use Rattle.qs_expr.specs.inner.Scratch.{Grows}
 use Rattle.qs_expr.specs.declared.cell.Cell.{Cell}
 use Rattle.qs_expr.proofs.Growth.{same_row, still_row, still_fits, still_same}
 use Rattle.qs_plan_meaning.specs.declared.stage.Stage.{Stage}
-use Rattle.qs_plan_meaning.specs.Scans.{path_pairs}
+use Rattle.qs_plan_meaning.specs.inner.Scans.{path_pairs}
 use Rattle.qs_algebra_patterns.specs.declared.pattern.PathPattern.{PathPattern}
 use Rattle.qs_store.specs.inner.ActiveGraph.{active_graph}
 use Rattle.qs_store.specs.declared.active.Active.{Active}

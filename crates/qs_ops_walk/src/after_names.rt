@@ -20,7 +20,8 @@ pub(crate) struct Each<'w> {
 
 /// The triple pattern of the place, if it looks in the graph that the register names and has no such variable.
 fn pattern_named<'w>(place: &'w Place<'_>, register: usize) -> Option<&'w PreparedTriple>
-    ensures triple { IfSome result (λ p. place.now.work ≡ variant.Triple (prepared.Register register) p.now) }
+    ensures triple { IfSome result
+        (λ p. place.now.work ≡ variant.Triple (prepared.Register register) p.now) }
     ensures apart { IfSome result (λ p. misses register p.now ≡ true) }
 {
     let Work::Triple(PreparedLook::Register(held), pattern) = &place.work else {

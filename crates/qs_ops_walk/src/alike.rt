@@ -147,7 +147,8 @@ fn are_kept(places: &[Place<'_>], columns: &[usize]) -> bool
 fn end_alike(walk: &mut Walk<'_>, columns: &[usize], width: usize, row: &Row)
     requires { AllByRecursion (λ p. KeepsAll columns.now p.instr.stage) walk.old.places.items }
     ensures places { walk.new.places ≡ walk.old.places }
-    ensures skips { SkipsAlike width walk.old.places.items columns.now row.now walk.old.levels.items walk.new.levels.items }
+    ensures skips { SkipsAlike width walk.old.places.items columns.now row.now walk.old.levels.items
+        walk.new.levels.items }
 {
     'levels: while is_last_alike(walk.levels.as_slice(), columns, width, row) {
         end_last(&mut walk.levels, &mut walk.spare);
@@ -193,7 +194,8 @@ fn pass_last(levels: &mut Vec<Level<'_>>, columns: &[usize], row: &Row)
 fn pass_alike(walk: &mut Walk<'_>, columns: &[usize], width: usize, row: &Row)
     requires { AllByRecursion (λ p. KeepsAll columns.now p.instr.stage) walk.old.places.items }
     ensures places { walk.new.places ≡ walk.old.places }
-    ensures skips { SkipsAlike width walk.old.places.items columns.now row.now walk.old.levels.items walk.new.levels.items }
+    ensures skips { SkipsAlike width walk.old.places.items columns.now row.now walk.old.levels.items
+        walk.new.levels.items }
 {
     if are_named(columns, width) {
         pass_last(&mut walk.levels, columns, row);
@@ -203,7 +205,8 @@ fn pass_alike(walk: &mut Walk<'_>, columns: &[usize], width: usize, row: &Row)
 /// Passes over rows to come that have the row's terms at these variables, where the sources tell so. No row is made.
 pub(crate) fn skip_alike(walk: &mut Walk<'_>, columns: &[usize], width: usize, row: &Row)
     ensures places { walk.new.places ≡ walk.old.places }
-    ensures skips { SkipsAlike width walk.old.places.items columns.now row.now walk.old.levels.items walk.new.levels.items }
+    ensures skips { SkipsAlike width walk.old.places.items columns.now row.now walk.old.levels.items
+        walk.new.levels.items }
 {
     // The stages are looked at where rows can be passed over alone.
     let levels = walk.levels.as_slice();

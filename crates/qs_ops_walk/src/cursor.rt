@@ -8,7 +8,7 @@ ghost use Rattle.qs_expr.specs.inner.Cell.{denoted, row_solution, FitsCell, Fits
 ghost use Rattle.qs_expr.specs.inner.Evaluated.{Evaluates};
 ghost use Rattle.qs_expr.specs.inner.Scratch.{IsTable, Grows};
 ghost use Rattle.qs_algebra_solutions.specs.Solution.{unbound};
-ghost use Rattle.qs_plan_meaning.specs.Stages.{through};
+ghost use Rattle.qs_plan_meaning.specs.inner.Stages.{through};
 ghost use Rattle.qs_ops_walk.specs.inner.Stream.{AreToCome, GivesOne, PassesAlike, solution_if};
 
 use crate::alike::skip_alike;
@@ -62,7 +62,12 @@ impl<'a, V: View> Cursor<'a, V> {
         active: Active,
         wanted: &'a [usize],
     ) -> Result<Cursor<'a, V>, QFault>
-        ensures rows { IfOk result (λ c. AreToCome (map (take width) (through width (V.content view.now).quads (active_graph (V.content view.now) (V.default_seen view.now) active) stages.now (unbound cells))) c.rows) }
+        ensures rows { IfOk result
+            (λ c. AreToCome
+            (map (take width)
+            (through width (V.content view.now).quads
+            (active_graph (V.content view.now) (V.default_seen view.now) active) stages.now
+            (unbound cells))) c.rows) }
         ensures known { IfOk result (λ c. c.known ≡ (V.content view.now).known) }
         ensures table { IfOk result (λ c. IsTable c.known c.table) }
         ensures fault { IfErr result (λ f. f ≡ Memory) }
@@ -92,7 +97,9 @@ impl<'a, V: View> Cursor<'a, V> {
     /// `QFault::Memory` where memory runs out; each further call answers the same.
     #[inline(always)]
     pub fn next(&mut self) -> Result<Option<Row>, QFault>
-        ensures rows { IfOk result (λ o. GivesOne self.old.rows (solution_if self.new.known self.new.table o) self.new.rows) }
+        ensures rows { IfOk result
+            (λ o. GivesOne self.old.rows (solution_if self.new.known self.new.table o)
+            self.new.rows) }
         ensures fits { IfOk result (λ o. IfSome o (λ m. FitsRow self.new.known self.new.table m)) }
         ensures fault { IfErr result (λ f. f ≡ Memory) }
         ensures failed { OnErr result (self.new.rows ≡ None) }
@@ -120,7 +127,8 @@ impl<'a, V: View> Cursor<'a, V> {
     /// made, and none of another term is passed over.
     pub fn skip_alike(&mut self, columns: &[usize], row: &Row)
         requires { FitsRow self.old.known self.old.table row.now }
-        ensures rows { PassesAlike columns.now (row_solution self.old.known self.old.table row.now) self.old.rows self.new.rows }
+        ensures rows { PassesAlike columns.now (row_solution self.old.known self.old.table row.now)
+            self.old.rows self.new.rows }
         ensures over { self.old.is_over ≡ true → self.new.is_over ≡ true }
         ensures known { self.new.known ≡ self.old.known }
         ensures table { self.new.table ≡ self.old.table }
@@ -153,7 +161,8 @@ impl<'a, V: View> Cursor<'a, V> {
     /// `TypeError` where the expression errs. `Memory` where memory runs out: for a value, and by CONCAT.
     pub fn eval(&mut self, expr: &Expr, row: &Row) -> Result<Cell, ExprFault>
         requires { FitsRow self.old.known self.old.table row.now }
-        ensures value { Evaluates self.old.known self.old.table self.new.table row.now expr.now result }
+        ensures value { Evaluates self.old.known self.old.table self.new.table row.now expr.now
+            result }
         ensures rows { self.new.rows ≡ self.old.rows }
         ensures over { self.new.is_over ≡ self.old.is_over }
         ensures known { self.new.known ≡ self.old.known }

@@ -5,7 +5,7 @@ ghost use Rattle.qs_expr.specs.inner.Cell.{FitsIf, FitsRow};
 ghost use Rattle.qs_expr.specs.inner.Scratch.{IsTable, Grows};
 ghost use Rattle.qs_store.specs.inner.ActiveGraph.{active_graph};
 ghost use Rattle.qs_store.specs.inner.Graphs.{AreGraphs};
-ghost use Rattle.qs_plan_meaning.specs.Scans.{path_pairs};
+ghost use Rattle.qs_plan_meaning.specs.inner.Scans.{path_pairs};
 ghost use Rattle.qs_ops_scans.specs.inner.Paths.{ArePairs, Serve};
 ghost use Rattle.qs_ops_walk.specs.inner.Setting.{known_of};
 ghost use Rattle.qs_ops_walk.specs.inner.Works.{ArePairsFor, AreValues, IfEndPairs, IfGraphs, IfPairs, IfValues};
@@ -89,7 +89,8 @@ fn all_pairs<V: View>(
     requires kept { IfPairs reader.now scratch.old pattern.now kept.old }
     ensures grows { Grows (known_of reader.now) scratch.old scratch.new }
     ensures kept { IfOk result (λ k. IfPairs reader.now scratch.new pattern.now kept.new) }
-    ensures pairs { IfOk result (λ k. ArePairs (known_of reader.now) scratch.new k (path_pairs pattern.now (active_graph reader.now.content reader.now.default graph))) }
+    ensures pairs { IfOk result (λ k. ArePairs (known_of reader.now) scratch.new k
+        (path_pairs pattern.now (active_graph reader.now.content reader.now.default graph))) }
 {
     if let Some(kept) = kept {
         if kept.graph == graph {
@@ -121,7 +122,8 @@ fn pairs_of_ends<V: View>(
     requires object { FitsIf (known_of reader.now) scratch.old ends.object }
     ensures grows { Grows (known_of reader.now) scratch.old scratch.new }
     ensures last { IfOk result (λ k. IfEndPairs reader.now scratch.new pattern.now last.new) }
-    ensures serve { IfOk result (λ k. Serve (known_of reader.now) scratch.new pattern.now (active_graph reader.now.content reader.now.default graph) ends k) }
+    ensures serve { IfOk result (λ k. Serve (known_of reader.now) scratch.new pattern.now
+        (active_graph reader.now.content reader.now.default graph) ends k) }
 {
     if let Some(last) = last {
         if last.graph == graph && last.ends.are_same(&ends) {
@@ -150,8 +152,10 @@ pub(crate) fn pairs_of_trail<V: View>(
     ensures grows { Grows (known_of reader.now) scratch.old scratch.new }
     ensures look { trail.new.look ≡ trail.old.look }
     ensures pattern { trail.new.pattern.now ≡ trail.old.pattern.now }
-    ensures kept { IfOk result (λ k. IfPairs reader.now scratch.new trail.old.pattern.now trail.new.kept) }
-    ensures last { IfOk result (λ k. IfEndPairs reader.now scratch.new trail.old.pattern.now trail.new.last) }
+    ensures kept { IfOk result (λ k. IfPairs reader.now scratch.new trail.old.pattern.now
+        trail.new.kept) }
+    ensures last { IfOk result (λ k. IfEndPairs reader.now scratch.new trail.old.pattern.now
+        trail.new.last) }
     ensures pairs { IfOk result (λ k. ArePairsFor reader.now scratch.new trail.old row.now k) }
 {
     let graph = reader.graph_of_look(trail.look, row);

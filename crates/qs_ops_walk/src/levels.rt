@@ -25,7 +25,8 @@ pub(crate) fn open_triple_level<'a, V: View>(
     pattern: &PreparedTriple,
     row: Row,
 ) -> Result<(), AllocError>
-    ensures { IfOk result (λ _. IsTripleOpened reader.now next look pattern.now row levels.old.items levels.new.items) }
+    ensures { IfOk result (λ _. IsTripleOpened reader.now next look pattern.now row levels.old.items
+        levels.new.items) }
 {
     levels.reserve(1)?;
     levels.push_reserved(Level {
@@ -65,7 +66,8 @@ pub(crate) fn open_given_level<'a, V: View>(
     spare: &mut Vec<Row>,
 ) -> Result<(), AllocError>
     requires { joining.register < length row }
-    ensures { IfOk result (λ _. IsGivenOpened reader.now joining cell row levels.old.items levels.new.items) }
+    ensures { IfOk result (λ _. IsGivenOpened reader.now joining cell row levels.old.items
+        levels.new.items) }
 {
     levels.reserve(1)?;
     let named = reader.names_graph(cell);
@@ -91,7 +93,8 @@ pub(crate) fn open_joined_level<'a, V: View>(
     requires named { variable < reader.now.width }
     requires wide { reader.now.width ≤ each.register }
     requires free { cell_at row variable ≡ None }
-    ensures { IfOk result (λ _. IsJoinedOpened reader.now variable each.entry row levels.old.items levels.new.items) }
+    ensures { IfOk result (λ _. IsJoinedOpened reader.now variable each.entry row levels.old.items
+        levels.new.items) }
 {
     levels.reserve(1)?;
     levels.push_reserved(Level {
@@ -111,7 +114,8 @@ pub(crate) fn open_quads_level<'a, V: View>(
 ) -> Result<(), AllocError>
     requires apart { misses each.register each.pattern.now ≡ true }
     requires cell { each.register < length row }
-    ensures { IfOk result (λ _. IsQuadsOpened reader.now each.entry row levels.old.items levels.new.items) }
+    ensures { IfOk result (λ _. IsQuadsOpened reader.now each.entry row levels.old.items
+        levels.new.items) }
 {
     levels.reserve(1)?;
     levels.push_reserved(Level {

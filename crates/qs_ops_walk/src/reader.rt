@@ -10,8 +10,8 @@ ghost use Rattle.qs_expr.specs.inner.Condition.{IsPreparedFor};
 ghost use Rattle.qs_expr.specs.inner.Scratch.{IsTable, Grows};
 ghost use Rattle.qs_algebra_patterns.specs.declared.pattern.TriplePattern.{TriplePattern};
 ghost use Rattle.qs_plan_meaning.specs.declared.stage.Look.{Look};
-ghost use Rattle.qs_plan_meaning.specs.Scans.{extensions, path_pairs};
-ghost use Rattle.qs_plan_meaning.specs.Stages.{each_named, looked};
+ghost use Rattle.qs_plan_meaning.specs.inner.Scans.{extensions, path_pairs};
+ghost use Rattle.qs_plan_meaning.specs.inner.Stages.{each_named, looked};
 ghost use Rattle.qs_store.specs.inner.ActiveGraph.{active_graph};
 ghost use Rattle.qs_store.specs.inner.Graphs.{AreGraphs};
 ghost use Rattle.qs_ops_scans.specs.inner.Paths.{ArePairs, Serve};
@@ -60,8 +60,11 @@ impl<'a, V: View> Reader<'a, V> {
         pattern: &PreparedTriple,
         row: Row,
     ) -> TripleRows<'a>
-        ensures { (place : Look) (p : TriplePattern) → look ≡ prepared_look (known_of self.now) place → pattern.now ≡ prepared_triple (known_of self.now) p
-            → Makes (known_of self.now) (λ m. extensions p (looked self.now.content.quads (graph_in self.now) place m) m) row result }
+        ensures { (place : Look) (p : TriplePattern) → look ≡ prepared_look (known_of self.now)
+            place → pattern.now ≡ prepared_triple (known_of self.now) p
+            → Makes (known_of self.now)
+            (λ m. extensions p (looked self.now.content.quads (graph_in self.now) place m) m) row
+            result }
     {
         open_triple(self.view, self.active, look, pattern, row, self.wanted)
     }
@@ -75,7 +78,9 @@ impl<'a, V: View> Reader<'a, V> {
     ) -> QuadRows<'a>
         requires apart { misses register pattern.now ≡ true }
         requires cell { register < length row }
-        ensures { (p : TriplePattern) → pattern.now ≡ prepared_triple (known_of self.now) p → Makes (known_of self.now) (each_extension self.now.content.quads register p) row result }
+        ensures { (p : TriplePattern) → pattern.now ≡ prepared_triple (known_of self.now) p
+            → Makes (known_of self.now) (each_extension self.now.content.quads register p) row
+            result }
     {
         quad_rows(self.view, register, pattern, row)
     }
@@ -95,7 +100,9 @@ impl<'a, V: View> Reader<'a, V> {
         requires named { variable < self.now.width }
         requires wide { self.now.width ≤ register }
         requires free { cell_at row variable ≡ None }
-        ensures { (p : TriplePattern) → pattern.now ≡ prepared_triple (known_of self.now) p → Makes (known_of self.now) (each_joined self.now.content.quads self.now.width variable register p) row result }
+        ensures { (p : TriplePattern) → pattern.now ≡ prepared_triple (known_of self.now) p
+            → Makes (known_of self.now) (each_joined self.now.content.quads self.now.width variable
+            register p) row result }
     {
         joined_quad_rows(self.view, self.width, variable, register, pattern, row)
     }
@@ -116,7 +123,8 @@ impl<'a, V: View> Reader<'a, V> {
 
     /// The rows that have the register bound to the name of each named graph in turn.
     pub(crate) fn name_rows(&self, numbers: Shared<Vec<u32>>, register: usize, row: Row) -> NameRows
-        ensures { AreGraphs self.now.content numbers.items → Makes (known_of self.now) (each_named self.now.content.quads register) row result }
+        ensures { AreGraphs self.now.content numbers.items
+            → Makes (known_of self.now) (each_named self.now.content.quads register) row result }
     {
         name_rows(self.view, numbers, register, row)
     }
@@ -131,7 +139,9 @@ impl<'a, V: View> Reader<'a, V> {
     ) -> Result<PathPairs, AllocError>
         requires { IsTable (known_of self.now) scratch.old }
         ensures grows { Grows (known_of self.now) scratch.old scratch.new }
-        ensures pairs { IfOk result (λ k. ArePairs (known_of self.now) scratch.new k (path_pairs pattern.now (active_graph self.now.content self.now.default graph))) }
+        ensures pairs { IfOk result
+            (λ k. ArePairs (known_of self.now) scratch.new k
+            (path_pairs pattern.now (active_graph self.now.content self.now.default graph))) }
     {
         path_pairs(self.alloc, self.view, graph, pattern, row, scratch)
     }
@@ -148,7 +158,8 @@ impl<'a, V: View> Reader<'a, V> {
         requires subject { FitsIf (known_of self.now) scratch.old ends.subject }
         requires object { FitsIf (known_of self.now) scratch.old ends.object }
         ensures grows { Grows (known_of self.now) scratch.old scratch.new }
-        ensures serve { IfOk result (λ k. Serve (known_of self.now) scratch.new pattern.now (active_graph self.now.content self.now.default graph) ends k) }
+        ensures serve { IfOk result (λ k. Serve (known_of self.now) scratch.new pattern.now
+            (active_graph self.now.content self.now.default graph) ends k) }
     {
         fed_pairs(self.alloc, self.view, graph, pattern, ends, scratch)
     }
@@ -164,7 +175,10 @@ impl<'a, V: View> Reader<'a, V> {
         requires prepared { IsPreparedFor (known_of self.now) condition.now }
         requires table { IsTable (known_of self.now) scratch.now }
         requires row { FitsRow (known_of self.now) scratch.now row.now }
-        ensures { IfOk result (λ b. b ≡ holds (take self.now.width (row_solution (known_of self.now) scratch.now row.now)) condition.now.expr) }
+        ensures { IfOk result
+            (λ b. b
+            ≡ holds (take self.now.width (row_solution (known_of self.now) scratch.now row.now))
+            condition.now.expr) }
     {
         if row.width() <= self.width {
             return condition.holds(self.alloc, row, self.view, scratch);
@@ -185,7 +199,8 @@ impl<'a, V: View> Reader<'a, V> {
         requires table { IsTable (known_of self.now) scratch.old }
         requires row { FitsRow (known_of self.now) scratch.old row.now }
         ensures grows { Grows (known_of self.now) scratch.old scratch.new }
-        ensures value { Evaluates (known_of self.now) scratch.old scratch.new row.now expr.now result }
+        ensures value { Evaluates (known_of self.now) scratch.old scratch.new row.now expr.now
+            result }
     {
         eval(self.alloc, expr, row, self.view, scratch)
     }
@@ -201,7 +216,10 @@ impl<'a, V: View> Reader<'a, V> {
         requires table { IsTable (known_of self.now) scratch.old }
         requires row { FitsRow (known_of self.now) scratch.old row.now }
         ensures grows { Grows (known_of self.now) scratch.old scratch.new }
-        ensures value { IfOk result (λ c. denoted_if (known_of self.now) scratch.new c ≡ meaning (take self.now.width (row_solution (known_of self.now) scratch.old row.now)) expr.now) }
+        ensures value { IfOk result (λ c. denoted_if (known_of self.now) scratch.new c
+            ≡ meaning
+            (take self.now.width (row_solution (known_of self.now) scratch.old row.now))
+            expr.now) }
         ensures fits { IfOk result (λ c. FitsIf (known_of self.now) scratch.new c) }
     {
         if row.width() <= self.width {
@@ -216,8 +234,10 @@ impl<'a, V: View> Reader<'a, V> {
 
 /// The cell, or none where the expression errs.
 fn cell_of(value: Result<Cell, ExprFault>) -> Result<Option<Cell>, AllocError>
-    ensures { (known old new : List TermValue) (m : Cells) (e : ExprValue) → Evaluates known old new m e value
-        → IfOk result (λ c. (denoted_if known new c ≡ value_at known old m e) × FitsIf known new c) }
+    ensures { (known old new : List TermValue) (m : Cells) (e : ExprValue)
+        → Evaluates known old new m e value
+        → IfOk result (λ c. (denoted_if known new c ≡ value_at known old m e)
+        × FitsIf known new c) }
 {
     match value {
         Ok(cell) => Ok(Some(cell)),

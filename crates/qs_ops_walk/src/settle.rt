@@ -70,7 +70,8 @@ fn pass_bind<V: View>(
     requires table { IsTable (known_of reader.now) scratch.old }
     requires row { FitsRow (known_of reader.now) scratch.old row.old }
     ensures grows { Grows (known_of reader.now) scratch.old scratch.new }
-    ensures passed { OnOk result (IsPassed reader.now (stage.Bind variable expr.now) scratch.old row.old scratch.new row.new One) }
+    ensures passed { OnOk result (IsPassed reader.now (stage.Bind variable expr.now) scratch.old
+        row.old scratch.new row.new One) }
 {
     if let Some(cell) = reader.value(expr, row, scratch, spare)? {
         bind(row, reader.width, variable, cell);
@@ -99,7 +100,8 @@ pub(crate) fn pass<V: View>(
     requires row { FitsRow (known_of reader.now) scratch.old row.old }
     requires ready { IsReady reader.now scratch.old place.now }
     ensures grows { Grows (known_of reader.now) scratch.old scratch.new }
-    ensures passed { IfOk result (λ p. IsPassed reader.now place.now.instr.stage scratch.old row.old scratch.new row.new p) }
+    ensures passed { IfOk result (λ p. IsPassed reader.now place.now.instr.stage scratch.old row.old
+        scratch.new row.new p) }
     ensures many { IfOk result (λ p. p ≡ Many → opens place.now.work ≡ true) }
     ensures alone { IfOk result (λ p. (p ≡ Many) ⊎ (is_union place.now.instr.stage ≡ false)) }
 {
@@ -134,7 +136,8 @@ pub(crate) fn settle<V: View>(
     requires forward { IsForward (code_of places.now) }
     requires ready { AreReady reader.now scratch.old places.now }
     ensures grows { Grows (known_of reader.now) scratch.old scratch.new }
-    ensures settled { IfOk result (λ o. IsSettled reader.now (code_of places.now) next scratch.old row.old scratch.new row.new o) }
+    ensures settled { IfOk result (λ o. IsSettled reader.now (code_of places.now) next scratch.old
+        row.old scratch.new row.new o) }
     ensures opens { IfOk result (λ o. OpensAt places.now o) }
 {
     let mut at = next;

@@ -71,10 +71,12 @@ fn all_hold<V: View>(
     scratch: &Scratch,
     spare: &mut Vec<Row>,
 ) -> Result<bool, AllocError>
-    requires prepared { AllByRecursion (IsPreparedFor (known_of reader.now)) conditions.now.list.items }
+    requires prepared { AllByRecursion (IsPreparedFor (known_of reader.now))
+        conditions.now.list.items }
     requires table { IsTable (known_of reader.now) scratch.now }
     requires row { FitsRow (known_of reader.now) scratch.now row.now }
-    ensures { IfOk result (λ b. b ≡ all_hold (map expr_of conditions.now.list.items) (take reader.now.width (row_solution (known_of reader.now) scratch.now row.now))) }
+    ensures { IfOk result (λ b. b ≡ all_hold (map expr_of conditions.now.list.items)
+        (take reader.now.width (row_solution (known_of reader.now) scratch.now row.now))) }
 {
     for condition in &conditions.list {
         if !reader.holds(condition, row, scratch, spare)? {
@@ -93,7 +95,9 @@ fn next_of_attempt<V: View>(
 ) -> Result<Option<Row>, AllocError>
     requires table { IsTable (known_of reader.now) scratch.now }
     requires fits { FitsAttempt (known_of reader.now) scratch.now attempt.old }
-    ensures gives { IfOk result (λ o. GivesSolution (known_of reader.now) scratch.now (attempted reader.now scratch.now attempt.old) o (attempted reader.now scratch.now attempt.new)) }
+    ensures gives { IfOk result (λ o. GivesSolution (known_of reader.now) scratch.now
+        (attempted reader.now scratch.now attempt.old) o
+        (attempted reader.now scratch.now attempt.new)) }
     ensures fits { FitsAttempt (known_of reader.now) scratch.now attempt.new }
 {
     loop {
@@ -145,7 +149,9 @@ pub(crate) fn next_of<V: View>(
 ) -> Result<Option<Item>, AllocError>
     requires table { IsTable (known_of reader.now) scratch.now }
     requires fits { FitsLevel (known_of reader.now) scratch.now level.old }
-    ensures gives { IfOk result (λ o. GivesItem reader.now scratch.now (level_items reader.now scratch.now level.old) o (level_items reader.now scratch.now level.new)) }
+    ensures gives { IfOk result
+        (λ o. GivesItem reader.now scratch.now (level_items reader.now scratch.now level.old) o
+        (level_items reader.now scratch.now level.new)) }
     ensures fits { IfOk result (λ o. FitsLevel (known_of reader.now) scratch.now level.new) }
 {
     let row = match &mut level.source {

@@ -7,7 +7,7 @@ ghost use Rattle.qs_expr.specs.inner.Cell.{row_solution, FitsRow};
 ghost use Rattle.qs_expr.specs.inner.Scratch.{IsTable, Grows};
 ghost use Rattle.qs_ops_program.specs.inner.Heights.{stages_height};
 ghost use Rattle.qs_ops_tables.specs.inner.Tables.{FitRows, row_solutions};
-ghost use Rattle.qs_plan_meaning.specs.Stages.{fed_rows};
+ghost use Rattle.qs_plan_meaning.specs.inner.Stages.{fed_rows};
 ghost use Rattle.qs_ops_walk.specs.inner.Setting.{known_of, through_in};
 ghost use Rattle.qs_ops_walk.specs.inner.Works.{IsReady, IsRight, Serves, code_of, heights_of, only_cells, IsAside, name_at};
 ghost use Rattle.qs_ops_walk.specs.inner.Coming.{coming};
@@ -56,8 +56,12 @@ pub(crate) fn start<'a, V: View>(
     stages: &'a [Stage],
     row: Row,
 ) -> Result<Walk<'a>, AllocError>
-    ensures walk { IfOk result (λ w. (table : List TermValue) → FitsRow (known_of reader.now) table row → IsWalk reader.now table w.places.items w.levels.items) }
-    ensures rows { IfOk result (λ w. (table : List TermValue) → coming reader.now (code_of w.places.items) table w.levels.items ≡ through_in reader.now stages.now (row_solution (known_of reader.now) table row)) }
+    ensures walk { IfOk result (λ w. (table : List TermValue)
+        → FitsRow (known_of reader.now) table row → IsWalk reader.now table w.places.items
+        w.levels.items) }
+    ensures rows { IfOk result (λ w. (table : List TermValue)
+        → coming reader.now (code_of w.places.items) table w.levels.items
+        ≡ through_in reader.now stages.now (row_solution (known_of reader.now) table row)) }
     ensures low { IfOk result (λ w. heights_of w.places.items ≤ stages_height stages.now) }
 {
     let spare = Vec::with_capacity(reader.alloc, LIMIT)?;
@@ -117,8 +121,13 @@ fn rows_of_group<'a, V: View>(
     requires table { IsTable (known_of reader.now) scratch.old }
     requires row { FitsRow (known_of reader.now) scratch.old row }
     ensures grows { Grows (known_of reader.now) scratch.old scratch.new }
-    ensures rows { IfOk result (λ o. IfSome o (λ rows. SameBag (row_solutions (known_of reader.now) scratch.new rows.items) (map (take reader.now.width) (through_in reader.now stages.now (row_solution (known_of reader.now) scratch.old row))))) }
-    ensures fit { IfOk result (λ o. IfSome o (λ rows. FitRows (known_of reader.now) scratch.new rows.items)) }
+    ensures rows { IfOk result
+        (λ o. IfSome o (λ rows. SameBag (row_solutions (known_of reader.now) scratch.new rows.items)
+        (map (take reader.now.width)
+        (through_in reader.now stages.now
+        (row_solution (known_of reader.now) scratch.old row))))) }
+    ensures fit { IfOk result
+        (λ o. IfSome o (λ rows. FitRows (known_of reader.now) scratch.new rows.items)) }
     ensures all { most ≡ None → IfOk result (λ o. IsSome o) }
 {
     let mut walk = start(reader, stages, row)?;
@@ -146,7 +155,9 @@ fn aside_of<'a, V: View>(
     requires table { IsTable (known_of reader.now) scratch.old }
     requires row { FitsRow (known_of reader.now) scratch.old row.now }
     ensures grows { Grows (known_of reader.now) scratch.old scratch.new }
-    ensures aside { IfOk result (λ o. IfSome o (λ a. IsAside reader.now scratch.new right.now.register right.now.group.now.stages a)) }
+    ensures aside { IfOk result
+        (λ o. IfSome o
+        (λ a. IsAside reader.now scratch.new right.now.register right.now.group.now.stages a)) }
     ensures cells { IfOk result (λ o. IfSome o (λ a. a.cells ≡ length row.now)) }
     ensures name { IfOk result (λ o. IfSome o (λ a. a.name ≡ name_at right.now.register row.now)) }
     ensures all { most ≡ None → IfOk result (λ o. IsSome o) }
@@ -237,7 +248,10 @@ fn rows_of_feed<'a, V: View>(
     requires table { IsTable (known_of reader.now) scratch.old }
     requires row { FitsRow (known_of reader.now) scratch.old row.now }
     ensures grows { Grows (known_of reader.now) scratch.old scratch.new }
-    ensures rows { IfOk result (λ k. SameBag (row_solutions (known_of reader.now) scratch.new k.rows) (fed_rows reader.now.width (through_in reader.now group.now.stages) (row_solution (known_of reader.now) scratch.old row.now))) }
+    ensures rows { IfOk result
+        (λ k. SameBag (row_solutions (known_of reader.now) scratch.new k.rows)
+        (fed_rows reader.now.width (through_in reader.now group.now.stages)
+        (row_solution (known_of reader.now) scratch.old row.now))) }
     ensures fit { IfOk result (λ k. FitRows (known_of reader.now) scratch.new k.rows) }
 {
     let own = row.copy(reader.alloc, spare)?;
@@ -314,7 +328,8 @@ fn is_fed_next<'a, V: View>(
     ensures conditions { choice.new.conditions ≡ choice.old.conditions }
     ensures alike { choice.new.is_alike ≡ choice.old.is_alike }
     ensures right { IfOk result (λ b. IsRight reader.now scratch.new choice.new.right) }
-    ensures fed { result ≡ Ok true → (choice.old.is_alike ≡ true) × (reader.now.width ≤ length row.now) }
+    ensures fed { result ≡ Ok true → (choice.old.is_alike ≡ true)
+        × (reader.now.width ≤ length row.now) }
 {
     if !choice.may_be_fed(row, reader.width) {
         return Ok(false);
@@ -346,7 +361,8 @@ fn open_optional<'a, V: View>(
     ensures grows { Grows (known_of reader.now) scratch.old scratch.new }
     ensures instr { place.new.instr ≡ place.old.instr }
     ensures ready { IfOk result (λ a. IsReady reader.now scratch.new place.new) }
-    ensures opens { IfOk result (λ a. Opens reader.now place.old.instr scratch.old row scratch.new (origin.Optional a)) }
+    ensures opens { IfOk result (λ a. Opens reader.now place.old.instr scratch.old row scratch.new
+        (origin.Optional a)) }
 {
     match &mut place.work {
         Work::Optional(choice) => {
@@ -386,7 +402,8 @@ fn open<'a, V: View>(
     ensures grows { Grows (known_of reader.now) scratch.old scratch.new }
     ensures instr { place.new.instr ≡ place.old.instr }
     ensures ready { IfOk result (λ s. IsReady reader.now scratch.new place.new) }
-    ensures opens { IfOk result (λ s. Opens reader.now place.old.instr scratch.old row scratch.new s) }
+    ensures opens { IfOk result (λ s. Opens reader.now place.old.instr scratch.old row scratch.new
+        s) }
 {
     match &mut place.work {
         Work::Path(trail) => {
@@ -454,11 +471,14 @@ fn open_optional_level<'a, V: View>(
     requires row { FitsRow (known_of reader.now) scratch.old row }
     requires walk { IsWalk reader.now scratch.old walk.old.places.items walk.old.levels.items }
     requires opens { OpensAt walk.old.places.items (Some (suc at)) }
-    requires optional { (p : PlaceValue) → p ≡ get_or walk.old.places.items at p → is_optional p.work ≡ true }
+    requires optional { (p : PlaceValue) → p ≡ get_or walk.old.places.items at p
+        → is_optional p.work ≡ true }
     ensures grows { Grows (known_of reader.now) scratch.old scratch.new }
     ensures code { code_of walk.new.places.items ≡ code_of walk.old.places.items }
-    ensures walk { IfOk result (λ _. IsWalk reader.now scratch.new walk.new.places.items walk.new.levels.items) }
-    ensures opened { IfOk result (λ _. IsOpened reader.now (code_of walk.old.places.items) (suc at) scratch.old row walk.old.levels.items scratch.new walk.new.levels.items) }
+    ensures walk { IfOk result
+        (λ _. IsWalk reader.now scratch.new walk.new.places.items walk.new.levels.items) }
+    ensures opened { IfOk result (λ _. IsOpened reader.now (code_of walk.old.places.items) (suc at)
+        scratch.old row walk.old.levels.items scratch.new walk.new.levels.items) }
 {
     let place = &mut walk.places[at];
     let next = place.instr.next();
@@ -487,12 +507,16 @@ fn open_other_level<'a, V: View>(
     requires row { FitsRow (known_of reader.now) scratch.old row }
     requires walk { IsWalk reader.now scratch.old walk.old.places.items walk.old.levels.items }
     requires opens { OpensAt walk.old.places.items (Some (suc at)) }
-    requires other { (p : PlaceValue) → p ≡ get_or walk.old.places.items at p → is_triple p.work ≡ false }
-    requires choice { (p : PlaceValue) → p ≡ get_or walk.old.places.items at p → is_optional p.work ≡ false }
+    requires other { (p : PlaceValue) → p ≡ get_or walk.old.places.items at p
+        → is_triple p.work ≡ false }
+    requires choice { (p : PlaceValue) → p ≡ get_or walk.old.places.items at p
+        → is_optional p.work ≡ false }
     ensures grows { Grows (known_of reader.now) scratch.old scratch.new }
     ensures code { code_of walk.new.places.items ≡ code_of walk.old.places.items }
-    ensures walk { IfOk result (λ _. IsWalk reader.now scratch.new walk.new.places.items walk.new.levels.items) }
-    ensures opened { IfOk result (λ _. IsOpened reader.now (code_of walk.old.places.items) (suc at) scratch.old row walk.old.levels.items scratch.new walk.new.levels.items) }
+    ensures walk { IfOk result
+        (λ _. IsWalk reader.now scratch.new walk.new.places.items walk.new.levels.items) }
+    ensures opened { IfOk result (λ _. IsOpened reader.now (code_of walk.old.places.items) (suc at)
+        scratch.old row walk.old.levels.items scratch.new walk.new.levels.items) }
 {
     let place = &mut walk.places[at];
     let next = place.instr.next();
@@ -518,8 +542,10 @@ fn open_level<'a, V: View>(
     requires opens { OpensAt walk.old.places.items (Some (suc at)) }
     ensures grows { Grows (known_of reader.now) scratch.old scratch.new }
     ensures code { code_of walk.new.places.items ≡ code_of walk.old.places.items }
-    ensures walk { IfOk result (λ _. IsWalk reader.now scratch.new walk.new.places.items walk.new.levels.items) }
-    ensures opened { IfOk result (λ _. IsOpened reader.now (code_of walk.old.places.items) (suc at) scratch.old row walk.old.levels.items scratch.new walk.new.levels.items) }
+    ensures walk { IfOk result
+        (λ _. IsWalk reader.now scratch.new walk.new.places.items walk.new.levels.items) }
+    ensures opened { IfOk result (λ _. IsOpened reader.now (code_of walk.old.places.items) (suc at)
+        scratch.old row walk.old.levels.items scratch.new walk.new.levels.items) }
 {
     let place = &walk.places[at];
     if let Some((look, pattern)) = triple_of(&place.work) {
@@ -576,8 +602,10 @@ fn advance<'a, V: View>(
     requires walk { IsWalk reader.now scratch.old walk.old.places.items walk.old.levels.items }
     ensures grows { Grows (known_of reader.now) scratch.old scratch.new }
     ensures code { code_of walk.new.places.items ≡ code_of walk.old.places.items }
-    ensures walk { IfOk result (λ _. IsWalk reader.now scratch.new walk.new.places.items walk.new.levels.items) }
-    ensures step { IfOk result (λ step. IsStep reader.now (code_of walk.old.places.items) scratch.old walk.old.levels.items step scratch.new walk.new.levels.items) }
+    ensures walk { IfOk result
+        (λ _. IsWalk reader.now scratch.new walk.new.places.items walk.new.levels.items) }
+    ensures step { IfOk result (λ step. IsStep reader.now (code_of walk.old.places.items)
+        scratch.old walk.old.levels.items step scratch.new walk.new.levels.items) }
 {
     let Some(level) = walk.levels.last_mut() else {
         return Ok(Step::Done);
@@ -611,8 +639,11 @@ fn next_of_walk<'a, V: View>(
     requires walk { IsWalk reader.now scratch.old walk.old.places.items walk.old.levels.items }
     ensures grows { Grows (known_of reader.now) scratch.old scratch.new }
     ensures code { code_of walk.new.places.items ≡ code_of walk.old.places.items }
-    ensures walk { IfOk result (λ _. IsWalk reader.now scratch.new walk.new.places.items walk.new.levels.items) }
-    ensures gives { IfOk result (λ o. GivesRow reader.now (code_of walk.old.places.items) scratch.old walk.old.levels.items o scratch.new walk.new.levels.items) }
+    ensures walk { IfOk result
+        (λ _. IsWalk reader.now scratch.new walk.new.places.items walk.new.levels.items) }
+    ensures gives { IfOk result
+        (λ o. GivesRow reader.now (code_of walk.old.places.items) scratch.old walk.old.levels.items
+        o scratch.new walk.new.levels.items) }
 {
     loop {
         match advance(reader, scratch, walk)? {
@@ -659,8 +690,11 @@ fn next_row<'a, V: View>(
     requires walk { IsWalk reader.now scratch.old walk.old.places.items walk.old.levels.items }
     ensures grows { Grows (known_of reader.now) scratch.old scratch.new }
     ensures code { code_of walk.new.places.items ≡ code_of walk.old.places.items }
-    ensures walk { IfOk result (λ _. IsWalk reader.now scratch.new walk.new.places.items walk.new.levels.items) }
-    ensures gives { IfOk result (λ o. GivesRow reader.now (code_of walk.old.places.items) scratch.old walk.old.levels.items o scratch.new walk.new.levels.items) }
+    ensures walk { IfOk result
+        (λ _. IsWalk reader.now scratch.new walk.new.places.items walk.new.levels.items) }
+    ensures gives { IfOk result
+        (λ o. GivesRow reader.now (code_of walk.old.places.items) scratch.old walk.old.levels.items
+        o scratch.new walk.new.levels.items) }
 {
     if let Some(row) = next_finished(reader.alloc, &mut walk.levels, &mut walk.spare)? {
         return Ok(Some(row));
@@ -681,8 +715,10 @@ pub(crate) fn next_named<'a, V: View>(
     requires walk { IsWalk reader.now scratch.old walk.old.places.items walk.old.levels.items }
     ensures grows { Grows (known_of reader.now) scratch.old scratch.new }
     ensures code { code_of walk.new.places.items ≡ code_of walk.old.places.items }
-    ensures walk { IfOk result (λ _. IsWalk reader.now scratch.new walk.new.places.items walk.new.levels.items) }
-    ensures gives { IfOk result (λ o. GivesNamed reader.now (code_of walk.old.places.items) scratch.old walk.old.levels.items o scratch.new walk.new.levels.items) }
+    ensures walk { IfOk result
+        (λ _. IsWalk reader.now scratch.new walk.new.places.items walk.new.levels.items) }
+    ensures gives { IfOk result (λ o. GivesNamed reader.now (code_of walk.old.places.items)
+        scratch.old walk.old.levels.items o scratch.new walk.new.levels.items) }
 {
     let Some(mut row) = next_row(reader, scratch, walk)? else {
         return Ok(None);

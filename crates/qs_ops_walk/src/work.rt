@@ -201,7 +201,8 @@ fn conditions_of<'a, V: View>(
     exprs: &'a [Expr],
 ) -> Result<Shared<Conditions<'a>>, AllocError>
     ensures exprs { IfOk result (λ c. map expr_of c.list.items ≡ exprs.now) }
-    ensures prepared { IfOk result (λ c. AllByRecursion (IsPreparedFor (known_of reader.now)) c.list.items) }
+    ensures prepared { IfOk result (λ c. AllByRecursion (IsPreparedFor (known_of reader.now))
+        c.list.items) }
 {
     let mut list = Vec::new(reader.alloc);
     for expr in exprs {
@@ -272,7 +273,8 @@ pub(crate) fn places_of<'a, V: View>(
     code: Vec<Instr<'a>>,
 ) -> Result<Vec<Place<'a>>, AllocError>
     ensures code { IfOk result (λ ps. code_of ps.items ≡ code.entry.items) }
-    ensures ready { IfOk result (λ ps. (table : List TermValue) → AreReady reader.now table ps.items) }
+    ensures ready { IfOk result (λ ps. (table : List TermValue)
+        → AreReady reader.now table ps.items) }
 {
     let mut places = Vec::with_capacity(reader.alloc, code.len())?;
     for instr in code {

@@ -11,8 +11,9 @@ use Rattle.qs_terms.specs.declared.term.Term.{Term}
 use Rattle.qs_terms.proofs.FirstOnes.{once_distinct, or_left_false, or_right_false}
 use Rattle.qs_terms.proofs.SameStatement.{same_graph-Decides}
 use Rattle.qs_terms.proofs.SameTerm.{same_term-Decides}
-use Rattle.qs_dict.specs.Dict.{term_at}
-use Rattle.qs_store.specs.Content.{Content, IsContent}
+use Rattle.qs_dict.specs.inner.Dict.{term_at}
+use Rattle.qs_store.specs.Content.{Content}
+use Rattle.qs_store.specs.inner.Content.{IsContent}
 use Rattle.qs_store.specs.inner.Triples.{IsActive}
 use Rattle.qs_store.specs.declared.active.Active.{Active}
 use Rattle.qs_store.specs.declared.active.Active.TheVariants.{Default, Graph, Empty}

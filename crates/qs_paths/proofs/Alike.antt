@@ -16,10 +16,11 @@ use Rattle.qs_syntax_tree.specs.declared.path.Repetition.{Repetition}
 use Rattle.qs_syntax_tree.specs.declared.path.Repetition.TheVariants.{ZeroOrOne, ZeroOrMore, OneOrMore}
 use Rattle.qs_syntax_ast.specs.declared.path.Path.{Path}
 use Rattle.qs_paths_meaning.specs.Closure.{candidates, ends, repeats}
-use Rattle.qs_paths_meaning.specs.Pair.{Pair, same_pair}
+use Rattle.qs_paths_meaning.specs.Pair.{Pair}
+use Rattle.qs_paths_meaning.specs.inner.Pair.{same_pair}
 use Rattle.qs_paths_meaning.specs.Pairs.{AtEnds, is_step, pairs}
 use Rattle.qs_paths_meaning.specs.Steps.{Graph}
-use Rattle.qs_paths_meaning.specs.Walk.{IsWalk, Leads}
+use Rattle.qs_paths_meaning.specs.inner.Walk.{IsWalk, Leads}
 use Rattle.qs_paths_meaning.specs.inner.Links.{AreBelow, leads_to, named, same_number}
 use Rattle.qs_paths_meaning.proofs.Arms.{same_pair-Decides, filter_same_by}
 use Rattle.qs_paths_meaning.proofs.Members.{Mem, distinct_filter, distinct_once, in_mem, mem_filter, mem_in, mem_map, mem_of_filter, mem_with_new, same_bag}

@@ -2,7 +2,8 @@
 use Rattle.std.proofs.Common.{◌≡◌, ℕ, ◌+◌, Bool, true, false, cond, not, ◌||◌, inl, inr, ⊎_elim, List, [], ◌∷◌, map, refl, sym, ◌∙◌, ap, subst, arith}
 use Rattle.std.specs.Bool.{Decides}
 use Rattle.std.specs.List.{Contains, filter, list_any}
-use Rattle.qs_terms.specs.Bag.{times, Distinct, SameBag, once}
+use Rattle.qs_terms.specs.Bag.{Distinct, SameBag, once}
+use Rattle.qs_terms.specs.inner.Bag.{times}
 use Rattle.qs_terms.proofs.Counts.{Once, same_from_once}
 use Rattle.qs_store.proofs.Members.{nothing, head_or_tail, here, there, member_of_filter, filter_has}
 

@@ -11,13 +11,14 @@ use Rattle.qs_terms.specs.declared.term.Term.TheVariants.{Iri, Blank, Literal}
 use Rattle.qs_terms.specs.Dataset.{Triple, nodes_of}
 use Rattle.qs_terms.specs.Term.{same_term}
 use Rattle.qs_terms.proofs.SameTerm.{same_term-Decides}
-use Rattle.qs_dict.specs.Dict.{term_at}
+use Rattle.qs_dict.specs.inner.Dict.{term_at}
 use Rattle.qs_syntax_ast.specs.declared.path.Path.{Path}
 use Rattle.qs_store.specs.inner.ActiveGraph.{IsSeen, active_graph}
 use Rattle.qs_store.specs.Content.{Content}
 use Rattle.qs_store.specs.declared.active.Active.{Active}
 use Rattle.qs_store.specs.declared.default_graph.DefaultGraph.{DefaultGraph}
-use Rattle.qs_paths_meaning.specs.Pair.{Pair, same_pair}
+use Rattle.qs_paths_meaning.specs.Pair.{Pair}
+use Rattle.qs_paths_meaning.specs.inner.Pair.{same_pair}
 use Rattle.qs_paths_meaning.specs.Pairs.{pairs}
 use Rattle.qs_paths_meaning.specs.Steps.{agrees}
 use Rattle.qs_paths_meaning.specs.inner.Links.{same_number}

@@ -7,10 +7,11 @@ use Rattle.qs_terms.specs.declared.term.Term.{Term}
 use Rattle.qs_terms.specs.Bag.{SameBag}
 use Rattle.qs_syntax_ast.specs.declared.path.NegatedIri.{NegatedIri}
 use Rattle.qs_syntax_ast.specs.declared.path.Path.{Path}
-use Rattle.qs_paths_meaning.specs.Pair.{Pair, same_pair, swapped}
+use Rattle.qs_paths_meaning.specs.Pair.{Pair, swapped}
+use Rattle.qs_paths_meaning.specs.inner.Pair.{same_pair}
 use Rattle.qs_paths_meaning.specs.Pairs.{is_step, pairs}
 use Rattle.qs_paths_meaning.specs.Steps.{Graph, against, along, is_none, is_of, is_outside, negated}
-use Rattle.qs_paths_meaning.specs.Walk.{IsIn}
+use Rattle.qs_paths_meaning.specs.inner.Walk.{IsIn}
 use Rattle.qs_paths_meaning.proofs.Arms.{same_as, same_pair-Decides}
 use Rattle.qs_paths_meaning.proofs.Members.{mem_in}
 use Rattle.qs_paths.specs.declared.node.NodePair.{NodePair}

@@ -5,8 +5,9 @@ use Rattle.qs_terms.specs.declared.term.Term.{Term}
 use Rattle.qs_terms.specs.Bag.{SameBag}
 use Rattle.qs_store.specs.Content.{Content}
 use Rattle.qs_store.specs.declared.default_graph.DefaultGraph.{DefaultGraph}
-use Rattle.qs_paths_meaning.specs.Pair.{Pair, same_pair}
-use Rattle.qs_paths_meaning.specs.Walk.{IsIn}
+use Rattle.qs_paths_meaning.specs.Pair.{Pair}
+use Rattle.qs_paths_meaning.specs.inner.Pair.{same_pair}
+use Rattle.qs_paths_meaning.specs.inner.Walk.{IsIn}
 use Rattle.qs_paths_meaning.proofs.Arms.{same_pair-Decides}
 use Rattle.qs_paths_meaning.proofs.Members.{Mem, mem_in, mem_map}
 use Rattle.qs_expr.specs.declared.cell.Cell.{Cell}

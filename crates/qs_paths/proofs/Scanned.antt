@@ -18,13 +18,14 @@ use Rattle.qs_terms.specs.declared.term.Term.{Term}
 use Rattle.qs_terms.specs.declared.term.Term.TheVariants as term
 use Rattle.qs_terms.proofs.FirstOnes.{distinct_kept}
 use Rattle.qs_terms.proofs.SameTerm.{same_term-Decides}
-use Rattle.qs_dict.specs.Dict.{term_at, number_of}
+use Rattle.qs_dict.specs.inner.Dict.{term_at, number_of}
 use Rattle.qs_dict.proofs.Numbers.{exact_number}
 use Rattle.qs_index.specs.inner.Agreeing.{fits}
 use Rattle.qs_index.specs.inner.Entry.{IsAscending}
 use Rattle.qs_index.specs.inner.Permutation.{order_used}
 use Rattle.qs_index.specs.declared.permutation.Permutation.{Permutation}
-use Rattle.qs_store.specs.Content.{Content, IsContent, KnowsItsTerms}
+use Rattle.qs_store.specs.Content.{Content}
+use Rattle.qs_store.specs.inner.Content.{IsContent, KnowsItsTerms}
 use Rattle.qs_store.specs.inner.Triples.{IsMatch, IsTriple, AreTriples, turned_triple}
 use Rattle.qs_store.specs.declared.active.Active.{Active}
 use Rattle.qs_store.specs.declared.default_graph.DefaultGraph.{DefaultGraph}

@@ -38,7 +38,8 @@ fn number_of(end: Option<Cell>) -> Option<Option<u64>>
 /// What is asked for of a path with these ends, or none where the number of an end is past the greatest.
 fn requested<'a>(path: &'a Path, left: Option<Cell>, right: Option<Cell>) -> Option<Request<'a>>
     ensures none { IfNone result (IsEndTooFar left ⊎ IsEndTooFar right) }
-    ensures some { IfSome result (λ q. (q.path.now ≡ path.now) × (option_map cell_of q.left ≡ left) × (option_map cell_of q.right ≡ right)) }
+    ensures some { IfSome result (λ q. (q.path.now ≡ path.now) × (option_map cell_of q.left ≡ left)
+        × (option_map cell_of q.right ≡ right)) }
 {
     let left = number_of(left)?;
     let right = number_of(right)?;
@@ -59,10 +60,12 @@ pub fn pairs<'a, V: View>(
     ensures asked { HasFailed result → IsEndTooFar left ⊎ IsEndTooFar right }
     ensures known { known_in V.content result.edges ≡ (V.content view.now).known }
     ensures pairs { (table : List Term) → IsTable (V.content view.now).known table
-        → FitsIf (V.content view.now).known table left → FitsIf (V.content view.now).known table right
+        → FitsIf (V.content view.now).known table left → FitsIf (V.content view.now).known table
+        right
         → IsToCome V.content V.default_seen table result
         (meaning.pairs (active_graph (V.content view.now) (V.default_seen view.now) graph) path.now
-        (denoted_if (V.content view.now).known table left) (denoted_if (V.content view.now).known table right)) }
+        (denoted_if (V.content view.now).known table left)
+        (denoted_if (V.content view.now).known table right)) }
 {
     is_lawful(view);
     let kept = kept_numbers(view, path);

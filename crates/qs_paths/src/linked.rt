@@ -32,8 +32,10 @@ fn starts_of<E: Source>(
     repetition: Repetition,
     steps: &[NodePair],
 ) -> Result<Found, AllocError>
-    requires { ArePairs (E.known edges.now) (pairs (E.graph edges.now) path.now) None None steps.now }
-    ensures { IfOk result (λ f. AreStarts (E.known edges.now) (E.graph edges.now) (pairs (E.graph edges.now) path.now) repetition f.nodes.keys) }
+    requires { ArePairs (E.known edges.now) (pairs (E.graph edges.now) path.now) None None
+        steps.now }
+    ensures { IfOk result (λ f. AreStarts (E.known edges.now) (E.graph edges.now)
+        (pairs (E.graph edges.now) path.now) repetition f.nodes.keys) }
 {
     match repetition {
         Repetition::OneOrMore => {
@@ -55,8 +57,12 @@ pub fn linked_from_all<E: Source>(
     repetition: Repetition,
     steps: &[NodePair],
 ) -> Result<Vec<NodePair>, AllocError>
-    requires { ArePairs (E.known edges.now) (pairs (E.graph edges.now) path.now) None None steps.now }
-    ensures { IfOk result (λ ps. ArePairs (E.known edges.now) (closure repetition (is_step (pairs (E.graph edges.now) path.now)) (E.graph edges.now)) None None ps.items) }
+    requires { ArePairs (E.known edges.now) (pairs (E.graph edges.now) path.now) None None
+        steps.now }
+    ensures { IfOk result
+        (λ ps. ArePairs (E.known edges.now)
+        (closure repetition (is_step (pairs (E.graph edges.now) path.now)) (E.graph edges.now))
+        None None ps.items) }
 {
     let mut links = links_of(alloc, steps)?;
     let ends = starts_of(alloc, edges, path, repetition, steps)?;
@@ -93,10 +99,14 @@ fn place_alike(
     requires long { length found.now.rounds.items ≡ length links.now.nodes.keys }
     requires marked { IsMarked found.now.round found.now.rounds.items found.now.numbers.items }
     requires long_alike { length alike.now.rounds.items ≡ length links.now.nodes.keys }
-    requires marked_alike { IsMarked alike.now.round alike.now.rounds.items alike.now.numbers.items }
+    requires marked_alike { IsMarked alike.now.round alike.now.rounds.items
+        alike.now.numbers.items }
     ensures closing { IfSome result (λ n. repetition ≢ ZeroOrOne) }
-    ensures found { IfSome result (λ n. list_any (same_number start.place) found.now.numbers.items ≡ true) }
-    ensures row { IfSome result (λ n. list_any (same_number n) (slice_index_or (rows_of links.now.next.items) start.place []) ≡ true) }
+    ensures found { IfSome result (λ n. list_any (same_number start.place) found.now.numbers.items
+        ≡ true) }
+    ensures row { IfSome result
+        (λ n. list_any (same_number n) (slice_index_or (rows_of links.now.next.items) start.place
+        []) ≡ true) }
     ensures alike { IfSome result (λ n. list_any (same_number n) alike.now.numbers.items ≡ true) }
 {
     match repetition {
@@ -122,20 +132,31 @@ fn walk_unless_alike<E: Source>(
     alike: &mut Reached,
 ) -> Result<(), AllocError>
     requires web { IsWeb links.now.nodes.keys (rows_of links.now.next.items) }
-    requires links { LinkSteps (E.known edges.now) links.now.nodes.keys (rows_of links.now.next.items) (pairs (E.graph edges.now) path.now) }
+    requires links { LinkSteps (E.known edges.now) links.now.nodes.keys
+        (rows_of links.now.next.items) (pairs (E.graph edges.now) path.now) }
     requires at { StandsAt links.now.nodes.keys start.place start.node }
     requires node { NamesNode (E.known edges.now) (E.graph edges.now) start.node }
     requires long { length found.old.rounds.items ≡ length links.now.nodes.keys }
     requires marked { IsMarked found.old.round found.old.rounds.items found.old.numbers.items }
     requires long_alike { length alike.old.rounds.items ≡ length links.now.nodes.keys }
-    requires marked_alike { IsMarked alike.old.round alike.old.rounds.items alike.old.numbers.items }
-    requires alike { AreAlike (E.known edges.now) repetition (pairs (E.graph edges.now) path.now) (E.graph edges.now) links.now.nodes.keys found.old.numbers.items alike.old.numbers.items }
-    ensures ends { OnOk result (AreEnds (E.known edges.now) repetition (pairs (E.graph edges.now) path.now) (E.graph edges.now) start.node (nodes_at start.node links.now.nodes.keys found.new.numbers.items)) }
+    requires marked_alike { IsMarked alike.old.round alike.old.rounds.items
+        alike.old.numbers.items }
+    requires alike { AreAlike (E.known edges.now) repetition (pairs (E.graph edges.now) path.now)
+        (E.graph edges.now) links.now.nodes.keys found.old.numbers.items alike.old.numbers.items }
+    ensures ends { OnOk result
+        (AreEnds (E.known edges.now) repetition (pairs (E.graph edges.now) path.now)
+        (E.graph edges.now) start.node
+        (nodes_at start.node links.now.nodes.keys found.new.numbers.items)) }
     ensures long { OnOk result (length found.new.rounds.items ≡ length links.now.nodes.keys) }
-    ensures marked { OnOk result (IsMarked found.new.round found.new.rounds.items found.new.numbers.items) }
+    ensures marked { OnOk result
+        (IsMarked found.new.round found.new.rounds.items found.new.numbers.items) }
     ensures long_alike { OnOk result (length alike.new.rounds.items ≡ length links.now.nodes.keys) }
-    ensures marked_alike { OnOk result (IsMarked alike.new.round alike.new.rounds.items alike.new.numbers.items) }
-    ensures alike { OnOk result (AreAlike (E.known edges.now) repetition (pairs (E.graph edges.now) path.now) (E.graph edges.now) links.now.nodes.keys found.new.numbers.items alike.new.numbers.items) }
+    ensures marked_alike { OnOk result
+        (IsMarked alike.new.round alike.new.rounds.items alike.new.numbers.items) }
+    ensures alike { OnOk result
+        (AreAlike (E.known edges.now) repetition (pairs (E.graph edges.now) path.now)
+        (E.graph edges.now) links.now.nodes.keys found.new.numbers.items
+        alike.new.numbers.items) }
 {
     if place_alike(repetition, links, start, found, alike).is_some() {
         return Ok(());
@@ -156,20 +177,31 @@ fn reach<E: Source>(
     alike: &mut Reached,
 ) -> Result<(), AllocError>
     requires web { IsWeb links.now.nodes.keys (rows_of links.now.next.items) }
-    requires links { LinkSteps (E.known edges.now) links.now.nodes.keys (rows_of links.now.next.items) (pairs (E.graph edges.now) path.now) }
+    requires links { LinkSteps (E.known edges.now) links.now.nodes.keys
+        (rows_of links.now.next.items) (pairs (E.graph edges.now) path.now) }
     requires at { StandsAt links.now.nodes.keys start.place start.node }
     requires node { NamesNode (E.known edges.now) (E.graph edges.now) start.node }
     requires long { length found.old.rounds.items ≡ length links.now.nodes.keys }
     requires marked { IsMarked found.old.round found.old.rounds.items found.old.numbers.items }
     requires long_alike { length alike.old.rounds.items ≡ length links.now.nodes.keys }
-    requires marked_alike { IsMarked alike.old.round alike.old.rounds.items alike.old.numbers.items }
-    requires alike { AreAlike (E.known edges.now) repetition (pairs (E.graph edges.now) path.now) (E.graph edges.now) links.now.nodes.keys found.old.numbers.items alike.old.numbers.items }
-    ensures ends { OnOk result (AreEnds (E.known edges.now) repetition (pairs (E.graph edges.now) path.now) (E.graph edges.now) start.node (nodes_at start.node links.now.nodes.keys found.new.numbers.items)) }
+    requires marked_alike { IsMarked alike.old.round alike.old.rounds.items
+        alike.old.numbers.items }
+    requires alike { AreAlike (E.known edges.now) repetition (pairs (E.graph edges.now) path.now)
+        (E.graph edges.now) links.now.nodes.keys found.old.numbers.items alike.old.numbers.items }
+    ensures ends { OnOk result
+        (AreEnds (E.known edges.now) repetition (pairs (E.graph edges.now) path.now)
+        (E.graph edges.now) start.node
+        (nodes_at start.node links.now.nodes.keys found.new.numbers.items)) }
     ensures long { OnOk result (length found.new.rounds.items ≡ length links.now.nodes.keys) }
-    ensures marked { OnOk result (IsMarked found.new.round found.new.rounds.items found.new.numbers.items) }
+    ensures marked { OnOk result
+        (IsMarked found.new.round found.new.rounds.items found.new.numbers.items) }
     ensures long_alike { OnOk result (length alike.new.rounds.items ≡ length links.now.nodes.keys) }
-    ensures marked_alike { OnOk result (IsMarked alike.new.round alike.new.rounds.items alike.new.numbers.items) }
-    ensures alike { OnOk result (AreAlike (E.known edges.now) repetition (pairs (E.graph edges.now) path.now) (E.graph edges.now) links.now.nodes.keys found.new.numbers.items alike.new.numbers.items) }
+    ensures marked_alike { OnOk result
+        (IsMarked alike.new.round alike.new.rounds.items alike.new.numbers.items) }
+    ensures alike { OnOk result
+        (AreAlike (E.known edges.now) repetition (pairs (E.graph edges.now) path.now)
+        (E.graph edges.now) links.now.nodes.keys found.new.numbers.items
+        alike.new.numbers.items) }
 {
     walk_unless_alike(edges, path, repetition, links, start, found, alike)?;
     alike.add(start.place)?;
@@ -186,14 +218,19 @@ fn walk<E: Source>(
     found: &mut Reached,
 ) -> Result<(), AllocError>
     requires web { IsWeb links.now.nodes.keys (rows_of links.now.next.items) }
-    requires links { LinkSteps (E.known edges.now) links.now.nodes.keys (rows_of links.now.next.items) (pairs (E.graph edges.now) path.now) }
+    requires links { LinkSteps (E.known edges.now) links.now.nodes.keys
+        (rows_of links.now.next.items) (pairs (E.graph edges.now) path.now) }
     requires at { StandsAt links.now.nodes.keys start.place start.node }
     requires node { NamesNode (E.known edges.now) (E.graph edges.now) start.node }
     requires long { length found.old.rounds.items ≡ length links.now.nodes.keys }
     requires marked { IsMarked found.old.round found.old.rounds.items found.old.numbers.items }
-    ensures ends { OnOk result (AreEnds (E.known edges.now) repetition (pairs (E.graph edges.now) path.now) (E.graph edges.now) start.node (nodes_at start.node links.now.nodes.keys found.new.numbers.items)) }
+    ensures ends { OnOk result
+        (AreEnds (E.known edges.now) repetition (pairs (E.graph edges.now) path.now)
+        (E.graph edges.now) start.node
+        (nodes_at start.node links.now.nodes.keys found.new.numbers.items)) }
     ensures long { OnOk result (length found.new.rounds.items ≡ length links.now.nodes.keys) }
-    ensures marked { OnOk result (IsMarked found.new.round found.new.rounds.items found.new.numbers.items) }
+    ensures marked { OnOk result
+        (IsMarked found.new.round found.new.rounds.items found.new.numbers.items) }
 {
     found.clear()?;
     begin(edges, path, repetition, links, start, found)?;
@@ -216,15 +253,19 @@ fn begin<E: Source>(
     found: &mut Reached,
 ) -> Result<(), AllocError>
     requires web { IsWeb links.now.nodes.keys (rows_of links.now.next.items) }
-    requires links { LinkSteps (E.known edges.now) links.now.nodes.keys (rows_of links.now.next.items) (pairs (E.graph edges.now) path.now) }
+    requires links { LinkSteps (E.known edges.now) links.now.nodes.keys
+        (rows_of links.now.next.items) (pairs (E.graph edges.now) path.now) }
     requires at { StandsAt links.now.nodes.keys start.place start.node }
     requires node { NamesNode (E.known edges.now) (E.graph edges.now) start.node }
     requires empty { found.old.numbers.items ≡ [] }
     requires long { length found.old.rounds.items ≡ length links.now.nodes.keys }
     requires marked { IsMarked found.old.round found.old.rounds.items found.old.numbers.items }
-    ensures holds { OnOk result (AreBegun (E.known edges.now) repetition (pairs (E.graph edges.now) path.now) start.node (nodes_at start.node links.now.nodes.keys found.new.numbers.items)) }
+    ensures holds { OnOk result
+        (AreBegun (E.known edges.now) repetition (pairs (E.graph edges.now) path.now) start.node
+        (nodes_at start.node links.now.nodes.keys found.new.numbers.items)) }
     ensures long { OnOk result (length found.new.rounds.items ≡ length links.now.nodes.keys) }
-    ensures marked { OnOk result (IsMarked found.new.round found.new.rounds.items found.new.numbers.items) }
+    ensures marked { OnOk result
+        (IsMarked found.new.round found.new.rounds.items found.new.numbers.items) }
 {
     match repetition {
         Repetition::ZeroOrOne => {
@@ -251,14 +292,20 @@ fn follow<E: Source>(
 ) -> Result<(), AllocError>
     requires closing { repetition ≢ ZeroOrOne }
     requires web { IsWeb links.now.nodes.keys (rows_of links.now.next.items) }
-    requires links { LinkSteps (E.known edges.now) links.now.nodes.keys (rows_of links.now.next.items) (pairs (E.graph edges.now) path.now) }
+    requires links { LinkSteps (E.known edges.now) links.now.nodes.keys
+        (rows_of links.now.next.items) (pairs (E.graph edges.now) path.now) }
     requires node { NamesNode (E.known edges.now) (E.graph edges.now) start.node }
     requires long { length found.old.rounds.items ≡ length links.now.nodes.keys }
     requires marked { IsMarked found.old.round found.old.rounds.items found.old.numbers.items }
-    requires holds { AreBegun (E.known edges.now) repetition (pairs (E.graph edges.now) path.now) start.node (nodes_at start.node links.now.nodes.keys found.old.numbers.items) }
-    ensures ends { OnOk result (AreEnds (E.known edges.now) repetition (pairs (E.graph edges.now) path.now) (E.graph edges.now) start.node (nodes_at start.node links.now.nodes.keys found.new.numbers.items)) }
+    requires holds { AreBegun (E.known edges.now) repetition (pairs (E.graph edges.now) path.now)
+        start.node (nodes_at start.node links.now.nodes.keys found.old.numbers.items) }
+    ensures ends { OnOk result
+        (AreEnds (E.known edges.now) repetition (pairs (E.graph edges.now) path.now)
+        (E.graph edges.now) start.node
+        (nodes_at start.node links.now.nodes.keys found.new.numbers.items)) }
     ensures long { OnOk result (length found.new.rounds.items ≡ length links.now.nodes.keys) }
-    ensures marked { OnOk result (IsMarked found.new.round found.new.rounds.items found.new.numbers.items) }
+    ensures marked { OnOk result
+        (IsMarked found.new.round found.new.rounds.items found.new.numbers.items) }
 {
     let mut at = 0;
     while at < found.len() {

@@ -52,8 +52,10 @@ impl Links {
     fn place(&mut self, alloc: Global, node: u64) -> Result<usize, AllocError>
         requires { IsWeb self.old.nodes.keys (rows_of self.old.next.items) }
         ensures web { OnOk result (IsWeb self.new.nodes.keys (rows_of self.new.next.items)) }
-        ensures kept { OnOk result ((at n : ℕ) → StandsAt self.old.nodes.keys at n → StandsAt self.new.nodes.keys at n) }
-        ensures leads { OnOk result (LeadAlike self.old.nodes.keys (rows_of self.old.next.items) self.new.nodes.keys (rows_of self.new.next.items)) }
+        ensures kept { OnOk result ((at n : ℕ) → StandsAt self.old.nodes.keys at n
+            → StandsAt self.new.nodes.keys at n) }
+        ensures leads { OnOk result (LeadAlike self.old.nodes.keys (rows_of self.old.next.items)
+            self.new.nodes.keys (rows_of self.new.next.items)) }
         ensures at { IfOk result (λ at. StandsAt self.new.nodes.keys at node) }
     {
         let (place, is_new) = self.nodes.insert_full(node)?;
@@ -68,7 +70,10 @@ impl Links {
     fn link(&mut self, alloc: Global, pair: NodePair) -> Result<(), AllocError>
         requires { IsWeb self.old.nodes.keys (rows_of self.old.next.items) }
         ensures web { OnOk result (IsWeb self.new.nodes.keys (rows_of self.new.next.items)) }
-        ensures leads { OnOk result ((name : ℕ → Term) → AreApart name → (x : Term) → leads_to (names name self.new.nodes.keys) (rows_of self.new.next.items) x ≡ leads_to (names name self.old.nodes.keys) (rows_of self.old.next.items) x ++ (if same_term x (name pair.left) then name pair.right ∷ [] else [])) }
+        ensures leads { OnOk result ((name : ℕ → Term) → AreApart name → (x : Term)
+            → leads_to (names name self.new.nodes.keys) (rows_of self.new.next.items) x
+            ≡ leads_to (names name self.old.nodes.keys) (rows_of self.old.next.items) x
+            ++ (if same_term x (name pair.left) then name pair.right ∷ [] else [])) }
     {
         let from = self.place(alloc, pair.left)?;
         let to = self.place(alloc, pair.right)?;
@@ -80,9 +85,11 @@ impl Links {
     pub fn placed(&mut self, alloc: Global, nodes: &[u64]) -> Result<Vec<Placed>, AllocError>
         requires { IsWeb self.old.nodes.keys (rows_of self.old.next.items) }
         ensures web { OnOk result (IsWeb self.new.nodes.keys (rows_of self.new.next.items)) }
-        ensures leads { OnOk result (LeadAlike self.old.nodes.keys (rows_of self.old.next.items) self.new.nodes.keys (rows_of self.new.next.items)) }
+        ensures leads { OnOk result (LeadAlike self.old.nodes.keys (rows_of self.old.next.items)
+            self.new.nodes.keys (rows_of self.new.next.items)) }
         ensures nodes { IfOk result (λ all. map (λ s. s.node) all.items ≡ nodes.now) }
-        ensures at { IfOk result (λ all. All (λ s. StandsAt self.new.nodes.keys s.place s.node) all.items) }
+        ensures at { IfOk result (λ all. All (λ s. StandsAt self.new.nodes.keys s.place s.node)
+            all.items) }
     {
         let mut all = Vec::with_capacity(alloc, nodes.len())?;
         for node in nodes {
@@ -95,10 +102,15 @@ impl Links {
     /// A place that a link leads to from this one and that was reached, if any was.
     pub fn reached_from(&self, place: usize, reached: &Reached) -> Option<usize>
         requires place { place < length self.now.next.items }
-        requires below { All (AreBelow (length reached.now.rounds.items)) (rows_of self.now.next.items) }
-        requires marked { IsMarked reached.now.round reached.now.rounds.items reached.now.numbers.items }
-        ensures row { IfSome result (λ n. list_any (same_number n) (slice_index_or (rows_of self.now.next.items) place []) ≡ true) }
-        ensures reached { IfSome result (λ n. list_any (same_number n) reached.now.numbers.items ≡ true) }
+        requires below { All (AreBelow (length reached.now.rounds.items))
+            (rows_of self.now.next.items) }
+        requires marked { IsMarked reached.now.round reached.now.rounds.items
+            reached.now.numbers.items }
+        ensures row { IfSome result
+            (λ n. list_any (same_number n) (slice_index_or (rows_of self.now.next.items) place [])
+            ≡ true) }
+        ensures reached { IfSome result (λ n. list_any (same_number n) reached.now.numbers.items
+            ≡ true) }
     {
         reached.any_of(self.next[place].as_slice())
     }
@@ -106,11 +118,15 @@ impl Links {
     /// Puts the places that links lead to from this one at the end of what was reached, each if it isn't there yet.
     pub fn lead_on(&self, place: usize, found: &mut Reached) -> Result<(), AllocError>
         requires place { place < length self.now.next.items }
-        requires below { All (AreBelow (length found.old.rounds.items)) (rows_of self.now.next.items) }
+        requires below { All (AreBelow (length found.old.rounds.items))
+            (rows_of self.now.next.items) }
         requires marked { IsMarked found.old.round found.old.rounds.items found.old.numbers.items }
-        ensures numbers { OnOk result (found.new.numbers.items ≡ with_numbers found.old.numbers.items (slice_index_or (rows_of self.now.next.items) place [])) }
+        ensures numbers { OnOk result
+            (found.new.numbers.items ≡ with_numbers found.old.numbers.items
+            (slice_index_or (rows_of self.now.next.items) place [])) }
         ensures long { OnOk result (length found.new.rounds.items ≡ length found.old.rounds.items) }
-        ensures marked { OnOk result (IsMarked found.new.round found.new.rounds.items found.new.numbers.items) }
+        ensures marked { OnOk result
+            (IsMarked found.new.round found.new.rounds.items found.new.numbers.items) }
     {
         found.add_all(self.next[place].as_slice())?;
         Ok(())

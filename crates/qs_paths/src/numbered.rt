@@ -2,7 +2,7 @@
 
 ghost use Rattle.std.specs.Prelude.{◌≡◌, Some, IfOk, IfSome, IsTrue};
 ghost use Rattle.qs_terms.specs.declared.term.Term.TheVariants as term_is;
-ghost use Rattle.qs_dict.specs.Dict.{number_of};
+ghost use Rattle.qs_dict.specs.inner.Dict.{number_of};
 
 use qs_store::View;
 use qs_syntax_ast::path::{NegatedIri, Path};
@@ -24,7 +24,8 @@ fn looked_up<V: View>(view: &V, iri: &Iri) -> Result<Option<u32>, AllocError>
 
 /// Whether the number is that of the IRI.
 fn is_of<V: View>(view: &V, number: u32, iri: &Iri) -> bool
-    ensures { IsTrue result → number_of (V.content view.now).known (term_is.Iri iri.now) ≡ Some number }
+    ensures { IsTrue result → number_of (V.content view.now).known (term_is.Iri iri.now)
+        ≡ Some number }
 {
     let _count = view.count();
     if number == 0 || number > view.terms() {
@@ -38,7 +39,8 @@ fn is_of<V: View>(view: &V, number: u32, iri: &Iri) -> bool
 
 /// The number of the IRI, where it is among these. It is compared with the terms of the numbers, so these need no invariant.
 fn number_among<V: View>(view: &V, kept: &[u32], iri: &Iri) -> Option<u32>
-    ensures { IfSome result (λ n. number_of (V.content view.now).known (term_is.Iri iri.now) ≡ Some n) }
+    ensures { IfSome result (λ n. number_of (V.content view.now).known (term_is.Iri iri.now)
+        ≡ Some n) }
 {
     for number in kept {
         if is_of(view, *number, iri) {

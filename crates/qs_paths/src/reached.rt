@@ -40,7 +40,8 @@ impl Reached {
         requires { IsMarked self.old.round self.old.rounds.items self.old.numbers.items }
         ensures numbers { OnOk result (self.new.numbers.items ≡ []) }
         ensures long { OnOk result (length self.new.rounds.items ≡ length self.old.rounds.items) }
-        ensures marked { OnOk result (IsMarked self.new.round self.new.rounds.items self.new.numbers.items) }
+        ensures marked { OnOk result
+            (IsMarked self.new.round self.new.rounds.items self.new.numbers.items) }
     {
         self.round = self.round.checked_add(1).ok_or(AllocError)?;
         self.numbers.clear();
@@ -74,7 +75,8 @@ impl Reached {
         requires below { AreBelow (length self.now.rounds.items) numbers.now }
         requires marked { IsMarked self.now.round self.now.rounds.items self.now.numbers.items }
         ensures one { IfSome result (λ n. list_any (same_number n) numbers.now ≡ true) }
-        ensures reached { IfSome result (λ n. list_any (same_number n) self.now.numbers.items ≡ true) }
+        ensures reached { IfSome result (λ n. list_any (same_number n) self.now.numbers.items
+            ≡ true) }
     {
         for number in numbers {
             if self.has(*number) {
@@ -88,9 +90,11 @@ impl Reached {
     pub fn add(&mut self, number: usize) -> Result<(), AllocError>
         requires below { number < length self.old.rounds.items }
         requires marked { IsMarked self.old.round self.old.rounds.items self.old.numbers.items }
-        ensures numbers { OnOk result (self.new.numbers.items ≡ with_new same_number self.old.numbers.items number) }
+        ensures numbers { OnOk result
+            (self.new.numbers.items ≡ with_new same_number self.old.numbers.items number) }
         ensures long { OnOk result (length self.new.rounds.items ≡ length self.old.rounds.items) }
-        ensures marked { OnOk result (IsMarked self.new.round self.new.rounds.items self.new.numbers.items) }
+        ensures marked { OnOk result
+            (IsMarked self.new.round self.new.rounds.items self.new.numbers.items) }
     {
         if self.rounds[number] == self.round {
             return Ok(());
@@ -105,9 +109,11 @@ impl Reached {
     pub fn add_all(&mut self, numbers: &[usize]) -> Result<(), AllocError>
         requires below { AreBelow (length self.old.rounds.items) numbers.now }
         requires marked { IsMarked self.old.round self.old.rounds.items self.old.numbers.items }
-        ensures numbers { OnOk result (self.new.numbers.items ≡ with_numbers self.old.numbers.items numbers.now) }
+        ensures numbers { OnOk result (self.new.numbers.items ≡ with_numbers self.old.numbers.items
+            numbers.now) }
         ensures long { OnOk result (length self.new.rounds.items ≡ length self.old.rounds.items) }
-        ensures marked { OnOk result (IsMarked self.new.round self.new.rounds.items self.new.numbers.items) }
+        ensures marked { OnOk result
+            (IsMarked self.new.round self.new.rounds.items self.new.numbers.items) }
     {
         for number in numbers {
             self.add(*number)?;
@@ -125,7 +131,8 @@ pub fn put_reached(
     numbers: &[usize],
 ) -> Result<(), AllocError>
     requires { AreBelow (length nodes.now) numbers.now }
-    ensures { OnOk result (pairs.new.items ≡ pairs.old.items ++ map (node_pair start) (nodes_at start nodes.now numbers.now)) }
+    ensures { OnOk result (pairs.new.items ≡ pairs.old.items ++ map (node_pair start)
+        (nodes_at start nodes.now numbers.now)) }
 {
     pairs.reserve(numbers.len())?;
     for number in numbers {

@@ -58,7 +58,8 @@ fn scanned<'v, V: View>(
     predicate: Option<u32>,
     right: Option<u64>,
 ) -> Option<Triples<'v>>
-    ensures { AreScanned (V.content view.now) (V.default_seen view.now) active left predicate right result }
+    ensures { AreScanned (V.content view.now) (V.default_seen view.now) active left predicate right
+        result }
 {
     let subject = given(left)?;
     let object = given(right)?;
@@ -74,7 +75,10 @@ pub fn along_scan<'v, V: View>(
     left: Option<u64>,
     right: Option<u64>,
 ) -> Result<Option<Scan<'v>>, AllocError>
-    ensures { IfOk result (λ s. ArePairs (V.content edges.now.view.now).known (along (same_term (term_is.Iri predicate.now)) (active_graph (V.content edges.now.view.now) (V.default_seen edges.now.view.now) edges.now.active)) left right (edges_in s)) }
+    ensures { IfOk result (λ s. ArePairs (V.content edges.now.view.now).known
+        (along (same_term (term_is.Iri predicate.now))
+        (active_graph (V.content edges.now.view.now) (V.default_seen edges.now.view.now)
+        edges.now.active)) left right (edges_in s)) }
 {
     is_lawful(edges.view);
     let Some(number) = number_of_iri(edges.view, edges.kept.as_slice(), predicate)? else {
@@ -97,7 +101,8 @@ fn numbers_of<V: View>(
     inverse: bool,
 ) -> Result<Vec<u32>, AllocError>
     requires { IsSeen (V.content edges.now.view.now) }
-    ensures { IfOk result (λ ns. AreOutside (V.content edges.now.view.now).known inverse members.now ns.items) }
+    ensures { IfOk result (λ ns. AreOutside (V.content edges.now.view.now).known inverse members.now
+        ns.items) }
 {
     let mut numbers = Vec::new(alloc);
     for member in members {
@@ -113,7 +118,8 @@ fn put_number<V: View>(
     inverse: bool,
     numbers: &mut Vec<u32>,
 ) -> Result<(), AllocError>
-    ensures { OnOk result (numbers.new.items ≡ numbers.old.items ++ number_out (V.content edges.now.view.now).known inverse member.now) }
+    ensures { OnOk result (numbers.new.items ≡ numbers.old.items ++ number_out
+        (V.content edges.now.view.now).known inverse member.now) }
 {
     if is_of(member, inverse) {
         if let Some(number) = number_of_iri(edges.view, edges.kept.as_slice(), &member.iri)? {
@@ -132,7 +138,10 @@ pub fn outside_scan<'v, V: View>(
     left: Option<u64>,
     right: Option<u64>,
 ) -> Result<Option<Scan<'v>>, AllocError>
-    ensures { IfOk result (λ s. ArePairs (V.content edges.now.view.now).known (along (is_outside inverse members.now) (active_graph (V.content edges.now.view.now) (V.default_seen edges.now.view.now) edges.now.active)) left right (edges_in s)) }
+    ensures { IfOk result (λ s. ArePairs (V.content edges.now.view.now).known
+        (along (is_outside inverse members.now)
+        (active_graph (V.content edges.now.view.now) (V.default_seen edges.now.view.now)
+        edges.now.active)) left right (edges_in s)) }
 {
     is_lawful(edges.view);
     let outside = numbers_of(alloc, edges, members, inverse)?;
@@ -144,7 +153,8 @@ pub fn outside_scan<'v, V: View>(
 
 /// Whether a triple begins or ends at the node.
 fn is_node<V: View>(view: &V, active: Active, node: u64) -> bool
-    ensures { TellsNode (V.content view.now).known (active_graph (V.content view.now) (V.default_seen view.now) active) node result }
+    ensures { TellsNode (V.content view.now).known
+        (active_graph (V.content view.now) (V.default_seen view.now) active) node result }
 {
     is_lawful(view);
     if node >= 1 << 32 {

@@ -27,7 +27,10 @@ pub trait Source {
         left: Option<u64>,
         right: Option<u64>,
     ) -> Result<Vec<NodePair>, AllocError>
-        ensures { IfOk result (λ ps. ArePairs (known self.now) (along (same_term (term_is.Iri predicate.now)) (graph self.now)) left right ps.items) };
+        ensures { IfOk result
+            (λ ps. ArePairs (known self.now)
+            (along (same_term (term_is.Iri predicate.now)) (graph self.now)) left right
+            ps.items) };
 
     /// One pair for each triple with these ends whose predicate none of the members of this direction names.
     fn outside(
@@ -38,7 +41,9 @@ pub trait Source {
         left: Option<u64>,
         right: Option<u64>,
     ) -> Result<Vec<NodePair>, AllocError>
-        ensures { IfOk result (λ ps. ArePairs (known self.now) (along (is_outside inverse members.now) (graph self.now)) left right ps.items) };
+        ensures { IfOk result
+            (λ ps. ArePairs (known self.now)
+            (along (is_outside inverse members.now) (graph self.now)) left right ps.items) };
 
     /// Whether the number names a node of the graph: the subject or the object of a triple.
     fn has_node(&self, node: u64) -> bool

@@ -57,7 +57,9 @@ pub fn start_of<'a, V: View>(
     edges: &Seen<'a, V>,
     request: &Request<'a>,
 ) -> Result<Opened<'a>, AllocError>
-    ensures { IfOk result (λ o. Opens (known_in V.content edges.now) (graph_in V.content V.default_seen edges.now) request.now o.turned o.state) }
+    ensures { IfOk result
+        (λ o. Opens (known_in V.content edges.now) (graph_in V.content V.default_seen edges.now)
+        request.now o.turned o.state) }
 {
     match request.path {
         Path::Inverse(inner) => {
@@ -85,7 +87,9 @@ fn start_at<'a, V: View>(
     left: Option<u64>,
     right: Option<u64>,
 ) -> Result<State<'a>, AllocError>
-    ensures { IfOk result (λ s. OpensAt (known_in V.content edges.now) (graph_in V.content V.default_seen edges.now) path.now left right s) }
+    ensures { IfOk result
+        (λ s. OpensAt (known_in V.content edges.now) (graph_in V.content V.default_seen edges.now)
+        path.now left right s) }
 {
     match path {
         Path::Iri(iri) => {
@@ -134,7 +138,9 @@ fn closure_at<'a, V: View>(
 ) -> Result<State<'a>, AllocError>
     requires path { path.now ≡ path_is.Repeated inner.now repetition }
     requires closing { repetition ≢ ZeroOrOne }
-    ensures { IfOk result (λ s. OpensAt (known_in V.content edges.now) (graph_in V.content V.default_seen edges.now) path.now left right s) }
+    ensures { IfOk result
+        (λ s. OpensAt (known_in V.content edges.now) (graph_in V.content V.default_seen edges.now)
+        path.now left right s) }
 {
     match (left, right) {
         (Some(start), _) => {
@@ -157,7 +163,9 @@ fn whole<'a, V: View>(
     left: Option<u64>,
     right: Option<u64>,
 ) -> Result<State<'a>, AllocError>
-    ensures { IfOk result (λ s. OpensAt (known_in V.content edges.now) (graph_in V.content V.default_seen edges.now) path.now left right s) }
+    ensures { IfOk result
+        (λ s. OpensAt (known_in V.content edges.now) (graph_in V.content V.default_seen edges.now)
+        path.now left right s) }
 {
     let rows = pairs_of_nodes(alloc, edges, path, left, right)?;
     Ok(State::Whole(Rows { rows, at: 0 }))
@@ -187,7 +195,8 @@ fn next_row(rows: &mut Rows) -> Option<NodePair>
 /// The next of the pairs that were found whole, where they were.
 #[inline(always)]
 fn next_whole(state: &mut State<'_>) -> Option<NodePair>
-    ensures some { IfSome result (λ e. (known : List Term) (graph : Graph) → GivesLeft known graph state.old (Some e) state.new) }
+    ensures some { IfSome result (λ e. (known : List Term) (graph : Graph)
+        → GivesLeft known graph state.old (Some e) state.new) }
     ensures whole { IfSome result (λ e. state.old ≢ state_is.Failed) }
     ensures none { IfNone result (state.new ≡ state.old) }
 {
@@ -201,7 +210,8 @@ fn next_whole(state: &mut State<'_>) -> Option<NodePair>
 #[inline(always)]
 pub fn next_found(request: &Option<Request<'_>>, state: &mut State<'_>) -> Option<NodePair>
     ensures asked { IfSome result (λ e. request.now ≡ None) }
-    ensures some { IfSome result (λ e. (known : List Term) (graph : Graph) → GivesLeft known graph state.old (Some e) state.new) }
+    ensures some { IfSome result (λ e. (known : List Term) (graph : Graph)
+        → GivesLeft known graph state.old (Some e) state.new) }
     ensures whole { IfSome result (λ e. state.old ≢ state_is.Failed) }
     ensures none { IfNone result (state.new ≡ state.old) }
 {
@@ -218,7 +228,9 @@ pub fn next_of_state<'a, V: View>(
     edges: &Seen<'a, V>,
     state: &mut State<'a>,
 ) -> Result<Option<NodePair>, AllocError>
-    ensures gives { IfOk result (λ o. GivesLeft (known_in V.content edges.now) (graph_in V.content V.default_seen edges.now) state.old o state.new) }
+    ensures gives { IfOk result
+        (λ o. GivesLeft (known_in V.content edges.now) (graph_in V.content V.default_seen edges.now)
+        state.old o state.new) }
     ensures failed { state.old ≡ state_is.Failed → IsErr result }
 {
     match state {

@@ -12,7 +12,8 @@ use std::alloc::{AllocError, Global};
 
 /// Puts the pair at the end, where it is one.
 fn put_if(pairs: &mut Vec<NodePair>, is_one: bool, left: u64, right: u64) -> Result<(), AllocError>
-    ensures { OnOk result (pairs.new.items ≡ pairs.old.items ++ (if is_one then node_pair left right ∷ [] else [])) }
+    ensures { OnOk result
+        (pairs.new.items ≡ pairs.old.items ++ (if is_one then node_pair left right ∷ [] else [])) }
 {
     if is_one {
         pairs.push(NodePair { left, right })?;
@@ -58,7 +59,8 @@ pub fn put_ends(
     ends: &[u64],
     right: Option<u64>,
 ) -> Result<(), AllocError>
-    ensures { OnOk result (pairs.new.items ≡ pairs.old.items ++ map (node_pair start) (filter (agrees_node right) ends.now)) }
+    ensures { OnOk result (pairs.new.items ≡ pairs.old.items ++ map (node_pair start)
+        (filter (agrees_node right) ends.now)) }
 {
     for end in ends {
         put_if(pairs, agrees(right, *end), start, *end)?;
@@ -102,7 +104,8 @@ pub(crate) fn has_any_of(members: &[NegatedIri], inverse: bool) -> bool
 
 /// Whether the set has a forward part: it names a forward IRI or nothing.
 pub(crate) fn has_forward(members: &[NegatedIri]) -> bool
-    ensures { result ≡ (list_any (Rattle.qs_paths_meaning.specs.Steps.is_of false) members.now || is_none members.now) }
+    ensures { result ≡ (list_any (Rattle.qs_paths_meaning.specs.Steps.is_of false) members.now
+        || is_none members.now) }
 {
     has_any_of(members, false) || members.is_empty()
 }
@@ -114,7 +117,9 @@ fn forward_part<E: Source>(
     left: Option<u64>,
     right: Option<u64>,
 ) -> Result<Vec<NodePair>, AllocError>
-    ensures { IfOk result (λ ps. ArePairs (E.known edges.now) (forward_pairs members.now (E.graph edges.now)) left right ps.items) }
+    ensures { IfOk result
+        (λ ps. ArePairs (E.known edges.now) (forward_pairs members.now (E.graph edges.now)) left
+        right ps.items) }
 {
     if has_forward(members) {
         let pairs = edges.outside(alloc, members, false, left, right)?;
@@ -130,7 +135,9 @@ fn inverse_part<E: Source>(
     left: Option<u64>,
     right: Option<u64>,
 ) -> Result<Vec<NodePair>, AllocError>
-    ensures { IfOk result (λ ps. ArePairs (E.known edges.now) (inverse_pairs members.now (E.graph edges.now)) left right ps.items) }
+    ensures { IfOk result
+        (λ ps. ArePairs (E.known edges.now) (inverse_pairs members.now (E.graph edges.now)) left
+        right ps.items) }
 {
     if has_any_of(members, true) {
         let pairs = edges.outside(alloc, members, true, right, left)?;
@@ -148,7 +155,9 @@ pub fn negated<E: Source>(
     left: Option<u64>,
     right: Option<u64>,
 ) -> Result<Vec<NodePair>, AllocError>
-    ensures { IfOk result (λ ps. ArePairs (E.known edges.now) (negated members.now (E.graph edges.now)) left right ps.items) }
+    ensures { IfOk result
+        (λ ps. ArePairs (E.known edges.now) (negated members.now (E.graph edges.now)) left right
+        ps.items) }
 {
     let mut pairs = forward_part(alloc, edges, members, left, right)?;
     let mut more = inverse_part(alloc, edges, members, left, right)?;

@@ -33,7 +33,9 @@ fn step<'a, V: View>(
     is_turned: &mut bool,
     state: &mut State<'a>,
 ) -> Result<Option<NodePair>, AllocError>
-    ensures gives { IfOk result (λ o. GivesStep (known_in V.content edges.now) (graph_in V.content V.default_seen edges.now) request.old is_turned.old state.old o request.new is_turned.new state.new) }
+    ensures gives { IfOk result
+        (λ o. GivesStep (known_in V.content edges.now) (graph_in V.content V.default_seen edges.now)
+        request.old is_turned.old state.old o request.new is_turned.new state.new) }
     ensures failed { HasFailedIn request.old state.old → IsErr result }
 {
     let Some(request) = request.take() else {
@@ -75,7 +77,8 @@ impl<'a, V: View> Pairs<'a, V> {
     /// # Errors
     /// Out of memory.
     pub fn rest_found(&self) -> Result<Option<Vec<(Cell, Cell)>>, AllocError>
-        ensures { IfOk result (λ o. IfSome o (λ cells. AreAll V.content V.default_seen self.now cells.items)) }
+        ensures { IfOk result
+            (λ o. IfSome o (λ cells. AreAll V.content V.default_seen self.now cells.items)) }
     {
         match (&self.request, &self.state) {
             (None, State::Whole(rows)) => {

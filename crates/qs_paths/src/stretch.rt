@@ -44,7 +44,11 @@ pub fn of_iri<'a, V: View>(
     left: Option<u64>,
     right: Option<u64>,
 ) -> Result<Stretch<'a>, AllocError>
-    ensures { IfOk result (λ s. OpensStretch (known_in V.content edges.now) (graph_in V.content V.default_seen edges.now) (along (same_term (term_is.Iri iri.now)) (graph_in V.content V.default_seen edges.now)) left right s) }
+    ensures { IfOk result
+        (λ s. OpensStretch (known_in V.content edges.now)
+        (graph_in V.content V.default_seen edges.now)
+        (along (same_term (term_is.Iri iri.now)) (graph_in V.content V.default_seen edges.now))
+        left right s) }
 {
     let scan = along_scan(alloc, edges, iri, left, right)?;
     Ok(Stretch {
@@ -56,7 +60,8 @@ pub fn of_iri<'a, V: View>(
 
 /// What is read after the forward part.
 fn more_of<'a>(members: &'a [NegatedIri], left: Option<u64>, right: Option<u64>) -> Option<More<'a>>
-    ensures { (graph : Graph) (name : ℕ → Term) → more_pairs graph name result ≡ inverse_pairs members.now graph (named_end name left) (named_end name right) }
+    ensures { (graph : Graph) (name : ℕ → Term) → more_pairs graph name result
+        ≡ inverse_pairs members.now graph (named_end name left) (named_end name right) }
 {
     if has_any_of(members, true) {
         Some(More {
@@ -77,7 +82,10 @@ pub fn of_set<'a, V: View>(
     left: Option<u64>,
     right: Option<u64>,
 ) -> Result<Stretch<'a>, AllocError>
-    ensures { IfOk result (λ s. OpensStretch (known_in V.content edges.now) (graph_in V.content V.default_seen edges.now) (negated members.now (graph_in V.content V.default_seen edges.now)) left right s) }
+    ensures { IfOk result
+        (λ s. OpensStretch (known_in V.content edges.now)
+        (graph_in V.content V.default_seen edges.now)
+        (negated members.now (graph_in V.content V.default_seen edges.now)) left right s) }
 {
     let more = more_of(members, left, right);
     if !has_forward(members) {
@@ -120,7 +128,9 @@ pub fn next_of_stretch<'a, V: View>(
     edges: &Seen<'a, V>,
     stretch: &mut Stretch<'a>,
 ) -> Result<Option<NodePair>, AllocError>
-    ensures { IfOk result (λ o. GivesEdge (known_in V.content edges.now) (graph_in V.content V.default_seen edges.now) stretch.old o stretch.new) }
+    ensures { IfOk result
+        (λ o. GivesEdge (known_in V.content edges.now) (graph_in V.content V.default_seen edges.now)
+        stretch.old o stretch.new) }
 {
     if let Some(pair) = next_in(&mut stretch.scan) {
         return Ok(Some(turned(pair, stretch.turned)));

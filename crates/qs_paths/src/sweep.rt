@@ -16,7 +16,8 @@ fn spread(links: &Links, from: usize, found: &mut Reached) -> Result<(), AllocEr
     requires below { All (AreBelow (length found.old.rounds.items)) (rows_of links.now.next.items) }
     requires marked { IsMarked found.old.round found.old.rounds.items found.old.numbers.items }
     ensures long { OnOk result (length found.new.rounds.items ≡ length found.old.rounds.items) }
-    ensures marked { OnOk result (IsMarked found.new.round found.new.rounds.items found.new.numbers.items) }
+    ensures marked { OnOk result
+        (IsMarked found.new.round found.new.rounds.items found.new.numbers.items) }
 {
     let mut at = from;
     for _step in 0..links.next.as_slice().len() {

@@ -37,7 +37,8 @@ pub fn started<'a, E: Source>(
     end: Option<u64>,
 ) -> Result<Walk<'a>, AllocError>
     requires { repetition ≢ ZeroOrOne }
-    ensures { IfOk result (λ w. Starts (E.known edges.now) (E.graph edges.now) path.now repetition backward start end w) }
+    ensures { IfOk result (λ w. Starts (E.known edges.now) (E.graph edges.now) path.now repetition
+        backward start end w) }
 {
     let mut found = Found::new(alloc);
     begin(alloc, edges, path, repetition, backward, start, &mut found)?;
@@ -55,9 +56,11 @@ pub fn started<'a, E: Source>(
 
 /// Goes on from nodes that were found until there is one that wasn't handed out. Answers whether there is.
 fn find_next<E: Source>(alloc: Global, edges: &E, walk: &mut Walk<'_>) -> Result<bool, AllocError>
-    ensures goes { IfOk result (λ b. FindsNext (E.known edges.now) (E.graph edges.now) walk.old b walk.new) }
+    ensures goes { IfOk result (λ b. FindsNext (E.known edges.now) (E.graph edges.now) walk.old b
+        walk.new) }
     ensures given { OnOk result (walk.new.given ≡ walk.old.given) }
-    ensures ready { IfOk result (λ b. b ≡ true → walk.new.given < length walk.new.found.nodes.keys) }
+    ensures ready { IfOk result
+        (λ b. b ≡ true → walk.new.given < length walk.new.found.nodes.keys) }
     ensures small { IfOk result (λ b. b ≡ true → walk.new.given + 1 < 2 ^ 64) }
 {
     'steps: while walk.given >= walk.found.len() {
@@ -96,7 +99,8 @@ pub fn next_walked<E: Source>(
     edges: &E,
     walk: &mut Walk<'_>,
 ) -> Result<Option<NodePair>, AllocError>
-    ensures { IfOk result (λ o. GivesWalked (E.known edges.now) (E.graph edges.now) walk.old o walk.new) }
+    ensures { IfOk result (λ o. GivesWalked (E.known edges.now) (E.graph edges.now) walk.old o
+        walk.new) }
 {
     'nodes: while find_next(alloc, edges, walk)? {
         let node = walk.found.node(walk.given);

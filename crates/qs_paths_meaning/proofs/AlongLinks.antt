@@ -15,7 +15,8 @@ use Rattle.qs_terms.proofs.SameTerm.{same_term-Decides}
 use Rattle.qs_syntax_tree.specs.declared.path.Repetition.{Repetition}
 use Rattle.qs_syntax_tree.specs.declared.path.Repetition.TheVariants.{ZeroOrOne, OneOrMore}
 use Rattle.qs_syntax_ast.specs.declared.path.Path.{Path}
-use Rattle.qs_paths_meaning.specs.Pair.{Pair, same_pair}
+use Rattle.qs_paths_meaning.specs.Pair.{Pair}
+use Rattle.qs_paths_meaning.specs.inner.Pair.{same_pair}
 use Rattle.qs_paths_meaning.specs.Steps.{Graph}
 use Rattle.qs_paths_meaning.specs.Closure.{candidates}
 use Rattle.qs_paths_meaning.specs.Pairs.{is_step, pairs}

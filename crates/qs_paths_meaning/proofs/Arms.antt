@@ -10,7 +10,8 @@ use Rattle.std.proofs.lemmas.List.Sorted.{IsPermutation-append, IsPermutation-ma
 use Rattle.std.proofs.lemmas.Grind.{flat_map-append}
 use Rattle.qs_terms.specs.declared.term.Term.{Term}
 use Rattle.qs_terms.specs.declared.term.Term.TheVariants as term
-use Rattle.qs_terms.specs.Bag.{times, SameBag}
+use Rattle.qs_terms.specs.Bag.{SameBag}
+use Rattle.qs_terms.specs.inner.Bag.{times}
 use Rattle.qs_terms.specs.Term.{same_term}
 use Rattle.qs_terms.proofs.Counts.{times-flat_map, times-filter, times-same, total-same, total-ap, same_from_times}
 use Rattle.qs_terms.proofs.SameTerm.{same_term-Decides}
@@ -18,7 +19,8 @@ use Rattle.qs_syntax_tree.specs.declared.path.Repetition.{Repetition}
 use Rattle.qs_syntax_ast.specs.declared.path.NegatedIri.{NegatedIri}
 use Rattle.qs_syntax_ast.specs.declared.path.Path.{Path}
 use Rattle.qs_syntax_ast.specs.declared.path.Path.TheVariants.{Iri, NegatedSet, Alternative, Sequence, Inverse, Repeated}
-use Rattle.qs_paths_meaning.specs.Pair.{Pair, pair, swapped, same_pair}
+use Rattle.qs_paths_meaning.specs.Pair.{Pair, pair, swapped}
+use Rattle.qs_paths_meaning.specs.inner.Pair.{same_pair}
 use Rattle.qs_paths_meaning.specs.Steps.{Graph, along, negated, composed, from_pair}
 use Rattle.qs_paths_meaning.specs.Closure.{closure}
 use Rattle.qs_paths_meaning.specs.Pairs.{AtEnds, in_sequence, is_step, pairs}

@@ -6,14 +6,16 @@ use Rattle.std.proofs.lemmas.List.{take_more, append-nil}
 use Rattle.std.proofs.lemmas.List.Sorted.{IsPermutation-append, IsPermutation-map, IsPermutation-refl, IsPermutation-trans}
 use Rattle.std.proofs.lemmas.Grind.{flat_map-append}
 use Rattle.qs_terms.specs.declared.term.Term.{Term}
-use Rattle.qs_terms.specs.Bag.{times, SameBag}
+use Rattle.qs_terms.specs.Bag.{SameBag}
+use Rattle.qs_terms.specs.inner.Bag.{times}
 use Rattle.qs_terms.specs.Term.{same_term}
 use Rattle.qs_terms.specs.Dataset.{nodes_of}
 use Rattle.qs_terms.proofs.Counts.{total, times-flat_map, total-ap, same_from_times}
 use Rattle.qs_terms.proofs.FirstOnes.{filter-append}
 use Rattle.qs_terms.proofs.SameTerm.{same_term-Decides}
 use Rattle.qs_syntax_ast.specs.declared.path.Path.{Path}
-use Rattle.qs_paths_meaning.specs.Pair.{Pair, pair, same_pair}
+use Rattle.qs_paths_meaning.specs.Pair.{Pair, pair}
+use Rattle.qs_paths_meaning.specs.inner.Pair.{same_pair}
 use Rattle.qs_paths_meaning.specs.Steps.{Graph, composed, from_pair}
 use Rattle.qs_paths_meaning.specs.inner.Found.{node_or_open, into_pair, right_at}
 use Rattle.qs_paths_meaning.specs.Pairs.{AtEnds, in_sequence, pairs}

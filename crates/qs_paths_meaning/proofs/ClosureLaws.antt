@@ -9,11 +9,12 @@ use Rattle.qs_terms.proofs.SameTerm.{same_term-Decides}
 use Rattle.qs_syntax_tree.specs.declared.path.Repetition.{Repetition}
 use Rattle.qs_syntax_ast.specs.declared.path.Path.{Path}
 use Rattle.qs_syntax_ast.specs.declared.path.Path.TheVariants.{Repeated}
-use Rattle.qs_paths_meaning.specs.Pair.{Pair, pair, same_pair}
+use Rattle.qs_paths_meaning.specs.Pair.{Pair, pair}
+use Rattle.qs_paths_meaning.specs.inner.Pair.{same_pair}
 use Rattle.qs_paths_meaning.specs.Steps.{Graph, agrees}
 use Rattle.qs_paths_meaning.specs.Closure.{candidates, repeats, ends, starts, from_start, closure}
 use Rattle.qs_paths_meaning.specs.Pairs.{AtEnds, is_step, pairs}
-use Rattle.qs_paths_meaning.specs.Walk.{IsWalk, Leads, IsIn, IsStep, MayBegin, ClosuresAreWalks, ClosuresAreDistinct}
+use Rattle.qs_paths_meaning.specs.inner.Walk.{IsWalk, Leads, IsIn, IsStep, MayBegin, ClosuresAreWalks, ClosuresAreDistinct}
 use Rattle.qs_paths_meaning.proofs.Meaning.{pairs_repeated}
 use Rattle.qs_paths_meaning.proofs.Members.{Mem, mem_at, mem_split, mem_filter, mem_of_filter, mem_map, mem_of_map, mem_flat, mem_of_flat, in_mem, mem_in, not_in, is_out, distinct_filter, distinct_once}
 use Rattle.qs_paths_meaning.proofs.Near.{Near, Tied, tied, step_near, repeats_near, start_candidate, candidate, candidates_closed}

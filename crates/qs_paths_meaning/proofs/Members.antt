@@ -3,7 +3,8 @@ use Rattle.std.proofs.Common.{◌≡◌, ◌+◌, Bool, true, false, cond, not, 
 use Rattle.std.specs.Bool.{Decides}
 use Rattle.std.specs.List.{filter, flat_map, list_any}
 use Rattle.std.proofs.lemmas.List.{append-nil}
-use Rattle.qs_terms.specs.Bag.{times, SameBag, Distinct, once, with_new}
+use Rattle.qs_terms.specs.Bag.{SameBag, Distinct, once, with_new}
+use Rattle.qs_terms.specs.inner.Bag.{times}
 use Rattle.qs_terms.proofs.Counts.{Once, same_from_once}
 
 abbrev pub Mem : {X : Type 0} → X → List X → Type 0

@@ -15,7 +15,7 @@ use Rattle.qs_paths_meaning.specs.Steps.{Graph}
 use Rattle.qs_paths_meaning.specs.Closure.{candidates, leads, repeats, ends}
 use Rattle.qs_paths_meaning.specs.inner.Found.{with_all, rights, begins, Holds}
 use Rattle.qs_paths_meaning.specs.Pairs.{AtEnds, is_step}
-use Rattle.qs_paths_meaning.specs.Walk.{IsWalk}
+use Rattle.qs_paths_meaning.specs.inner.Walk.{IsWalk}
 use Rattle.qs_paths_meaning.proofs.Members.{Mem, mem_at, mem_left, mem_right, mem_split, mem_filter, mem_of_filter, in_mem, mem_in, or_cases, or_left, or_right, bool_same, distinct_filter, distinct_once, same_bag}
 use Rattle.qs_paths_meaning.proofs.Members as members
 use Rattle.qs_paths_meaning.proofs.Near.{Tied, start_candidate, candidates_closed}

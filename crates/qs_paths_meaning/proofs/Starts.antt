@@ -10,11 +10,12 @@ use Rattle.qs_terms.proofs.SameTerm.{same_term-Decides}
 use Rattle.qs_syntax_tree.specs.declared.path.Repetition.{Repetition}
 use Rattle.qs_syntax_tree.specs.declared.path.Repetition.TheVariants.{OneOrMore}
 use Rattle.qs_syntax_ast.specs.declared.path.Path.{Path}
-use Rattle.qs_paths_meaning.specs.Pair.{Pair, pair, same_pair}
+use Rattle.qs_paths_meaning.specs.Pair.{Pair, pair}
+use Rattle.qs_paths_meaning.specs.inner.Pair.{same_pair}
 use Rattle.qs_paths_meaning.specs.Steps.{Graph, agrees}
 use Rattle.qs_paths_meaning.specs.Closure.{candidates, leads, repeats, ends, from_start, closure}
 use Rattle.qs_paths_meaning.specs.Pairs.{AtEnds, is_step, pairs}
-use Rattle.qs_paths_meaning.specs.Walk.{IsWalk}
+use Rattle.qs_paths_meaning.specs.inner.Walk.{IsWalk}
 use Rattle.qs_paths_meaning.specs.inner.Found.{with_all, lefts}
 use Rattle.qs_paths_meaning.specs.inner.Links.{AreStarts}
 use Rattle.qs_paths_meaning.proofs.Arms.{same_pair-Decides, same_as, flat_map_same}

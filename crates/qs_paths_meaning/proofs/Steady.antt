@@ -13,7 +13,8 @@ use Rattle.qs_syntax_tree.specs.declared.path.Repetition.{Repetition}
 use Rattle.qs_syntax_ast.specs.declared.path.NegatedIri.{NegatedIri}
 use Rattle.qs_syntax_ast.specs.declared.path.Path.{Path, Path-F, map-Path, roll-Path, ind-Path}
 use Rattle.qs_syntax_ast.specs.declared.path.Path.TheVariants.{rolls-Iri, rolls-NegatedSet, rolls-Alternative, rolls-Sequence, rolls-Inverse, rolls-Repeated}
-use Rattle.qs_paths_meaning.specs.Pair.{Pair, pair, swapped, same_pair}
+use Rattle.qs_paths_meaning.specs.Pair.{Pair, pair, swapped}
+use Rattle.qs_paths_meaning.specs.inner.Pair.{same_pair}
 use Rattle.qs_paths_meaning.specs.Steps.{Graph, agrees, is_between, pair_of, along, against, negated, is_of, is_none, is_outside, composed, from_pair}
 use Rattle.qs_paths_meaning.specs.Closure.{candidates, ends, starts, from_start, closure}
 use Rattle.qs_paths_meaning.specs.Pairs.{AtEnds, in_sequence, is_step, pairs}

@@ -10,12 +10,13 @@ use Rattle.qs_terms.specs.Dataset.{nodes_of}
 use Rattle.qs_terms.proofs.SameTerm.{same_term-Decides}
 use Rattle.qs_syntax_tree.specs.declared.path.Repetition.{Repetition}
 use Rattle.qs_syntax_ast.specs.declared.path.Path.{Path}
-use Rattle.qs_paths_meaning.specs.Pair.{Pair, pair, swapped, same_pair}
+use Rattle.qs_paths_meaning.specs.Pair.{Pair, pair, swapped}
+use Rattle.qs_paths_meaning.specs.inner.Pair.{same_pair}
 use Rattle.qs_paths_meaning.specs.Steps.{Graph, agrees}
 use Rattle.qs_paths_meaning.specs.Closure.{candidates, repeats, ends, starts, from_start, closure}
 use Rattle.qs_paths_meaning.specs.inner.Found.{turned}
 use Rattle.qs_paths_meaning.specs.Pairs.{AtEnds, is_step, pairs}
-use Rattle.qs_paths_meaning.specs.Walk.{IsWalk, IsCount, Leads}
+use Rattle.qs_paths_meaning.specs.inner.Walk.{IsWalk, IsCount, Leads}
 use Rattle.qs_paths_meaning.proofs.Members.{Mem, mem_at, mem_filter, mem_of_filter, mem_map, mem_of_map, not_in, is_out, same_bag, distinct_filter, distinct_once}
 use Rattle.qs_paths_meaning.proofs.Near.{Tied, tied, tied_swapped, start_candidate, candidate, candidates_closed}
 use Rattle.qs_paths_meaning.proofs.Arms.{same_pair-Decides, same_at, filter_same_by}

@@ -6,7 +6,7 @@ use Rattle.qs_terms.proofs.SameTerm.{same_term-Decides}
 use Rattle.qs_syntax_tree.specs.declared.path.Repetition.{Repetition}
 use Rattle.qs_syntax_tree.specs.declared.path.Repetition.TheVariants.{ZeroOrOne, ZeroOrMore, OneOrMore}
 use Rattle.qs_paths_meaning.specs.Closure.{leads, repeats}
-use Rattle.qs_paths_meaning.specs.Walk.{IsWalk, IsCount, Leads}
+use Rattle.qs_paths_meaning.specs.inner.Walk.{IsWalk, IsCount, Leads}
 use Rattle.qs_paths_meaning.proofs.Members.{Mem, or_cases, or_left, or_right}
 
 pub both : (a b : Bool) → (a && b) ≡ true → (a ≡ true) × (b ≡ true)

@@ -1,6 +1,7 @@
--- The pairs of `?`, `*` and `+` (SPARQL 1.1 Query, 9.1 and 18.4; for nested closures and walks of no step this project's own reading).
--- A closure is a filter of candidates, which are the nodes of the graph and the term that it starts from. So it is a list without
--- repeats whatever is in it; that it means walks is a law.
+-- The pairs of `?`, `*` and `+` (SPARQL 1.1 Query, 9.1 and 18.4; for nested closures and walks of
+-- no step this project's own reading). A closure is a filter of candidates, which are the nodes of
+-- the graph and the term that it starts from. So it is a list without repeats whatever is in it;
+-- that it means walks is a law.
 use Rattle.std.specs.Prelude.{Bool, ◌&&◌, ◌||◌, List, [], ◌∷◌, map, Option, Some, None}
 use Rattle.std.specs.List.{filter, flat_map}
 use Rattle.qs_terms.specs.declared.term.Term.{Term}
@@ -8,7 +9,8 @@ use Rattle.qs_terms.specs.Bag.{once}
 use Rattle.qs_terms.specs.Dataset.{nodes_of}
 use Rattle.qs_terms.specs.Term.{same_term}
 use Rattle.qs_syntax_tree.specs.declared.path.Repetition.{Repetition}
-use Rattle.qs_syntax_tree.specs.declared.path.Repetition.TheVariants.{ZeroOrOne, ZeroOrMore, OneOrMore}
+use Rattle.qs_syntax_tree.specs.declared.path.Repetition.TheVariants.{ZeroOrOne, ZeroOrMore}
+use Rattle.qs_syntax_tree.specs.declared.path.Repetition.TheVariants.{OneOrMore}
 use Rattle.qs_paths_meaning.specs.Pair.{Pair, pair}
 use Rattle.qs_paths_meaning.specs.Steps.{Graph, agrees}
 
@@ -21,7 +23,8 @@ abbrev pub leads : (Term → Term → Bool) → List Term → Term → Term → 
 leads step [] x y = step x y
 leads step (c ∷ cs) x y = leads step cs x y || (leads step cs x c && leads step cs c y)
 
--- y is led to from x; by `?` and `*` a term is led to itself by no step, whether it is in the graph or not
+-- y is led to from x; by `?` and `*` a term is led to itself by no step, whether it is in the graph
+-- or not
 abbrev pub repeats : Repetition → (Term → Term → Bool) → List Term → Term → Term → Bool
 repeats ZeroOrOne step cs x y = same_term x y || step x y
 repeats ZeroOrMore step cs x y = same_term x y || leads step cs x y
@@ -29,17 +32,19 @@ repeats OneOrMore step cs x y = leads step cs x y
 
 -- those that are led to from x, each once
 abbrev pub ends : Repetition → (Term → Term → Bool) → Graph → Term → List Term
-ends repetition step graph x = filter (repeats repetition step (candidates graph x) x) (candidates graph x)
+ends r step graph x = filter (repeats r step (candidates graph x) x) (candidates graph x)
 
--- where the walks begin: with both ends open at the nodes of the graph; with the right end alone given, also at that term, since no
--- other term outside the graph is led to it
+-- where the walks begin: with both ends open at the nodes of the graph; with the right end alone
+-- given, also at that term, since no other term outside the graph is led to it
 abbrev pub starts : Graph → Option Term → Option Term → List Term
 starts graph (Some x) right = x ∷ []
 starts graph None (Some y) = candidates graph y
 starts graph None None = nodes_of graph
 
 abbrev pub from_start : Repetition → (Term → Term → Bool) → Graph → Option Term → Term → List Pair
-from_start repetition step graph right x = map (pair x) (filter (agrees right) (ends repetition step graph x))
+from_start r step graph right x = map (pair x) (filter (agrees right) (ends r step graph x))
 
-abbrev pub closure : Repetition → (Term → Term → Bool) → Graph → Option Term → Option Term → List Pair
-closure repetition step graph left right = flat_map (from_start repetition step graph right) (starts graph left right)
+abbrev pub closure : Repetition → (Term → Term → Bool) → Graph → Option Term → Option Term
+    → List Pair
+closure repetition step graph left right =
+    flat_map (from_start repetition step graph right) (starts graph left right)

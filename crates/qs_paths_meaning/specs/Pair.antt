@@ -1,7 +1,5 @@
 -- Pairs of terms: the two ends of what a path leads along (SPARQL 1.1 Query, 9 and 18.4).
-use Rattle.std.specs.Prelude.{Bool, ◌&&◌}
 use Rattle.qs_terms.specs.declared.term.Term.{Term}
-use Rattle.qs_terms.specs.Term.{same_term}
 
 pub record Pair : Type 0 where
   pub left : Term
@@ -12,6 +10,3 @@ pair x y = record { left = x; right = y }
 
 abbrev pub swapped : Pair → Pair
 swapped e = pair e.right e.left
-
-abbrev pub same_pair : Pair → Pair → Bool
-same_pair a b = same_term a.left b.left && same_term a.right b.right

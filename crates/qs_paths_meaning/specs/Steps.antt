@@ -1,6 +1,8 @@
--- What the triples of a graph say of a path of one IRI or of a negated set, and how lists of pairs are put together (SPARQL 1.1 Query,
+-- What the triples of a graph say of a path of one IRI or of a negated set, and how lists of pairs
+-- are put together (SPARQL 1.1 Query,
 -- 18.2.2.3, 18.2.2.4 and 18.4).
-use Rattle.std.specs.Prelude.{Bool, true, false, not, ◌&&◌, ◌||◌, List, [], ◌∷◌, ◌++◌, map, Option, Some, None, if◌then◌else◌}
+use Rattle.std.specs.Prelude.{Bool, true, false, not, ◌&&◌, ◌||◌, List, [], ◌∷◌, ◌++◌, map, Option}
+use Rattle.std.specs.Prelude.{Some, None, if◌then◌else◌}
 use Rattle.std.specs.List.{filter, flat_map, list_any}
 use Rattle.qs_terms.specs.declared.term.Term.{Term}
 use Rattle.qs_terms.specs.declared.term.Term.TheVariants as term
@@ -26,7 +28,8 @@ pair_of t = pair t.subject t.object
 
 -- one for each triple whose predicate passes the test and whose ends agree
 abbrev pub along : (Term → Bool) → Graph → Option Term → Option Term → List Pair
-along test graph left right = filter (is_between left right) (map pair_of (filter (λ t. test t.predicate) graph))
+along test graph left right =
+    filter (is_between left right) (map pair_of (filter (λ t. test t.predicate) graph))
 
 -- the same against the direction of the triples
 abbrev pub against : (Term → Bool) → Graph → Option Term → Option Term → List Pair
@@ -43,13 +46,16 @@ is_none (m ∷ members) = false
 
 -- the term is not among the IRIs of the members of this direction
 abbrev pub is_outside : Bool → List NegatedIri → Term → Bool
-is_outside inverse members t = not (list_any (λ m. is_of inverse m && same_term (term.Iri m.iri) t) members)
+is_outside inverse ms t = not (list_any (λ m. is_of inverse m && same_term (term.Iri m.iri) t) ms)
 
--- the forward part, where the set names a forward IRI or nothing; and the inverse part, where it names an inverse
+-- the forward part, where the set names a forward IRI or nothing; and the inverse part, where it
+-- names an inverse
 abbrev pub negated : List NegatedIri → Graph → Option Term → Option Term → List Pair
 negated members graph left right =
-    (if list_any (is_of false) members || is_none members then along (is_outside false members) graph left right else [])
-    ++ (if list_any (is_of true) members then against (is_outside true members) graph left right else [])
+    (if list_any (is_of false) members || is_none members
+    then along (is_outside false members) graph left right else [])
+    ++ (if list_any (is_of true) members then against (is_outside true members) graph left right
+    else [])
 
 abbrev pub from_pair : List Pair → Pair → List Pair
 from_pair qs e = map (λ f. pair e.left f.right) (filter (λ f. same_term e.right f.left) qs)

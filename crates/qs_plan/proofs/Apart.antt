@@ -14,7 +14,7 @@ use Rattle.qs_algebra_patterns.specs.declared.pattern.TriplePattern.{TriplePatte
 use Rattle.qs_plan_meaning.specs.declared.stage.Look.{Look}
 use Rattle.qs_plan_meaning.specs.declared.stage.Stage.{Stage}
 use Rattle.qs_plan_meaning.specs.declared.stage.Stage.TheVariants as stage
-use Rattle.qs_plan_meaning.specs.Stages.{aside, fed_rows, gives, register_of, through}
+use Rattle.qs_plan_meaning.specs.inner.Stages.{aside, fed_rows, gives, register_of, through}
 use Rattle.qs_plan.specs.declared.certain.Size.{Size}
 use Rattle.qs_plan.specs.inner.Certain.{Begun, SameFrom}
 use Rattle.qs_plan.specs.inner.Parts.{IsFedAlike, IsNamed, IsPart}

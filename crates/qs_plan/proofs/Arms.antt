@@ -15,7 +15,7 @@ use Rattle.qs_plan_meaning.specs.declared.stage.Group.{Group}
 use Rattle.qs_plan_meaning.specs.declared.stage.Stage.{Stage}
 use Rattle.qs_plan_meaning.specs.declared.stage.Stage.TheVariants as stage
 use Rattle.qs_plan.specs.inner.Lays.{Within, Makes, Lays, LaysStep, IsJoin, joined_with, joined_with_all, all_stepped, all_kept}
-use Rattle.qs_plan_meaning.specs.Stages.{register_of}
+use Rattle.qs_plan_meaning.specs.inner.Stages.{register_of}
 use Rattle.qs_plan.proofs.EachGraph.{bound_lays, each_lays}
 use Rattle.qs_plan.proofs.Feeding.{fed_step}
 use Rattle.qs_plan.proofs.Laying.{Begins, nothing_lays, values_lays, apart_lays, join_step, left_join_step, minus_step, extend_step, step_more, filter_more, none_kept, joins_lay, none_united, union_lays, graph_lays}

@@ -15,8 +15,8 @@ use Rattle.qs_algebra_patterns.specs.declared.pattern.PathPattern.{PathPattern}
 use Rattle.qs_algebra_patterns.specs.Basic.{Graph}
 use Rattle.qs_algebra_solutions.specs.Solution.{Solution, term_at, compatible_terms, compatible, first_bound, merge}
 use Rattle.qs_algebra_solutions.specs.Operators.{merges}
-use Rattle.qs_plan_meaning.specs.Stages.{Made, along}
-use Rattle.qs_plan_meaning.specs.Scans.{bound_at, bound_slot, then_bound, bound_triple, extensions, bound_end, bound_ends, path_pairs, path_extensions}
+use Rattle.qs_plan_meaning.specs.inner.Stages.{Made, along}
+use Rattle.qs_plan_meaning.specs.inner.Scans.{bound_at, bound_slot, then_bound, bound_triple, extensions, bound_end, bound_ends, path_pairs, path_extensions}
 
 same_self : (x : Term) → same_term x x ≡ true
 same_self x = (same_term-Decides x x).1 refl

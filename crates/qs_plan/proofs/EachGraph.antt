@@ -22,7 +22,7 @@ use Rattle.qs_plan_meaning.specs.declared.stage.Look.{Look}
 use Rattle.qs_plan_meaning.specs.declared.stage.Look.TheVariants as look
 use Rattle.qs_plan_meaning.specs.declared.stage.Stage.{Stage}
 use Rattle.qs_plan_meaning.specs.declared.stage.Stage.TheVariants as stage
-use Rattle.qs_plan_meaning.specs.Stages.{Made, looked, graph_named, through}
+use Rattle.qs_plan_meaning.specs.inner.Stages.{Made, looked, graph_named, through}
 use Rattle.qs_plan.specs.inner.Lays.{Ready, After, Lays, joined_with}
 use Rattle.qs_plan.proofs.Commutes.{all_map, merges_append, merges_joined}
 use Rattle.qs_plan.proofs.Levels.{gives_names, gives_name, through_append, through_one, map_flat}

@@ -24,8 +24,8 @@ use Rattle.qs_plan_meaning.specs.declared.stage.Group.{Group}
 use Rattle.qs_plan.specs.declared.plan_type.Plan.{Plan}
 use Rattle.qs_plan_meaning.specs.declared.stage.Stage.{Stage}
 use Rattle.qs_plan_meaning.specs.declared.stage.Stage.TheVariants as stage
-use Rattle.qs_plan.specs.Plans.{plan_list, SamePlan}
-use Rattle.qs_plan_meaning.specs.Stages.{Made, kept_if, only, aside, fed_rows, through}
+use Rattle.qs_plan.specs.inner.Plans.{plan_list, SamePlan}
+use Rattle.qs_plan_meaning.specs.inner.Stages.{Made, kept_if, only, aside, fed_rows, through}
 use Rattle.qs_plan.specs.inner.Certain.{Bound, Begun, Binds, Steady, SameFrom}
 use Rattle.qs_plan.specs.inner.Reads.{Agree, Settles}
 use Rattle.qs_plan.proofs.Laying.{between, same}

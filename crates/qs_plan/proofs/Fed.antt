@@ -12,7 +12,8 @@ use Rattle.qs_expr_meaning.specs.declared.expr.Expr.{Expr}
 use Rattle.qs_algebra_solutions.specs.Solution.{Solution, term_at, unbound, compatible, first_bound, merge}
 use Rattle.qs_algebra_solutions.specs.Operators.{merges, or_alone}
 use Rattle.qs_algebra_patterns.specs.Basic.{Graph as Triples}
-use Rattle.qs_algebra_patterns.specs.Eval.{eval, step, all_hold, kept}
+use Rattle.qs_algebra_patterns.specs.Eval.{eval, all_hold, kept}
+use Rattle.qs_algebra_patterns.specs.inner.Eval.{step}
 use Rattle.qs_algebra_patterns.specs.declared.pattern.PatternNode.{PatternNode}
 use Rattle.qs_algebra_patterns.specs.declared.pattern.PatternNode.TheVariants as pattern
 use Rattle.qs_algebra_patterns.specs.declared.pattern.Step.{Step}
@@ -22,7 +23,7 @@ use Rattle.qs_plan.specs.declared.certain.Size.{Size}
 use Rattle.qs_plan_meaning.specs.declared.stage.Look.{Look}
 use Rattle.qs_plan_meaning.specs.declared.stage.Stage.{Stage}
 use Rattle.qs_plan_meaning.specs.declared.stage.Stage.TheVariants as stage
-use Rattle.qs_plan_meaning.specs.Stages.{Made, looked, fed_rows, only, register_of, gives, through}
+use Rattle.qs_plan_meaning.specs.inner.Stages.{Made, looked, fed_rows, only, register_of, gives, through}
 use Rattle.qs_plan.specs.inner.Certain.{Bound, Binds}
 use Rattle.qs_plan.specs.inner.Feeds.{Lacks, Covers, Missing, Met, Touches, LaysIf, Feeds, FeedsNext, LaysNext, LaysRest, solutions_of, after_steps}
 use Rattle.qs_plan.specs.inner.Fixes.{Found, AreWide, joined_to}

@@ -17,7 +17,7 @@ use Rattle.qs_algebra_patterns.proofs.Meaning.{step_left_join}
 use Rattle.qs_plan_meaning.specs.declared.stage.Look.{Look}
 use Rattle.qs_plan_meaning.specs.declared.stage.Stage.{Stage}
 use Rattle.qs_plan_meaning.specs.declared.stage.Stage.TheVariants as stage
-use Rattle.qs_plan_meaning.specs.Stages.{looked, fed_rows, through}
+use Rattle.qs_plan_meaning.specs.inner.Stages.{looked, fed_rows, through}
 use Rattle.qs_plan.specs.inner.Lays.{Ready, After, Lays, LaysStep, joined_with, stepped}
 use Rattle.qs_plan.proofs.Commutes.{all_map}
 use Rattle.qs_plan.proofs.Laying.{between, stage_lays, merges_after, alone_take, filter_take, alone_after, left_join_linear}

@@ -5,7 +5,8 @@ use Rattle.std.proofs.lemmas.List.{get_or-take, length-drop, take_all, take-appe
 use Rattle.std.proofs.lemmas.List.Elements.{All-from_recursion, recursion_from_All, filter-append}
 use Rattle.std.proofs.lemmas.List.Sorted.{All-permutation, IsPermutation-trans, IsPermutation-append}
 use Rattle.std.proofs.lemmas.List.Sums.{fold-append}
-use Rattle.qs_terms.specs.Bag.{Distinct, SameBag, times}
+use Rattle.qs_terms.specs.Bag.{Distinct, SameBag}
+use Rattle.qs_terms.specs.inner.Bag.{times}
 use Rattle.qs_terms.specs.Dataset.{same_triple}
 use Rattle.qs_terms.specs.Statement.{Statement, same_statement}
 use Rattle.qs_terms.specs.Term.{same_term}
@@ -19,7 +20,8 @@ use Rattle.qs_algebra_solutions.specs.Solution.{Solution, term_at, unbound, bind
 use Rattle.qs_algebra_solutions.specs.Operators.{merges}
 use Rattle.qs_algebra_solutions.proofs.Same.{same_solution-Decides}
 use Rattle.qs_algebra_patterns.specs.Basic.{Graph}
-use Rattle.qs_algebra_patterns.specs.Eval.{eval, step, all_hold, kept, rows_of}
+use Rattle.qs_algebra_patterns.specs.Eval.{eval, all_hold, kept, rows_of}
+use Rattle.qs_algebra_patterns.specs.inner.Eval.{step}
 use Rattle.qs_algebra_patterns.specs.declared.table.Table.{Table}
 use Rattle.qs_algebra_patterns.specs.declared.pattern.PatternNode.TheVariants as pattern
 use Rattle.qs_algebra_patterns.specs.declared.pattern.PatternNode.{PatternNode}
@@ -31,7 +33,7 @@ use Rattle.qs_plan.specs.declared.certain.Size.{Size}
 use Rattle.qs_plan_meaning.specs.declared.stage.Look.{Look}
 use Rattle.qs_plan_meaning.specs.declared.stage.Stage.{Stage}
 use Rattle.qs_plan_meaning.specs.declared.stage.Stage.TheVariants as stage
-use Rattle.qs_plan_meaning.specs.Stages.{looked, only, register_of, through}
+use Rattle.qs_plan_meaning.specs.inner.Stages.{looked, only, register_of, through}
 use Rattle.qs_plan.specs.inner.Certain.{Bound, Alike, Binds}
 use Rattle.qs_plan.specs.inner.Fixes.{is_one_of, Fixes, SettledBy, StepKeeps, Found, joined_to, AreWide, kept_after, StandsFor, Instead}
 use Rattle.qs_plan.specs.inner.Feeds.{LaysRest}

@@ -22,8 +22,8 @@ use Rattle.qs_plan_meaning.specs.declared.stage.Group.{Group}
 use Rattle.qs_plan_meaning.specs.declared.stage.Look.{Look}
 use Rattle.qs_plan_meaning.specs.declared.stage.Stage.{Stage}
 use Rattle.qs_plan_meaning.specs.declared.stage.Stage.TheVariants as stage
-use Rattle.qs_plan_meaning.specs.Scans.{bound_at, bound_slot, bound_end, bound_triple, bound_ends, path_pairs}
-use Rattle.qs_plan_meaning.specs.Stages.{looked, only, aside, through}
+use Rattle.qs_plan_meaning.specs.inner.Scans.{bound_at, bound_slot, bound_end, bound_triple, bound_ends, path_pairs}
+use Rattle.qs_plan_meaning.specs.inner.Stages.{looked, only, aside, through}
 use Rattle.qs_plan.specs.inner.Certain.{Bound, Begun, Gets, Binds, Holds, Ends, Filled}
 use Rattle.qs_plan.proofs.Commutes.{scanned_each}
 use Rattle.qs_plan.proofs.Levels.{gives_triple, gives_path, gives_names, gives_name, gives_values, gives_union, gives_apart, through_append, through_one}

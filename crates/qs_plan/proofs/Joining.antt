@@ -21,8 +21,8 @@ use Rattle.qs_plan_meaning.specs.declared.stage.Look.{Look}
 use Rattle.qs_plan_meaning.specs.declared.stage.Look.TheVariants as look
 use Rattle.qs_plan_meaning.specs.declared.stage.Stage.{Stage}
 use Rattle.qs_plan_meaning.specs.declared.stage.Stage.TheVariants as stage
-use Rattle.qs_plan_meaning.specs.Scans.{bound_end, then_bound, bound_ends, extensions, path_extensions, path_pairs}
-use Rattle.qs_plan_meaning.specs.Stages.{Made, looked, graph_named, register_of, gives, through}
+use Rattle.qs_plan_meaning.specs.inner.Scans.{bound_end, then_bound, bound_ends, extensions, path_extensions, path_pairs}
+use Rattle.qs_plan_meaning.specs.inner.Stages.{Made, looked, graph_named, register_of, gives, through}
 use Rattle.qs_plan.specs.inner.Joins.{AllJoined, Ended, Free, IsEnd, Joined, Leading, Lower, Stands, Under, between, by_iri}
 use Rattle.qs_plan.specs.inner.Numbers.{past}
 use Rattle.qs_plan.specs.inner.Sames.{Misses, held}

@@ -22,8 +22,8 @@ use Rattle.qs_plan_meaning.specs.declared.stage.Group.{Group}
 use Rattle.qs_plan_meaning.specs.declared.stage.Look.{Look}
 use Rattle.qs_plan_meaning.specs.declared.stage.Stage.{Stage}
 use Rattle.qs_plan_meaning.specs.declared.stage.Stage.TheVariants as stage
-use Rattle.qs_plan_meaning.specs.Scans.{bound_at, bound_slot, bound_end, bound_triple, bound_ends, path_pairs}
-use Rattle.qs_plan_meaning.specs.Stages.{looked, kept_if, aside, fed_rows, gives, through}
+use Rattle.qs_plan_meaning.specs.inner.Scans.{bound_at, bound_slot, bound_end, bound_triple, bound_ends, path_pairs}
+use Rattle.qs_plan_meaning.specs.inner.Stages.{looked, kept_if, aside, fed_rows, gives, through}
 use Rattle.qs_plan.specs.inner.Certain.{Bound, Alike, Keeps}
 use Rattle.qs_plan.specs.inner.Reads.{Leaves}
 use Rattle.qs_plan.proofs.Commutes.{slot_sets, scanned_each}

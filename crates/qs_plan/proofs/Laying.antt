@@ -15,7 +15,8 @@ use Rattle.qs_expr_meaning.specs.Meaning.{holds}
 use Rattle.qs_algebra_solutions.specs.Solution.{Solution, term_at, unbound, merge, compatible}
 use Rattle.qs_algebra_solutions.specs.Operators.{merges, join, or_alone, excludes, minus}
 use Rattle.qs_algebra_patterns.specs.Basic.{Graph as Triples}
-use Rattle.qs_algebra_patterns.specs.Eval.{eval, step, all_hold, kept, extended, rows_of}
+use Rattle.qs_algebra_patterns.specs.Eval.{eval, all_hold, kept, extended, rows_of}
+use Rattle.qs_algebra_patterns.specs.inner.Eval.{step}
 use Rattle.qs_algebra_patterns.specs.declared.table.Table.{Table}
 use Rattle.qs_algebra_patterns.specs.declared.pattern.PatternNode.{PatternNode}
 use Rattle.qs_algebra_patterns.specs.declared.pattern.PatternNode.TheVariants as pattern
@@ -27,9 +28,9 @@ use Rattle.qs_plan_meaning.specs.declared.stage.Look.TheVariants as look
 use Rattle.qs_plan_meaning.specs.declared.stage.Group.{Group}
 use Rattle.qs_plan_meaning.specs.declared.stage.Stage.{Stage}
 use Rattle.qs_plan_meaning.specs.declared.stage.Stage.TheVariants as stage
-use Rattle.qs_plan_meaning.specs.Stages.{Made, looked, graph_named, kept_if, only, aside, gives, through}
+use Rattle.qs_plan_meaning.specs.inner.Stages.{Made, looked, graph_named, kept_if, only, aside, gives, through}
 use Rattle.qs_plan.specs.inner.Lays.{Ready, After, Within, Makes, Lays, joined_with, joined_with_all, stepped, all_stepped, all_kept, IsLinear, LaysStep, IsJoin}
-use Rattle.qs_plan_meaning.specs.Stages.{register_of}
+use Rattle.qs_plan_meaning.specs.inner.Stages.{register_of}
 use Rattle.qs_plan.proofs.Commutes.{all_map, merges_append, merges_joined}
 use Rattle.qs_plan.proofs.Levels.{gives_exists, gives_filter, gives_bind, gives_values, gives_union, gives_optional, gives_minus, gives_apart, through_append, through_one, flat_ap, map_flat}
 use Rattle.qs_plan.proofs.Operators.{filter_same, flat_map_same, merges_same, alone_same}

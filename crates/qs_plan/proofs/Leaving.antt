@@ -21,8 +21,8 @@ use Rattle.qs_plan_meaning.specs.declared.stage.Group.{Group}
 use Rattle.qs_plan_meaning.specs.declared.stage.Look.{Look}
 use Rattle.qs_plan_meaning.specs.declared.stage.Stage.{Stage}
 use Rattle.qs_plan_meaning.specs.declared.stage.Stage.TheVariants as stage
-use Rattle.qs_plan_meaning.specs.Scans.{bound_triple, bound_ends, path_pairs}
-use Rattle.qs_plan_meaning.specs.Stages.{Made, looked, kept_if, only, aside, through}
+use Rattle.qs_plan_meaning.specs.inner.Scans.{bound_triple, bound_ends, path_pairs}
+use Rattle.qs_plan_meaning.specs.inner.Stages.{Made, looked, kept_if, only, aside, through}
 use Rattle.qs_plan.specs.inner.Reads.{Agree, Leaves, LeaveAll}
 use Rattle.qs_plan.specs.inner.Sames.{Misses}
 use Rattle.qs_plan.proofs.Commutes.{all_map, scanned_each}

@@ -18,7 +18,7 @@ use Rattle.qs_algebra_patterns.specs.declared.pattern.PathPattern.{PathPattern}
 use Rattle.qs_algebra_patterns.specs.Basic.{Graph, is_repeated, end_of, fits}
 use Rattle.qs_algebra_solutions.specs.Solution.{Solution, term_at}
 use Rattle.qs_algebra_solutions.proofs.Same.{same_everywhere}
-use Rattle.qs_plan_meaning.specs.Scans.{bound_at, bound_slot, then_bound, bound_triple, extensions, bound_end, bound_ends, path_pairs, path_extensions}
+use Rattle.qs_plan_meaning.specs.inner.Scans.{bound_at, bound_slot, then_bound, bound_triple, extensions, bound_end, bound_ends, path_pairs, path_extensions}
 use Rattle.qs_plan.proofs.Commutes.{slot_width, end_width}
 use Rattle.qs_plan.specs.inner.Numbers.{past, number, slot_of, triple_of, other_end, path_of}
 

@@ -5,7 +5,8 @@ use Rattle.std.specs.List.{flat_map}
 use Rattle.qs_terms.specs.declared.term.Term.{Term}
 use Rattle.qs_terms.specs.Term.{same_term}
 use Rattle.qs_terms.proofs.SameTerm.{same_term-Decides}
-use Rattle.qs_terms.specs.Bag.{times, Distinct}
+use Rattle.qs_terms.specs.Bag.{Distinct}
+use Rattle.qs_terms.specs.inner.Bag.{times}
 use Rattle.qs_algebra_solutions.specs.Solution.{Solution, same_cell, same_solution}
 use Rattle.qs_algebra_patterns.specs.Basic.{all_maps}
 use Rattle.qs_terms.proofs.Counts.{total, Once, once_like, once_at, once_total, AnyOf, times-flat_map, cond_zero}

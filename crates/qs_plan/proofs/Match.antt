@@ -5,10 +5,11 @@ use Rattle.qs_terms.specs.declared.term.Term.{Term}
 use Rattle.qs_algebra_patterns.specs.declared.pattern.Slot.{Slot}
 use Rattle.qs_terms.specs.Dataset.{Triple, same_triple}
 use Rattle.qs_algebra_patterns.specs.declared.pattern.TriplePattern.{TriplePattern}
-use Rattle.qs_terms.specs.Bag.{times, Distinct}
+use Rattle.qs_terms.specs.Bag.{Distinct}
+use Rattle.qs_terms.specs.inner.Bag.{times}
 use Rattle.qs_algebra_solutions.specs.Solution.{Solution, term_at, same_solution}
 use Rattle.qs_algebra_patterns.specs.Basic.{Graph, is_variable, mentions, value, triple_from, instance, is_in, puts_into}
-use Rattle.qs_plan_meaning.specs.Scans.{bound_slot, then_bound, bound_triple, extensions, found}
+use Rattle.qs_plan_meaning.specs.inner.Scans.{bound_slot, then_bound, bound_triple, extensions, found}
 use Rattle.qs_plan.proofs.Below.{SlotBelow, TripleBelow, AllBelow}
 use Rattle.qs_plan.proofs.AndOr.{and_left, and_right, and_of, or_cases, or_first, or_second}
 use Rattle.qs_terms.proofs.Counts.{Once, once_like, once_at, once_total, AnyOf, times-flat_map}

@@ -13,7 +13,7 @@ use Rattle.qs_algebra_patterns.specs.Basic.{Graph}
 use Rattle.qs_plan.specs.declared.certain.Size.{Size}
 use Rattle.qs_plan_meaning.specs.declared.stage.Stage.{Stage}
 use Rattle.qs_plan_meaning.specs.declared.stage.Stage.TheVariants as stage
-use Rattle.qs_plan_meaning.specs.Stages.{Made, kept_if, through}
+use Rattle.qs_plan_meaning.specs.inner.Stages.{Made, kept_if, through}
 use Rattle.qs_plan.specs.inner.Certain.{Bound, Alike, Begun, Keeps, Binds, Steady, SameFrom}
 use Rattle.qs_plan.specs.inner.Reads.{Agree, Settles, Leaves}
 use Rattle.qs_plan.proofs.Commutes.{all_map}

@@ -13,7 +13,7 @@ use Rattle.qs_algebra_solutions.specs.Operators.{merges}
 use Rattle.qs_plan_meaning.specs.declared.stage.Look.{Look}
 use Rattle.qs_plan_meaning.specs.declared.stage.Stage.{Stage}
 use Rattle.qs_plan_meaning.specs.declared.stage.Stage.TheVariants as stage
-use Rattle.qs_plan_meaning.specs.Stages.{looked}
+use Rattle.qs_plan_meaning.specs.inner.Stages.{looked}
 use Rattle.qs_plan.specs.inner.Below.{all_below}
 use Rattle.qs_plan.specs.inner.Lays.{After, Lays, joined_with}
 use Rattle.qs_plan.proofs.Laying.{between, stage_lays}

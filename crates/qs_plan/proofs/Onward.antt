@@ -21,8 +21,8 @@ use Rattle.qs_plan_meaning.specs.declared.stage.Group.{Group, map-Group, roll-Gr
 use Rattle.qs_plan_meaning.specs.declared.stage.Stage.{Stage, map-Stage, roll-Stage, ind-Stage}
 use Rattle.qs_plan_meaning.specs.declared.stage.Stage.TheOpen as level
 use Rattle.qs_plan_meaning.specs.declared.stage.Stage.TheVariants.{rolls-Triple, rolls-Path, rolls-Exists, rolls-Names, rolls-Name, rolls-Filter, rolls-Bind, rolls-Values, rolls-Union, rolls-Optional, rolls-Fed, rolls-Minus, rolls-Apart}
-use Rattle.qs_plan_meaning.specs.Scans.{bound_slot, bound_end, then_bound, bound_triple, bound_ends, path_pairs}
-use Rattle.qs_plan_meaning.specs.Stages.{looked, kept_if, aside, fed_rows, gives, through}
+use Rattle.qs_plan_meaning.specs.inner.Scans.{bound_slot, bound_end, then_bound, bound_triple, bound_ends, path_pairs}
+use Rattle.qs_plan_meaning.specs.inner.Stages.{looked, kept_if, aside, fed_rows, gives, through}
 use Rattle.qs_plan.specs.inner.Certain.{Bound, Alike}
 use Rattle.qs_plan.proofs.Commutes.{SetBy, slot_sets, end_sets, scanned_each}
 use Rattle.qs_plan.proofs.Levels.{gives_triple, gives_path, gives_exists, gives_names, gives_name, gives_filter, gives_bind, gives_values, gives_union, gives_optional, gives_fed, gives_minus, gives_apart}

@@ -2,7 +2,8 @@
 use Rattle.std.proofs.Common.{◌≡◌, Bool, cond, not, List, [], ◌∷◌, refl, sym, ◌∙◌, ap, subst, arith}
 use Rattle.std.specs.List.{filter, flat_map, list_any}
 use Rattle.std.proofs.lemmas.List.Sorted.{IsPermutation-map, length_permutation, IsPermutation-refl, IsPermutation-trans, list_any-IsPermutation}
-use Rattle.qs_terms.specs.Bag.{times, SameBag}
+use Rattle.qs_terms.specs.Bag.{SameBag}
+use Rattle.qs_terms.specs.inner.Bag.{times}
 use Rattle.qs_algebra_solutions.specs.Solution.{Solution, same_solution, compatible, merge}
 use Rattle.qs_algebra_solutions.specs.Operators.{merges, join, or_alone, left_join, excludes, minus}
 use Rattle.qs_terms.proofs.Counts.{times-flat_map, times-filter, times-same, total-same, total-ap, same_from_times}

@@ -22,7 +22,7 @@ use Rattle.qs_algebra_patterns.specs.declared.pattern.Slot.{Slot}
 use Rattle.qs_algebra_patterns.specs.declared.pattern.Slot.TheVariants as slot
 use Rattle.qs_algebra_patterns.specs.Basic.{is_variable, is_repeated, end_of, fits}
 use Rattle.qs_algebra_solutions.specs.Solution.{Solution, term_at}
-use Rattle.qs_plan_meaning.specs.Scans.{bound_at, bound_slot, bound_end, then_bound, bound_triple, extensions, path_extensions}
+use Rattle.qs_plan_meaning.specs.inner.Scans.{bound_at, bound_slot, bound_end, then_bound, bound_triple, extensions, path_extensions}
 use Rattle.qs_plan.specs.inner.Joins.{Lower, between, by_iri}
 use Rattle.qs_plan.proofs.Commutes.{consed, put, put_is, flat_flat}
 

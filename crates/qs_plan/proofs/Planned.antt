@@ -8,7 +8,7 @@ use Rattle.qs_algebra_patterns.specs.Eval.{eval}
 use Rattle.qs_algebra_patterns.specs.declared.named_pattern.Pattern.{Pattern}
 use Rattle.qs_plan_meaning.specs.declared.stage.Look.TheVariants as look
 use Rattle.qs_plan.specs.declared.plan_type.Plan.{Plan}
-use Rattle.qs_plan.specs.Plans.{plan_list, IsPlanOf, SamePlan}
+use Rattle.qs_plan.specs.inner.Plans.{plan_list, IsPlanOf, SamePlan}
 use Rattle.qs_plan.specs.inner.Numbers.{past}
 use Rattle.qs_plan.specs.inner.Lays.{Ready, Lays, joined_with}
 use Rattle.qs_plan.proofs.Laying.{between, take_unbound}

@@ -21,8 +21,8 @@ use Rattle.qs_plan_meaning.specs.declared.stage.Look.{Look}
 use Rattle.qs_plan_meaning.specs.declared.stage.Look.TheVariants as look
 use Rattle.qs_plan_meaning.specs.declared.stage.Stage.{Stage}
 use Rattle.qs_plan_meaning.specs.declared.stage.Stage.TheVariants as stage
-use Rattle.qs_plan_meaning.specs.Scans.{bound_slot, bound_end, then_bound, bound_triple, bound_ends, path_pairs, extensions, path_extensions}
-use Rattle.qs_plan_meaning.specs.Stages.{Made, looked, graph_named, register_of, along, gives, through}
+use Rattle.qs_plan_meaning.specs.inner.Scans.{bound_slot, bound_end, then_bound, bound_triple, bound_ends, path_pairs, extensions, path_extensions}
+use Rattle.qs_plan_meaning.specs.inner.Stages.{Made, looked, graph_named, register_of, along, gives, through}
 use Rattle.qs_plan.specs.inner.Below.{all_below}
 use Rattle.qs_plan.specs.inner.Joins.{Ended, Free, IsRun, Joined, JoinedAll, Stands, Under}
 use Rattle.qs_plan.specs.inner.Numbers.{past, number, slot_of, triple_of, other_end, path_of, triple_stages}

@@ -21,8 +21,8 @@ use Rattle.qs_algebra_patterns.specs.declared.pattern.BasicPattern.{BasicPattern
 use Rattle.qs_algebra_patterns.specs.Basic.{Graph, is_variable, is_repeated, end_of, fits, with_term, ends_bound, path_solutions, with_paths, matches, basic}
 use Rattle.qs_algebra_solutions.specs.Solution.{Solution, term_at, unbound}
 use Rattle.qs_algebra_solutions.specs.Operators.{merges, join}
-use Rattle.qs_plan_meaning.specs.Scans.{bound_at, bound_end, bound_ends, then_bound, extensions, path_extensions, found}
-use Rattle.qs_plan_meaning.specs.Stages.{Made, along}
+use Rattle.qs_plan_meaning.specs.inner.Scans.{bound_at, bound_end, bound_ends, then_bound, extensions, path_extensions, found}
+use Rattle.qs_plan_meaning.specs.inner.Stages.{Made, along}
 use Rattle.qs_plan.proofs.Below.{AllBelow}
 use Rattle.qs_plan.proofs.FoundLaw.{found_is_matches}
 use Rattle.qs_plan.proofs.Operators.{join_same, merges_same}

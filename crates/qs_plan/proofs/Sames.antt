@@ -14,13 +14,13 @@ use Rattle.qs_algebra_patterns.specs.Eval.{all_hold}
 use Rattle.qs_algebra_patterns.specs.declared.pattern.PathPattern.{PathPattern}
 use Rattle.qs_algebra_patterns.specs.declared.pattern.TriplePattern.{TriplePattern}
 use Rattle.qs_plan_meaning.specs.declared.stage.Look.{Look}
-use Rattle.qs_plan_meaning.specs.Stages.{register_of}
+use Rattle.qs_plan_meaning.specs.inner.Stages.{register_of}
 use Rattle.qs_plan_meaning.specs.declared.stage.Group.{Group}
 use Rattle.qs_plan.specs.declared.plan_type.Plan.{Plan}
 use Rattle.qs_plan_meaning.specs.declared.stage.Stage.{Stage}
 use Rattle.qs_plan_meaning.specs.declared.stage.Stage.TheVariants as stage
-use Rattle.qs_plan.specs.Plans.{plan_list, SamePlan}
-use Rattle.qs_plan_meaning.specs.Stages.{kept_if, only, aside, fed_rows, through}
+use Rattle.qs_plan.specs.inner.Plans.{plan_list, SamePlan}
+use Rattle.qs_plan_meaning.specs.inner.Stages.{kept_if, only, aside, fed_rows, through}
 use Rattle.qs_plan.specs.inner.Sames.{SameStages, IsScan, Misses}
 use Rattle.qs_plan.proofs.Laying.{between, same}
 use Rattle.qs_plan.proofs.Levels.{gives_union, gives_optional, gives_fed, gives_minus, gives_apart, through_one}

@@ -7,7 +7,8 @@ use Rattle.qs_terms.specs.declared.term.Term.{Term as RdfTerm}
 use Rattle.qs_algebra_solutions.specs.Solution.{Solution, term_at}
 use Rattle.qs_expr_meaning.specs.Truth.{any, every, denied}
 use Rattle.qs_expr_meaning.specs.Calls.{joined, strings}
-use Rattle.qs_expr_meaning.specs.Meaning.{added, addend_meaning, among, boolean_value, first_value, integer_value, meaning, multiplied, number, truth}
+use Rattle.qs_expr_meaning.specs.Meaning.{added, among, boolean_value, first_value, integer_value, meaning, multiplied, number, truth}
+use Rattle.qs_expr_meaning.specs.inner.Meaning.{addend_meaning}
 use Rattle.qs_expr_meaning.specs.declared.expr.Addend.{Addend}
 use Rattle.qs_expr_meaning.specs.declared.expr.Expr.{Expr}
 use Rattle.qs_expr_meaning.specs.declared.expr.Expr.TheVariants.{Variable, Term, Bound, Not, Signed, Unary, Compare, Binary, If, Or, And, Coalesce, Concat, In, NotIn, Sum, Product}

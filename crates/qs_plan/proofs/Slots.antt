@@ -10,7 +10,7 @@ use Rattle.qs_algebra_patterns.specs.declared.pattern.Slot.{Slot}
 use Rattle.qs_algebra_patterns.specs.declared.pattern.Slot.TheVariants as slot
 use Rattle.qs_algebra_solutions.specs.Solution.{Solution, term_at}
 use Rattle.qs_algebra_patterns.specs.Basic.{is_variable, value}
-use Rattle.qs_plan_meaning.specs.Scans.{bound_at, bound_slot}
+use Rattle.qs_plan_meaning.specs.inner.Scans.{bound_at, bound_slot}
 use Rattle.qs_plan.proofs.Below.{SlotBelow}
 
 -- where a variable is bound it stays so; where it isn't, it may be bound later if `later` says so

@@ -3,7 +3,8 @@ use Rattle.std.proofs.Common.{◌≡◌, inl, inr, ℕ, zero, suc, ◌+◌, ◌<
 use Rattle.std.specs.List.{AllByRecursion, flat_map, remove}
 use Rattle.std.proofs.lemmas.List.{get_or-set_other, length-set}
 use Rattle.std.proofs.lemmas.List.Sorted.{IsPermutation-refl, IsPermutation-trans, IsPermutation-append}
-use Rattle.qs_terms.specs.Bag.{SameBag, times}
+use Rattle.qs_terms.specs.Bag.{SameBag}
+use Rattle.qs_terms.specs.inner.Bag.{times}
 use Rattle.qs_terms.specs.Dataset.{Triple, graph_of}
 use Rattle.qs_terms.specs.Statement.{Statement}
 use Rattle.qs_terms.specs.Term.{same_term}
@@ -22,9 +23,9 @@ use Rattle.qs_plan_meaning.specs.declared.stage.Look.{Look}
 use Rattle.qs_plan_meaning.specs.declared.stage.Look.TheVariants as look
 use Rattle.qs_plan_meaning.specs.declared.stage.Stage.{Stage}
 use Rattle.qs_plan_meaning.specs.declared.stage.Stage.TheVariants as stage
-use Rattle.qs_plan_meaning.specs.Scans.{bound_slot, bound_end, then_bound, bound_triple, bound_ends, path_pairs, extensions, path_extensions}
-use Rattle.qs_plan_meaning.specs.Stages.{Made, looked, graph_named, gives, through}
-use Rattle.qs_plan_meaning.specs.Stages.{register_of}
+use Rattle.qs_plan_meaning.specs.inner.Scans.{bound_slot, bound_end, then_bound, bound_triple, bound_ends, path_pairs, extensions, path_extensions}
+use Rattle.qs_plan_meaning.specs.inner.Stages.{Made, looked, graph_named, gives, through}
+use Rattle.qs_plan_meaning.specs.inner.Stages.{register_of}
 use Rattle.qs_plan.specs.inner.Sames.{SameStages, held, Stays, IsScan, Misses}
 use Rattle.qs_plan.proofs.Commutes.{SetBy, all_map, slot_sets, end_sets, scanned_each, triple_even, path_even, flat_flat, merges_joined}
 use Rattle.qs_plan.proofs.Levels.{gives_triple, gives_path, through_append, flat_ap}

@@ -8,7 +8,7 @@ use Rattle.qs_algebra_patterns.specs.Eval.{rows_of}
 use Rattle.qs_algebra_patterns.specs.declared.table.Table.{Table}
 use Rattle.qs_plan_meaning.specs.declared.stage.Stage.{Stage}
 use Rattle.qs_plan_meaning.specs.declared.stage.Stage.TheVariants as stage
-use Rattle.qs_plan_meaning.specs.Stages.{gives}
+use Rattle.qs_plan_meaning.specs.inner.Stages.{gives}
 use Rattle.qs_plan.specs.inner.Sames.{held, Stays, IsScan, MissesAll}
 use Rattle.qs_plan.proofs.Commutes.{all_map}
 use Rattle.qs_plan.proofs.Leaving.{values_leave}

@@ -9,7 +9,7 @@ use Rattle.qs_algebra_patterns.specs.Basic.{Graph}
 use Rattle.qs_plan_meaning.specs.declared.stage.Group.{Group}
 use Rattle.qs_plan_meaning.specs.declared.stage.Stage.{Stage}
 use Rattle.qs_plan_meaning.specs.declared.stage.Stage.TheVariants as stage
-use Rattle.qs_plan_meaning.specs.Stages.{gives, through}
+use Rattle.qs_plan_meaning.specs.inner.Stages.{gives, through}
 use Rattle.qs_plan.specs.inner.Sames.{held, Stays, IsScan}
 use Rattle.qs_plan.proofs.Commutes.{all_map, all_flat, merges_append, merges_joined}
 use Rattle.qs_plan.proofs.Levels.{gives_union}

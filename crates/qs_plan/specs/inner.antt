@@ -1,4 +1,4 @@
--- What serves proofs alone: no promise of the product is read by it.
+-- For proofs and the layers between: no clause of the headline cites a definition of these files.
 pub mod Below
 pub mod Numbers
 pub mod Lays
@@ -10,3 +10,4 @@ pub mod Joins
 pub mod Fixes
 pub mod Feeds
 pub mod Parts
+pub mod Plans

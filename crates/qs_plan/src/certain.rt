@@ -58,7 +58,8 @@ fn keep_all(stages: &[Stage], variable: usize) -> bool
 
 #[cycle(keeps)]
 fn keep_branches(branches: &[Group], variable: usize) -> bool
-    ensures { result ≡ true → AllByRecursion (λ g. AllByRecursion (Keeps variable) g.stages) branches.now }
+    ensures { result ≡ true → AllByRecursion (λ g. AllByRecursion (Keeps variable) g.stages)
+        branches.now }
 {
     for branch in branches {
         if !keep_all(branch.stages.as_slice(), variable) {
@@ -217,7 +218,8 @@ fn bound_in_each(branches: &[Group], variable: usize, size: Size) -> bool
 
 /// Whether the stage makes rows that bind the variable as the row before it does, where the row is known to bind it or not.
 fn stays(stage: &Stage, variable: usize, is_known: bool) -> bool
-    ensures { result ≡ true → Leaves variable stage.now ⊎ ((is_known ≡ true) × Keeps variable stage.now) }
+    ensures { result ≡ true → Leaves variable stage.now
+        ⊎ ((is_known ≡ true) × Keeps variable stage.now) }
 {
     if leaves(stage, variable) {
         return true;
@@ -300,7 +302,9 @@ pub(crate) fn known_before(
     given: &[usize],
 ) -> Result<Vec<usize>, AllocError>
     requires { place ≤ length stages.now }
-    ensures { IfOk result (λ known. AllByRecursion (λ v. Binds size given.now v (take place stages.now)) known.items) }
+    ensures { IfOk result
+        (λ known. AllByRecursion (λ v. Binds size given.now v (take place stages.now))
+        known.items) }
 {
     let mut known = Vec::new(alloc);
     for at in 0..variables.len() {
@@ -314,7 +318,8 @@ pub(crate) fn known_before(
 
 /// Whether the rows after the stages bind each of the variables, and all of them are named.
 pub(crate) fn are_bound(stages: &[Stage], variables: &[usize], size: Size) -> bool
-    ensures { result ≡ true → AllByRecursion (λ v. (v < size.width) × Binds size [] v stages.now) variables.now }
+    ensures { result ≡ true → AllByRecursion (λ v. (v < size.width) × Binds size [] v stages.now)
+        variables.now }
 {
     for at in 0..variables.len() {
         let variable = variables[at];

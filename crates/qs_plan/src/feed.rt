@@ -142,7 +142,8 @@ pub(crate) fn put_seen(
     size: Size,
     needs: &mut Vec<usize>,
 ) -> Result<(), AllocError>
-    ensures { OnOk result (Sees size before.now stages.now conditions.now inner.now needs.old.items needs.new.items) }
+    ensures { OnOk result (Sees size before.now stages.now conditions.now inner.now needs.old.items
+        needs.new.items) }
 {
     put_all(inner, needs)?;
     let touched = touched(alloc, size.width, stages)?;

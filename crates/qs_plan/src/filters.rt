@@ -5,7 +5,7 @@
 ghost use Rattle.std.specs.Prelude.{◌≡◌, ◌≤◌, ◌<◌, ◌+◌, true, [], ◌∷◌, ◌++◌, map, length, take, drop, IfOk, OnOk};
 ghost use Rattle.std.specs.List.{AllByRecursion};
 ghost use Rattle.qs_plan_meaning.specs.declared.stage.Stage.TheVariants as stage;
-ghost use Rattle.qs_plan.specs.Plans.{SamePlan};
+ghost use Rattle.qs_plan.specs.inner.Plans.{SamePlan};
 ghost use Rattle.qs_plan.specs.inner.Certain.{SameFrom};
 ghost use Rattle.qs_plan.specs.inner.Reads.{Settles};
 
@@ -83,7 +83,8 @@ fn filtered(
     given: &[usize],
 ) -> Result<Items<Stage>, AllocError>
     requires { Settles variables.now condition.now }
-    ensures { IfOk result (λ ss. SameFrom size given.now ss (stages.now ++ stage.Filter condition.now ∷ [])) }
+    ensures { IfOk result
+        (λ ss. SameFrom size given.now ss (stages.now ++ stage.Filter condition.now ∷ [])) }
 {
     let place = all_steady_from(stages, variables, size, given);
     if place > 0 {
@@ -125,7 +126,9 @@ fn filtered_group(
     given: &[usize],
 ) -> Result<Group, AllocError>
     requires { Settles variables.now condition.now }
-    ensures { IfOk result (λ g. SameFrom size given.now g.stages (group.now.stages ++ stage.Filter condition.now ∷ [])) }
+    ensures { IfOk result
+        (λ g. SameFrom size given.now g.stages (group.now.stages ++ stage.Filter condition.now
+        ∷ [])) }
 {
     let stages = filtered(
         alloc,
@@ -149,7 +152,8 @@ fn filtered_branches(
     given: &[usize],
 ) -> Result<Items<Group>, AllocError>
     requires { Settles variables.now condition.now }
-    ensures { IfOk result (λ bs. SameFrom size given.now (stage.Union bs ∷ []) (stage.Union branches.now ∷ stage.Filter condition.now ∷ [])) }
+    ensures { IfOk result (λ bs. SameFrom size given.now (stage.Union bs ∷ [])
+        (stage.Union branches.now ∷ stage.Filter condition.now ∷ [])) }
 {
     let mut done = Items::new(alloc);
     for branch in branches {
@@ -166,7 +170,8 @@ fn put_filter(
     size: Size,
     done: &mut Items<Stage>,
 ) -> Result<(), AllocError>
-    ensures { OnOk result (SameFrom size [] done.new (done.old ++ stage.Filter condition.now ∷ [])) }
+    ensures { OnOk result
+        (SameFrom size [] done.new (done.old ++ stage.Filter condition.now ∷ [])) }
 {
     let mut variables = Vec::new(alloc);
     settle(alloc, condition.get(), &mut variables)?;
@@ -226,7 +231,8 @@ fn put_condition(
     size: Size,
     done: &mut Items<Stage>,
 ) -> Result<(), AllocError>
-    ensures { OnOk result (SameFrom size [] done.new (done.old ++ stage.Filter condition.now ∷ [])) }
+    ensures { OnOk result
+        (SameFrom size [] done.new (done.old ++ stage.Filter condition.now ∷ [])) }
 {
     match condition.get() {
         Expr::And(parts) => {
@@ -313,7 +319,8 @@ fn placed_branches(
     branches: &[Group],
     size: Size,
 ) -> Result<Items<Group>, AllocError>
-    ensures { IfOk result (λ bs. SameFrom size [] (stage.Union bs ∷ []) (stage.Union branches.now ∷ [])) }
+    ensures { IfOk result
+        (λ bs. SameFrom size [] (stage.Union bs ∷ []) (stage.Union branches.now ∷ [])) }
 {
     let mut done = Items::new(alloc);
     for branch in branches {

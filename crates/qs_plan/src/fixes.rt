@@ -86,7 +86,9 @@ fn fixed_to(alloc: Global, variable: usize, expr: &Expr) -> Result<Option<Fixed>
 
 /// What `variable = expr` fixes: something only where the expression is an IRI, since an equal literal may be another term.
 fn fixed_by_iri(alloc: Global, variable: usize, expr: &Expr) -> Result<Option<Fixed>, AllocError>
-    ensures { IfOk result (λ o. IfSome o (λ f. (f.variable ≡ variable) × (IsIri expr.now × IsOnly expr.now f.terms))) }
+    ensures { IfOk result
+        (λ o. IfSome o (λ f. (f.variable ≡ variable)
+        × (IsIri expr.now × IsOnly expr.now f.terms))) }
 {
     if is_iri(expr) {
         let fixed = fixed_to(alloc, variable, expr)?;
@@ -97,7 +99,8 @@ fn fixed_by_iri(alloc: Global, variable: usize, expr: &Expr) -> Result<Option<Fi
 
 /// What `left = right` fixes.
 fn fixed_by_equality(alloc: Global, left: &Expr, right: &Expr) -> Result<Option<Fixed>, AllocError>
-    ensures { IfOk result (λ o. IfSome o (λ f. Fixes f.variable f.terms (exprs.Compare Equal left.now right.now))) }
+    ensures { IfOk result
+        (λ o. IfSome o (λ f. Fixes f.variable f.terms (exprs.Compare Equal left.now right.now))) }
 {
     if let Some(variable) = variable_of(left) {
         let fixed = fixed_by_iri(alloc, variable, right)?;
@@ -112,7 +115,8 @@ fn fixed_by_equality(alloc: Global, left: &Expr, right: &Expr) -> Result<Option<
 
 /// What `sameTerm(left, right)` fixes.
 fn fixed_by_same_term(alloc: Global, left: &Expr, right: &Expr) -> Result<Option<Fixed>, AllocError>
-    ensures { IfOk result (λ o. IfSome o (λ f. Fixes f.variable f.terms (exprs.Binary SameTerm left.now right.now))) }
+    ensures { IfOk result
+        (λ o. IfSome o (λ f. Fixes f.variable f.terms (exprs.Binary SameTerm left.now right.now))) }
 {
     if let Some(variable) = variable_of(left) {
         let fixed = fixed_to(alloc, variable, right)?;
@@ -161,7 +165,8 @@ fn add_iri(terms: &mut Items<Term>, expr: &Expr) -> Result<bool, AllocError>
 
 /// The terms of the members, each once, if all are IRIs.
 fn members(alloc: Global, parts: &[Expr]) -> Result<Option<Items<Term>>, AllocError>
-    ensures { IfOk result (λ o. IfSome o (λ ts. Distinct same_term ts × AllByRecursion (Admits ts) parts.now)) }
+    ensures { IfOk result
+        (λ o. IfSome o (λ ts. Distinct same_term ts × AllByRecursion (Admits ts) parts.now)) }
 {
     if parts.len() > MOST_MEMBERS {
         return Ok(None);
@@ -177,7 +182,8 @@ fn members(alloc: Global, parts: &[Expr]) -> Result<Option<Items<Term>>, AllocEr
 
 /// What `one IN (parts)` fixes.
 fn fixed_by_members(alloc: Global, one: &Expr, parts: &[Expr]) -> Result<Option<Fixed>, AllocError>
-    ensures { IfOk result (λ o. IfSome o (λ f. Fixes f.variable f.terms (exprs.In one.now parts.now))) }
+    ensures { IfOk result
+        (λ o. IfSome o (λ f. Fixes f.variable f.terms (exprs.In one.now parts.now))) }
 {
     if let Some(variable) = variable_of(one) {
         if let Some(terms) = members(alloc, parts)? {
@@ -259,7 +265,8 @@ fn rows_of(alloc: Global, terms: &[Term]) -> Result<Items<Items<Option<Term>>>, 
 
 /// The table of the variable, with a row for each term.
 fn table_of(alloc: Global, variable: usize, terms: &[Term]) -> Result<Table, AllocError>
-    ensures { IfOk result (λ t. (t.variables ≡ variable ∷ []) × (t.rows ≡ map (λ x. Some x ∷ []) terms.now)) }
+    ensures { IfOk result (λ t. (t.variables ≡ variable ∷ [])
+        × (t.rows ≡ map (λ x. Some x ∷ []) terms.now)) }
 {
     let rows = rows_of(alloc, terms)?;
     let mut variables = Items::new(alloc);
@@ -289,7 +296,8 @@ fn put_fixed(
     size: Size,
     stages: &mut Items<Stage>,
 ) -> Result<(), AllocError>
-    ensures { OnOk result ((e : Condition) → Fixes fixed.now.variable fixed.now.terms e → Instead size steps.now (e ∷ []) stages.old stages.new) }
+    ensures { OnOk result ((e : Condition) → Fixes fixed.now.variable fixed.now.terms e
+        → Instead size steps.now (e ∷ []) stages.old stages.new) }
 {
     let variable = fixed.variable;
     if variable >= size.width || !steps_keep(steps, variable) {
@@ -383,7 +391,8 @@ pub(crate) fn are_settled(
     stages: &[Stage],
     size: Size,
 ) -> Result<bool, AllocError>
-    ensures { IfOk result (λ are_so. are_so ≡ true → AllByRecursion (SettledBy size stages.now) conditions.now) }
+    ensures { IfOk result (λ are_so. are_so ≡ true → AllByRecursion (SettledBy size stages.now)
+        conditions.now) }
 {
     for condition in conditions {
         if !is_settled(alloc, condition, stages, size)? {

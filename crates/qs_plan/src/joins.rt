@@ -6,7 +6,7 @@
 
 ghost use Rattle.std.specs.Prelude.{◌≡◌, ◌≤◌, ◌<◌, ◌+◌, ◌^◌, true, [], ◌∷◌, map, IfOk};
 ghost use Rattle.qs_syntax_ast.specs.declared.path.Path.TheVariants as path;
-ghost use Rattle.qs_plan_meaning.specs.Stages.{register_of};
+ghost use Rattle.qs_plan_meaning.specs.inner.Stages.{register_of};
 ghost use Rattle.qs_plan_meaning.specs.declared.stage.Stage.TheVariants as stage;
 ghost use Rattle.qs_plan.specs.inner.Joins.{IsEnd, Joined, JoinedAll, Lower, Stands, Under, between, by_iri};
 ghost use Rattle.qs_plan.specs.inner.Lays.{Within};
@@ -122,7 +122,9 @@ fn triple(
     object: &Slot,
     next: usize,
 ) -> Result<Laid, AllocError>
-    ensures { IfOk result (λ l. (l.stages ≡ stage.Triple look.now (by_iri subject.now iri.now object.now) ∷ []) × (l.next ≡ next)) }
+    ensures { IfOk result
+        (λ l. (l.stages ≡ stage.Triple look.now (by_iri subject.now iri.now object.now) ∷ [])
+        × (l.next ≡ next)) }
 {
     let predicate = Term::Iri(iri.try_clone()?);
     let predicate = Slot::Term(Shared::new(alloc, predicate)?);
@@ -146,7 +148,9 @@ fn whole(
     object: &Slot,
     next: usize,
 ) -> Result<Laid, AllocError>
-    ensures { IfOk result (λ l. (l.stages ≡ stage.Path look.now (between subject.now path.now object.now) ∷ []) × (l.next ≡ next)) }
+    ensures { IfOk result
+        (λ l. (l.stages ≡ stage.Path look.now (between subject.now path.now object.now) ∷ [])
+        × (l.next ≡ next)) }
 {
     let path = shared_path(alloc, path)?;
     let subject = copied_slot(subject)?;
@@ -173,7 +177,8 @@ fn join(
     requires left { IsEnd from look.now subject.now }
     requires right { IsEnd from look.now object.now }
     requires under { Under from (register_of look.now) }
-    ensures { IfOk result (λ l. Joined look.now from l.next l.stages (between subject.now path.now object.now)) }
+    ensures { IfOk result
+        (λ l. Joined look.now from l.next l.stages (between subject.now path.now object.now)) }
 {
     match path {
         Path::Iri(iri) => {
@@ -212,7 +217,9 @@ fn join_either(
     requires left { IsEnd from look.now subject.now }
     requires right { IsEnd from look.now object.now }
     requires under { Under from (register_of look.now) }
-    ensures { IfOk result (λ l. Joined look.now from l.next l.stages (between subject.now (path.Alternative parts.now) object.now)) }
+    ensures { IfOk result
+        (λ l. Joined look.now from l.next l.stages
+        (between subject.now (path.Alternative parts.now) object.now)) }
 {
     let mut branches = Items::new(alloc);
     let mut next = from;
@@ -239,7 +246,9 @@ fn join_each(
     requires left { IsEnd from look.now subject.now }
     requires right { IsEnd from look.now object.now }
     requires under { Under from (register_of look.now) }
-    ensures { IfOk result (λ l. Joined look.now from l.next l.stages (between subject.now (path.Sequence parts.now) object.now)) }
+    ensures { IfOk result
+        (λ l. Joined look.now from l.next l.stages
+        (between subject.now (path.Sequence parts.now) object.now)) }
 {
     let mut stages = Items::new(alloc);
     let mut left = copied_slot(subject)?;
@@ -273,7 +282,8 @@ fn join_each(
 
 /// Whether the path is joined: its ends are such that it may be, and no closure or negated set of it is worse off by itself.
 fn is_joined(look: &Look, pattern: &PathPattern, from: usize) -> bool
-    ensures { result ≡ true → IsEnd from look.now pattern.now.subject × IsEnd from look.now pattern.now.object }
+    ensures { result ≡ true → IsEnd from look.now pattern.now.subject
+        × IsEnd from look.now pattern.now.object }
 {
     is_lower(&pattern.subject, from)
         && is_lower(&pattern.object, from)
@@ -327,7 +337,8 @@ pub(crate) fn join_paths(
     requires named { width ≤ start }
     requires room { from ≡ start + hidden }
     requires within { Within width start look.now }
-    ensures { IfOk result (λ l. JoinedAll look.now (start + hidden) l.next l.stages (map (spec.path_of width hidden start) paths.now)) }
+    ensures { IfOk result (λ l. JoinedAll look.now (start + hidden) l.next l.stages
+        (map (spec.path_of width hidden start) paths.now)) }
 {
     let mut stages = Items::new(alloc);
     let mut next = from;

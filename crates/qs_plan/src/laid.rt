@@ -3,7 +3,7 @@
 ghost use Rattle.std.specs.Prelude.{◌≡◌, [], ◌∷◌, ◌++◌, IfOk};
 ghost use Rattle.qs_plan_meaning.specs.declared.stage.Look.TheVariants as look;
 ghost use Rattle.qs_plan_meaning.specs.declared.stage.Stage.TheVariants as stage;
-ghost use Rattle.qs_plan_meaning.specs.Stages.{register_of};
+ghost use Rattle.qs_plan_meaning.specs.inner.Stages.{register_of};
 
 use crate::copies::{shared_conditions, shared_expr};
 use qs_base::{Shared, keep_beside};
@@ -31,7 +31,9 @@ pub fn alone(alloc: Global, stage: Stage, next: usize) -> Result<Laid, AllocErro
 
 /// The stages as a group that is evaluated by itself and joined.
 pub fn apart(alloc: Global, look: &Look, laid: Laid) -> Result<Laid, AllocError>
-    ensures { IfOk result (λ l. (l.stages ≡ stage.Apart (register_of look.now) (record { stages = laid.stages }) ∷ []) × (l.next ≡ laid.next)) }
+    ensures { IfOk result
+        (λ l. (l.stages ≡ stage.Apart (register_of look.now) (record { stages = laid.stages }) ∷ [])
+        × (l.next ≡ laid.next)) }
 {
     let Laid { stages, next } = laid;
     alone(alloc, Stage::Apart(look.register(), Group { stages }), next)
@@ -44,7 +46,9 @@ pub fn optional(
     conditions: &[Expr],
     laid: Laid,
 ) -> Result<Laid, AllocError>
-    ensures { IfOk result (λ l. (l.stages ≡ stage.Optional (register_of look.now) (record { stages = laid.stages }) conditions.now ∷ []) × (l.next ≡ laid.next)) }
+    ensures { IfOk result
+        (λ l. (l.stages ≡ stage.Optional (register_of look.now) (record { stages = laid.stages })
+        conditions.now ∷ []) × (l.next ≡ laid.next)) }
 {
     let Laid { stages, next } = laid;
     let (stages, conditions) = keep_beside(stages, shared_conditions(alloc, conditions))?;
@@ -54,7 +58,9 @@ pub fn optional(
 
 /// The stages as the group of an OPTIONAL with these conditions, which is fed each row.
 pub fn fed(alloc: Global, conditions: &[Expr], laid: Laid) -> Result<Laid, AllocError>
-    ensures { IfOk result (λ l. (l.stages ≡ stage.Fed (record { stages = laid.stages }) conditions.now ∷ []) × (l.next ≡ laid.next)) }
+    ensures { IfOk result
+        (λ l. (l.stages ≡ stage.Fed (record { stages = laid.stages }) conditions.now ∷ [])
+        × (l.next ≡ laid.next)) }
 {
     let Laid { stages, next } = laid;
     let (stages, conditions) = keep_beside(stages, shared_conditions(alloc, conditions))?;
@@ -63,7 +69,9 @@ pub fn fed(alloc: Global, conditions: &[Expr], laid: Laid) -> Result<Laid, Alloc
 
 /// The stages as the group of a MINUS.
 pub fn minus(alloc: Global, look: &Look, laid: Laid) -> Result<Laid, AllocError>
-    ensures { IfOk result (λ l. (l.stages ≡ stage.Minus (register_of look.now) (record { stages = laid.stages }) ∷ []) × (l.next ≡ laid.next)) }
+    ensures { IfOk result
+        (λ l. (l.stages ≡ stage.Minus (register_of look.now) (record { stages = laid.stages }) ∷ [])
+        × (l.next ≡ laid.next)) }
 {
     let Laid { stages, next } = laid;
     alone(alloc, Stage::Minus(look.register(), Group { stages }), next)
@@ -106,7 +114,8 @@ pub fn look_named(alloc: Global, name: &Term) -> Result<Look, AllocError>
 
 /// The stages, where some quad names this graph.
 pub fn if_exists(alloc: Global, name: &Term, laid: Laid) -> Result<Laid, AllocError>
-    ensures { IfOk result (λ l. (l.stages ≡ stage.Exists name.now ∷ laid.stages) × (l.next ≡ laid.next)) }
+    ensures { IfOk result (λ l. (l.stages ≡ stage.Exists name.now ∷ laid.stages)
+        × (l.next ≡ laid.next)) }
 {
     let (laid, name) = keep_beside(laid, shared(alloc, name))?;
     behind(alloc, Stage::Exists(name), laid)
@@ -119,7 +128,9 @@ pub fn in_each(
     register: usize,
     laid: Laid,
 ) -> Result<Laid, AllocError>
-    ensures { IfOk result (λ l. (l.stages ≡ stage.Names register ∷ (laid.stages ++ stage.Name variable register ∷ [])) × (l.next ≡ laid.next)) }
+    ensures { IfOk result
+        (λ l. (l.stages ≡ stage.Names register ∷ (laid.stages ++ stage.Name variable register ∷ []))
+        × (l.next ≡ laid.next)) }
 {
     let Laid { mut stages, next } = laid;
     stages.push(Stage::Name(variable, register))?;
@@ -133,7 +144,9 @@ pub fn in_bound(
     register: usize,
     laid: Laid,
 ) -> Result<Laid, AllocError>
-    ensures { IfOk result (λ l. (l.stages ≡ stage.Names register ∷ stage.Name variable register ∷ laid.stages) × (l.next ≡ laid.next)) }
+    ensures { IfOk result
+        (λ l. (l.stages ≡ stage.Names register ∷ stage.Name variable register ∷ laid.stages)
+        × (l.next ≡ laid.next)) }
 {
     let laid = behind(alloc, Stage::Name(variable, register), laid)?;
     behind(alloc, Stage::Names(register), laid)

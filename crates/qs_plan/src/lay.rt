@@ -61,7 +61,8 @@ fn lay_values(alloc: Global, table: &Table, from: usize) -> Result<Laid, AllocEr
 
 /// The stages, and after them a filter for each condition.
 fn lay_filters(alloc: Global, conditions: &[Expr], laid: Laid) -> Result<Laid, AllocError>
-    ensures { IfOk result (λ l. (l.stages ≡ laid.stages ++ map stage.Filter conditions.now) × (l.next ≡ laid.next)) }
+    ensures { IfOk result (λ l. (l.stages ≡ laid.stages ++ map stage.Filter conditions.now)
+        × (l.next ≡ laid.next)) }
 {
     let Laid { mut stages, next } = laid;
     for condition in conditions {
@@ -85,7 +86,8 @@ pub fn lay(
 ) -> Result<Laid, AllocError>
     requires named { width ≤ from }
     requires within { Within width from look.now }
-    ensures { IfOk result (λ l. Lays first width look.now from l.next l.stages (joined_with width part.now)) }
+    ensures { IfOk result (λ l. Lays first width look.now from l.next l.stages
+        (joined_with width part.now)) }
 {
     match part {
         PatternNode::Basic(basic) => {
@@ -136,7 +138,8 @@ fn lay_group(
 ) -> Result<Laid, AllocError>
     requires named { width ≤ from }
     requires within { Within width from look.now }
-    ensures { IfOk result (λ l. Lays first width look.now from l.next l.stages (joined_with width (pattern.Group steps.now conditions.now))) }
+    ensures { IfOk result (λ l. Lays first width look.now from l.next l.stages
+        (joined_with width (pattern.Group steps.now conditions.now))) }
 {
     if !first && are_none(conditions) && are_joins(steps) {
         let laid = lay_steps(alloc, width, steps, 0, steps.len(), look, from, false)?;
@@ -168,7 +171,8 @@ fn lay_plain(
     requires named { width ≤ from }
     requires within { Within width from look.now }
     requires joins { AllByRecursion IsJoin steps.now }
-    ensures { IfOk result (λ l. Lays false width look.now from l.next l.stages (joined_with width (pattern.Group steps.now conditions.now))) }
+    ensures { IfOk result (λ l. Lays false width look.now from l.next l.stages
+        (joined_with width (pattern.Group steps.now conditions.now))) }
 {
     let laid = lay_steps(alloc, width, steps, 0, steps.len(), look, from, false)?;
     let Laid { mut stages, next } = laid;
@@ -197,7 +201,8 @@ fn lay_whole(
 ) -> Result<Laid, AllocError>
     requires named { width ≤ from }
     requires within { Within width from look.now }
-    ensures { IfOk result (λ l. Lays true width look.now from l.next l.stages (joined_with width (pattern.Group steps.now conditions.now))) }
+    ensures { IfOk result (λ l. Lays true width look.now from l.next l.stages
+        (joined_with width (pattern.Group steps.now conditions.now))) }
 {
     let count = plain_front(steps);
     let laid = lay_steps(alloc, width, steps, 0, count, look, from, false)?;
@@ -225,7 +230,8 @@ fn lay_steps(
     requires within { Within width from look.now }
     requires ordered { start ≤ end }
     requires inside { end ≤ length steps.now }
-    ensures { IfOk result (λ l. Lays first width look.now from l.next l.stages (all_stepped width (drop start (take end steps.now)))) }
+    ensures { IfOk result (λ l. Lays first width look.now from l.next l.stages
+        (all_stepped width (drop start (take end steps.now)))) }
 {
     let mut stages = Items::new(alloc);
     let mut next = from;
@@ -292,7 +298,8 @@ fn lay_rest(
     requires named { width ≤ from }
     requires within { Within width from look.now }
     requires inside { start ≤ length steps.now }
-    ensures { IfOk result (λ l. LaysRest width look.now from l.next front l.stages (drop start steps.now)) }
+    ensures { IfOk result (λ l. LaysRest width look.now from l.next front l.stages
+        (drop start steps.now)) }
 {
     let mut stages = front;
     let mut next = from;
@@ -341,7 +348,8 @@ fn lay_fed(
 ) -> Result<Option<Laid>, AllocError>
     requires named { width ≤ from }
     requires within { Within width from look.now }
-    ensures { IfOk result (λ o. IfSome o (λ l. LaysNext width look.now from l.next before.now l.stages one.now)) }
+    ensures { IfOk result
+        (λ o. IfSome o (λ l. LaysNext width look.now from l.next before.now l.stages one.now)) }
 {
     match one {
         Step::LeftJoin(part, conditions) => {
@@ -376,7 +384,9 @@ fn lay_optional(
 ) -> Result<Option<Laid>, AllocError>
     requires named { width ≤ from }
     requires within { Within width from look.now }
-    ensures { IfOk result (λ o. IfSome o (λ l. LaysNext width look.now from l.next before.now l.stages (a_step.LeftJoin part.now conditions.now))) }
+    ensures { IfOk result
+        (λ o. IfSome o (λ l. LaysNext width look.now from l.next before.now l.stages
+        (a_step.LeftJoin part.now conditions.now))) }
 {
     if let Some(feed) = feed(alloc, width, part, look, from)? {
         let Feed {
@@ -405,7 +415,9 @@ fn feed(
 ) -> Result<Option<Feed>, AllocError>
     requires named { width ≤ from }
     requires within { Within width from look.now }
-    ensures { IfOk result (λ o. IfSome o (λ f. Feeds f.needs.items width look.now from f.next f.stages (solutions_of width part.now))) }
+    ensures { IfOk result
+        (λ o. IfSome o (λ f. Feeds f.needs.items width look.now from f.next f.stages
+        (solutions_of width part.now))) }
 {
     match part {
         PatternNode::Group(steps, conditions) => {
@@ -437,7 +449,9 @@ fn feed_plain(
 ) -> Result<Option<Feed>, AllocError>
     requires named { width ≤ from }
     requires within { Within width from look.now }
-    ensures { IfOk result (λ o. IfSome o (λ f. Feeds f.needs.items width look.now from f.next f.stages (solutions_of width part.now))) }
+    ensures { IfOk result
+        (λ o. IfSome o (λ f. Feeds f.needs.items width look.now from f.next f.stages
+        (solutions_of width part.now))) }
 {
     let laid = lay(alloc, width, part, look, from, false)?;
     let Laid { stages, next } = laid;
@@ -464,7 +478,9 @@ fn feed_group(
 ) -> Result<Option<Feed>, AllocError>
     requires named { width ≤ from }
     requires within { Within width from look.now }
-    ensures { IfOk result (λ o. IfSome o (λ f. Feeds f.needs.items width look.now from f.next f.stages (solutions_of width (pattern.Group steps.now conditions.now)))) }
+    ensures { IfOk result
+        (λ o. IfSome o (λ f. Feeds f.needs.items width look.now from f.next f.stages
+        (solutions_of width (pattern.Group steps.now conditions.now)))) }
 {
     if let Some(feed) = feed_steps(alloc, width, steps, look, from)? {
         let Feed {
@@ -496,7 +512,9 @@ fn feed_steps(
 ) -> Result<Option<Feed>, AllocError>
     requires named { width ≤ from }
     requires within { Within width from look.now }
-    ensures { IfOk result (λ o. IfSome o (λ f. Feeds f.needs.items width look.now from f.next f.stages (after_steps width steps.now))) }
+    ensures { IfOk result
+        (λ o. IfSome o (λ f. Feeds f.needs.items width look.now from f.next f.stages
+        (after_steps width steps.now))) }
 {
     if are_too_many(width, steps) {
         return Ok(None);
@@ -540,7 +558,9 @@ fn feed_step(
 ) -> Result<Option<Laid>, AllocError>
     requires named { width ≤ from }
     requires within { Within width from look.now }
-    ensures { IfOk result (λ o. IfSome o (λ l. FeedsNext needs.old.items needs.new.items width look.now from l.next before.now l.stages one.now)) }
+    ensures { IfOk result
+        (λ o. IfSome o (λ l. FeedsNext needs.old.items needs.new.items width look.now from l.next
+        before.now l.stages one.now)) }
 {
     match one {
         Step::Join(part) => {
@@ -581,7 +601,9 @@ fn feed_optional(
 ) -> Result<Option<Laid>, AllocError>
     requires named { width ≤ from }
     requires within { Within width from look.now }
-    ensures { IfOk result (λ o. IfSome o (λ l. FeedsNext needs.old.items needs.new.items width look.now from l.next before.now l.stages (a_step.LeftJoin part.now conditions.now))) }
+    ensures { IfOk result
+        (λ o. IfSome o (λ l. FeedsNext needs.old.items needs.new.items width look.now from l.next
+        before.now l.stages (a_step.LeftJoin part.now conditions.now))) }
 {
     if let Some(feed) = feed(alloc, width, part, look, from)? {
         let Feed {
@@ -613,7 +635,8 @@ fn lay_union(
 ) -> Result<Laid, AllocError>
     requires named { width ≤ from }
     requires within { Within width from look.now }
-    ensures { IfOk result (λ l. Lays first width look.now from l.next l.stages (joined_with width (pattern.Union parts.now))) }
+    ensures { IfOk result (λ l. Lays first width look.now from l.next l.stages
+        (joined_with width (pattern.Union parts.now))) }
 {
     let mut branches = Items::new(alloc);
     let mut next = from;
@@ -638,7 +661,8 @@ fn lay_graph(
     first: bool,
 ) -> Result<Laid, AllocError>
     requires { width ≤ from }
-    ensures { IfOk result (λ l. (place : places.Look) → Lays first width place from l.next l.stages (joined_with width (pattern.Graph name.now part.now))) }
+    ensures { IfOk result (λ l. (place : places.Look) → Lays first width place from l.next l.stages
+        (joined_with width (pattern.Graph name.now part.now))) }
 {
     let look = look_named(alloc, name)?;
     let laid = lay(alloc, width, part, &look, from, first)?;
@@ -660,7 +684,8 @@ fn lay_each(
 ) -> Result<Laid, AllocError>
     requires named { width ≤ from }
     requires within { Within width from look.now }
-    ensures { IfOk result (λ l. Lays first width look.now from l.next l.stages (joined_with width (pattern.EachGraph variable part.now))) }
+    ensures { IfOk result (λ l. Lays first width look.now from l.next l.stages
+        (joined_with width (pattern.EachGraph variable part.now))) }
 {
     if is_filtered_plain(part) {
         if let Some(laid) = lay_plain_each(alloc, width, variable, part, from)? {
@@ -685,7 +710,10 @@ fn lay_plain_each(
     from: usize,
 ) -> Result<Option<Laid>, AllocError>
     requires { width ≤ from }
-    ensures { IfOk result (λ o. IfSome o (λ l. (first : Bool) (place : places.Look) → Lays first width place from l.next l.stages (joined_with width (pattern.EachGraph variable part.now)))) }
+    ensures { IfOk result
+        (λ o. IfSome o (λ l. (first : Bool) (place : places.Look)
+        → Lays first width place from l.next l.stages
+        (joined_with width (pattern.EachGraph variable part.now)))) }
 {
     let next = room_after(from, 1)?;
     let register = Look::Register(from);
@@ -708,7 +736,8 @@ fn lay_seen_each(
     from: usize,
 ) -> Result<Laid, AllocError>
     requires { width ≤ from }
-    ensures { IfOk result (λ l. (place : places.Look) → Lays true width place from l.next l.stages (joined_with width (pattern.EachGraph variable part.now))) }
+    ensures { IfOk result (λ l. (place : places.Look) → Lays true width place from l.next l.stages
+        (joined_with width (pattern.EachGraph variable part.now))) }
 {
     let next = room_after(from, 1)?;
     let register = Look::Register(from);

@@ -4,8 +4,8 @@ ghost use Rattle.std.specs.Prelude.{◌≡◌, ◌≢◌, ◌+◌, ◌<◌, ◌�
 ghost use Rattle.std.specs.List.{AllByRecursion};
 ghost use Rattle.std.specs.Option.{option_to_list};
 ghost use Rattle.qs_plan_meaning.specs.declared.stage.Stage.TheVariants as stage;
-ghost use Rattle.qs_plan.specs.Plans.{SamePlan};
-ghost use Rattle.qs_plan_meaning.specs.Stages.{register_of};
+ghost use Rattle.qs_plan.specs.inner.Plans.{SamePlan};
+ghost use Rattle.qs_plan_meaning.specs.inner.Stages.{register_of};
 ghost use Rattle.qs_plan.specs.inner.Sames.{IsScan, Misses, MissesAll, SameStages};
 ghost use Rattle.qs_plan.specs.inner.Slots.{Clears, Cut, Puts, if_left, part, stages_at, stages_left};
 
@@ -36,7 +36,8 @@ fn misses(slot: &Slot, register: Option<usize>) -> bool
 }
 
 pub(crate) fn triple_misses(pattern: &TriplePattern, register: Option<usize>) -> bool
-    ensures { result ≡ true → Misses register pattern.now.subject × (Misses register pattern.now.predicate × Misses register pattern.now.object) }
+    ensures { result ≡ true → Misses register pattern.now.subject
+        × (Misses register pattern.now.predicate × Misses register pattern.now.object) }
 {
     misses(&pattern.subject, register)
         && misses(&pattern.predicate, register)
@@ -44,7 +45,8 @@ pub(crate) fn triple_misses(pattern: &TriplePattern, register: Option<usize>) ->
 }
 
 pub(crate) fn path_misses(pattern: &PathPattern, register: Option<usize>) -> bool
-    ensures { result ≡ true → Misses register pattern.now.subject × Misses register pattern.now.object }
+    ensures { result ≡ true → Misses register pattern.now.subject
+        × Misses register pattern.now.object }
 {
     misses(&pattern.subject, register) && misses(&pattern.object, register)
 }
@@ -101,7 +103,8 @@ fn are_scans(stages: &[Stage], register: Option<usize>) -> bool
 
 #[cycle(scans)]
 fn have_scans(branches: &[Group], register: Option<usize>) -> bool
-    ensures { result ≡ true → AllByRecursion (λ g. AllByRecursion (IsScan register) g.stages) branches.now }
+    ensures { result ≡ true → AllByRecursion (λ g. AllByRecursion (IsScan register) g.stages)
+        branches.now }
 {
     for branch in branches {
         if !are_scans(branch.stages.as_slice(), register) {
@@ -205,7 +208,8 @@ fn put_place(
     at: usize,
     places: &mut Vec<usize>,
 ) -> Result<(), AllocError>
-    ensures { OnOk result (stages_at stages.now places.new.items ≡ stages_at stages.now places.old.items ++ option_to_list (slice_get (drop from stages.now) at)) }
+    ensures { OnOk result (stages_at stages.now places.new.items ≡ stages_at stages.now
+        places.old.items ++ option_to_list (slice_get (drop from stages.now) at)) }
 {
     if is_within(stages.len(), from, at) {
         places.push(from + at)?;
@@ -221,8 +225,12 @@ fn put_at(
     at: usize,
     places: &mut Vec<usize>,
 ) -> Result<(), AllocError>
-    requires { AllByRecursion (IsScan run.register) (stages_left (drop run.from stages.now) left.old.items) }
-    ensures { OnOk result (Puts run.register (stages_at stages.now places.old.items) (stages_left (drop run.from stages.now) left.old.items) (stages_at stages.now places.new.items) (stages_left (drop run.from stages.now) left.new.items)) }
+    requires { AllByRecursion (IsScan run.register)
+        (stages_left (drop run.from stages.now) left.old.items) }
+    ensures { OnOk result (Puts run.register (stages_at stages.now places.old.items)
+        (stages_left (drop run.from stages.now) left.old.items)
+        (stages_at stages.now places.new.items)
+        (stages_left (drop run.from stages.now) left.new.items)) }
 {
     if take_flag(left, at) {
         put_place(stages, run.from, at, places)?;
@@ -238,8 +246,12 @@ fn put_chosen(
     left: &mut Vec<bool>,
     places: &mut Vec<usize>,
 ) -> Result<(), AllocError>
-    requires { AllByRecursion (IsScan run.register) (stages_left (drop run.from stages.now) left.old.items) }
-    ensures { OnOk result (Puts run.register (stages_at stages.now places.old.items) (stages_left (drop run.from stages.now) left.old.items) (stages_at stages.now places.new.items) (stages_left (drop run.from stages.now) left.new.items)) }
+    requires { AllByRecursion (IsScan run.register)
+        (stages_left (drop run.from stages.now) left.old.items) }
+    ensures { OnOk result (Puts run.register (stages_at stages.now places.old.items)
+        (stages_left (drop run.from stages.now) left.old.items)
+        (stages_at stages.now places.new.items)
+        (stages_left (drop run.from stages.now) left.new.items)) }
 {
     for at in order {
         put_at(stages, run, left, *at, places)?;
@@ -255,7 +267,9 @@ fn put_flagged(
     is_left: bool,
     places: &mut Vec<usize>,
 ) -> Result<(), AllocError>
-    ensures { OnOk result (stages_at stages.now places.new.items ≡ stages_at stages.now places.old.items ++ option_to_list (if_left is_left (slice_get (drop from stages.now) at))) }
+    ensures { OnOk result (stages_at stages.now places.new.items ≡ stages_at stages.now
+        places.old.items ++ option_to_list
+        (if_left is_left (slice_get (drop from stages.now) at))) }
 {
     if is_left {
         put_place(stages, from, at, places)?;
@@ -270,8 +284,11 @@ fn put_left(
     mut left: Vec<bool>,
     places: &mut Vec<usize>,
 ) -> Result<(), AllocError>
-    requires { AllByRecursion (IsScan run.register) (stages_left (drop run.from stages.now) left.items) }
-    ensures { OnOk result (Puts run.register (stages_at stages.now places.old.items) (stages_left (drop run.from stages.now) left.items) (stages_at stages.now places.new.items) (stages_left (drop run.from stages.now) [])) }
+    requires { AllByRecursion (IsScan run.register)
+        (stages_left (drop run.from stages.now) left.items) }
+    ensures { OnOk result (Puts run.register (stages_at stages.now places.old.items)
+        (stages_left (drop run.from stages.now) left.items)
+        (stages_at stages.now places.new.items) (stages_left (drop run.from stages.now) [])) }
 {
     'left: while let Some(is_left) = left.pop() {
         put_flagged(stages, run.from, left.len(), is_left, places)?;
@@ -290,7 +307,8 @@ fn put_run<C: Counts>(
 ) -> Result<(), AllocError>
     requires within { run.from + run.count ≤ length stages.now }
     requires scans { AllByRecursion (IsScan run.register) (part stages.now run.from run.count) }
-    ensures { OnOk result (SameStages (stages_at stages.now places.new.items) (stages_at stages.now places.old.items ++ part stages.now run.from run.count)) }
+    ensures { OnOk result (SameStages (stages_at stages.now places.new.items)
+        (stages_at stages.now places.old.items ++ part stages.now run.from run.count)) }
 {
     let end = run.from + run.count;
     let order = order_of(alloc, counts, &stages[run.from..end], known)?;
@@ -311,7 +329,8 @@ fn next_run<C: Counts>(
 ) -> Result<Run, AllocError>
     requires within { run.from + run.count < length stages.now }
     requires cut { Cut stages.now places.old.items run.register run.from run.count }
-    ensures { IfOk result (λ next. (next.from + next.count ≡ run.from + run.count + 1) × Cut stages.now places.new.items next.register next.from next.count) }
+    ensures { IfOk result (λ next. (next.from + next.count ≡ run.from + run.count + 1)
+        × Cut stages.now places.new.items next.register next.from next.count) }
 {
     let at = run.from + run.count;
     let stage = &stages[at];

@@ -6,8 +6,8 @@
 ghost use Rattle.std.specs.Prelude.{◌≡◌, ◌≤◌, ◌<◌, true, None, [], ◌∷◌, IfOk};
 ghost use Rattle.std.specs.List.{AllByRecursion};
 ghost use Rattle.qs_plan_meaning.specs.declared.stage.Stage.TheVariants as a_stage;
-ghost use Rattle.qs_plan_meaning.specs.Stages.{register_of};
-ghost use Rattle.qs_plan.specs.Plans.{SamePlan};
+ghost use Rattle.qs_plan_meaning.specs.inner.Stages.{register_of};
+ghost use Rattle.qs_plan.specs.inner.Plans.{SamePlan};
 ghost use Rattle.qs_plan.specs.inner.Certain.{SameFrom};
 ghost use Rattle.qs_plan.specs.inner.Parts.{IsFedAlike, IsNamed, IsPart};
 
@@ -41,7 +41,8 @@ fn is_named(slot: &Slot, width: usize) -> bool
 }
 
 fn are_named(pattern: &TriplePattern, width: usize) -> bool
-    ensures { result ≡ true → IsNamed width pattern.now.subject × (IsNamed width pattern.now.predicate × IsNamed width pattern.now.object) }
+    ensures { result ≡ true → IsNamed width pattern.now.subject
+        × (IsNamed width pattern.now.predicate × IsNamed width pattern.now.object) }
 {
     is_named(&pattern.subject, width)
         && is_named(&pattern.predicate, width)

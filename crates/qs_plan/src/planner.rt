@@ -5,7 +5,7 @@
 
 ghost use Rattle.std.specs.Prelude.{◌≡◌, ◌<◌, true, IfOk, IfErr};
 ghost use Rattle.qs_terms.specs.declared.fault.QFault.TheVariants.{Memory};
-ghost use Rattle.qs_plan.specs.Plans.{IsPlanOf};
+ghost use Rattle.qs_plan.specs.inner.Plans.{IsPlanOf};
 ghost use Rattle.qs_plan.specs.inner.Numbers.{past};
 
 use crate::counts::{Counts, NoCounts};

@@ -120,7 +120,8 @@ fn settle_addends(
     variables: &mut Vec<usize>,
 ) -> Result<(), AllocError>
     ensures grows { OnOk result (Grows variables.old.items variables.new.items) }
-    ensures settles { OnOk result (AllByRecursion (SettlesOperand variables.new.items) addends.now) }
+    ensures settles { OnOk result
+        (AllByRecursion (SettlesOperand variables.new.items) addends.now) }
 {
     for addend in addends {
         settle(alloc, &addend.operand, variables)?;

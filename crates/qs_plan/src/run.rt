@@ -167,7 +167,8 @@ fn triple_stage(
     pattern: &TriplePattern,
 ) -> Result<Stage, AllocError>
     requires { from + hidden < 2 ^ 64 }
-    ensures { IfOk result (λ s. s ≡ stage.Triple look.now (spec.triple_of width hidden from pattern.now)) }
+    ensures { IfOk result
+        (λ s. s ≡ stage.Triple look.now (spec.triple_of width hidden from pattern.now)) }
 {
     let pattern = triple_of(width, hidden, from, pattern)?;
     let look = look.try_clone()?;
@@ -240,7 +241,8 @@ pub fn lay_run(
 ) -> Result<Laid, AllocError>
     requires named { width ≤ from }
     requires within { Within width from look.now }
-    ensures { IfOk result (λ l. (first : Bool) → Lays first width look.now from l.next l.stages (joined_with width (Basic pattern.now))) }
+    ensures { IfOk result (λ l. (first : Bool) → Lays first width look.now from l.next l.stages
+        (joined_with width (Basic pattern.now))) }
 {
     let next = room_after(from, pattern.hidden)?;
     if has_all_below(pattern, width) {

@@ -1,7 +1,7 @@
 //! Stages: what a plan is made of.
 
 ghost use Rattle.std.specs.Prelude.{◌≡◌, IfOk};
-ghost use Rattle.qs_plan_meaning.specs.Stages.{register_of};
+ghost use Rattle.qs_plan_meaning.specs.inner.Stages.{register_of};
 
 use qs_algebra_patterns::{PathPattern, Table, TriplePattern};
 use qs_base::Shared;

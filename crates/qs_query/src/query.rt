@@ -19,7 +19,10 @@ use std::alloc::Global;
 /// after OFFSET and LIMIT, are more than `max_rows`; `QFault::Full` where there are no numbers for the fresh blank nodes of a CONSTRUCT.
 /// `QFault::Memory` where memory runs out, at any time.
 pub fn answer<V: View>(alloc: Global, text: &str, view: &V, max_rows: u64) -> Result<Answer, QFault>
-    ensures { OneOrOutOfMemory (IsOutcomeOfText text.now (dataset_of (visible (V.default_seen view.now) (V.content view.now).quads) (V.content view.now).next) max_rows) result }
+    ensures { OneOrOutOfMemory
+        (IsOutcomeOfText text.now
+        (dataset_of (visible (V.default_seen view.now) (V.content view.now).quads)
+        (V.content view.now).next) max_rows) result }
 {
     let query = parse_query(alloc, text)?;
     let answer = answer_query(alloc, &query, view, None, max_rows);

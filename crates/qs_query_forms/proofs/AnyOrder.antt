@@ -19,7 +19,8 @@ use Rattle.qs_algebra_solutions.specs.declared.answer.Answer.{Answer}
 use Rattle.qs_algebra_solutions.proofs.Same.{same_solution-Decides}
 use Rattle.qs_expr_values.specs.Sorting as of
 use Rattle.qs_query_order.proofs.Total.{lists_total}
-use Rattle.qs_query_order.specs.Order.{compare, compare_by, AreFirstIf, IsOrdered}
+use Rattle.qs_query_order.specs.Order.{compare, compare_by, IsOrdered}
+use Rattle.qs_query_order.specs.inner.Order.{AreFirstIf}
 use Rattle.qs_query_order.specs.inner.Keys.{compare_keys, keys_of}
 use Rattle.qs_query_order.specs.declared.condition.OrderCondition.{OrderCondition}
 use Rattle.qs_query_solutions.specs.inner.After.{AreSomeAfter}

@@ -7,7 +7,8 @@ use Rattle.std.proofs.lemmas.List.Elements.{All-nil, All-cons, All-head, All-tai
 use Rattle.std.specs.Bool.{Decides}
 use Rattle.std.specs.Cmp.{IsStrictWeakOrder}
 use Rattle.std.specs.List.{All, filter, flat_map, list_any}
-use Rattle.qs_terms.specs.Bag.{Distinct, SameBag, once, times}
+use Rattle.qs_terms.specs.Bag.{Distinct, SameBag, once}
+use Rattle.qs_terms.specs.inner.Bag.{times}
 use Rattle.qs_terms.proofs.Counts.{same_from_times, times-filter, times-flat_map, times-same, total, total-ap}
 use Rattle.qs_terms.proofs.FirstOnes.{or_left_false, or_right_false}
 use Rattle.qs_query_forms.proofs.Once.{times-once}

@@ -2,7 +2,7 @@
 use Rattle.std.proofs.Common.{◌≡◌, ℕ, ◌+◌, ◌<◌, List, [], ◌∷◌, ◌++◌, length, take, get_or, map, sym, ◌∙◌, ap}
 use Rattle.std.specs.Borrow.{Bor}
 use Rattle.std.proofs.lemmas.List.{map-append, take_more}
-use Rattle.qs_base.specs.Lent.{lent}
+use Rattle.qs_base.specs.inner.Lent.{lent}
 
 pub lent_more : {X Y : Type 0} (f : X → Y) (xs ys : List (Bor X)) (x : Bor X) → ys ≡ xs ++ x ∷ [] → map f (lent ys) ≡ map f (lent xs) ++ f x.now ∷ []
 lent_more {X} f xs ys x e =

@@ -2,7 +2,8 @@
 use Rattle.std.proofs.Common.{◌≡◌, ℕ, ◌+◌, Bool, true, false, cond, not, ◌&&◌, List, [], ◌∷◌, min, refl, sym, ◌∙◌, ap, arith}
 use Rattle.std.specs.Bool.{Decides}
 use Rattle.std.specs.List.{filter, list_all}
-use Rattle.qs_terms.specs.Bag.{SameBag, times, once}
+use Rattle.qs_terms.specs.Bag.{SameBag, once}
+use Rattle.qs_terms.specs.inner.Bag.{times}
 use Rattle.qs_terms.proofs.Counts.{times-filter, times-same, same_from_times}
 
 counted : (e : Bool) (n k : ℕ) → n ≡ min 1 k → cond e 1 0 + cond (not e) n 0 ≡ min 1 (cond e 1 0 + k)

@@ -16,12 +16,13 @@ use Rattle.qs_algebra_solutions.specs.declared.answer.Answer.TheVariants.{Soluti
 use Rattle.qs_syntax_ast.specs.declared.query.Query.{Query}
 use Rattle.qs_syntax_scope.specs.Names.{Name}
 use Rattle.qs_algebra_patterns.specs.declared.named_pattern.Pattern.{Pattern}
-use Rattle.qs_base.specs.Lent.{lent}
+use Rattle.qs_base.specs.inner.Lent.{lent}
 use Rattle.qs_query_order.specs.Order.{IsOrdered}
 use Rattle.qs_query_order.specs.declared.condition.OrderCondition.{OrderCondition}
 use Rattle.qs_query_template.specs.Instances.{made}
 use Rattle.qs_query_forms.specs.inner.InOrder.{IsRowsOf, IsRows, IsGraphOf, bounded, AreFew, with_vars}
-use Rattle.qs_query_forms.specs.Outcome.{IsSelected, IsBuilt, IsConstructed, IsAnswered, IsAllSolutions, IsOutcomeOfQuery}
+use Rattle.qs_query_forms.specs.Outcome.{IsSelected, IsBuilt, IsConstructed, IsAnswered, IsOutcomeOfQuery}
+use Rattle.qs_query_forms.specs.inner.Outcome.{IsAllSolutions}
 use Rattle.qs_query_forms.specs.Request.{request}
 use Rattle.qs_query_forms.specs.Sequence.{whole, limited, sliced, listed_rows, IsInOrder, count, has_solution}
 use Rattle.qs_query_forms.specs.declared.construction.Construction.{Construction}

@@ -1,4 +1,5 @@
--- What a CONSTRUCT asks for (SPARQL 1.1 Query, 16.2): the template, the pattern, the conditions of ORDER BY, OFFSET and LIMIT.
+-- What a CONSTRUCT asks for (SPARQL 1.1 Query, 16.2): the template, the pattern, the conditions of
+-- ORDER BY, OFFSET and LIMIT.
 use Rattle.qs_syntax_ast.specs.declared.query.Construct.{Construct}
 use Rattle.qs_syntax_ast.specs.declared.query.Query.{Query}
 use Rattle.qs_syntax_scope.specs.Firsts.{names_of}
@@ -10,8 +11,7 @@ use Rattle.qs_query_forms.specs.declared.construction.Construction.{Construction
 -- what the CONSTRUCT asks for
 abbrev pub construction : Query → Construct → Construction
 construction query construct =
-    let names = names_of query.variables in
-    record {
+    let names = names_of query.variables in record {
       template = template_of names construct.template;
       pattern = translated query;
       order = order_of names construct.modifiers;

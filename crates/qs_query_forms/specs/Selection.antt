@@ -1,5 +1,5 @@
--- What a SELECT asks for (SPARQL 1.1 Query, 15 and 18.2.4): the listed variables, the pattern, the conditions of ORDER BY, whether
--- duplicates are eliminated, OFFSET and LIMIT.
+-- What a SELECT asks for (SPARQL 1.1 Query, 15 and 18.2.4): the listed variables, the pattern, the
+-- conditions of ORDER BY, whether duplicates are eliminated, OFFSET and LIMIT.
 use Rattle.std.specs.Prelude.{Bool, true, false, List, ◌++◌, map, Option}
 use Rattle.std.specs.List.{filter}
 use Rattle.qs_syntax_tree.specs.declared.query.Duplicates.{Duplicates}
@@ -24,7 +24,8 @@ use Rattle.qs_query_forms.specs.Modifiers.{slice_of, order_of}
 
 -- ---- the variables that the answer lists, each once
 
--- those in scope of the pattern or of the trailing VALUES, in the order in which they first appear in the text (16.1 and 10.2)
+-- those in scope of the pattern or of the trailing VALUES, in the order in which they first appear
+-- in the text (16.1 and 10.2)
 abbrev pub all_listed : List Name → Group → Option InlineData → List Name
 all_listed names group values = filter (contains (in_scope group ++ trailing_names values)) names
 
@@ -44,16 +45,14 @@ listed names group values (projection.Items items) = items_listed items
 
 -- whether duplicates are eliminated (15.3); REDUCED permits it, and here eliminates none
 abbrev pub is_distinct : Duplicates → Bool
-is_distinct duplicates.Kept = false
 is_distinct duplicates.Distinct = true
-is_distinct duplicates.Reduced = false
+is_distinct _ = false
 
 -- what the SELECT asks for
 abbrev pub selection : Query → Select → Selection
 selection query select =
     let names = names_of query.variables in
-    let vars = listed names select.pattern query.values select.projection in
-    record {
+    let vars = listed names select.pattern query.values select.projection in record {
       vars = vars;
       columns = map (place_of names) vars;
       pattern = translated query;

@@ -1,6 +1,8 @@
--- The sequence of a query's solutions (SPARQL 1.1 Query, 15, 18.2.4 and 18.2.5): its pattern's solutions in an order that the conditions of
--- ORDER BY allow. The other modifiers follow, one after another: projection, DISTINCT or REDUCED, OFFSET and LIMIT.
-use Rattle.std.specs.Prelude.{◌≡◌, ℕ, Bool, true, false, List, [], ◌∷◌, map, take, drop, length, Option, Some, None}
+-- The sequence of a query's solutions (SPARQL 1.1 Query, 15, 18.2.4 and 18.2.5): its pattern's
+-- solutions in an order that the conditions of ORDER BY allow. The other modifiers follow, one
+-- after another: projection, DISTINCT or REDUCED, OFFSET and LIMIT.
+use Rattle.std.specs.Prelude.{◌≡◌, ℕ, Bool, true, false, List, [], ◌∷◌, map, take, drop, length}
+use Rattle.std.specs.Prelude.{Option, Some, None}
 use Rattle.qs_terms.specs.Bag.{SameBag, once}
 use Rattle.qs_terms.specs.Dataset.{Dataset, Triple}
 use Rattle.qs_terms.specs.Statement.{Statement, same_statement}
@@ -12,8 +14,8 @@ use Rattle.qs_algebra_patterns.specs.declared.named_pattern.Pattern.{Pattern}
 use Rattle.qs_query_forms.specs.declared.selection.Selection.{Selection}
 use Rattle.qs_query_forms.specs.declared.modifiers.Slice.{Slice}
 
--- the dataset of some quads, each once by its first occurrence, with the next blank node's number; it is a dataset where the number is
--- above those of their blank nodes
+-- the dataset of some quads, each once by its first occurrence, with the next blank node's number;
+-- it is a dataset where the number is above those of their blank nodes
 abbrev pub dataset_of : List Statement → ℕ → Dataset
 dataset_of quads next = record { quads = once same_statement quads; next = next }
 
@@ -29,14 +31,16 @@ limited (Some n) xs = take n xs
 abbrev pub sliced : {X : Type 0} → Slice → List X → List X
 sliced slice xs = limited slice.limit (drop slice.offset xs)
 
--- where duplicates are eliminated, the first occurrences (Distinct); else all (Reduced may leave all, and does)
+-- where duplicates are eliminated, the first occurrences (Distinct); else all (Reduced may leave
+-- all, and does)
 abbrev pub once_where : Bool → List Solution → List Solution
 once_where true rows = once same_solution rows
 once_where false rows = rows
 
 -- the solutions in this order, projected (Project), and without duplicates where that is asked for
 abbrev pub listed_rows : Selection → List Solution → List Solution
-listed_rows selection solutions = once_where selection.is_distinct (map (projected selection.columns) solutions)
+listed_rows selection solutions =
+    once_where selection.is_distinct (map (projected selection.columns) solutions)
 
 -- the same solutions, none before one that the conditions put lower (ToList and OrderBy)
 abbrev pub IsInOrder : List OrderCondition → List Solution → List Solution → Type 0
@@ -45,11 +49,13 @@ IsInOrder conditions solutions all = SameBag all solutions × IsOrdered conditio
 -- the rows are a sequence of the solutions
 abbrev pub IsSequence : Selection → List Solution → List Solution → Type 0
 IsSequence selection solutions rows =
-    (all : List Solution) × IsInOrder selection.order solutions all × (rows ≡ sliced selection.slice (listed_rows selection all))
+    (all : List Solution) × IsInOrder selection.order solutions all
+    × (rows ≡ sliced selection.slice (listed_rows selection all))
 
 -- the same where nothing is projected, as for a CONSTRUCT (16.2)
 abbrev pub IsPart : List OrderCondition → Slice → List Solution → List Solution → Type 0
-IsPart conditions slice solutions part = (all : List Solution) × IsInOrder conditions solutions all × (part ≡ sliced slice all)
+IsPart conditions slice solutions part =
+    (all : List Solution) × IsInOrder conditions solutions all × (part ≡ sliced slice all)
 
 -- the length that all sequences of the solutions have
 abbrev pub count : Selection → List Solution → ℕ

@@ -1,3 +1,4 @@
--- What serves proofs alone: no promise of the product is read by it.
+-- For proofs and the layers between: no clause of the headline cites a definition of these files.
 pub mod InOrder
 pub mod Placed
+pub mod Outcome

@@ -2,15 +2,17 @@
 
 ghost use Rattle.std.specs.Prelude.{◌≡◌, [], true, IfOk, Ok};
 ghost use Rattle.std.specs.Option.{option_copied};
-ghost use Rattle.qs_base.specs.Lent.{lent};
+ghost use Rattle.qs_base.specs.inner.Lent.{lent};
 ghost use Rattle.qs_terms.specs.Bag.{SameBag, once};
 ghost use Rattle.qs_terms.specs.Dataset.{graph_of};
 ghost use Rattle.qs_terms.specs.Outcome.{OneOrOutOfMemory};
 ghost use Rattle.qs_terms.specs.Statement.{same_statement};
-ghost use Rattle.qs_store.specs.Visible.{visible, visible_quads};
+ghost use Rattle.qs_store.specs.Visible.{visible};
+ghost use Rattle.qs_store.specs.inner.Visible.{visible_quads};
 ghost use Rattle.qs_query_forms.specs.inner.InOrder as in_order;
 ghost use Rattle.qs_query_forms.specs.inner.Placed.{ArePlaced};
-ghost use Rattle.qs_query_forms.specs.Outcome.{IsSelected, IsBuilt, IsConstructed, IsAsked, IsAllSolutions, IsOutcomeOfQuery};
+ghost use Rattle.qs_query_forms.specs.Outcome.{IsSelected, IsBuilt, IsConstructed, IsAsked, IsOutcomeOfQuery};
+ghost use Rattle.qs_query_forms.specs.inner.Outcome.{IsAllSolutions};
 ghost use Rattle.qs_query_forms.specs.Sequence.{dataset_of, whole};
 
 use crate::construction::Construction;
@@ -42,7 +44,8 @@ fn rows_of(
     all: Vec<&Row>,
     max_rows: u64,
 ) -> Result<Items<Row>, QFault>
-    ensures { OneOrOutOfMemory (in_order.IsRowsOf asked.now max_rows (lent all.entry.items)) result }
+    ensures { OneOrOutOfMemory (in_order.IsRowsOf asked.now max_rows (lent all.entry.items))
+        result }
 {
     let listed = listed_rows(alloc, asked, all)?;
     let part = slice_rows(listed.as_slice(), asked.slice);
@@ -61,7 +64,11 @@ fn all_ordered_once<V: View>(
     active: Option<&Term>,
     max_rows: u64,
 ) -> Result<Items<Row>, QFault>
-    ensures { let set = visible_quads (V.content view.now) (V.default_seen view.now) in OneOrOutOfMemory (in_order.IsRows asked.now (whole asked.now.pattern set (graph_of set (option_copied active.entry))) max_rows) result }
+    ensures { let set = visible_quads (V.content view.now) (V.default_seen view.now)
+        in OneOrOutOfMemory
+        (in_order.IsRows asked.now
+        (whole asked.now.pattern set (graph_of set (option_copied active.entry))) max_rows)
+        result }
 {
     let part = OrderedPart {
         conditions: asked.order.as_slice(),
@@ -86,7 +93,11 @@ fn rows_ordered_once<V: View>(
 ) -> Result<Items<Row>, QFault>
     requires distinct { asked.now.is_distinct ≡ true }
     requires placed { ArePlaced asked.now.columns asked.now.order conditions.now }
-    ensures { let set = visible_quads (V.content view.now) (V.default_seen view.now) in OneOrOutOfMemory (in_order.IsRows asked.now (whole asked.now.pattern set (graph_of set (option_copied active.entry))) max_rows) result }
+    ensures { let set = visible_quads (V.content view.now) (V.default_seen view.now)
+        in OneOrOutOfMemory
+        (in_order.IsRows asked.now
+        (whole asked.now.pattern set (graph_of set (option_copied active.entry))) max_rows)
+        result }
 {
     keys_are_ordered();
     let columns = asked.columns.as_slice();
@@ -104,7 +115,11 @@ fn ordered_once<V: View>(
     max_rows: u64,
 ) -> Result<Items<Row>, QFault>
     requires { asked.now.is_distinct ≡ true }
-    ensures { let set = visible_quads (V.content view.now) (V.default_seen view.now) in OneOrOutOfMemory (in_order.IsRows asked.now (whole asked.now.pattern set (graph_of set (option_copied active.entry))) max_rows) result }
+    ensures { let set = visible_quads (V.content view.now) (V.default_seen view.now)
+        in OneOrOutOfMemory
+        (in_order.IsRows asked.now
+        (whole asked.now.pattern set (graph_of set (option_copied active.entry))) max_rows)
+        result }
 {
     match placed(alloc, asked.columns.as_slice(), asked.order.as_slice())? {
         Some(conditions) => rows_ordered_once(
@@ -127,7 +142,11 @@ fn ordered<V: View>(
     active: Option<&Term>,
     max_rows: u64,
 ) -> Result<Items<Row>, QFault>
-    ensures { let set = visible_quads (V.content view.now) (V.default_seen view.now) in OneOrOutOfMemory (in_order.IsRows asked.now (whole asked.now.pattern set (graph_of set (option_copied active.entry))) max_rows) result }
+    ensures { let set = visible_quads (V.content view.now) (V.default_seen view.now)
+        in OneOrOutOfMemory
+        (in_order.IsRows asked.now
+        (whole asked.now.pattern set (graph_of set (option_copied active.entry))) max_rows)
+        result }
 {
     if asked.is_distinct {
         return ordered_once(alloc, asked, view, active, max_rows);
@@ -152,7 +171,9 @@ fn listed<V: View>(
     most: Option<u64>,
 ) -> Result<Vec<Row>, AllocError>
     requires { asked.now.is_distinct ≡ true }
-    ensures { IfOk result (λ rows. let set = visible_quads (V.content view.now) (V.default_seen view.now) in in_order.AreListed asked.now most rows.items (whole asked.now.pattern set (graph_of set (option_copied active.entry)))) }
+    ensures { IfOk result (λ rows. let set = visible_quads (V.content view.now)
+        (V.default_seen view.now) in in_order.AreListed asked.now most rows.items
+        (whole asked.now.pattern set (graph_of set (option_copied active.entry)))) }
 {
     let columns = asked.columns.as_slice();
     let rows = distinct_solutions(alloc, &asked.pattern, view, active, columns, most)?;
@@ -168,7 +189,11 @@ fn unordered<V: View>(
     max_rows: u64,
 ) -> Result<Items<Row>, QFault>
     requires { asked.now.order ≡ [] }
-    ensures { let set = visible_quads (V.content view.now) (V.default_seen view.now) in OneOrOutOfMemory (in_order.IsRows asked.now (whole asked.now.pattern set (graph_of set (option_copied active.entry))) max_rows) result }
+    ensures { let set = visible_quads (V.content view.now) (V.default_seen view.now)
+        in OneOrOutOfMemory
+        (in_order.IsRows asked.now
+        (whole asked.now.pattern set (graph_of set (option_copied active.entry))) max_rows)
+        result }
 {
     let most = enough_for_slice(asked.slice, asked.order.as_slice(), max_rows);
     if asked.is_distinct {
@@ -196,7 +221,11 @@ fn sequence<V: View>(
     active: Option<&Term>,
     max_rows: u64,
 ) -> Result<Items<Row>, QFault>
-    ensures { let set = visible_quads (V.content view.now) (V.default_seen view.now) in OneOrOutOfMemory (in_order.IsRows asked.now (whole asked.now.pattern set (graph_of set (option_copied active.entry))) max_rows) result }
+    ensures { let set = visible_quads (V.content view.now) (V.default_seen view.now)
+        in OneOrOutOfMemory
+        (in_order.IsRows asked.now
+        (whole asked.now.pattern set (graph_of set (option_copied active.entry))) max_rows)
+        result }
 {
     if asked.order.is_empty() {
         return unordered(alloc, asked, view, active, max_rows);
@@ -221,7 +250,10 @@ fn selected<V: View>(
     active: Option<&Term>,
     max_rows: u64,
 ) -> Result<Answer, QFault>
-    ensures { let set = visible_quads (V.content view.now) (V.default_seen view.now) in OneOrOutOfMemory (IsSelected asked (whole asked.pattern set (graph_of set (option_copied active.entry))) max_rows) result }
+    ensures { let set = visible_quads (V.content view.now) (V.default_seen view.now)
+        in OneOrOutOfMemory
+        (IsSelected asked (whole asked.pattern set (graph_of set (option_copied active.entry)))
+        max_rows) result }
 {
     let rows = sequence(alloc, &asked, view, active, max_rows);
     with_vars(asked.vars, rows)
@@ -243,7 +275,8 @@ fn graph_of_rows(
     mut rows: Vec<Row>,
     max_rows: u64,
 ) -> Result<Answer, QFault>
-    ensures { OneOrOutOfMemory (in_order.IsGraphOfRest asked.now next_blank max_rows rows.items) result }
+    ensures { OneOrOutOfMemory (in_order.IsGraphOfRest asked.now next_blank max_rows rows.items)
+        result }
 {
     limit(&mut rows, asked.slice.limit);
     if rows.len() as u64 > max_rows {
@@ -262,7 +295,9 @@ fn solutions_to_construct<V: View>(
     active: Option<&Term>,
     max_rows: u64,
 ) -> Result<Vec<Row>, AllocError>
-    ensures { IfOk result (λ rows. let set = visible_quads (V.content view.now) (V.default_seen view.now) in in_order.AreRest asked.now max_rows rows.items (whole asked.now.pattern set (graph_of set (option_copied active.entry)))) }
+    ensures { IfOk result (λ rows. let set = visible_quads (V.content view.now)
+        (V.default_seen view.now) in in_order.AreRest asked.now max_rows rows.items
+        (whole asked.now.pattern set (graph_of set (option_copied active.entry)))) }
 {
     let conditions = asked.order.as_slice();
     let slice = asked.slice;
@@ -295,7 +330,10 @@ fn constructed<V: View>(
     active: Option<&Term>,
     max_rows: u64,
 ) -> Result<Answer, QFault>
-    ensures { let set = visible_quads (V.content view.now) (V.default_seen view.now) in OneOrOutOfMemory (IsConstructed asked.now (V.content view.now).next (whole asked.now.pattern set (graph_of set (option_copied active.entry))) max_rows) result }
+    ensures { let set = visible_quads (V.content view.now) (V.default_seen view.now)
+        in OneOrOutOfMemory (IsConstructed asked.now (V.content view.now).next
+        (whole asked.now.pattern set (graph_of set (option_copied active.entry))) max_rows)
+        result }
 {
     let rows = solutions_to_construct(alloc, asked, view, active, max_rows)?;
     graph_of_rows(alloc, asked, view.next_blank(), rows, max_rows)
@@ -307,7 +345,9 @@ fn truth<V: View>(
     view: &V,
     active: Option<&Term>,
 ) -> Result<Answer, QFault>
-    ensures { let set = visible_quads (V.content view.now) (V.default_seen view.now) in OneOrOutOfMemory (IsAsked (whole pattern.now set (graph_of set (option_copied active.entry)))) result }
+    ensures { let set = visible_quads (V.content view.now) (V.default_seen view.now)
+        in OneOrOutOfMemory
+        (IsAsked (whole pattern.now set (graph_of set (option_copied active.entry)))) result }
 {
     let all = some_solutions(alloc, pattern, view, active, Some(1))?;
     Ok(Answer::Truth(!all.is_empty()))
@@ -326,7 +366,11 @@ pub fn answer_query<V: View>(
     active: Option<&Term>,
     max_rows: u64,
 ) -> Result<Answer, QFault>
-    ensures { let d = dataset_of (visible (V.default_seen view.now) (V.content view.now).quads) (V.content view.now).next in OneOrOutOfMemory (IsOutcomeOfQuery query.now d (graph_of d.quads (option_copied active.entry)) max_rows) result }
+    ensures { let d = dataset_of (visible (V.default_seen view.now) (V.content view.now).quads)
+        (V.content view.now).next
+        in OneOrOutOfMemory
+        (IsOutcomeOfQuery query.now d (graph_of d.quads (option_copied active.entry)) max_rows)
+        result }
 {
     match request_of(alloc, query)? {
         Request::Select(asked) => selected(alloc, asked, view, active, max_rows),
@@ -362,7 +406,10 @@ fn few_solutions<V: View>(
     active: Option<&Term>,
     max_rows: u64,
 ) -> Result<Items<Row>, QFault>
-    ensures { let set = visible_quads (V.content view.now) (V.default_seen view.now) in OneOrOutOfMemory (in_order.AreFew (whole pattern.now set (graph_of set (option_copied active.entry))) max_rows) result }
+    ensures { let set = visible_quads (V.content view.now) (V.default_seen view.now)
+        in OneOrOutOfMemory
+        (in_order.AreFew (whole pattern.now set (graph_of set (option_copied active.entry)))
+        max_rows) result }
 {
     let most = max_rows.checked_add(1);
     let all = some_solutions(alloc, pattern, view, active, most)?;
@@ -381,7 +428,11 @@ pub fn solutions<V: View>(
     graph: Option<&Term>,
     max_rows: u64,
 ) -> Result<Answer, QFault>
-    ensures { let set = once same_statement (visible (V.default_seen view.now) (V.content view.now).quads) in OneOrOutOfMemory (IsAllSolutions pattern.now (whole pattern.now set (graph_of set (option_copied graph.entry))) max_rows) result }
+    ensures { let set = once same_statement
+        (visible (V.default_seen view.now) (V.content view.now).quads)
+        in OneOrOutOfMemory
+        (IsAllSolutions pattern.now
+        (whole pattern.now set (graph_of set (option_copied graph.entry))) max_rows) result }
 {
     let vars = copied(alloc, pattern.names.as_slice())?;
     let rows = few_solutions(alloc, pattern, view, graph, max_rows);

@@ -4,7 +4,7 @@ ghost use Rattle.std.specs.Prelude.{◌≡◌, map, IfOk};
 ghost use Rattle.std.specs.Option.{option_copied};
 ghost use Rattle.qs_terms.specs.Bag.{once};
 ghost use Rattle.qs_algebra_solutions.specs.Solution.{projected, same_solution};
-ghost use Rattle.qs_base.specs.Lent.{lent};
+ghost use Rattle.qs_base.specs.inner.Lent.{lent};
 
 use qs_algebra_solutions::Row;
 use qs_terms::Term;
@@ -33,7 +33,8 @@ pub fn firsts<'a>(
     rows: &[&'a Row],
     columns: &[usize],
 ) -> Result<Vec<&'a Row>, AllocError>
-    ensures { IfOk result (λ firsts. map (projected columns.now) (lent firsts.items) ≡ once same_solution (map (projected columns.now) (lent rows.now))) }
+    ensures { IfOk result (λ firsts. map (projected columns.now) (lent firsts.items)
+        ≡ once same_solution (map (projected columns.now) (lent rows.now))) }
 {
     // (The terms that were met are borrowed from the rows.)
     let mut known = BTreeSet::new(alloc);

@@ -5,7 +5,7 @@
 ghost use Rattle.std.specs.Prelude.{◌≡◌, ◌<◌, length, slice_index_or, IfOk, IfSome};
 ghost use Rattle.std.specs.List.{All};
 ghost use Rattle.qs_algebra_solutions.specs.Solution.{Solution};
-ghost use Rattle.qs_query_order.specs.Order.{AreFirstIf};
+ghost use Rattle.qs_query_order.specs.inner.Order.{AreFirstIf};
 ghost use Rattle.qs_query_order.specs.inner.Keyed.{solutions_of, AreKeptIf, IsKeyed};
 ghost use Rattle.qs_query_forms.specs.inner.Placed.{itself, ArePlaced, IsPlaced};
 
@@ -15,7 +15,8 @@ use qs_query_order::{KeyedRow, OrderCondition, keep, keys_of, put_in_order};
 use std::alloc::{AllocError, Global};
 
 fn place_in(columns: &[usize], variable: usize) -> Option<usize>
-    ensures { IfSome result (λ place. (place < length columns.now) × (slice_index_or columns.now place 0 ≡ variable)) }
+    ensures { IfSome result (λ place. (place < length columns.now)
+        × (slice_index_or columns.now place 0 ≡ variable)) }
 {
     for place in 0..columns.len() {
         if columns[place] == variable {
@@ -47,7 +48,8 @@ pub fn placed(
     columns: &[usize],
     conditions: &[OrderCondition],
 ) -> Result<Option<Vec<OrderCondition>>, AllocError>
-    ensures { IfOk result (λ all. IfSome all (λ placed. ArePlaced columns.now conditions.now placed.items)) }
+    ensures { IfOk result
+        (λ all. IfSome all (λ placed. ArePlaced columns.now conditions.now placed.items)) }
 {
     let mut all = Vec::with_capacity(alloc, conditions.len())?;
     for condition in conditions {
@@ -66,7 +68,8 @@ fn kept_of(
     count: Option<usize>,
 ) -> Result<Vec<KeyedRow<Row>>, AllocError>
     ensures keyed { IfOk result (λ kept. All (IsKeyed itself conditions.now) kept.items) }
-    ensures kept { IfOk result (λ kept. AreKeptIf conditions.now count rows.items (solutions_of itself kept.items)) }
+    ensures kept { IfOk result (λ kept. AreKeptIf conditions.now count rows.items
+        (solutions_of itself kept.items)) }
 {
     let mut kept = Vec::new(alloc);
     while let Some(row) = rows.pop() {

@@ -82,7 +82,8 @@ fn all_listed<'a>(
     group: &'a Group,
     values: &'a Option<InlineData>,
 ) -> Result<Items<Text>, AllocError>
-    ensures { IfOk result (λ vars. vars ≡ spec.all_listed (names_of variables.now) group.now values.now) }
+    ensures { IfOk result (λ vars. vars ≡ spec.all_listed (names_of variables.now) group.now
+        values.now) }
 {
     let mut scope = in_scope(alloc, group)?;
     put_trailing(&mut scope, values)?;
@@ -137,7 +138,8 @@ fn listed<'a>(
     values: &'a Option<InlineData>,
     projection: &Projection,
 ) -> Result<Items<Text>, AllocError>
-    ensures { IfOk result (λ vars. vars ≡ spec.listed (names_of variables.now) group.now values.now projection.now) }
+    ensures { IfOk result (λ vars. vars ≡ spec.listed (names_of variables.now) group.now values.now
+        projection.now) }
 {
     match projection {
         Projection::All => all_listed(alloc, variables, group, values),

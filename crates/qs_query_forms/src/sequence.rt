@@ -3,7 +3,7 @@
 
 ghost use Rattle.std.specs.Prelude.{◌≡◌, true, length, map, take, drop, min, IfOk, IfSome};
 ghost use Rattle.qs_algebra_solutions.specs.Solution.{projected};
-ghost use Rattle.qs_base.specs.Lent.{lent};
+ghost use Rattle.qs_base.specs.inner.Lent.{lent};
 ghost use Rattle.qs_query_forms.specs.inner.InOrder.{AllowsMore, ByLimit, Suffices};
 ghost use Rattle.qs_query_forms.specs.Sequence as spec;
 
@@ -65,7 +65,8 @@ pub fn listed_rows<'a>(
     asked: &Selection,
     all: Vec<&'a Row>,
 ) -> Result<Vec<&'a Row>, AllocError>
-    ensures { IfOk result (λ rows. map (projected asked.now.columns) (lent rows.items) ≡ spec.listed_rows asked.now (lent all.entry.items)) }
+    ensures { IfOk result (λ rows. map (projected asked.now.columns) (lent rows.items)
+        ≡ spec.listed_rows asked.now (lent all.entry.items)) }
 {
     if asked.is_distinct {
         return firsts(alloc, all.as_slice(), asked.columns.as_slice());

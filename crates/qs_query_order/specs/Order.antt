@@ -1,11 +1,10 @@
 -- The order of solutions by the conditions of ORDER BY (SPARQL 1.1 Query, 15.1 and 18.5: OrderBy).
-use Rattle.std.specs.Prelude.{◌≡◌, ◌<◌, ℕ, false, List, [], ◌∷◌, take, length, slice_index_or, Option, Some, None}
+use Rattle.std.specs.Prelude.{◌≡◌, ◌<◌, ℕ, false, List, [], ◌∷◌, length, slice_index_or}
 use Rattle.std.specs.declared.cmp.Ordering.{Ordering}
 use Rattle.std.specs.declared.cmp.Ordering.TheVariants.{Equal}
 use Rattle.std.specs.Ordering.{is_lt, ordering_then}
 use Rattle.qs_syntax_tree.specs.declared.query.Direction.{Direction}
 use Rattle.qs_syntax_tree.specs.declared.query.Direction.TheVariants.{Ascending, Descending}
-use Rattle.qs_terms.specs.Bag.{SameBag}
 use Rattle.qs_algebra_solutions.specs.Solution.{Solution}
 use Rattle.qs_expr_values.specs.Sorting.{key_of, compare_keys}
 use Rattle.qs_expr_values.specs.declared.key.Key.{Key}
@@ -32,13 +31,5 @@ compare (c ∷ cs) a b = ordering_then (compare_by c a b) (compare cs a b)
 -- no solution stands before a lower one; ties stand in any order
 abbrev pub IsOrdered : List OrderCondition → List Solution → Type 0
 IsOrdered conditions ms =
-    (i j : ℕ) (d : Solution) → i < j → j < length ms → is_lt (compare conditions (slice_index_or ms j d) (slice_index_or ms i d)) ≡ false
-
--- the first n of the solutions in such an order, or all where they are fewer
-abbrev pub AreFirst : List OrderCondition → List Solution → ℕ → List Solution → Type 0
-AreFirst conditions solutions n first = (all : List Solution) × SameBag all solutions × IsOrdered conditions all × (first ≡ take n all)
-
--- all in such an order, or the first of it where so many are asked for
-abbrev pub AreFirstIf : List OrderCondition → Option ℕ → List Solution → List Solution → Type 0
-AreFirstIf conditions None solutions first = SameBag first solutions × IsOrdered conditions first
-AreFirstIf conditions (Some n) solutions first = AreFirst conditions solutions n first
+    (i j : ℕ) (d : Solution) → i < j → j < length ms
+    → is_lt (compare conditions (slice_index_or ms j d) (slice_index_or ms i d)) ≡ false

@@ -8,7 +8,7 @@ ghost use Rattle.std.specs.List.{All};
 ghost use Rattle.std.specs.List.Sorted.{IsPermutation, IsSortedBy};
 ghost use Rattle.qs_algebra_solutions.specs.Solution.{Solution};
 ghost use Rattle.qs_query_order.specs.inner.Keyed.{is_lower, solutions_of, AreInFront, AreInFrontIf, AreKept, AreKeptIf, ArePart, Covers, IsKeyed};
-ghost use Rattle.qs_query_order.specs.Order.{AreFirstIf};
+ghost use Rattle.qs_query_order.specs.inner.Order.{AreFirstIf};
 
 use crate::condition::OrderCondition;
 use crate::keyed::{KeyedRow, order_of, sort};
@@ -21,7 +21,10 @@ const ROOM: usize = 256;
 // sorts the rows, and drops all but so many of the first
 fn cut<R: Drop>(conditions: &[OrderCondition], kept: &mut Vec<KeyedRow<R>>, count: usize)
     ensures part { ArePart kept.old.items kept.new.items }
-    ensures kept { (f : R → Solution) (seen : List Solution) → All (IsKeyed f conditions.now) kept.old.items → AreKept conditions.now count seen (solutions_of f kept.old.items) → AreKept conditions.now count seen (solutions_of f kept.new.items) }
+    ensures kept { (f : R → Solution) (seen : List Solution)
+        → All (IsKeyed f conditions.now) kept.old.items → AreKept conditions.now count seen
+        (solutions_of f kept.old.items) → AreKept conditions.now count seen
+        (solutions_of f kept.new.items) }
     ensures order { IsSortedBy (is_lower conditions.now) kept.new.items }
     ensures short { length kept.new.items ≤ count }
 {
@@ -38,7 +41,9 @@ fn is_passed<R: Drop>(
     one: &KeyedRow<R>,
 ) -> bool
     requires { AreInFront conditions.now count kept.now }
-    ensures { result ≡ true → (f : R → Solution) → All (IsKeyed f conditions.now) kept.now → IsKeyed f conditions.now one.now → Covers conditions.now count (solutions_of f kept.now) (f one.now.row) }
+    ensures { result ≡ true → (f : R → Solution) → All (IsKeyed f conditions.now) kept.now
+        → IsKeyed f conditions.now one.now → Covers conditions.now count (solutions_of f kept.now)
+        (f one.now.row) }
 {
     keys_are_ordered();
     if count == 0 || kept.len() < count {
@@ -52,7 +57,10 @@ fn cut_where_full<R: Drop>(conditions: &[OrderCondition], kept: &mut Vec<KeyedRo
     requires { AreInFront conditions.now count kept.old.items ⊎ (length kept.old.items ≡ count) }
     ensures front { AreInFront conditions.now count kept.new.items }
     ensures part { ArePart kept.old.items kept.new.items }
-    ensures kept { (f : R → Solution) (seen : List Solution) → All (IsKeyed f conditions.now) kept.old.items → AreKept conditions.now count seen (solutions_of f kept.old.items) → AreKept conditions.now count seen (solutions_of f kept.new.items) }
+    ensures kept { (f : R → Solution) (seen : List Solution)
+        → All (IsKeyed f conditions.now) kept.old.items → AreKept conditions.now count seen
+        (solutions_of f kept.old.items) → AreKept conditions.now count seen
+        (solutions_of f kept.new.items) }
 {
     let room = count.saturating_add(count).saturating_add(ROOM);
     if kept.len() == count || room < kept.len() {
@@ -70,7 +78,11 @@ fn put_first<R: Drop>(
     requires { AreInFront conditions.now count kept.old.items }
     ensures front { OnOk result (AreInFront conditions.now count kept.new.items) }
     ensures part { OnOk result (ArePart (kept.old.items ++ one ∷ []) kept.new.items) }
-    ensures kept { OnOk result ((f : R → Solution) (seen : List Solution) → All (IsKeyed f conditions.now) kept.old.items → IsKeyed f conditions.now one → AreKept conditions.now count seen (solutions_of f kept.old.items) → AreKept conditions.now count (seen ++ f one.row ∷ []) (solutions_of f kept.new.items)) }
+    ensures kept { OnOk result ((f : R → Solution) (seen : List Solution)
+        → All (IsKeyed f conditions.now) kept.old.items → IsKeyed f conditions.now one
+        → AreKept conditions.now count seen (solutions_of f kept.old.items)
+        → AreKept conditions.now count (seen ++ f one.row ∷ [])
+        (solutions_of f kept.new.items)) }
 {
     if is_passed(conditions, kept.as_slice(), count, &one) {
         return Ok(Some(one.row));
@@ -94,7 +106,11 @@ pub fn keep<R: Drop>(
     requires { AreInFrontIf conditions.now count kept.old.items }
     ensures front { OnOk result (AreInFrontIf conditions.now count kept.new.items) }
     ensures part { OnOk result (ArePart (kept.old.items ++ one ∷ []) kept.new.items) }
-    ensures kept { OnOk result ((f : R → Solution) (seen : List Solution) → All (IsKeyed f conditions.now) kept.old.items → IsKeyed f conditions.now one → AreKeptIf conditions.now count seen (solutions_of f kept.old.items) → AreKeptIf conditions.now count (seen ++ f one.row ∷ []) (solutions_of f kept.new.items)) }
+    ensures kept { OnOk result ((f : R → Solution) (seen : List Solution)
+        → All (IsKeyed f conditions.now) kept.old.items → IsKeyed f conditions.now one
+        → AreKeptIf conditions.now count seen (solutions_of f kept.old.items)
+        → AreKeptIf conditions.now count (seen ++ f one.row ∷ [])
+        (solutions_of f kept.new.items)) }
 {
     match count {
         None => {
@@ -112,7 +128,10 @@ pub fn put_in_order<R: Drop>(
     count: Option<usize>,
 )
     ensures part { ArePart kept.old.items kept.new.items }
-    ensures first { (f : R → Solution) (seen : List Solution) → All (IsKeyed f conditions.now) kept.old.items → AreKeptIf conditions.now count seen (solutions_of f kept.old.items) → AreFirstIf conditions.now count seen (solutions_of f kept.new.items) }
+    ensures first { (f : R → Solution) (seen : List Solution)
+        → All (IsKeyed f conditions.now) kept.old.items → AreKeptIf conditions.now count seen
+        (solutions_of f kept.old.items) → AreFirstIf conditions.now count seen
+        (solutions_of f kept.new.items) }
 {
     keys_are_ordered();
     match count {

@@ -15,7 +15,7 @@ use Rattle.qs_expr.specs.inner.Cell.{Cells, row_solution, FitsRow}
 use Rattle.qs_expr.specs.inner.Scratch.{Grows}
 use Rattle.qs_expr.proofs.Growth.{same_row, still_row}
 use Rattle.qs_ops_walk.specs.inner.Stream.{AreToCome, GivesOne}
-use Rattle.qs_query_order.specs.Order.{AreFirstIf}
+use Rattle.qs_query_order.specs.inner.Order.{AreFirstIf}
 use Rattle.qs_query_order.specs.inner.Keyed.{AreKeptIf, ArePart, IsKeyed, solutions_of}
 use Rattle.qs_query_order.specs.inner.Keys.{keys_of}
 use Rattle.qs_query_order.specs.declared.condition.OrderCondition.{OrderCondition}

@@ -13,9 +13,10 @@ use Rattle.qs_terms.specs.Term.{same_term}
 use Rattle.qs_terms.specs.declared.term.Term.{Term}
 use Rattle.qs_terms.proofs.FirstOnes.{filter-append, or_left_false, or_right_false, once_distinct}
 use Rattle.qs_terms.proofs.SameStatement.{same_graph-Decides, same_statement-Decides}
-use Rattle.qs_dict.specs.Dict.{term_at, number_of}
+use Rattle.qs_dict.specs.inner.Dict.{term_at, number_of}
 use Rattle.qs_dict.proofs.Numbers.{exact_number}
-use Rattle.qs_store.specs.Content.{Content, IsContent, KnowsItsTerms}
+use Rattle.qs_store.specs.Content.{Content}
+use Rattle.qs_store.specs.inner.Content.{IsContent, KnowsItsTerms}
 use Rattle.qs_store.proofs.Members.{nothing, head_or_tail, here, there}
 use Rattle.qs_store.specs.WholeGraphs.{is_named, put_into}
 use Rattle.qs_store.specs.declared.active.Active.{Active}
@@ -31,9 +32,10 @@ use Rattle.qs_algebra_patterns.specs.declared.pattern.PatternNode.{PatternNode, 
 use Rattle.qs_algebra_patterns.specs.declared.pattern.PatternNode.TheOpen.{PatternNode-F, Basic, Group, Union as Unite, Graph, EachGraph, Values}
 use Rattle.qs_store.specs.inner.ActiveGraph.{active_graph, named_graph, is_named as has_name}
 use Rattle.qs_algebra_patterns.specs.declared.named_pattern.Pattern.{Pattern}
-use Rattle.qs_plan.specs.Plans.{IsPlanOf, plan_list}
+use Rattle.qs_plan.specs.inner.Plans.{IsPlanOf, plan_list}
 use Rattle.qs_plan.specs.declared.plan_type.Plan.{Plan}
-use Rattle.qs_store.specs.Visible.{visible, visible_quads}
+use Rattle.qs_store.specs.Visible.{visible}
+use Rattle.qs_store.specs.inner.Visible.{visible_quads}
 use Rattle.qs_query_solutions.specs.inner.Collected.{Collection, CollectsAfter}
 use Rattle.qs_query_solutions.proofs.Collecting.{after_same}
 

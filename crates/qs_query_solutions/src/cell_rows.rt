@@ -6,11 +6,11 @@ ghost use Rattle.std.specs.Option.{option_copied};
 ghost use Rattle.qs_terms.specs.Dataset.{graph_of};
 ghost use Rattle.qs_terms.specs.declared.fault.QFault.TheVariants.{Memory, TooManyRows};
 ghost use Rattle.qs_store.specs.inner.ActiveGraph.{active_graph};
-ghost use Rattle.qs_store.specs.Visible.{visible_quads};
+ghost use Rattle.qs_store.specs.inner.Visible.{visible_quads};
 ghost use Rattle.qs_algebra_solutions.specs.Solution.{Solution as Solved};
 ghost use Rattle.qs_algebra_patterns.specs.Eval.{eval};
 ghost use Rattle.qs_expr.specs.inner.Cell.{FitsRow};
-ghost use Rattle.qs_plan.specs.Plans.{plan_list};
+ghost use Rattle.qs_plan.specs.inner.Plans.{plan_list};
 ghost use Rattle.qs_query_solutions.specs.inner.CellRows.{AreAll, AreAllCells};
 
 use crate::active::active_of;
@@ -33,8 +33,10 @@ pub struct CellRows {
 /// The rows of the evaluation, where they are no more than `max_rows`.
 fn list<V: View>(alloc: Global, op: &mut Op<'_, V>, max_rows: u64) -> Result<Vec<Row>, QFault>
     ensures fits { IfOk result (λ rows. All (FitsRow op.new.known op.new.table) rows.items) }
-    ensures all { IfOk result (λ rows. (all : List Solved) → op.old.rows ≡ Some all → AreAll max_rows op.new.known op.new.table all rows.items) }
-    ensures fault { IfErr result (λ f. f ≢ Memory → (f ≡ TooManyRows) × ((all : List Solved) → op.old.rows ≡ Some all → max_rows < length all)) }
+    ensures all { IfOk result (λ rows. (all : List Solved) → op.old.rows ≡ Some all
+        → AreAll max_rows op.new.known op.new.table all rows.items) }
+    ensures fault { IfErr result (λ f. f ≢ Memory → (f ≡ TooManyRows)
+        × ((all : List Solved) → op.old.rows ≡ Some all → max_rows < length all)) }
     ensures known { op.new.known ≡ op.old.known }
 {
     let mut rows = Vec::new(alloc);
@@ -58,7 +60,9 @@ fn list_planned<V: View>(
     active: Active,
     max_rows: u64,
 ) -> Result<CellRows, QFault>
-    ensures { AreAllCells max_rows (V.content view.now).known (plan_list plan.now (V.content view.now).quads (active_graph (V.content view.now) (V.default_seen view.now) active)) result }
+    ensures { AreAllCells max_rows (V.content view.now).known
+        (plan_list plan.now (V.content view.now).quads
+        (active_graph (V.content view.now) (V.default_seen view.now) active)) result }
 {
     let mut op = Op::start_in(alloc, plan, view, active)?;
     match list(alloc, &mut op, max_rows) {
@@ -85,7 +89,11 @@ pub fn cell_solutions<V: View>(
     name: Option<&Term>,
     max_rows: u64,
 ) -> Result<CellRows, QFault>
-    ensures { AreAllCells max_rows (V.content view.now).known (eval (length pattern.now.names) (visible_quads (V.content view.now) (V.default_seen view.now)) pattern.now.root (graph_of (visible_quads (V.content view.now) (V.default_seen view.now)) (option_copied name.entry))) result }
+    ensures { AreAllCells max_rows (V.content view.now).known
+        (eval (length pattern.now.names)
+        (visible_quads (V.content view.now) (V.default_seen view.now)) pattern.now.root
+        (graph_of (visible_quads (V.content view.now) (V.default_seen view.now))
+        (option_copied name.entry))) result }
 {
     let _count = view.count();
     let active = active_of(view, name);

@@ -69,7 +69,8 @@ impl<'c> Collected<'c> {
         row: &Row,
     ) -> Result<(), AllocError>
         requires { FitsRow op.now.known op.now.table row.now }
-        ensures { OnOk result (self.new ≡ with_rows self.old (row_solution op.now.known op.now.table row.now ∷ [])) }
+        ensures { OnOk result
+            (self.new ≡ with_rows self.old (row_solution op.now.known op.now.table row.now ∷ [])) }
     {
         let solution = match self.columns {
             None => solution(alloc, op, row)?,

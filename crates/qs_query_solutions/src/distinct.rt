@@ -7,13 +7,13 @@ ghost use Rattle.std.specs.List.{AllByRecursion};
 ghost use Rattle.std.specs.Option.{option_copied};
 ghost use Rattle.qs_terms.specs.Dataset.{graph_of};
 ghost use Rattle.qs_store.specs.inner.ActiveGraph.{active_graph};
-ghost use Rattle.qs_store.specs.Visible.{visible_quads};
+ghost use Rattle.qs_store.specs.inner.Visible.{visible_quads};
 ghost use Rattle.qs_algebra_solutions.specs.Solution.{Solution as Solved};
 ghost use Rattle.qs_algebra_solutions.specs.inner.Some.{AreSomeDistinct};
 ghost use Rattle.qs_algebra_patterns.specs.Eval.{eval};
 ghost use Rattle.qs_expr.specs.inner.Cell.{FitsRow};
 ghost use Rattle.qs_expr.specs.inner.Scratch.{IsTable};
-ghost use Rattle.qs_plan.specs.Plans.{plan_list, IsPlanOf};
+ghost use Rattle.qs_plan.specs.inner.Plans.{plan_list, IsPlanOf};
 ghost use Rattle.qs_query_solutions.specs.inner.Distinct.{CollectsDistinct};
 
 use crate::active::active_of;
@@ -42,7 +42,8 @@ fn collect<V: View>(
     requires table { IsTable op.old.known op.old.table }
     requires none { rows ≡ [] }
     ensures fits { IfOk result (λ rows. AllByRecursion (FitsRow op.new.known op.new.table) rows) }
-    ensures rows { IfOk result (λ rows. (all : List Solved) → op.old.rows ≡ Some all → CollectsDistinct op.new.known op.new.table columns.now most all rows) }
+    ensures rows { IfOk result (λ rows. (all : List Solved) → op.old.rows ≡ Some all
+        → CollectsDistinct op.new.known op.new.table columns.now most all rows) }
 {
     'found: while !is_enough(most, rows.len()) {
         let Some(row) = op.next()? else {
@@ -65,7 +66,8 @@ fn distinct<V: View>(
 ) -> Result<Vec<Solution>, QFault>
     requires table { IsTable op.old.known op.old.table }
     requires none { rows ≡ [] }
-    ensures { IfOk result (λ rows. (all : List Solved) → op.old.rows ≡ Some all → AreSomeDistinct columns.now most rows.items all) }
+    ensures { IfOk result (λ rows. (all : List Solved) → op.old.rows ≡ Some all
+        → AreSomeDistinct columns.now most rows.items all) }
 {
     let found = collect(alloc, op, columns, most, rows)?;
     let solutions = found.solutions(alloc, op)?;
@@ -81,7 +83,9 @@ fn distinct_planned<V: View>(
     columns: &[usize],
     most: Option<u64>,
 ) -> Result<Vec<Solution>, QFault>
-    ensures { IfOk result (λ rows. AreSomeDistinct columns.now most rows.items (plan_list plan.now (V.content view.now).quads (active_graph (V.content view.now) (V.default_seen view.now) active))) }
+    ensures { IfOk result (λ rows. AreSomeDistinct columns.now most rows.items
+        (plan_list plan.now (V.content view.now).quads
+        (active_graph (V.content view.now) (V.default_seen view.now) active))) }
 {
     let mut op = Op::start_led(alloc, plan, view, active, columns)?;
     let rows = DistinctRows::new(alloc, view);
@@ -137,7 +141,11 @@ fn distinct_all<V: View>(
     columns: &[usize],
     most: Option<u64>,
 ) -> Result<Vec<Solution>, QFault>
-    ensures { IfOk result (λ rows. AreSomeDistinct columns.now most rows.items (eval (length pattern.now.names) (visible_quads (V.content view.now) (V.default_seen view.now)) pattern.now.root (graph_of (visible_quads (V.content view.now) (V.default_seen view.now)) (option_copied name.entry)))) }
+    ensures { IfOk result (λ rows. AreSomeDistinct columns.now most rows.items
+        (eval (length pattern.now.names)
+        (visible_quads (V.content view.now) (V.default_seen view.now)) pattern.now.root
+        (graph_of (visible_quads (V.content view.now) (V.default_seen view.now))
+        (option_copied name.entry)))) }
 {
     let _count = view.count();
     let active = active_of(view, name);
@@ -161,7 +169,11 @@ pub fn distinct_solutions<V: View>(
     columns: &[usize],
     most: Option<u64>,
 ) -> Result<Vec<Solution>, AllocError>
-    ensures { IfOk result (λ rows. AreSomeDistinct columns.now most rows.items (eval (length pattern.now.names) (visible_quads (V.content view.now) (V.default_seen view.now)) pattern.now.root (graph_of (visible_quads (V.content view.now) (V.default_seen view.now)) (option_copied name.entry)))) }
+    ensures { IfOk result (λ rows. AreSomeDistinct columns.now most rows.items
+        (eval (length pattern.now.names)
+        (visible_quads (V.content view.now) (V.default_seen view.now)) pattern.now.root
+        (graph_of (visible_quads (V.content view.now) (V.default_seen view.now))
+        (option_copied name.entry)))) }
 {
     match distinct_all(alloc, pattern, view, name, columns, most) {
         Ok(rows) => Ok(rows),

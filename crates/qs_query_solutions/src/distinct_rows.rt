@@ -121,7 +121,8 @@ impl DistinctRows {
 
     /// Puts the row's cells at these variables after the others, unless they are there.
     pub fn put(&mut self, alloc: Global, row: &Row, columns: &[usize]) -> Result<(), AllocError>
-        ensures { OnOk result (self.new ≡ with_new same_cells self.old (map (cell_at row.now) columns.now)) }
+        ensures { OnOk result
+            (self.new ≡ with_new same_cells self.old (map (cell_at row.now) columns.now)) }
     {
         let keys = keys_of(alloc, row, columns)?;
         self.keys.insert(keys)?;
@@ -135,7 +136,8 @@ impl DistinctRows {
         op: &Op<'_, V>,
     ) -> Result<Vec<Solution>, AllocError>
         requires { AllByRecursion (FitsRow op.now.known op.now.table) self.now }
-        ensures { IfOk result (λ rows. rows.items ≡ map (row_solution op.now.known op.now.table) self.now) }
+        ensures { IfOk result (λ rows. rows.items ≡ map (row_solution op.now.known op.now.table)
+            self.now) }
     {
         let mut rows = Vec::with_capacity(alloc, self.keys.len())?;
         for keys in self.keys.as_slice() {

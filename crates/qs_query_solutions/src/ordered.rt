@@ -8,12 +8,12 @@ ghost use Rattle.std.specs.Option.{option_copied};
 ghost use Rattle.std.specs.List.{All};
 ghost use Rattle.qs_terms.specs.Dataset.{graph_of};
 ghost use Rattle.qs_store.specs.inner.ActiveGraph.{active_graph};
-ghost use Rattle.qs_store.specs.Visible.{visible_quads};
+ghost use Rattle.qs_store.specs.inner.Visible.{visible_quads};
 ghost use Rattle.qs_algebra_solutions.specs.Solution.{Solution as Solved};
 ghost use Rattle.qs_algebra_solutions.specs.inner.Some.{AreSome};
 ghost use Rattle.qs_algebra_patterns.specs.Eval.{eval};
 ghost use Rattle.qs_expr.specs.inner.Cell.{row_solution, FitsRow};
-ghost use Rattle.qs_plan.specs.Plans.{plan_list};
+ghost use Rattle.qs_plan.specs.inner.Plans.{plan_list};
 ghost use Rattle.qs_query_order.specs.inner.Keyed.{AreInFrontIf, IsKeyed, solutions_of};
 ghost use Rattle.qs_query_solutions.specs.inner.After.{projected_if};
 ghost use Rattle.qs_query_solutions.specs.inner.Ordered.{IsOrderedPart};
@@ -59,7 +59,8 @@ fn with_keys<V: View>(
 ) -> Result<KeyedRow<Row>, AllocError>
     requires { FitsRow op.now.known op.now.table row }
     ensures row { IfOk result (λ one. one.row ≡ row) }
-    ensures keyed { IfOk result (λ one. IsKeyed (row_solution op.now.known op.now.table) conditions.now one) }
+    ensures keyed { IfOk result
+        (λ one. IsKeyed (row_solution op.now.known op.now.table) conditions.now one) }
 {
     let keys = keys_of(alloc, conditions, &Reading::new(op, &row))?;
     Ok(KeyedRow { keys, row })
@@ -87,8 +88,12 @@ fn take_in<V: View>(
     requires front { AreInFrontIf conditions.now count kept.old.items }
     ensures op { op.new ≡ op.old }
     ensures front { OnOk result (AreInFrontIf conditions.now count kept.new.items) }
-    ensures fits { OnOk result (Fit op.old.known op.old.table kept.old.items → Fit op.old.known op.old.table kept.new.items) }
-    ensures kept { OnOk result ((seen : List Solved) → AreSoFar op.old.known op.old.table conditions.now count seen kept.old.items → AreSoFar op.old.known op.old.table conditions.now count (seen ++ row_solution op.old.known op.old.table row ∷ []) kept.new.items) }
+    ensures fits { OnOk result (Fit op.old.known op.old.table kept.old.items
+        → Fit op.old.known op.old.table kept.new.items) }
+    ensures kept { OnOk result ((seen : List Solved)
+        → AreSoFar op.old.known op.old.table conditions.now count seen kept.old.items
+        → AreSoFar op.old.known op.old.table conditions.now count
+        (seen ++ row_solution op.old.known op.old.table row ∷ []) kept.new.items) }
 {
     let one = with_keys(alloc, op, conditions, row)?;
     let spare = keep(conditions, kept, count, one)?;
@@ -114,7 +119,9 @@ fn collect<V: View>(
     most: Option<u64>,
 ) -> Result<Vec<KeyedRow<Row>>, QFault>
     ensures fits { IfOk result (λ kept. Fit op.new.known op.new.table kept.items) }
-    ensures seen { IfOk result (λ kept. (all : List Solved) → op.old.rows ≡ Some all → (seen : List Solved) × AreSome most seen all × AreSoFar op.new.known op.new.table conditions.now count seen kept.items) }
+    ensures seen { IfOk result (λ kept. (all : List Solved) → op.old.rows ≡ Some all
+        → (seen : List Solved) × AreSome most seen all
+        × AreSoFar op.new.known op.new.table conditions.now count seen kept.items) }
 {
     let mut kept = Vec::new(alloc);
     let mut left = most;
@@ -136,7 +143,8 @@ fn made<V: View>(
     columns: Option<&[usize]>,
 ) -> Result<Solution, AllocError>
     requires { FitsRow op.now.known op.now.table row.now }
-    ensures { IfOk result (λ m. m ≡ projected_if (option_copied columns.entry) (row_solution op.now.known op.now.table row.now)) }
+    ensures { IfOk result (λ m. m ≡ projected_if (option_copied columns.entry)
+        (row_solution op.now.known op.now.table row.now)) }
 {
     match columns {
         None => solution(alloc, op, row),
@@ -151,7 +159,8 @@ fn made_rows<V: View>(
     columns: Option<&[usize]>,
 ) -> Result<Vec<Solution>, AllocError>
     requires { Fit op.now.known op.now.table kept.now }
-    ensures { IfOk result (λ rows. rows.items ≡ map (projected_if (option_copied columns.entry)) (solutions_of (row_solution op.now.known op.now.table) kept.now)) }
+    ensures { IfOk result (λ rows. rows.items ≡ map (projected_if (option_copied columns.entry))
+        (solutions_of (row_solution op.now.known op.now.table) kept.now)) }
 {
     let mut rows = Vec::with_capacity(alloc, kept.len())?;
     for one in kept {
@@ -183,7 +192,9 @@ fn ordered<V: View>(
     op: &mut Op<'_, V>,
     part: OrderedPart<'_>,
 ) -> Result<Vec<Solution>, QFault>
-    ensures { IfOk result (λ rows. (all : List Solved) → op.old.rows ≡ Some all → IsOrderedPart part.entry.conditions.now (option_copied part.entry.columns) part.entry.offset part.entry.count part.entry.most rows.items all) }
+    ensures { IfOk result (λ rows. (all : List Solved) → op.old.rows ≡ Some all
+        → IsOrderedPart part.entry.conditions.now (option_copied part.entry.columns)
+        part.entry.offset part.entry.count part.entry.most rows.items all) }
 {
     let count = size_of(part.count);
     let mut kept = collect(alloc, op, part.conditions, count, part.most)?;
@@ -200,7 +211,11 @@ fn ordered_planned<V: View>(
     active: Active,
     part: OrderedPart<'_>,
 ) -> Result<Vec<Solution>, QFault>
-    ensures { IfOk result (λ rows. IsOrderedPart part.entry.conditions.now (option_copied part.entry.columns) part.entry.offset part.entry.count part.entry.most rows.items (plan_list plan.now (V.content view.now).quads (active_graph (V.content view.now) (V.default_seen view.now) active))) }
+    ensures { IfOk result
+        (λ rows. IsOrderedPart part.entry.conditions.now (option_copied part.entry.columns)
+        part.entry.offset part.entry.count part.entry.most rows.items
+        (plan_list plan.now (V.content view.now).quads
+        (active_graph (V.content view.now) (V.default_seen view.now) active))) }
 {
     let mut op = Op::start_in(alloc, plan, view, active)?;
     let rows = ordered(alloc, &mut op, part);
@@ -215,7 +230,13 @@ fn ordered_all<V: View>(
     name: Option<&Term>,
     part: OrderedPart<'_>,
 ) -> Result<Vec<Solution>, QFault>
-    ensures { IfOk result (λ rows. IsOrderedPart part.entry.conditions.now (option_copied part.entry.columns) part.entry.offset part.entry.count part.entry.most rows.items (eval (length pattern.now.names) (visible_quads (V.content view.now) (V.default_seen view.now)) pattern.now.root (graph_of (visible_quads (V.content view.now) (V.default_seen view.now)) (option_copied name.entry)))) }
+    ensures { IfOk result
+        (λ rows. IsOrderedPart part.entry.conditions.now (option_copied part.entry.columns)
+        part.entry.offset part.entry.count part.entry.most rows.items
+        (eval (length pattern.now.names)
+        (visible_quads (V.content view.now) (V.default_seen view.now)) pattern.now.root
+        (graph_of (visible_quads (V.content view.now) (V.default_seen view.now))
+        (option_copied name.entry)))) }
 {
     let _count = view.count();
     let active = active_of(view, name);
@@ -238,7 +259,13 @@ pub fn ordered_solutions<V: View>(
     name: Option<&Term>,
     part: OrderedPart<'_>,
 ) -> Result<Vec<Solution>, AllocError>
-    ensures { IfOk result (λ rows. IsOrderedPart part.entry.conditions.now (option_copied part.entry.columns) part.entry.offset part.entry.count part.entry.most rows.items (eval (length pattern.now.names) (visible_quads (V.content view.now) (V.default_seen view.now)) pattern.now.root (graph_of (visible_quads (V.content view.now) (V.default_seen view.now)) (option_copied name.entry)))) }
+    ensures { IfOk result
+        (λ rows. IsOrderedPart part.entry.conditions.now (option_copied part.entry.columns)
+        part.entry.offset part.entry.count part.entry.most rows.items
+        (eval (length pattern.now.names)
+        (visible_quads (V.content view.now) (V.default_seen view.now)) pattern.now.root
+        (graph_of (visible_quads (V.content view.now) (V.default_seen view.now))
+        (option_copied name.entry)))) }
 {
     match ordered_all(alloc, pattern, view, name, part) {
         Ok(rows) => Ok(rows),

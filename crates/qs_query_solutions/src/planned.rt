@@ -2,7 +2,7 @@
 
 ghost use Rattle.std.specs.Prelude.{◌≡◌, IfOk, IfErr};
 ghost use Rattle.qs_terms.specs.declared.fault.QFault.TheVariants.{Memory};
-ghost use Rattle.qs_plan.specs.Plans.{IsPlanOf};
+ghost use Rattle.qs_plan.specs.inner.Plans.{IsPlanOf};
 
 use crate::counts::{DistinctCounts, ViewCounts};
 use crate::parts::parts_of;

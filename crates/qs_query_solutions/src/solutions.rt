@@ -4,11 +4,11 @@ ghost use Rattle.std.specs.Prelude.{◌≡◌, length, List, Some, IfOk, OnOk};
 ghost use Rattle.std.specs.Option.{option_copied};
 ghost use Rattle.qs_terms.specs.Dataset.{graph_of};
 ghost use Rattle.qs_store.specs.inner.ActiveGraph.{active_graph};
-ghost use Rattle.qs_store.specs.Visible.{visible_quads};
+ghost use Rattle.qs_store.specs.inner.Visible.{visible_quads};
 ghost use Rattle.qs_algebra_solutions.specs.Solution.{Solution as Solved};
 ghost use Rattle.qs_algebra_solutions.specs.inner.Some.{AreSome};
 ghost use Rattle.qs_algebra_patterns.specs.Eval.{eval};
-ghost use Rattle.qs_plan.specs.Plans.{plan_list};
+ghost use Rattle.qs_plan.specs.inner.Plans.{plan_list};
 ghost use Rattle.qs_query_solutions.specs.inner.After.{AreSomeAfter};
 ghost use Rattle.qs_query_solutions.specs.inner.Collected.{Collects, CollectsAfter, IsPassed, most_left};
 
@@ -30,7 +30,8 @@ fn collect<V: View>(
     op: &mut Op<'_, V>,
     found: &mut Collected<'_>,
 ) -> Result<(), QFault>
-    ensures { OnOk result ((all : List Solved) → op.old.rows ≡ Some all → Collects found.old found.new all) }
+    ensures { OnOk result ((all : List Solved) → op.old.rows ≡ Some all
+        → Collects found.old found.new all) }
 {
     while !found.is_enough() {
         let Some(row) = op.next()? else {
@@ -44,7 +45,9 @@ fn collect<V: View>(
 
 /// Passes over solutions of the evaluation, one after another, until they are so many or none is left. It makes no term of them.
 fn pass<V: View>(op: &mut Op<'_, V>, count: u64) -> Result<(), QFault>
-    ensures { OnOk result ((all : List Solved) → op.old.rows ≡ Some all → (passed left : List Solved) × IsPassed count all passed left × (op.new.rows ≡ Some left)) }
+    ensures { OnOk result ((all : List Solved) → op.old.rows ≡ Some all
+        → (passed left : List Solved) × IsPassed count all passed left
+        × (op.new.rows ≡ Some left)) }
 {
     let mut passed = 0;
     while passed < count {
@@ -64,7 +67,8 @@ fn collect_after<V: View>(
     offset: u64,
     found: &mut Collected<'_>,
 ) -> Result<(), QFault>
-    ensures { OnOk result ((all : List Solved) → op.old.rows ≡ Some all → CollectsAfter offset found.old found.new all) }
+    ensures { OnOk result ((all : List Solved) → op.old.rows ≡ Some all
+        → CollectsAfter offset found.old found.new all) }
 {
     pass(op, offset)?;
     collect(alloc, op, found)
@@ -79,7 +83,10 @@ fn collect_planned<V: View>(
     offset: u64,
     found: &mut Collected<'_>,
 ) -> Result<(), QFault>
-    ensures { OnOk result (CollectsAfter offset found.old found.new (plan_list plan.now (V.content view.now).quads (active_graph (V.content view.now) (V.default_seen view.now) active))) }
+    ensures { OnOk result
+        (CollectsAfter offset found.old found.new
+        (plan_list plan.now (V.content view.now).quads
+        (active_graph (V.content view.now) (V.default_seen view.now) active))) }
 {
     let mut op = Op::start_in(alloc, plan, view, active)?;
     let outcome = collect_after(alloc, &mut op, offset, found);
@@ -97,7 +104,12 @@ fn collect_all<V: View>(
     offset: u64,
     found: &mut Collected<'_>,
 ) -> Result<(), QFault>
-    ensures { OnOk result (CollectsAfter offset found.old found.new (eval (length pattern.now.names) (visible_quads (V.content view.now) (V.default_seen view.now)) pattern.now.root (graph_of (visible_quads (V.content view.now) (V.default_seen view.now)) (option_copied name.entry)))) }
+    ensures { OnOk result
+        (CollectsAfter offset found.old found.new
+        (eval (length pattern.now.names)
+        (visible_quads (V.content view.now) (V.default_seen view.now)) pattern.now.root
+        (graph_of (visible_quads (V.content view.now) (V.default_seen view.now))
+        (option_copied name.entry)))) }
 {
     let _count = view.count();
     let active = active_of(view, name);
@@ -127,7 +139,12 @@ pub fn some_solutions<V: View>(
     name: Option<&Term>,
     most: Option<u64>,
 ) -> Result<Vec<Solution>, AllocError>
-    ensures { IfOk result (λ rows. AreSome most rows.items (eval (length pattern.now.names) (visible_quads (V.content view.now) (V.default_seen view.now)) pattern.now.root (graph_of (visible_quads (V.content view.now) (V.default_seen view.now)) (option_copied name.entry)))) }
+    ensures { IfOk result
+        (λ rows. AreSome most rows.items
+        (eval (length pattern.now.names)
+        (visible_quads (V.content view.now) (V.default_seen view.now)) pattern.now.root
+        (graph_of (visible_quads (V.content view.now) (V.default_seen view.now))
+        (option_copied name.entry)))) }
 {
     let mut found = Collected::new(alloc, None, most);
     match collect_all(alloc, pattern, view, name, 0, &mut found) {
@@ -160,7 +177,11 @@ pub fn solutions_after<V: View>(
     offset: u64,
     most: Option<u64>,
 ) -> Result<Vec<Solution>, AllocError>
-    ensures { IfOk result (λ rows. AreSomeAfter (option_copied columns.entry) offset most rows.items (eval (length pattern.now.names) (visible_quads (V.content view.now) (V.default_seen view.now)) pattern.now.root (graph_of (visible_quads (V.content view.now) (V.default_seen view.now)) (option_copied name.entry)))) }
+    ensures { IfOk result (λ rows. AreSomeAfter (option_copied columns.entry) offset most rows.items
+        (eval (length pattern.now.names)
+        (visible_quads (V.content view.now) (V.default_seen view.now)) pattern.now.root
+        (graph_of (visible_quads (V.content view.now) (V.default_seen view.now))
+        (option_copied name.entry)))) }
 {
     let mut found = Collected::new(alloc, columns, most_left(most, offset));
     match collect_all(alloc, pattern, view, name, offset, &mut found) {

@@ -19,7 +19,8 @@ use std::alloc::{AllocError, Global};
 #[tactic(auto, using(crate::proofs::Fronts::term_read, crate::proofs::Fronts::none_read))]
 pub(crate) fn term<'a, V: View>(op: &'a Op<'_, V>, row: &Row, variable: usize) -> Option<&'a Term>
     requires { FitsRow op.now.known op.now.table row.now }
-    ensures { option_copied result ≡ term_at (row_solution op.now.known op.now.table row.now) variable }
+    ensures { option_copied result ≡ term_at (row_solution op.now.known op.now.table row.now)
+        variable }
 {
     match row.cell(variable) {
         Some(cell) => Some(op.term(cell)),
@@ -31,7 +32,8 @@ pub(crate) fn term<'a, V: View>(op: &'a Op<'_, V>, row: &Row, variable: usize) -
 #[tactic(auto, using(crate::proofs::Fronts::term_read, crate::proofs::Fronts::none_read))]
 pub(crate) fn value<'a, V: View>(op: &'a Op<'_, V>, row: &Row, variable: usize) -> Option<Value<'a>>
     requires { FitsRow op.now.known op.now.table row.now }
-    ensures { option_map term_of result ≡ term_at (row_solution op.now.known op.now.table row.now) variable }
+    ensures { option_map term_of result ≡ term_at (row_solution op.now.known op.now.table row.now)
+        variable }
 {
     match row.cell(variable) {
         Some(cell) => Some(op.value(cell)),
@@ -45,7 +47,8 @@ pub(crate) fn bind(
     variable: usize,
     term: Option<&Term>,
 ) -> Result<(), AllocError>
-    ensures { OnOk result (solution.new ≡ with_term solution.old variable (option_copied term.entry)) }
+    ensures { OnOk result
+        (solution.new ≡ with_term solution.old variable (option_copied term.entry)) }
 {
     if let Some(term) = term {
         let term = term.try_clone()?;
@@ -80,7 +83,8 @@ pub(crate) fn projected<V: View>(
     columns: &[usize],
 ) -> Result<Solution, AllocError>
     requires { FitsRow op.now.known op.now.table row.now }
-    ensures { IfOk result (λ m. m ≡ projected columns.now (row_solution op.now.known op.now.table row.now)) }
+    ensures { IfOk result
+        (λ m. m ≡ projected columns.now (row_solution op.now.known op.now.table row.now)) }
 {
     let width = columns.len();
     let mut solution = Solution::unbound(alloc, width)?;

@@ -9,7 +9,8 @@ use Rattle.std.specs.declared.cmp.Ordering.{Ordering}
 use Rattle.std.specs.declared.cmp.Ordering.TheVariants.{Less}
 use Rattle.std.proofs.lemmas.List.Kept.{IsStrictlySortedBy-dedup}
 use Rattle.std.proofs.lemmas.List.Sorted.{list_any-IsPermutation}
-use Rattle.qs_terms.specs.Bag.{SameBag, Distinct, once, times}
+use Rattle.qs_terms.specs.Bag.{SameBag, Distinct, once}
+use Rattle.qs_terms.specs.inner.Bag.{times}
 use Rattle.qs_terms.proofs.Counts.{same_from_times}
 use Rattle.qs_terms.proofs.FirstOnes.{any_kept, none_kept, once_distinct, or_left_false, or_right_false}
 

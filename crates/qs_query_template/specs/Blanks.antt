@@ -1,8 +1,11 @@
--- The blank nodes of a template, with a label or without one (SPARQL 1.1 Query, 4.1.4 and 16.2.1): each that stands as subject or object,
--- once, numbered from 0 by first appearance in the text. A triple to `[ .. ]` stands before the triples inside it, and a subject `[ .. ]`
--- has its own triples first. So the order of the text is that of the triples, in each the subject before the object, and in quads with
--- graphs that of the blocks. Hidden variables of a pattern can't be seen, so there the labels may come first.
-use Rattle.std.specs.Prelude.{ℕ, zero, suc, Bool, false, nat_eq, List, [], ◌∷◌, ◌++◌, Option, Some, None, if◌then◌else◌}
+-- The blank nodes of a template, with a label or without one (SPARQL 1.1 Query, 4.1.4 and 16.2.1):
+-- each that stands as subject or object, once, numbered from 0 by first appearance in the text. A
+-- triple to `[ .. ]` stands before the triples inside it, and a subject `[ .. ]` has its own
+-- triples first. So the order of the text is that of the triples, in each the subject before the
+-- object, and in quads with graphs that of the blocks. Hidden variables of a pattern can't be seen,
+-- so there the labels may come first.
+use Rattle.std.specs.Prelude.{ℕ, zero, suc, Bool, false, nat_eq, List, [], ◌∷◌, ◌++◌, Option, Some}
+use Rattle.std.specs.Prelude.{None, if◌then◌else◌}
 use Rattle.std.specs.Cmp.Lexicographic.{pointwise}
 use Rattle.std.specs.List.{fold, flat_map}
 use Rattle.std.specs.Option.{option_map}
@@ -16,15 +19,12 @@ use Rattle.qs_syntax_ast.specs.declared.update.QuadBlock.{QuadBlock}
 -- two labels are the same where their texts are, and two without one where they stand at one place
 abbrev pub same_blank : BlankNode → BlankNode → Bool
 same_blank (blank.Label a) (blank.Label b) = pointwise nat_eq a b
-same_blank (blank.Label a) (blank.Anonymous n) = false
-same_blank (blank.Anonymous m) (blank.Label b) = false
 same_blank (blank.Anonymous m) (blank.Anonymous n) = nat_eq m n
+same_blank _ _ = false
 
 abbrev pub term_blanks : TermPattern → List BlankNode
-term_blanks (term.Variable v) = []
-term_blanks (term.Iri i) = []
-term_blanks (term.Literal l) = []
 term_blanks (term.Blank b) = b ∷ []
+term_blanks _ = []
 
 abbrev pub triple_blanks : Triple → List BlankNode
 triple_blanks t = term_blanks t.subject ++ term_blanks t.object

@@ -1,7 +1,8 @@
--- The quads that a template makes of solutions (SPARQL 1.1 Query, 16.2 and 16.2.1; SPARQL 1.1 Update, 3.1.3).
--- A blank node past those that a template counts has no term, so `instances` has no `requires`. That no template of a text has
--- one is a law.
-use Rattle.std.specs.Prelude.{ℕ, ◌+◌, ◌*◌, nat_lt, List, [], ◌∷◌, ◌++◌, length, Option, Some, None, Ok, Err, if◌then◌else◌}
+-- The quads that a template makes of solutions (SPARQL 1.1 Query, 16.2 and 16.2.1; SPARQL 1.1
+-- Update, 3.1.3). A blank node past those that a template counts has no term, so `instances` has no
+-- `requires`. That no template of a text has one is a law.
+use Rattle.std.specs.Prelude.{ℕ, ◌+◌, ◌*◌, nat_lt, List, [], ◌∷◌, ◌++◌, length, Option, Some, None}
+use Rattle.std.specs.Prelude.{Ok, Err, if◌then◌else◌}
 use Rattle.std.specs.List.{flat_map}
 use Rattle.std.specs.Option.{option_map}
 use Rattle.qs_terms.specs.Outcome.{Outcome}
@@ -15,7 +16,8 @@ use Rattle.qs_query_template.specs.declared.template.Slot.TheVariants as slot
 use Rattle.qs_query_template.specs.declared.template.QuadTemplate.{QuadTemplate}
 use Rattle.qs_query_template.specs.declared.template.Template.{Template}
 
--- the k-th of so many fresh blank nodes, which have the numbers from the first one on; there are no more
+-- the k-th of so many fresh blank nodes, which have the numbers from the first one on; there are no
+-- more
 abbrev pub fresh : ℕ → ℕ → ℕ → Option Term
 fresh blanks first k = if nat_lt k blanks then Some (value.Blank (first + k)) else None
 
@@ -45,13 +47,15 @@ quad_of graph subject predicate object = []
 -- the instance of one quad under a solution, or none
 abbrev pub instance : ℕ → ℕ → Solution → QuadTemplate → List Statement
 instance blanks first m q =
-    quad_of (graph_term blanks first m q.graph) (slot_term blanks first m q.subject) (slot_term blanks first m q.predicate) (slot_term blanks first m q.object)
+    quad_of (graph_term blanks first m q.graph) (slot_term blanks first m q.subject)
+    (slot_term blanks first m q.predicate) (slot_term blanks first m q.object)
 
 -- those of the template under a solution, whose fresh blank nodes have the numbers from this one on
 abbrev pub instances_under : Template → ℕ → Solution → List Statement
 instances_under t first m = flat_map (instance t.blanks first m) t.quads
 
--- the same under each solution, of which each takes numbers for all blank nodes of the template, whichever of its quads are left out
+-- the same under each solution, of which each takes numbers for all blank nodes of the template,
+-- whichever of its quads are left out
 abbrev pub instances : Template → ℕ → List Solution → List Statement
 instances t next [] = []
 instances t next (m ∷ ms) = instances_under t next m ++ instances t (next + t.blanks) ms

@@ -1,6 +1,7 @@
--- Templates of quads with their variables and blank nodes as numbers (SPARQL 1.1 Query, 16.2; SPARQL 1.1 Update, 3.1.3): a quad for each
--- triple, in the order of the text, and how many blank nodes there are. By the grammar no path stands as a verb in a template; a triple
--- with one is left out.
+-- Templates of quads with their variables and blank nodes as numbers (SPARQL 1.1 Query, 16.2;
+-- SPARQL 1.1 Update, 3.1.3): a quad for each triple, in the order of the text, and how many blank
+-- nodes there are. By the grammar no path stands as a verb in a template; a triple with one is left
+-- out.
 use Rattle.std.specs.Prelude.{ℕ, List, [], ◌∷◌, length, map, Option, Some, None}
 use Rattle.std.specs.List.{flat_map}
 use Rattle.std.specs.Option.{unwrap_or}
@@ -46,14 +47,17 @@ graph_slot names (Some (name.Iri i)) = Some (slot.Term (value.Iri i))
 
 abbrev pub quad_with : Option Slot → Slot → Slot → Option Slot → List QuadTemplate
 quad_with graph subject object None = []
-quad_with graph subject object (Some predicate) = record { graph = graph; subject = subject; predicate = predicate; object = object } ∷ []
+quad_with graph subject object (Some predicate) =
+    record { graph = graph; subject = subject; predicate = predicate; object = object } ∷ []
 
 -- the quad of a triple in the graph
 abbrev pub triple_quads : List Name → List BlankNode → Option Slot → Triple → List QuadTemplate
-triple_quads names blanks graph t = quad_with graph (term_slot names blanks t.subject) (term_slot names blanks t.object) (verb_slot names t.verb)
+triple_quads names blanks graph t =
+    quad_with graph (term_slot names blanks t.subject) (term_slot names blanks t.object)
+    (verb_slot names t.verb)
 
 abbrev pub block_quads : List Name → List BlankNode → QuadBlock → List QuadTemplate
-block_quads names blanks b = flat_map (triple_quads names blanks (graph_slot names b.graph)) b.triples
+block_quads names bs b = flat_map (triple_quads names bs (graph_slot names b.graph)) b.triples
 
 abbrev pub with_blanks : List BlankNode → List QuadTemplate → Template
 with_blanks blanks quads = record { quads = quads; blanks = length blanks }
@@ -77,9 +81,17 @@ graph_or name None = name
 graph_or name (Some graph) = graph
 
 abbrev pub quad_in : Slot → QuadTemplate → QuadTemplate
-quad_in name q = record { graph = Some (graph_or name q.graph); subject = q.subject; predicate = q.predicate; object = q.object }
+quad_in name q =
+    record {
+      graph = Some (graph_or name q.graph);
+      subject = q.subject;
+      predicate = q.predicate;
+      object = q.object;
+    }
 
--- the template, where the quads of the default graph stand in the graph of this IRI, if one is given
+-- the template, where the quads of the default graph stand in the graph of this IRI, if one is
+-- given
 abbrev pub template_in : Option (List ℕ) → Template → Template
 template_in None t = t
-template_in (Some iri) t = record { quads = map (quad_in (slot.Term (value.Iri iri))) t.quads; blanks = t.blanks }
+template_in (Some iri) t =
+    record { quads = map (quad_in (slot.Term (value.Iri iri))) t.quads; blanks = t.blanks }

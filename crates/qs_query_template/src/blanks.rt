@@ -131,7 +131,8 @@ impl<'a> Blanks<'a> {
     }
 
     fn add_term(&mut self, term: &'a TermPattern) -> Result<(), AllocError>
-        ensures { OnOk result (self.new ≡ fold spec.add_blank self.old (spec.term_blanks term.now)) }
+        ensures { OnOk result
+            (self.new ≡ fold spec.add_blank self.old (spec.term_blanks term.now)) }
     {
         match term {
             TermPattern::Blank(blank) => self.add(blank),
@@ -140,14 +141,16 @@ impl<'a> Blanks<'a> {
     }
 
     fn add_triple(&mut self, triple: &'a Triple) -> Result<(), AllocError>
-        ensures { OnOk result (self.new ≡ fold spec.add_blank self.old (spec.triple_blanks triple.now)) }
+        ensures { OnOk result
+            (self.new ≡ fold spec.add_blank self.old (spec.triple_blanks triple.now)) }
     {
-        self.add_term(triple.subject.get())?;
+        self.add_term(&triple.subject)?;
         self.add_term(&triple.object)
     }
 
     fn add_triples(&mut self, triples: &'a [Triple]) -> Result<(), AllocError>
-        ensures { OnOk result (self.new ≡ fold spec.add_blank self.old (spec.triples_blanks triples.now)) }
+        ensures { OnOk result
+            (self.new ≡ fold spec.add_blank self.old (spec.triples_blanks triples.now)) }
     {
         for triple in triples {
             self.add_triple(triple)?;

@@ -5,7 +5,7 @@
 
 ghost use Rattle.std.specs.Prelude.{◌≡◌, ◌+◌, ◌^◌, ◌<◌, ◌++◌, ℕ, length, IfOk, OnOk};
 ghost use Rattle.std.specs.List.{flat_map};
-ghost use Rattle.qs_terms.specs.OrOutOf.{WithOrOutOfMemory};
+ghost use Rattle.qs_terms.specs.inner.OrOutOf.{WithOrOutOfMemory};
 ghost use Rattle.qs_terms.specs.declared.fault.QFault.TheVariants.{Memory};
 ghost use Rattle.qs_query_template.specs.Instances as instances;
 ghost use Rattle.qs_query_template.specs.inner.DataBlocks as spec;
@@ -74,11 +74,12 @@ fn put_triple<'a>(
     quads: &mut Items<Quad>,
 ) -> Result<(), AllocError>
     requires { first + length blanks.now < 2 ^ 64 }
-    ensures { OnOk result (quads.new ≡ quads.old ++ spec.triple_quads blanks.now first graph.now triple.now) }
+    ensures { OnOk result (quads.new ≡ quads.old ++ spec.triple_quads blanks.now first graph.now
+        triple.now) }
 {
     let graph = graph_name(graph)?;
-    let subject = node_term(blanks, first, triple.subject.get())?;
-    let predicate = verb_term(triple.verb.get())?;
+    let subject = node_term(blanks, first, &triple.subject)?;
+    let predicate = verb_term(&triple.verb)?;
     let object = node_term(blanks, first, &triple.object)?;
     match quad_of(graph, subject, predicate, object) {
         None => Ok(()),
@@ -109,7 +110,8 @@ fn put_blocks<'a>(
     quads: &mut Items<Quad>,
 ) -> Result<(), AllocError>
     requires { first + length blanks.now < 2 ^ 64 }
-    ensures { OnOk result (quads.new ≡ quads.old ++ flat_map (spec.block_quads blanks.now first) blocks.now) }
+    ensures { OnOk result (quads.new ≡ quads.old ++ flat_map (spec.block_quads blanks.now first)
+        blocks.now) }
 {
     for block in blocks {
         put_block(blanks, first, block, quads)?;
@@ -140,7 +142,8 @@ pub fn put_quads_to_insert(
     next_blank: u64,
     quads: &mut Items<Quad>,
 ) -> Result<u64, QFault>
-    ensures { WithOrOutOfMemory Memory (spec.inserted quads.old blocks.now next_blank) result quads.new }
+    ensures { WithOrOutOfMemory Memory (spec.inserted quads.old blocks.now next_blank) result
+        quads.new }
 {
     let blanks = blanks_of_blocks(alloc, blocks)?;
     let after = after_blanks(next_blank, blanks.len())?;

@@ -2,7 +2,7 @@
 
 ghost use Rattle.std.specs.Prelude.{◌≡◌, ◌+◌, ◌*◌, ◌^◌, ◌<◌, ◌++◌, length, option_to_list, Err, IfOk, OnOk};
 ghost use Rattle.std.specs.Option.{option_copied};
-ghost use Rattle.qs_terms.specs.Outcome.{OrOutOfMemory};
+ghost use Rattle.qs_terms.specs.inner.Outcome.{OrOutOfMemory};
 ghost use Rattle.qs_terms.specs.declared.fault.QFault.TheVariants.{Full};
 ghost use Rattle.qs_query_template.specs.Instances as spec;
 ghost use Rattle.qs_query_template.specs.inner.Lent.{lent, listed};
@@ -111,7 +111,8 @@ fn put_instance(
     quads: &mut Vec<Quad>,
 ) -> Result<(), AllocError>
     requires { first + blanks < 2 ^ 64 }
-    ensures { OnOk result (quads.new.items ≡ quads.old.items ++ spec.instance blanks first row.now quad.now) }
+    ensures { OnOk result (quads.new.items ≡ quads.old.items ++ spec.instance blanks first row.now
+        quad.now) }
 {
     match instance(blanks, first, row, quad)? {
         None => Ok(()),
@@ -130,7 +131,8 @@ fn put_instances(
     quads: &mut Vec<Quad>,
 ) -> Result<(), AllocError>
     requires { first + template.now.blanks < 2 ^ 64 }
-    ensures { OnOk result (quads.new.items ≡ quads.old.items ++ spec.instances_under template.now first row.now) }
+    ensures { OnOk result (quads.new.items ≡ quads.old.items ++ spec.instances_under template.now
+        first row.now) }
 {
     for quad in template.quads.as_slice() {
         put_instance(template.blanks, first, row, quad, quads)?;
@@ -145,7 +147,8 @@ fn all_instances(
     next: u64,
 ) -> Result<Vec<Quad>, AllocError>
     requires { spec.next_after template.now next (length rows.now) < 2 ^ 64 }
-    ensures { IfOk result (λ quads. quads.items ≡ spec.instances template.now next (lent rows.now)) }
+    ensures { IfOk result (λ quads. quads.items ≡ spec.instances template.now next
+        (lent rows.now)) }
 {
     let mut quads = Vec::new(alloc);
     let mut first = next;
@@ -161,7 +164,8 @@ fn all_instances(
 /// # Errors
 /// `QFault::Full` where it is past the greatest number of 64 bits.
 pub fn next_after(template: &Template, next: u64, solutions: usize) -> Result<u64, QFault>
-    ensures { let after = spec.next_after template.now next solutions in result ≡ spec.within after after }
+    ensures { let after = spec.next_after template.now next solutions
+        in result ≡ spec.within after after }
 {
     let Some(taken) = (template.blanks as u64).checked_mul(solutions as u64) else {
         return Err(QFault::Full);
@@ -185,8 +189,10 @@ pub fn instances(
     rows: &[&Row],
     next_blank: u64,
 ) -> Result<Vec<Quad>, QFault>
-    ensures outcome { OrOutOfMemory (spec.made template.now next_blank (lent rows.now)) (listed result) }
-    ensures full { spec.made template.now next_blank (lent rows.now) ≡ Err Full → result ≡ Err Full }
+    ensures outcome { OrOutOfMemory (spec.made template.now next_blank (lent rows.now))
+        (listed result) }
+    ensures full { spec.made template.now next_blank (lent rows.now) ≡ Err Full
+        → result ≡ Err Full }
 {
     next_after(template, next_blank, rows.len())?;
     let quads = all_instances(alloc, template, rows, next_blank)?;

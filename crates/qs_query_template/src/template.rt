@@ -145,10 +145,18 @@ fn quad_with<'a>(
     triple: &'a Triple,
     predicate: Slot,
 ) -> Result<QuadTemplate, AllocError>
-    ensures { IfOk result (λ q. q ≡ record { graph = graph.now; subject = spec.term_slot names.now blanks.now triple.now.subject; predicate = predicate; object = spec.term_slot names.now blanks.now triple.now.object }) }
+    ensures { IfOk result
+        (λ q. q ≡ record {
+          graph = graph.now;
+          subject = spec.term_slot names.now blanks.now
+              triple.now.subject;
+          predicate = predicate;
+          object =
+              spec.term_slot names.now blanks.now triple.now.object;
+        }) }
 {
     let graph = shared_graph(graph)?;
-    let subject = term_slot(alloc, names, blanks, triple.subject.get())?;
+    let subject = term_slot(alloc, names, blanks, &triple.subject)?;
     let object = term_slot(alloc, names, blanks, &triple.object)?;
     Ok(QuadTemplate {
         graph,
@@ -167,9 +175,10 @@ fn put_triple<'a>(
     triple: &'a Triple,
     quads: &mut Items<QuadTemplate>,
 ) -> Result<(), AllocError>
-    ensures { OnOk result (quads.new ≡ quads.old ++ spec.triple_quads names.now blanks.now graph.now triple.now) }
+    ensures { OnOk result (quads.new ≡ quads.old ++ spec.triple_quads names.now blanks.now graph.now
+        triple.now) }
 {
-    match verb_slot(alloc, names, triple.verb.get())? {
+    match verb_slot(alloc, names, &triple.verb)? {
         None => Ok(()),
         Some(predicate) => {
             let quad = quad_with(alloc, names, blanks, graph, triple, predicate)?;
@@ -186,7 +195,9 @@ fn put_triples<'a>(
     triples: &'a [Triple],
     quads: &mut Items<QuadTemplate>,
 ) -> Result<(), AllocError>
-    ensures { OnOk result (quads.new ≡ quads.old ++ flat_map (spec.triple_quads names.now blanks.now graph.now) triples.now) }
+    ensures { OnOk result
+        (quads.new ≡ quads.old ++ flat_map (spec.triple_quads names.now blanks.now graph.now)
+        triples.now) }
 {
     for triple in triples {
         put_triple(alloc, names, blanks, graph, triple, quads)?;
@@ -201,7 +212,8 @@ fn put_block<'a>(
     block: &'a QuadBlock,
     quads: &mut Items<QuadTemplate>,
 ) -> Result<(), AllocError>
-    ensures { OnOk result (quads.new ≡ quads.old ++ spec.block_quads names.now blanks.now block.now) }
+    ensures { OnOk result (quads.new ≡ quads.old ++ spec.block_quads names.now blanks.now
+        block.now) }
 {
     let graph = graph_slot(alloc, names, &block.graph)?;
     put_triples(
@@ -221,7 +233,8 @@ fn put_blocks<'a>(
     blocks: &'a [QuadBlock],
     quads: &mut Items<QuadTemplate>,
 ) -> Result<(), AllocError>
-    ensures { OnOk result (quads.new ≡ quads.old ++ flat_map (spec.block_quads names.now blanks.now) blocks.now) }
+    ensures { OnOk result (quads.new ≡ quads.old ++ flat_map (spec.block_quads names.now blanks.now)
+        blocks.now) }
 {
     for block in blocks {
         put_block(alloc, names, blanks, block, quads)?;

@@ -52,7 +52,12 @@ fn template_of_graph(
     template: &Template,
     name: &Slot,
 ) -> Result<Template, AllocError>
-    ensures { IfOk result (λ t. t ≡ record { quads = map (spec.quad_in name.now) template.now.quads; blanks = template.now.blanks }) }
+    ensures { IfOk result
+        (λ t. t
+        ≡ record {
+          quads = map (spec.quad_in name.now) template.now.quads;
+          blanks = template.now.blanks;
+        }) }
 {
     let quads = quads_in(alloc, template.quads.as_slice(), name)?;
     Ok(Template {

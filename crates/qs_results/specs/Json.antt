@@ -1,8 +1,11 @@
--- Answers as JSON, data of `serde_json` whose text is that crate's without white space (SPARQL 1.1 Query Results JSON Format, 3.1 to 3.3).
--- The members of each object ascend by their bytes. The standard leaves the order free, and so each answer has one text.
-use Rattle.std.specs.Prelude.{ℕ, Bool, true, false, List, [], ◌∷◌, ◌++◌, Option, Some, None, map, codes, decimal, if◌then◌else◌}
+-- Answers as JSON, data of `serde_json` whose text is that crate's without white space (SPARQL 1.1
+-- Query Results JSON Format, 3.1 to 3.3). The members of each object ascend by their bytes. The
+-- standard leaves the order free, and so each answer has one text.
+use Rattle.std.specs.Prelude.{ℕ, List, [], ◌∷◌, ◌++◌, Option, Some, None, map, codes, decimal}
+use Rattle.std.specs.Prelude.{if◌then◌else◌}
 use Rattle.std.specs.Str.{bytes_eq}
-use Rattle.serde_json.specs.Data.{Data, null, boolean, string, array, object, Members, no_members, member, put}
+use Rattle.serde_json.specs.Data.{Data, null, boolean, string, array, object, Members, no_members}
+use Rattle.serde_json.specs.Data.{member, put}
 use Rattle.serde_json.specs.View.{items_of}
 use Rattle.qs_terms.specs.Literal.{xsd_string}
 use Rattle.qs_terms.specs.declared.term.Term.{Term}
@@ -13,7 +16,8 @@ use Rattle.qs_algebra_solutions.specs.declared.answer.Answer.TheVariants.{Soluti
 
 -- a type, a value, and what comes after them (3.2.2)
 abbrev pub typed_value : List ℕ → List ℕ → Members → Members
-typed_value type value more = member (codes "type") (string type) (member (codes "value") (string value) more)
+typed_value type value more =
+    member (codes "type") (string type) (member (codes "value") (string value) more)
 
 -- the datatype of a literal without a tag, unless it is xsd:string
 abbrev pub with_datatype : List ℕ → Members → Members
@@ -22,14 +26,15 @@ with_datatype datatype more =
 
 -- a literal: its tag, or else its datatype
 abbrev pub literal_members : List ℕ → List ℕ → Option (List ℕ) → Members
-literal_members form datatype (Some tag) =
+literal_members form type (Some tag) =
     typed_value (codes "literal") form (member (codes "xml:lang") (string tag) no_members)
-literal_members form datatype None = with_datatype datatype (typed_value (codes "literal") form no_members)
+literal_members form type None = with_datatype type (typed_value (codes "literal") form no_members)
 
--- `type` and `value`, and a literal's tag or datatype; the label of a blank node is `b` and its number
+-- `type` and `value`, and a literal's tag or datatype; the label of a blank node is `b` and its
+-- number
 abbrev pub term_members : Term → Members
 term_members (term.Iri iri) = typed_value (codes "uri") iri no_members
-term_members (term.Blank number) = typed_value (codes "bnode") (codes "b" ++ decimal number) no_members
+term_members (term.Blank n) = typed_value (codes "bnode") (codes "b" ++ decimal n) no_members
 term_members (term.Literal l) = literal_members l.form l.datatype l.tag
 
 -- an RDF term (3.2.2)
@@ -43,9 +48,8 @@ with_binding name (Some t) ms = put name (term_data t) ms
 
 -- the members with the variables that the solution binds, from left to right
 abbrev pub with_bindings : List (List ℕ) → Solution → Members → Members
-with_bindings [] row ms = ms
-with_bindings (name ∷ names) [] ms = ms
 with_bindings (name ∷ names) (cell ∷ row) ms = with_bindings names row (with_binding name cell ms)
+with_bindings _ _ ms = ms
 
 -- a solution: the variables that it binds, and no others (3.2.1)
 abbrev pub binding_data : List (List ℕ) → Solution → Data
@@ -59,18 +63,14 @@ names_data names = array (items_of (map string names))
 abbrev pub rows_data : List (List ℕ) → List Solution → Data
 rows_data names rows = array (items_of (map (binding_data names) rows))
 
--- whether the answer has a JSON form
-abbrev pub has_json : Answer → Bool
-has_json (Solutions names rows) = true
-has_json (Truth b) = true
-has_json (Graph quads) = false
-
--- the answer of a SELECT: `head` with the names, and `results` with the solutions (3.1 and 3.2); or of an ASK: `boolean`, and an empty
--- `head` (3.3); a graph has no form
+-- the answer of a SELECT: `head` with the names, and `results` with the solutions (3.1 and 3.2); or
+-- of an ASK: `boolean`, and an empty `head` (3.3); a graph has no form
 abbrev pub json_of : Answer → Data
 json_of (Solutions names rows) =
     object (member (codes "head") (object (member (codes "vars") (names_data names) no_members))
-    (member (codes "results") (object (member (codes "bindings") (rows_data names rows) no_members)) no_members))
+    (member (codes "results") (object (member (codes "bindings") (rows_data names rows) no_members))
+    no_members))
 json_of (Truth b) =
-    object (member (codes "boolean") (boolean b) (member (codes "head") (object no_members) no_members))
+    object
+    (member (codes "boolean") (boolean b) (member (codes "head") (object no_members) no_members))
 json_of (Graph quads) = null

@@ -20,20 +20,15 @@ fault_line fault.TooManyRows = codes "F8 too many rows"
 fault_line fault.Memory = codes "F9 out of memory"
 fault_line fault.Full = codes "F10 full"
 
--- the status of a reply with that line: 400 where the text of the request is at fault, and 500 elsewhere (SPARQL 1.1 Protocol, 2.1.7 and
--- 2.2.5; RFC 9110, 15.5.1 and 15.6.1)
+-- the status of a reply with that line: 400 where the text of the request is at fault, and 500
+-- elsewhere (SPARQL 1.1 Protocol, 2.1.7 and 2.2.5; RFC 9110, 15.5.1 and 15.6.1)
 abbrev pub fault_status : QFault → ℕ
-fault_status (fault.Syntax place) = 400
-fault_status (fault.Prefix place) = 400
-fault_status (fault.RelativeIri place) = 400
-fault_status (fault.LeftOut word) = 400
-fault_status fault.Scope = 400
-fault_status (fault.TooLarge place) = 400
 fault_status fault.NoGraph = 500
 fault_status fault.GraphExists = 500
 fault_status fault.TooManyRows = 500
 fault_status fault.Memory = 500
 fault_status fault.Full = 500
+fault_status _ = 400
 
 -- what is wrong with data
 abbrev pub kind_text : NqFaultKind → List ℕ

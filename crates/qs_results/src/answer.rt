@@ -5,7 +5,8 @@
 
 ghost use Rattle.std.specs.Prelude.{◌≡◌, ◌++◌, IfOk, IsUtf8, true, string_bytes};
 ghost use Rattle.serde_json.specs.Written.{compact_text};
-ghost use Rattle.qs_results.specs.Json.{has_json, json_of};
+ghost use Rattle.qs_results.specs.Json.{json_of};
+ghost use Rattle.qs_results.specs.inner.Json.{has_json};
 ghost use Rattle.qs_algebra_solutions.specs.declared.answer.Answer.TheVariants.{Solutions, Truth};
 
 use crate::solution::{names_text, with_rows};
@@ -24,7 +25,8 @@ fn truth_text(truth: bool) -> &'static str
 }
 
 fn truth_after(before: Vec<u8>, truth: bool) -> Result<Vec<u8>, AllocError>
-    ensures text { IfOk result (λ out. out.items ≡ before.items ++ compact_text (json_of (Truth truth))) }
+    ensures text { IfOk result
+        (λ out. out.items ≡ before.items ++ compact_text (json_of (Truth truth))) }
     ensures utf8 { IfOk result (λ out. IsUtf8 before.items → IsUtf8 out.items) }
 {
     let mut out = before;
@@ -38,7 +40,8 @@ fn solutions_after(
     vars: &[Text],
     rows: &[Row],
 ) -> Result<Vec<u8>, AllocError>
-    ensures text { IfOk result (λ out. out.items ≡ before.items ++ compact_text (json_of (Solutions vars.now rows.now))) }
+    ensures text { IfOk result
+        (λ out. out.items ≡ before.items ++ compact_text (json_of (Solutions vars.now rows.now))) }
     ensures utf8 { IfOk result (λ out. IsUtf8 before.items → IsUtf8 out.items) }
 {
     let names = names_text(alloc, vars)?;
@@ -56,7 +59,8 @@ fn solutions_after(
 /// truth alone. The one error is running out of memory.
 pub fn json_after(alloc: Global, before: Vec<u8>, answer: &Answer) -> Result<Vec<u8>, AllocError>
     requires { has_json answer.now ≡ true }
-    ensures text { IfOk result (λ out. out.items ≡ before.items ++ compact_text (json_of answer.now)) }
+    ensures text { IfOk result
+        (λ out. out.items ≡ before.items ++ compact_text (json_of answer.now)) }
     ensures utf8 { IfOk result (λ out. IsUtf8 before.items → IsUtf8 out.items) }
 {
     match answer {

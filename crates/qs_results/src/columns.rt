@@ -56,7 +56,10 @@ fn put_bound(
     at: usize,
     is_bound: bool,
 ) -> Result<(), AllocError>
-    ensures { OnOk result (columns.new.entries ≡ (if is_bound then insert_entry (slice_cmp nat_cmp) columns.old.entries name.now at else columns.old.entries)) }
+    ensures { OnOk result
+        (columns.new.entries
+        ≡ (if is_bound then insert_entry (slice_cmp nat_cmp) columns.old.entries name.now at
+        else columns.old.entries)) }
 {
     if is_bound {
         let name = name.try_clone(alloc)?;
@@ -71,7 +74,8 @@ pub(crate) fn bound_columns(
     vars: &[Text],
     row: &Row,
 ) -> Result<Vec<(Text, usize)>, AllocError>
-    ensures { IfOk result (λ columns. members_of columns.items row.now ≡ with_bindings vars.now row.now no_members) }
+    ensures { IfOk result (λ columns. members_of columns.items row.now ≡ with_bindings vars.now
+        row.now no_members) }
 {
     let mut columns = BTreeMap::new(alloc);
     for at in 0..vars.len() {

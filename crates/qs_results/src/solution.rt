@@ -48,7 +48,9 @@ fn with_row(
     row: &Row,
     before: Vec<u8>,
 ) -> Result<Vec<u8>, AllocError>
-    ensures text { IfOk result (λ out. out.items ≡ before.items ++ compact_text (object (members_of columns.now row.now))) }
+    ensures text { IfOk result
+        (λ out. out.items ≡ before.items ++ compact_text
+        (object (members_of columns.now row.now))) }
     ensures utf8 { IfOk result (λ out. IsUtf8 before.items → IsUtf8 out.items) }
 {
     let mut out = Writer::new(before);
@@ -69,7 +71,8 @@ fn with_next(
     before: Vec<u8>,
 ) -> Result<Vec<u8>, AllocError>
     requires { ForSome columns.now (λ all. AreColumns vars.now all.items) }
-    ensures text { IfOk result (λ out. out.items ≡ before.items ++ compact_text (binding_data vars.now row.now)) }
+    ensures text { IfOk result
+        (λ out. out.items ≡ before.items ++ compact_text (binding_data vars.now row.now)) }
     ensures utf8 { IfOk result (λ out. IsUtf8 before.items → IsUtf8 out.items) }
 {
     match columns {

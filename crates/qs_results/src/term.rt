@@ -13,7 +13,8 @@ use std::alloc::{AllocError, Global};
 
 /// A member whose value is a string.
 fn put_text(out: &mut Writer, name: &str, value: &str) -> Result<(), AllocError>
-    ensures tokens { OnOk result (out.new.tokens ≡ out.old.tokens ++ key name.now ∷ string value.now ∷ []) }
+    ensures tokens { OnOk result (out.new.tokens ≡ out.old.tokens ++ key name.now ∷ string value.now
+        ∷ []) }
     ensures before { out.new.before ≡ out.old.before }
 {
     out.key(name)?;
@@ -22,7 +23,8 @@ fn put_text(out: &mut Writer, name: &str, value: &str) -> Result<(), AllocError>
 
 /// A type and a value.
 fn put_typed_value(out: &mut Writer, kind: &str, value: &str) -> Result<(), AllocError>
-    ensures tokens { OnOk result (out.new.tokens ≡ out.old.tokens ++ key (codes "type") ∷ string kind.now ∷ key (codes "value") ∷ string value.now ∷ []) }
+    ensures tokens { OnOk result (out.new.tokens ≡ out.old.tokens ++ key (codes "type")
+        ∷ string kind.now ∷ key (codes "value") ∷ string value.now ∷ []) }
     ensures before { out.new.before ≡ out.old.before }
 {
     put_text(out, "type", kind)?;
@@ -31,7 +33,9 @@ fn put_typed_value(out: &mut Writer, kind: &str, value: &str) -> Result<(), Allo
 
 /// A literal with its tag.
 fn put_tagged(out: &mut Writer, form: &str, tag: &str) -> Result<(), AllocError>
-    ensures tokens { OnOk result (out.new.tokens ≡ out.old.tokens ++ tokens_of (object (literal_members form.now [] (Some tag.now)))) }
+    ensures tokens { OnOk result
+        (out.new.tokens ≡ out.old.tokens ++ tokens_of
+        (object (literal_members form.now [] (Some tag.now)))) }
     ensures before { out.new.before ≡ out.old.before }
 {
     out.begin_object()?;
@@ -43,7 +47,9 @@ fn put_tagged(out: &mut Writer, form: &str, tag: &str) -> Result<(), AllocError>
 
 /// A literal with its datatype, unless that is xsd:string.
 fn put_typed(out: &mut Writer, literal: &Lit) -> Result<(), AllocError>
-    ensures tokens { OnOk result (out.new.tokens ≡ out.old.tokens ++ tokens_of (object (literal_members literal.now.form literal.now.datatype None))) }
+    ensures tokens { OnOk result
+        (out.new.tokens ≡ out.old.tokens ++ tokens_of
+        (object (literal_members literal.now.form literal.now.datatype None))) }
     ensures before { out.new.before ≡ out.old.before }
 {
     out.begin_object()?;
@@ -55,7 +61,9 @@ fn put_typed(out: &mut Writer, literal: &Lit) -> Result<(), AllocError>
 }
 
 fn put_literal(out: &mut Writer, literal: &Lit) -> Result<(), AllocError>
-    ensures tokens { OnOk result (out.new.tokens ≡ out.old.tokens ++ tokens_of (object (literal_members literal.now.form literal.now.datatype literal.now.tag))) }
+    ensures tokens { OnOk result
+        (out.new.tokens ≡ out.old.tokens ++ tokens_of
+        (object (literal_members literal.now.form literal.now.datatype literal.now.tag))) }
     ensures before { out.new.before ≡ out.old.before }
 {
     match literal.tag() {
@@ -66,7 +74,9 @@ fn put_literal(out: &mut Writer, literal: &Lit) -> Result<(), AllocError>
 
 /// A node that is no literal: its type and what it is called.
 fn put_node(out: &mut Writer, kind: &str, value: &str) -> Result<(), AllocError>
-    ensures tokens { OnOk result (out.new.tokens ≡ out.old.tokens ++ tokens_of (object (typed_value kind.now value.now no_members))) }
+    ensures tokens { OnOk result
+        (out.new.tokens ≡ out.old.tokens ++ tokens_of
+        (object (typed_value kind.now value.now no_members))) }
     ensures before { out.new.before ≡ out.old.before }
 {
     out.begin_object()?;
@@ -76,7 +86,8 @@ fn put_node(out: &mut Writer, kind: &str, value: &str) -> Result<(), AllocError>
 
 /// The term as an object: a blank node's label is `b` and its number.
 fn put_term(alloc: Global, out: &mut Writer, term: &Term) -> Result<(), AllocError>
-    ensures tokens { OnOk result (out.new.tokens ≡ out.old.tokens ++ tokens_of (term_data term.now)) }
+    ensures tokens { OnOk result
+        (out.new.tokens ≡ out.old.tokens ++ tokens_of (term_data term.now)) }
     ensures before { out.new.before ≡ out.old.before }
 {
     match term {
@@ -96,7 +107,8 @@ pub(crate) fn put_cell(
     name: &str,
     cell: Option<&Term>,
 ) -> Result<(), AllocError>
-    ensures tokens { OnOk result (out.new.tokens ≡ out.old.tokens ++ cell_tokens name.now (option_copied cell.entry)) }
+    ensures tokens { OnOk result (out.new.tokens ≡ out.old.tokens ++ cell_tokens name.now
+        (option_copied cell.entry)) }
     ensures before { out.new.before ≡ out.old.before }
 {
     match cell {

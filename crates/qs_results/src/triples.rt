@@ -1,7 +1,8 @@
 //! Graphs as N-Triples (RDF 1.1 N-Triples, 2).
 
 ghost use Rattle.std.specs.Prelude.{◌≡◌, ◌++◌, IfOk, true, string_bytes};
-ghost use Rattle.qs_results.specs.Triples.{is_graph, ntriples_of};
+ghost use Rattle.qs_results.specs.Triples.{ntriples_of};
+ghost use Rattle.qs_results.specs.inner.Triples.{is_graph};
 
 use qs_algebra_solutions::Answer;
 use qs_nquads::{text, text_after};

@@ -10,7 +10,7 @@ use Rattle.qs_http.specs.declared.request.Request.TheVariants.{Query, Update, Du
 use Rattle.qs_store.specs.Content.{Content}
 use Rattle.qs_update.specs.Outcome.{IsSameContent}
 use Rattle.qs_update.specs.Request.{Bounds}
-use Rattle.qs_service_connections.specs.Meaning.{CarriesOrMemory}
+use Rattle.qs_service_connections.specs.inner.Meaning.{CarriesOrMemory}
 use Rattle.qs_service_connections.specs.Message.{Message, message, fixed_message}
 use Rattle.qs_service.specs.Carried.{Carries, answer_reply, fault_reply}
 use Rattle.qs_service.specs.Language.{Language}

@@ -11,6 +11,7 @@ use Rattle.qs_query_forms.specs.Sequence.{dataset_of}
 use Rattle.qs_store.specs.Content.{Content, Held}
 use Rattle.qs_store.specs.Same.{SameSet}
 use Rattle.qs_update.specs.Outcome as update
+use Rattle.qs_update.specs.inner.Outcome as inner
 use Rattle.qs_update.specs.Request.{Bounds, bounds_of}
 use Rattle.qs_service.specs.inner.Changes.{Changes}
 use Rattle.qs_service.specs.Language.{sparql}
@@ -23,7 +24,7 @@ answered held text rows (Ok answer) same due = (held.base.quads, same, due)
 answered held text rows (Err f) same due = λ other. (held.base.quads, same, due other)
 
 -- an update's text
-pub changes : (bounds : Bounds) (text : List ℕ) (old new : Content) (r : Outcome (Unit {0})) → OnOk r (update.IsAccepted bounds text old new) → OnErr r (new ≡ old)
+pub changes : (bounds : Bounds) (text : List ℕ) (old new : Content) (r : Outcome (Unit {0})) → OnOk r (inner.IsAccepted bounds text old new) → OnErr r (new ≡ old)
     → IfErr r (λ f. f ≢ Memory → update.IsOutcomeOfText bounds text old (Err f)) → Changes (sparql.changes text bounds old) old r new
 unfolding sparql
 changes bounds text old new (Ok done) accepted refused fault = accepted

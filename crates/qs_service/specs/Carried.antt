@@ -24,7 +24,7 @@ fault_reply f = message (fault_status f) Text (fault_line f ++ 10 ∷ [])
 
 -- solutions and a truth as JSON, a graph as N-Triples
 abbrev pub answer_reply : Answer → Message
-answer_reply (Solutions vars rows) = message 200 Results (compact_text (json_of (Solutions vars rows)))
+answer_reply (Solutions vs rows) = message 200 Results (compact_text (json_of (Solutions vs rows)))
 answer_reply (Truth b) = message 200 Results (compact_text (json_of (Truth b)))
 answer_reply (Graph quads) = message 200 NTriples (ntriples_of (Graph quads))
 
@@ -33,16 +33,21 @@ abbrev pub query_reply : Outcome Answer → Message
 query_reply (Ok answer) = answer_reply answer
 query_reply (Err f) = fault_reply f
 
--- what is stored after an update, and its reply: the content that it makes, with what is fixed for requests as it was, and 204; a refused
--- one changes nothing
+-- what is stored after an update, and its reply: the content that it makes, with what is fixed for
+-- requests as it was, and 204; a refused one changes nothing
 abbrev pub IsUpdated : Stored → Outcome Content → Stored → Message → Type 0
-IsUpdated old (Ok c) new reply = IsSameContent new.content c × (new.bounds ≡ old.bounds) × (reply ≡ fixed_message NoContent)
+IsUpdated old (Ok c) new reply =
+    IsSameContent new.content c × (new.bounds ≡ old.bounds) × (reply ≡ fixed_message NoContent)
 IsUpdated old (Err f) new reply = (new ≡ old) × (reply ≡ fault_reply f)
 
--- what a request does: carried out over what is stored, with that reply; only an update changes what is stored
+-- what a request does: carried out over what is stored, with that reply; only an update changes
+-- what is stored
 abbrev pub Carries : Language → Stored → Request → Stored → Message → Type 0
 Carries l old (Query text) new reply =
-    (outcome : Outcome Answer) × l.answers text old.bounds old.content outcome × (new ≡ old) × (reply ≡ query_reply outcome)
+    (outcome : Outcome Answer) × l.answers text old.bounds old.content outcome × (new ≡ old)
+    × (reply ≡ query_reply outcome)
 Carries l old (Update text) new reply =
-    (outcome : Outcome Content) × l.changes text old.bounds old.content outcome × IsUpdated old outcome new reply
-Carries l old Dump new reply = (bytes : List ℕ) × l.writes old.content bytes × (new ≡ old) × (reply ≡ message 200 NQuads bytes)
+    (outcome : Outcome Content) × l.changes text old.bounds old.content outcome
+    × IsUpdated old outcome new reply
+Carries l old Dump new reply = (bytes : List ℕ) × l.writes old.content bytes × (new ≡ old)
+    × (reply ≡ message 200 NQuads bytes)

@@ -1,4 +1,5 @@
--- What the texts of requests mean (SPARQL 1.1 Protocol, 2): a parameter of what a request does, so that this is read apart from it.
+-- What the texts of requests mean (SPARQL 1.1 Protocol, 2): a parameter of what a request does, so
+-- that this is read apart from it.
 use Rattle.std.specs.Prelude.{◌≡◌, ℕ, List}
 use Rattle.qs_terms.specs.Outcome.{Outcome}
 use Rattle.qs_terms.specs.Statement.{Statement}
@@ -18,11 +19,13 @@ pub record Language : Type 1 where
   pub changes : List ℕ → Bounds → Content → Outcome Content → Type 0
   pub writes : Content → List ℕ → Type 0
 
--- a query's text over the stored quads, whose order means nothing, as they are seen with the default graph (SPARQL 1.1 Query, 13.1)
+-- a query's text over the stored quads, whose order means nothing, as they are seen with the
+-- default graph (SPARQL 1.1 Query, 13.1)
 abbrev pub IsAnswer : List ℕ → Bounds → Content → Outcome Answer → Type 0
 IsAnswer text bounds c outcome =
     (quads : List Statement) × SameSet quads c.quads
-    × query.IsOutcomeOfText text (dataset_of (visible bounds.default_graph quads) c.next) bounds.rows outcome
+    × query.IsOutcomeOfText text (dataset_of (visible bounds.default_graph quads) c.next)
+    bounds.rows outcome
 
 -- an update's text over what is stored (SPARQL 1.1 Update, 3)
 abbrev pub IsChange : List ℕ → Bounds → Content → Outcome Content → Type 0

@@ -2,17 +2,19 @@
 
 ghost use Rattle.std.specs.Prelude.{◌≡◌, ◌≤◌, IfOk, drop, true, vec_len};
 ghost use Rattle.serde_json.specs.Written.{compact_text};
-ghost use Rattle.qs_http.specs.Reply.{IsReplyStatus};
+ghost use Rattle.qs_http.specs.inner.Reply.{IsReplyStatus};
 ghost use Rattle.qs_http.specs.declared.media.Media.TheVariants.{Results, NTriples};
 ghost use Rattle.qs_http.specs.declared.request.Request.TheVariants.{Query, Update};
-ghost use Rattle.qs_results.specs.Json.{has_json, json_of};
-ghost use Rattle.qs_results.specs.Triples.{is_graph, ntriples_of};
+ghost use Rattle.qs_results.specs.Json.{json_of};
+ghost use Rattle.qs_results.specs.inner.Json.{has_json};
+ghost use Rattle.qs_results.specs.Triples.{ntriples_of};
+ghost use Rattle.qs_results.specs.inner.Triples.{is_graph};
 ghost use Rattle.qs_service.specs.Carried.{Carries, answer_reply, fault_reply};
 ghost use Rattle.qs_service.specs.Language.{sparql};
 ghost use Rattle.qs_service.specs.State.{stored_of};
 ghost use Rattle.qs_service.specs.inner.Made.{MadeOf, CarriesDump};
 ghost use Rattle.qs_update.specs.Request.{Bounds};
-ghost use Rattle.qs_service_connections.specs.Meaning.{CarriesOrMemory};
+ghost use Rattle.qs_service_connections.specs.inner.Meaning.{CarriesOrMemory};
 ghost use Rattle.qs_service_connections.specs.Message.{message};
 
 use crate::text::{answer_over, dump_after, update_over};
@@ -55,7 +57,8 @@ fn refusal(alloc: Global, fault: &QFault) -> Result<Reply, AllocError>
 
 fn json_reply(alloc: Global, answer: &Answer) -> Result<Reply, AllocError>
     requires { has_json answer.now ≡ true }
-    ensures { IfOk result (λ reply. reply ≡ message 200 Results (compact_text (json_of answer.now))) }
+    ensures { IfOk result
+        (λ reply. reply ≡ message 200 Results (compact_text (json_of answer.now))) }
 {
     let room = reply_room(alloc)?;
     let body = json_after(alloc, room, answer)?;
@@ -84,7 +87,8 @@ fn answered(alloc: Global, answer: &Answer) -> Result<Reply, AllocError>
 
 /// A query's reply, as far as there is memory.
 fn asked(alloc: Global, text: &str, store: &Store, max_rows: u64) -> Result<Reply, AllocError>
-    ensures { IfOk result (Carries sparql (stored_of max_rows store.now) (Query text.now) (stored_of max_rows store.now)) }
+    ensures { IfOk result (Carries sparql (stored_of max_rows store.now) (Query text.now)
+        (stored_of max_rows store.now)) }
 {
     match answer_over(alloc, text, store, max_rows) {
         Ok(answer) => answered(alloc, &answer),
@@ -95,7 +99,8 @@ fn asked(alloc: Global, text: &str, store: &Store, max_rows: u64) -> Result<Repl
 
 /// The reply with the whole dataset, as far as there is memory.
 fn dumped(alloc: Global, store: &Store) -> Result<Reply, AllocError>
-    ensures { IfOk result (λ reply. (bounds : Bounds) → CarriesDump sparql store.now.base bounds reply) }
+    ensures { IfOk result (λ reply. (bounds : Bounds) → CarriesDump sparql store.now.base bounds
+        reply) }
 {
     let room = reply_room(alloc)?;
     let body = dump_after(alloc, room, store)?;
@@ -114,7 +119,8 @@ fn or_memory(made: Result<Reply, AllocError>) -> Reply
 
 /// An update's reply. An accepted one has a fixed reply, so that out of memory never follows a change.
 fn changed(alloc: Global, text: &str, store: &mut Store, max_rows: u64) -> Reply
-    ensures { CarriesOrMemory (Carries sparql) (stored_of max_rows store.old) (Update text.now) (stored_of max_rows store.new) result }
+    ensures { CarriesOrMemory (Carries sparql) (stored_of max_rows store.old) (Update text.now)
+        (stored_of max_rows store.new) result }
 {
     match update_over(alloc, text, store, max_rows) {
         Ok(()) => Reply::fixed(Fixed::NoContent),
@@ -125,7 +131,8 @@ fn changed(alloc: Global, text: &str, store: &mut Store, max_rows: u64) -> Reply
 
 /// The reply of the request, which is carried out. Where it is out of memory, what is stored stays.
 pub fn carry_out(alloc: Global, request: &Request, store: &mut Store, max_rows: u64) -> Reply
-    ensures { CarriesOrMemory (Carries sparql) (stored_of max_rows store.old) request.now (stored_of max_rows store.new) result }
+    ensures { CarriesOrMemory (Carries sparql) (stored_of max_rows store.old) request.now
+        (stored_of max_rows store.new) result }
 {
     match request {
         Request::Query(text) => or_memory(asked(alloc, text.as_str(), store, max_rows)),

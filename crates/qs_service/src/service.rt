@@ -23,7 +23,9 @@ impl OverStore for Service {
     /// A service over the store, with no connection. Queries, after OFFSET and LIMIT, and the WHERE of an update may have `max_rows`
     /// solutions. Out of memory for the table of connections hands the store back.
     fn new(alloc: Global, store: Store, max_rows: u64) -> Result<Service, Store>
-        ensures { MatchResult result (λ s. s ≡ record { stored = stored_of max_rows store; joined = [] }) (λ back. back ≡ store) }
+        ensures { MatchResult result
+            (λ s. s ≡ record { stored = stored_of max_rows store; joined = [] })
+            (λ back. back ≡ store) }
     {
         match Table::new(alloc) {
             Ok(table) => Ok(Connections::with_table(table, StoreMeaning::new(store, max_rows))),

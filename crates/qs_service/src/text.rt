@@ -25,7 +25,8 @@ pub fn answer_over(
     store: &Store,
     max_rows: u64,
 ) -> Result<Answer, QFault>
-    ensures { OneOrOutOfMemory (sparql.answers text.now (bounds_of max_rows store.now) store.now.base) result }
+    ensures { OneOrOutOfMemory
+        (sparql.answers text.now (bounds_of max_rows store.now) store.now.base) result }
 {
     same_set_is_an_equivalence();
     answer(alloc, text, store, max_rows)
@@ -41,7 +42,9 @@ pub fn update_over(
     store: &mut Store,
     max_rows: u64,
 ) -> Result<(), QFault>
-    ensures changes { Changes (sparql.changes text.now (bounds_of max_rows store.old) store.old.base) store.old.base result store.new.base }
+    ensures changes { Changes
+        (sparql.changes text.now (bounds_of max_rows store.old) store.old.base) store.old.base
+        result store.new.base }
     ensures limit { store.new.limit ≡ store.old.limit }
     ensures default_graph { store.new.default_graph ≡ store.old.default_graph }
 {
@@ -62,7 +65,8 @@ fn quads_of(store: &Store) -> Result<Vec<Quad>, AllocError>
 
 /// What was written before, and the stored quads as N-Quads. The one error is out of memory.
 pub fn dump_after(alloc: Global, before: Vec<u8>, store: &Store) -> Result<Vec<u8>, AllocError>
-    ensures { IfOk result (λ out. (text : List ℕ) × sparql.writes store.now.base text × (out.items ≡ before.items ++ text)) }
+    ensures { IfOk result (λ out. (text : List ℕ) × sparql.writes store.now.base text
+        × (out.items ≡ before.items ++ text)) }
 {
     let quads = quads_of(store)?;
     text_after(alloc, before, quads.as_slice())

@@ -1,8 +1,8 @@
 -- A request that is ready stands.
 use Rattle.std.proofs.Common.{◌≡◌, Option, None, Some}
-use Rattle.qs_http.specs.Feeding.{Seen, Reading, Done}
+use Rattle.qs_http.specs.inner.Feeding.{Seen, Reading, Done}
 use Rattle.qs_http.specs.Outcome.{More, Ready, Refused}
-use Rattle.qs_http.specs.Stage.{progress_of, request_in}
+use Rattle.qs_http.specs.inner.Stage.{progress_of, request_in}
 use Rattle.qs_http.specs.declared.session.Progress.TheVariants as progress
 
 pub ready_stands : (seen : Seen) → progress_of seen ≡ progress.Ready → request_in seen ≡ None → ⊥

@@ -1,8 +1,10 @@
 -- What connections keep: what is stored, and the joined connections.
-use Rattle.std.specs.Prelude.{◌+◌, ◌==◌, ℕ, List, [], ◌∷◌, length, take, drop, Option, None, Some, if◌then◌else◌}
+use Rattle.std.specs.Prelude.{◌+◌, ◌==◌, ℕ, List, [], ◌∷◌, length, take, drop, Option, None, Some}
+use Rattle.std.specs.Prelude.{if◌then◌else◌}
 use Rattle.qs_service_connections.specs.Message.{Message}
 
--- how far a connection has come: the bytes so far, or its reply and how many of its bytes were taken
+-- how far a connection has come: the bytes so far, or its reply and how many of its bytes were
+-- taken
 pub data Exchange : Type 0 where
   Reading : (bytes : List ℕ) → Exchange
   Answered : (reply : Message) → (taken : ℕ) → Exchange
@@ -24,7 +26,8 @@ exchange_of id (c ∷ joined) = if c.id == id then Some c.exchange else exchange
 -- that in place of what denoted that id
 abbrev pub put_exchange : ℕ → Exchange → List Joined → List Joined
 put_exchange id exchange [] = []
-put_exchange id exchange (c ∷ joined) = if c.id == id then record c { exchange = exchange } ∷ joined else c ∷ put_exchange id exchange joined
+put_exchange id exchange (c ∷ joined) = if c.id == id then record c { exchange = exchange } ∷ joined
+    else c ∷ put_exchange id exchange joined
 
 -- the other connections
 abbrev pub without_id : ℕ → List Joined → List Joined
@@ -33,14 +36,14 @@ without_id id (c ∷ joined) = if c.id == id then joined else c ∷ without_id i
 
 -- the reply, where it stands
 abbrev pub reply_in : Option Exchange → Option Message
-reply_in None = None
-reply_in (Some (Reading bytes)) = None
 reply_in (Some (Answered reply taken)) = Some reply
+reply_in _ = None
 
 abbrev pub reply_at : ℕ → List Joined → Option Message
 reply_at id joined = reply_in (exchange_of id joined)
 
--- the next n bytes of a reply of which so many were taken, or those that are left where they are fewer
+-- the next n bytes of a reply of which so many were taken, or those that are left where they are
+-- fewer
 abbrev pub next_of : ℕ → Message → ℕ → List ℕ
 next_of n reply taken = take n (drop taken reply.bytes)
 

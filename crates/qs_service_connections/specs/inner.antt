@@ -1,5 +1,6 @@
--- What serves proofs alone: no promise of the product is read by it.
+-- For proofs and the layers between: no clause of the headline cites a definition of these files.
 pub mod Bytes
 pub mod Receive
 pub mod Serve
 pub mod Table
+pub mod Meaning

@@ -2,7 +2,8 @@
 
 ghost use Rattle.std.specs.Prelude.{◌≡◌, ◌≤◌, ◌+◌, ◌-◌, [], Some, min};
 ghost use Rattle.qs_service_connections.specs.State as state;
-ghost use Rattle.qs_service_connections.specs.State.{next_bytes, with_taken, reply_in};
+ghost use Rattle.qs_service_connections.specs.State.{next_bytes, reply_in};
+ghost use Rattle.qs_service_connections.specs.State.{with_taken};
 ghost use Rattle.qs_service_connections.specs.Step.{Receives};
 ghost use Rattle.qs_service_connections.specs.inner.Receive.{bytes_in, StandAt};
 
@@ -63,7 +64,8 @@ impl Connection {
     /// A piece of bytes arrives.
     pub fn receive<M: Meaning>(&mut self, alloc: Global, meaning: &mut M, piece: &[u8])
         ensures id { self.new.id ≡ self.old.id }
-        ensures received { Receives M.carries meaning.old self.old.exchange piece.now meaning.new self.new.exchange }
+        ensures received { Receives M.carries meaning.old self.old.exchange piece.now meaning.new
+            self.new.exchange }
     {
         let unset = ConnectionState::Answered {
             reply: Reply::fixed(Fixed::Memory),
@@ -83,7 +85,8 @@ impl Connection {
 
     /// The next n bytes of the reply, or those that are left, are counted as taken: from the first number on, up to the second.
     pub fn count(&mut self, n: usize) -> (usize, usize)
-        ensures bytes { StandAt self.old.exchange result.0 result.1 (next_bytes n self.old.exchange) }
+        ensures bytes { StandAt self.old.exchange result.0 result.1
+            (next_bytes n self.old.exchange) }
         ensures counts { self.new ≡ record self.old { exchange = with_taken n self.old.exchange } }
     {
         match &mut self.state {

@@ -42,7 +42,8 @@ impl<M: Meaning> Connections<M> {
     ghost use Rattle.std.specs.Result.{result_err};
     ghost use Rattle.qs_service_connections.specs.Serve.{Serves, CountsFault};
     ghost use Rattle.qs_service_connections.specs.State.{State, reply_at};
-    ghost use Rattle.qs_service_connections.specs.Step.{Step, Join, Piece, End, TakesBytes, TakesTo};
+    ghost use Rattle.qs_service_connections.specs.Step.{Step, Join, Piece, End, TakesBytes};
+    ghost use Rattle.qs_service_connections.specs.Step.{TakesTo};
     ghost use Rattle.qs_service_connections.specs.contracts.connections.Connections.{the_row};
 
     /// The connections of the table, none yet, whose requests have that meaning. It takes no memory.
@@ -70,7 +71,8 @@ impl<M: Meaning> Connections<M> {
     /// `ServeFault::Read` where a read failed: nothing was carried out. `ServeFault::Write` where a write did: the request was carried
     /// out, or refused, and that many bytes of its reply went out.
     pub fn serve_one<S: Stream>(&mut self, stream: &mut S) -> Result<Served, ServeFault>
-        ensures served { Serves M.carries self.old.stored (S.left stream.old) (S.sent stream.old) result self.new.stored (S.Sink.taken stream.new) }
+        ensures served { Serves M.carries self.old.stored (S.left stream.old) (S.sent stream.old)
+            result self.new.stored (S.Sink.taken stream.new) }
         ensures apart { self.new.joined ≡ self.old.joined }
         ensures faults { CountsFault (S.Sink.faults stream.old) (S.Sink.faults stream.new) result }
     {
@@ -144,7 +146,8 @@ impl<M: Meaning> Connections<M> {
     /// `UnknownId` where the id isn't joined.
     pub fn take(&mut self, id: u64, n: usize) -> Result<&[u8], ServiceFault>
         ensures bytes { TakesBytes self.old id n result }
-        ensures* counts { sem 𝓛 (Rests (the_row M.row) self.entry (λ new. TakesTo self.old id n new)) }
+        ensures* counts { sem 𝓛 (Rests (the_row M.row) self.entry
+            (λ new. TakesTo self.old id n new)) }
     {
         let place = place_of(&self.connections, id);
         if place == self.connections.len() {

@@ -1,7 +1,7 @@
 //! What a request does.
 
 ghost use Rattle.qs_http.specs.declared.request.Request.{Request};
-ghost use Rattle.qs_service_connections.specs.Meaning.{CarriesOrMemory};
+ghost use Rattle.qs_service_connections.specs.inner.Meaning.{CarriesOrMemory};
 ghost use Rattle.qs_service_connections.specs.Message.{Message};
 
 use crate::reply::Reply;

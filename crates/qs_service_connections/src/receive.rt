@@ -23,7 +23,8 @@ pub fn receive<M: Meaning>(
     piece: &[u8],
 ) -> Option<Reply>
     requires { IsReading session.old }
-    ensures { ReceivesOn M.carries meaning.old (bytes_read session.old) piece.now meaning.new session.new result }
+    ensures { ReceivesOn M.carries meaning.old (bytes_read session.old) piece.now meaning.new
+        session.new result }
 {
     match session.feed(piece) {
         Progress::More => None,

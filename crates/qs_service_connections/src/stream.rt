@@ -24,7 +24,8 @@ fn listen<M: Meaning, S: Stream>(
     stream: &mut S,
     meaning: &mut M,
 ) -> Result<Option<Reply>, ServeFault>
-    ensures results { Listens M.carries meaning.old (S.left stream.old) result meaning.new (S.left stream.new) }
+    ensures results { Listens M.carries meaning.old (S.left stream.old) result meaning.new
+        (S.left stream.new) }
     ensures taken { Keeps (S.sent stream.old) (S.Sink.taken stream.new) }
     ensures faults { CountsFault (S.Sink.faults stream.old) (S.Sink.faults stream.new) result }
 {
@@ -63,7 +64,8 @@ pub fn serve_stream<M: Meaning, S: Stream>(
     stream: &mut S,
     meaning: &mut M,
 ) -> Result<Served, ServeFault>
-    ensures served { Serves M.carries meaning.old (S.left stream.old) (S.sent stream.old) result meaning.new (S.Sink.taken stream.new) }
+    ensures served { Serves M.carries meaning.old (S.left stream.old) (S.sent stream.old) result
+        meaning.new (S.Sink.taken stream.new) }
     ensures faults { CountsFault (S.Sink.faults stream.old) (S.Sink.faults stream.new) result }
 {
     let Some(reply) = listen(alloc, stream, meaning)? else {

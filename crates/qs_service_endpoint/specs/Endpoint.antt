@@ -21,7 +21,9 @@ is_done (Some fault) = false
 
 -- one step of the connections, which takes the event up or refuses it
 abbrev pub Steps : {S : Type 0} → RequestMeaning S → State S → loop.Event → Bool → State S → Type 0
-Steps carries old event done new = (outcome : Option ServiceFault) × Step carries old (event_of event) outcome new × (done ≡ is_done outcome)
+Steps carries old event done new =
+    (outcome : Option ServiceFault) × Step carries old (event_of event) outcome new
+    × (done ≡ is_done outcome)
 
 -- the bytes of the reply that stands for that id
 abbrev pub reply_bytes : {S : Type 0} → State S → ℕ → Option (List ℕ)

@@ -9,7 +9,8 @@ use Rattle.qs_service_connections.specs.State.{State}
 use Rattle.qs_service_connections.specs.Step.{Event}
 use Rattle.qs_service_replay.specs.inner.ScriptEvents.{event_of}
 use Rattle.qs_service_replay.specs.Replay.{Tells, Replays}
-use Rattle.qs_service_replay.specs.Replayed.{StopsAt, IsReplayed}
+use Rattle.qs_service_replay.specs.Replayed.{StopsAt}
+use Rattle.qs_service_replay.specs.inner.Replayed.{IsReplayed}
 use Rattle.qs_service_replay.specs.declared.script_event.ScriptEvent.{ScriptEvent}
 use Rattle.qs_service_replay.specs.declared.run.ReplayEnd.TheVariants.{SinkFailed, OutOfMemory}
 

@@ -1,27 +1,15 @@
 -- What a sink took of a run of events, and how the run ended.
-use Rattle.std.specs.Prelude.{◌≡◌, ◌+◌, ◌<◌, ◌≤◌, ℕ, List, ◌∷◌, ◌++◌, length, take, Option}
-use Rattle.std.specs.Io.KnownBytes.{Appends}
-use Rattle.qs_terms.specs.Device.{one_more}
+use Rattle.std.specs.Prelude.{◌≡◌, ◌+◌, ℕ, List, ◌∷◌, ◌++◌, length}
 use Rattle.qs_service_connections.specs.Meaning.{RequestMeaning}
 use Rattle.qs_service_connections.specs.State.{State}
 use Rattle.qs_service_connections.specs.Step.{Event}
 use Rattle.qs_service_replay.specs.Replay.{Tells, Replays}
-use Rattle.qs_service_replay.specs.declared.run.ReplayEnd.{ReplayEnd}
-use Rattle.qs_service_replay.specs.declared.run.ReplayEnd.TheVariants.{All, SinkFailed, OutOfMemory}
 
--- some of the events, from the front, were carried out: `line` is what the last of them writes, and `text` what those before it write
-abbrev pub StopsAt : {S : Type 0} → RequestMeaning S → State S → List Event → State S → List ℕ → List ℕ → Type 0
+-- some of the events, from the front, were carried out: `line` is what the last of them writes, and
+-- `text` what those before it write
+abbrev pub StopsAt : {S : Type 0} → RequestMeaning S → State S → List Event → State S → List ℕ
+    → List ℕ → Type 0
 StopsAt {S} carries old events new text line =
-    (front others : List Event) × (event : Event) × (mid : State S) × (events ≡ front ++ event ∷ others) × Replays carries old 1 front mid text
+    (front others : List Event) × (event : Event) × (mid : State S)
+    × (events ≡ front ++ event ∷ others) × Replays carries old 1 front mid text
     × Tells carries mid (length front + 1) event new line
-
--- all events were carried out, and the sink took all that they write; or it failed at the line of the last one that was carried out, and
--- took all before that line and not all of it; or it was out of memory for that line, and the sink took all before it
-abbrev pub IsReplayed : {S : Type 0} → RequestMeaning S → State S → List Event → Option (List ℕ) → Option (List ℕ) → ℕ → ℕ → State S → ReplayEnd → ℕ → Type 0
-IsReplayed carries old events taken taken2 faults faults2 new All written =
-    (text : List ℕ) × Replays carries old 1 events new text × (written ≡ length text) × Appends taken taken2 text × (faults2 ≡ faults)
-IsReplayed carries old events taken taken2 faults faults2 new SinkFailed written =
-    (text line : List ℕ) × StopsAt carries old events new text line × (length text ≤ written) × (written < length (text ++ line))
-    × Appends taken taken2 (take written (text ++ line)) × (faults2 ≡ one_more faults)
-IsReplayed carries old events taken taken2 faults faults2 new OutOfMemory written =
-    (text line : List ℕ) × StopsAt carries old events new text line × (written ≡ length text) × Appends taken taken2 text × (faults2 ≡ faults)

@@ -11,7 +11,9 @@ use std::alloc::{AllocError, Global};
 
 // The bytes that are written so, if it is hex.
 fn bytes_of(alloc: Global, hex: &[u8]) -> Result<Option<Vec<u8>>, AllocError>
-    ensures { IfOk result (λ told. MatchOption told ((bytes : List ℕ) → decode_of hex.now ≢ Ok bytes) (λ bytes. decode_of hex.now ≡ Ok bytes.items)) }
+    ensures { IfOk result
+        (λ told. MatchOption told ((bytes : List ℕ) → decode_of hex.now ≢ Ok bytes)
+        (λ bytes. decode_of hex.now ≡ Ok bytes.items)) }
 {
     match hex::decode(alloc, hex) {
         Ok(bytes) => Ok(Some(bytes)),
@@ -24,7 +26,9 @@ fn bytes_of(alloc: Global, hex: &[u8]) -> Result<Option<Vec<u8>>, AllocError>
 
 // The id and the bytes of a piece, from what stands after its word.
 fn piece_of(alloc: Global, rest: &[u8]) -> Result<Option<(u64, Vec<u8>)>, AllocError>
-    ensures { IfOk result (λ told. MatchOption told ((id : ℕ) (bytes : List ℕ) → ¬ IsPiece rest.now id bytes) (λ p. IsPiece rest.now p.0 p.1.items)) }
+    ensures { IfOk result
+        (λ told. MatchOption told ((id : ℕ) (bytes : List ℕ) → ¬ IsPiece rest.now id bytes)
+        (λ p. IsPiece rest.now p.0 p.1.items)) }
 {
     let Some((digits, hex)) = parted(rest, b' ') else {
         return Ok(None);

@@ -5,7 +5,7 @@
 
 ghost use Rattle.std.specs.Prelude.{◌^◌, ◌<◌, map};
 ghost use Rattle.qs_service_replay.specs.inner.ScriptEvents.{event_of};
-ghost use Rattle.qs_service_replay.specs.Replayed.{IsReplayed};
+ghost use Rattle.qs_service_replay.specs.inner.Replayed.{IsReplayed};
 
 use crate::script_event::ScriptEvent;
 use crate::told::told;
@@ -39,7 +39,9 @@ pub fn replay<M: Meaning, S: Sink>(
     events: &[ScriptEvent],
     out: &mut S,
 ) -> ReplayResult
-    ensures replayed { IsReplayed M.carries connections.old (map event_of events.now) (S.taken out.old) (S.taken out.new) (S.faults out.old) (S.faults out.new) connections.new result.end result.written }
+    ensures replayed { IsReplayed M.carries connections.old (map event_of events.now)
+        (S.taken out.old) (S.taken out.new) (S.faults out.old) (S.faults out.new) connections.new
+        result.end result.written }
     ensures fits { result.written < 2 ^ 127 }
 {
     let mut written: u128 = 0;

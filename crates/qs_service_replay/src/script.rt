@@ -2,7 +2,8 @@
 
 ghost use Rattle.std.specs.Prelude.{◌≡◌, map, MatchResult};
 ghost use Rattle.qs_service_replay.specs.inner.ScriptEvents.{event_of};
-ghost use Rattle.qs_service_replay.specs.Script.{IsScript, IsScriptFault};
+ghost use Rattle.qs_service_replay.specs.Script.{IsScript};
+ghost use Rattle.qs_service_replay.specs.inner.Script.{IsScriptFault};
 ghost use Rattle.qs_service_replay.specs.inner.Told.{IsToldAt};
 ghost use Rattle.qs_service_replay.specs.declared.script.ScriptFault.TheVariants.{Memory};
 
@@ -55,7 +56,8 @@ fn told(alloc: Global, line: &[u8], number: usize) -> Result<ScriptEvent, Script
 /// # Errors
 /// `Line` where a line tells no event, with the number of the first such line; `Memory` where memory runs out.
 pub fn read_script(alloc: Global, text: &[u8]) -> Result<Vec<ScriptEvent>, ScriptFault>
-    ensures { MatchResult result (λ events. IsScript text.now (map event_of events.items)) (λ fault. IsScriptFault text.now fault) }
+    ensures { MatchResult result (λ events. IsScript text.now (map event_of events.items))
+        (λ fault. IsScriptFault text.now fault) }
 {
     let mut events = Vec::new(alloc);
     let mut rest = text;

@@ -16,7 +16,8 @@ fn carry_out<M: Meaning>(
     connections: &mut Connections<M>,
     event: &ScriptEvent,
 ) -> Result<(), ServiceFault>
-    ensures { Step M.carries connections.old (event_of event.now) (result_err result) connections.new }
+    ensures { Step M.carries connections.old (event_of event.now) (result_err result)
+        connections.new }
 {
     match event {
         ScriptEvent::Join(id) => connections.join_conn(*id),
@@ -47,7 +48,8 @@ const PIECE: usize = 65_536;
 
 // Puts the bytes after the line, in hex.
 fn push_hex(alloc: Global, line: &mut String, bytes: &[u8]) -> Result<(), AllocError>
-    ensures { IfOk result (λ _. string_bytes line.new ≡ string_bytes line.old ++ encode_lower bytes.now) }
+    ensures { IfOk result (λ _. string_bytes line.new ≡ string_bytes line.old
+        ++ encode_lower bytes.now) }
 {
     line.reserve(bytes.len().saturating_mul(2))?;
     let mut rest = bytes;
@@ -88,8 +90,10 @@ pub(crate) fn told<M: Meaning>(
     line: usize,
     event: &ScriptEvent,
 ) -> Result<String, AllocError>
-    ensures { MatchResult result (λ text. spec.Tells M.carries connections.old line (event_of event.now) connections.new (string_bytes text))
-        (λ _. (text : List ℕ) × spec.Tells M.carries connections.old line (event_of event.now) connections.new text) }
+    ensures { MatchResult result (λ text. spec.Tells M.carries connections.old line
+        (event_of event.now) connections.new (string_bytes text))
+        (λ _. (text : List ℕ) × spec.Tells M.carries connections.old line (event_of event.now)
+        connections.new text) }
 {
     let had = has_reply(connections, event);
     match carry_out(connections, event) {

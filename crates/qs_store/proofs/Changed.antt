@@ -8,7 +8,7 @@ use Rattle.qs_terms.specs.Statement.{Statement}
 use Rattle.qs_terms.specs.declared.term.Term.{Term}
 use Rattle.qs_store.specs.inner.Entries.{entry_of, AreEntries, said}
 use Rattle.qs_store.specs.Change.{IsChanged}
-use Rattle.qs_store.specs.Content.{AreLawful}
+use Rattle.qs_store.specs.inner.Content.{AreLawful}
 use Rattle.qs_store.specs.inner.Store.{IsFront}
 use Rattle.qs_store.proofs.Members.{Entries, nothing, here, there, head_or_tail}
 use Rattle.qs_store.proofs.Entries.{EntryFor, entry_is, entry_says, entry_found, member_of_said, said_has, still_said, still_entries}

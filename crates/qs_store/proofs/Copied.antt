@@ -14,7 +14,7 @@ use Rattle.qs_terms.specs.Term.{same_term}
 use Rattle.qs_terms.specs.Statement.{Statement, is_graph}
 use Rattle.qs_terms.specs.declared.term.Term.{Term}
 use Rattle.qs_terms.proofs.SameStatement.{same_graph-Decides}
-use Rattle.qs_dict.specs.Dict.{term_at}
+use Rattle.qs_dict.specs.inner.Dict.{term_at}
 use Rattle.qs_index.specs.inner.Agreeing.{agrees}
 use Rattle.qs_index.specs.inner.Entries.{HaveFour}
 use Rattle.qs_index.specs.inner.Graph.{graph_of}

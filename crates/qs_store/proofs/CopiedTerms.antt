@@ -10,7 +10,7 @@ use Rattle.qs_terms.specs.Statement.{Statement}
 use Rattle.qs_terms.specs.declared.term.Term.{Term}
 use Rattle.qs_terms.proofs.SameTerm.{same_term-Decides}
 use Rattle.qs_store.specs.Change.{terms_of, with_terms, with_terms_of}
-use Rattle.qs_store.specs.Content.{HasKnownTerms}
+use Rattle.qs_store.specs.inner.Content.{HasKnownTerms}
 use Rattle.qs_store.specs.inner.Entries.{said, AreEntries}
 use Rattle.qs_store.specs.WholeGraphs.{is_in, in_graph, put_into, copies}
 use Rattle.qs_store.proofs.Copied.{map_only, any_has}

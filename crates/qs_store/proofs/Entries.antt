@@ -8,7 +8,7 @@ use Rattle.qs_terms.specs.Term.{same_term}
 use Rattle.qs_terms.specs.Statement.{Statement, fits_places}
 use Rattle.qs_terms.specs.declared.term.Term.{Term}
 use Rattle.qs_terms.specs.declared.term.Term.TheVariants.{Blank}
-use Rattle.qs_dict.specs.Dict.{term_at, number_of, IsInUse}
+use Rattle.qs_dict.specs.inner.Dict.{term_at, number_of, IsInUse}
 use Rattle.qs_terms.proofs.FirstOnes.{or_left_false, or_right_false}
 use Rattle.qs_dict.proofs.Numbers.{exact_number, keeps_front}
 use Rattle.qs_store.specs.inner.Entries.{statement_of, entry_of, four, graph_number, term_or, or_blank, IsEntryOf, IsPlaced, AreEntries, said}

@@ -1,6 +1,6 @@
 -- Which refusals are due.
 use Rattle.std.proofs.Common.{ℕ, ◌≤◌, arith}
-use Rattle.qs_store.specs.Change.{IsFullAt}
+use Rattle.qs_store.specs.inner.Change.{IsFullAt}
 use Rattle.qs_store.specs.declared.fault.StoreFault.{StoreFault}
 use Rattle.qs_store.specs.declared.fault.StoreFault.TheVariants.{Full, Memory}
 

@@ -10,7 +10,8 @@ use Rattle.qs_terms.specs.Dataset.{is_above_blanks}
 use Rattle.qs_terms.specs.Statement.{Statement, fits_places}
 use Rattle.qs_terms.specs.Term.{same_term}
 use Rattle.qs_terms.specs.declared.term.Term.{Term}
-use Rattle.qs_store.specs.Change.{IsChanged, IsFullAt, terms_of, with_terms, with_terms_of}
+use Rattle.qs_store.specs.Change.{IsChanged, terms_of, with_terms, with_terms_of}
+use Rattle.qs_store.specs.inner.Change.{IsFullAt}
 use Rattle.qs_store.specs.inner.Entries.{AreEntries, IsEntryOf, IsSaidBehind, said, statement_of, entry_of}
 use Rattle.qs_store.specs.inner.Layers.{drafted}
 use Rattle.qs_store.specs.inner.Store.{IsStore, IsFront}
@@ -69,6 +70,17 @@ settled_with i j k n r a ins d u v x = (
   λ c. ⊎_elim (λ m. inl ((settled i j k r a d u x).0 m, λ l. nothing x l)) (λ m. inr m) (v.only x c),
   λ h. ⊎_elim (λ o. v.has_old x ((settled i j k r a d u x).1 o.0)) (λ m. v.has_added x m) h,
 )
+
+-- where the draft adds nothing to a store that has nothing, they are all that there is
+pub settled_alone : (i n r a ins : Entries) → i ≡ [] → a ≡ [] → IsUnion [] ins n → IsChanged (drafted i r a) [] ins n
+settled_alone i n r a ins e f u =
+    subst (λ k. IsChanged (drafted k r a) [] ins n) (sym e) (subst (λ k. IsChanged (drafted [] r k) [] ins n) (sym f) alone)
+  where
+    alone : IsChanged [] [] ins n
+    alone x = (
+      λ c. ⊎_elim (λ m. absurd (nothing x m)) (λ m. inr m) (u.only x c),
+      λ h. ⊎_elim (λ o. absurd (nothing x o.0)) (λ m. u.has_added x m) h,
+    )
 
 pub entries_added : (terms : List Term) (old ins new : Entries) → AreEntries terms old → AreEntries terms ins → IsChanged old [] ins new → AreEntries terms new
 entries_added terms old ins new h g w x c = ⊎_elim (λ o. h x o.0) (λ m. g x m) ((w x).0 c)

@@ -7,7 +7,7 @@ use Rattle.qs_terms.specs.Bag.{Distinct}
 use Rattle.qs_terms.specs.Term.{same_term}
 use Rattle.qs_terms.specs.Statement.{Statement}
 use Rattle.qs_terms.specs.declared.term.Term.{Term}
-use Rattle.qs_dict.specs.Dict.{term_at}
+use Rattle.qs_dict.specs.inner.Dict.{term_at}
 use Rattle.qs_index.specs.inner.Graph.{is_named}
 use Rattle.qs_index.specs.inner.Permutation.{turned, named_order_used}
 use Rattle.qs_index.specs.declared.permutation.Permutation.{Permutation}

@@ -18,8 +18,9 @@ use Rattle.qs_terms.specs.Statement.{Statement, same_statement, fits_places}
 use Rattle.qs_terms.specs.declared.term.Term.{Term}
 use Rattle.qs_terms.specs.declared.term.Term.TheVariants.{Iri, Blank, Literal}
 use Rattle.qs_store.specs.Change.{IsChanged, with_terms_of, KnowsTermsOf}
-use Rattle.qs_dict.specs.Dict.{term_at}
-use Rattle.qs_store.specs.Content.{Content, HasKnownTerms, KnowsItsTerms, AreLawful}
+use Rattle.qs_dict.specs.inner.Dict.{term_at}
+use Rattle.qs_store.specs.Content.{Content}
+use Rattle.qs_store.specs.inner.Content.{HasKnownTerms, KnowsItsTerms, AreLawful}
 use Rattle.qs_store.specs.inner.Entries.{AreEntries, IsEntryOf, said, statement_of, entry_of, term_or}
 use Rattle.qs_store.specs.Same.{SameSet}
 use Rattle.qs_store.specs.inner.Store.{IsStore, IsFront}

@@ -10,7 +10,7 @@ use Rattle.qs_terms.specs.Bag.{Distinct, with_new}
 use Rattle.qs_terms.specs.Term.{same_term}
 use Rattle.qs_terms.specs.Statement.{Statement}
 use Rattle.qs_terms.specs.declared.term.Term.{Term}
-use Rattle.qs_dict.specs.Dict.{term_at, number_of}
+use Rattle.qs_dict.specs.inner.Dict.{term_at, number_of}
 use Rattle.qs_dict.proofs.Numbers.{exact_number, keeps_front}
 use Rattle.std.specs.List.{slice_get}
 use Rattle.std.proofs.Common.{◌||◌}
@@ -21,10 +21,11 @@ use Rattle.qs_dict.specs.declared.fault.DictFault.{DictFault}
 use Rattle.qs_dict.specs.declared.fault.DictFault.TheVariants as dict_fault
 use Rattle.qs_dict.specs.declared.fault.DictFault.TheVariants.{Full, Memory}
 use Rattle.qs_store.specs.inner.Fault.{store_fault_of}
-use Rattle.qs_store.specs.Change.{terms_of, with_terms, with_terms_of, IsFullAt}
+use Rattle.qs_store.specs.Change.{terms_of, with_terms, with_terms_of}
+use Rattle.qs_store.specs.inner.Change.{IsFullAt}
 use Rattle.qs_store.proofs.Entries.{four_some, number_in_use, Distinct-front}
 use Rattle.qs_store.specs.inner.Entries.{entry_of, graph_number}
-use Rattle.qs_store.specs.Content.{AreLawful}
+use Rattle.qs_store.specs.inner.Content.{AreLawful}
 use Rattle.qs_store.specs.inner.Store.{IsFront}
 use Rattle.std.proofs.Common.{IsTrue, ⊎_elim}
 use Rattle.std.specs.List.{Contains}

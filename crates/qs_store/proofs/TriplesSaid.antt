@@ -8,7 +8,7 @@ use Rattle.qs_terms.specs.Bag.{Distinct}
 use Rattle.qs_terms.specs.Term.{same_term}
 use Rattle.qs_terms.specs.Statement.{Statement}
 use Rattle.qs_terms.specs.declared.term.Term.{Term}
-use Rattle.qs_dict.specs.Dict.{term_at}
+use Rattle.qs_dict.specs.inner.Dict.{term_at}
 use Rattle.qs_dict.proofs.Numbers.{exact_number}
 use Rattle.qs_index.specs.inner.Agreeing.{fits}
 use Rattle.qs_index.specs.inner.Graph.{is_named}

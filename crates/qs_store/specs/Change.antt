@@ -1,16 +1,16 @@
 -- A change: quads are removed, and then others are added (SPARQL 1.1 Update, 4.3.1).
-use Rattle.std.specs.Prelude.{◌≡◌, ◌⊎◌, ◌↔◌, ℕ, ◌<◌, ◌≤◌, List, [], ◌∷◌, length, take, Result, Ok, Err}
+use Rattle.std.specs.Prelude.{◌≡◌, ◌⊎◌, ◌↔◌, List, [], ◌∷◌, length, take}
 use Rattle.std.specs.List.{Contains, cons_option, flat_map}
 use Rattle.qs_terms.specs.Bag.{SameBag, with_new}
 use Rattle.qs_terms.specs.Term.{same_term}
 use Rattle.qs_terms.specs.Statement.{Statement}
 use Rattle.qs_terms.specs.declared.term.Term.{Term}
-use Rattle.qs_store.specs.declared.fault.StoreFault.{StoreFault}
-use Rattle.qs_store.specs.declared.fault.StoreFault.TheVariants.{Full, Memory}
 
--- the old ones that aren't removed, together with those that are added; so one that is removed and added is there
+-- the old ones that aren't removed, together with those that are added; so one that is removed and
+-- added is there
 abbrev pub IsChanged : {X : Type 0} → List X → List X → List X → List X → Type 0
-IsChanged {X} old removed added new = (x : X) → Contains new x ↔ ((Contains old x × (¬ Contains removed x)) ⊎ Contains added x)
+IsChanged {X} old removed added new =
+    (x : X) → Contains new x ↔ ((Contains old x × (¬ Contains removed x)) ⊎ Contains added x)
 
 -- the terms of a quad
 abbrev pub terms_of : Statement → List Term
@@ -29,15 +29,3 @@ with_terms_of known quads = with_terms known (flat_map terms_of quads)
 pub record KnowsTermsOf (old : List Term) (quads : List Statement) (new : List Term) : Type 0 where
   pub front : take (length old) new ≡ old
   pub same : SameBag new (with_terms_of old quads)
-
--- a change that needs so many terms is done only where they are no more than the limit, and refused as full only where they are more;
--- running out of memory may come in place of either
-abbrev pub IsFullExactly : {X : Type 0} → ℕ → ℕ → Result X StoreFault → Type 0
-IsFullExactly limit wanted (Ok done) = wanted ≤ limit
-IsFullExactly limit wanted (Err Full) = limit < wanted
-IsFullExactly limit wanted (Err Memory) = Unit {0}
-
--- only full where the terms that are wanted are more than the limit
-abbrev pub IsFullAt : StoreFault → ℕ → ℕ → Type 0
-IsFullAt Full limit wanted = limit < wanted
-IsFullAt Memory limit wanted = Unit {0}

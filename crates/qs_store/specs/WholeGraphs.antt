@@ -1,4 +1,5 @@
--- Quads by their graphs (SPARQL 1.1 Update, 3.2). A named graph is there while a quad is in it; the default graph is always there.
+-- Quads by their graphs (SPARQL 1.1 Update, 3.2). A named graph is there while a quad is in it; the
+-- default graph is always there.
 use Rattle.std.specs.Prelude.{Bool, true, List, [], ◌++◌, map, Option, Some, None}
 use Rattle.std.specs.List.{filter, list_any}
 use Rattle.std.specs.Option.{is_some}
@@ -25,13 +26,15 @@ exists (Some name) quads = list_any (is_in (Some name)) quads
 
 -- the same triple in this graph
 abbrev pub put_into : Option Term → Statement → Statement
-put_into name q = record { graph = name; subject = q.subject; predicate = q.predicate; object = q.object }
+put_into name q =
+    record { graph = name; subject = q.subject; predicate = q.predicate; object = q.object }
 
 -- the quads of one graph, put into another
 abbrev pub copies : Option Term → Option Term → List Statement → List Statement
 copies from to quads = map (put_into to) (in_graph from quads)
 
--- the quads that are removed before: ADD removes none, COPY those of its target, MOVE those of its target and of its source
+-- the quads that are removed before: ADD removes none, COPY those of its target, MOVE those of its
+-- target and of its source
 abbrev pub removed_by : Removal → Option Term → Option Term → List Statement → List Statement
 removed_by removal.Nothing from to quads = []
 removed_by removal.Target from to quads = in_graph to quads

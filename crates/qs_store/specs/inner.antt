@@ -1,4 +1,4 @@
--- What layers and proofs read: the definitions of the headline cite none of it.
+-- For proofs and the layers between: no clause of the headline cites a definition of these files.
 pub mod ActiveGraph
 pub mod Entries
 pub mod Fault
@@ -14,3 +14,6 @@ pub mod Copied
 pub mod Emptied
 pub mod Missing
 pub mod Layers
+pub mod Change
+pub mod Content
+pub mod Visible

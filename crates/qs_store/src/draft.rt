@@ -9,9 +9,11 @@ ghost use Rattle.qs_terms.specs.Dataset.{is_above_blanks, is_graph_below};
 ghost use Rattle.qs_terms.specs.Statement.{Statement, fits_places, is_graph};
 ghost use Rattle.qs_terms.specs.declared.term.Term.{Term};
 ghost use Rattle.qs_expr_values.specs.inner.TermValue.{term_value};
-ghost use Rattle.qs_dict.specs.Dict.{IsInUse, IsDictionary, term_at, number_of};
-ghost use Rattle.qs_store.specs.Change.{IsChanged, KnowsTermsOf, IsFullExactly, IsFullAt, with_terms_of};
-ghost use Rattle.qs_store.specs.Content.{Content, Held, AreLawful, IsContent, KnowsItsTerms};
+ghost use Rattle.qs_dict.specs.inner.Dict.{IsInUse, IsDictionary, term_at, number_of};
+ghost use Rattle.qs_store.specs.Change.{IsChanged, KnowsTermsOf, with_terms_of};
+ghost use Rattle.qs_store.specs.inner.Change.{IsFullExactly, IsFullAt};
+ghost use Rattle.qs_store.specs.Content.{Content, Held};
+ghost use Rattle.qs_store.specs.inner.Content.{AreLawful, IsContent, KnowsItsTerms};
 ghost use Rattle.qs_store.specs.inner.Entries.{said, entry_of, AreEntries, IsSaidBehind};
 ghost use Rattle.qs_store.specs.inner.Graphs.{AreGraphs};
 ghost use Rattle.qs_store.specs.inner.References.{referred_quad, IsReferredQuad};
@@ -65,7 +67,8 @@ impl<'a> Draft<'a> {
         predicate: Option<u32>,
         object: Option<u32>,
     ) -> Triples<'_>
-        ensures { AreTriples self.now.store.now.draft self.now.store.now.default_graph active subject predicate object result }
+        ensures { AreTriples self.now.store.now.draft self.now.store.now.default_graph active
+            subject predicate object result }
     {
         let store: &Store = self.store;
         store.scan_draft(active, subject, predicate, object)
@@ -80,7 +83,8 @@ impl<'a> Draft<'a> {
         predicate: Option<u32>,
         object: Option<u32>,
     ) -> Triples<'_>
-        ensures { AreTriplesAnyhow self.now.store.now.draft self.now.store.now.default_graph active subject predicate object result }
+        ensures { AreTriplesAnyhow self.now.store.now.draft self.now.store.now.default_graph active
+            subject predicate object result }
     {
         self.scan(active, subject, predicate, object)
     }
@@ -181,7 +185,8 @@ impl<'a> Draft<'a> {
     /// What the term with the number, which is in use, is worth. It takes no memory, and the term's text isn't read.
     pub fn value(&self, number: u32) -> TermValue
         requires { IsInUse self.now.store.now.draft.known number }
-        ensures { option_map term_value (term_at self.now.store.now.draft.known number) ≡ Some result }
+        ensures { option_map term_value (term_at self.now.store.now.draft.known number)
+            ≡ Some result }
     {
         let store: &Store = self.store;
         store.draft_value(number)
@@ -225,14 +230,20 @@ impl<'a> Draft<'a> {
         requires above { IsTrue (is_above_blanks next add.now) }
         ensures same_reference { self.new.store.ghost_name ≡ self.old.store.ghost_name }
         ensures base { self.new.store.now.base ≡ self.old.store.now.base }
-        ensures quads { OnOk result (IsChanged self.old.store.now.draft.quads remove.now add.now self.new.store.now.draft.quads) }
+        ensures quads { OnOk result (IsChanged self.old.store.now.draft.quads remove.now add.now
+            self.new.store.now.draft.quads) }
         ensures next { OnOk result (self.new.store.now.draft.next ≡ next) }
-        ensures known { OnOk result (KnowsTermsOf self.old.store.now.draft.known add.now self.new.store.now.draft.known) }
-        ensures in_turn { OnOk result (self.new.store.now.draft.known ≡ with_terms_of self.old.store.now.draft.known add.now) }
-        ensures full { IsFullExactly self.old.store.now.limit (length (with_terms_of self.old.store.now.draft.known add.now)) result }
+        ensures known { OnOk result
+            (KnowsTermsOf self.old.store.now.draft.known add.now self.new.store.now.draft.known) }
+        ensures in_turn { OnOk result
+            (self.new.store.now.draft.known ≡ with_terms_of self.old.store.now.draft.known
+            add.now) }
+        ensures full { IsFullExactly self.old.store.now.limit
+            (length (with_terms_of self.old.store.now.draft.known add.now)) result }
         ensures refused { OnErr result (self.new.store.now.draft ≡ self.old.store.now.draft) }
         ensures limit { self.new.store.now.limit ≡ self.old.store.now.limit }
-        ensures default_graph { self.new.store.now.default_graph ≡ self.old.store.now.default_graph }
+        ensures default_graph { self.new.store.now.default_graph
+            ≡ self.old.store.now.default_graph }
     {
         self.store.change_draft(remove, add, next)
     }
@@ -251,14 +262,19 @@ impl<'a> Draft<'a> {
     pub fn clear_graph(&mut self, name: Option<&Term>) -> Result<(), StoreFault>
         ensures same_reference { self.new.store.ghost_name ≡ self.old.store.ghost_name }
         ensures base { self.new.store.now.base ≡ self.old.store.now.base }
-        ensures quads { OnOk result (IsChanged self.old.store.now.draft.quads (in_graph (option_copied name.entry) self.old.store.now.draft.quads) [] self.new.store.now.draft.quads) }
+        ensures quads { OnOk result
+            (IsChanged self.old.store.now.draft.quads
+            (in_graph (option_copied name.entry) self.old.store.now.draft.quads) []
+            self.new.store.now.draft.quads) }
         ensures next { self.new.store.now.draft.next ≡ self.old.store.now.draft.next }
         ensures known { self.new.store.now.draft.known ≡ self.old.store.now.draft.known }
-        ensures room { OnOk result (length self.old.store.now.draft.known ≤ self.old.store.now.limit) }
+        ensures room { OnOk result
+            (length self.old.store.now.draft.known ≤ self.old.store.now.limit) }
         ensures memory { IfErr result (λ fault. fault ≡ Memory) }
         ensures refused { OnErr result (self.new.store.now.draft ≡ self.old.store.now.draft) }
         ensures limit { self.new.store.now.limit ≡ self.old.store.now.limit }
-        ensures default_graph { self.new.store.now.default_graph ≡ self.old.store.now.default_graph }
+        ensures default_graph { self.new.store.now.default_graph
+            ≡ self.old.store.now.default_graph }
     {
         self.store.clear_draft_graph(name)
     }
@@ -267,14 +283,19 @@ impl<'a> Draft<'a> {
     pub fn clear_named(&mut self) -> Result<(), StoreFault>
         ensures same_reference { self.new.store.ghost_name ≡ self.old.store.ghost_name }
         ensures base { self.new.store.now.base ≡ self.old.store.now.base }
-        ensures quads { OnOk result (IsChanged self.old.store.now.draft.quads (filter is_named self.old.store.now.draft.quads) [] self.new.store.now.draft.quads) }
+        ensures quads { OnOk result
+            (IsChanged self.old.store.now.draft.quads
+            (filter is_named self.old.store.now.draft.quads) []
+            self.new.store.now.draft.quads) }
         ensures next { self.new.store.now.draft.next ≡ self.old.store.now.draft.next }
         ensures known { self.new.store.now.draft.known ≡ self.old.store.now.draft.known }
-        ensures room { OnOk result (length self.old.store.now.draft.known ≤ self.old.store.now.limit) }
+        ensures room { OnOk result
+            (length self.old.store.now.draft.known ≤ self.old.store.now.limit) }
         ensures memory { IfErr result (λ fault. fault ≡ Memory) }
         ensures refused { OnErr result (self.new.store.now.draft ≡ self.old.store.now.draft) }
         ensures limit { self.new.store.now.limit ≡ self.old.store.now.limit }
-        ensures default_graph { self.new.store.now.default_graph ≡ self.old.store.now.default_graph }
+        ensures default_graph { self.new.store.now.default_graph
+            ≡ self.old.store.now.default_graph }
     {
         self.store.clear_draft_named()
     }
@@ -283,14 +304,18 @@ impl<'a> Draft<'a> {
     pub fn clear_all(&mut self) -> Result<(), StoreFault>
         ensures same_reference { self.new.store.ghost_name ≡ self.old.store.ghost_name }
         ensures base { self.new.store.now.base ≡ self.old.store.now.base }
-        ensures quads { OnOk result (IsChanged self.old.store.now.draft.quads self.old.store.now.draft.quads [] self.new.store.now.draft.quads) }
+        ensures quads { OnOk result
+            (IsChanged self.old.store.now.draft.quads self.old.store.now.draft.quads []
+            self.new.store.now.draft.quads) }
         ensures next { self.new.store.now.draft.next ≡ self.old.store.now.draft.next }
         ensures known { self.new.store.now.draft.known ≡ self.old.store.now.draft.known }
-        ensures room { OnOk result (length self.old.store.now.draft.known ≤ self.old.store.now.limit) }
+        ensures room { OnOk result
+            (length self.old.store.now.draft.known ≤ self.old.store.now.limit) }
         ensures memory { IfErr result (λ fault. fault ≡ Memory) }
         ensures refused { OnErr result (self.new.store.now.draft ≡ self.old.store.now.draft) }
         ensures limit { self.new.store.now.limit ≡ self.old.store.now.limit }
-        ensures default_graph { self.new.store.now.default_graph ≡ self.old.store.now.default_graph }
+        ensures default_graph { self.new.store.now.default_graph
+            ≡ self.old.store.now.default_graph }
     {
         self.store.clear_draft_all()
     }
@@ -310,13 +335,26 @@ impl<'a> Draft<'a> {
         requires above { IsTrue (is_graph_below self.old.store.now.draft.next (option_copied to)) }
         ensures same_reference { self.new.store.ghost_name ≡ self.old.store.ghost_name }
         ensures base { self.new.store.now.base ≡ self.old.store.now.base }
-        ensures quads { OnOk result (IsChanged self.old.store.now.draft.quads (removed_by removal (option_copied from.entry) (option_copied to.entry) self.old.store.now.draft.quads) (copies (option_copied from.entry) (option_copied to.entry) self.old.store.now.draft.quads) self.new.store.now.draft.quads) }
+        ensures quads { OnOk result
+            (IsChanged self.old.store.now.draft.quads
+            (removed_by removal (option_copied from.entry) (option_copied to.entry)
+            self.old.store.now.draft.quads)
+            (copies (option_copied from.entry) (option_copied to.entry)
+            self.old.store.now.draft.quads) self.new.store.now.draft.quads) }
         ensures next { self.new.store.now.draft.next ≡ self.old.store.now.draft.next }
-        ensures known { OnOk result (KnowsTermsOf self.old.store.now.draft.known (copies (option_copied from.entry) (option_copied to.entry) self.old.store.now.draft.quads) self.new.store.now.draft.known) }
-        ensures full { IsFullExactly self.old.store.now.limit (length (with_terms_of self.old.store.now.draft.known (copies (option_copied from.entry) (option_copied to.entry) self.old.store.now.draft.quads))) result }
+        ensures known { OnOk result
+            (KnowsTermsOf self.old.store.now.draft.known
+            (copies (option_copied from.entry) (option_copied to.entry)
+            self.old.store.now.draft.quads) self.new.store.now.draft.known) }
+        ensures full { IsFullExactly self.old.store.now.limit
+            (length
+            (with_terms_of self.old.store.now.draft.known
+            (copies (option_copied from.entry) (option_copied to.entry)
+            self.old.store.now.draft.quads))) result }
         ensures refused { OnErr result (self.new.store.now.draft ≡ self.old.store.now.draft) }
         ensures limit { self.new.store.now.limit ≡ self.old.store.now.limit }
-        ensures default_graph { self.new.store.now.default_graph ≡ self.old.store.now.default_graph }
+        ensures default_graph { self.new.store.now.default_graph
+            ≡ self.old.store.now.default_graph }
     {
         self.store.transfer_draft(removal, from, to)
     }
@@ -331,12 +369,21 @@ impl<'a> Draft<'a> {
         ensures next { self.new.store.now.draft.next ≡ self.old.store.now.draft.next }
 
         // Entries over the terms that were known, with this one after them, say what they said, with the quad after it.
-        ensures said { IfOk result (λ entry. (entries : List (List ℕ)) → AreEntries self.old.store.now.draft.known entries → IsSaidBehind self.old.store.now.draft.known entries quad.now self.new.store.now.draft.known entry) }
-        ensures known { OnOk result ((first : List Term) (quads : List Statement) → self.old.store.now.draft.known ≡ with_terms_of first quads → self.new.store.now.draft.known ≡ with_terms_of first (quads ++ quad.now ∷ [])) }
-        ensures full { IfErr result (λ fault. (first : List Term) (quads more : List Statement) → self.old.store.now.draft.known ≡ with_terms_of first quads → IsFullAt fault self.old.store.now.limit (length (with_terms_of first (quads ++ quad.now ∷ more)))) }
+        ensures said { IfOk result (λ entry. (entries : List (List ℕ))
+            → AreEntries self.old.store.now.draft.known entries
+            → IsSaidBehind self.old.store.now.draft.known entries quad.now
+            self.new.store.now.draft.known entry) }
+        ensures known { OnOk result ((first : List Term) (quads : List Statement)
+            → self.old.store.now.draft.known ≡ with_terms_of first quads
+            → self.new.store.now.draft.known ≡ with_terms_of first (quads ++ quad.now ∷ [])) }
+        ensures full { IfErr result (λ fault. (first : List Term) (quads more : List Statement)
+            → self.old.store.now.draft.known ≡ with_terms_of first quads
+            → IsFullAt fault self.old.store.now.limit
+            (length (with_terms_of first (quads ++ quad.now ∷ more)))) }
         ensures refused { OnErr result (self.new.store.now.draft ≡ self.old.store.now.draft) }
         ensures limit { self.new.store.now.limit ≡ self.old.store.now.limit }
-        ensures default_graph { self.new.store.now.default_graph ≡ self.old.store.now.default_graph }
+        ensures default_graph { self.new.store.now.default_graph
+            ≡ self.old.store.now.default_graph }
     {
         self.store.number_in_draft(quad)
     }
@@ -345,7 +392,8 @@ impl<'a> Draft<'a> {
     /// memory.
     pub fn fits(&self, quad: QuadRef<'_>) -> bool
         requires { IsReferredQuad self.now.store.now.draft.known quad }
-        ensures { let q = referred_quad self.now.store.now.draft.known quad.entry in result ≡ fits_places q.graph q.subject q.predicate }
+        ensures { let q = referred_quad self.now.store.now.draft.known quad.entry
+            in result ≡ fits_places q.graph q.subject q.predicate }
     {
         let store: &Store = self.store;
         store.draft_fits(quad)
@@ -355,7 +403,8 @@ impl<'a> Draft<'a> {
     /// isn't looked up. It takes no memory.
     pub fn entry(&self, quad: QuadRef<'_>) -> Option<[u32; 4]>
         requires { IsReferredQuad self.now.store.now.draft.known quad }
-        ensures { result ≡ entry_of self.now.store.now.draft.known (referred_quad self.now.store.now.draft.known quad.entry) }
+        ensures { result ≡ entry_of self.now.store.now.draft.known
+            (referred_quad self.now.store.now.draft.known quad.entry) }
     {
         let store: &Store = self.store;
         store.draft_entry(quad)
@@ -365,17 +414,31 @@ impl<'a> Draft<'a> {
     /// its terms may stand in their places.
     pub fn number_ref(&mut self, quad: QuadRef<'_>) -> Result<[u32; 4], StoreFault>
         requires numbers { IsReferredQuad self.old.store.now.draft.known quad }
-        requires fits { let q = referred_quad self.old.store.now.draft.known quad in IsTrue (fits_places q.graph q.subject q.predicate) }
+        requires fits { let q = referred_quad self.old.store.now.draft.known quad
+            in IsTrue (fits_places q.graph q.subject q.predicate) }
         ensures same_reference { self.new.store.ghost_name ≡ self.old.store.ghost_name }
         ensures base { self.new.store.now.base ≡ self.old.store.now.base }
         ensures quads { self.new.store.now.draft.quads ≡ self.old.store.now.draft.quads }
         ensures next { self.new.store.now.draft.next ≡ self.old.store.now.draft.next }
-        ensures said { IfOk result (λ entry. (entries : List (List ℕ)) → AreEntries self.old.store.now.draft.known entries → IsSaidBehind self.old.store.now.draft.known entries (referred_quad self.old.store.now.draft.known quad.entry) self.new.store.now.draft.known entry) }
-        ensures known { OnOk result ((first : List Term) (quads : List Statement) → self.old.store.now.draft.known ≡ with_terms_of first quads → self.new.store.now.draft.known ≡ with_terms_of first (quads ++ referred_quad self.old.store.now.draft.known quad.entry ∷ [])) }
-        ensures full { IfErr result (λ fault. (first : List Term) (quads more : List Statement) → self.old.store.now.draft.known ≡ with_terms_of first quads → IsFullAt fault self.old.store.now.limit (length (with_terms_of first (quads ++ referred_quad self.old.store.now.draft.known quad.entry ∷ more)))) }
+        ensures said { IfOk result (λ entry. (entries : List (List ℕ))
+            → AreEntries self.old.store.now.draft.known entries
+            → IsSaidBehind self.old.store.now.draft.known entries
+            (referred_quad self.old.store.now.draft.known quad.entry)
+            self.new.store.now.draft.known entry) }
+        ensures known { OnOk result ((first : List Term) (quads : List Statement)
+            → self.old.store.now.draft.known ≡ with_terms_of first quads
+            → self.new.store.now.draft.known ≡ with_terms_of first
+            (quads ++ referred_quad self.old.store.now.draft.known quad.entry ∷ [])) }
+        ensures full { IfErr result (λ fault. (first : List Term) (quads more : List Statement)
+            → self.old.store.now.draft.known ≡ with_terms_of first quads
+            → IsFullAt fault self.old.store.now.limit
+            (length
+            (with_terms_of first
+            (quads ++ referred_quad self.old.store.now.draft.known quad.entry ∷ more)))) }
         ensures refused { OnErr result (self.new.store.now.draft ≡ self.old.store.now.draft) }
         ensures limit { self.new.store.now.limit ≡ self.old.store.now.limit }
-        ensures default_graph { self.new.store.now.default_graph ≡ self.old.store.now.default_graph }
+        ensures default_graph { self.new.store.now.default_graph
+            ≡ self.old.store.now.default_graph }
     {
         self.store.number_ref_in_draft(quad)
     }
@@ -391,17 +454,22 @@ impl<'a> Draft<'a> {
         requires removed { AreEntries self.old.store.now.draft.known remove.old }
         requires added { AreEntries self.old.store.now.draft.known add.old }
         requires next { self.old.store.now.draft.next ≤ next }
-        requires above { IsTrue (is_above_blanks next (said self.old.store.now.draft.known add.old)) }
+        requires above { IsTrue
+            (is_above_blanks next (said self.old.store.now.draft.known add.old)) }
         ensures same_reference { self.new.store.ghost_name ≡ self.old.store.ghost_name }
         ensures base { self.new.store.now.base ≡ self.old.store.now.base }
-        ensures quads { OnOk result (IsChanged self.old.store.now.draft.quads (said self.old.store.now.draft.known remove.old) (said self.old.store.now.draft.known add.old) self.new.store.now.draft.quads) }
+        ensures quads { OnOk result
+            (IsChanged self.old.store.now.draft.quads
+            (said self.old.store.now.draft.known remove.old)
+            (said self.old.store.now.draft.known add.old) self.new.store.now.draft.quads) }
         ensures next { OnOk result (self.new.store.now.draft.next ≡ next) }
         ensures known { self.new.store.now.draft.known ≡ self.old.store.now.draft.known }
         ensures room { length self.old.store.now.draft.known ≤ self.old.store.now.limit }
         ensures memory { IfErr result (λ fault. fault ≡ Memory) }
         ensures refused { OnErr result (self.new.store.now.draft ≡ self.old.store.now.draft) }
         ensures limit { self.new.store.now.limit ≡ self.old.store.now.limit }
-        ensures default_graph { self.new.store.now.default_graph ≡ self.old.store.now.default_graph }
+        ensures default_graph { self.new.store.now.default_graph
+            ≡ self.old.store.now.default_graph }
     {
         self.store.change_draft_entries(remove, add, next)
     }
@@ -412,11 +480,16 @@ impl<'a> Draft<'a> {
     pub fn commit_with(self, entries: &mut [[u32; 4]], next: u64) -> Result<(), StoreFault>
         requires entries { AreEntries self.store.now.draft.known entries.old }
         requires next { self.store.now.draft.next ≤ next }
-        requires above { IsTrue (is_above_blanks next (said self.store.now.draft.known entries.old)) }
-        ensures quads { OnOk result (IsChanged self.entry.store.now.draft.quads [] (said self.entry.store.now.draft.known entries.old) self.exit.0.now.base.quads) }
+        requires above { IsTrue
+            (is_above_blanks next (said self.store.now.draft.known entries.old)) }
+        ensures quads { OnOk result
+            (IsChanged self.entry.store.now.draft.quads []
+            (said self.entry.store.now.draft.known entries.old) self.exit.0.now.base.quads) }
         ensures next { OnOk result (self.exit.0.now.base.next ≡ next) }
-        ensures known { OnOk result (self.exit.0.now.base.known ≡ self.entry.store.now.draft.known) }
-        ensures room { OnOk result (length self.exit.0.now.base.known ≤ self.entry.store.now.limit) }
+        ensures known { OnOk result
+            (self.exit.0.now.base.known ≡ self.entry.store.now.draft.known) }
+        ensures room { OnOk result
+            (length self.exit.0.now.base.known ≤ self.entry.store.now.limit) }
         ensures memory { IfErr result (λ fault. fault ≡ Memory) }
         ensures refused { OnErr result (self.exit.0.now.base ≡ self.entry.store.now.base) }
         ensures limit { self.exit.0.now.limit ≡ self.entry.store.now.limit }

@@ -92,7 +92,8 @@ fn sum(count: u128, more: usize) -> Result<usize, AllocError>
 /// How many entries the index will have at most with so many more.
 fn with_more(index: &Index, more: Counts) -> Result<Counts, AllocError>
     ensures all { IfOk result (λ most. most.all ≡ length index.now.entries + more.all) }
-    ensures named { IfOk result (λ most. most.named ≡ length (named_entries index.now.entries) + more.named) }
+    ensures named { IfOk result (λ most. most.named ≡ length (named_entries index.now.entries)
+        + more.named) }
 {
     let all = sum(index.len(), more.all)?;
     let named = sum(index.named_len(), more.named)?;
@@ -128,14 +129,16 @@ fn put_all(index: &mut Index, added: &Index, batch: &mut [[u32; 4]])
     requires named_spare { length (named_entries added.now.entries) ≤ index.old.named_spare }
     ensures union { IsUnion index.old.entries added.now.entries index.new.entries }
     ensures spare { index.old.spare ≤ index.new.spare + length added.now.entries }
-    ensures named_spare { index.old.named_spare ≤ index.new.named_spare + length (named_entries added.now.entries) }
+    ensures named_spare { index.old.named_spare ≤ index.new.named_spare
+        + length (named_entries added.now.entries) }
 {
     index.insert_all_of(added, batch);
 }
 
-/// Makes the index what a draft of it would make it, by way of `batch`, and puts the entries in, too. Where it is refused the entries of
-/// the index stay.
+/// Makes the index what a draft of it would make it, by way of `batch`, and puts the entries in, too. Where there are neither entries of the
+/// index nor added ones it is made of these alone, which sets no room aside. Where it is refused the entries of the index stay.
 fn put_together(
+    alloc: Global,
     index: &mut Index,
     removed: &Index,
     added: &Index,
@@ -144,12 +147,19 @@ fn put_together(
 ) -> Result<(), AllocError>
     requires removed { length removed.now.entries ≤ length batch.old }
     requires added { length added.now.entries ≤ length batch.old }
-    ensures changed { OnOk result (IsChanged (drafted index.old.entries removed.now.entries added.now.entries) [] entries.old index.new.entries) }
+    ensures changed { OnOk result
+        (IsChanged (drafted index.old.entries removed.now.entries added.now.entries) [] entries.old
+        index.new.entries) }
     ensures once { OnOk result (IsAscending index.new.entries) }
     ensures refused { OnErr result (index.new.entries ≡ index.old.entries) }
     ensures spare { OnErr result (index.old.spare ≤ index.new.spare) }
     ensures named_spare { OnErr result (index.old.named_spare ≤ index.new.named_spare) }
 {
+    if index.len() == 0 && added.len() == 0 {
+        let made = Index::from_entries(alloc, entries)?;
+        set(index, made);
+        return Ok(());
+    }
     let most = with_more(added, count(entries))?;
     reserve(index, most)?;
     take_all(index, removed, batch);
@@ -194,7 +204,8 @@ fn may_be_missing(
     from: &mut PagePosition,
     entry: &[u32; 4],
 ) -> bool
-    ensures { IsTrue result ↔ MayBeMissing index.now.entries removed.now.entries taken.now entry.now }
+    ensures { IsTrue result ↔ MayBeMissing index.now.entries removed.now.entries taken.now
+        entry.now }
 {
     !taken.is_empty() || is_missing(index, removed, from, entry)
 }
@@ -207,7 +218,9 @@ fn missing(
     taken: &[[u32; 4]],
     entries: &[[u32; 4]],
 ) -> Result<Vec<[u32; 4]>, AllocError>
-    ensures { IfOk result (λ part. IsPartOf entries.now part.items (MayBeMissing index.now.entries removed.now.entries taken.now)) }
+    ensures { IfOk result
+        (λ part. IsPartOf entries.now part.items
+        (MayBeMissing index.now.entries removed.now.entries taken.now)) }
 {
     let mut part = Vec::new(alloc);
     let mut from = FRONT;
@@ -222,7 +235,8 @@ fn missing(
 /// Writes those of the entries that are missing to the front of `batch`, and tells how many they are.
 fn gather(batch: &mut [[u32; 4]], index: &Index, removed: &Index, entries: &[[u32; 4]]) -> usize
     requires { length entries.now ≤ length batch.old }
-    ensures part { IsPartOf entries.now (take result batch.new) (IsMissing index.now.entries removed.now.entries) }
+    ensures part { IsPartOf entries.now (take result batch.new)
+        (IsMissing index.now.entries removed.now.entries) }
     ensures count { result ≤ length batch.new }
 {
     let mut count: usize = 0;
@@ -248,8 +262,10 @@ fn put_missing(
     requires batch { length entries.old ≤ length batch.old }
     requires spare { length entries.old ≤ added.old.spare }
     requires named_spare { length (named_entries entries.old) ≤ added.old.named_spare }
-    requires missing { IsTrue are_missing → (x : List ℕ) → Contains entries.old x → IsMissing index.now.entries removed.now.entries x }
-    ensures union { IsUnionWith added.old.entries entries.old (IsMissing index.now.entries removed.now.entries) added.new.entries }
+    requires missing { IsTrue are_missing → (x : List ℕ) → Contains entries.old x
+        → IsMissing index.now.entries removed.now.entries x }
+    ensures union { IsUnionWith added.old.entries entries.old
+        (IsMissing index.now.entries removed.now.entries) added.new.entries }
 {
     if are_missing {
         added.insert_all(entries);
@@ -325,7 +341,8 @@ fn listed(alloc: Global, scan: Scan<'_>) -> Result<Vec<[u32; 4]>, AllocError>
 
 /// The entries of a graph in the index.
 fn graph_entries(alloc: Global, index: &Index, graph: u32) -> Result<Vec<[u32; 4]>, AllocError>
-    ensures same { IfOk result (λ found. IsPermutation (agreeing graph None None None index.now.entries) found.items) }
+    ensures same { IfOk result
+        (λ found. IsPermutation (agreeing graph None None None index.now.entries) found.items) }
     ensures four { HaveFour index.now.entries }
 {
     let _each = index.entries();
@@ -366,9 +383,11 @@ fn remove_graph(
 ) -> Result<(), AllocError>
     requires removal { IsRemoval index.now.entries removed.old.entries }
     requires emptied { AreEmptied index.now.entries removed.old.entries emptied.now }
-    ensures removes { OnOk result (RemovesGraph graph index.now.entries removed.old.entries removed.new.entries) }
+    ensures removes { OnOk result
+        (RemovesGraph graph index.now.entries removed.old.entries removed.new.entries) }
     ensures refused { OnErr result (removed.new.entries ≡ removed.old.entries) }
-    ensures room { OnOk result (length removed.old.entries ≤ length batch.old.items → length removed.new.entries ≤ length batch.new.items) }
+    ensures room { OnOk result (length removed.old.entries ≤ length batch.old.items
+        → length removed.new.entries ≤ length batch.new.items) }
     ensures kept { length batch.old.items ≤ length batch.new.items }
 {
     if are_out(index, removed, emptied, Graphs::One(graph)) {
@@ -656,7 +675,14 @@ impl Layers {
         ensures draft_refused { OnErr result (self.new.draft ≡ self.old.draft) }
     {
         let batch = self.batch.as_mut_slice();
-        match put_together(&mut self.index, &self.removed, &self.added, batch, entries) {
+        match put_together(
+            self.alloc,
+            &mut self.index,
+            &self.removed,
+            &self.added,
+            batch,
+            entries,
+        ) {
             Ok(()) => {
                 self.index.release();
                 set(&mut self.removed, Index::new(self.alloc));

@@ -49,7 +49,8 @@ impl<'a> Merged<'a> {
         removed: Scan<'a>,
         added: Scan<'a>,
     ) -> Merged<'a>
-        ensures { result ≡ merged (turned order) (without entries.entry.rest removed.entry.rest) added.entry.rest }
+        ensures { result ≡ merged (turned order) (without entries.entry.rest removed.entry.rest)
+            added.entry.rest }
     {
         let mut kept = Kept::new(entries, removed);
         let next_kept = kept.next();

@@ -60,8 +60,10 @@ fn has(index: &Index, graph: u32) -> bool
 fn has_left(index: &Index, removed: &Index, added: &Index, graph: u32) -> bool
     requires draft { IsDraft index.now.entries removed.now.entries added.now.entries }
     requires four { HaveFour (drafted index.now.entries removed.now.entries added.now.entries) }
-    ensures held { IsTrue result → HasGraph (drafted index.now.entries removed.now.entries added.now.entries) graph }
-    ensures empty { HasGraph (drafted index.now.entries removed.now.entries added.now.entries) graph → IsTrue result }
+    ensures held { IsTrue result
+        → HasGraph (drafted index.now.entries removed.now.entries added.now.entries) graph }
+    ensures empty { HasGraph (drafted index.now.entries removed.now.entries added.now.entries) graph
+        → IsTrue result }
 {
     let mut triples = Triples::of_draft(
         index,
@@ -83,8 +85,10 @@ pub fn holds(index: &Index, removed: &Index, added: &Index, emptied: &Emptied, g
     requires draft { IsDraft index.now.entries removed.now.entries added.now.entries }
     requires out { AreEmptied index.now.entries removed.now.entries emptied.now }
     requires four { HaveFour (drafted index.now.entries removed.now.entries added.now.entries) }
-    ensures held { IsTrue result → HasGraph (drafted index.now.entries removed.now.entries added.now.entries) graph }
-    ensures empty { HasGraph (drafted index.now.entries removed.now.entries added.now.entries) graph → IsTrue result }
+    ensures held { IsTrue result
+        → HasGraph (drafted index.now.entries removed.now.entries added.now.entries) graph }
+    ensures empty { HasGraph (drafted index.now.entries removed.now.entries added.now.entries) graph
+        → IsTrue result }
 {
     if are_out(index, removed, emptied, Graphs::One(graph)) {
         return has(added, graph);
@@ -103,7 +107,9 @@ pub fn graphs_in_draft(
     requires draft { IsDraft index.now.entries removed.now.entries added.now.entries }
     requires out { AreEmptied index.now.entries removed.now.entries emptied.now }
     requires four { HaveFour (drafted index.now.entries removed.now.entries added.now.entries) }
-    ensures { IfOk result (λ graphs. AreGraphsOf (drafted index.now.entries removed.now.entries added.now.entries) graphs.items) }
+    ensures { IfOk result
+        (λ graphs. AreGraphsOf (drafted index.now.entries removed.now.entries added.now.entries)
+        graphs.items) }
 {
     let mut graphs = Vec::new(alloc);
     let mut after = 0;

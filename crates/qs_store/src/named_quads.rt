@@ -63,7 +63,8 @@ impl<'a> NamedQuads<'a> {
         object: Option<u32>,
     ) -> NamedQuads<'a>
         requires draft { IsDraft index.now.entries removed.now.entries added.now.entries }
-        ensures { AreNamedQuadsOf subject predicate object (drafted index.now.entries removed.now.entries added.now.entries) result }
+        ensures { AreNamedQuadsOf subject predicate object
+            (drafted index.now.entries removed.now.entries added.now.entries) result }
     {
         let lookup = Lookup::of_named(subject, predicate, object);
         let entries = Merged::new(

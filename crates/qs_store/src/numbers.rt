@@ -7,10 +7,11 @@ ghost use Rattle.qs_terms.specs.Bag.{with_new};
 ghost use Rattle.qs_terms.specs.Statement.{fits_places};
 ghost use Rattle.qs_terms.specs.Term.{same_term};
 ghost use Rattle.qs_terms.specs.declared.term.Term.{Term};
-ghost use Rattle.qs_dict.specs.Dict.{IsDictionary, number_of};
-ghost use Rattle.qs_store.specs.Change.{terms_of, with_terms, with_terms_of, IsFullAt};
+ghost use Rattle.qs_dict.specs.inner.Dict.{IsDictionary, number_of};
+ghost use Rattle.qs_store.specs.Change.{terms_of, with_terms, with_terms_of};
+ghost use Rattle.qs_store.specs.inner.Change.{IsFullAt};
 ghost use Rattle.qs_store.specs.inner.Entries.{entry_of, graph_number};
-ghost use Rattle.qs_store.specs.Content.{AreLawful};
+ghost use Rattle.qs_store.specs.inner.Content.{AreLawful};
 ghost use Rattle.qs_store.specs.inner.References.{referred, IsReferred, referred_graph, IsReferredGraph, referred_quad, IsReferredQuad};
 ghost use Rattle.qs_store.specs.inner.Store.{IsFront};
 
@@ -43,7 +44,8 @@ pub fn entry_of(dict: &Dict, quad: &Quad) -> Option<[u32; 4]>
 
 /// The entries of those of the quads whose terms all have numbers.
 pub fn entries_of(alloc: Global, dict: &Dict, quads: &[Quad]) -> Result<Vec<[u32; 4]>, AllocError>
-    ensures { IfOk result (λ entries. entries.items ≡ filter_map (entry_of dict.now.terms) quads.now) }
+    ensures { IfOk result (λ entries. entries.items ≡ filter_map (entry_of dict.now.terms)
+        quads.now) }
 {
     quads
         .iter()
@@ -56,7 +58,9 @@ fn put(dict: &mut Dict, term: &Term) -> Result<u32, StoreFault>
     ensures number { IfOk result (λ n. number_of dict.new.terms term.now ≡ Some n) }
     ensures terms { OnOk result (dict.new.terms ≡ with_new same_term dict.old.terms term.now) }
     ensures front { IsFront dict.old.terms dict.new.terms }
-    ensures full { IfErr result (λ fault. IsFullAt fault dict.old.limit (length (with_new same_term dict.old.terms term.now))) }
+    ensures full { IfErr result
+        (λ fault. IsFullAt fault dict.old.limit
+        (length (with_new same_term dict.old.terms term.now))) }
     ensures limit { dict.new.limit ≡ dict.old.limit }
     ensures lawful { IsDictionary dict.new }
 {
@@ -68,10 +72,14 @@ fn put(dict: &mut Dict, term: &Term) -> Result<u32, StoreFault>
 
 /// The number of the graph's name, which is put after the other terms where it is new; the default graph has number 0.
 pub fn put_graph(dict: &mut Dict, graph: Option<&Term>) -> Result<u32, StoreFault>
-    ensures number { IfOk result (λ n. graph_number dict.new.terms (option_copied graph.entry) ≡ Some n) }
-    ensures terms { OnOk result (dict.new.terms ≡ with_terms dict.old.terms (cons_option (option_copied graph.entry) [])) }
+    ensures number { IfOk result (λ n. graph_number dict.new.terms (option_copied graph.entry)
+        ≡ Some n) }
+    ensures terms { OnOk result
+        (dict.new.terms ≡ with_terms dict.old.terms (cons_option (option_copied graph.entry) [])) }
     ensures front { IsFront dict.old.terms dict.new.terms }
-    ensures full { IfErr result (λ fault. IsFullAt fault dict.old.limit (length (with_terms dict.old.terms (cons_option (option_copied graph.entry) [])))) }
+    ensures full { IfErr result
+        (λ fault. IsFullAt fault dict.old.limit
+        (length (with_terms dict.old.terms (cons_option (option_copied graph.entry) [])))) }
     ensures limit { dict.new.limit ≡ dict.old.limit }
 {
     match graph {
@@ -85,7 +93,9 @@ pub fn numbered(dict: &mut Dict, quad: &Quad) -> Result<[u32; 4], StoreFault>
     ensures entry { IfOk result (λ entry. entry_of dict.new.terms quad.now ≡ Some entry) }
     ensures terms { OnOk result (dict.new.terms ≡ with_terms dict.old.terms (terms_of quad.now)) }
     ensures front { IsFront dict.old.terms dict.new.terms }
-    ensures full { IfErr result (λ fault. IsFullAt fault dict.old.limit (length (with_terms dict.old.terms (terms_of quad.now)))) }
+    ensures full { IfErr result
+        (λ fault. IsFullAt fault dict.old.limit
+        (length (with_terms dict.old.terms (terms_of quad.now)))) }
     ensures limit { dict.new.limit ≡ dict.old.limit }
     ensures lawful { OnOk result (IsDictionary dict.new) }
     ensures fits { IsTrue (fits_places quad.now.graph quad.now.subject quad.now.predicate) }
@@ -134,10 +144,17 @@ pub fn entry_of_ref(dict: &Dict, quad: QuadRef<'_>) -> Option<[u32; 4]>
 
 /// The number of the term that is meant over terms from which the dictionary has grown. It is put after the others where it is new.
 fn put_ref(dict: &mut Dict, term: TermRef<'_>) -> Result<u32, StoreFault>
-    ensures number { IfOk result (λ n. (known : List Term) → IsFront known dict.old.terms → IsReferred known term.entry → number_of dict.new.terms (referred known term.entry) ≡ Some n) }
-    ensures terms { OnOk result ((known : List Term) → IsFront known dict.old.terms → IsReferred known term.entry → dict.new.terms ≡ with_new same_term dict.old.terms (referred known term.entry)) }
+    ensures number { IfOk result (λ n. (known : List Term) → IsFront known dict.old.terms
+        → IsReferred known term.entry → number_of dict.new.terms (referred known term.entry)
+        ≡ Some n) }
+    ensures terms { OnOk result ((known : List Term) → IsFront known dict.old.terms
+        → IsReferred known term.entry → dict.new.terms ≡ with_new same_term dict.old.terms
+        (referred known term.entry)) }
     ensures front { IsFront dict.old.terms dict.new.terms }
-    ensures full { IfErr result (λ fault. (known : List Term) → IsFront known dict.old.terms → IsReferred known term.entry → IsFullAt fault dict.old.limit (length (with_new same_term dict.old.terms (referred known term.entry)))) }
+    ensures full { IfErr result (λ fault. (known : List Term) → IsFront known dict.old.terms
+        → IsReferred known term.entry
+        → IsFullAt fault dict.old.limit
+        (length (with_new same_term dict.old.terms (referred known term.entry)))) }
     ensures limit { dict.new.limit ≡ dict.old.limit }
     ensures lawful { IsDictionary dict.new }
 {
@@ -151,10 +168,17 @@ fn put_ref(dict: &mut Dict, term: TermRef<'_>) -> Result<u32, StoreFault>
 /// The number of the graph's name that is meant, as `put_ref` has it; the default graph has number 0.
 fn put_graph_ref(dict: &mut Dict, graph: Option<TermRef<'_>>) -> Result<u32, StoreFault>
     requires { IsReferredGraph dict.old.terms graph }
-    ensures number { IfOk result (λ n. graph_number dict.new.terms (referred_graph dict.old.terms graph.entry) ≡ Some n) }
-    ensures terms { OnOk result (dict.new.terms ≡ with_terms dict.old.terms (cons_option (referred_graph dict.old.terms graph.entry) [])) }
+    ensures number { IfOk result
+        (λ n. graph_number dict.new.terms (referred_graph dict.old.terms graph.entry) ≡ Some n) }
+    ensures terms { OnOk result
+        (dict.new.terms ≡ with_terms dict.old.terms
+        (cons_option (referred_graph dict.old.terms graph.entry) [])) }
     ensures front { IsFront dict.old.terms dict.new.terms }
-    ensures full { IfErr result (λ fault. IsFullAt fault dict.old.limit (length (with_terms dict.old.terms (cons_option (referred_graph dict.old.terms graph.entry) [])))) }
+    ensures full { IfErr result
+        (λ fault. IsFullAt fault dict.old.limit
+        (length
+        (with_terms dict.old.terms
+        (cons_option (referred_graph dict.old.terms graph.entry) [])))) }
     ensures limit { dict.new.limit ≡ dict.old.limit }
 {
     match graph {
@@ -166,10 +190,16 @@ fn put_graph_ref(dict: &mut Dict, graph: Option<TermRef<'_>>) -> Result<u32, Sto
 /// The entry of the quad that is meant, whose new terms are put after the others in the dictionary.
 pub fn numbered_ref(dict: &mut Dict, quad: QuadRef<'_>) -> Result<[u32; 4], StoreFault>
     requires { IsReferredQuad dict.old.terms quad }
-    ensures entry { IfOk result (λ entry. entry_of dict.new.terms (referred_quad dict.old.terms quad.entry) ≡ Some entry) }
-    ensures terms { OnOk result (dict.new.terms ≡ with_terms dict.old.terms (terms_of (referred_quad dict.old.terms quad.entry))) }
+    ensures entry { IfOk result
+        (λ entry. entry_of dict.new.terms (referred_quad dict.old.terms quad.entry) ≡ Some entry) }
+    ensures terms { OnOk result
+        (dict.new.terms ≡ with_terms dict.old.terms
+        (terms_of (referred_quad dict.old.terms quad.entry))) }
     ensures front { IsFront dict.old.terms dict.new.terms }
-    ensures full { IfErr result (λ fault. IsFullAt fault dict.old.limit (length (with_terms dict.old.terms (terms_of (referred_quad dict.old.terms quad.entry))))) }
+    ensures full { IfErr result
+        (λ fault. IsFullAt fault dict.old.limit
+        (length
+        (with_terms dict.old.terms (terms_of (referred_quad dict.old.terms quad.entry))))) }
     ensures limit { dict.new.limit ≡ dict.old.limit }
     ensures lawful { OnOk result (IsDictionary dict.new) }
 {
@@ -186,10 +216,12 @@ pub fn numbered_all(
     dict: &mut Dict,
     quads: &[Quad],
 ) -> Result<Vec<[u32; 4]>, StoreFault>
-    ensures entries { IfOk result (λ entries. map (entry_of dict.new.terms) quads.now ≡ map Some entries.items) }
+    ensures entries { IfOk result (λ entries. map (entry_of dict.new.terms) quads.now
+        ≡ map Some entries.items) }
     ensures terms { OnOk result (dict.new.terms ≡ with_terms_of dict.old.terms quads.now) }
     ensures front { IsFront dict.old.terms dict.new.terms }
-    ensures full { IfErr result (λ fault. IsFullAt fault dict.old.limit (length (with_terms_of dict.old.terms quads.now))) }
+    ensures full { IfErr result
+        (λ fault. IsFullAt fault dict.old.limit (length (with_terms_of dict.old.terms quads.now))) }
     ensures limit { dict.new.limit ≡ dict.old.limit }
     ensures lawful { OnOk result (IsDictionary dict.new) }
     ensures fits { OnOk result (AreLawful quads.now) }

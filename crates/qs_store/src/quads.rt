@@ -3,7 +3,7 @@
 ghost use Rattle.std.specs.Prelude.{◌≡◌, ◌≤◌, length, IfOk};
 ghost use Rattle.std.specs.List.Sorted.{IsSorted};
 ghost use Rattle.qs_terms.specs.Bag.{SameBag};
-ghost use Rattle.qs_dict.specs.Dict.{IsInUse, term_at};
+ghost use Rattle.qs_dict.specs.inner.Dict.{IsInUse, term_at};
 ghost use Rattle.qs_store.specs.inner.Entries.{said, statement_of, term_or, AreEntries, IsEntryOf};
 
 use qs_dict::Dict;

@@ -51,7 +51,8 @@ fn meant_graph<'a>(dict: &'a Dict, graph: Option<TermRef<'a>>) -> Option<&'a Ter
 /// Whether the terms of the quad that is meant may stand in their places.
 pub(crate) fn fits(dict: &Dict, quad: QuadRef<'_>) -> bool
     requires { IsReferredQuad dict.now.terms quad }
-    ensures { let q = referred_quad dict.now.terms quad.entry in result ≡ fits_places q.graph q.subject q.predicate }
+    ensures { let q = referred_quad dict.now.terms quad.entry
+        in result ≡ fits_places q.graph q.subject q.predicate }
 {
     let graph = meant_graph(dict, quad.graph);
     let subject = meant(dict, quad.subject);

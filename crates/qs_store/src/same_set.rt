@@ -12,16 +12,20 @@ pub fn same_set_is_an_equivalence()
     ensures reflexive { (a : List Statement) → SameSet a a }
     ensures symmetric { (a b : List Statement) → SameSet a b → SameSet b a }
     ensures transitive { (a b c : List Statement) → SameSet a b → SameSet b c → SameSet a c }
-    ensures carries { (a b : List Statement) (q : Statement) → SameSet a b → Contains a q → Contains b q }
+    ensures carries { (a b : List Statement) (q : Statement) → SameSet a b → Contains a q
+        → Contains b q }
     ensures of_bags { (a b : List Statement) → SameBag a b → SameSet a b }
 {}
 
 /// A law: equal changes of lists that are the same set make lists that are the same set.
 pub fn same_sets_change_alike()
-    ensures { (old removed added new old2 removed2 added2 new2 : List Statement) → SameSet old old2 → SameSet removed removed2 → SameSet added added2 → IsChanged old removed added new → IsChanged old2 removed2 added2 new2 → SameSet new new2 }
+    ensures { (old removed added new old2 removed2 added2 new2 : List Statement) → SameSet old old2
+        → SameSet removed removed2 → SameSet added added2 → IsChanged old removed added new
+        → IsChanged old2 removed2 added2 new2 → SameSet new new2 }
 {}
 
 /// A law: the known terms with those of quads after them are what a change that adds the quads makes known.
 pub fn quads_make_their_terms_known()
-    ensures { (known : List Term) (quads : List Statement) → KnowsTermsOf known quads (with_terms_of known quads) }
+    ensures { (known : List Term) (quads : List Statement)
+        → KnowsTermsOf known quads (with_terms_of known quads) }
 {}

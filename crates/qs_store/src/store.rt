@@ -16,9 +16,11 @@ ghost use Rattle.qs_terms.specs.Dataset.{is_above_blanks, is_graph_below};
 ghost use Rattle.qs_terms.specs.Statement.{Statement, fits_places, is_graph};
 ghost use Rattle.qs_terms.specs.declared.term.Term.{Term};
 ghost use Rattle.qs_expr_values.specs.inner.TermValue.{term_value};
-ghost use Rattle.qs_dict.specs.Dict.{IsInUse, IsDictionary, term_at, number_of};
-ghost use Rattle.qs_store.specs.Change.{IsChanged, KnowsTermsOf, IsFullExactly, IsFullAt, with_terms_of};
-ghost use Rattle.qs_store.specs.Content.{Content, Held, AreLawful, IsContent, KnowsItsTerms};
+ghost use Rattle.qs_dict.specs.inner.Dict.{IsInUse, IsDictionary, term_at, number_of};
+ghost use Rattle.qs_store.specs.Change.{IsChanged, KnowsTermsOf, with_terms_of};
+ghost use Rattle.qs_store.specs.inner.Change.{IsFullExactly, IsFullAt};
+ghost use Rattle.qs_store.specs.Content.{Content, Held};
+ghost use Rattle.qs_store.specs.inner.Content.{AreLawful, IsContent, KnowsItsTerms};
 ghost use Rattle.qs_store.specs.inner.Entries.{said, entry_of, AreEntries, IsSaidBehind};
 ghost use Rattle.qs_store.specs.inner.Graphs.{AreGraphs};
 ghost use Rattle.qs_store.specs.inner.References.{referred_quad, IsReferredQuad};
@@ -92,11 +94,13 @@ fn change(
     add: &[Quad],
 ) -> Result<(), StoreFault>
     requires { AreEntries dict.old.terms layers.old.draft }
-    ensures quads { OnOk result (IsChanged (said dict.old.terms layers.old.draft) remove.now add.now (said dict.new.terms layers.new.draft)) }
+    ensures quads { OnOk result (IsChanged (said dict.old.terms layers.old.draft) remove.now add.now
+        (said dict.new.terms layers.new.draft)) }
     ensures terms { OnOk result (dict.new.terms ≡ with_terms_of dict.old.terms add.now) }
     ensures entries { OnOk result (AreEntries dict.new.terms layers.new.draft) }
     ensures lawful { OnOk result (IsDictionary dict.new) }
-    ensures full { IfErr result (λ fault. IsFullAt fault dict.old.limit (length (with_terms_of dict.old.terms add.now))) }
+    ensures full { IfErr result
+        (λ fault. IsFullAt fault dict.old.limit (length (with_terms_of dict.old.terms add.now))) }
     ensures refused { OnErr result (layers.new.draft ≡ layers.old.draft) }
     ensures front { IsFront dict.old.terms dict.new.terms }
     ensures limit { dict.new.limit ≡ dict.old.limit }
@@ -280,7 +284,8 @@ impl Store {
         predicate: Option<u32>,
         object: Option<u32>,
     ) -> Triples<'_>
-        ensures { AreTriples self.now.base self.now.default_graph active subject predicate object result }
+        ensures { AreTriples self.now.base self.now.default_graph active subject predicate object
+            result }
     {
         let graphs = graphs_of(active, self.default_graph);
         self.layers.scan(graphs, subject, predicate, object)
@@ -296,7 +301,8 @@ impl Store {
         predicate: Option<u32>,
         object: Option<u32>,
     ) -> Triples<'_>
-        ensures { AreTriplesAnyhow self.now.base self.now.default_graph active subject predicate object result }
+        ensures { AreTriplesAnyhow self.now.base self.now.default_graph active subject predicate
+            object result }
     {
         let graphs = graphs_of(active, self.default_graph);
         self.layers
@@ -311,7 +317,8 @@ impl Store {
         predicate: Option<u32>,
         object: Option<u32>,
     ) -> Triples<'_>
-        ensures { AreTriples self.now.draft self.now.default_graph active subject predicate object result }
+        ensures { AreTriples self.now.draft self.now.default_graph active subject predicate object
+            result }
     {
         let graphs = graphs_of(active, self.default_graph);
         self.layers.scan_draft(graphs, subject, predicate, object)
@@ -468,9 +475,16 @@ impl Store {
         ensures base { self.new.base ≡ self.old.base }
         ensures quads { self.new.draft.quads ≡ self.old.draft.quads }
         ensures next { self.new.draft.next ≡ self.old.draft.next }
-        ensures said { IfOk result (λ entry. (entries : List (List ℕ)) → AreEntries self.old.draft.known entries → IsSaidBehind self.old.draft.known entries quad.now self.new.draft.known entry) }
-        ensures known { OnOk result ((first : List Term) (quads : List Statement) → self.old.draft.known ≡ with_terms_of first quads → self.new.draft.known ≡ with_terms_of first (quads ++ quad.now ∷ [])) }
-        ensures full { IfErr result (λ fault. (first : List Term) (quads more : List Statement) → self.old.draft.known ≡ with_terms_of first quads → IsFullAt fault self.old.limit (length (with_terms_of first (quads ++ quad.now ∷ more)))) }
+        ensures said { IfOk result (λ entry. (entries : List (List ℕ))
+            → AreEntries self.old.draft.known entries
+            → IsSaidBehind self.old.draft.known entries quad.now self.new.draft.known entry) }
+        ensures known { OnOk result ((first : List Term) (quads : List Statement)
+            → self.old.draft.known ≡ with_terms_of first quads → self.new.draft.known
+            ≡ with_terms_of first (quads ++ quad.now ∷ [])) }
+        ensures full { IfErr result (λ fault. (first : List Term) (quads more : List Statement)
+            → self.old.draft.known ≡ with_terms_of first quads
+            → IsFullAt fault self.old.limit
+            (length (with_terms_of first (quads ++ quad.now ∷ more)))) }
         ensures refused { OnErr result (self.new.draft ≡ self.old.draft) }
         ensures limit { self.new.limit ≡ self.old.limit }
         ensures default_graph { self.new.default_graph ≡ self.old.default_graph }
@@ -488,7 +502,8 @@ impl Store {
     // Whether the terms of the quad that is meant may stand in their places.
     pub(crate) fn draft_fits(&self, quad: QuadRef<'_>) -> bool
         requires { IsReferredQuad self.now.draft.known quad }
-        ensures { let q = referred_quad self.now.draft.known quad.entry in result ≡ fits_places q.graph q.subject q.predicate }
+        ensures { let q = referred_quad self.now.draft.known quad.entry
+            in result ≡ fits_places q.graph q.subject q.predicate }
     {
         fits(&self.dict, quad)
     }
@@ -496,7 +511,8 @@ impl Store {
     // The entry of the quad that is meant, where the draft knows all its terms.
     pub(crate) fn draft_entry(&self, quad: QuadRef<'_>) -> Option<[u32; 4]>
         requires { IsReferredQuad self.now.draft.known quad }
-        ensures { result ≡ entry_of self.now.draft.known (referred_quad self.now.draft.known quad.entry) }
+        ensures { result ≡ entry_of self.now.draft.known
+            (referred_quad self.now.draft.known quad.entry) }
     {
         entry_of_ref(&self.dict, quad)
     }
@@ -504,13 +520,25 @@ impl Store {
     // The entry of the quad that is meant, whose new terms the draft knows then.
     pub(crate) fn number_ref_in_draft(&mut self, quad: QuadRef<'_>) -> Result<[u32; 4], StoreFault>
         requires numbers { IsReferredQuad self.old.draft.known quad }
-        requires fits { let q = referred_quad self.old.draft.known quad in IsTrue (fits_places q.graph q.subject q.predicate) }
+        requires fits { let q = referred_quad self.old.draft.known quad
+            in IsTrue (fits_places q.graph q.subject q.predicate) }
         ensures base { self.new.base ≡ self.old.base }
         ensures quads { self.new.draft.quads ≡ self.old.draft.quads }
         ensures next { self.new.draft.next ≡ self.old.draft.next }
-        ensures said { IfOk result (λ entry. (entries : List (List ℕ)) → AreEntries self.old.draft.known entries → IsSaidBehind self.old.draft.known entries (referred_quad self.old.draft.known quad.entry) self.new.draft.known entry) }
-        ensures known { OnOk result ((first : List Term) (quads : List Statement) → self.old.draft.known ≡ with_terms_of first quads → self.new.draft.known ≡ with_terms_of first (quads ++ referred_quad self.old.draft.known quad.entry ∷ [])) }
-        ensures full { IfErr result (λ fault. (first : List Term) (quads more : List Statement) → self.old.draft.known ≡ with_terms_of first quads → IsFullAt fault self.old.limit (length (with_terms_of first (quads ++ referred_quad self.old.draft.known quad.entry ∷ more)))) }
+        ensures said { IfOk result (λ entry. (entries : List (List ℕ))
+            → AreEntries self.old.draft.known entries
+            → IsSaidBehind self.old.draft.known entries
+            (referred_quad self.old.draft.known quad.entry) self.new.draft.known entry) }
+        ensures known { OnOk result ((first : List Term) (quads : List Statement)
+            → self.old.draft.known ≡ with_terms_of first quads → self.new.draft.known
+            ≡ with_terms_of first (quads ++ referred_quad self.old.draft.known quad.entry
+            ∷ [])) }
+        ensures full { IfErr result (λ fault. (first : List Term) (quads more : List Statement)
+            → self.old.draft.known ≡ with_terms_of first quads
+            → IsFullAt fault self.old.limit
+            (length
+            (with_terms_of first (quads ++ referred_quad self.old.draft.known quad.entry
+            ∷ more)))) }
         ensures refused { OnErr result (self.new.draft ≡ self.old.draft) }
         ensures limit { self.new.limit ≡ self.old.limit }
         ensures default_graph { self.new.default_graph ≡ self.old.default_graph }
@@ -534,7 +562,9 @@ impl Store {
         requires entries { AreEntries self.old.draft.known entries.old }
         requires next { self.old.draft.next ≤ next }
         requires above { IsTrue (is_above_blanks next (said self.old.draft.known entries.old)) }
-        ensures quads { OnOk result (IsChanged self.old.draft.quads [] (said self.old.draft.known entries.old) self.new.base.quads) }
+        ensures quads { OnOk result
+            (IsChanged self.old.draft.quads [] (said self.old.draft.known entries.old)
+            self.new.base.quads) }
         ensures next { OnOk result (self.new.base.next ≡ next) }
         ensures known { OnOk result (self.new.base.known ≡ self.old.draft.known) }
         ensures room { OnOk result (length self.new.base.known ≤ self.old.limit) }
@@ -567,11 +597,15 @@ impl Store {
         requires next { self.old.draft.next ≤ next }
         requires above { IsTrue (is_above_blanks next add.now) }
         ensures base { self.new.base ≡ self.old.base }
-        ensures quads { OnOk result (IsChanged self.old.draft.quads remove.now add.now self.new.draft.quads) }
+        ensures quads { OnOk result
+            (IsChanged self.old.draft.quads remove.now add.now self.new.draft.quads) }
         ensures next { OnOk result (self.new.draft.next ≡ next) }
-        ensures known { OnOk result (KnowsTermsOf self.old.draft.known add.now self.new.draft.known) }
-        ensures in_turn { OnOk result (self.new.draft.known ≡ with_terms_of self.old.draft.known add.now) }
-        ensures full { IsFullExactly self.old.limit (length (with_terms_of self.old.draft.known add.now)) result }
+        ensures known { OnOk result
+            (KnowsTermsOf self.old.draft.known add.now self.new.draft.known) }
+        ensures in_turn { OnOk result (self.new.draft.known ≡ with_terms_of self.old.draft.known
+            add.now) }
+        ensures full { IsFullExactly self.old.limit
+            (length (with_terms_of self.old.draft.known add.now)) result }
         ensures refused { OnErr result (self.new.draft ≡ self.old.draft) }
         ensures limit { self.new.limit ≡ self.old.limit }
         ensures default_graph { self.new.default_graph ≡ self.old.default_graph }
@@ -601,7 +635,9 @@ impl Store {
         requires next { self.old.draft.next ≤ next }
         requires above { IsTrue (is_above_blanks next (said self.old.draft.known add.old)) }
         ensures base { self.new.base ≡ self.old.base }
-        ensures quads { OnOk result (IsChanged self.old.draft.quads (said self.old.draft.known remove.old) (said self.old.draft.known add.old) self.new.draft.quads) }
+        ensures quads { OnOk result
+            (IsChanged self.old.draft.quads (said self.old.draft.known remove.old)
+            (said self.old.draft.known add.old) self.new.draft.quads) }
         ensures next { OnOk result (self.new.draft.next ≡ next) }
         ensures known { self.new.draft.known ≡ self.old.draft.known }
         ensures room { length self.old.draft.known ≤ self.old.limit }
@@ -629,7 +665,10 @@ impl Store {
     // Removes the draft's quads in a graph.
     pub(crate) fn clear_draft_graph(&mut self, name: Option<&Term>) -> Result<(), StoreFault>
         ensures base { self.new.base ≡ self.old.base }
-        ensures quads { OnOk result (IsChanged self.old.draft.quads (in_graph (option_copied name.entry) self.old.draft.quads) [] self.new.draft.quads) }
+        ensures quads { OnOk result
+            (IsChanged self.old.draft.quads
+            (in_graph (option_copied name.entry) self.old.draft.quads) []
+            self.new.draft.quads) }
         ensures next { self.new.draft.next ≡ self.old.draft.next }
         ensures known { self.new.draft.known ≡ self.old.draft.known }
         ensures room { OnOk result (length self.old.draft.known ≤ self.old.limit) }
@@ -645,7 +684,9 @@ impl Store {
     // Removes the draft's quads in all named graphs.
     pub(crate) fn clear_draft_named(&mut self) -> Result<(), StoreFault>
         ensures base { self.new.base ≡ self.old.base }
-        ensures quads { OnOk result (IsChanged self.old.draft.quads (filter is_named self.old.draft.quads) [] self.new.draft.quads) }
+        ensures quads { OnOk result
+            (IsChanged self.old.draft.quads (filter is_named self.old.draft.quads) []
+            self.new.draft.quads) }
         ensures next { self.new.draft.next ≡ self.old.draft.next }
         ensures known { self.new.draft.known ≡ self.old.draft.known }
         ensures room { OnOk result (length self.old.draft.known ≤ self.old.limit) }
@@ -662,7 +703,8 @@ impl Store {
     // Removes all quads of the draft.
     pub(crate) fn clear_draft_all(&mut self) -> Result<(), StoreFault>
         ensures base { self.new.base ≡ self.old.base }
-        ensures quads { OnOk result (IsChanged self.old.draft.quads self.old.draft.quads [] self.new.draft.quads) }
+        ensures quads { OnOk result
+            (IsChanged self.old.draft.quads self.old.draft.quads [] self.new.draft.quads) }
         ensures next { self.new.draft.next ≡ self.old.draft.next }
         ensures known { self.new.draft.known ≡ self.old.draft.known }
         ensures room { OnOk result (length self.old.draft.known ≤ self.old.limit) }
@@ -686,10 +728,22 @@ impl Store {
         requires lawful { IsTrue (is_graph (option_copied to)) }
         requires above { IsTrue (is_graph_below self.old.draft.next (option_copied to)) }
         ensures base { self.new.base ≡ self.old.base }
-        ensures quads { OnOk result (IsChanged self.old.draft.quads (removed_by removal (option_copied from.entry) (option_copied to.entry) self.old.draft.quads) (copies (option_copied from.entry) (option_copied to.entry) self.old.draft.quads) self.new.draft.quads) }
+        ensures quads { OnOk result
+            (IsChanged self.old.draft.quads
+            (removed_by removal (option_copied from.entry) (option_copied to.entry)
+            self.old.draft.quads)
+            (copies (option_copied from.entry) (option_copied to.entry) self.old.draft.quads)
+            self.new.draft.quads) }
         ensures next { self.new.draft.next ≡ self.old.draft.next }
-        ensures known { OnOk result (KnowsTermsOf self.old.draft.known (copies (option_copied from.entry) (option_copied to.entry) self.old.draft.quads) self.new.draft.known) }
-        ensures full { IsFullExactly self.old.limit (length (with_terms_of self.old.draft.known (copies (option_copied from.entry) (option_copied to.entry) self.old.draft.quads))) result }
+        ensures known { OnOk result
+            (KnowsTermsOf self.old.draft.known
+            (copies (option_copied from.entry) (option_copied to.entry) self.old.draft.quads)
+            self.new.draft.known) }
+        ensures full { IsFullExactly self.old.limit
+            (length
+            (with_terms_of self.old.draft.known
+            (copies (option_copied from.entry) (option_copied to.entry)
+            self.old.draft.quads))) result }
         ensures refused { OnErr result (self.new.draft ≡ self.old.draft) }
         ensures limit { self.new.limit ≡ self.old.limit }
         ensures default_graph { self.new.default_graph ≡ self.old.default_graph }
@@ -717,10 +771,12 @@ impl Store {
     pub fn change(&mut self, remove: &[Quad], add: &[Quad], next: u64) -> Result<(), StoreFault>
         requires next { self.old.base.next ≤ next }
         requires above { IsTrue (is_above_blanks next add.now) }
-        ensures quads { OnOk result (IsChanged self.old.base.quads remove.now add.now self.new.base.quads) }
+        ensures quads { OnOk result
+            (IsChanged self.old.base.quads remove.now add.now self.new.base.quads) }
         ensures next { OnOk result (self.new.base.next ≡ next) }
         ensures known { OnOk result (KnowsTermsOf self.old.base.known add.now self.new.base.known) }
-        ensures full { IsFullExactly self.old.limit (length (with_terms_of self.old.base.known add.now)) result }
+        ensures full { IsFullExactly self.old.limit
+            (length (with_terms_of self.old.base.known add.now)) result }
         ensures refused { OnErr result (self.new.base ≡ self.old.base) }
         ensures limit { self.new.limit ≡ self.old.limit }
         ensures default_graph { self.new.default_graph ≡ self.old.default_graph }

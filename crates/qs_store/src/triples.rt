@@ -45,7 +45,8 @@ fn skip_entries(
     predicate: Option<u32>,
     object: Option<u32>,
 )
-    ensures { SkipsAgreeing subject predicate object (entries_left source.old) (entries_left source.new) }
+    ensures { SkipsAgreeing subject predicate object (entries_left source.old)
+        (entries_left source.new) }
 {
     if let Source::Stored(scan) = source {
         scan.skip_agreeing(subject, predicate, object);
@@ -88,8 +89,12 @@ fn last_fits(
 
 /// The next triple that differs from the last one.
 fn next_other(source: &mut Source<'_>, last: &mut Option<[u32; 3]>) -> Option<[u32; 3]>
-    ensures none { IfNone result ((unrepeated last.old (map triple_of (entries_left source.old)) ≡ []) × (unrepeated last.new (map triple_of (entries_left source.new)) ≡ [])) }
-    ensures some { IfSome result (λ triple. unrepeated last.old (map triple_of (entries_left source.old)) ≡ triple ∷ unrepeated last.new (map triple_of (entries_left source.new))) }
+    ensures none { IfNone result
+        ((unrepeated last.old (map triple_of (entries_left source.old)) ≡ [])
+        × (unrepeated last.new (map triple_of (entries_left source.new)) ≡ [])) }
+    ensures some { IfSome result
+        (λ triple. unrepeated last.old (map triple_of (entries_left source.old)) ≡ triple
+        ∷ unrepeated last.new (map triple_of (entries_left source.new))) }
 {
     'entries: while let Some(entry) = next_entry(source) {
         let triple = triple_of(entry);
@@ -208,7 +213,8 @@ impl<'a> Triples<'a> {
         object: Option<u32>,
     ) -> Triples<'a>
         requires { IsDraft index.now.entries removed.now.entries added.now.entries }
-        ensures { AreTriplesOf graphs subject predicate object (drafted index.now.entries removed.now.entries added.now.entries) result }
+        ensures { AreTriplesOf graphs subject predicate object
+            (drafted index.now.entries removed.now.entries added.now.entries) result }
     {
         match graphs {
             Graphs::Nothing => Triples::new(Source::Nothing, false),

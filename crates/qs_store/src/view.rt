@@ -10,8 +10,9 @@ ghost use Rattle.std.specs.Option.{option_map};
 ghost use Rattle.qs_terms.specs.Bag.{SameBag};
 ghost use Rattle.qs_terms.specs.Dataset.{is_above_blanks};
 ghost use Rattle.qs_expr_values.specs.inner.TermValue.{term_value};
-ghost use Rattle.qs_dict.specs.Dict.{IsInUse, term_at, number_of};
-ghost use Rattle.qs_store.specs.Content.{Content, AreLawful, IsContent, KnowsItsTerms};
+ghost use Rattle.qs_dict.specs.inner.Dict.{IsInUse, term_at, number_of};
+ghost use Rattle.qs_store.specs.Content.{Content};
+ghost use Rattle.qs_store.specs.inner.Content.{AreLawful, IsContent, KnowsItsTerms};
 ghost use Rattle.qs_store.specs.inner.Graphs.{AreGraphs};
 ghost use Rattle.qs_store.specs.inner.NamedQuads.{AreNamedQuads};
 ghost use Rattle.qs_store.specs.inner.Triples.{AreTriples, AreTriplesAnyhow};
@@ -86,7 +87,8 @@ pub trait View {
         predicate: Option<u32>,
         object: Option<u32>,
     ) -> Triples<'_>
-        ensures { AreTriples (content self.now) (default_seen self.now) active subject predicate object result };
+        ensures { AreTriples (content self.now) (default_seen self.now) active subject predicate
+            object result };
 
     /// The triples that `scan` gives, in some order. Where no number is given a store has those with the same term in this place follow one another.
     /// It takes no memory.
@@ -98,7 +100,8 @@ pub trait View {
         predicate: Option<u32>,
         object: Option<u32>,
     ) -> Triples<'_>
-        ensures { AreTriplesAnyhow (content self.now) (default_seen self.now) active subject predicate object result };
+        ensures { AreTriplesAnyhow (content self.now) (default_seen self.now) active subject
+            predicate object result };
 
     /// The quads of all named graphs that have the numbers that are given, each once. They ascend by predicate, object, subject and graph
     /// where the predicate is the first that is given or stands before the object, by object, subject, predicate and graph where the object

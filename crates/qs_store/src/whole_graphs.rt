@@ -4,8 +4,9 @@ ghost use Rattle.std.specs.Prelude.{◌≡◌, [], Some, length, IsTrue, IfOk, I
 ghost use Rattle.std.specs.List.{filter};
 ghost use Rattle.std.specs.Option.{option_copied};
 ghost use Rattle.qs_terms.specs.Statement.{is_graph};
-ghost use Rattle.qs_dict.specs.Dict.{IsDictionary};
-ghost use Rattle.qs_store.specs.Change.{IsChanged, IsFullAt, with_terms_of};
+ghost use Rattle.qs_dict.specs.inner.Dict.{IsDictionary};
+ghost use Rattle.qs_store.specs.Change.{IsChanged, with_terms_of};
+ghost use Rattle.qs_store.specs.inner.Change.{IsFullAt};
 ghost use Rattle.qs_store.specs.inner.Copied.{AreEntriesOf};
 ghost use Rattle.qs_store.specs.inner.Entries.{said, graph_number, AreEntries};
 ghost use Rattle.qs_store.specs.inner.Holding.{HasGraph};
@@ -23,10 +24,12 @@ use std::alloc::{AllocError, Global};
 /// The number of the graph's name, where quads of the draft are in it.
 pub fn filled(dict: &Dict, layers: &Layers, name: Option<&Term>) -> Option<u32>
     requires { AreEntries dict.now.terms layers.now.draft }
-    ensures number { IfSome result (λ n. graph_number dict.now.terms (option_copied name.entry) ≡ Some n) }
+    ensures number { IfSome result (λ n. graph_number dict.now.terms (option_copied name.entry)
+        ≡ Some n) }
     ensures held { IfSome result (HasGraph layers.now.draft) }
     ensures lawful { IsDictionary dict.now }
-    ensures empty { IfNone result (in_graph (option_copied name.entry) (said dict.now.terms layers.now.draft) ≡ []) }
+    ensures empty { IfNone result
+        (in_graph (option_copied name.entry) (said dict.now.terms layers.now.draft) ≡ []) }
 {
     let _count = dict.len();
     let graph = graph_number(dict, name)?;
@@ -45,7 +48,10 @@ fn entries_in(
     name: Option<&Term>,
 ) -> Result<Vec<[u32; 4]>, AllocError>
     requires { AreEntries dict.now.terms layers.now.draft }
-    ensures { IfOk result (λ found. AreEntriesOf dict.now.terms (in_graph (option_copied name.entry) (said dict.now.terms layers.now.draft)) found.items) }
+    ensures { IfOk result
+        (λ found. AreEntriesOf dict.now.terms
+        (in_graph (option_copied name.entry) (said dict.now.terms layers.now.draft))
+        found.items) }
 {
     let _count = dict.len();
     match graph_number(dict, name) {
@@ -57,7 +63,9 @@ fn entries_in(
 /// The entries of the quads in named graphs.
 pub fn entries_named(dict: &Dict, layers: &Layers) -> Result<Vec<[u32; 4]>, AllocError>
     requires { AreEntries dict.now.terms layers.now.draft }
-    ensures { IfOk result (λ found. AreEntriesOf dict.now.terms (filter is_named (said dict.now.terms layers.now.draft)) found.items) }
+    ensures { IfOk result
+        (λ found. AreEntriesOf dict.now.terms
+        (filter is_named (said dict.now.terms layers.now.draft)) found.items) }
 {
     let _count = dict.len();
     layers.draft_named()
@@ -73,7 +81,10 @@ fn entries_removed(
     to: Option<&Term>,
 ) -> Result<Vec<[u32; 4]>, AllocError>
     requires { AreEntries dict.now.terms layers.now.draft }
-    ensures { IfOk result (λ found. AreEntriesOf dict.now.terms (removed_by removal (option_copied from.entry) (option_copied to.entry) (said dict.now.terms layers.now.draft)) found.items) }
+    ensures { IfOk result
+        (λ found. AreEntriesOf dict.now.terms
+        (removed_by removal (option_copied from.entry) (option_copied to.entry)
+        (said dict.now.terms layers.now.draft)) found.items) }
 {
     match removal {
         Removal::Nothing => Ok(Vec::new(alloc)),
@@ -98,9 +109,20 @@ fn entries_copied(
 ) -> Result<Vec<[u32; 4]>, StoreFault>
     requires known { AreEntries dict.old.terms layers.now.draft }
     requires lawful { IsTrue (is_graph (option_copied to)) }
-    ensures entries { IfOk result (λ found. AreEntriesOf dict.new.terms (copies (option_copied from.entry) (option_copied to.entry) (said dict.old.terms layers.now.draft)) found.items) }
-    ensures terms { OnOk result (dict.new.terms ≡ with_terms_of dict.old.terms (copies (option_copied from.entry) (option_copied to.entry) (said dict.old.terms layers.now.draft))) }
-    ensures full { IfErr result (λ fault. IsFullAt fault dict.old.limit (length (with_terms_of dict.old.terms (copies (option_copied from.entry) (option_copied to.entry) (said dict.old.terms layers.now.draft))))) }
+    ensures entries { IfOk result
+        (λ found. AreEntriesOf dict.new.terms
+        (copies (option_copied from.entry) (option_copied to.entry)
+        (said dict.old.terms layers.now.draft)) found.items) }
+    ensures terms { OnOk result
+        (dict.new.terms ≡ with_terms_of dict.old.terms
+        (copies (option_copied from.entry) (option_copied to.entry)
+        (said dict.old.terms layers.now.draft))) }
+    ensures full { IfErr result
+        (λ fault. IsFullAt fault dict.old.limit
+        (length
+        (with_terms_of dict.old.terms
+        (copies (option_copied from.entry) (option_copied to.entry)
+        (said dict.old.terms layers.now.draft))))) }
     ensures front { IsFront dict.old.terms dict.new.terms }
     ensures limit { dict.new.limit ≡ dict.old.limit }
 {
@@ -155,11 +177,24 @@ pub fn transfer(
 ) -> Result<(), StoreFault>
     requires known { AreEntries dict.old.terms layers.old.draft }
     requires lawful { IsTrue (is_graph (option_copied to)) }
-    ensures quads { OnOk result (IsChanged (said dict.old.terms layers.old.draft) (removed_by removal (option_copied from.entry) (option_copied to.entry) (said dict.old.terms layers.old.draft)) (copies (option_copied from.entry) (option_copied to.entry) (said dict.old.terms layers.old.draft)) (said dict.new.terms layers.new.draft)) }
-    ensures terms { OnOk result (dict.new.terms ≡ with_terms_of dict.old.terms (copies (option_copied from.entry) (option_copied to.entry) (said dict.old.terms layers.old.draft))) }
+    ensures quads { OnOk result
+        (IsChanged (said dict.old.terms layers.old.draft)
+        (removed_by removal (option_copied from.entry) (option_copied to.entry)
+        (said dict.old.terms layers.old.draft))
+        (copies (option_copied from.entry) (option_copied to.entry)
+        (said dict.old.terms layers.old.draft)) (said dict.new.terms layers.new.draft)) }
+    ensures terms { OnOk result
+        (dict.new.terms ≡ with_terms_of dict.old.terms
+        (copies (option_copied from.entry) (option_copied to.entry)
+        (said dict.old.terms layers.old.draft))) }
     ensures entries { OnOk result (AreEntries dict.new.terms layers.new.draft) }
     ensures lawful { OnOk result (IsDictionary dict.new) }
-    ensures full { IfErr result (λ fault. IsFullAt fault dict.old.limit (length (with_terms_of dict.old.terms (copies (option_copied from.entry) (option_copied to.entry) (said dict.old.terms layers.old.draft))))) }
+    ensures full { IfErr result
+        (λ fault. IsFullAt fault dict.old.limit
+        (length
+        (with_terms_of dict.old.terms
+        (copies (option_copied from.entry) (option_copied to.entry)
+        (said dict.old.terms layers.old.draft))))) }
     ensures refused { OnErr result (layers.new.draft ≡ layers.old.draft) }
     ensures front { IsFront dict.old.terms dict.new.terms }
     ensures limit { dict.new.limit ≡ dict.old.limit }
@@ -177,7 +212,9 @@ pub fn transfer(
 pub fn remove(dict: &Dict, layers: &mut Layers, outs: &mut [[u32; 4]]) -> Result<(), AllocError>
     requires known { AreEntries dict.now.terms layers.old.draft }
     requires outs { AreEntries dict.now.terms outs.old }
-    ensures quads { OnOk result (IsChanged (said dict.now.terms layers.old.draft) (said dict.now.terms outs.old) [] (said dict.now.terms layers.new.draft)) }
+    ensures quads { OnOk result
+        (IsChanged (said dict.now.terms layers.old.draft) (said dict.now.terms outs.old) []
+        (said dict.now.terms layers.new.draft)) }
     ensures entries { OnOk result (AreEntries dict.now.terms layers.new.draft) }
     ensures lawful { IsDictionary dict.now }
     ensures refused { OnErr result (layers.new.draft ≡ layers.old.draft) }
@@ -190,7 +227,10 @@ pub fn remove(dict: &Dict, layers: &mut Layers, outs: &mut [[u32; 4]]) -> Result
 /// Takes the entries of the quads in a graph out of the draft. Where it is refused the draft's entries stay.
 pub fn clear(dict: &Dict, layers: &mut Layers, name: Option<&Term>) -> Result<(), AllocError>
     requires { AreEntries dict.now.terms layers.old.draft }
-    ensures quads { OnOk result (IsChanged (said dict.now.terms layers.old.draft) (in_graph (option_copied name.entry) (said dict.now.terms layers.old.draft)) [] (said dict.now.terms layers.new.draft)) }
+    ensures quads { OnOk result
+        (IsChanged (said dict.now.terms layers.old.draft)
+        (in_graph (option_copied name.entry) (said dict.now.terms layers.old.draft)) []
+        (said dict.now.terms layers.new.draft)) }
     ensures entries { OnOk result (AreEntries dict.now.terms layers.new.draft) }
     ensures lawful { IsDictionary dict.now }
     ensures refused { OnErr result (layers.new.draft ≡ layers.old.draft) }

@@ -4,7 +4,8 @@ use Rattle.qs_terms.specs.Statement.{Statement}
 use Rattle.qs_terms.specs.declared.term.Term.{Term}
 use Rattle.qs_nquads.specs.Nquads.{IsNquads}
 use Rattle.qs_nquads.specs.inner.Unread.{Unread, HasRead}
-use Rattle.qs_store.specs.Change.{IsChanged, IsFullAt, KnowsTermsOf, with_terms_of}
+use Rattle.qs_store.specs.Change.{IsChanged, KnowsTermsOf, with_terms_of}
+use Rattle.qs_store.specs.inner.Change.{IsFullAt}
 use Rattle.qs_store.specs.Content.{Content, Held}
 use Rattle.qs_store.specs.inner.Entries.{IsSaidBehind, said}
 use Rattle.qs_store.specs.declared.fault.StoreFault.{StoreFault}

@@ -7,7 +7,8 @@ ghost use Rattle.std.specs.Prelude.{◌≡◌, ◌∷◌, ◌++◌, ℕ, List, [
 ghost use Rattle.qs_terms.specs.Statement.{Statement};
 ghost use Rattle.qs_terms.specs.declared.term.Term.{Term};
 ghost use Rattle.qs_nquads.specs.inner.Unread.{HasRead};
-ghost use Rattle.qs_store.specs.Change.{IsFullAt, with_terms_of};
+ghost use Rattle.qs_store.specs.Change.{with_terms_of};
+ghost use Rattle.qs_store.specs.inner.Change.{IsFullAt};
 ghost use Rattle.qs_store_load.specs.inner.Load.{IsLoaded, IsLoadFault};
 ghost use Rattle.qs_store_load.specs.inner.Loading.{Learns, Say, IsTold, IsToldFor, AreNumbered, IsNumbered};
 
@@ -30,8 +31,14 @@ fn push(entries: &mut Vec<[u32; 4]>, entry: [u32; 4]) -> Result<(), AllocError>
 fn put(draft: &mut Draft<'_>, entries: &mut Vec<[u32; 4]>, quad: &Quad) -> Result<(), StoreFault>
     ensures same_reference { draft.new.store.ghost_name ≡ draft.old.store.ghost_name }
     ensures learns { Learns draft.old.store.now draft.new.store.now }
-    ensures say { OnOk result ((first : List Term) (quads : List Statement) → Say first draft.old.store.now.draft.known entries.old.items quads → Say first draft.new.store.now.draft.known entries.new.items (quads ++ quad.now ∷ [])) }
-    ensures full { IfErr result (λ fault. (first : List Term) (quads more : List Statement) → Say first draft.old.store.now.draft.known entries.old.items quads → IsFullAt fault draft.old.store.now.limit (length (with_terms_of first (quads ++ quad.now ∷ more)))) }
+    ensures say { OnOk result ((first : List Term) (quads : List Statement)
+        → Say first draft.old.store.now.draft.known entries.old.items quads
+        → Say first draft.new.store.now.draft.known entries.new.items
+        (quads ++ quad.now ∷ [])) }
+    ensures full { IfErr result (λ fault. (first : List Term) (quads more : List Statement)
+        → Say first draft.old.store.now.draft.known entries.old.items quads
+        → IsFullAt fault draft.old.store.now.limit
+        (length (with_terms_of first (quads ++ quad.now ∷ more)))) }
 {
     match draft.number(quad) {
         Ok(entry) => match push(entries, entry) {
@@ -44,7 +51,8 @@ fn put(draft: &mut Draft<'_>, entries: &mut Vec<[u32; 4]>, quad: &Quad) -> Resul
 
 // The fault of a text whose terms find no room: a fault in the rest of the text comes first.
 fn full(reader: &mut Reader<'_>) -> LoadFault
-    ensures { (first : ℕ) (quads : List Statement) → HasRead first quads reader.old → IsTold reader.old.bytes first quads result }
+    ensures { (first : ℕ) (quads : List Statement) → HasRead first quads reader.old
+        → IsTold reader.old.bytes first quads result }
 {
     'statements: loop {
         match reader.next() {
@@ -57,7 +65,8 @@ fn full(reader: &mut Reader<'_>) -> LoadFault
 
 // The fault of a text of which the store refuses a statement.
 fn refused(reader: &mut Reader<'_>, fault: StoreFault) -> LoadFault
-    ensures { (first : ℕ) (quads : List Statement) → HasRead first quads reader.old → IsToldFor fault reader.old.bytes first quads result }
+    ensures { (first : ℕ) (quads : List Statement) → HasRead first quads reader.old
+        → IsToldFor fault reader.old.bytes first quads result }
 {
     match fault {
         StoreFault::Full => full(reader),
@@ -74,8 +83,12 @@ fn put_all(
     requires none { entries.old.items ≡ [] }
     ensures same_reference { draft.new.store.ghost_name ≡ draft.old.store.ghost_name }
     ensures learns { Learns draft.old.store.now draft.new.store.now }
-    ensures numbered { IfOk result (λ next. (first : ℕ) → HasRead first [] reader.old → AreNumbered reader.old.bytes first next draft.old.store.now.draft.known draft.new.store.now.draft.known entries.new.items) }
-    ensures fault { IfErr result (λ fault. (first : ℕ) → HasRead first [] reader.old → IsLoadFault draft.old.store.now.limit reader.old.bytes first draft.old.store.now.draft.known fault) }
+    ensures numbered { IfOk result (λ next. (first : ℕ) → HasRead first [] reader.old
+        → AreNumbered reader.old.bytes first next draft.old.store.now.draft.known
+        draft.new.store.now.draft.known entries.new.items) }
+    ensures fault { IfErr result (λ fault. (first : ℕ) → HasRead first [] reader.old
+        → IsLoadFault draft.old.store.now.limit reader.old.bytes first
+        draft.old.store.now.draft.known fault) }
 {
     'statements: loop {
         match reader.next() {
@@ -105,8 +118,11 @@ fn number_all(
     requires none { entries.old.items ≡ [] }
     ensures same_reference { draft.new.store.ghost_name ≡ draft.old.store.ghost_name }
     ensures learns { Learns draft.old.store.now draft.new.store.now }
-    ensures numbered { IfOk result (λ next. IsNumbered bytes.now next draft.new.store.now entries.new.items) }
-    ensures fault { IfErr result (λ fault. IsLoadFault draft.old.store.now.limit bytes.now draft.old.store.now.base.next draft.old.store.now.base.known fault) }
+    ensures numbered { IfOk result
+        (λ next. IsNumbered bytes.now next draft.new.store.now entries.new.items) }
+    ensures fault { IfErr result
+        (λ fault. IsLoadFault draft.old.store.now.limit bytes.now draft.old.store.now.base.next
+        draft.old.store.now.base.known fault) }
 {
     let first = draft.next_blank();
     match Reader::new(alloc, hasher, bytes, first) {
@@ -121,9 +137,16 @@ fn finish(
     mut entries: Vec<[u32; 4]>,
     numbered: Result<u64, LoadFault>,
 ) -> Result<(), LoadFault>
-    requires { IfOk numbered (λ next. (bytes : List ℕ) × IsNumbered bytes next draft.store.now entries.items) }
-    ensures loaded { OnOk result ((bytes : List ℕ) → IfOk numbered (λ next. IsNumbered bytes next draft.entry.store.now entries.items) → IsLoaded draft.entry.store.now.limit bytes draft.entry.store.now.base draft.exit.0.now.base) }
-    ensures fault { (limit : ℕ) (bytes : List ℕ) (first : ℕ) (known : List Term) → IfErr numbered (λ fault. IsLoadFault limit bytes first known fault) → IfErr result (λ fault. IsLoadFault limit bytes first known fault) }
+    requires { IfOk numbered (λ next. (bytes : List ℕ) × IsNumbered bytes next draft.store.now
+        entries.items) }
+    ensures loaded { OnOk result
+        ((bytes : List ℕ)
+        → IfOk numbered (λ next. IsNumbered bytes next draft.entry.store.now entries.items)
+        → IsLoaded draft.entry.store.now.limit bytes draft.entry.store.now.base
+        draft.exit.0.now.base) }
+    ensures fault { (limit : ℕ) (bytes : List ℕ) (first : ℕ) (known : List Term)
+        → IfErr numbered (λ fault. IsLoadFault limit bytes first known fault)
+        → IfErr result (λ fault. IsLoadFault limit bytes first known fault) }
     ensures refused { OnErr result (draft.exit.0.now.base ≡ draft.entry.store.now.base) }
     ensures limit { draft.exit.0.now.limit ≡ draft.entry.store.now.limit }
     ensures default_graph { draft.exit.0.now.default_graph ≡ draft.entry.store.now.default_graph }
@@ -156,8 +179,10 @@ pub fn load(
     store: &mut Store,
     bytes: &[u8],
 ) -> Result<(), LoadFault>
-    ensures loaded { OnOk result (IsLoaded store.old.limit bytes.now store.old.base store.new.base) }
-    ensures fault { IfErr result (λ fault. IsLoadFault store.old.limit bytes.now store.old.base.next store.old.base.known fault) }
+    ensures loaded { OnOk result
+        (IsLoaded store.old.limit bytes.now store.old.base store.new.base) }
+    ensures fault { IfErr result (λ fault. IsLoadFault store.old.limit bytes.now store.old.base.next
+        store.old.base.known fault) }
     ensures refused { OnErr result (store.new.base ≡ store.old.base) }
     ensures limit { store.new.limit ≡ store.old.limit }
     ensures default_graph { store.new.default_graph ≡ store.old.default_graph }
@@ -179,8 +204,11 @@ pub fn load_owned(
     store: &mut Store,
     file: Vec<u8>,
 ) -> Result<(), LoadFault>
-    ensures loaded { OnOk result (IsLoaded store.old.limit file.items store.old.base store.new.base) }
-    ensures fault { IfErr result (λ fault. IsLoadFault store.old.limit file.items store.old.base.next store.old.base.known fault) }
+    ensures loaded { OnOk result
+        (IsLoaded store.old.limit file.items store.old.base store.new.base) }
+    ensures fault { IfErr result
+        (λ fault. IsLoadFault store.old.limit file.items store.old.base.next store.old.base.known
+        fault) }
     ensures refused { OnErr result (store.new.base ≡ store.old.base) }
     ensures limit { store.new.limit ≡ store.old.limit }
     ensures default_graph { store.new.default_graph ≡ store.old.default_graph }

@@ -1,11 +1,13 @@
 -- A text without tokens is no query, and its end is to blame; as an update it has no operation.
 use Rattle.std.proofs.Common.{◌≡◌, inl, inr, sym, ℕ, List, [], length, Ok, Err, refl, subst, arith}
 use Rattle.std.proofs.lemmas.List.{nil_from_length}
-use Rattle.qs_syntax_grammar.specs.Grammar.{Spells, read, whole}
+use Rattle.qs_syntax_grammar.specs.Grammar.{Spells}
+use Rattle.qs_syntax_grammar.specs.inner.Grammar.{read, whole}
 use Rattle.qs_syntax_grammar.specs.declared.fault.Fault.TheVariants as reading
 use Rattle.qs_syntax_grammar.proofs.Whole.{found_spelt, is_due, none_spelt}
 use Rattle.std.proofs.lemmas.Str.{chars-nil}
-use Rattle.qs_syntax.specs.Outcome.{screened, update_outcome, no_operation, IsQueryOutcome, IsUpdateOutcome}
+use Rattle.qs_syntax.specs.Outcome.{screened, update_outcome, IsQueryOutcome, IsUpdateOutcome}
+use Rattle.qs_syntax.specs.inner.Outcome.{no_operation}
 use Rattle.qs_syntax_ast.specs.declared.update.Update.{Update}
 use Rattle.qs_terms.specs.declared.fault.QFault.TheVariants as fault
 use Rattle.qs_syntax_tree.specs.declared.token.Token.{Token}

@@ -1,6 +1,7 @@
 -- No token results in an update without operations.
 use Rattle.std.proofs.Common.{◌≡◌, ℕ, List, [], Ok, refl}
-use Rattle.qs_syntax.specs.Outcome.{update_outcome, no_operation}
+use Rattle.qs_syntax.specs.Outcome.{update_outcome}
+use Rattle.qs_syntax.specs.inner.Outcome.{no_operation}
 use Rattle.qs_syntax_limits.specs.Large as large
 use Rattle.qs_syntax_resolve.specs.Resolved.{resolved_update}
 use Rattle.qs_syntax_resolve.specs.Update.{update, step}

@@ -7,7 +7,8 @@ use Rattle.qs_lex.specs.Lexes.{Lexeme, Lexes, StopsAt}
 use Rattle.qs_terms.specs.declared.fault.QFault.TheVariants as fault
 use Rattle.qs_syntax_tree.specs.declared.token.Token.{Token}
 use Rattle.qs_syntax_tree.specs.Sparql.{Rule}
-use Rattle.qs_syntax_tree.specs.Table.{grammar, IsUnambiguous}
+use Rattle.qs_syntax_tree.specs.Table.{grammar}
+use Rattle.qs_syntax_tree.specs.inner.Table.{IsUnambiguous}
 use Rattle.qs_terms.specs.Outcome.{Outcome}
 use Rattle.qs_syntax.specs.Outcome.{screened, AfterScreen, IsParsed}
 use Rattle.qs_syntax.specs.Kinds.{token_of}

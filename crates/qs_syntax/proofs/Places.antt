@@ -1,6 +1,7 @@
 -- Running out of memory stays what it is beside a place.
 use Rattle.std.proofs.Common.{ℕ, Option, Some, None, Ok, Err, ap, refl}
-use Rattle.qs_terms.specs.Outcome.{Outcome, OrOutOfMemory}
+use Rattle.qs_terms.specs.Outcome.{Outcome}
+use Rattle.qs_terms.specs.inner.Outcome.{OrOutOfMemory}
 use Rattle.qs_terms.specs.declared.fault.QFault.TheVariants as fault
 use Rattle.qs_syntax.specs.Outcome.{by_place}
 

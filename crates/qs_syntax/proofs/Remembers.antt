@@ -1,7 +1,8 @@
 -- Reading by itself wants no memory.
 use Rattle.std.proofs.Common.{◌≡◌, ℕ, zero, suc, Bool, true, false, cond, List, [], ◌∷◌, length, Ok, Err}
 use Rattle.qs_syntax_grammar.specs.declared.fault.Fault.TheVariants.{Memory, Deep, Syntax}
-use Rattle.qs_syntax_grammar.specs.Grammar.{Grammar, read_at, read, whole}
+use Rattle.qs_syntax_grammar.specs.Grammar.{Grammar}
+use Rattle.qs_syntax_grammar.specs.inner.Grammar.{read_at, read, whole}
 use Rattle.qs_syntax_grammar.specs.inner.Reading.{Outcome, Reader, and_then, has, starts, first, loop, reading}
 use Rattle.qs_syntax_grammar.specs.Rule.{Language, Rule, token, empty, both, either, many, made, placed, ref}
 

@@ -7,7 +7,7 @@ use Rattle.qs_syntax_limits.specs.Large as large
 use Rattle.qs_syntax_resolve.specs.Resolved.{resolved_query, resolved_update}
 use Rattle.qs_syntax_scope.specs.Firsts.{names_of}
 use Rattle.qs_syntax_scope.specs.KeepsScope.{query_keeps_scope, update_keeps_scope}
-use Rattle.qs_syntax_scope.specs.Laws.{AreListed}
+use Rattle.qs_syntax_scope.specs.inner.Laws.{AreListed}
 use Rattle.qs_syntax_scope.specs.Names.{Name, contains}
 use Rattle.qs_syntax_scope.specs.VariablesIn.{in_query, in_update, query_variables, update_variables}
 use Rattle.qs_syntax.specs.Outcome.{by_place, in_scope, variables_of, listed_query, listed_update, query_outcome, update_outcome}

@@ -1,6 +1,7 @@
 -- A text results in something.
 use Rattle.std.proofs.Common.{◌≡◌, ◌⊎◌, inl, inr, ◌-◌, ℕ, true, List, length, map, Result, Ok, Err, refl, arith, IsUtf8}
-use Rattle.qs_syntax_grammar.specs.Grammar.{Spells, is_start, read, whole}
+use Rattle.qs_syntax_grammar.specs.Grammar.{Spells}
+use Rattle.qs_syntax_grammar.specs.inner.Grammar.{is_start, read, whole}
 use Rattle.qs_syntax_grammar.specs.declared.fault.Fault.{Fault}
 use Rattle.qs_syntax_grammar.specs.declared.fault.Fault.TheVariants as reading
 use Rattle.qs_syntax_grammar.proofs.Whole.{found_spelt, not_deep, is_due, none_spelt}

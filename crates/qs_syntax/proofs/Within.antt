@@ -10,7 +10,8 @@ use Rattle.qs_syntax_resolve.specs.Update.{update, steps}
 use Rattle.qs_syntax_resolve.specs.declared.resolver.Resolver.{Resolver}
 use Rattle.qs_syntax.specs.Outcome.{by_place, earlier}
 use Rattle.qs_syntax.proofs.Places.{placed}
-use Rattle.qs_terms.specs.Outcome.{Outcome, OrOutOfMemory, and_then}
+use Rattle.qs_terms.specs.Outcome.{Outcome, and_then}
+use Rattle.qs_terms.specs.inner.Outcome.{OrOutOfMemory}
 use Rattle.qs_syntax_tree.specs.declared.query.Query.{Query as WrittenQuery}
 use Rattle.qs_syntax_tree.specs.declared.update.Update.{Update as WrittenUpdate}
 

@@ -1,10 +1,16 @@
--- What a text results in (SPARQL 1.1 Query, 19, and limits of the profile): its query or its update, or the one fault that is due.
--- The faults stand from top to bottom in the order in which they are due, each where none above it is:
---   1. Syntax, where no token begins; 2. LeftOut with a token, then TooLarge at a bracket; 3. Syntax, where the tokens spell no tree;
---   4. a name that can't be resolved or a limit of trees that is passed, whichever comes first; 5. Scope, of a literal, then of a rule.
--- A text has one outcome at most (`laws::one_outcome`); in UTF-8, as all texts of the program are, it has one (`laws::some_outcome`).
--- The first step takes the steps after it as a parameter, since a definition can't be used above its place.
-use Rattle.std.specs.Prelude.{◌≡◌, ◌⊎◌, ℕ, Bool, true, false, nat_lt, List, [], ◌∷◌, ◌++◌, length, Option, Some, None, Ok, Err, if◌then◌else◌}
+-- What a text results in (SPARQL 1.1 Query, 19, and limits of the profile): its query or its
+-- update, or the one fault that is due. The faults stand from top to bottom in the order in which
+-- they are due, each where none above it is:
+--   1. Syntax, where no token begins.
+--   2. LeftOut with a token, then TooLarge at a bracket.
+--   3. Syntax, where the tokens spell no tree.
+--   4. A name that can't be resolved, or a limit of trees that is passed, whichever comes first.
+--   5. Scope, of a literal, then of a rule.
+-- A text has one outcome at most (`laws::one_outcome`); in UTF-8, as all texts of the program are,
+-- it has one (`laws::some_outcome`). The first step takes the steps after it as a parameter, since
+-- a definition can't be used above its place.
+use Rattle.std.specs.Prelude.{◌≡◌, ◌⊎◌, ℕ, Bool, true, false, nat_lt, List, [], ◌∷◌, ◌++◌, length}
+use Rattle.std.specs.Prelude.{Option, Some, None, Ok, Err, if◌then◌else◌}
 use Rattle.std.specs.List.{fold}
 use Rattle.qs_syntax_grammar.specs.Grammar.{Spells}
 use Rattle.qs_lex.specs.Lexes.{StopsAt}
@@ -51,15 +57,17 @@ unless_left_out (Some word) place = Err (fault.LeftOut word)
 unfoldable pub screened : List ℕ → List Token → Outcome (Unit {0})
 screened text tokens = unless_left_out (left_out text tokens) (brackets tokens)
 
--- ---- 3. where no token stands in the way: the tree that is spelt decides; where none is spelt, Syntax at the place that is blamed
+-- ---- 3. the tree that is spelt decides; where none is spelt, Syntax at the place that is blamed
 
-abbrev pub AfterScreen : {A B : Type 0} → Rule A → (A → Outcome B) → List ℕ → List Token → Outcome (Unit {0}) → Outcome B → Type 0
+abbrev pub AfterScreen : {A B : Type 0} → Rule A → (A → Outcome B) → List ℕ → List Token
+    → Outcome (Unit {0}) → Outcome B → Type 0
 AfterScreen start settle text tokens (Err f) outcome = outcome ≡ Err f
 AfterScreen {A} start settle text tokens (Ok done) outcome =
     ((tree : A) × Spells grammar start tokens tree × (outcome ≡ settle tree))
-    ⊎ ((place : ℕ) × IsBlamed start (length text) tokens place × (outcome ≡ Err (fault.Syntax place)))
+    ⊎ ((place : ℕ) × IsBlamed start (length text) tokens place
+    × (outcome ≡ Err (fault.Syntax place)))
 
--- ---- 4. over the tree: whichever of a name's fault and of a limit's has the first place, and at one place the name's
+-- ---- 4. the first of a name's fault and of a limit's; at one place the name's
 
 abbrev pub nearer : QFault → ℕ → Option ℕ → QFault
 nearer f at None = f
@@ -95,7 +103,8 @@ is_variable kind.Var = true
 is_variable other = false
 
 unfoldable pub with_variable : Names → List Variable → Token → List Variable
-with_variable names found t = if is_variable t.kind then found ++ record { name = variable names t.span } ∷ [] else found
+with_variable names found t =
+    if is_variable t.kind then found ++ record { name = variable names t.span } ∷ [] else found
 
 abbrev pub named : Names → List Token → List Variable
 named names tokens = fold (with_variable names) [] tokens
@@ -103,35 +112,36 @@ named names tokens = fold (with_variable names) [] tokens
 abbrev pub variables_of : List ℕ → List Token → List Variable
 variables_of text tokens = named (nothing_declared text) tokens
 
--- ---- 4 and 5 of a tree: those variables, and after them those of the tree, are listed at last, each once
+-- ---- 4 and 5 of a tree: last, those variables and then those of the tree are listed, each once
 
 abbrev pub listed_query : Query → Query
 listed_query query = record query { variables = query_variables query }
 
 unfoldable pub query_outcome : List ℕ → List Token → WrittenQuery → Outcome Query
 query_outcome text tokens q =
-    and_then (and_then (by_place (resolved_query text (variables_of text tokens) q) (large.query q)) (in_scope query_keeps_scope))
-    (λ kept. Ok (listed_query kept))
+    and_then (and_then (by_place (resolved_query text (variables_of text tokens) q) (large.query q))
+    (in_scope query_keeps_scope)) (λ kept. Ok (listed_query kept))
 
 abbrev pub listed_update : Update → Update
 listed_update update = record update { variables = update_variables update }
 
 unfoldable pub update_outcome : List ℕ → List Token → WrittenUpdate → Outcome Update
 update_outcome text tokens u =
-    and_then (and_then (by_place (resolved_update text (variables_of text tokens) u) (large.update u)) (in_scope update_keeps_scope))
-    (λ kept. Ok (listed_update kept))
-
--- what no token spells: one step, without an operation
-abbrev pub no_operation : WrittenUpdate
-no_operation = record { steps = record { prologue = []; operation = None } ∷ [] }
+    and_then
+    (and_then (by_place (resolved_update text (variables_of text tokens) u) (large.update u))
+    (in_scope update_keeps_scope)) (λ kept. Ok (listed_update kept))
 
 -- ---- the whole
 
-abbrev pub IsOutcomeOfTokens : {A B : Type 0} → Rule A → (A → Outcome B) → List ℕ → List Token → Outcome B → Type 0
-IsOutcomeOfTokens start settle text tokens outcome = AfterScreen start settle text tokens (screened text tokens) outcome
+abbrev pub IsOutcomeOfTokens : {A B : Type 0} → Rule A → (A → Outcome B) → List ℕ → List Token
+    → Outcome B → Type 0
+IsOutcomeOfTokens start settle text tokens outcome =
+    AfterScreen start settle text tokens (screened text tokens) outcome
 
-abbrev pub IsParsed : {A B : Type 0} → Rule A → (List Token → A → Outcome B) → List ℕ → Outcome B → Type 0
-IsParsed start settle text outcome = ByTokens (λ tokens. IsOutcomeOfTokens start (settle tokens) text tokens) text outcome
+abbrev pub IsParsed : {A B : Type 0} → Rule A → (List Token → A → Outcome B) → List ℕ → Outcome B
+    → Type 0
+IsParsed start settle text outcome =
+    ByTokens (λ tokens. IsOutcomeOfTokens start (settle tokens) text tokens) text outcome
 
 abbrev pub IsQueryOutcome : List ℕ → Outcome Query → Type 0
 IsQueryOutcome text outcome = IsParsed rules.query (query_outcome text) text outcome

@@ -2,8 +2,6 @@
 use Rattle.std.specs.Prelude.{◌≡◌, ℕ, List, map, Option, Some, None, slice_get}
 use Rattle.qs_syntax_grammar.specs.Grammar.{Spells, IsDue}
 use Rattle.qs_lex.specs.Lexes.{Lexeme, Lexes}
-use Rattle.qs_terms.specs.declared.fault.QFault.{QFault}
-use Rattle.qs_terms.specs.declared.fault.QFault.TheVariants.{Syntax, Memory}
 use Rattle.qs_syntax_tree.specs.declared.token.Token.{Token}
 use Rattle.qs_syntax_tree.specs.Sparql.{Rule}
 use Rattle.qs_syntax_tree.specs.Table.{grammar}
@@ -22,14 +20,9 @@ place_or_end end (Some t) = t.span.start
 abbrev pub place_of_number : ℕ → ℕ → List Token → ℕ
 place_of_number end n tokens = place_or_end end (slice_get tokens n)
 
--- The tokens spell no tree, and this is the place of the first token such that no tokens that spell one begin with those up to it
--- and with it, or the end.
+-- The tokens spell no tree, and this is the place of the first token such that no tokens that spell
+-- one begin with those up to it and with it, or the end.
 abbrev pub IsBlamed : {A : Type 0} → Rule A → ℕ → List Token → ℕ → Type 0
 IsBlamed {A} start end tokens place =
-    ((tree : A) → Spells grammar start tokens tree → ⊥) × (n : ℕ) × IsDue grammar start tokens n × (place ≡ place_of_number end n tokens)
-
--- the place that is blamed
-abbrev pub IsTreeFault : {A : Type 0} → Rule A → ℕ → List Token → QFault → Type 0
-IsTreeFault start end tokens (Syntax place) = IsBlamed start end tokens place
-IsTreeFault start end tokens Memory = Unit {0}
-IsTreeFault start end tokens fault = ⊥
+    ((tree : A) → Spells grammar start tokens tree → ⊥) × (n : ℕ) × IsDue grammar start tokens n
+    × (place ≡ place_of_number end n tokens)

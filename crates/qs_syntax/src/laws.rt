@@ -5,10 +5,10 @@ ghost use Rattle.std.specs.List.{AllByRecursion};
 ghost use Rattle.std.specs.Str.{IsUtf8};
 ghost use Rattle.qs_syntax_ast.specs.declared.query.Query.{Query};
 ghost use Rattle.qs_syntax_ast.specs.declared.update.Update.{Update};
-ghost use Rattle.qs_syntax_scope.specs.Laws.{AreListed};
+ghost use Rattle.qs_syntax_scope.specs.inner.Laws.{AreListed};
 ghost use Rattle.qs_syntax_scope.specs.VariablesIn.{in_query, in_update};
 ghost use Rattle.qs_lex_escapes.specs.Piece.{piece};
-ghost use Rattle.qs_lex.specs.Fault.{HasToken};
+ghost use Rattle.qs_lex.specs.inner.Fault.{HasToken};
 ghost use Rattle.qs_lex.specs.Lexes.{Lexeme, Lexes};
 ghost use Rattle.qs_terms.specs.Outcome.{Outcome};
 ghost use Rattle.qs_terms.specs.declared.fault.QFault.TheVariants.{Syntax};
@@ -24,8 +24,10 @@ use qs_syntax_tree::laws::one_tree;
 
 /// A text results in one thing at most: one query, or one fault; and so does it as an update.
 pub fn one_outcome()
-    ensures of_query { (text : List ℕ) (one other : Outcome Query) → IsQueryOutcome text one → IsQueryOutcome text other → one ≡ other }
-    ensures of_update { (text : List ℕ) (one other : Outcome Update) → IsUpdateOutcome text one → IsUpdateOutcome text other → one ≡ other }
+    ensures of_query { (text : List ℕ) (one other : Outcome Query) → IsQueryOutcome text one
+        → IsQueryOutcome text other → one ≡ other }
+    ensures of_update { (text : List ℕ) (one other : Outcome Update) → IsUpdateOutcome text one
+        → IsUpdateOutcome text other → one ≡ other }
 {
     one_token_list();
     one_tree();
@@ -33,8 +35,10 @@ pub fn one_outcome()
 
 /// A text results in something: to a query, or to a fault that is due; and so does it as an update.
 pub fn some_outcome()
-    ensures of_query { (text : List ℕ) → IsUtf8 text → (outcome : Outcome Query) × IsQueryOutcome text outcome }
-    ensures of_update { (text : List ℕ) → IsUtf8 text → (outcome : Outcome Update) × IsUpdateOutcome text outcome }
+    ensures of_query { (text : List ℕ) → IsUtf8 text → (outcome : Outcome Query)
+        × IsQueryOutcome text outcome }
+    ensures of_update { (text : List ℕ) → IsUtf8 text → (outcome : Outcome Update)
+        × IsUpdateOutcome text outcome }
 {
     some_token_list();
 }
@@ -44,8 +48,11 @@ pub fn some_outcome()
 /// IRI; a decoded IRI, and a local name without its backslashes, have no character that IRIs exclude; and a tag is one in the eyes of the
 /// terms. So what the definitions say of other pieces, backslashes, IRIs and tags never applies.
 pub fn tokens_are_granted()
-    ensures pieces { (text : List ℕ) (ts : List Lexeme) → IsUtf8 text → Lexes text ts → AllByRecursion (λ t. piece text (token_of t).span.start (token_of t).span.end ≡ t.text) ts }
-    ensures parts { (text : List ℕ) (tokens : List Token) → IsUtf8 text → AreTokensOf text tokens → AllByRecursion (IsGrantedToken text) tokens }
+    ensures pieces { (text : List ℕ) (ts : List Lexeme) → IsUtf8 text → Lexes text ts
+        → AllByRecursion (λ t. piece text (token_of t).span.start (token_of t).span.end ≡ t.text)
+        ts }
+    ensures parts { (text : List ℕ) (tokens : List Token) → IsUtf8 text → AreTokensOf text tokens
+        → AllByRecursion (IsGrantedToken text) tokens }
 {
     tokens_are_sound();
 }
@@ -60,8 +67,10 @@ pub fn empty_text_is_no_query()
 
 /// Each variable that stands anywhere in the query of a text is among the variables that the query lists; and so in an update.
 pub fn variables_are_listed()
-    ensures of_query { (text : List ℕ) (query : Query) → IsQueryOutcome text (Ok query) → AreListed query.variables (in_query query) }
-    ensures of_update { (text : List ℕ) (update : Update) → IsUpdateOutcome text (Ok update) → AreListed update.variables (in_update update) }
+    ensures of_query { (text : List ℕ) (query : Query) → IsQueryOutcome text (Ok query)
+        → AreListed query.variables (in_query query) }
+    ensures of_update { (text : List ℕ) (update : Update) → IsUpdateOutcome text (Ok update)
+        → AreListed update.variables (in_update update) }
 {
     all_variables_are_listed();
 }

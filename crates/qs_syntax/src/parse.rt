@@ -5,7 +5,7 @@
 
 ghost use Rattle.std.specs.Prelude.{◌≡◌, IfOk, IfErr, length};
 ghost use Rattle.qs_syntax_grammar.specs.Grammar.{Spells};
-ghost use Rattle.qs_lex.specs.Fault.{HasToken};
+ghost use Rattle.qs_lex.specs.inner.Fault.{HasToken};
 ghost use Rattle.qs_syntax_tree.specs.Rules as rules;
 ghost use Rattle.qs_syntax_tree.specs.Table.{grammar};
 ghost use Rattle.qs_terms.specs.Outcome.{OneOrOutOfMemory};
@@ -23,7 +23,8 @@ use qs_terms::QFault;
 use std::alloc::Global;
 
 fn query_of(alloc: Global, text: &str, tokens: &[Token]) -> Result<Query, QFault>
-    ensures { OneOrOutOfMemory (IsOutcomeOfTokens rules.query (query_outcome text.now tokens.now) text.now tokens.now) result }
+    ensures { OneOrOutOfMemory (IsOutcomeOfTokens rules.query (query_outcome text.now tokens.now)
+        text.now tokens.now) result }
 {
     check_tokens(alloc, text, tokens)?;
     let tree = query_of_tokens(alloc, text.len(), tokens)?;
@@ -31,7 +32,8 @@ fn query_of(alloc: Global, text: &str, tokens: &[Token]) -> Result<Query, QFault
 }
 
 fn update_of(alloc: Global, text: &str, tokens: &[Token]) -> Result<Update, QFault>
-    ensures { OneOrOutOfMemory (IsOutcomeOfTokens rules.update (update_outcome text.now tokens.now) text.now tokens.now) result }
+    ensures { OneOrOutOfMemory (IsOutcomeOfTokens rules.update (update_outcome text.now tokens.now)
+        text.now tokens.now) result }
 {
     check_tokens(alloc, text, tokens)?;
     let tree = update_of_tokens(alloc, text.len(), tokens)?;

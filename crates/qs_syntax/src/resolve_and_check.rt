@@ -8,8 +8,9 @@ ghost use Rattle.qs_terms.specs.declared.fault.QFault.TheVariants.{Memory, Scope
 ghost use Rattle.qs_syntax_limits.specs.Large as large;
 ghost use Rattle.qs_syntax_resolve.specs.Resolved.{resolved_query, resolved_update};
 ghost use Rattle.qs_syntax_scope.specs.KeepsScope as rule;
-ghost use Rattle.qs_terms.specs.Outcome.{OrOutOfMemory};
+ghost use Rattle.qs_terms.specs.inner.Outcome.{OrOutOfMemory};
 ghost use Rattle.qs_syntax.specs.Outcome as spec;
+ghost use Rattle.qs_syntax.specs.inner.Outcome as inner;
 
 use qs_base::keep_beside;
 use qs_syntax_ast::query::Query;
@@ -187,7 +188,9 @@ fn query_within(
     tokens: &[Token],
     tree: &WrittenQuery,
 ) -> Result<Query, QFault>
-    ensures { OrOutOfMemory (spec.by_place (resolved_query text.now (spec.variables_of text.now tokens.now) tree.now) (large.query tree.now)) result }
+    ensures { OrOutOfMemory
+        (spec.by_place (resolved_query text.now (spec.variables_of text.now tokens.now) tree.now)
+        (large.query tree.now)) result }
 {
     let large = large_query(tree);
     let variables = variables_within(alloc, text, tokens, large)?;
@@ -217,7 +220,9 @@ fn update_within(
     tokens: &[Token],
     tree: WrittenUpdate,
 ) -> Result<Update, QFault>
-    ensures { OrOutOfMemory (spec.by_place (resolved_update text.now (spec.variables_of text.now tokens.now) tree) (large.update tree)) result }
+    ensures { OrOutOfMemory
+        (spec.by_place (resolved_update text.now (spec.variables_of text.now tokens.now) tree)
+        (large.update tree)) result }
 {
     let large = large_update(&tree);
     let variables = variables_within(alloc, text, tokens, large)?;
@@ -242,7 +247,7 @@ pub(crate) fn resolve_and_check_update(
 
 /// The update that no token spells. It takes no memory.
 pub(crate) fn settle_nothing(alloc: Global) -> Update
-    ensures { (text : List ℕ) → spec.update_outcome text [] spec.no_operation ≡ Ok result }
+    ensures { (text : List ℕ) → spec.update_outcome text [] inner.no_operation ≡ Ok result }
 {
     Update {
         operations: Items::new(alloc),

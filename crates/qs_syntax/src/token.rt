@@ -1,8 +1,8 @@
 //! The tokens of a text, by kind.
 
 ghost use Rattle.std.specs.Prelude.{◌≡◌, ◌≤◌, ◌+◌, length, MatchResult};
-ghost use Rattle.qs_lex.specs.Fault.{IsFaultOf};
-ghost use Rattle.qs_lex.specs.Lexes.{lexeme};
+ghost use Rattle.qs_lex.specs.inner.Fault.{IsFaultOf};
+ghost use Rattle.qs_lex.specs.inner.Lexes.{lexeme};
 ghost use Rattle.qs_syntax.specs.Kinds.{kind_of, token_of};
 ghost use Rattle.qs_syntax.specs.Text.{AreTokensOf};
 
@@ -53,7 +53,8 @@ fn token_of(text: &str, t: &qs_lex::Token<'_>) -> Token
 /// `QFault::Syntax` with the first byte place, after white space and comments, at which no token begins. `QFault::Memory` for
 /// running out of memory, which comes only where the text begins with a token.
 pub fn tokens(alloc: Global, text: &str) -> Result<Vec<Token>, QFault>
-    ensures { MatchResult result (λ v. AreTokensOf text.now v.items) (λ fault. IsFaultOf text.now fault) }
+    ensures { MatchResult result (λ v. AreTokensOf text.now v.items)
+        (λ fault. IsFaultOf text.now fault) }
 {
     let mut tokens = Vec::new(alloc);
     let mut lexer = Lexer::new(text);

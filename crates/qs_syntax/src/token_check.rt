@@ -1,6 +1,6 @@
 //! Faults of the tokens by themselves.
 
-ghost use Rattle.qs_terms.specs.Outcome.{OrOutOfMemory};
+ghost use Rattle.qs_terms.specs.inner.Outcome.{OrOutOfMemory};
 ghost use Rattle.qs_syntax.specs.Outcome as spec;
 
 use qs_syntax_limits::{brackets, left_out};

@@ -2,7 +2,8 @@
 
 ghost use Rattle.std.specs.Prelude.{◌≡◌, IfOk, IfErr};
 ghost use Rattle.qs_syntax_grammar.specs.Grammar.{Spells};
-ghost use Rattle.qs_syntax.specs.Text.{IsTreeFault, place_of_number};
+ghost use Rattle.qs_syntax.specs.Text.{place_of_number};
+ghost use Rattle.qs_syntax.specs.inner.Text.{IsTreeFault};
 ghost use Rattle.qs_syntax_tree.specs.Rules as rules;
 ghost use Rattle.qs_syntax_tree.specs.Table.{grammar};
 

@@ -1,11 +1,14 @@
 //! Group graph patterns (SPARQL 1.1 Query, 5).
 
+ghost use Rattle.std.specs.Prelude.{◌≡◌, IfOk};
+
 use crate::expression::Expression;
 use crate::path::Path;
 use crate::shared::Shared;
 use crate::term::{TermPattern, VarOrIri, Variable};
 use qs_terms::{Iri, Term};
 use sqlite_items::Items;
+use std::alloc::AllocError;
 
 /// What stands between a subject and an object.
 #[derive(Drop)]
@@ -13,14 +16,27 @@ pub enum Verb {
     Variable(Variable),
     Iri(Iri),
     /// More than one IRI. It stands in no template.
-    Path(Path),
+    Path(Shared<Path>),
 }
 
-/// A triple. Those that are written with one subject, or with one verb, have it in common.
+impl Verb {
+    /// The verb once more. It takes no memory.
+    pub fn share(&self) -> Result<Verb, AllocError>
+        ensures { IfOk result (λ v. v ≡ self.now) }
+    {
+        match self {
+            Verb::Variable(variable) => Ok(Verb::Variable(variable.share()?)),
+            Verb::Iri(iri) => Ok(Verb::Iri(iri.try_clone()?)),
+            Verb::Path(path) => Ok(Verb::Path(path.share()?)),
+        }
+    }
+}
+
+/// A triple. Those that are written with one subject, or with one verb, have its texts in common.
 #[derive(Drop)]
 pub struct Triple {
-    pub subject: Shared<TermPattern>,
-    pub verb: Shared<Verb>,
+    pub subject: TermPattern,
+    pub verb: Verb,
     pub object: TermPattern,
 }
 

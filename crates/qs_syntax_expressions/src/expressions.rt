@@ -1,6 +1,6 @@
 //! Expressions (SPARQL 1.1 Query, 19.8, [110]).
 
-ghost use Rattle.qs_syntax_grammar.specs.Grammar.{read};
+ghost use Rattle.qs_syntax_grammar.specs.inner.Grammar.{read};
 ghost use Rattle.qs_syntax_grammar.specs.inner.Reading.{Reads};
 ghost use Rattle.qs_syntax_grammar.specs.Rule.{ref};
 ghost use Rattle.qs_syntax_tree.specs.Rules as rules;

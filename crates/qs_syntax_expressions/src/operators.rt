@@ -4,7 +4,7 @@
 //! A signed number after an operand is added, with its own factors: `1 -2*3` is `1 + ((-2)*3)`. `-2*3` is a chain of `*` whose
 //! first operand is the signed number; the chain is at once an operand of the sum, at the same place.
 
-ghost use Rattle.qs_syntax_grammar.specs.Grammar.{read};
+ghost use Rattle.qs_syntax_grammar.specs.inner.Grammar.{read};
 ghost use Rattle.qs_syntax_grammar.specs.Notation.{opt};
 ghost use Rattle.qs_syntax_grammar.specs.inner.Reading.{Reads};
 ghost use Rattle.qs_syntax_grammar.specs.Rule.{ref};
@@ -36,7 +36,8 @@ pub struct Operators<F> {
 impl<F: Fn(Parser, &mut Tokens<'_>) -> Result<Expression, Fault>> Operators<F> {
     fn expression(&self, tokens: &mut Tokens<'_>) -> Result<Expression, Fault>
         requires { Nests self.now.parser (F.pre self.now.expression) (F.post self.now.expression) }
-        ensures { Reads (read grammar self.now.parser.depth (ref name.expression) tokens.old) result tokens.new }
+        ensures { Reads (read grammar self.now.parser.depth (ref name.expression) tokens.old) result
+            tokens.new }
     {
         (self.expression)(self.parser, tokens)
     }
@@ -44,7 +45,8 @@ impl<F: Fn(Parser, &mut Tokens<'_>) -> Result<Expression, Fault>> Operators<F> {
     #[tactic(auto, unfolding(qs_syntax_tree::specs::Rules::parenthesized))]
     pub fn parenthesized_expression(&self, tokens: &mut Tokens<'_>) -> Result<Expression, Fault>
         requires { Nests self.now.parser (F.pre self.now.expression) (F.post self.now.expression) }
-        ensures { Reads (read grammar self.now.parser.depth rules.parenthesized tokens.old) result tokens.new }
+        ensures { Reads (read grammar self.now.parser.depth rules.parenthesized tokens.old) result
+            tokens.new }
     {
         tokens.expect(Kind::LeftParen)?;
         let inner = self.expression(tokens)?;
@@ -54,7 +56,8 @@ impl<F: Fn(Parser, &mut Tokens<'_>) -> Result<Expression, Fault>> Operators<F> {
     #[tactic(auto, unfolding(qs_syntax_tree::specs::Rules::next_argument))]
     fn next_argument(&self, tokens: &mut Tokens<'_>) -> Result<Expression, Fault>
         requires { Nests self.now.parser (F.pre self.now.expression) (F.post self.now.expression) }
-        ensures { Reads (read grammar self.now.parser.depth rules.next_argument tokens.old) result tokens.new }
+        ensures { Reads (read grammar self.now.parser.depth rules.next_argument tokens.old) result
+            tokens.new }
     {
         tokens.expect(Kind::Comma)?;
         self.expression(tokens)
@@ -63,7 +66,8 @@ impl<F: Fn(Parser, &mut Tokens<'_>) -> Result<Expression, Fault>> Operators<F> {
     #[tactic(auto, unfolding(qs_syntax_tree::specs::Rules::two_expressions))]
     fn two_expressions(&self, tokens: &mut Tokens<'_>) -> Result<(Expression, Expression), Fault>
         requires { Nests self.now.parser (F.pre self.now.expression) (F.post self.now.expression) }
-        ensures { Reads (read grammar self.now.parser.depth rules.two_expressions tokens.old) result tokens.new }
+        ensures { Reads (read grammar self.now.parser.depth rules.two_expressions tokens.old) result
+            tokens.new }
     {
         let first = self.expression(tokens)?;
         keep_beside(first, self.next_argument(tokens))
@@ -75,7 +79,8 @@ impl<F: Fn(Parser, &mut Tokens<'_>) -> Result<Expression, Fault>> Operators<F> {
         tokens: &mut Tokens<'_>,
     ) -> Result<((Expression, Expression), Expression), Fault>
         requires { Nests self.now.parser (F.pre self.now.expression) (F.post self.now.expression) }
-        ensures { Reads (read grammar self.now.parser.depth rules.three_expressions tokens.old) result tokens.new }
+        ensures { Reads (read grammar self.now.parser.depth rules.three_expressions tokens.old)
+            result tokens.new }
     {
         let two = self.two_expressions(tokens)?;
         keep_beside(two, self.next_argument(tokens))
@@ -84,7 +89,8 @@ impl<F: Fn(Parser, &mut Tokens<'_>) -> Result<Expression, Fault>> Operators<F> {
     #[tactic(auto, unfolding(qs_syntax_tree::specs::Rules::two_arguments))]
     fn two_arguments(&self, tokens: &mut Tokens<'_>) -> Result<(Expression, Expression), Fault>
         requires { Nests self.now.parser (F.pre self.now.expression) (F.post self.now.expression) }
-        ensures { Reads (read grammar self.now.parser.depth rules.two_arguments tokens.old) result tokens.new }
+        ensures { Reads (read grammar self.now.parser.depth rules.two_arguments tokens.old) result
+            tokens.new }
     {
         tokens.expect(Kind::LeftParen)?;
         let two = self.two_expressions(tokens)?;
@@ -97,7 +103,8 @@ impl<F: Fn(Parser, &mut Tokens<'_>) -> Result<Expression, Fault>> Operators<F> {
         tokens: &mut Tokens<'_>,
     ) -> Result<((Expression, Expression), Expression), Fault>
         requires { Nests self.now.parser (F.pre self.now.expression) (F.post self.now.expression) }
-        ensures { Reads (read grammar self.now.parser.depth rules.three_arguments tokens.old) result tokens.new }
+        ensures { Reads (read grammar self.now.parser.depth rules.three_arguments tokens.old) result
+            tokens.new }
     {
         tokens.expect(Kind::LeftParen)?;
         let three = self.three_expressions(tokens)?;
@@ -106,7 +113,8 @@ impl<F: Fn(Parser, &mut Tokens<'_>) -> Result<Expression, Fault>> Operators<F> {
 
     fn more_expressions(&self, tokens: &mut Tokens<'_>) -> Result<Items<Expression>, Fault>
         requires { Nests self.now.parser (F.pre self.now.expression) (F.post self.now.expression) }
-        ensures { Reads (read grammar self.now.parser.depth rules.more_expressions tokens.old) result tokens.new }
+        ensures { Reads (read grammar self.now.parser.depth rules.more_expressions tokens.old)
+            result tokens.new }
     {
         let mut found = Items::new(self.parser.alloc);
         for _turn in 0..tokens.turns() {
@@ -122,7 +130,8 @@ impl<F: Fn(Parser, &mut Tokens<'_>) -> Result<Expression, Fault>> Operators<F> {
     #[tactic(auto, unfolding(qs_syntax_tree::specs::Rules::list))]
     fn list(&self, tokens: &mut Tokens<'_>) -> Result<Items<Expression>, Fault>
         requires { Nests self.now.parser (F.pre self.now.expression) (F.post self.now.expression) }
-        ensures { Reads (read grammar self.now.parser.depth rules.list tokens.old) result tokens.new }
+        ensures { Reads (read grammar self.now.parser.depth rules.list tokens.old) result
+            tokens.new }
     {
         tokens.expect(Kind::LeftParen)?;
         let mut found = Items::new(self.parser.alloc);
@@ -137,7 +146,8 @@ impl<F: Fn(Parser, &mut Tokens<'_>) -> Result<Expression, Fault>> Operators<F> {
     #[tactic(auto, using(crate::proofs::FirstKinds::first_unary_function, crate::proofs::FirstKinds::nullable_unary_function), unfolding(qs_syntax_tree::specs::Rules::call))]
     pub fn call(&self, tokens: &mut Tokens<'_>) -> Result<Call, Fault>
         requires { Nests self.now.parser (F.pre self.now.expression) (F.post self.now.expression) }
-        ensures { Reads (read grammar self.now.parser.depth rules.call tokens.old) result tokens.new }
+        ensures { Reads (read grammar self.now.parser.depth rules.call tokens.old) result
+            tokens.new }
     {
         if tokens.peek_is(&[Kind::Bound]) {
             tokens.expect(Kind::Bound)?;
@@ -169,7 +179,8 @@ impl<F: Fn(Parser, &mut Tokens<'_>) -> Result<Expression, Fault>> Operators<F> {
     #[tactic(auto, using(crate::proofs::FirstKinds::first_parenthesized, crate::proofs::FirstKinds::first_call), unfolding(qs_syntax_tree::specs::Rules::atom))]
     fn atom(&self, tokens: &mut Tokens<'_>) -> Result<Expression, Fault>
         requires { Nests self.now.parser (F.pre self.now.expression) (F.post self.now.expression) }
-        ensures { Reads (read grammar self.now.parser.depth rules.atom tokens.old) result tokens.new }
+        ensures { Reads (read grammar self.now.parser.depth rules.atom tokens.old) result
+            tokens.new }
     {
         if tokens.peek_is(&[Kind::LeftParen]) {
             return self.parenthesized_expression(tokens);
@@ -183,7 +194,8 @@ impl<F: Fn(Parser, &mut Tokens<'_>) -> Result<Expression, Fault>> Operators<F> {
     #[tactic(auto, unfolding(qs_syntax_tree::specs::Rules::unary))]
     fn unary(&self, tokens: &mut Tokens<'_>) -> Result<Expression, Fault>
         requires { Nests self.now.parser (F.pre self.now.expression) (F.post self.now.expression) }
-        ensures { Reads (read grammar self.now.parser.depth rules.unary tokens.old) result tokens.new }
+        ensures { Reads (read grammar self.now.parser.depth rules.unary tokens.old) result
+            tokens.new }
     {
         if tokens.peek_is(&[Kind::Bang]) {
             tokens.expect(Kind::Bang)?;
@@ -205,7 +217,8 @@ impl<F: Fn(Parser, &mut Tokens<'_>) -> Result<Expression, Fault>> Operators<F> {
 
     fn more_factors(&self, tokens: &mut Tokens<'_>) -> Result<Items<Operand>, Fault>
         requires { Nests self.now.parser (F.pre self.now.expression) (F.post self.now.expression) }
-        ensures { Reads (read grammar self.now.parser.depth rules.more_factors tokens.old) result tokens.new }
+        ensures { Reads (read grammar self.now.parser.depth rules.more_factors tokens.old) result
+            tokens.new }
     {
         let mut found = Items::new(self.parser.alloc);
         for _turn in 0..tokens.turns() {
@@ -223,7 +236,8 @@ impl<F: Fn(Parser, &mut Tokens<'_>) -> Result<Expression, Fault>> Operators<F> {
     #[tactic(auto, unfolding(qs_syntax_tree::specs::Rules::product))]
     fn product(&self, tokens: &mut Tokens<'_>) -> Result<Expression, Fault>
         requires { Nests self.now.parser (F.pre self.now.expression) (F.post self.now.expression) }
-        ensures { Reads (read grammar self.now.parser.depth rules.product tokens.old) result tokens.new }
+        ensures { Reads (read grammar self.now.parser.depth rules.product tokens.old) result
+            tokens.new }
     {
         let place = tokens.place();
         let expression = self.unary(tokens)?;
@@ -234,7 +248,8 @@ impl<F: Fn(Parser, &mut Tokens<'_>) -> Result<Expression, Fault>> Operators<F> {
     #[tactic(auto, unfolding(qs_syntax_tree::specs::Rules::signed_product))]
     fn signed_product(&self, tokens: &mut Tokens<'_>) -> Result<Expression, Fault>
         requires { Nests self.now.parser (F.pre self.now.expression) (F.post self.now.expression) }
-        ensures { Reads (read grammar self.now.parser.depth rules.signed_product tokens.old) result tokens.new }
+        ensures { Reads (read grammar self.now.parser.depth rules.signed_product tokens.old) result
+            tokens.new }
     {
         let place = tokens.place();
         let signed = tokens.expect(Kind::Signed)?.span;
@@ -246,7 +261,8 @@ impl<F: Fn(Parser, &mut Tokens<'_>) -> Result<Expression, Fault>> Operators<F> {
     #[tactic(auto, unfolding(qs_syntax_tree::specs::Rules::addend))]
     fn addend(&self, tokens: &mut Tokens<'_>) -> Result<Addend, Fault>
         requires { Nests self.now.parser (F.pre self.now.expression) (F.post self.now.expression) }
-        ensures { Reads (read grammar self.now.parser.depth rules.addend tokens.old) result tokens.new }
+        ensures { Reads (read grammar self.now.parser.depth rules.addend tokens.old) result
+            tokens.new }
     {
         if tokens.peek_is(&[Kind::Plus]) {
             tokens.expect(Kind::Plus)?;
@@ -276,7 +292,8 @@ impl<F: Fn(Parser, &mut Tokens<'_>) -> Result<Expression, Fault>> Operators<F> {
 
     fn addends(&self, tokens: &mut Tokens<'_>) -> Result<Items<Addend>, Fault>
         requires { Nests self.now.parser (F.pre self.now.expression) (F.post self.now.expression) }
-        ensures { Reads (read grammar self.now.parser.depth rules.addends tokens.old) result tokens.new }
+        ensures { Reads (read grammar self.now.parser.depth rules.addends tokens.old) result
+            tokens.new }
     {
         let mut found = Items::new(self.parser.alloc);
         for _turn in 0..tokens.turns() {
@@ -292,7 +309,8 @@ impl<F: Fn(Parser, &mut Tokens<'_>) -> Result<Expression, Fault>> Operators<F> {
     #[tactic(auto, unfolding(qs_syntax_tree::specs::Rules::additive))]
     fn additive(&self, tokens: &mut Tokens<'_>) -> Result<Expression, Fault>
         requires { Nests self.now.parser (F.pre self.now.expression) (F.post self.now.expression) }
-        ensures { Reads (read grammar self.now.parser.depth rules.additive tokens.old) result tokens.new }
+        ensures { Reads (read grammar self.now.parser.depth rules.additive tokens.old) result
+            tokens.new }
     {
         let place = tokens.place();
         let expression = self.product(tokens)?;
@@ -303,7 +321,8 @@ impl<F: Fn(Parser, &mut Tokens<'_>) -> Result<Expression, Fault>> Operators<F> {
     #[tactic(auto, using(crate::proofs::FirstKinds::first_comparison, crate::proofs::FirstKinds::nullable_comparison), unfolding(qs_syntax_tree::specs::Rules::relation))]
     fn relation(&self, tokens: &mut Tokens<'_>) -> Result<Relation, Fault>
         requires { Nests self.now.parser (F.pre self.now.expression) (F.post self.now.expression) }
-        ensures { Reads (read grammar self.now.parser.depth rules.relation tokens.old) result tokens.new }
+        ensures { Reads (read grammar self.now.parser.depth rules.relation tokens.old) result
+            tokens.new }
     {
         if tokens.peek_is(&COMPARISONS) {
             let comparison = self.parser.comparison(tokens)?;
@@ -321,7 +340,8 @@ impl<F: Fn(Parser, &mut Tokens<'_>) -> Result<Expression, Fault>> Operators<F> {
     #[tactic(auto, using(crate::proofs::FirstKinds::first_relation))]
     fn relation_after(&self, tokens: &mut Tokens<'_>) -> Result<Option<Relation>, Fault>
         requires { Nests self.now.parser (F.pre self.now.expression) (F.post self.now.expression) }
-        ensures { Reads (read grammar self.now.parser.depth (opt rules.relation) tokens.old) result tokens.new }
+        ensures { Reads (read grammar self.now.parser.depth (opt rules.relation) tokens.old) result
+            tokens.new }
     {
         if !tokens.peek_is(&RELATIONS) {
             return Ok(None);
@@ -332,7 +352,8 @@ impl<F: Fn(Parser, &mut Tokens<'_>) -> Result<Expression, Fault>> Operators<F> {
     #[tactic(auto, unfolding(qs_syntax_tree::specs::Rules::relational))]
     fn relational(&self, tokens: &mut Tokens<'_>) -> Result<Expression, Fault>
         requires { Nests self.now.parser (F.pre self.now.expression) (F.post self.now.expression) }
-        ensures { Reads (read grammar self.now.parser.depth rules.relational tokens.old) result tokens.new }
+        ensures { Reads (read grammar self.now.parser.depth rules.relational tokens.old) result
+            tokens.new }
     {
         let first = self.additive(tokens)?;
         let (first, relation) = keep_beside(first, self.relation_after(tokens))?;
@@ -341,7 +362,8 @@ impl<F: Fn(Parser, &mut Tokens<'_>) -> Result<Expression, Fault>> Operators<F> {
 
     fn more_relationals(&self, tokens: &mut Tokens<'_>) -> Result<Items<Operand>, Fault>
         requires { Nests self.now.parser (F.pre self.now.expression) (F.post self.now.expression) }
-        ensures { Reads (read grammar self.now.parser.depth rules.more_relationals tokens.old) result tokens.new }
+        ensures { Reads (read grammar self.now.parser.depth rules.more_relationals tokens.old)
+            result tokens.new }
     {
         let mut found = Items::new(self.parser.alloc);
         for _turn in 0..tokens.turns() {
@@ -359,7 +381,8 @@ impl<F: Fn(Parser, &mut Tokens<'_>) -> Result<Expression, Fault>> Operators<F> {
     #[tactic(auto, unfolding(qs_syntax_tree::specs::Rules::conjunction))]
     fn conjunction(&self, tokens: &mut Tokens<'_>) -> Result<Expression, Fault>
         requires { Nests self.now.parser (F.pre self.now.expression) (F.post self.now.expression) }
-        ensures { Reads (read grammar self.now.parser.depth rules.conjunction tokens.old) result tokens.new }
+        ensures { Reads (read grammar self.now.parser.depth rules.conjunction tokens.old) result
+            tokens.new }
     {
         let place = tokens.place();
         let expression = self.relational(tokens)?;
@@ -369,7 +392,8 @@ impl<F: Fn(Parser, &mut Tokens<'_>) -> Result<Expression, Fault>> Operators<F> {
 
     fn more_conjunctions(&self, tokens: &mut Tokens<'_>) -> Result<Items<Operand>, Fault>
         requires { Nests self.now.parser (F.pre self.now.expression) (F.post self.now.expression) }
-        ensures { Reads (read grammar self.now.parser.depth rules.more_conjunctions tokens.old) result tokens.new }
+        ensures { Reads (read grammar self.now.parser.depth rules.more_conjunctions tokens.old)
+            result tokens.new }
     {
         let mut found = Items::new(self.parser.alloc);
         for _turn in 0..tokens.turns() {
@@ -387,7 +411,8 @@ impl<F: Fn(Parser, &mut Tokens<'_>) -> Result<Expression, Fault>> Operators<F> {
     #[tactic(auto, unfolding(qs_syntax_tree::specs::Rules::expression_rule))]
     pub fn disjunction(&self, tokens: &mut Tokens<'_>) -> Result<Expression, Fault>
         requires { Nests self.now.parser (F.pre self.now.expression) (F.post self.now.expression) }
-        ensures { Reads (read grammar self.now.parser.depth rules.expression_rule tokens.old) result tokens.new }
+        ensures { Reads (read grammar self.now.parser.depth rules.expression_rule tokens.old) result
+            tokens.new }
     {
         let place = tokens.place();
         let expression = self.conjunction(tokens)?;

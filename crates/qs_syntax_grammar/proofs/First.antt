@@ -4,7 +4,8 @@ use Rattle.std.proofs.lemmas.List.{take_at}
 use Rattle.qs_syntax_grammar.specs.declared.fault.Fault.TheVariants.{Memory, Deep, Syntax}
 use Rattle.qs_syntax_grammar.specs.Rule.{Language, Rule, Spelt}
 use Rattle.qs_syntax_grammar.specs.inner.Reading.{Outcome}
-use Rattle.qs_syntax_grammar.specs.Grammar.{Grammar, spelt_at, read_at, read, IsViable, whole, passes, is_start}
+use Rattle.qs_syntax_grammar.specs.Grammar.{Grammar, spelt_at, IsViable}
+use Rattle.qs_syntax_grammar.specs.inner.Grammar.{read_at, read, whole, passes, is_start}
 use Rattle.qs_syntax_grammar.proofs.Laws.{Lawful}
 use Rattle.qs_syntax_grammar.proofs.Outcomes.{IfRead}
 use Rattle.qs_syntax_grammar.proofs.Sound.{Takes, sound}

@@ -3,7 +3,8 @@ use Rattle.std.proofs.Common.{◌≡◌, ◌<◌, ◌≤◌, ℕ, zero, suc, tru
 use Rattle.std.proofs.lemmas.Bool.{and_parts, not-true, both_ways}
 use Rattle.qs_syntax_grammar.specs.Rule.{Language, Rule}
 use Rattle.qs_syntax_grammar.specs.inner.Reading.{starts, first, nullable, more, within, is_sure, opens}
-use Rattle.qs_syntax_grammar.specs.Grammar.{Grammar, spelt_at, read_at, passes, is_start}
+use Rattle.qs_syntax_grammar.specs.Grammar.{Grammar, spelt_at}
+use Rattle.qs_syntax_grammar.specs.inner.Grammar.{read_at, passes, is_start}
 use Rattle.qs_syntax_grammar.proofs.Laws.{Lawful}
 use Rattle.qs_syntax_grammar.proofs.Outcomes.{IfRead, Extends, IsShallow, LeavesAtMost}
 use Rattle.qs_syntax_grammar.proofs.Sound.{Takes, sound}

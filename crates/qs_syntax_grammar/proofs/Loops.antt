@@ -4,7 +4,8 @@ use Rattle.qs_syntax_grammar.specs.declared.fault.Fault.{Fault}
 use Rattle.qs_syntax_grammar.specs.declared.fault.Fault.TheVariants.{Deep}
 use Rattle.qs_syntax_grammar.specs.Rule.{Language, Rule, token}
 use Rattle.qs_syntax_grammar.specs.inner.Reading.{Reader, Outcome, and_then, starts, loop, first, take_kind}
-use Rattle.qs_syntax_grammar.specs.Grammar.{Grammar, read}
+use Rattle.qs_syntax_grammar.specs.Grammar.{Grammar}
+use Rattle.qs_syntax_grammar.specs.inner.Grammar.{read}
 use Rattle.qs_syntax_grammar.specs.inner.Repeated.{into, push, keep}
 use Rattle.qs_syntax_grammar.specs.Notation.{cons, kept, joined, opt, ◌>>◌}
 

@@ -5,7 +5,8 @@ use Rattle.qs_syntax_grammar.specs.declared.fault.Fault.{Fault}
 use Rattle.qs_syntax_grammar.specs.declared.fault.Fault.TheVariants.{Memory, Deep, Syntax}
 use Rattle.qs_syntax_grammar.specs.Rule.{Language, Rule, Spelt}
 use Rattle.qs_syntax_grammar.specs.inner.Reading.{Outcome, is_sure, opens}
-use Rattle.qs_syntax_grammar.specs.Grammar.{Grammar, spelt_at, read_at, read, Spells, IsDue, whole, passes, is_start}
+use Rattle.qs_syntax_grammar.specs.Grammar.{Grammar, spelt_at, Spells, IsDue}
+use Rattle.qs_syntax_grammar.specs.inner.Grammar.{read_at, read, whole, passes, is_start}
 use Rattle.qs_syntax_grammar.proofs.Laws.{Lawful}
 use Rattle.qs_syntax_grammar.proofs.First.{is_viable}
 use Rattle.qs_syntax_grammar.proofs.Viable.{Example}

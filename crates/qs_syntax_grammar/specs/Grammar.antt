@@ -1,13 +1,12 @@
 -- What a grammar spells, how it is read, and the test that it must pass.
--- A law over all grammars is a statement over types, which no contract of a call can make. So laws of grammars are lemmas that
--- proofs above cite, as they cite std's; for SPARQL's grammar they are clauses of public calls.
-use Rattle.std.specs.Prelude.{◌<◌, ◌≤◌, ◌+◌, ℕ, zero, suc, Bool, not, ◌&&◌, List, [], ◌∷◌, ◌++◌, length, take, Result, Ok, Err}
-use Rattle.qs_syntax_grammar.specs.declared.fault.Fault.{Fault}
-use Rattle.qs_syntax_grammar.specs.declared.fault.Fault.TheVariants.{Deep, Syntax}
+-- A law over all grammars is a statement over types, which no contract of a call can make. So laws
+-- of grammars are lemmas that proofs above cite, as they cite std's; for SPARQL's grammar they are
+-- clauses of public calls.
+use Rattle.std.specs.Prelude.{◌<◌, ◌≤◌, ◌+◌, ℕ, zero, suc, List, ◌++◌, length, take}
 use Rattle.qs_syntax_grammar.specs.Rule.{Language, Rule, Spelt}
-use Rattle.qs_syntax_grammar.specs.inner.Reading.{Outcome, Reader, reading, first, more, nullable, within, is_sure, opens}
 
--- The named rules. The tables say for each what it begins with, and what may go on with it: any that pass the test are right.
+-- The named rules. The tables say for each what it begins with, and what may go on with it: any
+-- that pass the test are right.
 pub record Grammar (L : Language) : Type 1 where
   pub rule : (n : L.Name) → Rule L (L.Tree n)
   pub firsts : L.Name → List L.Kind
@@ -16,7 +15,8 @@ pub record Grammar (L : Language) : Type 1 where
 -- ---- what is spelt
 
 -- the tokens spell the tree of a named rule, where rules hold one another less than so deep
-abbrev pub spelt_at : {L : Language} → Grammar L → ℕ → (n : L.Name) → List L.Token → L.Tree n → Type 0
+abbrev pub spelt_at : {L : Language} → Grammar L → ℕ → (n : L.Name) → List L.Token → L.Tree n
+    → Type 0
 spelt_at G zero n ts x = ⊥
 spelt_at G (suc d) n ts x = Spelt (spelt_at G d) (G.rule n) ts x
 
@@ -26,34 +26,11 @@ Spells G start tokens tree = (d : ℕ) × Spelt (spelt_at G d) start tokens tree
 
 -- some list that spells a tree begins with these tokens
 abbrev pub IsViable : {L : Language} → Grammar L → {A : Type 0} → Rule L A → List L.Token → Type 0
-IsViable {L} G {A} start tokens = (others : List L.Token) × (tree : A) × Spells G start (tokens ++ others) tree
+IsViable {L} G {A} start tokens =
+    (others : List L.Token) × (tree : A) × Spells G start (tokens ++ others) tree
 
--- The tokens before the place begin a text, and with the one at the place they do not. Or the place is the end.
+-- The tokens before the place begin a text, and with the one at the place they do not. Or the place
+-- is the end.
 abbrev pub IsDue : {L : Language} → Grammar L → {A : Type 0} → Rule L A → List L.Token → ℕ → Type 0
-IsDue G start tokens place = (place ≤ length tokens) × IsViable G start (take place tokens) × (place < length tokens → IsViable G start (take (place + 1) tokens) → ⊥)
-
--- ---- how it is read
-
-abbrev pub read_at : {L : Language} → Grammar L → ℕ → (n : L.Name) → Reader L.Token (L.Tree n)
-read_at G zero n ts = Err Deep
-read_at G (suc d) n ts = reading G.firsts (read_at G d) (G.rule n) ts
-
-abbrev pub read : {L : Language} → Grammar L → ℕ → {A : Type 0} → Rule L A → Reader L.Token A
-read G d r = reading G.firsts (read_at G d) r
-
--- nothing is left over
-abbrev pub whole : {T A : Type 0} → Outcome T A → Result A Fault
-whole (Ok (x, [])) = Ok x
-whole (Ok (x, t ∷ ts)) = Err (Syntax (length (t ∷ ts)))
-whole (Err e) = Err e
-
--- ---- the test
-
--- one token ahead is enough, and the rule is read after no named rule
-abbrev pub is_start : {L : Language} → Grammar L → {A : Type 0} → Rule L A → Bool
-is_start G r = is_sure G.firsts G.mores r && not (opens r)
-
--- a named rule passes, and its rows of the tables are right
-abbrev pub passes : {L : Language} → Grammar L → L.Name → Bool
-passes {L} G n =
-    is_start G (G.rule n) && not (nullable (G.rule n)) && within L (first G.firsts (G.rule n)) (G.firsts n) && within L (more G.firsts G.mores (G.rule n)) (G.mores n)
+IsDue G start tokens place = (place ≤ length tokens) × IsViable G start (take place tokens)
+    × (place < length tokens → IsViable G start (take (place + 1) tokens) → ⊥)

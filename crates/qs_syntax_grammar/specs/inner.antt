@@ -1,4 +1,5 @@
--- What serves proofs alone: no promise of the product is read by it.
+-- For proofs and the layers between: no clause of the headline cites a definition of these files.
 pub mod Repeated
 pub mod Contract
 pub mod Reading
+pub mod Grammar

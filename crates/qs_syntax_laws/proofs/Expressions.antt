@@ -24,7 +24,8 @@ use Rattle.qs_syntax_tree.specs.declared.term.Literal.TheVariants as literal_tre
 use Rattle.qs_syntax_grammar.specs.Notation.{◌&◌}
 use Rattle.qs_syntax_tree.specs.declared.token.Span.{Span}
 use Rattle.qs_syntax_tree.specs.declared.token.Token.{Token}
-use Rattle.qs_syntax_resolve.specs.Expression.{expression_of, call_of, operand_of, addend_of, operands, addends, list}
+use Rattle.qs_syntax_resolve.specs.Expression.{expression_of}
+use Rattle.qs_syntax_resolve.specs.inner.Expression.{call_of, operand_of, addend_of, operands, addends, list}
 use Rattle.qs_syntax_resolve.specs.Leaves.{variable, iri, literal}
 use Rattle.qs_syntax_resolve.specs.Resolving.{Resolving, ◌>>=◌, ◌<$>◌, pure, all_behind}
 use Rattle.qs_syntax_laws.proofs.Terms.{iri_meets, literal_meets, number_meets}

@@ -15,8 +15,8 @@ use Rattle.qs_syntax_resolve.specs.declared.resolver.Resolver.{Resolver}
 use Rattle.qs_syntax.specs.Outcome.{by_place, earlier, nearer, in_scope}
 use Rattle.qs_syntax_tree.specs.declared.token.Span.{Span}
 use Rattle.qs_syntax_tree.specs.declared.token.Token.{Token}
-use Rattle.qs_syntax_laws.specs.NameFaults.{Role, iri, name, prefix, keyword, nothing, role, Before, anything, declares, declared, at_token, kept, fault_of, Place, look, behind, faults_from, at}
-use Rattle.qs_syntax_laws.specs.TellsFirst.{place_of, IsNameFirst, IsLimitFirst, IsBeyond, TellsFirst}
+use Rattle.qs_syntax_laws.specs.inner.NameFaults.{Role, iri, name, prefix, keyword, nothing, role, Before, anything, declares, declared, at_token, kept, fault_of, Place, look, behind, faults_from, at}
+use Rattle.qs_syntax_laws.specs.inner.TellsFirst.{place_of, IsNameFirst, IsLimitFirst, IsBeyond, TellsFirst}
 use Rattle.qs_syntax_laws.proofs.Ascending.{Ascends}
 use Rattle.qs_syntax_laws.proofs.Walks.{Comes}
 

@@ -25,7 +25,8 @@ use Rattle.qs_syntax_tree.specs.declared.triples.TriplesSameSubject.{TriplesSame
 use Rattle.qs_syntax_resolve.specs.Data.{row_of, rows_of, variables_of, inline_data}
 use Rattle.qs_syntax_resolve.specs.Expression.{expression_of}
 use Rattle.qs_syntax_resolve.specs.Leaves.{variable, var_or_iri}
-use Rattle.qs_syntax_resolve.specs.Pattern.{Put, pattern_of, element_of, group_of, groups, elements, put, put_filter, put_triples, empty_group, finished, triples_pattern, filter_pattern, bind_pattern, values_pattern}
+use Rattle.qs_syntax_resolve.specs.Pattern.{Put, group_of, put, put_filter, put_triples, empty_group, finished}
+use Rattle.qs_syntax_resolve.specs.inner.Pattern.{pattern_of, element_of, groups, elements, triples_pattern, filter_pattern, bind_pattern, values_pattern}
 use Rattle.qs_syntax_resolve.specs.Resolving.{Resolving, ◌>>=◌, pure, all, all_behind}
 use Rattle.qs_syntax_resolve.specs.Triples.{triples_behind}
 use Rattle.qs_syntax_resolve.specs.declared.open_group.OpenGroup.{OpenGroup}

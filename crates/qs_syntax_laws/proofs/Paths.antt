@@ -13,7 +13,8 @@ use Rattle.qs_syntax_tree.specs.declared.path.PathOperand.{PathOperand}
 use Rattle.qs_syntax_tree.specs.declared.path.Predicate.{Predicate}
 use Rattle.qs_syntax_tree.specs.declared.path.Repetition.{Repetition}
 use Rattle.qs_syntax_tree.specs.declared.token.Token.{Token}
-use Rattle.qs_syntax_resolve.specs.Path.{predicate, negated, path_of, operands}
+use Rattle.qs_syntax_resolve.specs.Path.{predicate, negated, path_of}
+use Rattle.qs_syntax_resolve.specs.inner.Path.{operands}
 use Rattle.qs_syntax_resolve.specs.Triples.{verb_of, simplified}
 use Rattle.qs_syntax_tree.specs.declared.triples.Form.{Form}
 use Rattle.qs_syntax_tree.specs.declared.triples.Form.TheVariants as form

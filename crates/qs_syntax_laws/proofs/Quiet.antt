@@ -4,7 +4,7 @@ use Rattle.std.proofs.lemmas.Bool.{and_parts, false≢true}
 use Rattle.qs_syntax_grammar.specs.Rule.{Each, Spelt, token, empty, both, either, many, made, placed, ref}
 use Rattle.qs_syntax_tree.specs.Sparql.{Name, Tree, Rule}
 use Rattle.qs_syntax_tree.specs.declared.token.Token.{Token}
-use Rattle.qs_syntax_laws.specs.NameFaults.{Role, role, iri, name, prefix, keyword, nothing}
+use Rattle.qs_syntax_laws.specs.inner.NameFaults.{Role, role, iri, name, prefix, keyword, nothing}
 use Rattle.qs_syntax_laws.proofs.Walks.{IsQuiet, quiet_append}
 
 abbrev pub says_nothing : Role → Bool

@@ -23,7 +23,7 @@ use Rattle.qs_syntax_resolve.specs.Data.{value_of}
 use Rattle.qs_syntax_resolve.specs.Leaves.{iri, var_or_iri, literal, term_of, settled}
 use Rattle.qs_syntax_resolve.specs.Path.{predicate}
 use Rattle.qs_syntax_resolve.specs.declared.resolver.Resolver.{Resolver}
-use Rattle.qs_syntax_laws.specs.NameFaults.{role, anything, behind_token, at_token, kept, faults_from, at}
+use Rattle.qs_syntax_laws.specs.inner.NameFaults.{role, anything, behind_token, at_token, kept, faults_from, at}
 use Rattle.qs_syntax_laws.proofs.Walks.{Comes, Meets, behind_all}
 use Rattle.qs_syntax_laws.proofs.Ways.{Resolves, by_mute, by_either, by_made, by_mapped, by_opt, by_second, behind_mute}
 

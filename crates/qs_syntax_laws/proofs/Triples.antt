@@ -18,7 +18,8 @@ use Rattle.qs_syntax_tree.specs.declared.triples.Property.{Property, the_lemmas 
 use Rattle.qs_syntax_resolve.specs.Leaves.{term_of, anonymous}
 use Rattle.qs_syntax_resolve.specs.Path.{path_of}
 use Rattle.qs_syntax_resolve.specs.Resolving.{Resolving, ◌>>=◌, pure}
-use Rattle.qs_syntax_resolve.specs.Triples.{OfObject, OfSubject, object_of, property_of, objects, properties, simple_object, verb_of, triple, same_subject, triples_behind, bracketed_subject}
+use Rattle.qs_syntax_resolve.specs.Triples.{OfObject, OfSubject, property_of, properties, verb_of, triple, same_subject, triples_behind}
+use Rattle.qs_syntax_resolve.specs.inner.Triples.{object_of, objects, simple_object, bracketed_subject}
 use Rattle.qs_syntax_resolve.specs.declared.resolver.Resolver.{Resolver}
 use Rattle.qs_syntax_laws.proofs.Paths.{verb_meets}
 use Rattle.qs_syntax_laws.proofs.Terms.{term_meets}

@@ -6,7 +6,7 @@ use Rattle.qs_syntax_tree.specs.declared.token.Token.{Token}
 use Rattle.qs_syntax_resolve.specs.Names.{Names}
 use Rattle.qs_syntax_resolve.specs.declared.resolver.Resolver.{Resolver}
 use Rattle.qs_syntax_resolve.specs.Resolving.{Resolving, ◌>>=◌, pure}
-use Rattle.qs_syntax_laws.specs.NameFaults.{Place, look, behind, fault_of, faults_from, at}
+use Rattle.qs_syntax_laws.specs.inner.NameFaults.{Place, look, behind, fault_of, faults_from, at}
 
 -- after all of the tokens
 abbrev pub behind_all : Place → List Token → Place

@@ -1,2 +1,1 @@
-pub mod NameFaults
-pub mod TellsFirst
+pub mod inner

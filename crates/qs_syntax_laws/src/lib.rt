@@ -1,5 +1,5 @@
 //! Laws: of the faults of a text that have places, of names and of limits, the one that is told is the first in the text.
-//! `specs/NameFaults.antt` has all faults of names, token by token.
+//! `specs/inner/NameFaults.antt` has all faults of names, token by token.
 #![tactic(auto)]
 
 pub mod laws;

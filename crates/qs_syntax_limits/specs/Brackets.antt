@@ -1,15 +1,18 @@
--- The place at which too many brackets are open: the profile allows 64 at once, and the standard has no such limit.
+-- The place at which too many brackets are open: the profile allows 64 at once, and the standard
+-- has no such limit.
 use Rattle.std.specs.Prelude.{ℕ, ◌+◌, ◌-◌, List, [], ◌∷◌, Option, Some, None, nat_lt, if◌then◌else◌}
 use Rattle.qs_syntax_tree.specs.declared.kind.Kind.{Kind}
-use Rattle.qs_syntax_tree.specs.declared.kind.Kind.TheVariants.{LeftBrace, RightBrace, LeftParen, RightParen, LeftBracket, RightBracket}
+use Rattle.qs_syntax_tree.specs.declared.kind.Kind.TheVariants.{LeftBrace, RightBrace, LeftParen}
+use Rattle.qs_syntax_tree.specs.declared.kind.Kind.TheVariants.{RightParen, LeftBracket}
+use Rattle.qs_syntax_tree.specs.declared.kind.Kind.TheVariants.{RightBracket}
 use Rattle.qs_syntax_tree.specs.declared.token.Token.{Token}
 
 -- the most brackets that may be open
 abbrev pub limit : ℕ
 limit = 64
 
--- how many are open after a token, by how many were before it: one that closes takes one away, of whatever sort it is, or none where none
--- is open
+-- how many are open after a token, by how many were before it: one that closes takes one away, of
+-- whatever sort it is, or none where none is open
 abbrev pub open_behind : Kind → ℕ → ℕ
 open_behind LeftBrace count = count + 1
 open_behind LeftParen count = count + 1
@@ -23,7 +26,8 @@ open_behind other count = count
 abbrev pub brackets_behind : ℕ → List Token → Option ℕ
 brackets_behind count [] = None
 brackets_behind count (t ∷ ts) =
-    if nat_lt limit (open_behind t.kind count) then Some t.span.start else brackets_behind (open_behind t.kind count) ts
+    if nat_lt limit (open_behind t.kind count) then Some t.span.start
+    else brackets_behind (open_behind t.kind count) ts
 
 -- the place of the first token with which more brackets are open than may be
 abbrev pub brackets : List Token → Option ℕ

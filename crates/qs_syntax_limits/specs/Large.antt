@@ -1,18 +1,20 @@
--- The first place at which too much stands side by side. The limits are the profile's; the standard has none.
--- A group, and the braces of DELETE WHERE, have at most 256 elements, and a chain at most 256 operands. All rows of a
--- tree are collected, with those of each tree within it, and the limit is asked of each. Data, templates and the
--- short form of CONSTRUCT have no limit of elements.
+-- The first place at which too much stands side by side. The limits are the profile's; the standard
+-- has none. A group, and the braces of DELETE WHERE, have at most 256 elements, and a chain at most
+-- 256 operands. All rows of a tree are collected, with those of each tree within it, and the limit
+-- is asked of each. Data, templates and the short form of CONSTRUCT have no limit of elements.
 use Rattle.std.specs.Prelude.{ℕ, List, [], ◌∷◌, ◌++◌, Option, Some, None, map, min, slice_get}
 use Rattle.std.specs.List.{flat_map}
 use Rattle.qs_syntax_tree.specs.declared.expression.Expression.{Expression, fold-Expression}
-use Rattle.qs_syntax_tree.specs.declared.expression.Call.TheOpen.{Expression-F, Operand-F, Addend-F, Call-F}
+use Rattle.qs_syntax_tree.specs.declared.expression.Call.TheOpen.{Expression-F, Operand-F, Addend-F}
+use Rattle.qs_syntax_tree.specs.declared.expression.Call.TheOpen.{Call-F}
 use Rattle.qs_syntax_tree.specs.declared.expression.Call.TheOpen as e
 use Rattle.qs_syntax_tree.specs.declared.path.Path.{Path, fold-Path}
 use Rattle.qs_syntax_tree.specs.declared.path.Path.TheOpen.{Path-F, PathOperand-F}
 use Rattle.qs_syntax_tree.specs.declared.path.Path.TheOpen as p
 use Rattle.qs_syntax_tree.specs.declared.path.Verb.{Verb}
 use Rattle.qs_syntax_tree.specs.declared.path.Verb.TheVariants as v
-use Rattle.qs_syntax_tree.specs.declared.pattern.GraphPattern.TheOpen.{GraphPattern-F, Element-F, Group-F}
+use Rattle.qs_syntax_tree.specs.declared.pattern.GraphPattern.TheOpen.{GraphPattern-F, Element-F}
+use Rattle.qs_syntax_tree.specs.declared.pattern.GraphPattern.TheOpen.{Group-F}
 use Rattle.qs_syntax_tree.specs.declared.pattern.GraphPattern.TheOpen as g
 use Rattle.qs_syntax_tree.specs.declared.pattern.Group.{Group, fold-Group}
 use Rattle.qs_syntax_tree.specs.declared.query.Projection.{Projection}
@@ -91,9 +93,6 @@ call_level (e.Unary function a) = a
 call_level (e.Binary function a b) = a ++ b
 
 abbrev pub expression_level : Expression-F Rows Rows Part Part → Rows
-expression_level (e.Var name) = []
-expression_level (e.Iri iri) = []
-expression_level (e.Literal literal) = []
 expression_level (e.Call call) = call
 expression_level (e.Or operands) = side_by_side operands
 expression_level (e.And operands) = side_by_side operands
@@ -104,6 +103,7 @@ expression_level (e.Sum operand addends) = side_by_side (operand ∷ addends)
 expression_level (e.Product operands) = side_by_side operands
 expression_level (e.Not a) = a
 expression_level (e.Signed sign a) = a
+expression_level _ = []
 
 abbrev pub operand_level : Operand-F Rows Rows Part Part → Part
 operand_level operand = record { place = operand.place; rows = operand.expression }

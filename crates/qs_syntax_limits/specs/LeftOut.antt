@@ -1,4 +1,5 @@
--- The first token of a text that the profile leaves out: a decimal, a double, or one of 51 words of SPARQL 1.1 (Query, 19.8).
+-- The first token of a text that the profile leaves out: a decimal, a double, or one of 51 words of
+-- SPARQL 1.1 (Query, 19.8).
 use Rattle.std.specs.Prelude.{ℕ, Bool, true, false, List, [], ◌∷◌, codes, Option, option_map, find}
 use Rattle.std.specs.List.{list_any}
 use Rattle.std.specs.Str.{str_eq_ignore_ascii_case}
@@ -39,4 +40,5 @@ is_left_out text token = is_left_out_kind token.kind (piece text token.span.star
 
 -- as it is written in the text
 abbrev pub left_out : List ℕ → List Token → Option (List ℕ)
-left_out text tokens = option_map (λ token. piece text token.span.start token.span.end) (find (is_left_out text) tokens)
+left_out text tokens = option_map (λ token. piece text token.span.start token.span.end)
+    (find (is_left_out text) tokens)

@@ -108,7 +108,8 @@ pub fn excess<T: Placed>(parts: &[T]) -> Option<usize>
 
 /// Where the part begins with which there are too many, one part being before these.
 pub fn excess_behind<T: Placed>(parts: &[T]) -> Option<usize>
-    ensures { (place : ℕ) → result ≡ slice_get (place ∷ map (λ x. (T.part x).place) parts.now) spec.limit }
+    ensures { (place : ℕ) → result ≡ slice_get (place ∷ map (λ x. (T.part x).place) parts.now)
+        spec.limit }
 {
     place_at(parts, LIMIT - 1)
 }

@@ -40,7 +40,8 @@ const OF_TWELVE: [&str; 1] = ["GROUP_CONCAT"];
 const OF_FOURTEEN: [&str; 1] = ["ENCODE_FOR_URI"];
 
 fn words_of(count: usize) -> &'static [&'static str]
-    ensures { map (λ row. row.now) result.now ≡ filter (λ word. nat_eq (length word) count) spec.words }
+    ensures { map (λ row. row.now) result.now ≡ filter (λ word. nat_eq (length word) count)
+        spec.words }
 {
     match count {
         2 => &OF_TWO,
@@ -64,7 +65,8 @@ fn is_like(a: &str, b: &str) -> bool
 }
 
 fn is_among(word: &str, table: &[&str]) -> bool
-    ensures { result ≡ list_any (str_eq_ignore_ascii_case word.now) (map (λ row. row.now) table.now) }
+    ensures { result ≡ list_any (str_eq_ignore_ascii_case word.now)
+        (map (λ row. row.now) table.now) }
 {
     let mut left = table;
     while let [row, rest @ ..] = left {

@@ -1,6 +1,6 @@
 //! Queries (SPARQL 1.1 Query, 19.8, [1] to [13]).
 
-ghost use Rattle.qs_syntax_grammar.specs.Grammar.{read};
+ghost use Rattle.qs_syntax_grammar.specs.inner.Grammar.{read};
 ghost use Rattle.qs_syntax_grammar.specs.inner.Reading.{Reads};
 ghost use Rattle.qs_syntax_tree.specs.Rules as rules;
 ghost use Rattle.qs_syntax_tree.specs.Table.{grammar};
@@ -24,7 +24,8 @@ use sqlite_items::Items;
 
 #[tactic(auto, unfolding(qs_syntax_tree::specs::Rules::prefix_declaration))]
 fn prefix_declaration(parser: Parser, tokens: &mut Tokens<'_>) -> Result<PrefixDeclaration, Fault>
-    ensures { Reads (read grammar parser.depth rules.prefix_declaration tokens.old) result tokens.new }
+    ensures { Reads (read grammar parser.depth rules.prefix_declaration tokens.old) result
+        tokens.new }
 {
     tokens.expect(Kind::Prefix)?;
     let prefix = tokens.expect(Kind::PnameNs)?.span;

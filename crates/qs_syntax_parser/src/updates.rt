@@ -3,7 +3,7 @@
 ghost use Rattle.std.specs.Prelude.{Ok, Some};
 ghost use Rattle.qs_syntax_grammar.specs.inner.Reading.{and_then};
 ghost use Rattle.qs_syntax_tree.specs.Trees.{steps_of};
-ghost use Rattle.qs_syntax_grammar.specs.Grammar.{read};
+ghost use Rattle.qs_syntax_grammar.specs.inner.Grammar.{read};
 ghost use Rattle.qs_syntax_grammar.specs.inner.Reading.{Reads};
 ghost use Rattle.qs_syntax_tree.specs.Rules as rules;
 ghost use Rattle.qs_syntax_tree.specs.Table.{grammar};
@@ -161,7 +161,8 @@ fn target(parser: Parser, tokens: &mut Tokens<'_>) -> Result<GraphTarget, Fault>
 
 #[tactic(auto, unfolding(qs_syntax_tree::specs::Rules::graph_or_default))]
 fn graph_or_default(parser: Parser, tokens: &mut Tokens<'_>) -> Result<GraphOrDefault, Fault>
-    ensures { Reads (read grammar parser.depth rules.graph_or_default tokens.old) result tokens.new }
+    ensures { Reads (read grammar parser.depth rules.graph_or_default tokens.old) result
+        tokens.new }
 {
     if tokens.peek_is(&[Kind::Default]) {
         tokens.expect(Kind::Default)?;
@@ -221,7 +222,8 @@ fn create(parser: Parser, tokens: &mut Tokens<'_>) -> Result<Operation, Fault>
 
 #[tactic(auto, unfolding(qs_syntax_tree::specs::Rules::from_graph_to_graph))]
 fn from_graph_to_graph(parser: Parser, tokens: &mut Tokens<'_>) -> Result<Operation, Fault>
-    ensures { Reads (read grammar parser.depth rules.from_graph_to_graph tokens.old) result tokens.new }
+    ensures { Reads (read grammar parser.depth rules.from_graph_to_graph tokens.old) result
+        tokens.new }
 {
     if tokens.peek_is(&[Kind::Add]) {
         tokens.expect(Kind::Add)?;
@@ -276,7 +278,8 @@ fn steps_from(
     prologue: Items<PrefixDeclaration>,
     tokens: &mut Tokens<'_>,
 ) -> Result<Items<UpdateStep>, Fault>
-    ensures { Reads (and_then (read grammar parser.depth rules.operations_rule tokens.old) (λ x s. Ok (steps_of (prologue, Some x), s))) result tokens.new }
+    ensures { Reads (and_then (read grammar parser.depth rules.operations_rule tokens.old)
+        (λ x s. Ok (steps_of (prologue, Some x), s))) result tokens.new }
 {
     let mut found = Items::new(parser.alloc);
     let mut inner = parser;

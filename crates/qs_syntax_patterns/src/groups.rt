@@ -1,6 +1,6 @@
 //! Group graph patterns (SPARQL 1.1 Query, 19.8, [53] to [69]).
 
-ghost use Rattle.qs_syntax_grammar.specs.Grammar.{read};
+ghost use Rattle.qs_syntax_grammar.specs.inner.Grammar.{read};
 ghost use Rattle.qs_syntax_grammar.specs.inner.Reading.{Reads};
 ghost use Rattle.qs_syntax_grammar.specs.Rule.{ref};
 ghost use Rattle.qs_syntax_tree.specs.Rules as rules;
@@ -36,7 +36,8 @@ pub fn constraint(parser: Parser, tokens: &mut Tokens<'_>) -> Result<Expression,
 
 #[tactic(auto, unfolding(qs_syntax_tree::specs::Rules::expression_as_var))]
 fn expression_as_var(parser: Parser, tokens: &mut Tokens<'_>) -> Result<(Expression, Span), Fault>
-    ensures { Reads (read grammar parser.depth rules.expression_as_var tokens.old) result tokens.new }
+    ensures { Reads (read grammar parser.depth rules.expression_as_var tokens.old) result
+        tokens.new }
 {
     let expression = expression(parser, tokens)?;
     let expression = tokens.closing(expression, Kind::As)?;
@@ -49,7 +50,8 @@ pub fn named_expression(
     parser: Parser,
     tokens: &mut Tokens<'_>,
 ) -> Result<(Expression, Span), Fault>
-    ensures { Reads (read grammar parser.depth rules.named_expression tokens.old) result tokens.new }
+    ensures { Reads (read grammar parser.depth rules.named_expression tokens.old) result
+        tokens.new }
 {
     tokens.expect(Kind::LeftParen)?;
     let named = expression_as_var(parser, tokens)?;

@@ -4,7 +4,8 @@ use Rattle.std.specs.Prelude.{◌||◌, ◌==◌, not}
 use Rattle.std.specs.List.{list_any}
 use Rattle.std.proofs.lemmas.List.Folds.{list_any-append}
 use Rattle.std.proofs.lemmas.Bool.{and_parts}
-use Rattle.qs_terms.specs.Iri.{has_scheme, is_excluded, is_iri_text, checked_iri}
+use Rattle.qs_terms.specs.Iri.{has_scheme, is_excluded, checked_iri}
+use Rattle.qs_terms.specs.inner.Iri.{is_iri_text}
 use Rattle.qs_lex_escapes.specs.Escape.{uchar}
 use Rattle.qs_lex_escapes.specs.Decoded.{decoded, decoded_behind, unescaped}
 use Rattle.qs_syntax_resolve.specs.Names.{absolute, joined}

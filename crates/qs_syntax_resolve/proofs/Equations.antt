@@ -4,7 +4,8 @@ use Rattle.qs_syntax_tree.specs.declared.path.Path.{the_lemmas}
 use Rattle.qs_syntax_tree.specs.declared.path.PathOperand.{PathOperand}
 use Rattle.qs_syntax_tree.specs.declared.path.Path.TheVariants as written
 use Rattle.qs_syntax_ast.specs.declared.path.Path.TheVariants as path
-use Rattle.qs_syntax_resolve.specs.Path.{path_of, operands as path_operands}
+use Rattle.qs_syntax_resolve.specs.Path.{path_of}
+use Rattle.qs_syntax_resolve.specs.inner.Path.{operands as path_operands}
 use Rattle.qs_syntax_tree.specs.declared.expression.Expression.{the_lemmas as expression_lemmas}
 use Rattle.qs_syntax_tree.specs.declared.expression.Operand.{Operand}
 use Rattle.qs_syntax_tree.specs.declared.expression.Call.{Call, the_lemmas as call_lemmas}
@@ -21,7 +22,8 @@ use Rattle.qs_syntax_resolve.specs.Resolving.{Resolving, ◌>>=◌, pure}
 use Rattle.qs_syntax_tree.specs.declared.expression.Expression.TheVariants as written_expression
 use Rattle.qs_syntax_ast.specs.declared.expression.Expression.TheVariants as expression
 use Rattle.qs_syntax_ast.specs.declared.expression.Expression as resolved
-use Rattle.qs_syntax_resolve.specs.Expression.{expression_of, call_of, operand_of, addend_of, operands, addends, list}
+use Rattle.qs_syntax_resolve.specs.Expression.{expression_of}
+use Rattle.qs_syntax_resolve.specs.inner.Expression.{call_of, operand_of, addend_of, operands, addends, list}
 use Rattle.qs_terms.specs.Outcome.{and_then}
 use Rattle.qs_syntax_resolve.specs.Resolving.{◌<$>◌}
 use Rattle.qs_syntax_resolve.specs.declared.resolver.Resolver.{Resolver}

@@ -3,8 +3,8 @@ use Rattle.std.proofs.Common.{◌≡◌, Some, Result, Ok, Err, refl, sym, ap}
 use Rattle.std.specs.Result.{result_ok}
 use Rattle.qs_terms.specs.declared.fault.TermFault.{TermFault}
 use Rattle.qs_terms.specs.declared.fault.TermFault.TheVariants.{NotAbsolute, BadChar, BadTag, BadDatatype, Memory}
-use Rattle.qs_terms.specs.OrOutOf.{ValueOrOutOfMemory}
-use Rattle.qs_terms.specs.Outcome.{OrOutOfMemory}
+use Rattle.qs_terms.specs.inner.OrOutOf.{ValueOrOutOfMemory}
+use Rattle.qs_terms.specs.inner.Outcome.{OrOutOfMemory}
 use Rattle.qs_syntax_resolve.specs.inner.Refused.{unless_refused}
 
 -- what may fail where memory runs out gives what is due

@@ -9,7 +9,7 @@ use Rattle.std.specs.Str.{bytes_eq}
 use Rattle.std.specs.Map.{lookup}
 use Rattle.std.specs.BTreeMap.{is_at, insert_entry}
 use Rattle.std.proofs.lemmas.Map.Text.{is_eq-slice_cmp}
-use Rattle.qs_syntax_resolve.specs.Names.{declared}
+use Rattle.qs_syntax_resolve.specs.inner.Names.{declared}
 
 -- the order of the keys: that of their bytes
 abbrev key_cmp : Bor (List ℕ) → Bor (List ℕ) → Ordering

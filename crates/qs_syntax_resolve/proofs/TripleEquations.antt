@@ -9,7 +9,8 @@ use Rattle.qs_syntax_ast.specs.declared.term.TermPattern.TheVariants.{Blank}
 use Rattle.qs_syntax_ast.specs.declared.pattern.Triple.{Triple}
 use Rattle.qs_syntax_ast.specs.declared.pattern.Verb.{Verb}
 use Rattle.qs_syntax_resolve.specs.Leaves.{anonymous}
-use Rattle.qs_syntax_resolve.specs.Triples.{OfObject, OfSubject, object_of, property_of, objects, properties, simple_object, bracketed_object, verb_of, triple}
+use Rattle.qs_syntax_resolve.specs.Triples.{OfObject, OfSubject, property_of, properties, verb_of, triple}
+use Rattle.qs_syntax_resolve.specs.inner.Triples.{object_of, objects, simple_object, bracketed_object}
 use Rattle.qs_terms.specs.Outcome.{and_then}
 use Rattle.qs_syntax_resolve.specs.Resolving.{◌>>=◌}
 use Rattle.qs_syntax_resolve.specs.declared.resolver.Resolver.{Resolver}

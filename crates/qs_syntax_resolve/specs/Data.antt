@@ -26,4 +26,6 @@ abbrev pub variables_of : List Span → Resolving (List Variable)
 variables_of vs = all (map variable vs)
 
 unfoldable pub inline_data : WrittenData → Resolving InlineData
-inline_data d = variables_of d.variables >>= (λ vs. rows_of d.rows >>= (λ rows. pure (record { variables = vs; rows = rows })))
+inline_data d =
+    variables_of d.variables
+    >>= (λ vs. rows_of d.rows >>= (λ rows. pure (record { variables = vs; rows = rows })))

@@ -1,6 +1,6 @@
 -- Terms with their names resolved (SPARQL 1.1 Query, 4.1).
--- Codepoint escapes are decoded in IRIs and strings, after the tokens, where the token table has them. So an escaped quotation mark ends no
--- string.
+-- Codepoint escapes are decoded in IRIs and strings, after the tokens, where the token table has
+-- them. So an escaped quotation mark ends no string.
 use Rattle.std.specs.Prelude.{ℕ, ◌+◌, false, List, [], Option, Some, None, codes, Ok}
 use Rattle.qs_syntax_tree.specs.declared.token.Span.{Span}
 use Rattle.qs_syntax_tree.specs.declared.term.Iri.{Iri}

@@ -1,11 +1,12 @@
 -- What the names, strings and numbers of a text denote (SPARQL 1.1 Query, 4.1).
--- A backslash that begins no escape denotes itself, and a string has as many marks at its end as at its front. A byte of a number
--- counts by how far it is above `0`. So each definition is total. Each backslash of a local name is dropped: no token has one
--- that denotes itself.
--- Names are in the crate that resolves trees, the outcomes of tokens and trees in that of texts. Crates of their own would cost
--- clauses and win no time.
-use Rattle.std.specs.Prelude.{ℕ, Bool, true, false, ◌+◌, ◌-◌, ◌*◌, ◌^◌, ◌||◌, ◌==◌, nat_eq, min, map, List, [], ◌∷◌, ◌++◌, codes, Option, Some, None, Result, Ok, Err, if◌then◌else◌}
-use denote.Ref.{Bor}
+-- A backslash that begins no escape denotes itself, and a string has as many marks at its end as at
+-- its front. A byte of a number counts by how far it is above `0`. So each definition is total.
+-- Each backslash of a local name is dropped: no token has one that denotes itself. Names are in the
+-- crate that resolves trees, the outcomes of tokens and trees in that of texts. Crates of their own
+-- would cost clauses and win no time.
+use Rattle.std.specs.Prelude.{ℕ, Bool, true, false, ◌+◌, ◌-◌, ◌*◌, ◌^◌, ◌||◌, ◌==◌, nat_eq, min}
+use Rattle.std.specs.Prelude.{List, [], ◌∷◌, ◌++◌, codes, Option, Some, None, Result, Ok, Err}
+use Rattle.std.specs.Prelude.{if◌then◌else◌}
 use Rattle.std.specs.List.{starts_with, before_first, after_first}
 use Rattle.std.specs.Result.{result_ok}
 use Rattle.std.specs.Str.{bytes_eq}
@@ -38,10 +39,6 @@ pub record Names : Type 0 where
   pub text : List ℕ
   pub prefixes : List (List ℕ × List ℕ)
 
--- what contracts see of the entries of a map, whose keys are pieces of the text
-abbrev pub declared : List (Bor (List ℕ) × List ℕ) → List (List ℕ × List ℕ)
-declared entries = map (λ e. (e.0.now, e.1)) entries
-
 -- the text, before any declaration
 abbrev pub nothing_declared : List ℕ → Names
 nothing_declared text = record { text = text; prefixes = [] }
@@ -65,7 +62,8 @@ absolute place (Err f) = Err (fault.RelativeIri place)
 
 -- `<..>`, with its codepoint escapes decoded
 unfoldable pub full : List ℕ → Span → Result (List ℕ) QFault
-full text span = absolute span.start (checked_iri (decoded uchar (piece text (span.start + 1) (span.end - 1))))
+full text span =
+    absolute span.start (checked_iri (decoded uchar (piece text (span.start + 1) (span.end - 1))))
 
 -- the IRI that the prefix denotes, and the local name after it
 abbrev pub joined : ℕ → Option (List ℕ) → List ℕ → Result (List ℕ) QFault
@@ -77,7 +75,9 @@ is_colon c = c == 58
 
 -- the parts before and after the first colon
 abbrev pub expanded : List (List ℕ × List ℕ) → ℕ → List ℕ → Result (List ℕ) QFault
-expanded prefixes place name = joined place (lookup (bytes_eq (before_first is_colon name)) prefixes) (after_first is_colon name)
+expanded prefixes place name =
+    joined place (lookup (bytes_eq (before_first is_colon name)) prefixes)
+    (after_first is_colon name)
 
 -- `prefix:local`
 unfoldable pub prefixed : Names → Span → Result (List ℕ) QFault
@@ -99,11 +99,13 @@ predicate names written.RdfType = Ok rdf_type
 
 -- how many quotation marks stand at each end: three of a kind, or one
 abbrev pub marks : List ℕ → ℕ
-marks written = if starts_with nat_eq written (codes "\"\"\"") || starts_with nat_eq written (codes "'''") then 3 else 1
+marks written = if starts_with nat_eq written (codes "\"\"\"")
+    || starts_with nat_eq written (codes "'''") then 3 else 1
 
 -- a string without its quotation marks, and with its escapes decoded
 unfoldable pub string : List ℕ → Span → List ℕ
-string text span = let n = marks (piece text span.start span.end) in decoded string_escape (piece text (span.start + n) (span.end - n))
+string text span = let n = marks (piece text span.start span.end)
+    in decoded string_escape (piece text (span.start + n) (span.end - n))
 
 -- the literal, if the parts make one: without a tag there is no rdf:langString
 abbrev pub typed : List ℕ → Result (List ℕ) QFault → Result (Option lit.Literal) QFault
@@ -112,7 +114,8 @@ typed form (Err e) = Err e
 
 abbrev pub annotated : Names → List ℕ → Option Annotation → Result (Option lit.Literal) QFault
 annotated names form None = Ok (Some (lit.typed form xsd_string))
-annotated names form (Some (Tag span)) = Ok (result_ok (lit.checked_tagged form (piece names.text (span.start + 1) span.end)))
+annotated names form (Some (Tag span)) =
+    Ok (result_ok (lit.checked_tagged form (piece names.text (span.start + 1) span.end)))
 annotated names form (Some (Datatype i)) = typed form (iri names i)
 
 abbrev pub boolean : Bool → List ℕ
@@ -120,19 +123,21 @@ boolean true = codes "true"
 boolean false = codes "false"
 
 abbrev pub literal : Names → Literal → Result (Option lit.Literal) QFault
-literal names (String span annotation) = annotated names (string names.text span) annotation
-literal names (Integer span) = Ok (Some (lit.typed (piece names.text span.start span.end) xsd_integer))
+literal names (String s annotation) = annotated names (string names.text s) annotation
+literal names (Integer s) = Ok (Some (lit.typed (piece names.text s.start s.end) xsd_integer))
 literal names (Boolean b) = Ok (Some (lit.typed (boolean b) xsd_boolean))
 
 -- ---- declarations (SPARQL 1.1 Query, 4.1.1)
 
 abbrev pub with_prefix : Names → List ℕ → Result (List ℕ) QFault → Result Names QFault
-with_prefix names prefix (Ok i) = Ok (record names { prefixes = insert_entry (slice_cmp nat_cmp) names.prefixes prefix i })
+with_prefix names prefix (Ok i) =
+    Ok (record names { prefixes = insert_entry (slice_cmp nat_cmp) names.prefixes prefix i })
 with_prefix names prefix (Err e) = Err e
 
 -- the prefix, without its `:`, denotes the IRI from here on
 unfoldable pub declare : Names → PrefixDeclaration → Result Names QFault
-declare names d = with_prefix names (piece names.text d.prefix.start (d.prefix.end - 1)) (full names.text d.iri)
+declare names d = with_prefix names (piece names.text d.prefix.start (d.prefix.end - 1))
+    (full names.text d.iri)
 
 -- ---- numbers (SPARQL 1.1 Query, 15.4 and 15.5)
 

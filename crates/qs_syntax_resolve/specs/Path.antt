@@ -1,10 +1,11 @@
 -- Property paths with their names resolved (SPARQL 1.1 Query, 9).
 use Rattle.std.specs.Prelude.{ℕ, List, map, Ok}
 use Rattle.qs_syntax_tree.specs.declared.path.Path.{Path as WrittenPath, fold-Path}
-use Rattle.qs_syntax_tree.specs.declared.path.PathOperand.{PathOperand}
 use Rattle.qs_syntax_tree.specs.declared.path.NegatedPredicate.{NegatedPredicate}
 use Rattle.qs_syntax_tree.specs.declared.path.Predicate.{Predicate}
-use Rattle.qs_syntax_tree.specs.declared.path.Path.TheOpen.{Path-F, Predicate as Single, NegatedSet, Alternative, Sequence, Inverse, Repeated, PathOperand-F}
+use Rattle.qs_syntax_tree.specs.declared.path.Path.TheOpen.{Path-F, Predicate as Single, NegatedSet}
+use Rattle.qs_syntax_tree.specs.declared.path.Path.TheOpen.{Alternative, Sequence, Inverse}
+use Rattle.qs_syntax_tree.specs.declared.path.Path.TheOpen.{Repeated, PathOperand-F}
 use Rattle.qs_syntax_ast.specs.declared.path.Path.{Path}
 use Rattle.qs_syntax_ast.specs.declared.path.Path.TheVariants as path
 use Rattle.qs_syntax_ast.specs.declared.path.NegatedIri.{NegatedIri}
@@ -31,6 +32,3 @@ operand_level o = o.path
 
 unfoldable pub path_of : WrittenPath → Resolving Path
 path_of = fold-Path (Resolving Path) (Resolving Path) path_level operand_level
-
-abbrev pub operands : List PathOperand → Resolving (List Path)
-operands os = all (map (λ o. path_of o.path) os)

@@ -14,7 +14,7 @@ use Rattle.qs_syntax_tree.specs.declared.query.QueryForm.TheVariants as written_
 use Rattle.qs_syntax_tree.specs.declared.query.Select.{Select as WrittenSelect}
 use Rattle.qs_syntax_tree.specs.declared.query.SelectItem.{SelectItem as WrittenItem}
 use Rattle.qs_syntax_tree.specs.declared.query.SelectItem.TheVariants as written_item
-use Rattle.qs_syntax_tree.specs.declared.query.SolutionModifiers.{SolutionModifiers as WrittenModifiers}
+use Rattle.qs_syntax_tree.specs.declared.query.SolutionModifiers as written
 use Rattle.qs_syntax_tree.specs.declared.token.Span.{Span}
 use Rattle.qs_syntax_ast.specs.declared.pattern.Group.{Group}
 use Rattle.qs_syntax_ast.specs.declared.pattern.InlineData.{InlineData}
@@ -62,8 +62,11 @@ abbrev pub count_of : Option Span → Resolving (Option ℕ)
 count_of None = pure None
 count_of (Some span) = λ s. Ok (Some (of.count s.names span), s)
 
-unfoldable pub modifiers : WrittenModifiers → Resolving SolutionModifiers
-modifiers m = orders m.order >>= (λ o. count_of m.limit >>= (λ l. count_of m.offset >>= (λ k. pure (record { order = o; limit = l; offset = k }))))
+unfoldable pub modifiers : written.SolutionModifiers → Resolving SolutionModifiers
+modifiers m =
+    orders m.order
+    >>= (λ o. count_of m.limit
+    >>= (λ l. count_of m.offset >>= (λ k. pure (record { order = o; limit = l; offset = k }))))
 
 -- ---- forms
 
@@ -79,7 +82,9 @@ projection_of written_projection.All = pure projection.All
 projection_of (written_projection.Items is) = projection.Items <$> items is
 
 unfoldable pub select : WrittenSelect → Resolving Select
-select q = projection_of q.projection >>= (λ p. group_of q.pattern >>= (λ g. modifiers q.modifiers >>= (λ m.
+select q =
+    projection_of q.projection
+    >>= (λ p. group_of q.pattern >>= (λ g. modifiers q.modifiers >>= (λ m.
     pure (record { duplicates = q.duplicates; projection = p; pattern = g; modifiers = m }))))
 
 abbrev pub pattern_of : Option WrittenGroup → Resolving (Option Group)
@@ -87,11 +92,15 @@ pattern_of None = pure None
 pattern_of (Some g) = Some <$> group_of g
 
 unfoldable pub construct : WrittenConstruct → Resolving Construct
-construct q = triples_behind [] q.template >>= (λ t. pattern_of q.pattern >>= (λ g. modifiers q.modifiers >>= (λ m.
+construct q =
+    triples_behind [] q.template
+    >>= (λ t. pattern_of q.pattern >>= (λ g. modifiers q.modifiers >>= (λ m.
     pure (record { template = t; pattern = g; modifiers = m }))))
 
 unfoldable pub ask : WrittenAsk → Resolving Ask
-ask q = group_of q.pattern >>= (λ g. modifiers q.modifiers >>= (λ m. pure (record { pattern = g; modifiers = m })))
+ask q =
+    group_of q.pattern
+    >>= (λ g. modifiers q.modifiers >>= (λ m. pure (record { pattern = g; modifiers = m })))
 
 unfoldable pub form_of : WrittenForm → Resolving QueryForm
 form_of (written_form.Select q) = form.Select <$> select q
@@ -104,4 +113,7 @@ trailing (Some d) = Some <$> inline_data d
 
 -- the query, with the variables of its text
 unfoldable pub query : List Variable → WrittenQuery → Resolving Query
-query variables q = prologue q.prologue >> (form_of q.form >>= (λ f. trailing q.values >>= (λ v. pure (record { form = f; values = v; variables = variables }))))
+query variables q =
+    prologue q.prologue >> (form_of q.form
+    >>= (λ f. trailing q.values
+    >>= (λ v. pure (record { form = f; values = v; variables = variables }))))

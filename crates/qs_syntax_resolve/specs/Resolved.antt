@@ -1,4 +1,5 @@
--- Whole queries and updates with their names resolved: absolute IRIs, terms for literals, and names for variables.
+-- Whole queries and updates with their names resolved: absolute IRIs, terms for literals, and names
+-- for variables.
 use Rattle.std.specs.Prelude.{ℕ, true, List, Option, Some, None, if◌then◌else◌, Ok}
 use Rattle.qs_syntax_tree.specs.declared.query.Query.{Query as WrittenQuery}
 use Rattle.qs_syntax_tree.specs.declared.update.Update.{Update as WrittenUpdate}
@@ -20,7 +21,9 @@ abbrev pub if_lawful : {A : Type 0} → A → Resolver → Option A
 if_lawful a s = if s.lawful then Some a else None
 
 unfoldable pub resolved_query : List ℕ → List Variable → WrittenQuery → Outcome (Option Query)
-resolved_query text variables q = and_then (query variables q (start (nothing_declared text))) (λ r. Ok (if_lawful r.0 r.1))
+resolved_query text variables q =
+    and_then (query variables q (start (nothing_declared text))) (λ r. Ok (if_lawful r.0 r.1))
 
 unfoldable pub resolved_update : List ℕ → List Variable → WrittenUpdate → Outcome (Option Update)
-resolved_update text variables u = and_then (update variables u (start (nothing_declared text))) (λ r. Ok (if_lawful r.0 r.1))
+resolved_update text variables u =
+    and_then (update variables u (start (nothing_declared text))) (λ r. Ok (if_lawful r.0 r.1))

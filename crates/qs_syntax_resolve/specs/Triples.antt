@@ -1,9 +1,9 @@
--- Triples with their names resolved (SPARQL 1.1 Query, 4.2): property lists and object lists are written out, subject by subject.
+-- Triples with their names resolved (SPARQL 1.1 Query, 4.2): property lists and object lists are
+-- written out, subject by subject.
 use Rattle.std.specs.Prelude.{List, [], ◌∷◌, ◌++◌, map}
 use Rattle.qs_syntax_tree.specs.declared.path.Verb.{Verb as WrittenVerb}
 use Rattle.qs_syntax_tree.specs.declared.path.Verb.TheVariants as written
-use Rattle.qs_syntax_tree.specs.declared.term.Term.{Term}
-use Rattle.qs_syntax_tree.specs.declared.triples.GraphNode.{GraphNode, fold-GraphNode, out-GraphNode}
+use Rattle.qs_syntax_tree.specs.declared.triples.GraphNode.{GraphNode, out-GraphNode}
 use Rattle.qs_syntax_tree.specs.declared.triples.Property.{Property, fold-Property}
 use Rattle.qs_syntax_tree.specs.declared.triples.GraphNode.TheOpen.{GraphNode-F, Property-F}
 use Rattle.qs_syntax_tree.specs.declared.triples.TriplesSameSubject.{TriplesSameSubject}
@@ -12,7 +12,6 @@ use Rattle.qs_syntax_ast.specs.declared.path.Path.TheVariants as path
 use Rattle.qs_syntax_ast.specs.declared.pattern.Verb.{Verb}
 use Rattle.qs_syntax_ast.specs.declared.pattern.Verb.TheVariants as verb
 use Rattle.qs_syntax_ast.specs.declared.pattern.Triple.{Triple}
-use Rattle.qs_syntax_ast.specs.declared.term.BlankNode.{BlankNode}
 use Rattle.qs_syntax_ast.specs.declared.term.TermPattern.{TermPattern}
 use Rattle.qs_syntax_ast.specs.declared.term.TermPattern.TheVariants.{Blank}
 use Rattle.qs_syntax_resolve.specs.Leaves.{variable, term_of, anonymous}
@@ -52,23 +51,20 @@ property_level p = λ subject found. verb_of p.verb >>= (λ v. each_object subje
 
 -- `[ .. ]` is a fresh blank node: its triple stands before those of its own properties
 abbrev pub node_level : GraphNode-F OfObject OfSubject → OfObject
-node_level (GraphNode-F.Term t) = λ subject v found. term_of t >>= (λ o. pure (found ++ triple subject v o ∷ []))
+node_level (GraphNode-F.Term t) =
+    λ subject v found. term_of t >>= (λ o. pure (found ++ triple subject v o ∷ []))
 node_level (GraphNode-F.BlankNodePropertyList ps) =
-    λ subject v found. anonymous >>= (λ b. each_property (Blank b) (found ++ triple subject v (Blank b) ∷ []) ps)
-
-unfoldable pub object_of : GraphNode → OfObject
-object_of = fold-GraphNode OfObject OfSubject node_level property_level
+    λ subject v found. anonymous
+    >>= (λ b. each_property (Blank b) (found ++ triple subject v (Blank b) ∷ []) ps)
 
 unfoldable pub property_of : Property → OfSubject
 property_of = fold-Property OfObject OfSubject node_level property_level
 
-abbrev pub objects : TermPattern → Verb → List Triple → List GraphNode → Resolving (List Triple)
-objects subject v found os = each_object subject v found (map object_of os)
-
 abbrev pub properties : TermPattern → List Triple → List Property → Resolving (List Triple)
 properties subject found ps = each_property subject found (map property_of ps)
 
-abbrev pub subject_level : List Triple → List Property → GraphNode-F GraphNode Property → Resolving (List Triple)
+abbrev pub subject_level : List Triple → List Property → GraphNode-F GraphNode Property
+    → Resolving (List Triple)
 subject_level found ps (GraphNode-F.Term t) = term_of t >>= (λ s. properties s found ps)
 subject_level found ps (GraphNode-F.BlankNodePropertyList own) =
     anonymous >>= (λ b. properties (Blank b) found own >>= (λ more. properties (Blank b) more ps))
@@ -80,23 +76,3 @@ same_subject found t = subject_level found t.properties (out-GraphNode t.subject
 abbrev pub triples_behind : List Triple → List TriplesSameSubject → Resolving (List Triple)
 triples_behind found [] = pure found
 triples_behind found (t ∷ ts) = same_subject found t >>= (λ more. triples_behind more ts)
-
--- ---- the parts of the above
-
-abbrev pub simple_object : TermPattern → Verb → List Triple → Term → Resolving (List Triple)
-simple_object subject v found t = term_of t >>= (λ o. pure (found ++ triple subject v o ∷ []))
-
-abbrev pub opened : TermPattern → Verb → List Triple → BlankNode → TermPattern × List Triple
-opened subject y found b = (Blank b, found ++ triple subject y (Blank b) ∷ [])
-
-abbrev pub blank_object : TermPattern → Verb → List Triple → Resolving (TermPattern × List Triple)
-blank_object subject v found = anonymous >>= (λ b. pure (opened subject v found b))
-
-abbrev pub bracketed_object : TermPattern → Verb → List Triple → List Property → Resolving (List Triple)
-bracketed_object subject v found ps = blank_object subject v found >>= (λ r. properties r.0 r.1 ps)
-
-abbrev pub blank : Resolving TermPattern
-blank = Blank <$> anonymous
-
-abbrev pub bracketed_subject : List Triple → List Property → List Property → Resolving (List Triple)
-bracketed_subject found own ps = anonymous >>= (λ b. properties (Blank b) found own >>= (λ more. properties (Blank b) more ps))

@@ -35,8 +35,12 @@ use Rattle.qs_syntax_resolve.specs.Triples.{triples_behind}
 -- ---- quads
 
 abbrev pub block : Quads → Resolving QuadBlock
-block (written_quads.Triples ts) = triples_behind [] ts >>= (λ triples. pure (record { graph = None; triples = triples }))
-block (written_quads.Graph n ts) = var_or_iri n >>= (λ x. triples_behind [] ts >>= (λ triples. pure (record { graph = Some x; triples = triples })))
+block (written_quads.Triples ts) =
+    triples_behind [] ts >>= (λ triples. pure (record { graph = None; triples = triples }))
+block (written_quads.Graph n ts) =
+    var_or_iri n
+    >>= (λ x. triples_behind [] ts
+    >>= (λ triples. pure (record { graph = Some x; triples = triples })))
 
 abbrev pub block_of : QuadElement → Resolving QuadBlock
 block_of e = block e.quads
@@ -62,7 +66,9 @@ end_of written_end.Default = pure end.Default
 end_of (written_end.Graph i) = end.Graph <$> iri i
 
 unfoldable pub transfer : WrittenTransfer → Resolving Transfer
-transfer t = end_of t.from >>= (λ x. end_of t.to >>= (λ y. pure (record { on_missing = t.on_missing; from = x; to = y })))
+transfer t =
+    end_of t.from
+    >>= (λ x. end_of t.to >>= (λ y. pure (record { on_missing = t.on_missing; from = x; to = y })))
 
 -- ---- operations
 
@@ -71,7 +77,9 @@ with_graph None = pure None
 with_graph (Some i) = Some <$> iri i
 
 unfoldable pub modify : WrittenModify → Resolving Modify
-modify m = with_graph m.with >>= (λ w. template m.delete >>= (λ d. template m.insert >>= (λ i. group_of m.pattern >>= (λ g.
+modify m =
+    with_graph m.with
+    >>= (λ w. template m.delete >>= (λ d. template m.insert >>= (λ i. group_of m.pattern >>= (λ g.
     pure (record { with = w; delete = d; insert = i; pattern = g })))))
 
 unfoldable pub operation_of : WrittenOperation → Resolving Operation
@@ -101,4 +109,5 @@ steps found (u ∷ us) = step found u >>= (λ more. steps more us)
 
 -- the update, with the variables of its text
 unfoldable pub update : List Variable → WrittenUpdate → Resolving Update
-update variables u = steps [] u.steps >>= (λ found. pure (record { operations = found; variables = variables }))
+update variables u =
+    steps [] u.steps >>= (λ found. pure (record { operations = found; variables = variables }))

@@ -1,3 +1,9 @@
--- What serves proofs alone: no promise of the product is read by it.
+-- For proofs and the layers between: no clause of the headline cites a definition of these files.
 pub mod Refused
 pub mod Templates
+pub mod Expression
+pub mod Names
+pub mod Path
+pub mod Pattern
+pub mod Resolving
+pub mod Triples

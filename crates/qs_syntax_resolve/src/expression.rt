@@ -1,7 +1,8 @@
 //! Expressions.
 
 ghost use Rattle.qs_syntax_resolve.specs.Expression as spec;
-ghost use Rattle.qs_syntax_resolve.specs.Resolving.{Resolves};
+ghost use Rattle.qs_syntax_resolve.specs.inner.Expression as inner;
+ghost use Rattle.qs_syntax_resolve.specs.inner.Resolving.{Resolves};
 
 use crate::resolver::Resolver;
 use qs_syntax_ast::expression::{Addend, Expression};
@@ -16,7 +17,7 @@ impl<'a> Resolver<'a> {
     #[cycle(expression)]
     #[tactic(auto, using(crate::proofs::Equations::bound_is, crate::proofs::Equations::if_is, crate::proofs::Equations::coalesce_is, crate::proofs::Equations::concat_is, crate::proofs::Equations::unary_is, crate::proofs::Equations::binary_is))]
     fn call(&mut self, alloc: Global, call: &WrittenCall) -> Result<Expression, QFault>
-        ensures { Resolves (spec.call_of call.now self.old) result self.new }
+        ensures { Resolves (inner.call_of call.now self.old) result self.new }
     {
         match call {
             WrittenCall::Bound(span) => match self.variable(*span) {
@@ -139,7 +140,7 @@ impl<'a> Resolver<'a> {
     #[cycle(expression)]
     #[tactic(auto, using(crate::proofs::Equations::operand_is))]
     fn operand(&mut self, alloc: Global, operand: &Operand) -> Result<Boxed<Expression>, QFault>
-        ensures { Resolves (spec.operand_of operand.now self.old) result self.new }
+        ensures { Resolves (inner.operand_of operand.now self.old) result self.new }
     {
         self.boxed(alloc, &operand.expression)
     }
@@ -147,7 +148,7 @@ impl<'a> Resolver<'a> {
     #[cycle(expression)]
     #[tactic(auto, using(crate::proofs::Equations::addend_is))]
     fn addend(&mut self, alloc: Global, addend: &WrittenAddend) -> Result<Addend, QFault>
-        ensures { Resolves (spec.addend_of addend.now self.old) result self.new }
+        ensures { Resolves (inner.addend_of addend.now self.old) result self.new }
     {
         let operand = self.expression(alloc, &addend.operand.expression)?;
         Ok(Addend {
@@ -158,7 +159,7 @@ impl<'a> Resolver<'a> {
 
     #[cycle(expression)]
     fn addends(&mut self, alloc: Global, all: &[WrittenAddend]) -> Result<Items<Addend>, QFault>
-        ensures { Resolves (spec.addends all.now self.old) result self.new }
+        ensures { Resolves (inner.addends all.now self.old) result self.new }
     {
         let mut found = Items::new(alloc);
         for addend in all {
@@ -174,7 +175,7 @@ impl<'a> Resolver<'a> {
         alloc: Global,
         all: &[Operand],
     ) -> Result<Items<Expression>, QFault>
-        ensures { Resolves (spec.operands all.now self.old) result self.new }
+        ensures { Resolves (inner.operands all.now self.old) result self.new }
     {
         let mut found = Items::new(alloc);
         for operand in all {
@@ -190,7 +191,7 @@ impl<'a> Resolver<'a> {
         alloc: Global,
         all: &[WrittenExpression],
     ) -> Result<Items<Expression>, QFault>
-        ensures { Resolves (spec.list all.now self.old) result self.new }
+        ensures { Resolves (inner.list all.now self.old) result self.new }
     {
         let mut found = Items::new(alloc);
         for member in all {

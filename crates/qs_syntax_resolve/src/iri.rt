@@ -3,7 +3,7 @@
 ghost use Rattle.std.specs.Prelude.{◌≡◌, Some, Ok};
 ghost use Rattle.std.specs.List.{before_first, after_first};
 ghost use Rattle.qs_terms.specs.Iri.{checked_iri};
-ghost use Rattle.qs_terms.specs.Outcome.{OrOutOfMemory};
+ghost use Rattle.qs_terms.specs.inner.Outcome.{OrOutOfMemory};
 ghost use Rattle.qs_lex_escapes.specs.Decoded.{decoded as decoded_text};
 ghost use Rattle.qs_lex_escapes.specs.Escape.{uchar};
 ghost use Rattle.qs_syntax_resolve.specs.Names.{full, is_colon};
@@ -19,7 +19,8 @@ const RDF_TYPE: &str = "http://www.w3.org/1999/02/22-rdf-syntax-ns#type";
 
 /// The IRI of the text.
 pub(crate) fn absolute(alloc: Global, place: usize, text: Text) -> Result<Iri, QFault>
-    ensures { OrOutOfMemory (Rattle.qs_syntax_resolve.specs.Names.absolute place (checked_iri text)) result }
+    ensures { OrOutOfMemory (Rattle.qs_syntax_resolve.specs.Names.absolute place (checked_iri text))
+        result }
 {
     match Iri::new(alloc, text) {
         Ok(iri) => Ok(iri),
@@ -30,7 +31,8 @@ pub(crate) fn absolute(alloc: Global, place: usize, text: Text) -> Result<Iri, Q
 
 // The IRI of a text that begins with an IRI, or a fault at that place.
 fn absolute_behind(alloc: Global, place: usize, front: &Iri, text: Text) -> Result<Iri, QFault>
-    ensures { OrOutOfMemory (Rattle.qs_syntax_resolve.specs.Names.absolute place (checked_iri text)) result }
+    ensures { OrOutOfMemory (Rattle.qs_syntax_resolve.specs.Names.absolute place (checked_iri text))
+        result }
 {
     match Iri::behind(alloc, front, text) {
         Ok(iri) => Ok(iri),
@@ -46,7 +48,8 @@ fn new_full_iri(
     place: usize,
     written: &str,
 ) -> Result<Iri, QFault>
-    ensures { OrOutOfMemory (Rattle.qs_syntax_resolve.specs.Names.absolute place (checked_iri (decoded_text uchar written.now))) result }
+    ensures { OrOutOfMemory (Rattle.qs_syntax_resolve.specs.Names.absolute place
+        (checked_iri (decoded_text uchar written.now))) result }
 {
     let text = decode(alloc, written, Escapes::Codepoints)?;
     let iri = absolute(alloc, place, text)?;
@@ -79,7 +82,8 @@ fn new_expanded(
     start: &Iri,
     local: &str,
 ) -> Result<Iri, QFault>
-    ensures { OrOutOfMemory (Rattle.qs_syntax_resolve.specs.Names.joined place (Some start.now) local.now) result }
+    ensures { OrOutOfMemory (Rattle.qs_syntax_resolve.specs.Names.joined place (Some start.now)
+        local.now) result }
 {
     let text = join(alloc, start.text(), local)?;
     let iri = absolute_behind(alloc, place, start, text)?;
@@ -96,7 +100,8 @@ pub(crate) fn expanded(
     start: &Iri,
     local: &str,
 ) -> Result<Iri, QFault>
-    ensures { OrOutOfMemory (Rattle.qs_syntax_resolve.specs.Names.joined place (Some start.now) local.now) result }
+    ensures { OrOutOfMemory (Rattle.qs_syntax_resolve.specs.Names.joined place (Some start.now)
+        local.now) result }
 {
     match recent.iri(start.text(), local)? {
         Some(known) => Ok(known),

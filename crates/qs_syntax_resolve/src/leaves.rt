@@ -1,9 +1,9 @@
 //! Terms.
 
 ghost use Rattle.std.specs.Prelude.{Ok};
-ghost use Rattle.qs_terms.specs.Outcome.{OrOutOfMemory};
+ghost use Rattle.qs_terms.specs.inner.Outcome.{OrOutOfMemory};
 ghost use Rattle.qs_syntax_resolve.specs.Leaves as spec;
-ghost use Rattle.qs_syntax_resolve.specs.Resolving.{Resolves};
+ghost use Rattle.qs_syntax_resolve.specs.inner.Resolving.{Resolves};
 
 use crate::resolver::Resolver;
 use qs_syntax_ast::term::{BlankNode, TermPattern, VarOrIri, Variable};

@@ -6,7 +6,7 @@
 ghost use Rattle.std.specs.Prelude.{◌≡◌, IfOk, Ok, Some};
 ghost use Rattle.std.specs.Result.{result_ok};
 ghost use Rattle.qs_terms.specs.Literal.{xsd_string, xsd_integer, xsd_boolean, typed, checked_typed, checked_tagged};
-ghost use Rattle.qs_terms.specs.Outcome.{OrOutOfMemory};
+ghost use Rattle.qs_terms.specs.inner.Outcome.{OrOutOfMemory};
 ghost use Rattle.qs_syntax_resolve.specs.inner.Refused.{unless_refused};
 ghost use Rattle.qs_syntax_resolve.specs.Names.{marks};
 
@@ -70,7 +70,9 @@ fn boolean_form(value: bool) -> &'static str
 
 /// The boolean.
 pub(crate) fn boolean(alloc: Global, value: bool) -> Result<Option<Lit>, QFault>
-    ensures { OrOutOfMemory (Ok (Some (typed (Rattle.qs_syntax_resolve.specs.Names.boolean value) xsd_boolean))) result }
+    ensures { OrOutOfMemory
+        (Ok (Some (typed (Rattle.qs_syntax_resolve.specs.Names.boolean value) xsd_boolean)))
+        result }
 {
     let form = Text::new(alloc, boolean_form(value))?;
     Ok(Some(Lit::boolean(alloc, form)?))

@@ -7,10 +7,11 @@ ghost use Rattle.std.specs.Prelude.{◌≡◌, IfOk, OnErr};
 ghost use Rattle.std.specs.Map.{lookup};
 ghost use Rattle.std.specs.Option.{option_copied};
 ghost use Rattle.std.specs.Str.{bytes_eq};
-ghost use Rattle.qs_terms.specs.OrOutOf.{BecomesOrOutOfMemory};
-ghost use Rattle.qs_terms.specs.Outcome.{OrOutOfMemory};
+ghost use Rattle.qs_terms.specs.inner.OrOutOf.{BecomesOrOutOfMemory};
+ghost use Rattle.qs_terms.specs.inner.Outcome.{OrOutOfMemory};
 ghost use Rattle.qs_terms.specs.declared.fault.QFault.TheVariants.{Memory};
-ghost use Rattle.qs_syntax_resolve.specs.Names.{declared as declared_in, expanded as expanded_name};
+ghost use Rattle.qs_syntax_resolve.specs.Names.{expanded as expanded_name};
+ghost use Rattle.qs_syntax_resolve.specs.inner.Names.{declared as declared_in};
 
 use crate::iri::{expanded, full_iri, parted, rdf_type};
 use crate::literal::{boolean, integer, plain, string, tagged, with_datatype};
@@ -39,7 +40,8 @@ pub struct Names<'a> {
 }
 
 impl<'a> Model for Names<'a> {
-    ghost use Rattle.qs_syntax_resolve.specs.Names.{Names, declared};
+    ghost use Rattle.qs_syntax_resolve.specs.Names.{Names};
+    ghost use Rattle.qs_syntax_resolve.specs.inner.Names.{declared};
 
     ghost Value = { Names };
 
@@ -48,7 +50,8 @@ impl<'a> Model for Names<'a> {
 
 // The IRI that a prefix denotes.
 fn declared<'m>(prefixes: &'m BTreeMap<&str, Iri>, prefix: &str) -> Option<&'m Iri>
-    ensures { option_copied result ≡ lookup (bytes_eq prefix.now) (declared_in prefixes.now.entries) }
+    ensures { option_copied result ≡ lookup (bytes_eq prefix.now)
+        (declared_in prefixes.now.entries) }
 {
     prefixes.get(prefix)
 }
@@ -61,7 +64,8 @@ fn with_prefix(
     place: usize,
     name: &str,
 ) -> Result<Iri, QFault>
-    ensures { OrOutOfMemory (expanded_name (declared_in prefixes.now.entries) place name.now) result }
+    ensures { OrOutOfMemory (expanded_name (declared_in prefixes.now.entries) place name.now)
+        result }
 {
     let (prefix, local) = parted(name);
     let Some(start) = declared(prefixes, prefix) else {
@@ -92,7 +96,8 @@ impl<'a> Names<'a> {
     /// `QFault::RelativeIri` with the place of an IRI that has no scheme, and `QFault::Memory`. The names are then as before.
     #[tactic(auto, using(crate::proofs::Prefixes::put), unfolding(crate::specs::Names::declare))]
     pub fn declare(&mut self, declaration: &PrefixDeclaration) -> Result<(), QFault>
-        ensures answer { BecomesOrOutOfMemory Memory (declare self.old declaration.now) result self.new }
+        ensures answer { BecomesOrOutOfMemory Memory (declare self.old declaration.now) result
+            self.new }
         ensures refused { OnErr result (self.new ≡ self.old) }
     {
         let iri = full_iri(self.alloc, &mut self.recent, self.text, declaration.iri)?;

@@ -2,7 +2,9 @@
 
 ghost use Rattle.std.specs.Prelude.{map};
 ghost use Rattle.qs_syntax_resolve.specs.Path as spec;
-ghost use Rattle.qs_syntax_resolve.specs.Resolving.{Resolves, all};
+ghost use Rattle.qs_syntax_resolve.specs.inner.Path as inner_spec;
+ghost use Rattle.qs_syntax_resolve.specs.Resolving.{all};
+ghost use Rattle.qs_syntax_resolve.specs.inner.Resolving.{Resolves};
 
 use crate::resolver::Resolver;
 use qs_syntax_ast::path::{NegatedIri, Path};
@@ -75,7 +77,7 @@ impl<'a> Resolver<'a> {
 
     #[cycle(path)]
     fn operands(&mut self, alloc: Global, all: &[PathOperand]) -> Result<Items<Path>, QFault>
-        ensures { Resolves (spec.operands all.now self.old) result self.new }
+        ensures { Resolves (inner_spec.operands all.now self.old) result self.new }
     {
         let mut found = Items::new(alloc);
         for operand in all {

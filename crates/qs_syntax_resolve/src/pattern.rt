@@ -1,7 +1,8 @@
 //! Group graph patterns.
 
 ghost use Rattle.qs_syntax_resolve.specs.Pattern as spec;
-ghost use Rattle.qs_syntax_resolve.specs.Resolving.{Resolves, Changes};
+ghost use Rattle.qs_syntax_resolve.specs.inner.Pattern as inner_spec;
+ghost use Rattle.qs_syntax_resolve.specs.inner.Resolving.{Resolves, Changes};
 
 use crate::open_group::OpenGroup;
 use crate::resolver::Resolver;
@@ -24,7 +25,8 @@ impl<'a> Resolver<'a> {
         group: &mut OpenGroup,
         triples: &[TriplesSameSubject],
     ) -> Result<(), QFault>
-        ensures { Changes (spec.triples_pattern triples.now group.old self.old) result group.new self.new }
+        ensures { Changes (inner_spec.triples_pattern triples.now group.old self.old) result
+            group.new self.new }
     {
         self.triples(alloc, &mut group.triples, triples)
     }
@@ -35,7 +37,8 @@ impl<'a> Resolver<'a> {
         group: &mut OpenGroup,
         filter: &WrittenExpression,
     ) -> Result<(), QFault>
-        ensures { Changes (spec.filter_pattern filter.now group.old self.old) result group.new self.new }
+        ensures { Changes (inner_spec.filter_pattern filter.now group.old self.old) result group.new
+            self.new }
     {
         let filter = self.expression(alloc, filter)?;
         Ok(group.put_filter(filter)?)
@@ -48,7 +51,8 @@ impl<'a> Resolver<'a> {
         expression: &WrittenExpression,
         variable: Span,
     ) -> Result<(), QFault>
-        ensures { Changes (spec.bind_pattern expression.now variable group.old self.old) result group.new self.new }
+        ensures { Changes (inner_spec.bind_pattern expression.now variable group.old self.old)
+            result group.new self.new }
     {
         let expression = self.expression(alloc, expression)?;
         let (expression, variable) = keep_beside(expression, self.variable(variable))?;
@@ -61,7 +65,8 @@ impl<'a> Resolver<'a> {
         group: &mut OpenGroup,
         table: &WrittenData,
     ) -> Result<(), QFault>
-        ensures { Changes (spec.values_pattern table.now group.old self.old) result group.new self.new }
+        ensures { Changes (inner_spec.values_pattern table.now group.old self.old) result group.new
+            self.new }
     {
         let table = self.inline_data(alloc, table)?;
         Ok(group.put(alloc, GraphPattern::Values(table))?)
@@ -75,7 +80,8 @@ impl<'a> Resolver<'a> {
         group: &mut OpenGroup,
         pattern: &WrittenPattern,
     ) -> Result<(), QFault>
-        ensures { Changes (spec.pattern_of pattern.now group.old self.old) result group.new self.new }
+        ensures { Changes (inner_spec.pattern_of pattern.now group.old self.old) result group.new
+            self.new }
     {
         match pattern {
             WrittenPattern::Triples(triples) => self.put_triples(alloc, group, triples.as_slice()),
@@ -112,7 +118,8 @@ impl<'a> Resolver<'a> {
         group: &mut OpenGroup,
         element: &Element,
     ) -> Result<(), QFault>
-        ensures { Changes (spec.element_of element.now group.old self.old) result group.new self.new }
+        ensures { Changes (inner_spec.element_of element.now group.old self.old) result group.new
+            self.new }
     {
         self.put_pattern(alloc, group, &element.pattern)
     }
@@ -124,7 +131,8 @@ impl<'a> Resolver<'a> {
         group: &mut OpenGroup,
         all: &[Element],
     ) -> Result<(), QFault>
-        ensures { Changes (spec.elements group.old all.now self.old) result group.new self.new }
+        ensures { Changes (inner_spec.elements group.old all.now self.old) result group.new
+            self.new }
     {
         for element in all {
             self.put_element(alloc, group, element)?;
@@ -144,7 +152,7 @@ impl<'a> Resolver<'a> {
 
     #[cycle(group)]
     fn groups(&mut self, alloc: Global, all: &[WrittenGroup]) -> Result<Items<Group>, QFault>
-        ensures { Resolves (spec.groups all.now self.old) result self.new }
+        ensures { Resolves (inner_spec.groups all.now self.old) result self.new }
     {
         let mut found = Items::new(alloc);
         for group in all {

@@ -5,7 +5,7 @@
 
 ghost use Rattle.std.specs.Prelude.{[]};
 ghost use Rattle.qs_syntax_resolve.specs.Query as spec;
-ghost use Rattle.qs_syntax_resolve.specs.Resolving.{Resolves};
+ghost use Rattle.qs_syntax_resolve.specs.inner.Resolving.{Resolves};
 ghost use Rattle.qs_syntax_resolve.specs.Triples.{triples_behind};
 
 use crate::resolver::Resolver;

@@ -1,7 +1,7 @@
 //! The tables of VALUES.
 
 ghost use Rattle.qs_syntax_resolve.specs.Data as spec;
-ghost use Rattle.qs_syntax_resolve.specs.Resolving.{Resolves};
+ghost use Rattle.qs_syntax_resolve.specs.inner.Resolving.{Resolves};
 
 use crate::resolver::Resolver;
 use qs_syntax_ast::pattern::InlineData;

@@ -3,10 +3,11 @@
 //! Lists of properties and objects are written out, a triple before those of its object's brackets, so that each blank node first
 //! appears where the text has it.
 
-ghost use Rattle.std.specs.Prelude.{◌≡◌, []};
+ghost use Rattle.std.specs.Prelude.{◌≡◌, [], IfOk};
 ghost use Rattle.qs_syntax_resolve.specs.Leaves.{term_of};
 ghost use Rattle.qs_syntax_resolve.specs.Triples as spec;
-ghost use Rattle.qs_syntax_resolve.specs.Resolving.{Resolves, Collects, Opens};
+ghost use Rattle.qs_syntax_resolve.specs.inner.Triples as inner_spec;
+ghost use Rattle.qs_syntax_resolve.specs.inner.Resolving.{Resolves, Collects, Opens};
 
 use crate::resolver::Resolver;
 use qs_syntax_ast::path::Path;
@@ -18,14 +19,14 @@ use qs_syntax_tree::term::Term as WrittenTerm;
 use qs_syntax_tree::triples::{GraphNode, Property, TriplesSameSubject};
 use qs_terms::QFault;
 use sqlite_items::Items;
-use std::alloc::Global;
+use std::alloc::{AllocError, Global};
 
-fn simplified(path: Path) -> Verb
-    ensures { result ≡ spec.simplified path }
+fn simplified(alloc: Global, path: Path) -> Result<Verb, AllocError>
+    ensures { IfOk result (λ verb. verb ≡ spec.simplified path) }
 {
     match path {
-        Path::Iri(iri) => Verb::Iri(iri),
-        other => Verb::Path(other),
+        Path::Iri(iri) => Ok(Verb::Iri(iri)),
+        other => Ok(Verb::Path(Shared::new(alloc, other)?)),
     }
 }
 
@@ -45,45 +46,27 @@ impl<'a> Resolver<'a> {
             WrittenVerb::Var(span) => Ok(Verb::Variable(self.variable(*span)?)),
             WrittenVerb::Path(path) => {
                 let path = self.path(alloc, path)?;
-                Ok(simplified(path))
+                Ok(simplified(alloc, path)?)
             }
         }
     }
 
-    fn shared_verb(&mut self, alloc: Global, verb: &WrittenVerb) -> Result<Shared<Verb>, QFault>
-        ensures { Resolves (spec.verb_of verb.now self.old) result self.new }
+    fn blank(&mut self) -> Result<TermPattern, QFault>
+        ensures { Resolves (inner_spec.blank self.old) result self.new }
     {
-        let verb = self.verb(alloc, verb)?;
-        Ok(Shared::new(alloc, verb)?)
-    }
-
-    fn shared_term(
-        &mut self,
-        alloc: Global,
-        term: WrittenTerm,
-    ) -> Result<Shared<TermPattern>, QFault>
-        ensures { Resolves (term_of term self.old) result self.new }
-    {
-        let term = self.term(alloc, term)?;
-        Ok(Shared::new(alloc, term)?)
-    }
-
-    fn shared_blank(&mut self, alloc: Global) -> Result<Shared<TermPattern>, QFault>
-        ensures { Resolves (spec.blank self.old) result self.new }
-    {
-        let blank = TermPattern::Blank(self.anonymous()?);
-        Ok(Shared::new(alloc, blank)?)
+        Ok(TermPattern::Blank(self.anonymous()?))
     }
 
     fn simple_object(
         &mut self,
         alloc: Global,
-        subject: &Shared<TermPattern>,
-        verb: &Shared<Verb>,
+        subject: &TermPattern,
+        verb: &Verb,
         found: &mut Items<Triple>,
         object: WrittenTerm,
     ) -> Result<(), QFault>
-        ensures { Collects (spec.simple_object subject.now verb.now found.old object self.old) result found.new self.new }
+        ensures { Collects (inner_spec.simple_object subject.now verb.now found.old object self.old)
+            result found.new self.new }
     {
         let subject = subject.share()?;
         let verb = verb.share()?;
@@ -98,17 +81,17 @@ impl<'a> Resolver<'a> {
 
     fn blank_object(
         &mut self,
-        alloc: Global,
-        subject: &Shared<TermPattern>,
-        verb: &Shared<Verb>,
+        subject: &TermPattern,
+        verb: &Verb,
         found: &mut Items<Triple>,
-    ) -> Result<Shared<TermPattern>, QFault>
-        ensures { Opens (spec.blank_object subject.now verb.now found.old self.old) result found.new self.new }
+    ) -> Result<TermPattern, QFault>
+        ensures { Opens (inner_spec.blank_object subject.now verb.now found.old self.old) result
+            found.new self.new }
     {
-        let inner = self.shared_blank(alloc)?;
+        let inner = self.blank()?;
         let subject = subject.share()?;
         let verb = verb.share()?;
-        let object = inner.get().share()?;
+        let object = inner.share()?;
         found.push(Triple {
             subject,
             verb,
@@ -122,17 +105,18 @@ impl<'a> Resolver<'a> {
     fn object(
         &mut self,
         alloc: Global,
-        subject: &Shared<TermPattern>,
-        verb: &Shared<Verb>,
+        subject: &TermPattern,
+        verb: &Verb,
         found: &mut Items<Triple>,
         node: &GraphNode,
     ) -> Result<(), QFault>
-        ensures { Collects (spec.object_of node.now subject.now verb.now found.old self.old) result found.new self.new }
+        ensures { Collects (inner_spec.object_of node.now subject.now verb.now found.old self.old)
+            result found.new self.new }
     {
         match node {
             GraphNode::Term(term) => self.simple_object(alloc, subject, verb, found, *term),
             GraphNode::BlankNodePropertyList(own) => {
-                let inner = self.blank_object(alloc, subject, verb, found)?;
+                let inner = self.blank_object(subject, verb, found)?;
                 self.properties(alloc, &inner, found, own.as_slice())
             }
         }
@@ -142,12 +126,13 @@ impl<'a> Resolver<'a> {
     fn objects(
         &mut self,
         alloc: Global,
-        subject: &Shared<TermPattern>,
-        verb: &Shared<Verb>,
+        subject: &TermPattern,
+        verb: &Verb,
         found: &mut Items<Triple>,
         all: &[GraphNode],
     ) -> Result<(), QFault>
-        ensures { Collects (spec.objects subject.now verb.now found.old all.now self.old) result found.new self.new }
+        ensures { Collects (inner_spec.objects subject.now verb.now found.old all.now self.old)
+            result found.new self.new }
     {
         for node in all {
             self.object(alloc, subject, verb, found, node)?;
@@ -160,13 +145,14 @@ impl<'a> Resolver<'a> {
     fn property(
         &mut self,
         alloc: Global,
-        subject: &Shared<TermPattern>,
+        subject: &TermPattern,
         found: &mut Items<Triple>,
         property: &Property,
     ) -> Result<(), QFault>
-        ensures { Collects (spec.property_of property.now subject.now found.old self.old) result found.new self.new }
+        ensures { Collects (spec.property_of property.now subject.now found.old self.old) result
+            found.new self.new }
     {
-        let verb = self.shared_verb(alloc, &property.verb)?;
+        let verb = self.verb(alloc, &property.verb)?;
         self.objects(alloc, subject, &verb, found, property.objects.as_slice())
     }
 
@@ -174,11 +160,12 @@ impl<'a> Resolver<'a> {
     fn properties(
         &mut self,
         alloc: Global,
-        subject: &Shared<TermPattern>,
+        subject: &TermPattern,
         found: &mut Items<Triple>,
         all: &[Property],
     ) -> Result<(), QFault>
-        ensures { Collects (spec.properties subject.now found.old all.now self.old) result found.new self.new }
+        ensures { Collects (spec.properties subject.now found.old all.now self.old) result found.new
+            self.new }
     {
         for property in all {
             self.property(alloc, subject, found, property)?;
@@ -193,9 +180,10 @@ impl<'a> Resolver<'a> {
         own: &[Property],
         others: &[Property],
     ) -> Result<(), QFault>
-        ensures { Collects (spec.bracketed_subject found.old own.now others.now self.old) result found.new self.new }
+        ensures { Collects (inner_spec.bracketed_subject found.old own.now others.now self.old)
+            result found.new self.new }
     {
-        let subject = self.shared_blank(alloc)?;
+        let subject = self.blank()?;
         self.properties(alloc, &subject, found, own)?;
         self.properties(alloc, &subject, found, others)
     }
@@ -207,11 +195,12 @@ impl<'a> Resolver<'a> {
         found: &mut Items<Triple>,
         triples: &TriplesSameSubject,
     ) -> Result<(), QFault>
-        ensures { Collects (spec.same_subject found.old triples.now self.old) result found.new self.new }
+        ensures { Collects (spec.same_subject found.old triples.now self.old) result found.new
+            self.new }
     {
         match &triples.subject {
             GraphNode::Term(term) => {
-                let subject = self.shared_term(alloc, *term)?;
+                let subject = self.term(alloc, *term)?;
                 self.properties(alloc, &subject, found, triples.properties.as_slice())
             }
             GraphNode::BlankNodePropertyList(own) => self.bracketed_subject(
@@ -230,7 +219,8 @@ impl<'a> Resolver<'a> {
         found: &mut Items<Triple>,
         all: &[TriplesSameSubject],
     ) -> Result<(), QFault>
-        ensures { Collects (spec.triples_behind found.old all.now self.old) result found.new self.new }
+        ensures { Collects (spec.triples_behind found.old all.now self.old) result found.new
+            self.new }
     {
         for triples in all {
             self.same_subject(alloc, found, triples)?;
@@ -245,7 +235,8 @@ impl<'a> Resolver<'a> {
         found: &mut Items<Triple>,
         all: &mut Items<TriplesSameSubject>,
     ) -> Result<(), QFault>
-        ensures { Collects (spec.triples_behind found.old all.old self.old) result found.new self.new }
+        ensures { Collects (spec.triples_behind found.old all.old self.old) result found.new
+            self.new }
     {
         for at in 0..all.len() {
             self.same_subject(alloc, found, &all.as_slice()[at])?;

@@ -1,7 +1,7 @@
 //! Updates.
 
 ghost use Rattle.qs_syntax_resolve.specs.Pattern.{group_of};
-ghost use Rattle.qs_syntax_resolve.specs.Resolving.{Resolves, Collects};
+ghost use Rattle.qs_syntax_resolve.specs.inner.Resolving.{Resolves, Collects};
 ghost use Rattle.qs_syntax_resolve.specs.Update as spec;
 ghost use Rattle.qs_syntax_resolve.specs.inner.Templates.{templates};
 
@@ -215,7 +215,8 @@ impl<'a> Resolver<'a> {
         found: &mut Items<Operation>,
         operation: Option<WrittenOperation>,
     ) -> Result<(), QFault>
-        ensures { Collects (spec.operation_behind found.old operation self.old) result found.new self.new }
+        ensures { Collects (spec.operation_behind found.old operation self.old) result found.new
+            self.new }
     {
         match operation {
             None => Ok(()),

@@ -4,7 +4,8 @@ use Rattle.std.proofs.lemmas.List.{take_all}
 use Rattle.std.proofs.lemmas.Bool.{lt-ltb, le-ltb}
 use Rattle.std.specs.Cmp.Lexicographic.{pointwise, bytes_decides}
 use Rattle.qs_syntax_scope.specs.Names.{Name, contains}
-use Rattle.qs_syntax_scope.specs.Places.{is_before, first_with, place_of, IsIndex}
+use Rattle.qs_syntax_scope.specs.Places.{place_of}
+use Rattle.qs_syntax_scope.specs.inner.Places.{is_before, first_with, IsIndex}
 use Rattle.qs_syntax_scope.specs.declared.name_list.Places.{Places}
 
 absent_at : (x name : Name) (xs : List Name) (b : Bool) → pointwise nat_eq x name ≡ b → (b || contains xs name) ≡ false → (contains xs name ≡ false → place_of xs name ≡ length xs) → cond b zero (suc (place_of xs name)) ≡ suc (length xs)

@@ -14,7 +14,7 @@ use Rattle.qs_syntax_scope.proofs.FirstsKept.{contains_firsts, names_of_with, na
 use Rattle.qs_syntax_scope.proofs.Reading.{distinct}
 use Rattle.qs_syntax_scope.specs.declared.met.Met.{Met}
 use Rattle.qs_syntax_scope.specs.Firsts.{names_of, with_names, add_first, firsts}
-use Rattle.qs_syntax_scope.specs.Laws.{EachStandsOnce}
+use Rattle.qs_syntax_scope.specs.inner.Laws.{EachStandsOnce}
 use Rattle.qs_syntax_scope.specs.Met.{after, add_new, are_distinct}
 use Rattle.qs_syntax_scope.specs.Names.{Name, contains}
 use Rattle.qs_syntax_scope.specs.VariablesIn.{in_query, in_update, query_variables, update_variables}

@@ -7,7 +7,7 @@ use Rattle.std.specs.Ordering.{nat_cmp}
 use Rattle.std.specs.Cmp.Lexicographic.{pointwise, slice_cmp, texts_ties, bytes_decides, nat_list_eq_equiv}
 use Rattle.std.specs.BTreeMap.{is_at}
 use Rattle.qs_syntax_scope.specs.Names.{Name, contains}
-use Rattle.qs_syntax_scope.specs.Places.{is_before, is_from, first_with, IsWithin, IsIndex}
+use Rattle.qs_syntax_scope.specs.inner.Places.{is_before, is_from, first_with, IsWithin, IsIndex}
 use Rattle.qs_syntax_scope.specs.declared.name_list.Places.{Places}
 
 same : Name → Name → Bool

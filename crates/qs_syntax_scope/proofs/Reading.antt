@@ -15,8 +15,9 @@ use Rattle.qs_syntax_ast.specs.declared.pattern.GraphPattern.TheVariants.{Bind, 
 use Rattle.qs_syntax_scope.specs.declared.met.Met.{Met}
 use Rattle.qs_syntax_scope.specs.Names.{Name, contains}
 use Rattle.qs_syntax_scope.specs.Met.{after, add_new, add_run, are_distinct, are_apart}
-use Rattle.qs_syntax_scope.specs.Scope.{Part, scope, part, parts, fits, add_part, pattern_part, group_parts}
-use Rattle.qs_syntax_scope.specs.Laws.{EachStandsOnce, EachStandsInOne, EachFits}
+use Rattle.qs_syntax_scope.specs.Scope.{Part, scope, part, fits, add_part, pattern_part, group_parts}
+use Rattle.qs_syntax_scope.specs.inner.Scope.{parts}
+use Rattle.qs_syntax_scope.specs.inner.Laws.{EachStandsOnce, EachStandsInOne, EachFits}
 
 -- ---- what is among names
 

@@ -1,4 +1,5 @@
--- The variables of a text, each once, in the order in which they first appear in it (SPARQL 1.1 Query, 16.1).
+-- The variables of a text, each once, in the order in which they first appear in it (SPARQL 1.1
+-- Query, 16.1).
 use Rattle.std.specs.Prelude.{List, [], ◌∷◌, ◌++◌, map, if◌then◌else◌}
 use Rattle.std.specs.List.{fold}
 use Rattle.qs_syntax_scope.specs.Names.{Name, contains}

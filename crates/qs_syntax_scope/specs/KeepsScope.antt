@@ -1,4 +1,5 @@
--- The rules that a query or an update keeps beyond the grammar (SPARQL 1.1 Query, the notes on the grammar in 19.8).
+-- The rules that a query or an update keeps beyond the grammar (SPARQL 1.1 Query, the notes on the
+-- grammar in 19.8).
 use Rattle.std.specs.Prelude.{Bool, true, ◌&&◌, not, List, [], ◌++◌, map, Option, Some, None}
 use Rattle.std.specs.List.{list_all, list_any, flat_map}
 use Rattle.qs_syntax_scope.specs.Names.{Name}
@@ -30,7 +31,8 @@ construct_keeps (Some group) = pattern_keeps group
 -- a form, with the variables of the trailing VALUES
 abbrev pub form_keeps : List Name → QueryForm → Bool
 form_keeps trailing (Select select) =
-    pattern_keeps select.pattern && selected_are_new (in_scope select.pattern ++ trailing) select.projection
+    pattern_keeps select.pattern && selected_are_new (in_scope select.pattern ++ trailing)
+    select.projection
 form_keeps trailing (Construct construct) = construct_keeps construct.pattern
 form_keeps trailing (Ask ask) = pattern_keeps ask.pattern
 
@@ -45,7 +47,8 @@ trailing_is_table (Some table) = is_table table
 
 -- a query keeps all rules
 unfoldable pub query_keeps_scope : Query → Bool
-query_keeps_scope query = trailing_is_table query.values && form_keeps (trailing_names query.values) query.form
+query_keeps_scope query =
+    trailing_is_table query.values && form_keeps (trailing_names query.values) query.form
 
 -- ---- updates
 
@@ -69,7 +72,8 @@ where_keeps _ = true
 
 -- what an operation keeps by itself
 abbrev pub operation_keeps : Operation → Bool
-operation_keeps operation = data_names_no_variable operation && deletes_no_blank operation && where_keeps operation
+operation_keeps operation =
+    data_names_no_variable operation && deletes_no_blank operation && where_keeps operation
 
 -- the runs of its WHERE
 abbrev pub operation_runs : Operation → List (List Name)
@@ -81,7 +85,8 @@ abbrev pub inserted_labels : Operation → List Name
 inserted_labels (op.InsertData blocks) = flat_map block_labels blocks
 inserted_labels _ = []
 
--- an update keeps all rules: no label stands in two runs of its operations, and none in two INSERT DATA (19.6)
+-- an update keeps all rules: no label stands in two runs of its operations, and none in two INSERT
+-- DATA (19.6)
 unfoldable pub update_keeps_scope : Update → Bool
 update_keeps_scope update =
     list_all operation_keeps update.operations &&

@@ -14,10 +14,8 @@ node_labels (Label label) = label ∷ []
 node_labels (Anonymous number) = []
 
 abbrev pub term_labels : TermPattern → List Name
-term_labels (term.Variable v) = []
-term_labels (term.Iri i) = []
-term_labels (term.Literal l) = []
 term_labels (term.Blank b) = node_labels b
+term_labels _ = []
 
 -- of its subject and its object
 abbrev pub triple_labels : Triple → List Name
@@ -29,10 +27,8 @@ block_labels b = flat_map triple_labels b.triples
 -- ---- where no blank node may stand
 
 abbrev pub term_is_blank : TermPattern → Bool
-term_is_blank (term.Variable v) = false
-term_is_blank (term.Iri i) = false
-term_is_blank (term.Literal l) = false
 term_is_blank (term.Blank b) = true
+term_is_blank _ = false
 
 abbrev pub triple_has_blank : Triple → Bool
 triple_has_blank t = term_is_blank t.subject || term_is_blank t.object

@@ -10,4 +10,4 @@ pub mod Selected
 pub mod KeepsScope
 pub mod Firsts
 pub mod VariablesIn
-pub mod Laws
+pub mod inner

@@ -1,12 +1,13 @@
 -- The tables of VALUES (SPARQL 1.1 Query, 10.2, and 19.8, note 10).
-use Rattle.std.specs.Prelude.{Bool, true, ◌&&◌, ◌==◌, List, length, map}
+use Rattle.std.specs.Prelude.{Bool, true, ◌&&◌, ◌==◌, length}
 use Rattle.std.specs.List.{list_all}
 use Rattle.qs_syntax_scope.specs.Met.{are_distinct}
 use Rattle.qs_syntax_scope.specs.Variables.{column_names}
 use Rattle.qs_syntax_ast.specs.declared.pattern.InlineData.{InlineData}
 use Rattle.qs_syntax_ast.specs.declared.pattern.Group.{Group, fold-Group}
-use Rattle.qs_syntax_ast.specs.declared.pattern.GraphPattern.{GraphPattern, fold-GraphPattern}
-use Rattle.qs_syntax_ast.specs.declared.pattern.GraphPattern.TheOpen.{Group-F, GraphPattern-F, Triples, Union, Optional, Minus, Graph, Bind, Values}
+use Rattle.qs_syntax_ast.specs.declared.pattern.GraphPattern.TheOpen.{Group-F, GraphPattern-F}
+use Rattle.qs_syntax_ast.specs.declared.pattern.GraphPattern.TheOpen.{Triples, Union, Optional}
+use Rattle.qs_syntax_ast.specs.declared.pattern.GraphPattern.TheOpen.{Minus, Graph, Bind, Values}
 
 -- each row has as many values as there are variables
 abbrev pub rows_fit : InlineData → Bool
@@ -34,14 +35,3 @@ group_tables_level group = list_all (λ keeps. keeps) group.patterns
 -- each VALUES, wherever it stands, is a table
 abbrev pub values_are_tables : Group → Bool
 values_are_tables = fold-Group Bool Bool pattern_tables_level group_tables_level
-
--- the same of one pattern
-abbrev pub pattern_is_table : GraphPattern → Bool
-pattern_is_table = fold-GraphPattern Bool Bool pattern_tables_level group_tables_level
-
--- the patterns of a group, and the operands of a UNION
-abbrev pub patterns_are_tables : List GraphPattern → Bool
-patterns_are_tables patterns = list_all (λ keeps. keeps) (map (λ p. pattern_is_table p) patterns)
-
-abbrev pub groups_are_tables : List Group → Bool
-groups_are_tables groups = list_all (λ keeps. keeps) (map (λ g. values_are_tables g) groups)

@@ -1,4 +1,5 @@
--- The variables of triple patterns (SPARQL 1.1 Query, 4.2 and 9). A path has none, and a blank node is none.
+-- The variables of triple patterns (SPARQL 1.1 Query, 4.2 and 9). A path has none, and a blank node
+-- is none.
 use Rattle.std.specs.Prelude.{Bool, true, false, ◌||◌, List, [], ◌∷◌, ◌++◌, map, Option, Some, None}
 use Rattle.std.specs.List.{list_any}
 use Rattle.qs_syntax_scope.specs.Names.{Name}
@@ -15,14 +16,11 @@ use Rattle.qs_syntax_ast.specs.declared.update.QuadBlock.{QuadBlock}
 
 abbrev pub term_variables : TermPattern → List Name
 term_variables (term.Variable v) = v.name ∷ []
-term_variables (term.Iri i) = []
-term_variables (term.Literal l) = []
-term_variables (term.Blank b) = []
+term_variables _ = []
 
 abbrev pub verb_variables : Verb → List Name
 verb_variables (verb.Variable v) = v.name ∷ []
-verb_variables (verb.Iri i) = []
-verb_variables (verb.Path p) = []
+verb_variables _ = []
 
 abbrev pub graph_variables : VarOrIri → List Name
 graph_variables (graph.Variable v) = v.name ∷ []
@@ -40,22 +38,19 @@ column_names table = map (λ (v : Variable). v.name) table.variables
 
 abbrev pub term_is_variable : TermPattern → Bool
 term_is_variable (term.Variable v) = true
-term_is_variable (term.Iri i) = false
-term_is_variable (term.Literal l) = false
-term_is_variable (term.Blank b) = false
+term_is_variable _ = false
 
 abbrev pub verb_is_variable : Verb → Bool
 verb_is_variable (verb.Variable v) = true
-verb_is_variable (verb.Iri i) = false
-verb_is_variable (verb.Path p) = false
+verb_is_variable _ = false
 
 abbrev pub graph_is_variable : Option VarOrIri → Bool
-graph_is_variable None = false
 graph_is_variable (Some (graph.Variable v)) = true
-graph_is_variable (Some (graph.Iri i)) = false
+graph_is_variable _ = false
 
 abbrev pub triple_has_variable : Triple → Bool
-triple_has_variable t = term_is_variable t.subject || verb_is_variable t.verb || term_is_variable t.object
+triple_has_variable t =
+    term_is_variable t.subject || verb_is_variable t.verb || term_is_variable t.object
 
 -- the name of the graph included
 abbrev pub block_has_variable : QuadBlock → Bool

@@ -1,18 +1,17 @@
--- The variables that stand anywhere in a query or an update (SPARQL 1.1 Query, 4.1.3), in scope or not, as often as they stand there.
--- They stand in the projection and after AS, in triples and at the ends of paths, in expressions, filters and keys of ORDER BY. They stand
--- after MINUS too, as the name of a graph, in tables, in templates and in quads.
+-- The variables that stand anywhere in a query or an update (SPARQL 1.1 Query, 4.1.3), in scope or
+-- not, as often as they stand there. They stand in the projection and after AS, in triples and at
+-- the ends of paths, in expressions, filters and keys of ORDER BY. They stand after MINUS too, as
+-- the name of a graph, in tables, in templates and in quads.
 use Rattle.std.specs.Prelude.{List, [], ◌∷◌, ◌++◌, map, Option, Some, None}
 use Rattle.std.specs.List.{flat_map}
 use Rattle.qs_syntax_scope.specs.Names.{Name}
 use Rattle.qs_syntax_scope.specs.Firsts.{firsts, with_names}
 use Rattle.qs_syntax_scope.specs.KeepsScope.{trailing_names}
 use Rattle.qs_syntax_scope.specs.Variables.{triple_variables, graph_variables, column_names}
-use Rattle.qs_syntax_ast.specs.declared.expression.Addend.{Addend, fold-Addend}
 use Rattle.qs_syntax_ast.specs.declared.expression.Expression.{Expression, fold-Expression}
 use Rattle.qs_syntax_ast.specs.declared.expression.Expression.TheOpen.{Addend-F, Expression-F}
 use Rattle.qs_syntax_ast.specs.declared.expression.Expression.TheOpen as e
 use Rattle.qs_syntax_ast.specs.declared.pattern.Group.{Group, fold-Group}
-use Rattle.qs_syntax_ast.specs.declared.pattern.GraphPattern.{GraphPattern, fold-GraphPattern}
 use Rattle.qs_syntax_ast.specs.declared.pattern.GraphPattern.TheOpen.{Group-F, GraphPattern-F}
 use Rattle.qs_syntax_ast.specs.declared.pattern.GraphPattern.TheOpen as g
 use Rattle.qs_syntax_ast.specs.declared.pattern.Triple.{Triple}
@@ -68,14 +67,8 @@ addend_level addend = addend.operand
 abbrev pub in_expression : Expression → List Name
 in_expression = fold-Expression (List Name) (List Name) expression_level addend_level
 
-abbrev pub in_addend : Addend → List Name
-in_addend = fold-Addend (List Name) (List Name) expression_level addend_level
-
 abbrev pub in_expressions : List Expression → List Name
 in_expressions expressions = of_parts (map (λ x. in_expression x) expressions)
-
-abbrev pub in_addends : List Addend → List Name
-in_addends addends = of_parts (map (λ x. in_addend x) addends)
 
 -- ---- triples (4.2) and group graph patterns (5), with their filters and what stands after MINUS
 
@@ -97,15 +90,6 @@ group_level group = of_parts group.patterns ++ in_expressions group.filters
 abbrev pub in_group : Group → List Name
 in_group = fold-Group (List Name) (List Name) pattern_level group_level
 
-abbrev pub in_pattern : GraphPattern → List Name
-in_pattern = fold-GraphPattern (List Name) (List Name) pattern_level group_level
-
-abbrev pub in_patterns : List GraphPattern → List Name
-in_patterns patterns = of_parts (map (λ p. in_pattern p) patterns)
-
-abbrev pub in_groups : List Group → List Name
-in_groups groups = of_parts (map (λ x. in_group x) groups)
-
 -- ---- queries (15 and 16)
 
 abbrev pub in_item : SelectItem → List Name
@@ -123,14 +107,15 @@ abbrev pub in_modifiers : SolutionModifiers → List Name
 in_modifiers modifiers = flat_map in_condition modifiers.order
 
 abbrev pub in_select : Select → List Name
-in_select select = in_projection select.projection ++ in_group select.pattern ++ in_modifiers select.modifiers
+in_select s = in_projection s.projection ++ in_group s.pattern ++ in_modifiers s.modifiers
 
 abbrev pub in_where : Option Group → List Name
 in_where None = []
 in_where (Some group) = in_group group
 
 abbrev pub in_construct : Construct → List Name
-in_construct construct = in_triples construct.template ++ in_where construct.pattern ++ in_modifiers construct.modifiers
+in_construct construct = in_triples construct.template ++ in_where construct.pattern
+    ++ in_modifiers construct.modifiers
 
 abbrev pub in_ask : Ask → List Name
 in_ask ask = in_group ask.pattern ++ in_modifiers ask.modifiers
@@ -169,15 +154,12 @@ in_operation other = []
 abbrev pub in_update : Update → List Name
 in_update update = flat_map in_operation update.operations
 
--- ---- those of a group, and those of an operation, each once, in the order in which they first appear
-
-unfoldable pub group_variables : Group → List Variable
-group_variables group = firsts (with_names (in_group group))
+-- ---- those of an operation, each once, in the order in which they first appear
 
 unfoldable pub operation_variables : Operation → List Variable
 operation_variables operation = firsts (with_names (in_operation operation))
 
--- ---- those that are listed already and then those that stand there, each once, in the order in which they first appear
+-- ---- those that are listed already and then those that stand there, each once
 
 unfoldable pub query_variables : Query → List Variable
 query_variables query = firsts (query.variables ++ with_names (in_query query))

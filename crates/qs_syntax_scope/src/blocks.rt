@@ -12,8 +12,8 @@ use qs_syntax_ast::update::QuadBlock;
 fn triple_has_variable(triple: &Triple) -> bool
     ensures { result ≡ variables.triple_has_variable triple.now }
 {
-    matches!(triple.subject.get(), TermPattern::Variable(_))
-        || matches!(triple.verb.get(), Verb::Variable(_))
+    matches!(triple.subject, TermPattern::Variable(_))
+        || matches!(triple.verb, Verb::Variable(_))
         || matches!(&triple.object, TermPattern::Variable(_))
 }
 
@@ -45,7 +45,7 @@ pub fn have_variable(blocks: &[QuadBlock]) -> bool
 fn triple_has_blank(triple: &Triple) -> bool
     ensures { result ≡ labels.triple_has_blank triple.now }
 {
-    matches!(triple.subject.get(), TermPattern::Blank(_))
+    matches!(triple.subject, TermPattern::Blank(_))
         || matches!(&triple.object, TermPattern::Blank(_))
 }
 

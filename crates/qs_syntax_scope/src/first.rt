@@ -17,7 +17,8 @@ fn put_first<'a>(
     place: usize,
     name: &Name<'a>,
 ) -> Result<(), AllocError>
-    ensures { OnOk result (found.new ≡ (if contains (take place names.now) name.now then found.old else found.old ++ with_name name.now ∷ [])) }
+    ensures { OnOk result (found.new ≡ (if contains (take place names.now) name.now then found.old
+        else found.old ++ with_name name.now ∷ [])) }
 {
     if names.is_before(place, name.text()) {
         return Ok(());

@@ -2,6 +2,7 @@
 
 ghost use Rattle.std.specs.Prelude.{◌≡◌, ◌++◌, OnOk};
 ghost use Rattle.qs_syntax_scope.specs.VariablesIn as spec;
+ghost use Rattle.qs_syntax_scope.specs.inner.VariablesIn as inner;
 
 use crate::name_list::NameList;
 use crate::scope::push_variable;
@@ -66,7 +67,7 @@ pub fn push_expressions<'a>(
 
 #[cycle(expression)]
 fn push_addends<'a>(names: &mut NameList<'a>, all: &'a [Addend]) -> Result<(), AllocError>
-    ensures { OnOk result (names.new ≡ names.old ++ spec.in_addends all.now) }
+    ensures { OnOk result (names.new ≡ names.old ++ inner.in_addends all.now) }
 {
     for one in all {
         push_expression(names, &one.operand)?;

@@ -3,7 +3,8 @@
 ghost use Rattle.std.specs.Prelude.{◌≡◌, OnOk};
 ghost use Rattle.std.specs.List.{fold, flat_map};
 ghost use Rattle.qs_syntax_scope.specs.Labels as spec;
-ghost use Rattle.qs_syntax_scope.specs.Met.{add_label, add_run};
+ghost use Rattle.qs_syntax_scope.specs.Met.{add_run};
+ghost use Rattle.qs_syntax_scope.specs.inner.Met.{add_label};
 
 use crate::met::Met;
 use qs_syntax_ast::pattern::Triple;
@@ -21,15 +22,17 @@ fn add_term<'a>(met: &mut Met<'a>, start: usize, term: &'a TermPattern) -> Resul
 }
 
 fn add_triple<'a>(met: &mut Met<'a>, start: usize, triple: &'a Triple) -> Result<(), AllocError>
-    ensures { OnOk result (met.new ≡ fold (add_label start) met.old (spec.triple_labels triple.now)) }
+    ensures { OnOk result
+        (met.new ≡ fold (add_label start) met.old (spec.triple_labels triple.now)) }
 {
-    add_term(met, start, triple.subject.get())?;
+    add_term(met, start, &triple.subject)?;
     add_term(met, start, &triple.object)
 }
 
 /// The labels of triples, in the run that began at the place.
 fn add_triples<'a>(met: &mut Met<'a>, start: usize, triples: &'a [Triple]) -> Result<(), AllocError>
-    ensures { OnOk result (met.new ≡ fold (add_label start) met.old (flat_map spec.triple_labels triples.now)) }
+    ensures { OnOk result
+        (met.new ≡ fold (add_label start) met.old (flat_map spec.triple_labels triples.now)) }
 {
     for triple in triples {
         add_triple(met, start, triple)?;
@@ -57,7 +60,8 @@ fn add_each_block<'a>(
     start: usize,
     blocks: &'a [QuadBlock],
 ) -> Result<(), AllocError>
-    ensures { OnOk result (met.new ≡ fold (add_label start) met.old (flat_map spec.block_labels blocks.now)) }
+    ensures { OnOk result
+        (met.new ≡ fold (add_label start) met.old (flat_map spec.block_labels blocks.now)) }
 {
     for block in blocks {
         add_block(met, start, block)?;

@@ -9,10 +9,11 @@ ghost use Rattle.qs_syntax_scope.specs.Names.{Name, contains};
 ghost use Rattle.qs_syntax_scope.specs.Firsts.{names_of, firsts};
 ghost use Rattle.qs_syntax_scope.specs.Met.{are_distinct, are_apart};
 ghost use Rattle.qs_syntax_scope.specs.Places.{place_of};
-ghost use Rattle.qs_syntax_scope.specs.Scope.{scope, in_scope, part, parts, fits};
+ghost use Rattle.qs_syntax_scope.specs.Scope.{scope, in_scope, part, fits};
+ghost use Rattle.qs_syntax_scope.specs.inner.Scope.{parts};
 ghost use Rattle.qs_syntax_scope.specs.Variables.{triple_variables, graph_variables, column_names};
 ghost use Rattle.qs_syntax_scope.specs.VariablesIn.{in_query, in_update, query_variables, update_variables};
-ghost use Rattle.qs_syntax_scope.specs.Laws.{EachStandsOnce, EachStandsInOne, EachFits};
+ghost use Rattle.qs_syntax_scope.specs.inner.Laws.{EachStandsOnce, EachStandsInOne, EachFits};
 ghost use Rattle.qs_syntax_ast.specs.declared.pattern.Group.{Group, out-Group};
 ghost use Rattle.qs_syntax_ast.specs.declared.pattern.GraphPattern.{GraphPattern};
 ghost use Rattle.qs_syntax_ast.specs.declared.pattern.GraphPattern.TheVariants.{Triples, Union, Optional, Minus, Graph, Bind, Values};
@@ -32,15 +33,20 @@ pub fn distinct_names_stand_once()
 /// The variables that stand anywhere in a query are among `query_variables`, and those that it lists are too; nothing else is, and
 /// each stands there once. The same holds of an update.
 pub fn all_variables_are_listed()
-    ensures of_query { (query : Query) (name : Name) → contains (names_of (query_variables query)) name ≡ (contains (names_of query.variables) name || contains (in_query query) name) }
-    ensures of_update { (update : Update) (name : Name) → contains (names_of (update_variables update)) name ≡ (contains (names_of update.variables) name || contains (in_update update) name) }
+    ensures of_query { (query : Query) (name : Name) → contains (names_of (query_variables query))
+        name ≡ (contains (names_of query.variables) name || contains (in_query query) name) }
+    ensures of_update { (update : Update) (name : Name)
+        → contains (names_of (update_variables update)) name
+        ≡ (contains (names_of update.variables) name || contains (in_update update) name) }
     ensures once { (variables : List Variable) → EachStandsOnce (names_of (firsts variables)) }
 {}
 
 /// A name that is among others has a place below their count, and stands there.
 pub fn names_stand_at_their_places()
-    ensures within { (names : List Name) (name : Name) → IsTrue (contains names name) → place_of names name < length names }
-    ensures at { (names : List Name) (name : Name) → IsTrue (contains names name) → slice_get names (place_of names name) ≡ Some name }
+    ensures within { (names : List Name) (name : Name) → IsTrue (contains names name)
+        → place_of names name < length names }
+    ensures at { (names : List Name) (name : Name) → IsTrue (contains names name)
+        → slice_get names (place_of names name) ≡ Some name }
 {}
 
 /// Runs are apart exactly where each label stands in one.
@@ -52,17 +58,23 @@ pub fn labels_of_runs_apart_stand_in_one()
 /// variable is not in their scope.
 pub fn patterns_fit_one_by_one()
     ensures group { (group : Group) → scope group ≡ parts (out-Group group).patterns }
-    ensures patterns { (patterns : List GraphPattern) → IsTrue (parts patterns).keeps ↔ EachFits patterns }
-    ensures bind { (before : List Name) (value : Expression) (variable : Variable) → IsTrue (fits before (part (Bind value variable))) ↔ (contains before variable.name ≡ false) }
+    ensures patterns { (patterns : List GraphPattern) → IsTrue (parts patterns).keeps
+        ↔ EachFits patterns }
+    ensures bind { (before : List Name) (value : Expression) (variable : Variable)
+        → IsTrue (fits before (part (Bind value variable)))
+        ↔ (contains before variable.name ≡ false) }
 {}
 
 /// The variables that each kind of pattern brings into scope (SPARQL 1.1 Query, 18.2.1).
 pub fn patterns_bring_into_scope()
-    ensures triples { (all : List Triple) → (part (Triples all)).names ≡ flat_map triple_variables all }
+    ensures triples { (all : List Triple) → (part (Triples all)).names ≡ flat_map triple_variables
+        all }
     ensures union { (groups : List Group) → (part (Union groups)).names ≡ flat_map in_scope groups }
     ensures optional { (group : Group) → (part (Optional group)).names ≡ in_scope group }
     ensures minus { (group : Group) → (part (Minus group)).names ≡ [] }
-    ensures graph { (name : VarOrIri) (group : Group) → (part (Graph name group)).names ≡ graph_variables name ++ in_scope group }
-    ensures bind { (value : Expression) (variable : Variable) → (part (Bind value variable)).names ≡ variable.name ∷ [] }
+    ensures graph { (name : VarOrIri) (group : Group) → (part (Graph name group)).names
+        ≡ graph_variables name ++ in_scope group }
+    ensures bind { (value : Expression) (variable : Variable) → (part (Bind value variable)).names
+        ≡ variable.name ∷ [] }
     ensures values { (table : InlineData) → (part (Values table)).names ≡ column_names table }
 {}

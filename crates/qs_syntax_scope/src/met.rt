@@ -2,6 +2,7 @@
 
 ghost use Rattle.std.specs.Prelude.{◌≡◌, ◌∷◌, [], ◌++◌, OnOk};
 ghost use Rattle.qs_syntax_scope.specs.Met as spec;
+ghost use Rattle.qs_syntax_scope.specs.inner.Met as inner;
 
 use crate::name_list::NameList;
 use qs_syntax_ast::shared::Shared;
@@ -27,7 +28,11 @@ impl<'a> Met<'a> {
 
     /// One more name, which need not be new.
     pub fn push(&mut self, name: &'a Shared<Text>) -> Result<(), AllocError>
-        ensures { OnOk result (self.new ≡ record { names = self.old.names ++ name.now ∷ []; keeps = self.old.keeps }) }
+        ensures { OnOk result
+            (self.new ≡ record {
+              names = self.old.names ++ name.now ∷ [];
+              keeps = self.old.keeps;
+            }) }
     {
         self.names.push(name)
     }
@@ -42,7 +47,7 @@ impl<'a> Met<'a> {
 
     /// One more label of the run that began at the place.
     pub fn add_label(&mut self, start: usize, label: &'a Shared<Text>) -> Result<(), AllocError>
-        ensures { OnOk result (self.new ≡ spec.add_label start self.old label.now) }
+        ensures { OnOk result (self.new ≡ inner.add_label start self.old label.now) }
     {
         if self.names.is_before(start, label.get().as_str()) {
             self.keeps = false;

@@ -8,7 +8,8 @@ ghost use Rattle.std.specs.Ordering.{nat_cmp};
 ghost use Rattle.std.specs.Cmp.Lexicographic.{slice_cmp};
 ghost use Rattle.std.specs.BTreeMap.{get, Updates, IsUnchanged};
 ghost use Rattle.qs_syntax_scope.specs.Names.{contains};
-ghost use Rattle.qs_syntax_scope.specs.Places.{first_with, place_of};
+ghost use Rattle.qs_syntax_scope.specs.Places.{place_of};
+ghost use Rattle.qs_syntax_scope.specs.inner.Places.{first_with};
 
 use crate::key::{Key, key_of};
 use crate::name::Name;
@@ -40,7 +41,7 @@ impl<'a> Model for NameList<'a> {
 
     ghost Value = { List (List ℕ) };
 
-    ghost use Rattle.qs_syntax_scope.specs.Places.{IsIndex};
+    ghost use Rattle.qs_syntax_scope.specs.inner.Places.{IsIndex};
 
     ghost view = { λ s. s.names.items };
 
@@ -63,7 +64,12 @@ fn meet<'a>(
     name: Key<'a>,
     place: usize,
 ) -> Result<(), AllocError>
-    ensures met { OnOk result (Updates (slice_cmp nat_cmp) index.old index.new name.entry (Some (record { first = first_with place (get (slice_cmp nat_cmp) index.old name.entry); last = place }))) }
+    ensures met { OnOk result (Updates (slice_cmp nat_cmp) index.old index.new name.entry
+        (Some
+        (record {
+          first = first_with place (get (slice_cmp nat_cmp) index.old name.entry);
+          last = place;
+        }))) }
     ensures unmet { OnErr result (IsUnchanged index.old index.new) }
 {
     let fresh = Places {

@@ -26,7 +26,8 @@ fn labels_are_apart(alloc: Global, group: &Group) -> Result<bool, AllocError>
 
 // The tables and the labels of a WHERE.
 fn rest_keeps(alloc: Global, group: &Group) -> Result<bool, AllocError>
-    ensures { IfOk result (λ b. b ≡ (values_are_tables group.now && are_apart (runs_of group.now))) }
+    ensures { IfOk result
+        (λ b. b ≡ (values_are_tables group.now && are_apart (runs_of group.now))) }
 {
     let tables = tables::group(alloc, group)?;
     let labels = labels_are_apart(alloc, group)?;
@@ -77,7 +78,10 @@ fn names_keep(
     select: &Select,
     values: &Option<InlineData>,
 ) -> Result<bool, AllocError>
-    ensures { IfOk result (λ b. b ≡ (binds_are_new select.now.pattern && are_new (in_scope select.now.pattern ++ spec.trailing_names values.now) select.now.projection)) }
+    ensures { IfOk result
+        (λ b. b ≡ (binds_are_new select.now.pattern
+        && are_new (in_scope select.now.pattern ++ spec.trailing_names values.now)
+        select.now.projection)) }
 {
     let mut names = NameList::new(alloc);
     let binds = scope::group(alloc, &mut names, &select.pattern)?;
@@ -91,7 +95,10 @@ fn select_keeps(
     select: &Select,
     values: &Option<InlineData>,
 ) -> Result<bool, AllocError>
-    ensures { IfOk result (λ b. b ≡ (spec.pattern_keeps select.now.pattern && are_new (in_scope select.now.pattern ++ spec.trailing_names values.now) select.now.projection)) }
+    ensures { IfOk result
+        (λ b. b ≡ (spec.pattern_keeps select.now.pattern
+        && are_new (in_scope select.now.pattern ++ spec.trailing_names values.now)
+        select.now.projection)) }
 {
     let names = names_keep(alloc, select, values)?;
     let rest = rest_keeps(alloc, &select.pattern)?;

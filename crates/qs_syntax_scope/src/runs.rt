@@ -4,6 +4,7 @@ ghost use Rattle.std.specs.Prelude.{◌≡◌, OnOk};
 ghost use Rattle.std.specs.List.{fold, flat_map};
 ghost use Rattle.qs_syntax_scope.specs.Met.{add_run};
 ghost use Rattle.qs_syntax_scope.specs.Runs as spec;
+ghost use Rattle.qs_syntax_scope.specs.inner.Runs as inner_spec;
 
 use crate::labels;
 use crate::met::Met;
@@ -20,7 +21,7 @@ pub fn group<'a>(met: &mut Met<'a>, group: &'a Group) -> Result<(), AllocError>
 
 #[cycle(runs)]
 fn patterns<'a>(met: &mut Met<'a>, all: &'a [GraphPattern]) -> Result<(), AllocError>
-    ensures { OnOk result (met.new ≡ fold add_run met.old (spec.patterns_runs all.now)) }
+    ensures { OnOk result (met.new ≡ fold add_run met.old (inner_spec.patterns_runs all.now)) }
 {
     for one in all {
         pattern(met, one)?;
@@ -30,7 +31,7 @@ fn patterns<'a>(met: &mut Met<'a>, all: &'a [GraphPattern]) -> Result<(), AllocE
 
 #[cycle(runs)]
 fn pattern<'a>(met: &mut Met<'a>, pattern: &'a GraphPattern) -> Result<(), AllocError>
-    ensures { OnOk result (met.new ≡ fold add_run met.old (spec.pattern_runs pattern.now)) }
+    ensures { OnOk result (met.new ≡ fold add_run met.old (inner_spec.pattern_runs pattern.now)) }
 {
     match pattern {
         GraphPattern::Triples(triples) => labels::add_run(met, triples.as_slice()),
@@ -45,7 +46,7 @@ fn pattern<'a>(met: &mut Met<'a>, pattern: &'a GraphPattern) -> Result<(), Alloc
 
 #[cycle(runs)]
 fn operands<'a>(met: &mut Met<'a>, all: &'a [Group]) -> Result<(), AllocError>
-    ensures { OnOk result (met.new ≡ fold add_run met.old (spec.groups_runs all.now)) }
+    ensures { OnOk result (met.new ≡ fold add_run met.old (inner_spec.groups_runs all.now)) }
 {
     for one in all {
         group(met, one)?;

@@ -4,6 +4,7 @@ ghost use Rattle.std.specs.Prelude.{◌≡◌, ◌++◌, [], ◌∷◌, drop, On
 ghost use Rattle.std.specs.List.{fold, flat_map};
 ghost use Rattle.qs_syntax_scope.specs.Met.{after};
 ghost use Rattle.qs_syntax_scope.specs.Scope as spec;
+ghost use Rattle.qs_syntax_scope.specs.inner.Scope as inner_spec;
 ghost use Rattle.qs_syntax_scope.specs.Variables as variables;
 
 use crate::name_list::NameList;
@@ -48,14 +49,15 @@ pub fn push_graph<'a>(names: &mut NameList<'a>, graph: &'a VarOrIri) -> Result<(
 fn push_triple<'a>(names: &mut NameList<'a>, triple: &'a Triple) -> Result<(), AllocError>
     ensures { OnOk result (names.new ≡ names.old ++ variables.triple_variables triple.now) }
 {
-    push_term(names, triple.subject.get())?;
-    push_verb(names, triple.verb.get())?;
+    push_term(names, &triple.subject)?;
+    push_verb(names, &triple.verb)?;
     push_term(names, &triple.object)
 }
 
 /// The variables of triples.
 pub fn push_triples<'a>(names: &mut NameList<'a>, triples: &'a [Triple]) -> Result<(), AllocError>
-    ensures { OnOk result (names.new ≡ names.old ++ flat_map variables.triple_variables triples.now) }
+    ensures { OnOk result (names.new ≡ names.old ++ flat_map variables.triple_variables
+        triples.now) }
 {
     for triple in triples {
         push_triple(names, triple)?;
@@ -101,8 +103,8 @@ fn patterns<'a>(
     names: &mut NameList<'a>,
     all: &'a [GraphPattern],
 ) -> Result<bool, AllocError>
-    ensures names { OnOk result (names.new ≡ names.old ++ (spec.parts all.now).names) }
-    ensures keeps { IfOk result (λ b. b ≡ (spec.parts all.now).keeps) }
+    ensures names { OnOk result (names.new ≡ names.old ++ (inner_spec.parts all.now).names) }
+    ensures keeps { IfOk result (λ b. b ≡ (inner_spec.parts all.now).keeps) }
 {
     let start = names.len();
     let mut keeps = true;
@@ -122,7 +124,8 @@ fn pattern<'a>(
     pattern: &'a GraphPattern,
 ) -> Result<bool, AllocError>
     ensures names { OnOk result (names.new ≡ names.old ++ (spec.part pattern.now).names) }
-    ensures keeps { IfOk result (λ b. b ≡ spec.fits (drop start names.old) (spec.part pattern.now)) }
+    ensures keeps { IfOk result
+        (λ b. b ≡ spec.fits (drop start names.old) (spec.part pattern.now)) }
 {
     match pattern {
         GraphPattern::Triples(triples) => {
@@ -154,8 +157,8 @@ fn operands<'a>(
     names: &mut NameList<'a>,
     all: &'a [Group],
 ) -> Result<bool, AllocError>
-    ensures names { OnOk result (names.new ≡ names.old ++ (spec.operands all.now).names) }
-    ensures keeps { IfOk result (λ b. b ≡ (spec.operands all.now).keeps) }
+    ensures names { OnOk result (names.new ≡ names.old ++ (inner_spec.operands all.now).names) }
+    ensures keeps { IfOk result (λ b. b ≡ (inner_spec.operands all.now).keeps) }
 {
     let mut keeps = true;
     for one in all {

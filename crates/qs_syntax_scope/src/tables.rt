@@ -2,6 +2,7 @@
 
 ghost use Rattle.std.specs.Prelude.{◌≡◌, IfOk};
 ghost use Rattle.qs_syntax_scope.specs.Tables as spec;
+ghost use Rattle.qs_syntax_scope.specs.inner.Tables as inner_spec;
 
 use crate::met::Met;
 use qs_syntax_ast::pattern::{GraphPattern, Group, InlineData};
@@ -43,7 +44,7 @@ pub fn group(alloc: Global, group: &Group) -> Result<bool, AllocError>
 
 #[cycle(tables)]
 fn patterns(alloc: Global, all: &[GraphPattern]) -> Result<bool, AllocError>
-    ensures { IfOk result (λ b. b ≡ spec.patterns_are_tables all.now) }
+    ensures { IfOk result (λ b. b ≡ inner_spec.patterns_are_tables all.now) }
 {
     let mut keeps = true;
     for one in all {
@@ -55,7 +56,7 @@ fn patterns(alloc: Global, all: &[GraphPattern]) -> Result<bool, AllocError>
 
 #[cycle(tables)]
 fn pattern(alloc: Global, pattern: &GraphPattern) -> Result<bool, AllocError>
-    ensures { IfOk result (λ b. b ≡ spec.pattern_is_table pattern.now) }
+    ensures { IfOk result (λ b. b ≡ inner_spec.pattern_is_table pattern.now) }
 {
     match pattern {
         GraphPattern::Triples(_) => Ok(true),
@@ -70,7 +71,7 @@ fn pattern(alloc: Global, pattern: &GraphPattern) -> Result<bool, AllocError>
 
 #[cycle(tables)]
 fn operands(alloc: Global, all: &[Group]) -> Result<bool, AllocError>
-    ensures { IfOk result (λ b. b ≡ spec.groups_are_tables all.now) }
+    ensures { IfOk result (λ b. b ≡ inner_spec.groups_are_tables all.now) }
 {
     let mut keeps = true;
     for one in all {

@@ -1,6 +1,6 @@
 //! The words of functions and the marks of comparisons (SPARQL 1.1 Query, 19.8, [114], [121]).
 
-ghost use Rattle.qs_syntax_grammar.specs.Grammar.{read};
+ghost use Rattle.qs_syntax_grammar.specs.inner.Grammar.{read};
 ghost use Rattle.qs_syntax_tokens.specs.inner.Exactly.{ReadsExactly};
 ghost use Rattle.qs_syntax_tree.specs.Rules as rules;
 ghost use Rattle.qs_syntax_tree.specs.Table.{grammar};
@@ -15,7 +15,8 @@ impl Parser {
     /// The word of a function of one argument ([121]).
     #[tactic(auto, unfolding(qs_syntax_tree::specs::Rules::unary_function))]
     pub fn unary_function(&self, tokens: &mut Tokens<'_>) -> Result<UnaryFunction, Fault>
-        ensures { ReadsExactly (read grammar self.now.depth rules.unary_function tokens.old) result tokens.new }
+        ensures { ReadsExactly (read grammar self.now.depth rules.unary_function tokens.old) result
+            tokens.new }
     {
         if tokens.peek_is(&[Kind::IsIri]) {
             tokens.expect(Kind::IsIri)?;
@@ -56,7 +57,8 @@ impl Parser {
     /// The word of a function of two arguments ([121]).
     #[tactic(auto, unfolding(qs_syntax_tree::specs::Rules::binary_function))]
     pub fn binary_function(&self, tokens: &mut Tokens<'_>) -> Result<BinaryFunction, Fault>
-        ensures { ReadsExactly (read grammar self.now.depth rules.binary_function tokens.old) result tokens.new }
+        ensures { ReadsExactly (read grammar self.now.depth rules.binary_function tokens.old) result
+            tokens.new }
     {
         if tokens.peek_is(&[Kind::SameTerm]) {
             tokens.expect(Kind::SameTerm)?;
@@ -81,7 +83,8 @@ impl Parser {
     /// The mark of a comparison ([114]).
     #[tactic(auto, unfolding(qs_syntax_tree::specs::Rules::comparison))]
     pub fn comparison(&self, tokens: &mut Tokens<'_>) -> Result<Comparison, Fault>
-        ensures { ReadsExactly (read grammar self.now.depth rules.comparison tokens.old) result tokens.new }
+        ensures { ReadsExactly (read grammar self.now.depth rules.comparison tokens.old) result
+            tokens.new }
     {
         if tokens.peek_is(&[Kind::Equal]) {
             tokens.expect(Kind::Equal)?;

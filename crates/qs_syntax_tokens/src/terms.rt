@@ -1,6 +1,6 @@
 //! Terms (SPARQL 1.1 Query, 19.8, [106] to [108], [119], [129] to [138]).
 
-ghost use Rattle.qs_syntax_grammar.specs.Grammar.{read};
+ghost use Rattle.qs_syntax_grammar.specs.inner.Grammar.{read};
 ghost use Rattle.qs_syntax_tokens.specs.inner.Exactly.{ReadsExactly};
 ghost use Rattle.qs_syntax_tree.specs.Rules as rules;
 ghost use Rattle.qs_syntax_tree.specs.Table.{grammar};
@@ -16,7 +16,8 @@ use qs_syntax_tree::token::Span;
 impl Parser {
     /// A variable ([108]).
     pub fn var(&self, tokens: &mut Tokens<'_>) -> Result<Span, Fault>
-        ensures { ReadsExactly (read grammar self.now.depth rules.var tokens.old) result tokens.new }
+        ensures { ReadsExactly (read grammar self.now.depth rules.var tokens.old) result
+            tokens.new }
     {
         Ok(tokens.expect(Kind::Var)?.span)
     }
@@ -24,7 +25,8 @@ impl Parser {
     /// `(?v)`, the argument of BOUND ([121]).
     #[tactic(auto, unfolding(qs_syntax_tree::specs::Rules::bound_var))]
     pub fn bound_var(&self, tokens: &mut Tokens<'_>) -> Result<Span, Fault>
-        ensures { ReadsExactly (read grammar self.now.depth rules.bound_var tokens.old) result tokens.new }
+        ensures { ReadsExactly (read grammar self.now.depth rules.bound_var tokens.old) result
+            tokens.new }
     {
         tokens.expect(Kind::LeftParen)?;
         let var = self.var(tokens)?;
@@ -35,7 +37,8 @@ impl Parser {
     /// An IRI, full or prefixed ([136]).
     #[tactic(auto, unfolding(qs_syntax_tree::specs::Rules::iri))]
     pub fn iri(&self, tokens: &mut Tokens<'_>) -> Result<Iri, Fault>
-        ensures { ReadsExactly (read grammar self.now.depth rules.iri tokens.old) result tokens.new }
+        ensures { ReadsExactly (read grammar self.now.depth rules.iri tokens.old) result
+            tokens.new }
     {
         if tokens.peek_is(&[Kind::IriRef]) {
             return Ok(Iri::Full(tokens.expect(Kind::IriRef)?.span));
@@ -49,7 +52,8 @@ impl Parser {
     /// A variable or an IRI ([107]).
     #[tactic(auto, unfolding(qs_syntax_tree::specs::Rules::var_or_iri))]
     pub fn var_or_iri(&self, tokens: &mut Tokens<'_>) -> Result<VarOrIri, Fault>
-        ensures { ReadsExactly (read grammar self.now.depth rules.var_or_iri tokens.old) result tokens.new }
+        ensures { ReadsExactly (read grammar self.now.depth rules.var_or_iri tokens.old) result
+            tokens.new }
     {
         if tokens.peek_is(&[Kind::Var]) {
             return Ok(VarOrIri::Var(self.var(tokens)?));
@@ -59,7 +63,8 @@ impl Parser {
 
     #[tactic(auto, unfolding(qs_syntax_tree::specs::Rules::annotation))]
     fn annotation(&self, tokens: &mut Tokens<'_>) -> Result<Option<Annotation>, Fault>
-        ensures { ReadsExactly (read grammar self.now.depth rules.annotation tokens.old) result tokens.new }
+        ensures { ReadsExactly (read grammar self.now.depth rules.annotation tokens.old) result
+            tokens.new }
     {
         if tokens.peek_is(&[Kind::LangTag]) {
             return Ok(Some(Annotation::Tag(tokens.expect(Kind::LangTag)?.span)));
@@ -74,7 +79,8 @@ impl Parser {
     /// A literal ([129], [130], [134]).
     #[tactic(auto, unfolding(qs_syntax_tree::specs::Rules::literal))]
     pub fn literal(&self, tokens: &mut Tokens<'_>) -> Result<Literal, Fault>
-        ensures { ReadsExactly (read grammar self.now.depth rules.literal tokens.old) result tokens.new }
+        ensures { ReadsExactly (read grammar self.now.depth rules.literal tokens.old) result
+            tokens.new }
     {
         if tokens.peek_is(&[Kind::String]) {
             let string = tokens.expect(Kind::String)?.span;
@@ -97,7 +103,8 @@ impl Parser {
     /// A variable, an IRI, a literal or a blank node that has a label ([106]).
     #[tactic(auto, using(crate::proofs::FirstKinds::first_iri, crate::proofs::FirstKinds::first_literal), unfolding(qs_syntax_tree::specs::Rules::term))]
     pub fn term(&self, tokens: &mut Tokens<'_>) -> Result<Term, Fault>
-        ensures { ReadsExactly (read grammar self.now.depth rules.term tokens.old) result tokens.new }
+        ensures { ReadsExactly (read grammar self.now.depth rules.term tokens.old) result
+            tokens.new }
     {
         if tokens.peek_is(&[Kind::Var]) {
             return Ok(Term::Var(self.var(tokens)?));
@@ -120,7 +127,8 @@ impl Parser {
     /// A variable, an IRI or a literal as an operand ([119]).
     #[tactic(auto, using(crate::proofs::FirstKinds::first_iri, crate::proofs::FirstKinds::first_literal), unfolding(qs_syntax_tree::specs::Rules::operand_term))]
     pub fn operand_term(&self, tokens: &mut Tokens<'_>) -> Result<Expression, Fault>
-        ensures { ReadsExactly (read grammar self.now.depth rules.operand_term tokens.old) result tokens.new }
+        ensures { ReadsExactly (read grammar self.now.depth rules.operand_term tokens.old) result
+            tokens.new }
     {
         if tokens.peek_is(&[Kind::IriRef, Kind::PnameLn, Kind::PnameNs]) {
             return Ok(Expression::Iri(self.iri(tokens)?));

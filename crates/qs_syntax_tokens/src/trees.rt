@@ -142,7 +142,8 @@ fn singles(alloc: Global, mut values: &[DataValue]) -> Result<Items<Items<DataVa
 
 /// A table of one variable.
 pub fn column(alloc: Global, var: Span, values: Items<DataValue>) -> Result<InlineData, AllocError>
-    ensures { IfOk result (λ table. table ≡ record { variables = var ∷ []; rows = singles values }) }
+    ensures { IfOk result
+        (λ table. table ≡ record { variables = var ∷ []; rows = singles values }) }
 {
     let rows = singles(alloc, values.as_slice())?;
     let mut variables = Items::new(alloc);

@@ -1,7 +1,8 @@
 -- The grammar passes the test of one token ahead, and each named rule spells something.
 use Rattle.std.proofs.Common.{◌≡◌, true, Option, None, is_some, refl, rules}
 use denote.Enum.Bare.{same_true, true_same}
-use Rattle.qs_syntax_grammar.specs.Grammar.{spelt_at, passes, is_start}
+use Rattle.qs_syntax_grammar.specs.Grammar.{spelt_at}
+use Rattle.qs_syntax_grammar.specs.inner.Grammar.{passes, is_start}
 use Rattle.qs_syntax_grammar.proofs.Laws.{Lawful}
 use Rattle.qs_syntax_grammar.proofs.Viable.{Example, find, the}
 use Rattle.qs_syntax_tree.specs.contracts.kind.Kind.{the_type}

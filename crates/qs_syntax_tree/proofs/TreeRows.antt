@@ -1,7 +1,7 @@
 -- Rows of the grammar: what some lists of tokens are read as.
 use Rattle.std.proofs.Common.{◌≡◌, ◌+◌, ℕ, List, [], ◌∷◌, Ok, Err, None, refl}
 use Rattle.qs_syntax_grammar.specs.declared.fault.Fault.TheVariants.{Syntax}
-use Rattle.qs_syntax_grammar.specs.Grammar.{read, whole}
+use Rattle.qs_syntax_grammar.specs.inner.Grammar.{read, whole}
 use Rattle.qs_syntax_tree.specs.declared.kind.Kind.{Kind}
 use Rattle.qs_syntax_tree.specs.declared.kind.Kind.TheVariants as k
 use Rattle.qs_syntax_tree.specs.declared.token.Token.{Token}

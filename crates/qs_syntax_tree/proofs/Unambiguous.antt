@@ -1,11 +1,13 @@
 -- No tokens spell two trees.
 use Rattle.std.proofs.Common.{◌≡◌, true, List, length, Ok, arith}
-use Rattle.qs_syntax_grammar.specs.Grammar.{Spells, is_start, read, whole}
+use Rattle.qs_syntax_grammar.specs.Grammar.{Spells}
+use Rattle.qs_syntax_grammar.specs.inner.Grammar.{is_start, read, whole}
 use Rattle.qs_syntax_grammar.proofs.Whole.{only_spelt, ok_same}
 use Rattle.qs_syntax_tree.specs.declared.token.Token.{Token}
 use Rattle.qs_syntax_tree.specs.Sparql.{Rule, sparql}
 use Rattle.qs_syntax_tree.specs.Rules.{query, update}
-use Rattle.qs_syntax_tree.specs.Table.{grammar, IsUnambiguous}
+use Rattle.qs_syntax_tree.specs.Table.{grammar}
+use Rattle.qs_syntax_tree.specs.inner.Table.{IsUnambiguous}
 use Rattle.qs_syntax_tree.proofs.Sure.{lawful, passes_each, examples, query_starts, update_starts}
 
 module _ {A : Type 0} (start : Rule A) (begin : is_start grammar start ≡ true) where

@@ -1,9 +1,11 @@
--- The grammar of the profile, line by line (SPARQL 1.1 Query, 19.8, without what is left out). A text begins at `query` or `update`.
--- A definition can't name one below it, so the standard's productions are an index at the head, with their numbers. Rules are left-factored
--- at `[` in subjects and objects, at INSERT and DELETE, and at NOT; they spell the same texts.
+-- The grammar of the profile, line by line (SPARQL 1.1 Query, 19.8, without what is left out). A
+-- text begins at `query` or `update`. A definition can't name one below it, so the standard's
+-- productions are an index at the head, with their numbers. Rules are left-factored at `[` in
+-- subjects and objects, at INSERT and DELETE, and at NOT; they spell the same texts.
 use Rattle.std.specs.Prelude.{true, false, List, [], ◌∷◌, ◌++◌, Option, Some, None}
 use Rattle.qs_syntax_grammar.specs.Rule.{token, many, made, placed, ref}
-use Rattle.qs_syntax_grammar.specs.Notation.{◌<$>◌, ◌>>◌, ◌<<◌, ◌&◌, ◌<|>◌, or, opt, cons, kept, joined}
+use Rattle.qs_syntax_grammar.specs.Notation.{◌<$>◌, ◌>>◌, ◌<<◌, ◌&◌, ◌<|>◌, or, opt, cons, kept}
+use Rattle.qs_syntax_grammar.specs.Notation.{joined}
 use Rattle.qs_syntax_tree.specs.declared.kind.Kind.{Kind}
 use Rattle.qs_syntax_tree.specs.declared.kind.Kind.TheVariants as k
 use Rattle.qs_syntax_tree.specs.declared.token.Token.{Token}
@@ -53,7 +55,7 @@ use Rattle.qs_syntax_tree.specs.declared.pattern.GraphPattern.{GraphPattern}
 use Rattle.qs_syntax_tree.specs.declared.pattern.GraphPattern.TheVariants as pattern_tree
 use Rattle.qs_syntax_tree.specs.declared.pattern.InlineData.{InlineData}
 use Rattle.qs_syntax_tree.specs.declared.pattern.DataValue.{DataValue}
-use Rattle.qs_syntax_tree.specs.declared.pattern.DataValue.TheVariants as value_tree
+use Rattle.qs_syntax_tree.specs.declared.pattern.DataValue.TheVariants as datum
 use Rattle.qs_syntax_tree.specs.declared.query.PrefixDeclaration.{PrefixDeclaration}
 use Rattle.qs_syntax_tree.specs.declared.query.Query.{Query}
 use Rattle.qs_syntax_tree.specs.declared.query.QueryForm.{QueryForm}
@@ -88,9 +90,11 @@ use Rattle.qs_syntax_tree.specs.declared.triples.Form.{Form}
 use Rattle.qs_syntax_tree.specs.declared.triples.Form.TheVariants as form
 use Rattle.qs_syntax_tree.specs.Sparql.{Name, Rule}
 use Rattle.qs_syntax_tree.specs.Sparql as name
-use Rattle.qs_syntax_tree.specs.Trees.{singles, is_there, path_operand, path_chain, repeated, inverted, property_of, operand_of, chain, addend_of, sum, related, element_of, group_of, steps_of}
+use Rattle.qs_syntax_tree.specs.Trees.{singles, is_there, path_operand, path_chain, repeated}
+use Rattle.qs_syntax_tree.specs.Trees.{inverted, property_of, operand_of, chain, addend_of, sum}
+use Rattle.qs_syntax_tree.specs.Trees.{related, element_of, group_of, steps_of}
 
--- ==== the standard's productions (SPARQL 1.1 Query, 19.8): their numbers, the definition below, and what it spells
+-- ==== the standard's productions (SPARQL 1.1 Query, 19.8): number, definition, what it spells
 
 -- [2, 28] query: Query = Prologue (Select | Construct | Ask) Values?
 -- [4, 6] prologue: Prologue = ("PREFIX" PNAME_NS IRIREF)*
@@ -104,7 +108,8 @@ use Rattle.qs_syntax_tree.specs.Trees.{singles, is_there, path_operand, path_cha
 -- [26] limit: Limit = "LIMIT" INTEGER
 -- [27] offset: Offset = "OFFSET" INTEGER
 -- [29] update: Update = Prologue (Op (";" Update)?)?
--- [30, 32-43, 47] operation: Op = "INSERT" "DATA" Quads | "DELETE" "DATA" Quads | "DELETE" "WHERE" Quads
+-- [30, 32-43, 47] operation: Op = "INSERT" "DATA" Quads | "DELETE" "DATA" Quads | "DELETE" "WHERE"
+--     Quads
 --     | ("WITH" Iri)? ("DELETE" Quads ("INSERT" Quads)? | "INSERT" Quads) "WHERE" Group
 --     | ("CLEAR" | "DROP") "SILENT"? ("GRAPH" Iri | "DEFAULT" | "NAMED" | "ALL")
 --     | "CREATE" "SILENT"? "GRAPH" Iri
@@ -139,7 +144,8 @@ use Rattle.qs_syntax_tree.specs.Trees.{singles, is_there, path_operand, path_cha
 -- [117] product: Mul = Unary ("*" Unary)*
 -- [118] unary: Unary = ("!" | "+" | "-")? Atom
 -- [119, 120] atom: Atom = "(" Expr ")" | Call | Iri | Literal | VAR
--- [121] call: Call = "BOUND" "(" VAR ")" | "IF" "(" Expr "," Expr "," Expr ")" | ("COALESCE" | "CONCAT") List
+-- [121] call: Call = "BOUND" "(" VAR ")" | "IF" "(" Expr "," Expr "," Expr ")" | ("COALESCE" |
+--     "CONCAT") List
 --     | ("ISIRI" | ..) "(" Expr ")" | ("SAMETERM" | ..) "(" Expr "," Expr ")"
 -- [106, 109, 138] term: Node = VAR | Iri | Literal | BLANK | "[" "]", here without the last
 -- [129-135] literal: Literal = STRING (LANGTAG | "^^" Iri)? | INTEGER | SIGNED | "true" | "false"
@@ -203,7 +209,9 @@ var_or_iri = var_or_iri_tree.Var <$> var <|> var_or_iri_tree.Iri <$> iri
 
 -- (LANGTAG | "^^" Iri)?
 unfoldable pub annotation : Rule (Option Annotation)
-annotation = opt (annotation_tree.Tag <$> leaf k.LangTag <|> annotation_tree.Datatype <$> the k.CaretCaret >> iri)
+annotation =
+    opt (annotation_tree.Tag <$> leaf k.LangTag <|> annotation_tree.Datatype <$> the k.CaretCaret >>
+    iri)
 
 -- Literal = STRING (LANGTAG | "^^" Iri)? | INTEGER | SIGNED | "true" | "false"
 unfoldable pub literal : Rule Literal
@@ -214,7 +222,8 @@ literal = (λ x. literal_tree.String x.0 x.1) <$> leaf k.String & annotation
 
 -- Node = VAR | Iri | Literal | BLANK | "[" "]", here without the last
 unfoldable pub term : Rule Term
-term = term_tree.Var <$> var <|> term_tree.Iri <$> iri <|> term_tree.Literal <$> literal <|> term_tree.Blank <$> leaf k.BlankLabel
+term = term_tree.Var <$> var <|> term_tree.Iri <$> iri <|> term_tree.Literal <$> literal
+    <|> term_tree.Blank <$> leaf k.BlankLabel
 
 -- ---- paths
 
@@ -224,7 +233,8 @@ predicate = predicate_tree.Iri <$> iri <|> k.A ⇒ predicate_tree.RdfType
 
 -- One = "^"? (Iri | "a")
 unfoldable pub negated_one : Rule NegatedPredicate
-negated_one = (λ x. record { place = x.0; inverse = is_there x.1.0; predicate = x.1.1 }) <$> placed (opt (the k.Caret) & predicate)
+negated_one = (λ x. record { place = x.0; inverse = is_there x.1.0; predicate = x.1.1 }) <$> placed
+    (opt (the k.Caret) & predicate)
 
 -- ("|" One)*
 unfoldable pub more_negated : Rule (List NegatedPredicate)
@@ -240,15 +250,18 @@ negated = (λ x. x ∷ []) <$> negated_one <|> parens (or [] negated_all)
 
 -- Prim = Iri | "a" | "!" Neg | "(" Path ")"
 unfoldable pub path_primary : Rule Path
-path_primary = path_tree.Predicate <$> predicate <|> path_tree.NegatedSet <$> the k.Bang >> negated <|> parens path
+path_primary = path_tree.Predicate <$> predicate <|> path_tree.NegatedSet <$> the k.Bang >> negated
+    <|> parens path
 
 -- "?" | "*" | "+"
 unfoldable pub repetition : Rule Repetition
-repetition = k.Question ⇒ repetition_tree.ZeroOrOne <|> k.Star ⇒ repetition_tree.ZeroOrMore <|> k.Plus ⇒ repetition_tree.OneOrMore
+repetition = k.Question ⇒ repetition_tree.ZeroOrOne <|> k.Star ⇒ repetition_tree.ZeroOrMore
+    <|> k.Plus ⇒ repetition_tree.OneOrMore
 
 -- Elt = "^"? Prim ("?" | "*" | "+")?
 unfoldable pub path_element : Rule Path
-path_element = (λ x. inverted (is_there x.0.0) (repeated x.0.1 x.1)) <$> opt (the k.Caret) & path_primary & opt repetition
+path_element = (λ x. inverted (is_there x.0.0) (repeated x.0.1 x.1)) <$> opt (the k.Caret)
+    & path_primary & opt repetition
 
 -- ("/" Elt)*
 unfoldable pub more_elements : Rule (List PathOperand)
@@ -256,7 +269,8 @@ more_elements = many (the k.Slash >> (path_operand <$> placed path_element))
 
 -- Seq = Elt ("/" Elt)*
 unfoldable pub path_sequence : Rule Path
-path_sequence = path_chain path_tree.Sequence <$> (path_operand <$> placed path_element) & more_elements
+path_sequence =
+    path_chain path_tree.Sequence <$> (path_operand <$> placed path_element) & more_elements
 
 -- ("|" Seq)*
 unfoldable pub more_sequences : Rule (List PathOperand)
@@ -264,7 +278,8 @@ more_sequences = many (the k.Bar >> (path_operand <$> placed path_sequence))
 
 -- Path = Seq ("|" Seq)*
 unfoldable pub path_rule : Rule Path
-path_rule = path_chain path_tree.Alternative <$> (path_operand <$> placed path_sequence) & more_sequences
+path_rule = path_chain path_tree.Alternative <$> (path_operand <$> placed path_sequence)
+    & more_sequences
 
 -- ---- triples
 
@@ -276,7 +291,8 @@ verb form.Template = verb_tree.Var <$> var <|> verb_tree.Path <$> path_tree.Pred
 -- Object = Node | "[" Props "]", left-factored at "["
 unfoldable pub object : Form → Rule GraphNode
 object f = node_tree.Term <$> term
-    <|> the k.LeftBracket >> (k.RightBracket ⇒ node_tree.Term term_tree.Anonymous <|> node_tree.BlankNodePropertyList <$> properties f << the k.RightBracket)
+    <|> the k.LeftBracket >> (k.RightBracket ⇒ node_tree.Term term_tree.Anonymous
+    <|> node_tree.BlankNodePropertyList <$> properties f << the k.RightBracket)
 
 -- ("," Object)*
 unfoldable pub more_objects : Form → Rule (List GraphNode)
@@ -304,11 +320,14 @@ properties_rule f = cons <$> property f & more_properties f
 
 -- "[" "]" Props, from its "]" on
 unfoldable pub anonymous_subject : Form → Rule TriplesSameSubject
-anonymous_subject f = (λ x. record { subject = node_tree.Term term_tree.Anonymous; properties = x }) <$> the k.RightBracket >> properties f
+anonymous_subject f = (λ x. record { subject = node_tree.Term term_tree.Anonymous; properties = x })
+    <$> the k.RightBracket >> properties f
 
 -- "[" Props "]" Props?, after its "["
 unfoldable pub property_subject : Form → Rule TriplesSameSubject
-property_subject f = (λ x. record { subject = node_tree.BlankNodePropertyList x.0; properties = x.1 }) <$> properties f << the k.RightBracket & or [] (properties f)
+property_subject f =
+    (λ x. record { subject = node_tree.BlankNodePropertyList x.0; properties = x.1 })
+    <$> properties f << the k.RightBracket & or [] (properties f)
 
 -- "[" "]" Props | "[" Props "]" Props?, left-factored at "["
 unfoldable pub bracketed_subject : Form → Rule TriplesSameSubject
@@ -316,7 +335,8 @@ bracketed_subject f = the k.LeftBracket >> (anonymous_subject f <|> property_sub
 
 -- Same = Node Props | "[" Props "]" Props?
 unfoldable pub same_subject : Form → Rule TriplesSameSubject
-same_subject f = (λ x. record { subject = node_tree.Term x.0; properties = x.1 }) <$> term & properties f <|> bracketed_subject f
+same_subject f = (λ x. record { subject = node_tree.Term x.0; properties = x.1 }) <$> term
+    & properties f <|> bracketed_subject f
 
 -- Triples = Same ("." Triples?)?
 -- Tmpl = Triples with Verb = VAR | Iri | "a"
@@ -391,7 +411,8 @@ call = call_tree.Bound <$> the k.Bound >> bound_var
 
 -- Iri | Literal | VAR
 unfoldable pub operand_term : Rule Expression
-operand_term = expression_tree.Iri <$> iri <|> expression_tree.Literal <$> literal <|> expression_tree.Var <$> var
+operand_term = expression_tree.Iri <$> iri <|> expression_tree.Literal <$> literal
+    <|> expression_tree.Var <$> var
 
 -- Atom = "(" Expr ")" | Call | Iri | Literal | VAR
 unfoldable pub atom : Rule Expression
@@ -418,7 +439,9 @@ product = chain expression_tree.Product <$> operand unary & more_factors
 
 -- SIGNED ("*" Unary)*
 unfoldable pub signed_product : Rule Expression
-signed_product = chain expression_tree.Product <$> operand (expression_tree.Literal <$> literal_tree.Integer <$> leaf k.Signed) & more_factors
+signed_product =
+    chain expression_tree.Product <$> operand (expression_tree.Literal <$> literal_tree.Integer
+    <$> leaf k.Signed) & more_factors
 
 -- "+" Mul | "-" Mul | SIGNED ("*" Unary)*
 unfoldable pub addend : Rule Addend
@@ -477,7 +500,7 @@ constraint = parenthesized <|> expression_tree.Call <$> call
 
 -- Value = Iri | Literal | "UNDEF"
 unfoldable pub data_value : Rule DataValue
-data_value = value_tree.Iri <$> iri <|> value_tree.Literal <$> literal <|> k.Undef ⇒ value_tree.Undefined
+data_value = datum.Iri <$> iri <|> datum.Literal <$> literal <|> k.Undef ⇒ datum.Undefined
 
 -- VAR*
 unfoldable pub variables : Rule (List Span)
@@ -575,7 +598,8 @@ group_rule = group_of <$> placed (braces elements)
 
 -- "PREFIX" PNAME_NS IRIREF
 unfoldable pub prefix_declaration : Rule PrefixDeclaration
-prefix_declaration = (λ x. record { prefix = x.0; iri = x.1 }) <$> the k.Prefix >> leaf k.PnameNs & leaf k.IriRef
+prefix_declaration =
+    (λ x. record { prefix = x.0; iri = x.1 }) <$> the k.Prefix >> leaf k.PnameNs & leaf k.IriRef
 
 -- Prologue = ("PREFIX" PNAME_NS IRIREF)*
 unfoldable pub prologue : Rule (List PrefixDeclaration)
@@ -587,9 +611,12 @@ where_clause = opt (the k.Where) >> group
 
 -- Order = ("ASC" | "DESC") "(" Expr ")" | Constraint | VAR
 unfoldable pub order : Rule OrderCondition
-order = (λ x. record { direction = direction_tree.Ascending; key = x }) <$> the k.Asc >> parenthesized
-    <|> (λ x. record { direction = direction_tree.Descending; key = x }) <$> the k.Desc >> parenthesized
-    <|> (λ x. record { direction = direction_tree.Ascending; key = x }) <$> (constraint <|> expression_tree.Var <$> var)
+order = (λ x. record { direction = direction_tree.Ascending; key = x })
+    <$> the k.Asc >> parenthesized
+    <|> (λ x. record { direction = direction_tree.Descending; key = x })
+    <$> the k.Desc >> parenthesized
+    <|> (λ x. record { direction = direction_tree.Ascending; key = x })
+    <$> (constraint <|> expression_tree.Var <$> var)
 
 -- Limit = "LIMIT" INTEGER
 unfoldable pub limit : Rule Span
@@ -601,7 +628,9 @@ offset = the k.Offset >> leaf k.Integer
 
 -- (Limit Offset? | Offset Limit?)?
 unfoldable pub slice : Rule (Option Span × Option Span)
-slice = or (None, None) ((λ x. (Some x.0, x.1)) <$> limit & opt offset <|> (λ x. (x.1, Some x.0)) <$> offset & opt limit)
+slice =
+    or (None, None) ((λ x. (Some x.0, x.1)) <$> limit & opt offset <|> (λ x. (x.1, Some x.0))
+    <$> offset & opt limit)
 
 -- Order*
 unfoldable pub orders : Rule (List OrderCondition)
@@ -629,7 +658,9 @@ items = many item
 
 -- ("DISTINCT" | "REDUCED")?
 unfoldable pub duplicates : Rule Duplicates
-duplicates = or duplicates_tree.Kept (k.Distinct ⇒ duplicates_tree.Distinct <|> k.Reduced ⇒ duplicates_tree.Reduced)
+duplicates =
+    or duplicates_tree.Kept (k.Distinct ⇒ duplicates_tree.Distinct
+    <|> k.Reduced ⇒ duplicates_tree.Reduced)
 
 -- Item+ | "*"
 unfoldable pub projection : Rule Projection
@@ -645,7 +676,9 @@ where_modifiers = where_clause & modifiers
 
 -- Select = "SELECT" ("DISTINCT" | "REDUCED")? (Item+ | "*") Where Mods
 unfoldable pub select : Rule Select
-select = (λ x. record { duplicates = x.0.0; projection = x.0.1; pattern = x.1.0; modifiers = x.1.1 }) <$> select_clause & where_modifiers
+select =
+    (λ x. record { duplicates = x.0.0; projection = x.0.1; pattern = x.1.0; modifiers = x.1.1 })
+    <$> select_clause & where_modifiers
 
 -- "{" Tmpl? "}"
 unfoldable pub template_braces : Rule (List TriplesSameSubject)
@@ -653,11 +686,13 @@ template_braces = braces (or [] (triples form.Template))
 
 -- "{" Tmpl? "}" Where Mods
 unfoldable pub long_construct : Rule Construct
-long_construct = (λ x. record { template = x.0; pattern = Some x.1.0; modifiers = x.1.1 }) <$> template_braces & where_modifiers
+long_construct = (λ x. record { template = x.0; pattern = Some x.1.0; modifiers = x.1.1 })
+    <$> template_braces & where_modifiers
 
 -- "WHERE" "{" Tmpl? "}" Mods
 unfoldable pub short_construct : Rule Construct
-short_construct = (λ x. record { template = x.0; pattern = None; modifiers = x.1 }) <$> the k.Where >> template_braces & modifiers
+short_construct = (λ x. record { template = x.0; pattern = None; modifiers = x.1 })
+    <$> the k.Where >> template_braces & modifiers
 
 -- Construct = "CONSTRUCT" ("{" Tmpl? "}" Where Mods | "WHERE" "{" Tmpl? "}" Mods)
 unfoldable pub construct : Rule Construct
@@ -669,7 +704,8 @@ ask = (λ x. record { pattern = x.0; modifiers = x.1 }) <$> the k.Ask >> where_m
 
 -- Select | Construct | Ask
 unfoldable pub query_form : Rule QueryForm
-query_form = form_tree.Select <$> select <|> form_tree.Construct <$> construct <|> form_tree.Ask <$> ask
+query_form =
+    form_tree.Select <$> select <|> form_tree.Construct <$> construct <|> form_tree.Ask <$> ask
 
 -- Query = Prologue (Select | Construct | Ask) Values?
 unfoldable pub query : Rule Query
@@ -680,11 +716,15 @@ query = (λ x. record { prologue = x.0.0; form = x.0.1; values = x.1 })
 
 -- Tmpl?
 unfoldable pub quads_block : Rule (List QuadElement)
-quads_block = or [] ((λ x. record { place = x.0; quads = x.1 } ∷ []) <$> placed (quads_tree.Triples <$> triples form.Template))
+quads_block =
+    or [] ((λ x. record { place = x.0; quads = x.1 } ∷ []) <$> placed
+    (quads_tree.Triples <$> triples form.Template))
 
 -- "GRAPH" (VAR | Iri) "{" Tmpl? "}"
 unfoldable pub quads_graph : Rule QuadElement
-quads_graph = (λ x. record { place = x.0; quads = x.1 }) <$> placed ((λ x. quads_tree.Graph x.0 x.1) <$> the k.Graph >> var_or_iri & template_braces)
+quads_graph =
+    (λ x. record { place = x.0; quads = x.1 }) <$> placed
+    ((λ x. quads_tree.Graph x.0 x.1) <$> the k.Graph >> var_or_iri & template_braces)
 
 -- "GRAPH" (VAR | Iri) "{" Tmpl? "}" "."?
 unfoldable pub dotted_graph : Rule QuadElement
@@ -718,18 +758,23 @@ insert_clause = opt (the k.Insert >> quads)
 unfoldable pub insert : Rule Operation
 insert = the k.Insert
     >> (operation_tree.InsertData <$> the k.Data >> quads
-    <|> (λ x. operation_tree.Modify (record { with = None; delete = None; insert = Some x.0; pattern = x.1 })) <$> quads & where_group)
+    <|> (λ x. operation_tree.Modify
+    (record { with = None; delete = None; insert = Some x.0; pattern = x.1 })) <$> quads
+    & where_group)
 
 -- "DELETE" "DATA" Quads | "DELETE" "WHERE" Quads | "DELETE" Quads ("INSERT" Quads)? "WHERE" Group
 unfoldable pub delete : Rule Operation
 delete = the k.Delete
     >> (operation_tree.DeleteData <$> the k.Data >> quads
     <|> operation_tree.DeleteWhere <$> the k.Where >> quads
-    <|> (λ x. operation_tree.Modify (record { with = None; delete = Some x.0.0; insert = x.0.1; pattern = x.1 })) <$> quads & insert_clause & where_group)
+    <|> (λ x. operation_tree.Modify
+    (record { with = None; delete = Some x.0.0; insert = x.0.1; pattern = x.1 })) <$> quads
+    & insert_clause & where_group)
 
 -- "DELETE" Quads ("INSERT" Quads)? | "INSERT" Quads
 unfoldable pub changes : Rule (Option QuadPattern × Option QuadPattern)
-changes = (λ x. (Some x.0, x.1)) <$> the k.Delete >> quads & insert_clause <|> (λ x. (None, Some x)) <$> the k.Insert >> quads
+changes = (λ x. (Some x.0, x.1)) <$> the k.Delete >> quads & insert_clause <|> (λ x. (None, Some x))
+    <$> the k.Insert >> quads
 
 -- "WITH" Iri
 unfoldable pub with_clause : Rule Iri
@@ -737,7 +782,10 @@ with_clause = the k.With >> iri
 
 -- "WITH" Iri ("DELETE" Quads ("INSERT" Quads)? | "INSERT" Quads) "WHERE" Group
 unfoldable pub with_graph : Rule Operation
-with_graph = (λ x. operation_tree.Modify (record { with = Some x.0.0; delete = x.0.1.0; insert = x.0.1.1; pattern = x.1 })) <$> with_clause & changes & where_group
+with_graph =
+    (λ x. operation_tree.Modify
+    (record { with = Some x.0.0; delete = x.0.1.0; insert = x.0.1.1; pattern = x.1 }))
+    <$> with_clause & changes & where_group
 
 -- "SILENT"?
 unfoldable pub silent : Rule OnMissing
@@ -745,7 +793,8 @@ silent = or missing_tree.Fault (k.Silent ⇒ missing_tree.Silent)
 
 -- "GRAPH" Iri | "DEFAULT" | "NAMED" | "ALL"
 unfoldable pub target : Rule GraphTarget
-target = target_tree.Graph <$> the k.Graph >> iri <|> k.Default ⇒ target_tree.Default <|> k.Named ⇒ target_tree.Named <|> k.All ⇒ target_tree.All
+target = target_tree.Graph <$> the k.Graph >> iri <|> k.Default ⇒ target_tree.Default
+    <|> k.Named ⇒ target_tree.Named <|> k.All ⇒ target_tree.All
 
 -- End = "DEFAULT" | "GRAPH"? Iri
 unfoldable pub graph_or_default : Rule GraphOrDefault
@@ -753,7 +802,8 @@ graph_or_default = k.Default ⇒ end_tree.Default <|> end_tree.Graph <$> opt (th
 
 -- "SILENT"? End "TO" End
 unfoldable pub transfer : Rule Transfer
-transfer = (λ x. record { on_missing = x.0.0; from = x.0.1; to = x.1 }) <$> silent & graph_or_default << the k.To & graph_or_default
+transfer = (λ x. record { on_missing = x.0.0; from = x.0.1; to = x.1 }) <$> silent
+    & graph_or_default << the k.To & graph_or_default
 
 -- "CLEAR" "SILENT"? ("GRAPH" Iri | "DEFAULT" | "NAMED" | "ALL")
 unfoldable pub clear : Rule Operation

@@ -37,7 +37,16 @@ unfoldable pub same_kind : Kind → Kind → Bool
 same_kind = sameb the_type
 
 abbrev pub sparql : Language
-sparql = record { Token = Token; Kind = Kind; kind = λ t. t.kind; place = λ t. t.span.start; same = same_kind; Name = Name; Tree = Tree }
+sparql =
+    record {
+      Token = Token;
+      Kind = Kind;
+      kind = λ t. t.kind;
+      place = λ t. t.span.start;
+      same = same_kind;
+      Name = Name;
+      Tree = Tree;
+    }
 
 abbrev pub Rule : Type 0 → Type 1
 Rule A = rule.Rule sparql A

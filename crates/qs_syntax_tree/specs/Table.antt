@@ -1,13 +1,14 @@
 -- The grammar whole, and what its named rules begin and go on with.
-use Rattle.std.specs.Prelude.{◌≡◌, List, [], ◌∷◌, ◌++◌}
-use Rattle.qs_syntax_grammar.specs.Grammar.{Grammar, Spells}
+use Rattle.std.specs.Prelude.{List, [], ◌∷◌, ◌++◌}
+use Rattle.qs_syntax_grammar.specs.Grammar.{Grammar}
 use Rattle.qs_syntax_tree.specs.declared.kind.Kind.{Kind}
 use Rattle.qs_syntax_tree.specs.declared.kind.Kind.TheVariants as k
-use Rattle.qs_syntax_tree.specs.declared.token.Token.{Token}
 use Rattle.qs_syntax_tree.specs.declared.triples.Form.{Form}
 use Rattle.qs_syntax_tree.specs.declared.triples.Form.TheVariants as form
-use Rattle.qs_syntax_tree.specs.Sparql.{Name, Tree, group, triples, properties, path, expression, operations, Rule, sparql}
-use Rattle.qs_syntax_tree.specs.Rules.{group_rule, triples_rule, properties_rule, path_rule, expression_rule, operations_rule}
+use Rattle.qs_syntax_tree.specs.Sparql.{Name, Tree, group, triples, properties, path, expression}
+use Rattle.qs_syntax_tree.specs.Sparql.{operations, Rule, sparql}
+use Rattle.qs_syntax_tree.specs.Rules.{group_rule, triples_rule, properties_rule, path_rule}
+use Rattle.qs_syntax_tree.specs.Rules.{expression_rule, operations_rule}
 
 unfoldable pub rule : (n : Name) → Rule (Tree n)
 rule group = group_rule
@@ -27,7 +28,9 @@ abbrev pub annotations : List Kind
 annotations = k.LangTag ∷ k.CaretCaret ∷ []
 
 abbrev pub calls : List Kind
-calls = k.Bound ∷ k.If ∷ k.Coalesce ∷ k.Concat ∷ k.IsIri ∷ k.IsUri ∷ k.IsBlank ∷ k.IsLiteral ∷ k.IsNumeric ∷ k.Str ∷ k.Lang ∷ k.Datatype ∷ k.StrLen ∷ k.SameTerm ∷ k.LangMatches ∷ k.Contains ∷ k.StrStarts ∷ k.StrEnds ∷ []
+calls = k.Bound ∷ k.If ∷ k.Coalesce ∷ k.Concat ∷ k.IsIri ∷ k.IsUri ∷ k.IsBlank ∷ k.IsLiteral
+    ∷ k.IsNumeric ∷ k.Str ∷ k.Lang ∷ k.Datatype ∷ k.StrLen ∷ k.SameTerm ∷ k.LangMatches ∷ k.Contains
+    ∷ k.StrStarts ∷ k.StrEnds ∷ []
 
 abbrev pub paths : List Kind
 paths = k.Caret ∷ iris ++ k.A ∷ k.Bang ∷ k.LeftParen ∷ []
@@ -58,12 +61,9 @@ mores (triples f) = k.Dot ∷ k.Semicolon ∷ k.Comma ∷ annotations ++ verbs f
 mores (properties f) = k.Semicolon ∷ k.Comma ∷ annotations ++ verbs f
 mores path = k.Bar ∷ k.Slash ∷ k.Question ∷ k.Star ∷ k.Plus ∷ []
 mores expression =
-    k.OrOr ∷ k.AndAnd ∷ k.Equal ∷ k.BangEqual ∷ k.Less ∷ k.Greater ∷ k.LessOrEqual ∷ k.GreaterOrEqual ∷ k.Not ∷ k.In ∷ k.Plus ∷ k.Hyphen ∷ k.Signed ∷ k.Star ∷ annotations
+    k.OrOr ∷ k.AndAnd ∷ k.Equal ∷ k.BangEqual ∷ k.Less ∷ k.Greater ∷ k.LessOrEqual
+    ∷ k.GreaterOrEqual ∷ k.Not ∷ k.In ∷ k.Plus ∷ k.Hyphen ∷ k.Signed ∷ k.Star ∷ annotations
 mores operations = k.Semicolon ∷ k.Prefix ∷ changes
 
 abbrev pub grammar : Grammar sparql
 grammar = record { rule = rule; firsts = firsts; mores = mores }
-
--- no tokens spell two trees
-abbrev pub IsUnambiguous : {A : Type 0} → Rule A → Type 0
-IsUnambiguous {A} start = (tokens : List Token) (x y : A) → Spells grammar start tokens x → Spells grammar start tokens y → x ≡ y

@@ -1,6 +1,6 @@
 -- The trees that rules make of their parts' trees.
--- Trees are as texts are written, with pieces of the text as spans. They have the places that later faults need: of a group's elements, of
--- the operands of chains, and of names.
+-- Trees are as texts are written, with pieces of the text as spans. They have the places that later
+-- faults need: of a group's elements, of the operands of chains, and of names.
 use Rattle.std.specs.Prelude.{ℕ, Bool, true, false, List, [], ◌∷◌, Option, Some, None}
 use Rattle.qs_syntax_tree.specs.declared.path.Path.{Path}
 use Rattle.qs_syntax_tree.specs.declared.path.Path.TheVariants as path
@@ -87,6 +87,7 @@ group_of x = roll-Group (record { place = x.0; elements = x.1 })
 
 -- ---- updates
 
-abbrev pub steps_of : List PrefixDeclaration × Option (Operation × List UpdateStep) → List UpdateStep
+abbrev pub steps_of : List PrefixDeclaration × Option (Operation × List UpdateStep)
+    → List UpdateStep
 steps_of (p, None) = record { prologue = p; operation = None } ∷ []
 steps_of (p, Some x) = record { prologue = p; operation = Some x.0 } ∷ x.1

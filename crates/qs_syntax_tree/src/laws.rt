@@ -1,7 +1,7 @@
 //! What holds of the grammar.
 
 ghost use Rattle.qs_syntax_tree.specs.Rules.{query, update};
-ghost use Rattle.qs_syntax_tree.specs.Table.{IsUnambiguous};
+ghost use Rattle.qs_syntax_tree.specs.inner.Table.{IsUnambiguous};
 
 /// No tokens spell two queries, nor two updates.
 pub fn one_tree()

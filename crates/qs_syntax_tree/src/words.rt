@@ -125,7 +125,8 @@ const MARKS: [(&str, Kind); 26] = [
 
 // the keywords of so many bytes
 fn keywords_of(count: usize) -> &'static [(&'static str, Kind)]
-    ensures { map (λ row. (row.0.now, row.1)) result.now ≡ filter (λ row. nat_eq (length row.0) count) spec.keywords }
+    ensures { map (λ row. (row.0.now, row.1)) result.now
+        ≡ filter (λ row. nat_eq (length row.0) count) spec.keywords }
 {
     match count {
         2 => &OF_TWO,
@@ -148,7 +149,8 @@ fn like_keyword(a: &str, b: &str) -> bool
 }
 
 fn find_keyword(mut table: &[(&str, Kind)], word: &str) -> Kind
-    ensures { result ≡ find_kind str_eq_ignore_ascii_case k.Word (map (λ row. (row.0.now, row.1)) table.entry.now) word.now }
+    ensures { result ≡ find_kind str_eq_ignore_ascii_case k.Word
+        (map (λ row. (row.0.now, row.1)) table.entry.now) word.now }
 {
     while let [row, rest @ ..] = table {
         if like_keyword(word, row.0) {
@@ -166,7 +168,8 @@ fn same_mark(a: &str, b: &str) -> bool
 }
 
 fn find_mark(mut table: &[(&str, Kind)], mark: &str) -> Kind
-    ensures { result ≡ find_kind bytes_eq k.Word (map (λ row. (row.0.now, row.1)) table.entry.now) mark.now }
+    ensures { result ≡ find_kind bytes_eq k.Word (map (λ row. (row.0.now, row.1)) table.entry.now)
+        mark.now }
 {
     while let [row, rest @ ..] = table {
         if same_mark(mark, row.0) {

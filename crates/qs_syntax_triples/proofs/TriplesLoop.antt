@@ -2,7 +2,7 @@
 use Rattle.std.proofs.Common.{◌≡◌, ◌<◌, ◌-◌, ℕ, suc, true, false, List, [], ◌∷◌, ◌++◌, Ok, Err, refl, sym, ◌∙◌, ap, append_assoc, arith}
 use Rattle.qs_syntax_grammar.specs.declared.fault.Fault.{Fault}
 use Rattle.qs_syntax_grammar.specs.inner.Reading.{Outcome, and_then, starts, take_kind}
-use Rattle.qs_syntax_grammar.specs.Grammar.{read, read_at}
+use Rattle.qs_syntax_grammar.specs.inner.Grammar.{read, read_at}
 use Rattle.qs_syntax_tree.specs.declared.kind.Kind.TheVariants as k
 use Rattle.qs_syntax_tree.specs.declared.token.Token.{Token}
 use Rattle.qs_syntax_tree.specs.declared.triples.Form.{Form}

@@ -1,6 +1,6 @@
 //! Property paths (SPARQL 1.1 Query, 19.8, [88] to [96]).
 
-ghost use Rattle.qs_syntax_grammar.specs.Grammar.{read};
+ghost use Rattle.qs_syntax_grammar.specs.inner.Grammar.{read};
 ghost use Rattle.qs_syntax_grammar.specs.Notation.{opt};
 ghost use Rattle.qs_syntax_grammar.specs.inner.Reading.{Reads};
 ghost use Rattle.qs_syntax_grammar.specs.Rule.{ref};
@@ -102,7 +102,8 @@ fn negated(parser: Parser, tokens: &mut Tokens<'_>) -> Result<Items<NegatedPredi
 
 #[tactic(auto, unfolding(qs_syntax_tree::specs::Rules::repetition))]
 fn repetition(parser: Parser, tokens: &mut Tokens<'_>) -> Result<Option<Repetition>, Fault>
-    ensures { Reads (read grammar parser.depth (opt rules.repetition) tokens.old) result tokens.new }
+    ensures { Reads (read grammar parser.depth (opt rules.repetition) tokens.old) result
+        tokens.new }
 {
     if tokens.peek_is(&[Kind::Question]) {
         tokens.expect(Kind::Question)?;

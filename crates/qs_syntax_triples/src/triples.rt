@@ -1,6 +1,6 @@
 //! Triples of patterns and templates (SPARQL 1.1 Query, 19.8, [75] to [81]).
 
-ghost use Rattle.qs_syntax_grammar.specs.Grammar.{read};
+ghost use Rattle.qs_syntax_grammar.specs.inner.Grammar.{read};
 ghost use Rattle.qs_syntax_grammar.specs.inner.Reading.{Reads};
 ghost use Rattle.qs_syntax_grammar.specs.Rule.{ref};
 ghost use Rattle.qs_syntax_tree.specs.Rules as rules;
@@ -22,7 +22,8 @@ use sqlite_items::Items;
 
 #[tactic(auto, unfolding(qs_syntax_tree::specs::Rules::verb))]
 fn pattern_verb(parser: Parser, tokens: &mut Tokens<'_>) -> Result<Verb, Fault>
-    ensures { Reads (read grammar parser.depth (rules.verb Form.Pattern) tokens.old) result tokens.new }
+    ensures { Reads (read grammar parser.depth (rules.verb Form.Pattern) tokens.old) result
+        tokens.new }
 {
     if tokens.peek_is(&[Kind::Var]) {
         return Ok(Verb::Var(parser.var(tokens)?));
@@ -32,7 +33,8 @@ fn pattern_verb(parser: Parser, tokens: &mut Tokens<'_>) -> Result<Verb, Fault>
 
 #[tactic(auto, unfolding(qs_syntax_tree::specs::Rules::verb))]
 fn template_verb(parser: Parser, tokens: &mut Tokens<'_>) -> Result<Verb, Fault>
-    ensures { Reads (read grammar parser.depth (rules.verb Form.Template) tokens.old) result tokens.new }
+    ensures { Reads (read grammar parser.depth (rules.verb Form.Template) tokens.old) result
+        tokens.new }
 {
     if tokens.peek_is(&[Kind::Var]) {
         return Ok(Verb::Var(parser.var(tokens)?));
@@ -73,7 +75,8 @@ fn more_objects(
     form: Form,
     tokens: &mut Tokens<'_>,
 ) -> Result<Items<GraphNode>, Fault>
-    ensures { Reads (read grammar parser.depth (rules.more_objects form) tokens.old) result tokens.new }
+    ensures { Reads (read grammar parser.depth (rules.more_objects form) tokens.old) result
+        tokens.new }
 {
     let mut found = Items::new(parser.alloc);
     for _turn in 0..tokens.turns() {
@@ -114,7 +117,8 @@ fn next_property(
     form: Form,
     tokens: &mut Tokens<'_>,
 ) -> Result<Option<Property>, Fault>
-    ensures { Reads (read grammar parser.depth (rules.next_property form) tokens.old) result tokens.new }
+    ensures { Reads (read grammar parser.depth (rules.next_property form) tokens.old) result
+        tokens.new }
 {
     tokens.expect(Kind::Semicolon)?;
     if tokens.peek_is(verbs(form)) {
@@ -129,7 +133,8 @@ fn more_properties(
     form: Form,
     tokens: &mut Tokens<'_>,
 ) -> Result<Items<Property>, Fault>
-    ensures { Reads (read grammar parser.depth (rules.more_properties form) tokens.old) result tokens.new }
+    ensures { Reads (read grammar parser.depth (rules.more_properties form) tokens.old) result
+        tokens.new }
 {
     let mut found = Items::new(parser.alloc);
     for _turn in 0..tokens.turns() {
@@ -149,7 +154,8 @@ fn property_list(
     form: Form,
     tokens: &mut Tokens<'_>,
 ) -> Result<Items<Property>, Fault>
-    ensures { Reads (read grammar parser.depth (rules.properties_rule form) tokens.old) result tokens.new }
+    ensures { Reads (read grammar parser.depth (rules.properties_rule form) tokens.old) result
+        tokens.new }
 {
     let first = property(parser, form, tokens)?;
     let (first, others) = keep_beside(first, more_properties(parser, form, tokens))?;
@@ -159,7 +165,8 @@ fn property_list(
 #[cycle(properties)]
 #[tactic(auto, unfolding(qs_syntax_tree::specs::Table::rule))]
 fn properties(parser: Parser, form: Form, tokens: &mut Tokens<'_>) -> Result<Items<Property>, Fault>
-    ensures { Reads (read grammar parser.depth (ref (name.properties form)) tokens.old) result tokens.new }
+    ensures { Reads (read grammar parser.depth (ref (name.properties form)) tokens.old) result
+        tokens.new }
 {
     if parser.depth == 0 {
         return Err(Fault::Deep);
@@ -173,7 +180,8 @@ fn anonymous_subject(
     form: Form,
     tokens: &mut Tokens<'_>,
 ) -> Result<TriplesSameSubject, Fault>
-    ensures { Reads (read grammar parser.depth (rules.anonymous_subject form) tokens.old) result tokens.new }
+    ensures { Reads (read grammar parser.depth (rules.anonymous_subject form) tokens.old) result
+        tokens.new }
 {
     tokens.expect(Kind::RightBracket)?;
     let properties = properties(parser, form, tokens)?;
@@ -189,7 +197,8 @@ fn property_subject(
     form: Form,
     tokens: &mut Tokens<'_>,
 ) -> Result<TriplesSameSubject, Fault>
-    ensures { Reads (read grammar parser.depth (rules.property_subject form) tokens.old) result tokens.new }
+    ensures { Reads (read grammar parser.depth (rules.property_subject form) tokens.old) result
+        tokens.new }
 {
     let own = properties(parser, form, tokens)?;
     let own = tokens.closing(own, Kind::RightBracket)?;
@@ -210,7 +219,8 @@ fn bracketed_subject(
     form: Form,
     tokens: &mut Tokens<'_>,
 ) -> Result<TriplesSameSubject, Fault>
-    ensures { Reads (read grammar parser.depth (rules.bracketed_subject form) tokens.old) result tokens.new }
+    ensures { Reads (read grammar parser.depth (rules.bracketed_subject form) tokens.old) result
+        tokens.new }
 {
     tokens.expect(Kind::LeftBracket)?;
     if tokens.peek_is(&[Kind::RightBracket]) {
@@ -225,7 +235,8 @@ fn same_subject(
     form: Form,
     tokens: &mut Tokens<'_>,
 ) -> Result<TriplesSameSubject, Fault>
-    ensures { Reads (read grammar parser.depth (rules.same_subject form) tokens.old) result tokens.new }
+    ensures { Reads (read grammar parser.depth (rules.same_subject form) tokens.old) result
+        tokens.new }
 {
     if tokens.peek_is(&TERMS) {
         let subject = parser.term(tokens)?;
@@ -244,7 +255,8 @@ pub fn triples(
     form: Form,
     tokens: &mut Tokens<'_>,
 ) -> Result<Items<TriplesSameSubject>, Fault>
-    ensures { Reads (read grammar parser.depth (ref (name.triples form)) tokens.old) result tokens.new }
+    ensures { Reads (read grammar parser.depth (ref (name.triples form)) tokens.old) result
+        tokens.new }
 {
     let mut found = Items::from_vec(Vec::with_capacity(parser.alloc, 1)?);
     let mut inner = parser;

@@ -9,7 +9,8 @@ use Rattle.std.proofs.lemmas.List.Folds.{list_any-append}
 use Rattle.std.proofs.lemmas.Slice.Eq.{bytes_eq-Decides}
 use Rattle.qs_terms.specs.declared.fault.TermFault.{TermFault}
 use Rattle.qs_terms.specs.declared.fault.TermFault.TheVariants.{NotAbsolute, BadChar}
-use Rattle.qs_terms.specs.Iri.{is_scheme_char, reaches_colon, has_scheme, is_excluded, is_iri_text, checked_iri}
+use Rattle.qs_terms.specs.Iri.{is_scheme_char, reaches_colon, has_scheme, is_excluded, checked_iri}
+use Rattle.qs_terms.specs.inner.Iri.{is_iri_text}
 
 colon-step : (ends goes now later : Bool) → (now ≡ true → later ≡ true) → (if ends then true else (goes && now)) ≡ true → (if ends then true else (goes && later)) ≡ true
 colon-step true goes now later f h = refl

@@ -5,7 +5,8 @@ use Rattle.std.specs.List.{filter, flat_map, list_any, sum_by}
 use Rattle.std.specs.List.Sorted.{IsPermutation}
 use Rattle.std.proofs.lemmas.List.Sums.{sum_by-cons}
 use Rattle.std.proofs.lemmas.List.Sorted.{IsPermutation-refl, IsPermutation-sym, IsPermutation-trans, IsPermutation-cons, IsPermutation-middle, sum_by-IsPermutation}
-use Rattle.qs_terms.specs.Bag.{times, SameBag, Distinct}
+use Rattle.qs_terms.specs.Bag.{SameBag, Distinct}
+use Rattle.qs_terms.specs.inner.Bag.{times}
 
 -- the sum of f over the list
 abbrev pub total : {X : Type 0} → (X → ℕ) → List X → ℕ

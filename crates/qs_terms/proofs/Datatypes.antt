@@ -6,9 +6,10 @@ use Rattle.std.specs.Str.{bytes_eq}
 use Rattle.std.proofs.lemmas.Slice.Eq.{bytes_eq-Decides}
 use Rattle.qs_terms.specs.Iri.{checked_iri, has_scheme, is_excluded}
 use Rattle.std.specs.List.{list_any}
-use Rattle.qs_terms.specs.Literal.{rdf_lang_string, xsd_string, xsd_integer, xsd_boolean, fits_tag}
+use Rattle.qs_terms.specs.Literal.{rdf_lang_string, xsd_string, xsd_integer, xsd_boolean}
+use Rattle.qs_terms.specs.inner.Literal.{fits_tag}
 use Rattle.qs_terms.specs.inner.Datatype.{iri_of, known_of, untagged, checked_untagged}
-use Rattle.qs_terms.specs.OrOutOf.{ValueOrOutOfMemory}
+use Rattle.qs_terms.specs.inner.OrOutOf.{ValueOrOutOfMemory}
 use Rattle.qs_terms.specs.declared.fault.TermFault.{TermFault}
 use Rattle.qs_terms.specs.declared.fault.TermFault.TheVariants.{Memory, NotAbsolute, BadChar}
 use Rattle.qs_terms.specs.declared.datatype.Known.{Known}

@@ -6,7 +6,7 @@ use Rattle.std.proofs.lemmas.Bool.Decides.{nat_tests}
 use Rattle.std.proofs.lemmas.Str.Ascii.{lowercase_is, lowercase-lowercase}
 use Rattle.std.proofs.lemmas.Slice.Eq.{bytes_eq-Decides}
 use Rattle.qs_terms.specs.Tag.{is_subtag_char, is_tag_rest, is_tag, lowered}
-use Rattle.qs_terms.specs.Literal.{is_lower_tag}
+use Rattle.qs_terms.specs.inner.Literal.{is_lower_tag}
 
 module _ (c : ℕ) where
   abbrev Turns : (ℕ → Bool) → ℕ → Type 0

@@ -3,7 +3,7 @@ use Rattle.std.proofs.Common.{◌≡◌, ◌≢◌, ℕ, zero, suc, ◌+◌, Lis
 use Rattle.std.proofs.Math.Seq.{take-add}
 use Rattle.std.proofs.lemmas.List.{append_assoc}
 use Rattle.std.specs.Io.KnownBytes.{Appends}
-use Rattle.qs_terms.specs.Device.{count_after}
+use Rattle.qs_terms.specs.inner.Device.{count_after}
 
 -- the first i bytes, and then n more of the rest
 pub appends_more : (old mid new : Option (List ℕ)) (i n : ℕ) (xs : List ℕ) → Appends old mid (take i xs) → Appends mid new (take n (drop i xs)) → Appends old new (take (i + n) xs)

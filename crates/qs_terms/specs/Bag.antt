@@ -1,17 +1,12 @@
 -- Lists as bags and as sets (SPARQL 1.1 Query, 18: solutions form a multiset).
-use Rattle.std.specs.Prelude.{◌≡◌, ℕ, ◌+◌, Bool, false, not, List, [], ◌∷◌, ◌++◌, cond, if◌then◌else◌}
+use Rattle.std.specs.Prelude.{◌≡◌, Bool, false, not, List, [], ◌∷◌, ◌++◌, if◌then◌else◌}
 use Rattle.std.specs.List.{filter, list_any}
 use Rattle.std.specs.List.Sorted.{IsPermutation}
 
--- every element stands equally often in both: one is a permutation of the other. Of quads the law `same_bag_by_counts` says that the two
--- are one
+-- every element stands equally often in both: one is a permutation of the other. Of quads the law
+-- `same_bag_by_counts` says that the two are one
 abbrev pub SameBag : {X : Type 0} → List X → List X → Type 0
 SameBag xs ys = IsPermutation xs ys
-
--- how often x stands in the list, by a test of sameness
-abbrev pub times : {X : Type 0} → (X → X → Bool) → X → List X → ℕ
-times same x [] = 0
-times same x (y ∷ ys) = cond (same x y) 1 0 + times same x ys
 
 -- no element stands twice
 abbrev pub Distinct : {X : Type 0} → (X → X → Bool) → List X → Type 0

@@ -1,4 +1,5 @@
--- Datasets (RDF 1.1 Concepts, 4; SPARQL 1.1 Query, 13): quads read as a set, and a blank node number above theirs.
+-- Datasets (RDF 1.1 Concepts, 4; SPARQL 1.1 Query, 13): quads read as a set, and a blank node
+-- number above theirs.
 use Rattle.std.specs.Prelude.{ℕ, Bool, true, ◌&&◌, nat_lt, List, [], ◌∷◌, map, Option, Some, None}
 use Rattle.std.specs.Bool.{IsTrue}
 use Rattle.std.specs.List.{filter, filter_map, flat_map, list_all}
@@ -18,17 +19,18 @@ abbrev pub triple_of : Statement → Triple
 triple_of q = record { subject = q.subject; predicate = q.predicate; object = q.object }
 
 abbrev pub same_triple : Triple → Triple → Bool
-same_triple a b = same_term a.subject b.subject && (same_term a.predicate b.predicate && same_term a.object b.object)
+same_triple a b = same_term a.subject b.subject
+    && (same_term a.predicate b.predicate && same_term a.object b.object)
 
--- the quads, of which each stands once and whose order means nothing, and the next blank node's number
+-- the quads, of which each stands once and whose order means nothing, and the next blank node's
+-- number
 pub record Dataset : Type 0 where
   pub quads : List Statement
   pub next : ℕ
 
 abbrev pub is_term_below : ℕ → Term → Bool
-is_term_below next (Iri i) = true
 is_term_below next (Blank n) = nat_lt n next
-is_term_below next (Literal l) = true
+is_term_below next _ = true
 
 abbrev pub is_graph_below : ℕ → Option Term → Bool
 is_graph_below next None = true
@@ -36,7 +38,8 @@ is_graph_below next (Some name) = is_term_below next name
 
 -- a predicate is no blank node
 abbrev pub is_statement_below : ℕ → Statement → Bool
-is_statement_below next q = is_graph_below next q.graph && (is_term_below next q.subject && is_term_below next q.object)
+is_statement_below next q =
+    is_graph_below next q.graph && (is_term_below next q.subject && is_term_below next q.object)
 
 -- the number is above those of all blank nodes of the quads
 abbrev pub is_above_blanks : ℕ → List Statement → Bool
@@ -50,7 +53,8 @@ IsDataset d = Distinct same_statement d.quads × IsTrue (is_above_blanks d.next 
 abbrev pub graph_of : List Statement → Option Term → List Triple
 graph_of quads name = map triple_of (filter (λ q. same_graph q.graph name) quads)
 
--- the names of the named graphs: those that a quad names, each once; so a named graph exists while a quad is in it
+-- the names of the named graphs: those that a quad names, each once; so a named graph exists while
+-- a quad is in it
 abbrev pub names_of : List Statement → List Term
 names_of quads = once same_term (filter_map (λ q. q.graph) quads)
 
@@ -58,6 +62,7 @@ names_of quads = once same_term (filter_map (λ q. q.graph) quads)
 abbrev pub ends_of : Triple → List Term
 ends_of t = t.subject ∷ t.object ∷ []
 
--- the nodes of a graph: the terms that stand as subject or object, each once (RDF 1.1 Concepts, 3.1)
+-- the nodes of a graph: the terms that stand as subject or object, each once (RDF 1.1 Concepts,
+-- 3.1)
 abbrev pub nodes_of : List Triple → List Term
 nodes_of graph = once same_term (flat_map ends_of graph)

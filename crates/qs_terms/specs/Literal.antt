@@ -1,7 +1,6 @@
 -- Literals (RDF 1.1 Concepts, 3.3). The four datatypes that rules speak of have names.
-use Rattle.std.specs.Prelude.{ℕ, Bool, ◌&&◌, not, List, codes, Option, Some, None, Result, Ok, Err, if◌then◌else◌}
+use Rattle.std.specs.Prelude.{ℕ, List, codes, Option, Some, None, Result, Ok, Err, if◌then◌else◌}
 use Rattle.std.specs.Str.{bytes_eq}
-use Rattle.qs_terms.specs.Iri.{is_iri_text}
 use Rattle.qs_terms.specs.Tag.{is_tag, lowered}
 use Rattle.qs_terms.specs.declared.fault.TermFault.{TermFault}
 use Rattle.qs_terms.specs.declared.fault.TermFault.TheVariants.{BadTag, BadDatatype}
@@ -34,28 +33,11 @@ typed form datatype = record { form = form; datatype = datatype; tag = None }
 abbrev pub tagged : List ℕ → List ℕ → Literal
 tagged form tag = record { form = form; datatype = rdf_lang_string; tag = Some (lowered tag) }
 
--- whether the text is a tag in lower case
-abbrev pub is_lower_tag : List ℕ → Bool
-is_lower_tag tag = is_tag tag && bytes_eq (lowered tag) tag
-
--- a datatype other than rdf:langString and no tag, or a tag in lower case and rdf:langString
-abbrev pub fits_tag : List ℕ → Option (List ℕ) → Bool
-fits_tag datatype None = is_iri_text datatype && not (bytes_eq datatype rdf_lang_string)
-fits_tag datatype (Some tag) = bytes_eq datatype rdf_lang_string && is_lower_tag tag
-
--- whether a literal may have these parts
-abbrev pub is_literal : Literal → Bool
-is_literal l = fits_tag l.datatype l.tag
-
 -- the literal of a form and a lawful IRI, which may not be rdf:langString
 abbrev pub checked_typed : List ℕ → List ℕ → Result Literal TermFault
-checked_typed form datatype = if bytes_eq datatype rdf_lang_string then Err BadDatatype else Ok (typed form datatype)
+checked_typed form datatype =
+    if bytes_eq datatype rdf_lang_string then Err BadDatatype else Ok (typed form datatype)
 
 -- the literal of a form and a text that should be a tag
 abbrev pub checked_tagged : List ℕ → List ℕ → Result Literal TermFault
 checked_tagged form tag = if is_tag tag then Ok (tagged form tag) else Err BadTag
-
--- the literal of a form and of a text that should be a datatype's IRI
-abbrev pub checked_parts : List ℕ → Result (List ℕ) TermFault → Result Literal TermFault
-checked_parts form (Ok datatype) = checked_typed form datatype
-checked_parts form (Err f) = Err f

@@ -1,9 +1,9 @@
--- What a text, or a part of it, results in, for all layers: a value, or the one fault that is due. The first fault of several parts is that
--- of the whole.
+-- What a text, or a part of it, results in, for all layers: a value, or the one fault that is due.
+-- The first fault of several parts is that of the whole.
 use Rattle.std.specs.Prelude.{Result, Ok, Err}
 use Rattle.qs_terms.specs.declared.fault.QFault.{QFault}
 use Rattle.qs_terms.specs.declared.fault.QFault.TheVariants.{Memory}
-use Rattle.qs_terms.specs.OrOutOf.{OrOutOf, OneOrOutOf}
+use Rattle.qs_terms.specs.OrOutOf.{OneOrOutOf}
 
 abbrev pub Outcome : Type 0 → Type 0
 Outcome A = Result A QFault
@@ -12,10 +12,6 @@ Outcome A = Result A QFault
 abbrev pub and_then : {A B : Type 0} → Outcome A → (A → Outcome B) → Outcome B
 and_then (Ok a) f = f a
 and_then (Err e) f = Err e
-
--- the answer is the outcome that is due, or running out of memory
-abbrev pub OrOutOfMemory : {A : Type 0} → Outcome A → Outcome A → Type 0
-OrOutOfMemory due answer = OrOutOf Memory due answer
 
 -- the answer is one of the outcomes that are due, or running out of memory
 abbrev pub OneOrOutOfMemory : {A : Type 0} → (Outcome A → Type 0) → Outcome A → Type 0

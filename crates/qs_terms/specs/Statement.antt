@@ -14,14 +14,12 @@ pub record Statement : Type 0 where
 
 abbrev pub is_iri : Term → Bool
 is_iri (Iri i) = true
-is_iri (Blank n) = false
-is_iri (Literal l) = false
+is_iri _ = false
 
 -- whether the term may be a subject or the name of a graph
 abbrev pub is_node : Term → Bool
-is_node (Iri i) = true
-is_node (Blank n) = true
 is_node (Literal l) = false
+is_node _ = true
 
 abbrev pub is_graph : Option Term → Bool
 is_graph None = true
@@ -38,4 +36,6 @@ same_graph = option_eq same_term
 -- the same in all four places
 abbrev pub same_statement : Statement → Statement → Bool
 same_statement a b =
-    same_graph a.graph b.graph && (same_term a.subject b.subject && (same_term a.predicate b.predicate && same_term a.object b.object))
+    same_graph a.graph b.graph
+    && (same_term a.subject b.subject
+    && (same_term a.predicate b.predicate && same_term a.object b.object))

@@ -1,9 +1,9 @@
--- Terms (RDF 1.1 Concepts, 3.1): IRIs, blank nodes with numbers, and literals. The integers `"01"` and `"1"` are two terms.
-use Rattle.std.specs.Prelude.{ℕ, Bool, false, ◌&&◌, ◌==◌, List, Option, Result, Ok, Err}
+-- Terms (RDF 1.1 Concepts, 3.1): IRIs, blank nodes with numbers, and literals. The integers `"01"`
+-- and `"1"` are two terms.
+use Rattle.std.specs.Prelude.{ℕ, Bool, false, ◌&&◌, ◌==◌, List, Option}
 use Rattle.std.specs.Str.{bytes_eq}
 use Rattle.std.specs.Option.{option_eq}
 use Rattle.qs_terms.specs.Literal as literal
-use Rattle.qs_terms.specs.declared.fault.TermFault.{TermFault}
 use Rattle.qs_terms.specs.declared.term.Term.{Term}
 use Rattle.qs_terms.specs.declared.term.Term.TheVariants.{Iri, Blank, Literal}
 
@@ -12,25 +12,12 @@ abbrev pub same_tag : Option (List ℕ) → Option (List ℕ) → Bool
 same_tag = option_eq bytes_eq
 
 abbrev pub same_literal : literal.Literal → literal.Literal → Bool
-same_literal a b = bytes_eq a.form b.form && (bytes_eq a.datatype b.datatype && same_tag a.tag b.tag)
+same_literal a b =
+    bytes_eq a.form b.form && (bytes_eq a.datatype b.datatype && same_tag a.tag b.tag)
 
 -- two terms are the same where kind and texts are, and two blank nodes where their numbers are
 abbrev pub same_term : Term → Term → Bool
 same_term (Iri a) (Iri b) = bytes_eq a b
-same_term (Iri a) (Blank n) = false
-same_term (Iri a) (Literal b) = false
-same_term (Blank m) (Iri b) = false
 same_term (Blank m) (Blank n) = m == n
-same_term (Blank m) (Literal b) = false
-same_term (Literal a) (Iri b) = false
-same_term (Literal a) (Blank n) = false
 same_term (Literal a) (Literal b) = same_literal a b
-
--- the IRI of the bytes, as a term
-abbrev pub iri_of : Result (List ℕ) TermFault → Result Term TermFault
-iri_of (Ok i) = Ok (Iri i)
-iri_of (Err f) = Err f
-
-abbrev pub literal_of : Result literal.Literal TermFault → Result Term TermFault
-literal_of (Ok l) = Ok (Literal l)
-literal_of (Err f) = Err f
+same_term _ _ = false

@@ -1,7 +1,8 @@
 //! Datasets as lists of quads that are read as sets: what stands in them, by plain loops.
 
 ghost use Rattle.std.specs.Prelude.{◌≡◌, ◌↔◌, List};
-ghost use Rattle.qs_terms.specs.Bag.{SameBag, times};
+ghost use Rattle.qs_terms.specs.Bag.{SameBag};
+ghost use Rattle.qs_terms.specs.inner.Bag.{times};
 ghost use Rattle.qs_terms.specs.Dataset.{is_term_below, is_graph_below, is_statement_below, is_above_blanks};
 ghost use Rattle.qs_terms.specs.Statement.{Statement, same_statement};
 
@@ -37,5 +38,6 @@ pub fn is_above_blanks(next: u64, quads: &[Quad]) -> bool
 
 /// A law: two lists of quads are the same bag exactly where each quad stands equally often in both.
 pub fn same_bag_by_counts()
-    ensures { (a b : List Statement) → SameBag a b ↔ ((q : Statement) → times same_statement q a ≡ times same_statement q b) }
+    ensures { (a b : List Statement) → SameBag a b
+        ↔ ((q : Statement) → times same_statement q a ≡ times same_statement q b) }
 {}

@@ -12,8 +12,9 @@ ghost use Rattle.std.specs.Cmp.Rules.{hashing};
 ghost use Rattle.std.specs.Str.{bytes_eq};
 ghost use Rattle.qs_terms.specs.inner.Datatype.{iri_of, known_of, untagged, checked_untagged, code_of, hash_of};
 ghost use Rattle.qs_terms.specs.Iri.{checked_iri};
-ghost use Rattle.qs_terms.specs.Literal.{rdf_lang_string, xsd_string, xsd_integer, xsd_boolean, fits_tag};
-ghost use Rattle.qs_terms.specs.OrOutOf.{ValueOrOutOfMemory};
+ghost use Rattle.qs_terms.specs.Literal.{rdf_lang_string, xsd_string, xsd_integer, xsd_boolean};
+ghost use Rattle.qs_terms.specs.inner.Literal.{fits_tag};
+ghost use Rattle.qs_terms.specs.inner.OrOutOf.{ValueOrOutOfMemory};
 ghost use Rattle.qs_terms.specs.declared.fault.TermFault.TheVariants.{Memory};
 
 use crate::fault::TermFault;
@@ -170,7 +171,8 @@ impl Datatype {
 
     /// The datatype of a literal without a tag, of its IRI's text. A refusal of the text takes no memory.
     pub(crate) fn parse(alloc: Global, text: &str) -> Result<Datatype, TermFault>
-        ensures answer { ValueOrOutOfMemory Memory (checked_untagged (checked_iri text.now)) result }
+        ensures answer { ValueOrOutOfMemory Memory (checked_untagged (checked_iri text.now))
+            result }
         ensures lawful { IfOk result (λ d. IsTrue (fits_tag d None)) }
     {
         match Known::of(text) {

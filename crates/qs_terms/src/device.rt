@@ -3,7 +3,8 @@
 ghost use Rattle.std.specs.Prelude.{◌≡◌, ◌≤◌, ◌<◌, ℕ, List, Option, None, take, length};
 ghost use Rattle.std.specs.Io.{ReadsAtMost, WritesAtMost};
 ghost use Rattle.std.specs.Io.KnownBytes.{Appends, Keeps, ReadConsumes, WriteAppends};
-ghost use Rattle.qs_terms.specs.Device.{CountsRead, CountsWrite, one_more};
+ghost use Rattle.qs_terms.specs.Device.{one_more};
+ghost use Rattle.qs_terms.specs.inner.Device.{CountsRead, CountsWrite};
 
 use std::io;
 use std::io::{Read, Write};

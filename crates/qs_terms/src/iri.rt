@@ -5,9 +5,10 @@
 
 ghost use Rattle.std.specs.Prelude.{◌≡◌, ◌↔◌, IfOk, OnOk, MatchResult, IsTrue};
 ghost use Rattle.std.specs.List.{list_any};
-ghost use Rattle.qs_terms.specs.OrOutOf.{ValueOrOutOfMemory};
+ghost use Rattle.qs_terms.specs.inner.OrOutOf.{ValueOrOutOfMemory};
 ghost use Rattle.qs_terms.specs.declared.fault.TermFault.TheVariants.{Memory};
-ghost use Rattle.qs_terms.specs.Iri.{is_scheme_char, reaches_colon, has_scheme, is_excluded, is_iri_text, checked_iri};
+ghost use Rattle.qs_terms.specs.Iri.{is_scheme_char, reaches_colon, has_scheme, is_excluded, checked_iri};
+ghost use Rattle.qs_terms.specs.inner.Iri.{is_iri_text};
 
 use crate::fault::TermFault;
 use crate::text::Text;
@@ -24,7 +25,7 @@ pub struct Iri {
 
 impl Model for Iri {
     ghost use Rattle.std.specs.Prelude.{List, ℕ, IsTrue};
-    ghost use Rattle.qs_terms.specs.Iri.{is_iri_text};
+    ghost use Rattle.qs_terms.specs.inner.Iri.{is_iri_text};
 
     ghost Value = { List ℕ };
 
@@ -87,7 +88,8 @@ fn has_excluded(bytes: &[u8]) -> bool
 
 // Tells what is wrong with the bytes as an IRI, if anything is.
 fn check(bytes: &[u8]) -> Result<(), TermFault>
-    ensures answer { MatchResult result (λ _. checked_iri bytes.now ≡ Ok bytes.now) (λ f. checked_iri bytes.now ≡ Err f) }
+    ensures answer { MatchResult result (λ _. checked_iri bytes.now ≡ Ok bytes.now)
+        (λ f. checked_iri bytes.now ≡ Err f) }
     ensures lawful { OnOk result (IsTrue (is_iri_text bytes.now)) }
 {
     if !has_scheme(bytes) {
@@ -102,7 +104,8 @@ fn check(bytes: &[u8]) -> Result<(), TermFault>
 // As `check`, where the bytes may begin with an IRI: then only what stands after it is looked through.
 #[tactic(auto, using(crate::proofs::Behind::behind_scheme, crate::proofs::Behind::behind_excluded))]
 fn check_behind(front: &Iri, bytes: &[u8]) -> Result<(), TermFault>
-    ensures answer { MatchResult result (λ _. checked_iri bytes.now ≡ Ok bytes.now) (λ f. checked_iri bytes.now ≡ Err f) }
+    ensures answer { MatchResult result (λ _. checked_iri bytes.now ≡ Ok bytes.now)
+        (λ f. checked_iri bytes.now ≡ Err f) }
     ensures lawful { OnOk result (IsTrue (is_iri_text bytes.now)) }
 {
     let Some(rest) = bytes.strip_prefix(front.text().as_bytes()) else {

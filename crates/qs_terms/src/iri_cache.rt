@@ -5,7 +5,7 @@
 //! predicate.
 
 ghost use Rattle.std.specs.Prelude.{◌≡◌, ◌<◌, ◌++◌, true, IfOk, IfSome, IsTrue};
-ghost use Rattle.qs_terms.specs.Iri.{is_iri_text};
+ghost use Rattle.qs_terms.specs.inner.Iri.{is_iri_text};
 
 use crate::iri::Iri;
 use std::alloc::{AllocError, Global};

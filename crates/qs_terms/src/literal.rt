@@ -7,9 +7,10 @@ ghost use Rattle.std.specs.Prelude.{◌≡◌, ◌↔◌, IfOk, IsTrue, Some, No
 ghost use Rattle.std.specs.Option.{option_copied};
 ghost use Rattle.std.specs.Str.{bytes_eq};
 ghost use Rattle.qs_terms.specs.inner.Datatype.{iri_of};
-ghost use Rattle.qs_terms.specs.Literal.{xsd_string, xsd_integer, xsd_boolean, typed, checked_typed, checked_parts, checked_tagged, is_literal, fits_tag};
+ghost use Rattle.qs_terms.specs.Literal.{xsd_string, xsd_integer, xsd_boolean, typed, checked_typed, checked_tagged};
+ghost use Rattle.qs_terms.specs.inner.Literal.{checked_parts, is_literal, fits_tag};
 ghost use Rattle.qs_terms.specs.Iri.{checked_iri};
-ghost use Rattle.qs_terms.specs.OrOutOf.{ValueOrOutOfMemory};
+ghost use Rattle.qs_terms.specs.inner.OrOutOf.{ValueOrOutOfMemory};
 ghost use Rattle.qs_terms.specs.declared.fault.TermFault.TheVariants.{Memory};
 
 use crate::datatype::{Datatype, Known};
@@ -31,7 +32,8 @@ struct Parts {
 
 impl Model for Parts {
     ghost use Rattle.std.specs.Prelude.{IsTrue};
-    ghost use Rattle.qs_terms.specs.Literal.{Literal, fits_tag};
+    ghost use Rattle.qs_terms.specs.Literal.{Literal};
+    ghost use Rattle.qs_terms.specs.inner.Literal.{fits_tag};
 
     ghost Value = { Literal };
 
@@ -137,7 +139,8 @@ impl Lit {
 
     /// The literal of copies of a form and of a datatype's IRI. A refusal of the texts takes no memory.
     pub fn parse(alloc: Global, form: &str, datatype: &str) -> Result<Lit, TermFault>
-        ensures { ValueOrOutOfMemory Memory (checked_parts form.now (checked_iri datatype.now)) result }
+        ensures { ValueOrOutOfMemory Memory (checked_parts form.now (checked_iri datatype.now))
+            result }
     {
         let datatype = Datatype::parse(alloc, datatype)?;
         let form = Text::new(alloc, form)?;

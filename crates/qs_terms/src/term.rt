@@ -6,10 +6,12 @@
 ghost use Rattle.std.specs.Prelude.{◌≡◌, ◌↔◌, IsTrue, IfOk};
 ghost use Rattle.std.specs.declared.cmp.Ordering.TheVariants.{Equal};
 ghost use Rattle.qs_terms.specs.Iri.{checked_iri};
-ghost use Rattle.qs_terms.specs.Literal.{checked_parts, checked_tagged};
-ghost use Rattle.qs_terms.specs.OrOutOf.{ValueOrOutOfMemory};
+ghost use Rattle.qs_terms.specs.Literal.{checked_tagged};
+ghost use Rattle.qs_terms.specs.inner.Literal.{checked_parts};
+ghost use Rattle.qs_terms.specs.inner.OrOutOf.{ValueOrOutOfMemory};
 ghost use Rattle.qs_terms.specs.declared.fault.TermFault.TheVariants.{Memory};
-ghost use Rattle.qs_terms.specs.Term.{same_term, iri_of, literal_of};
+ghost use Rattle.qs_terms.specs.Term.{same_term};
+ghost use Rattle.qs_terms.specs.inner.Term.{iri_of, literal_of};
 
 use crate::fault::TermFault;
 use crate::iri::Iri;
@@ -38,7 +40,8 @@ impl Term {
 
     /// The literal of a form and a datatype's IRI, which is lawful and not rdf:langString.
     pub fn literal(alloc: Global, form: &str, datatype: &str) -> Result<Term, TermFault>
-        ensures { ValueOrOutOfMemory Memory (literal_of (checked_parts form.now (checked_iri datatype.now))) result }
+        ensures { ValueOrOutOfMemory Memory
+            (literal_of (checked_parts form.now (checked_iri datatype.now))) result }
     {
         let lit = Lit::parse(alloc, form, datatype)?;
         Ok(Term::Literal(lit))

@@ -7,7 +7,7 @@ use Rattle.qs_terms.specs.declared.term.Term.TheVariants as value
 use Rattle.qs_syntax_ast.specs.declared.update.GraphTarget.{GraphTarget}
 use Rattle.qs_syntax_ast.specs.declared.update.GraphTarget.TheVariants.{All, Default, Graph, Named}
 use Rattle.qs_update_laws.specs.inner.Below.{have_iri_predicates}
-use Rattle.qs_store.specs.Content.{AreLawful}
+use Rattle.qs_store.specs.inner.Content.{AreLawful}
 use Rattle.qs_update.specs.Graphs.{in_graph, is_named, is_target}
 
 behind : (a b : Bool) → IsTrue (a && b) → IsTrue b

@@ -1,9 +1,11 @@
--- What an operation does (SPARQL 1.1 Update, 3.1, 3.2 and 4.3): it removes quads and then adds others, and takes numbers for fresh blank
--- nodes; or the fault that is due. COPY, MOVE and ADD of a graph to itself do nothing once the graph is there. DELETE WHERE has a basic
--- graph pattern for each block of its quads: an empty GRAPH has a solution only where there is such a graph.
--- The variables of an operation are those that stand in it. Its solutions are those of its own WHERE (3.1.3), whichever variables the other
--- operations of a request name.
-use Rattle.std.specs.Prelude.{◌≡◌, ◌⊎◌, ◌<◌, ◌≤◌, ℕ, List, [], ◌∷◌, length, Option, Some, None, option_map, Ok, Err, if◌then◌else◌}
+-- What an operation does (SPARQL 1.1 Update, 3.1, 3.2 and 4.3): it removes quads and then adds
+-- others, and takes numbers for fresh blank nodes; or the fault that is due. COPY, MOVE and ADD of
+-- a graph to itself do nothing once the graph is there. DELETE WHERE has a basic graph pattern for
+-- each block of its quads: an empty GRAPH has a solution only where there is such a graph. The
+-- variables of an operation are those that stand in it. Its solutions are those of its own WHERE
+-- (3.1.3), whichever variables the other operations of a request name.
+use Rattle.std.specs.Prelude.{◌≡◌, ◌⊎◌, ◌<◌, ◌≤◌, ℕ, List, [], ◌∷◌, length, Option, Some, None}
+use Rattle.std.specs.Prelude.{option_map, Ok, Err, if◌then◌else◌}
 use Rattle.std.specs.List.{filter}
 use Rattle.qs_terms.specs.Bag.{SameBag, once}
 use Rattle.qs_terms.specs.Dataset.{graph_of}
@@ -19,7 +21,7 @@ use Rattle.qs_syntax_ast.specs.declared.term.Variable.{Variable}
 use Rattle.qs_syntax_ast.specs.declared.update.GraphTarget.{GraphTarget}
 use Rattle.qs_syntax_ast.specs.declared.update.Modify.{Modify}
 use Rattle.qs_syntax_ast.specs.declared.update.Operation.{Operation}
-use Rattle.qs_syntax_ast.specs.declared.update.Operation.TheVariants as operation
+use Rattle.qs_syntax_ast.specs.declared.update.Operation.TheVariants as op
 use Rattle.qs_syntax_ast.specs.declared.update.QuadBlock.{QuadBlock}
 use Rattle.qs_syntax_ast.specs.declared.update.Transfer.{Transfer}
 use Rattle.qs_syntax_scope.specs.Firsts.{names_of}
@@ -47,38 +49,52 @@ nothing next = record { removed = []; added = []; next = next }
 abbrev pub deletion : Template → Template
 deletion t = record { quads = t.quads; blanks = 0 }
 
--- the instances of one template under these solutions are removed, and then those of the other are added, whose fresh blank nodes have the
--- numbers from the next one on; or the fault that these don't suffice
+-- the instances of one template under these solutions are removed, and then those of the other are
+-- added, whose fresh blank nodes have the numbers from the next one on; or the fault that these
+-- don't suffice
 abbrev pub modified : Template → Template → ℕ → List Solution → Outcome Effect
 modified delete insert next rows =
-    and_then (made insert next rows) (λ added. Ok (record { removed = instances (deletion delete) next rows; added = added; next = next_after insert next (length rows) }))
+    and_then (made insert next rows) (λ added. Ok (record {
+      removed = instances (deletion delete) next rows;
+      added = added;
+      next = next_after
+          insert next (length rows);
+    }))
 
 -- INSERT DATA and DELETE DATA: under the one solution, which binds nothing
 abbrev pub of_data : List QuadBlock → List QuadBlock → ℕ → Outcome Effect
-of_data delete insert next = modified (template_of_blocks [] delete) (template_of_blocks [] insert) next (unbound 0 ∷ [])
+of_data delete insert next =
+    modified (template_of_blocks [] delete) (template_of_blocks [] insert) next (unbound 0 ∷ [])
 
--- all solutions of a WHERE over the quads, where the graph of this name is the default graph, if one is given
+-- all solutions of a WHERE over the quads, where the graph of this name is the default graph, if
+-- one is given
 abbrev pub solutions : Pattern → DefaultGraph → Option Term → List Statement → List Solution
-solutions pattern default name quads = let set = once same_statement (visible default quads) in whole pattern set (graph_of set name)
+solutions pattern default name quads = let set =
+    once same_statement (visible default quads) in whole pattern set (graph_of set name)
 
--- under all solutions of a WHERE, in some order; or the fault that there are more than max_rows of them
+-- under all solutions of a WHERE, in some order; or the fault that there are more than max_rows of
+-- them
 abbrev pub IsModified : ℕ → Template → Template → ℕ → List Solution → Outcome Effect → Type 0
 IsModified max_rows delete insert next all outcome =
     ((max_rows < length all) × (outcome ≡ Err fault.TooManyRows))
-    ⊎ ((length all ≤ max_rows) × (rows : List Solution) × SameBag rows all × (outcome ≡ modified delete insert next rows))
+    ⊎ ((length all ≤ max_rows) × (rows : List Solution) × SameBag rows all
+    × (outcome ≡ modified delete insert next rows))
 
 -- DELETE WHERE (3.1.3.3): its quads are pattern and template, and these are its variables
-abbrev pub IsDeletedWhere : ℕ → List Variable → DefaultGraph → List QuadBlock → List Statement → ℕ → Outcome Effect → Type 0
+abbrev pub IsDeletedWhere : ℕ → List Variable → DefaultGraph → List QuadBlock → List Statement → ℕ
+    → Outcome Effect → Type 0
 IsDeletedWhere max_rows variables default blocks quads next outcome =
-    IsModified max_rows (template_of_blocks (names_of variables) blocks) (template_of_blocks (names_of variables) []) next (solutions (translated_blocks variables blocks) default None quads) outcome
+    IsModified max_rows (template_of_blocks (names_of variables) blocks)
+    (template_of_blocks (names_of variables) []) next
+    (solutions (translated_blocks variables blocks) default None quads) outcome
 
--- DELETE and INSERT with a WHERE (3.1.3), and these variables: WITH names the default graph of the WHERE and of both templates
-abbrev pub IsModifiedWhere : ℕ → List Variable → DefaultGraph → Modify → List Statement → ℕ → Outcome Effect → Type 0
+-- DELETE and INSERT with a WHERE (3.1.3), and these variables: WITH names the default graph of the
+-- WHERE and of both templates
+abbrev pub IsModifiedWhere : ℕ → List Variable → DefaultGraph → Modify → List Statement → ℕ
+    → Outcome Effect → Type 0
 IsModifiedWhere max_rows variables default m quads next outcome =
-    IsModified max_rows
-    (template_in m.with (template_of_blocks (names_of variables) m.delete))
-    (template_in m.with (template_of_blocks (names_of variables) m.insert))
-    next
+    IsModified max_rows (template_in m.with (template_of_blocks (names_of variables) m.delete))
+    (template_in m.with (template_of_blocks (names_of variables) m.insert)) next
     (solutions (translated_where variables m.pattern) default (option_map value.Iri m.with) quads)
     outcome
 
@@ -86,7 +102,7 @@ IsModifiedWhere max_rows variables default m quads next outcome =
 
 -- CLEAR and DROP: no graph is there without quads, so both do the same, and neither fails
 abbrev pub cleared : GraphTarget → List Statement → ℕ → Effect
-cleared target quads next = record { removed = filter (is_target target) quads; added = []; next = next }
+cleared t quads next = record { removed = filter (is_target t) quads; added = []; next = next }
 
 -- the fault, or nothing where SILENT stands
 abbrev pub fault_or_nothing : OnMissing → QFault → ℕ → Outcome Effect
@@ -95,30 +111,35 @@ fault_or_nothing on_missing.Silent f next = Ok (nothing next)
 
 -- CREATE: a graph without quads isn't there, so nothing is created
 abbrev pub created : OnMissing → List ℕ → List Statement → ℕ → Outcome Effect
-created on_exists name quads next = if exists (Some (value.Iri name)) quads then fault_or_nothing on_exists fault.GraphExists next else Ok (nothing next)
+created on_exists name quads next = if exists (Some (value.Iri name)) quads
+    then fault_or_nothing on_exists fault.GraphExists next else Ok (nothing next)
 
 -- a graph put into another, where these quads are removed before; into itself, which does nothing
 abbrev pub put_over : List Statement → Option Term → Option Term → List Statement → ℕ → Effect
-put_over removed from to quads next = if same_graph from to then nothing next else record { removed = removed; added = copies from to quads; next = next }
+put_over removed from to quads next = if same_graph from to then nothing next
+    else record { removed = removed; added = copies from to quads; next = next }
 
 -- the same where there is such a graph
 abbrev pub transferred : Removal → Transfer → List Statement → ℕ → Outcome Effect
 transferred removal t quads next =
     if exists (graph_name t.from) quads
-    then Ok (put_over (removed_by removal (graph_name t.from) (graph_name t.to) quads) (graph_name t.from) (graph_name t.to) quads next)
+    then Ok (put_over (removed_by removal (graph_name t.from) (graph_name t.to) quads)
+    (graph_name t.from) (graph_name t.to) quads next)
     else fault_or_nothing t.on_missing fault.NoGraph next
 
 -- ---- operations
 
 -- what the operation does over these quads, where this is the next blank node's number
 abbrev pub IsEffect : ℕ → DefaultGraph → Operation → List Statement → ℕ → Outcome Effect → Type 0
-IsEffect max_rows default (operation.InsertData blocks) quads next outcome = outcome ≡ of_data [] blocks next
-IsEffect max_rows default (operation.DeleteData blocks) quads next outcome = outcome ≡ of_data blocks [] next
-IsEffect max_rows default (operation.DeleteWhere blocks) quads next outcome = IsDeletedWhere max_rows (operation_variables (operation.DeleteWhere blocks)) default blocks quads next outcome
-IsEffect max_rows default (operation.Modify m) quads next outcome = IsModifiedWhere max_rows (operation_variables (operation.Modify m)) default m quads next outcome
-IsEffect max_rows default (operation.Clear _ target) quads next outcome = outcome ≡ Ok (cleared target quads next)
-IsEffect max_rows default (operation.Drop _ target) quads next outcome = outcome ≡ Ok (cleared target quads next)
-IsEffect max_rows default (operation.Create on_exists name) quads next outcome = outcome ≡ created on_exists name quads next
-IsEffect max_rows default (operation.Add t) quads next outcome = outcome ≡ transferred removal.Nothing t quads next
-IsEffect max_rows default (operation.Move t) quads next outcome = outcome ≡ transferred removal.Both t quads next
-IsEffect max_rows default (operation.Copy t) quads next outcome = outcome ≡ transferred removal.Target t quads next
+IsEffect rows default (op.InsertData blocks) quads next out = out ≡ of_data [] blocks next
+IsEffect rows default (op.DeleteData blocks) quads next out = out ≡ of_data blocks [] next
+IsEffect rows default (op.DeleteWhere blocks) quads next out =
+    IsDeletedWhere rows (operation_variables (op.DeleteWhere blocks)) default blocks quads next out
+IsEffect rows default (op.Modify m) quads next out =
+    IsModifiedWhere rows (operation_variables (op.Modify m)) default m quads next out
+IsEffect rows default (op.Clear _ target) quads next out = out ≡ Ok (cleared target quads next)
+IsEffect rows default (op.Drop _ target) quads next out = out ≡ Ok (cleared target quads next)
+IsEffect rows default (op.Create on name) quads next out = out ≡ created on name quads next
+IsEffect rows default (op.Add t) quads next out = out ≡ transferred removal.Nothing t quads next
+IsEffect rows default (op.Move t) quads next out = out ≡ transferred removal.Both t quads next
+IsEffect rows default (op.Copy t) quads next out = out ≡ transferred removal.Target t quads next

@@ -1,4 +1,5 @@
--- The graphs that operations name, and the quads in them (SPARQL 1.1 Update, 3.2). A WHERE is evaluated over the visible quads.
+-- The graphs that operations name, and the quads in them (SPARQL 1.1 Update, 3.2). A WHERE is
+-- evaluated over the visible quads.
 use Rattle.std.specs.Prelude.{Bool, true, Option, Some, None}
 use Rattle.qs_terms.specs.Statement.{Statement}
 use Rattle.qs_terms.specs.declared.term.Term.{Term}

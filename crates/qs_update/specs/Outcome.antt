@@ -1,4 +1,5 @@
--- What the text of an update makes of what a store holds: the fault that is due, or what its operations make of it.
+-- What the text of an update makes of what a store holds: the fault that is due, or what its
+-- operations make of it.
 use Rattle.std.specs.Prelude.{◌≡◌, ℕ, List, Ok, Err}
 use Rattle.qs_terms.specs.Outcome.{Outcome}
 use Rattle.qs_syntax_ast.specs.declared.update.Update.{Update}
@@ -9,18 +10,15 @@ use Rattle.qs_update.specs.Request.{Bounds, AreOperations}
 
 -- a text without fault makes what its operations make
 abbrev pub IsOutcomeOfParsed : Bounds → Outcome Update → Content → Outcome Content → Type 0
-IsOutcomeOfParsed bounds (Ok update) old outcome = AreOperations bounds update.operations old outcome
+IsOutcomeOfParsed bounds (Ok u) old outcome = AreOperations bounds u.operations old outcome
 IsOutcomeOfParsed bounds (Err f) old outcome = outcome ≡ Err f
 
 abbrev pub IsOutcomeOfText : Bounds → List ℕ → Content → Outcome Content → Type 0
-IsOutcomeOfText bounds text old outcome = (parsed : Outcome Update) × IsUpdateOutcome text parsed × IsOutcomeOfParsed bounds parsed old outcome
+IsOutcomeOfText bounds text old outcome = (parsed : Outcome Update) × IsUpdateOutcome text parsed
+    × IsOutcomeOfParsed bounds parsed old outcome
 
 -- the same quads, next number and known terms
 pub record IsSameContent (a b : Content) : Type 0 where
   pub quads : SameSet a.quads b.quads
   pub next : a.next ≡ b.next
   pub known : a.known ≡ b.known
-
--- the request is accepted, and the store holds what it makes
-abbrev pub IsAccepted : Bounds → List ℕ → Content → Content → Type 0
-IsAccepted bounds text old new = (c : Content) × IsOutcomeOfText bounds text old (Ok c) × IsSameContent new c

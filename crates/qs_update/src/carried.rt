@@ -28,8 +28,11 @@ pub fn apply_operation(draft: &mut Draft<'_>, effect: &Effect) -> Result<(), QFa
     ensures base { draft.new.store.now.base ≡ draft.old.store.now.base }
     ensures limit { draft.new.store.now.limit ≡ draft.old.store.now.limit }
     ensures default_graph { draft.new.store.now.default_graph ≡ draft.old.store.now.default_graph }
-    ensures outcome { BecomesOne (IsCarriedOut draft.old.store.now.limit draft.old.store.now.draft (Ok effect.now)) result draft.new.store.now.draft }
-    ensures in_turn { OnOk result (draft.new.store.now.draft.known ≡ with_terms_of draft.old.store.now.draft.known effect.now.added) }
+    ensures outcome { BecomesOne (IsCarriedOut draft.old.store.now.limit draft.old.store.now.draft
+        (Ok effect.now)) result draft.new.store.now.draft }
+    ensures in_turn { OnOk result
+        (draft.new.store.now.draft.known ≡ with_terms_of draft.old.store.now.draft.known
+        effect.now.added) }
 {
     match draft.change(
         effect.removed.as_slice(),

@@ -2,7 +2,7 @@
 //! them is one effect. They read no quads, so that their time doesn't grow with the store.
 
 ghost use Rattle.std.specs.Prelude.{◌≡◌, ◌≢◌, ◌<◌, ◌≤◌, ℕ, true, length, take, IfOk, IfErr, OnOk};
-ghost use Rattle.qs_terms.specs.OrOutOf.{BecomesOrOutOfMemory};
+ghost use Rattle.qs_terms.specs.inner.OrOutOf.{BecomesOrOutOfMemory};
 ghost use Rattle.qs_terms.specs.declared.fault.QFault.TheVariants.{Memory};
 ghost use Rattle.qs_update.specs.inner.DataRun as spec;
 ghost use Rattle.qs_update.specs.inner.Lawful.{IsLawful};
@@ -24,8 +24,10 @@ pub struct DataRun {
 }
 
 fn put_insertion(alloc: Global, blocks: &[QuadBlock], effect: &mut Effect) -> Result<(), QFault>
-    ensures effect { BecomesOrOutOfMemory Memory (spec.with_insertion effect.old blocks.now) result effect.new }
-    ensures lawful { OnOk result ((first : ℕ) → IsLawful first effect.old → IsLawful first effect.new) }
+    ensures effect { BecomesOrOutOfMemory Memory (spec.with_insertion effect.old blocks.now) result
+        effect.new }
+    ensures lawful { OnOk result ((first : ℕ) → IsLawful first effect.old
+        → IsLawful first effect.new) }
 {
     effects_are_lawful();
     quads_are_told_one_by_one();
@@ -35,8 +37,10 @@ fn put_insertion(alloc: Global, blocks: &[QuadBlock], effect: &mut Effect) -> Re
 }
 
 fn put_deletion(alloc: Global, blocks: &[QuadBlock], effect: &mut Effect) -> Result<(), QFault>
-    ensures effect { BecomesOrOutOfMemory Memory (spec.with_deletion effect.old blocks.now) result effect.new }
-    ensures lawful { OnOk result ((first : ℕ) → IsLawful first effect.old → IsLawful first effect.new) }
+    ensures effect { BecomesOrOutOfMemory Memory (spec.with_deletion effect.old blocks.now) result
+        effect.new }
+    ensures lawful { OnOk result ((first : ℕ) → IsLawful first effect.old
+        → IsLawful first effect.new) }
 {
     let _in_range = effect.next;
     put_quads_to_delete(alloc, blocks, &mut effect.removed)?;
@@ -47,7 +51,8 @@ fn put_deletion(alloc: Global, blocks: &[QuadBlock], effect: &mut Effect) -> Res
 // DELETE DATA only while it adds nothing.
 fn put_data(alloc: Global, operation: &Operation, effect: &mut Effect) -> Result<bool, QFault>
     ensures effect { spec.IsPut operation.now effect.old result effect.new }
-    ensures lawful { OnOk result ((first : ℕ) → IsLawful first effect.old → IsLawful first effect.new) }
+    ensures lawful { OnOk result ((first : ℕ) → IsLawful first effect.old
+        → IsLawful first effect.new) }
 {
     match operation {
         Operation::InsertData(blocks) => {
@@ -69,8 +74,10 @@ fn put_data(alloc: Global, operation: &Operation, effect: &mut Effect) -> Result
 /// terms known than a store has room for, since its fault is `QFault::Full` too. `QFault::Memory` where memory runs out.
 pub fn data_run(alloc: Global, operations: &[Operation], next: u64) -> Result<DataRun, QFault>
     ensures count { IfOk result (λ run. run.count ≤ length operations.now) }
-    ensures some { IfOk result (λ run. spec.begins_with_data operations.now ≡ true → 0 < run.count) }
-    ensures effect { IfOk result (λ run. 0 < run.count → spec.IsEffectOf (take run.count operations.now) next run.effect) }
+    ensures some { IfOk result (λ run. spec.begins_with_data operations.now ≡ true
+        → 0 < run.count) }
+    ensures effect { IfOk result (λ run. 0 < run.count
+        → spec.IsEffectOf (take run.count operations.now) next run.effect) }
     ensures lawful { IfOk result (λ run. IsLawful next run.effect) }
     ensures refused { IfErr result (λ f. f ≢ Memory → spec.AreRefused operations.now next f) }
 {

@@ -49,7 +49,9 @@ fn delete_where(
     ensures base { draft.new.store.now.base ≡ draft.old.store.now.base }
     ensures limit { draft.new.store.now.limit ≡ draft.old.store.now.limit }
     ensures default_graph { draft.new.store.now.default_graph ≡ draft.old.store.now.default_graph }
-    ensures outcome { BecomesOne (IsOperation (bounds_of max_rows draft.old.store.now) (operation.DeleteWhere blocks.now) draft.old.store.now.draft) result draft.new.store.now.draft }
+    ensures outcome { BecomesOne (IsOperation (bounds_of max_rows draft.old.store.now)
+        (operation.DeleteWhere blocks.now) draft.old.store.now.draft) result
+        draft.new.store.now.draft }
 {
     effects_are_lawful();
     next_blank(draft);
@@ -71,7 +73,9 @@ fn modify_where(
     ensures base { draft.new.store.now.base ≡ draft.old.store.now.base }
     ensures limit { draft.new.store.now.limit ≡ draft.old.store.now.limit }
     ensures default_graph { draft.new.store.now.default_graph ≡ draft.old.store.now.default_graph }
-    ensures outcome { BecomesOne (IsOperation (bounds_of max_rows draft.old.store.now) (operation.Modify modify.now) draft.old.store.now.draft) result draft.new.store.now.draft }
+    ensures outcome { BecomesOne (IsOperation (bounds_of max_rows draft.old.store.now)
+        (operation.Modify modify.now) draft.old.store.now.draft) result
+        draft.new.store.now.draft }
 {
     effects_are_lawful();
     next_blank(draft);
@@ -100,7 +104,8 @@ fn operate(
     ensures base { draft.new.store.now.base ≡ draft.old.store.now.base }
     ensures limit { draft.new.store.now.limit ≡ draft.old.store.now.limit }
     ensures default_graph { draft.new.store.now.default_graph ≡ draft.old.store.now.default_graph }
-    ensures outcome { BecomesOne (IsOperation (bounds_of max_rows draft.old.store.now) operation.now draft.old.store.now.draft) result draft.new.store.now.draft }
+    ensures outcome { BecomesOne (IsOperation (bounds_of max_rows draft.old.store.now) operation.now
+        draft.old.store.now.draft) result draft.new.store.now.draft }
 {
     match operation {
         Operation::InsertData(_) => unreachable!(),
@@ -142,7 +147,8 @@ fn operate_first(
     ensures limit { draft.new.store.now.limit ≡ draft.old.store.now.limit }
     ensures default_graph { draft.new.store.now.default_graph ≡ draft.old.store.now.default_graph }
     ensures count { IfOk result (λ count. (0 < count) × (count ≤ length operations.now)) }
-    ensures outcome { BecomesFirst (bounds_of max_rows draft.old.store.now) operations.now draft.old.store.now.draft result draft.new.store.now.draft }
+    ensures outcome { BecomesFirst (bounds_of max_rows draft.old.store.now) operations.now
+        draft.old.store.now.draft result draft.new.store.now.draft }
 {
     let run = data_run(alloc, operations, draft.next_blank())?;
     if run.count > 0 {
@@ -172,7 +178,9 @@ pub fn operate_all(
     ensures base { draft.new.store.now.base ≡ draft.old.store.now.base }
     ensures limit { draft.new.store.now.limit ≡ draft.old.store.now.limit }
     ensures default_graph { draft.new.store.now.default_graph ≡ draft.old.store.now.default_graph }
-    ensures outcome { BecomesOne (AreOperations (bounds_of max_rows draft.old.store.now) update.now.operations draft.old.store.now.draft) result draft.new.store.now.draft }
+    ensures outcome { BecomesOne
+        (AreOperations (bounds_of max_rows draft.old.store.now) update.now.operations
+        draft.old.store.now.draft) result draft.new.store.now.draft }
 {
     let mut rest = update.operations.as_slice();
     while !rest.is_empty() {

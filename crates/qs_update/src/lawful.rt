@@ -22,8 +22,13 @@ use qs_update_laws::laws::{
 /// number before is above those of the quads, the predicates of the quads are IRIs, and no row of a VALUES in the operation has a blank
 /// node. INSERT DATA and DELETE DATA read no quads.
 pub fn effects_are_lawful()
-    ensures of_operation { (max_rows : ℕ) (default : DefaultGraph) (operation : Operation) (quads : List Statement) (next : ℕ) (outcome : Outcome EffectValue) → IsTrue (is_above_blanks next quads) → IsTrue (have_iri_predicates quads) → IsTrue (operation_values_have_no_blank operation) → IsEffect max_rows default operation quads next outcome → IfOk outcome (IsLawful next) }
-    ensures of_data { (delete insert : List QuadBlock) (next : ℕ) → IfOk (of_data delete insert next) (IsLawful next) }
+    ensures of_operation { (max_rows : ℕ) (default : DefaultGraph) (operation : Operation)
+        (quads : List Statement) (next : ℕ) (outcome : Outcome EffectValue)
+        → IsTrue (is_above_blanks next quads) → IsTrue (have_iri_predicates quads)
+        → IsTrue (operation_values_have_no_blank operation)
+        → IsEffect max_rows default operation quads next outcome → IfOk outcome (IsLawful next) }
+    ensures of_data { (delete insert : List QuadBlock) (next : ℕ)
+        → IfOk (of_data delete insert next) (IsLawful next) }
 {
     solutions_bind_no_other_blanks();
     texts_name_no_blanks();

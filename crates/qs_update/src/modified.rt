@@ -38,13 +38,19 @@ fn change_by_templates(
     draft: &mut Draft<'_>,
     found: &CellRows,
 ) -> Result<(), QFault>
-    requires fits { All (FitsRow draft.old.store.now.draft.known found.now.scratch) found.now.rows.items }
-    requires lawful { IfOk (spec.modified delete insert.now draft.old.store.now.draft.next (map (row_solution draft.old.store.now.draft.known found.now.scratch) found.now.rows.items)) (IsLawful draft.old.store.now.draft.next) }
+    requires fits { All (FitsRow draft.old.store.now.draft.known found.now.scratch)
+        found.now.rows.items }
+    requires lawful { IfOk (spec.modified delete insert.now draft.old.store.now.draft.next
+        (map (row_solution draft.old.store.now.draft.known found.now.scratch)
+        found.now.rows.items)) (IsLawful draft.old.store.now.draft.next) }
     ensures same_reference { draft.new.store.ghost_name ≡ draft.old.store.ghost_name }
     ensures base { draft.new.store.now.base ≡ draft.old.store.now.base }
     ensures limit { draft.new.store.now.limit ≡ draft.old.store.now.limit }
     ensures default_graph { draft.new.store.now.default_graph ≡ draft.old.store.now.default_graph }
-    ensures outcome { BecomesOne (IsCarriedOut draft.old.store.now.limit draft.old.store.now.draft (spec.modified delete insert.now draft.old.store.now.draft.next (map (row_solution draft.old.store.now.draft.known found.now.scratch) found.now.rows.items))) result draft.new.store.now.draft }
+    ensures outcome { BecomesOne (IsCarriedOut draft.old.store.now.limit draft.old.store.now.draft
+        (spec.modified delete insert.now draft.old.store.now.draft.next
+        (map (row_solution draft.old.store.now.draft.known found.now.scratch)
+        found.now.rows.items))) result draft.new.store.now.draft }
 {
     let delete = deletion(delete);
     let rows = found.rows.as_slice();
@@ -66,13 +72,30 @@ pub fn change_by(
     draft: &mut Draft<'_>,
     found: &CellRows,
 ) -> Result<(), QFault>
-    requires fits { All (FitsRow draft.old.store.now.draft.known found.now.scratch) found.now.rows.items }
-    requires lawful { IfOk (spec.modified (made.template_in with.now (made.template_of_blocks (names_of variables.now) delete.now)) (made.template_in with.now (made.template_of_blocks (names_of variables.now) insert.now)) draft.old.store.now.draft.next (map (row_solution draft.old.store.now.draft.known found.now.scratch) found.now.rows.items)) (IsLawful draft.old.store.now.draft.next) }
+    requires fits { All (FitsRow draft.old.store.now.draft.known found.now.scratch)
+        found.now.rows.items }
+    requires lawful { IfOk
+        (spec.modified
+        (made.template_in with.now
+        (made.template_of_blocks (names_of variables.now) delete.now))
+        (made.template_in with.now
+        (made.template_of_blocks (names_of variables.now) insert.now))
+        draft.old.store.now.draft.next
+        (map (row_solution draft.old.store.now.draft.known found.now.scratch)
+        found.now.rows.items)) (IsLawful draft.old.store.now.draft.next) }
     ensures same_reference { draft.new.store.ghost_name ≡ draft.old.store.ghost_name }
     ensures base { draft.new.store.now.base ≡ draft.old.store.now.base }
     ensures limit { draft.new.store.now.limit ≡ draft.old.store.now.limit }
     ensures default_graph { draft.new.store.now.default_graph ≡ draft.old.store.now.default_graph }
-    ensures outcome { BecomesOne (IsCarriedOut draft.old.store.now.limit draft.old.store.now.draft (spec.modified (made.template_in with.now (made.template_of_blocks (names_of variables.now) delete.now)) (made.template_in with.now (made.template_of_blocks (names_of variables.now) insert.now)) draft.old.store.now.draft.next (map (row_solution draft.old.store.now.draft.known found.now.scratch) found.now.rows.items))) result draft.new.store.now.draft }
+    ensures outcome { BecomesOne (IsCarriedOut draft.old.store.now.limit draft.old.store.now.draft
+        (spec.modified
+        (made.template_in with.now
+        (made.template_of_blocks (names_of variables.now) delete.now))
+        (made.template_in with.now
+        (made.template_of_blocks (names_of variables.now) insert.now))
+        draft.old.store.now.draft.next
+        (map (row_solution draft.old.store.now.draft.known found.now.scratch)
+        found.now.rows.items))) result draft.new.store.now.draft }
 {
     let names = number_names(alloc, variables)?;
     let delete = template_with(alloc, &names, with, delete)?;
@@ -89,7 +112,9 @@ pub fn deleted_rows(
     draft: &Draft<'_>,
     max_rows: u64,
 ) -> Result<CellRows, QFault>
-    ensures { AreAllCells max_rows draft.now.store.now.draft.known (spec.solutions (translated_blocks variables.now blocks.now) draft.now.store.now.default_graph None draft.now.store.now.draft.quads) result }
+    ensures { AreAllCells max_rows draft.now.store.now.draft.known
+        (spec.solutions (translated_blocks variables.now blocks.now)
+        draft.now.store.now.default_graph None draft.now.store.now.draft.quads) result }
 {
     let pattern = translate_blocks(alloc, variables, blocks)?;
     let rows = cell_solutions(alloc, &pattern, draft, None, max_rows);
@@ -113,7 +138,9 @@ fn rows_with(
     draft: &Draft<'_>,
     max_rows: u64,
 ) -> Result<CellRows, QFault>
-    ensures { AreAllCells max_rows draft.now.store.now.draft.known (spec.solutions pattern.now draft.now.store.now.default_graph (option_map value.Iri with.now) draft.now.store.now.draft.quads) result }
+    ensures { AreAllCells max_rows draft.now.store.now.draft.known
+        (spec.solutions pattern.now draft.now.store.now.default_graph
+        (option_map value.Iri with.now) draft.now.store.now.draft.quads) result }
 {
     let with = with_term(with)?;
     cell_solutions(alloc, pattern, draft, with.as_ref(), max_rows)
@@ -128,7 +155,10 @@ pub fn where_rows(
     draft: &Draft<'_>,
     max_rows: u64,
 ) -> Result<CellRows, QFault>
-    ensures { AreAllCells max_rows draft.now.store.now.draft.known (spec.solutions (translated_where variables.now modify.now.pattern) draft.now.store.now.default_graph (option_map value.Iri modify.now.with) draft.now.store.now.draft.quads) result }
+    ensures { AreAllCells max_rows draft.now.store.now.draft.known
+        (spec.solutions (translated_where variables.now modify.now.pattern)
+        draft.now.store.now.default_graph (option_map value.Iri modify.now.with)
+        draft.now.store.now.draft.quads) result }
 {
     let pattern = translate_where_with(alloc, variables, &modify.pattern)?;
     let rows = rows_with(alloc, &pattern, &modify.with, draft, max_rows);

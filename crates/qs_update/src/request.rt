@@ -4,7 +4,8 @@ ghost use Rattle.std.specs.Prelude.{◌≡◌, ◌≢◌, IsTrue, Err, IfErr, On
 ghost use Rattle.qs_terms.specs.declared.fault.QFault.TheVariants.{Memory};
 ghost use Rattle.qs_update_laws.specs.inner.Written.{update_values_have_no_blank};
 ghost use Rattle.qs_update.specs.inner.Carried.{AreTaken};
-ghost use Rattle.qs_update.specs.Outcome.{IsAccepted, IsOutcomeOfText};
+ghost use Rattle.qs_update.specs.Outcome.{IsOutcomeOfText};
+ghost use Rattle.qs_update.specs.inner.Outcome.{IsAccepted};
 ghost use Rattle.qs_update.specs.Request.{bounds_of, AreOperations};
 
 use crate::draft::operate_all;
@@ -18,9 +19,11 @@ use std::alloc::Global;
 // The operations of an update, all or none.
 fn taken(alloc: Global, update: &Update, store: &mut Store, max_rows: u64) -> Result<(), QFault>
     requires { IsTrue (update_values_have_no_blank update.now) }
-    ensures accepted { OnOk result (AreTaken (bounds_of max_rows store.old) update.now.operations store.old.base store.new.base) }
+    ensures accepted { OnOk result (AreTaken (bounds_of max_rows store.old) update.now.operations
+        store.old.base store.new.base) }
     ensures refused { OnErr result (store.new.base ≡ store.old.base) }
-    ensures fault { IfErr result (λ f. f ≢ Memory → AreOperations (bounds_of max_rows store.old) update.now.operations store.old.base (Err f)) }
+    ensures fault { IfErr result (λ f. f ≢ Memory → AreOperations (bounds_of max_rows store.old)
+        update.now.operations store.old.base (Err f)) }
     ensures limit { store.new.limit ≡ store.old.limit }
     ensures default_graph { store.new.default_graph ≡ store.old.default_graph }
 {
@@ -48,9 +51,11 @@ fn taken(alloc: Global, update: &Update, store: &mut Store, max_rows: u64) -> Re
 /// don't suffice, or where the known terms and those of the quads inserted so far in the request are more than the store's limit.
 /// `QFault::Memory` where memory runs out, at any time.
 pub fn update(alloc: Global, text: &str, store: &mut Store, max_rows: u64) -> Result<(), QFault>
-    ensures accepted { OnOk result (IsAccepted (bounds_of max_rows store.old) text.now store.old.base store.new.base) }
+    ensures accepted { OnOk result
+        (IsAccepted (bounds_of max_rows store.old) text.now store.old.base store.new.base) }
     ensures refused { OnErr result (store.new.base ≡ store.old.base) }
-    ensures fault { IfErr result (λ f. f ≢ Memory → IsOutcomeOfText (bounds_of max_rows store.old) text.now store.old.base (Err f)) }
+    ensures fault { IfErr result (λ f. f ≢ Memory → IsOutcomeOfText (bounds_of max_rows store.old)
+        text.now store.old.base (Err f)) }
     ensures limit { store.new.limit ≡ store.old.limit }
     ensures default_graph { store.new.default_graph ≡ store.old.default_graph }
 {

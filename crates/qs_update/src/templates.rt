@@ -27,7 +27,8 @@ pub fn template_with<'a>(
     with: &Option<Iri>,
     blocks: &'a [QuadBlock],
 ) -> Result<Template, AllocError>
-    ensures { IfOk result (λ t. t ≡ made.template_in with.now (made.template_of_blocks names.now blocks.now)) }
+    ensures { IfOk result
+        (λ t. t ≡ made.template_in with.now (made.template_of_blocks names.now blocks.now)) }
 {
     let template = template_of_blocks(alloc, names, blocks)?;
     template_in(alloc, with, template)

@@ -5,7 +5,7 @@ ghost use Rattle.std.specs.Prelude.{◌≡◌, ◌≤◌, [], false, length, Ok,
 ghost use Rattle.std.specs.List.{filter};
 ghost use Rattle.std.specs.Option.{option_copied};
 ghost use Rattle.qs_terms.specs.Dataset.{is_graph_below};
-ghost use Rattle.qs_terms.specs.Outcome.{OrOutOfMemory};
+ghost use Rattle.qs_terms.specs.inner.Outcome.{OrOutOfMemory};
 ghost use Rattle.qs_terms.specs.Statement.{is_graph, same_graph};
 ghost use Rattle.qs_store.specs.Change.{IsChanged};
 ghost use Rattle.qs_store.specs.declared.fault.StoreFault.TheVariants.{Memory};
@@ -27,10 +27,14 @@ use std::alloc::Global;
 fn empty(target: &GraphTarget, draft: &mut Draft<'_>) -> Result<(), StoreFault>
     ensures same_reference { draft.new.store.ghost_name ≡ draft.old.store.ghost_name }
     ensures base { draft.new.store.now.base ≡ draft.old.store.now.base }
-    ensures quads { OnOk result (IsChanged draft.old.store.now.draft.quads (filter (spec.is_target target.now) draft.old.store.now.draft.quads) [] draft.new.store.now.draft.quads) }
+    ensures quads { OnOk result
+        (IsChanged draft.old.store.now.draft.quads
+        (filter (spec.is_target target.now) draft.old.store.now.draft.quads) []
+        draft.new.store.now.draft.quads) }
     ensures next { draft.new.store.now.draft.next ≡ draft.old.store.now.draft.next }
     ensures known { draft.new.store.now.draft.known ≡ draft.old.store.now.draft.known }
-    ensures room { OnOk result (length draft.old.store.now.draft.known ≤ draft.old.store.now.limit) }
+    ensures room { OnOk result (length draft.old.store.now.draft.known
+        ≤ draft.old.store.now.limit) }
     ensures memory { IfErr result (λ fault. fault ≡ Memory) }
     ensures limit { draft.new.store.now.limit ≡ draft.old.store.now.limit }
     ensures default_graph { draft.new.store.now.default_graph ≡ draft.old.store.now.default_graph }
@@ -52,7 +56,9 @@ pub fn clear(target: &GraphTarget, draft: &mut Draft<'_>) -> Result<(), QFault>
     ensures base { draft.new.store.now.base ≡ draft.old.store.now.base }
     ensures limit { draft.new.store.now.limit ≡ draft.old.store.now.limit }
     ensures default_graph { draft.new.store.now.default_graph ≡ draft.old.store.now.default_graph }
-    ensures outcome { BecomesOne (IsCarriedOut draft.old.store.now.limit draft.old.store.now.draft (Ok (effect.cleared target.now draft.old.store.now.draft.quads draft.old.store.now.draft.next))) result draft.new.store.now.draft }
+    ensures outcome { BecomesOne (IsCarriedOut draft.old.store.now.limit draft.old.store.now.draft
+        (Ok (effect.cleared target.now draft.old.store.now.draft.quads
+        draft.old.store.now.draft.next))) result draft.new.store.now.draft }
 {
     match empty(target, draft) {
         Ok(()) => Ok(()),
@@ -66,7 +72,9 @@ fn created(
     name: &Iri,
     draft: &Draft<'_>,
 ) -> Result<Effect, QFault>
-    ensures effect { OrOutOfMemory (effect.created on_exists name.now draft.now.store.now.draft.quads draft.now.store.now.draft.next) result }
+    ensures effect { OrOutOfMemory
+        (effect.created on_exists name.now draft.now.store.now.draft.quads
+        draft.now.store.now.draft.next) result }
     ensures lawful { IfOk result (IsLawful draft.now.store.now.draft.next) }
 {
     let next = draft.next_blank();
@@ -88,7 +96,9 @@ pub fn create(
     ensures base { draft.new.store.now.base ≡ draft.old.store.now.base }
     ensures limit { draft.new.store.now.limit ≡ draft.old.store.now.limit }
     ensures default_graph { draft.new.store.now.default_graph ≡ draft.old.store.now.default_graph }
-    ensures outcome { BecomesOne (IsCarriedOut draft.old.store.now.limit draft.old.store.now.draft (effect.created on_exists name.now draft.old.store.now.draft.quads draft.old.store.now.draft.next)) result draft.new.store.now.draft }
+    ensures outcome { BecomesOne (IsCarriedOut draft.old.store.now.limit draft.old.store.now.draft
+        (effect.created on_exists name.now draft.old.store.now.draft.quads
+        draft.old.store.now.draft.next)) result draft.new.store.now.draft }
 {
     let effect = created(alloc, on_exists, name, draft)?;
     apply_operation(draft, &effect)
@@ -116,7 +126,12 @@ fn put_over(
     ensures base { draft.new.store.now.base ≡ draft.old.store.now.base }
     ensures limit { draft.new.store.now.limit ≡ draft.old.store.now.limit }
     ensures default_graph { draft.new.store.now.default_graph ≡ draft.old.store.now.default_graph }
-    ensures outcome { BecomesOne (IsCarriedOut draft.old.store.now.limit draft.old.store.now.draft (Ok (effect.put_over (effect.removed_by removal (option_copied from.entry) (option_copied to.entry) draft.old.store.now.draft.quads) (option_copied from.entry) (option_copied to.entry) draft.old.store.now.draft.quads draft.old.store.now.draft.next))) result draft.new.store.now.draft }
+    ensures outcome { BecomesOne (IsCarriedOut draft.old.store.now.limit draft.old.store.now.draft
+        (Ok
+        (effect.put_over (effect.removed_by removal (option_copied from.entry)
+        (option_copied to.entry) draft.old.store.now.draft.quads) (option_copied from.entry)
+        (option_copied to.entry) draft.old.store.now.draft.quads
+        draft.old.store.now.draft.next))) result draft.new.store.now.draft }
 {
     match draft.transfer(removal, from, to) {
         Ok(()) => Ok(()),
@@ -137,7 +152,12 @@ fn put_over_other(
     ensures base { draft.new.store.now.base ≡ draft.old.store.now.base }
     ensures limit { draft.new.store.now.limit ≡ draft.old.store.now.limit }
     ensures default_graph { draft.new.store.now.default_graph ≡ draft.old.store.now.default_graph }
-    ensures outcome { BecomesOne (IsCarriedOut draft.old.store.now.limit draft.old.store.now.draft (Ok (effect.put_over (effect.removed_by removal (option_copied from.entry) (option_copied to.entry) draft.old.store.now.draft.quads) (option_copied from.entry) (option_copied to.entry) draft.old.store.now.draft.quads draft.old.store.now.draft.next))) result draft.new.store.now.draft }
+    ensures outcome { BecomesOne (IsCarriedOut draft.old.store.now.limit draft.old.store.now.draft
+        (Ok
+        (effect.put_over (effect.removed_by removal (option_copied from.entry)
+        (option_copied to.entry) draft.old.store.now.draft.quads) (option_copied from.entry)
+        (option_copied to.entry) draft.old.store.now.draft.quads
+        draft.old.store.now.draft.next))) result draft.new.store.now.draft }
 {
     if is_same(from, to) {
         let effect = nothing(alloc, draft.next_blank());
@@ -157,7 +177,9 @@ pub fn transfer(
     ensures base { draft.new.store.now.base ≡ draft.old.store.now.base }
     ensures limit { draft.new.store.now.limit ≡ draft.old.store.now.limit }
     ensures default_graph { draft.new.store.now.default_graph ≡ draft.old.store.now.default_graph }
-    ensures outcome { BecomesOne (IsCarriedOut draft.old.store.now.limit draft.old.store.now.draft (effect.transferred removal transfer.now draft.old.store.now.draft.quads draft.old.store.now.draft.next)) result draft.new.store.now.draft }
+    ensures outcome { BecomesOne (IsCarriedOut draft.old.store.now.limit draft.old.store.now.draft
+        (effect.transferred removal transfer.now draft.old.store.now.draft.quads
+        draft.old.store.now.draft.next)) result draft.new.store.now.draft }
 {
     let from = graph_name(&transfer.from)?;
     let to = graph_name(&transfer.to)?;

@@ -10,7 +10,7 @@ use Rattle.qs_algebra_solutions.specs.Solution.{Solution}
 use Rattle.qs_query_template.specs.Instances.{quad_of, instance, instances, instances_under, slot_term, graph_term}
 use Rattle.qs_query_template.specs.declared.template.QuadTemplate.{QuadTemplate}
 use Rattle.qs_query_template.specs.declared.template.Template.{Template}
-use Rattle.qs_store.specs.Content.{AreLawful}
+use Rattle.qs_store.specs.inner.Content.{AreLawful}
 use Rattle.qs_store.specs.inner.Entries.{entry_of, AreEntries}
 use Rattle.qs_store.specs.inner.Store.{IsFront}
 use Rattle.qs_store.proofs.Changed.{found_for}

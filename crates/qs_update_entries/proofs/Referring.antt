@@ -5,7 +5,7 @@ use Rattle.std.specs.Option.{is_some, option_map}
 use Rattle.std.proofs.lemmas.Bool.{false≢true}
 use Rattle.std.proofs.lemmas.Option.{slice_get_within}
 use Rattle.qs_terms.specs.declared.term.Term.{Term}
-use Rattle.qs_dict.specs.Dict.{term_at}
+use Rattle.qs_dict.specs.inner.Dict.{term_at}
 use Rattle.qs_store.specs.inner.Entries.{or_blank}
 use Rattle.qs_store.specs.declared.reference.QuadRef.{QuadRef}
 use Rattle.qs_store.specs.declared.reference.TermRef.{TermRef}

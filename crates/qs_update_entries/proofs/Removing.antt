@@ -14,10 +14,10 @@ use Rattle.qs_query_template.specs.declared.template.QuadTemplate.{QuadTemplate}
 use Rattle.qs_query_template.specs.declared.template.Slot.{Slot}
 use Rattle.qs_query_template.specs.declared.template.Slot.TheVariants as slot
 use Rattle.qs_query_template.specs.declared.template.Template.{Template}
-use Rattle.qs_dict.specs.Dict.{number_of}
+use Rattle.qs_dict.specs.inner.Dict.{number_of}
 use Rattle.qs_dict.proofs.Numbers.{exact_number}
 use Rattle.qs_store.specs.Change.{IsChanged}
-use Rattle.qs_store.specs.Content.{HasKnownTerms}
+use Rattle.qs_store.specs.inner.Content.{HasKnownTerms}
 use Rattle.qs_store.specs.inner.Entries.{entry_of, graph_number, said}
 use Rattle.qs_store.specs.inner.Store.{IsFront}
 use Rattle.qs_store.proofs.Changed.{found_for, found_has}

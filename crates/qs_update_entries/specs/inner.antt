@@ -1,4 +1,4 @@
--- What serves proofs and layers alone: no promise of the product is read by it.
+-- For proofs and the layers between: no clause of the headline cites a definition of these files.
 pub mod Refers
 pub mod Say
 pub mod Removed

@@ -6,7 +6,8 @@ ghost use Rattle.qs_terms.specs.Statement.{Statement};
 ghost use Rattle.qs_terms.specs.declared.term.Term.{Term as TermValue};
 ghost use Rattle.qs_expr.specs.inner.Cell.{row_solution, FitsRow};
 ghost use Rattle.qs_query_template.specs.Instances.{instances, instances_under, next_after};
-ghost use Rattle.qs_store.specs.Change.{with_terms_of, IsFullAt};
+ghost use Rattle.qs_store.specs.Change.{with_terms_of};
+ghost use Rattle.qs_store.specs.inner.Change.{IsFullAt};
 ghost use Rattle.qs_store.specs.declared.fault.StoreFault.TheVariants.{Memory};
 ghost use Rattle.qs_store.specs.inner.References.{referred_quad, IsReferredQuad};
 ghost use Rattle.qs_store.specs.inner.Store.{IsFront};
@@ -39,9 +40,18 @@ fn put_added(
     requires { IsReferredQuad draft.old.store.now.draft.known quad }
     ensures same_reference { draft.new.store.ghost_name ≡ draft.old.store.ghost_name }
     ensures learns { Learns draft.old.store.now draft.new.store.now }
-    ensures front { OnOk result (IsFront draft.old.store.now.draft.known draft.new.store.now.draft.known) }
-    ensures say { OnOk result ((first : List TermValue) (quads : List Statement) → Say first draft.old.store.now.draft.known entries.old.items quads → Say first draft.new.store.now.draft.known entries.new.items (quads ++ if_lawful (referred_quad draft.old.store.now.draft.known quad.entry))) }
-    ensures full { IfErr result (λ fault. (first : List TermValue) (quads : List Statement) → Say first draft.old.store.now.draft.known entries.old.items quads → IsFullAt fault draft.old.store.now.limit (length (with_terms_of first (quads ++ if_lawful (referred_quad draft.old.store.now.draft.known quad.entry))))) }
+    ensures front { OnOk result
+        (IsFront draft.old.store.now.draft.known draft.new.store.now.draft.known) }
+    ensures say { OnOk result ((first : List TermValue) (quads : List Statement)
+        → Say first draft.old.store.now.draft.known entries.old.items quads
+        → Say first draft.new.store.now.draft.known entries.new.items
+        (quads ++ if_lawful (referred_quad draft.old.store.now.draft.known quad.entry))) }
+    ensures full { IfErr result (λ fault. (first : List TermValue) (quads : List Statement)
+        → Say first draft.old.store.now.draft.known entries.old.items quads
+        → IsFullAt fault draft.old.store.now.limit
+        (length
+        (with_terms_of first
+        (quads ++ if_lawful (referred_quad draft.old.store.now.draft.known quad.entry))))) }
 {
     if !draft.fits(quad) {
         return Ok(());
@@ -77,9 +87,20 @@ fn put_added_under(
     requires fits { FitsRow draft.old.store.now.draft.known scratch.now row.now }
     ensures same_reference { draft.new.store.ghost_name ≡ draft.old.store.ghost_name }
     ensures learns { Learns draft.old.store.now draft.new.store.now }
-    ensures front { OnOk result (IsFront draft.old.store.now.draft.known draft.new.store.now.draft.known) }
-    ensures say { OnOk result ((known : List TermValue) (quads : List Statement) → Say known draft.old.store.now.draft.known entries.old.items quads → Say known draft.new.store.now.draft.known entries.new.items (quads ++ instances_under template.now first (row_solution draft.old.store.now.draft.known scratch.now row.now))) }
-    ensures full { IfErr result (λ fault. (known : List TermValue) (quads : List Statement) → Say known draft.old.store.now.draft.known entries.old.items quads → IsFullAt fault draft.old.store.now.limit (length (with_terms_of known (quads ++ instances_under template.now first (row_solution draft.old.store.now.draft.known scratch.now row.now))))) }
+    ensures front { OnOk result
+        (IsFront draft.old.store.now.draft.known draft.new.store.now.draft.known) }
+    ensures say { OnOk result ((known : List TermValue) (quads : List Statement)
+        → Say known draft.old.store.now.draft.known entries.old.items quads
+        → Say known draft.new.store.now.draft.known entries.new.items
+        (quads ++ instances_under template.now first
+        (row_solution draft.old.store.now.draft.known scratch.now row.now))) }
+    ensures full { IfErr result (λ fault. (known : List TermValue) (quads : List Statement)
+        → Say known draft.old.store.now.draft.known entries.old.items quads
+        → IsFullAt fault draft.old.store.now.limit
+        (length
+        (with_terms_of known
+        (quads ++ instances_under template.now first
+        (row_solution draft.old.store.now.draft.known scratch.now row.now))))) }
 {
     put_blanks(blanks, template.blanks, first)?;
     for quad in template.quads.as_slice() {
@@ -105,9 +126,18 @@ pub(crate) fn all_added(
     requires next { next_after template.now next (length rows.now) < 2 ^ 64 }
     ensures same_reference { draft.new.store.ghost_name ≡ draft.old.store.ghost_name }
     ensures learns { Learns draft.old.store.now draft.new.store.now }
-    ensures front { OnOk result (IsFront draft.old.store.now.draft.known draft.new.store.now.draft.known) }
-    ensures say { IfOk result (λ entries. Say draft.old.store.now.draft.known draft.new.store.now.draft.known entries.items (instances template.now next (map (row_solution draft.old.store.now.draft.known scratch.now) rows.now))) }
-    ensures full { IfErr result (λ fault. IsFullAt fault draft.old.store.now.limit (length (with_terms_of draft.old.store.now.draft.known (instances template.now next (map (row_solution draft.old.store.now.draft.known scratch.now) rows.now))))) }
+    ensures front { OnOk result
+        (IsFront draft.old.store.now.draft.known draft.new.store.now.draft.known) }
+    ensures say { IfOk result
+        (λ entries. Say draft.old.store.now.draft.known draft.new.store.now.draft.known
+        entries.items
+        (instances template.now next
+        (map (row_solution draft.old.store.now.draft.known scratch.now) rows.now))) }
+    ensures full { IfErr result (λ fault. IsFullAt fault draft.old.store.now.limit
+        (length
+        (with_terms_of draft.old.store.now.draft.known
+        (instances template.now next
+        (map (row_solution draft.old.store.now.draft.known scratch.now) rows.now))))) }
 {
     let mut entries = Vec::new(alloc);
     let mut blanks = Vec::new(alloc);

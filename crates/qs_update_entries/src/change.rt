@@ -5,7 +5,8 @@ ghost use Rattle.std.specs.List.{All};
 ghost use Rattle.qs_terms.specs.Dataset.{is_above_blanks};
 ghost use Rattle.qs_expr.specs.inner.Cell.{row_solution, FitsRow};
 ghost use Rattle.qs_query_template.specs.Instances.{instances, next_after};
-ghost use Rattle.qs_store.specs.Change.{with_terms_of, IsChanged, IsFullExactly};
+ghost use Rattle.qs_store.specs.Change.{with_terms_of, IsChanged};
+ghost use Rattle.qs_store.specs.inner.Change.{IsFullExactly};
 
 use crate::added::all_added;
 use crate::removed::all_removed;
@@ -32,15 +33,32 @@ pub fn change_under(
 ) -> Result<(), StoreFault>
     requires blanks { delete.now.blanks ≡ 0 }
     requires fits { All (FitsRow draft.old.store.now.draft.known scratch.now) rows.now }
-    requires after { after ≡ next_after insert.now draft.old.store.now.draft.next (length rows.now) }
-    requires above { IsTrue (is_above_blanks after (instances insert.now draft.old.store.now.draft.next (map (row_solution draft.old.store.now.draft.known scratch.now) rows.now))) }
+    requires after { after ≡ next_after insert.now draft.old.store.now.draft.next
+        (length rows.now) }
+    requires above { IsTrue
+        (is_above_blanks after (instances insert.now draft.old.store.now.draft.next
+        (map (row_solution draft.old.store.now.draft.known scratch.now) rows.now))) }
     ensures same_reference { draft.new.store.ghost_name ≡ draft.old.store.ghost_name }
     ensures base { draft.new.store.now.base ≡ draft.old.store.now.base }
-    ensures quads { OnOk result (let under = map (row_solution draft.old.store.now.draft.known scratch.now) rows.now in IsChanged draft.old.store.now.draft.quads (instances delete.now draft.old.store.now.draft.next under) (instances insert.now draft.old.store.now.draft.next under) draft.new.store.now.draft.quads) }
+    ensures quads { OnOk result
+        (let under = map (row_solution draft.old.store.now.draft.known scratch.now) rows.now
+        in IsChanged draft.old.store.now.draft.quads
+        (instances delete.now draft.old.store.now.draft.next under)
+        (instances insert.now draft.old.store.now.draft.next under)
+        draft.new.store.now.draft.quads) }
     ensures next { OnOk result (draft.new.store.now.draft.next ≡ after) }
-    ensures in_turn { OnOk result (draft.new.store.now.draft.known ≡ with_terms_of draft.old.store.now.draft.known (instances insert.now draft.old.store.now.draft.next (map (row_solution draft.old.store.now.draft.known scratch.now) rows.now))) }
-    ensures full { IsFullExactly draft.old.store.now.limit (length (with_terms_of draft.old.store.now.draft.known (instances insert.now draft.old.store.now.draft.next (map (row_solution draft.old.store.now.draft.known scratch.now) rows.now)))) result }
-    ensures refused { OnErr result (draft.new.store.now.draft.quads ≡ draft.old.store.now.draft.quads) }
+    ensures in_turn { OnOk result
+        (draft.new.store.now.draft.known ≡ with_terms_of draft.old.store.now.draft.known
+        (instances insert.now draft.old.store.now.draft.next
+        (map (row_solution draft.old.store.now.draft.known scratch.now) rows.now))) }
+    ensures full { IsFullExactly draft.old.store.now.limit
+        (length
+        (with_terms_of draft.old.store.now.draft.known
+        (instances insert.now draft.old.store.now.draft.next
+        (map (row_solution draft.old.store.now.draft.known scratch.now) rows.now))))
+        result }
+    ensures refused { OnErr result
+        (draft.new.store.now.draft.quads ≡ draft.old.store.now.draft.quads) }
     ensures limit { draft.new.store.now.limit ≡ draft.old.store.now.limit }
     ensures default_graph { draft.new.store.now.default_graph ≡ draft.old.store.now.default_graph }
 {

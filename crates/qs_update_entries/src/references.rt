@@ -13,7 +13,8 @@ use qs_terms::Term;
 
 /// The term of a cell.
 fn cell_ref<'a>(scratch: &'a Scratch, cell: Cell) -> Option<TermRef<'a>>
-    ensures { (known : List TermValue) → FitsCell known scratch.now cell → Refers known (denoted known scratch.now cell) result }
+    ensures { (known : List TermValue) → FitsCell known scratch.now cell
+        → Refers known (denoted known scratch.now cell) result }
 {
     match cell {
         Cell::Known(number) => Some(TermRef::Known(number)),
@@ -31,7 +32,10 @@ fn slot_ref<'a>(
     row: &Row,
     slot: &'a Slot,
 ) -> Option<TermRef<'a>>
-    ensures { (known : List TermValue) (count first : ℕ) → AreFresh count first blanks.now → FitsRow known scratch.now row.now → Refers known (slot_term count first (row_solution known scratch.now row.now) slot.now) result }
+    ensures { (known : List TermValue) (count first : ℕ) → AreFresh count first blanks.now
+        → FitsRow known scratch.now row.now
+        → Refers known (slot_term count first (row_solution known scratch.now row.now) slot.now)
+        result }
 {
     match slot {
         Slot::Variable(number) => match row.cell(*number) {
@@ -53,7 +57,10 @@ fn graph_ref<'a>(
     row: &Row,
     graph: &'a Option<Slot>,
 ) -> Option<Option<TermRef<'a>>>
-    ensures { (known : List TermValue) (count first : ℕ) → AreFresh count first blanks.now → FitsRow known scratch.now row.now → RefersToGraph known (graph_term count first (row_solution known scratch.now row.now) graph.now) result }
+    ensures { (known : List TermValue) (count first : ℕ) → AreFresh count first blanks.now
+        → FitsRow known scratch.now row.now
+        → RefersToGraph known (graph_term count first (row_solution known scratch.now row.now)
+        graph.now) result }
 {
     match graph {
         None => Some(None),
@@ -71,7 +78,10 @@ pub(crate) fn quad_ref<'a>(
     row: &Row,
     quad: &'a QuadTemplate,
 ) -> Option<QuadRef<'a>>
-    ensures { (known : List TermValue) (count first : ℕ) → AreFresh count first blanks.now → FitsRow known scratch.now row.now → RefersToQuad known (instance count first (row_solution known scratch.now row.now) quad.now) result }
+    ensures { (known : List TermValue) (count first : ℕ) → AreFresh count first blanks.now
+        → FitsRow known scratch.now row.now
+        → RefersToQuad known (instance count first (row_solution known scratch.now row.now)
+        quad.now) result }
 {
     let graph = graph_ref(blanks, scratch, row, &quad.graph)?;
     let subject = slot_ref(blanks, scratch, row, &quad.subject)?;

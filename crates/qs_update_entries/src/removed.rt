@@ -22,7 +22,9 @@ fn put_removed(
     entries: &mut Vec<[u32; 4]>,
 ) -> Result<(), AllocError>
     requires { IsReferredQuad draft.now.store.now.draft.known quad }
-    ensures { OnOk result (entries.new.items ≡ entries.old.items ++ filter_map (entry_of draft.now.store.now.draft.known) (if_lawful (referred_quad draft.now.store.now.draft.known quad.entry))) }
+    ensures { OnOk result (entries.new.items ≡ entries.old.items ++ filter_map
+        (entry_of draft.now.store.now.draft.known)
+        (if_lawful (referred_quad draft.now.store.now.draft.known quad.entry))) }
 {
     if !draft.fits(quad) {
         return Ok(());
@@ -45,7 +47,10 @@ fn put_removed_of(
     entries: &mut Vec<[u32; 4]>,
 ) -> Result<(), AllocError>
     requires { FitsRow draft.now.store.now.draft.known scratch.now row.now }
-    ensures { OnOk result (entries.new.items ≡ entries.old.items ++ filter_map (entry_of draft.now.store.now.draft.known) (instance 0 0 (row_solution draft.now.store.now.draft.known scratch.now row.now) quad.now)) }
+    ensures { OnOk result (entries.new.items ≡ entries.old.items ++ filter_map
+        (entry_of draft.now.store.now.draft.known)
+        (instance 0 0 (row_solution draft.now.store.now.draft.known scratch.now row.now)
+        quad.now)) }
 {
     match quad_ref(&[], scratch, row, quad) {
         None => Ok(()),
@@ -62,7 +67,9 @@ fn put_removed_under(
     entries: &mut Vec<[u32; 4]>,
 ) -> Result<(), AllocError>
     requires { FitsRow draft.now.store.now.draft.known scratch.now row.now }
-    ensures { OnOk result (entries.new.items ≡ entries.old.items ++ entries_under draft.now.store.now.draft.known template.now (row_solution draft.now.store.now.draft.known scratch.now row.now)) }
+    ensures { OnOk result
+        (entries.new.items ≡ entries.old.items ++ entries_under draft.now.store.now.draft.known
+        template.now (row_solution draft.now.store.now.draft.known scratch.now row.now)) }
 {
     for quad in template.quads.as_slice() {
         put_removed_of(draft, scratch, row, quad, entries)?;
@@ -79,7 +86,10 @@ pub(crate) fn all_removed(
     rows: &[Row],
 ) -> Result<Vec<[u32; 4]>, AllocError>
     requires { All (FitsRow draft.now.store.now.draft.known scratch.now) rows.now }
-    ensures { IfOk result (λ entries. entries.items ≡ flat_map (entries_under draft.now.store.now.draft.known template.now) (map (row_solution draft.now.store.now.draft.known scratch.now) rows.now)) }
+    ensures { IfOk result
+        (λ entries. entries.items ≡ flat_map
+        (entries_under draft.now.store.now.draft.known template.now)
+        (map (row_solution draft.now.store.now.draft.known scratch.now) rows.now)) }
 {
     let mut entries = Vec::new(alloc);
     for row in rows {

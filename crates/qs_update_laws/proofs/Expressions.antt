@@ -6,7 +6,8 @@ use Rattle.qs_terms.specs.declared.term.Term.TheVariants as term
 use Rattle.qs_expr_values.specs.Values.{worth, boolean_term, integer_term, strung}
 use Rattle.qs_algebra_solutions.specs.Solution.{Solution}
 use Rattle.qs_expr_meaning.specs.Calls.{Value, unary, binary, length_of, string_of, of_texts, text_of_worth, both_forms, strings, forms, common_tag, joined}
-use Rattle.qs_expr_meaning.specs.Meaning.{truth, boolean_value, of_both, integer_value, SignedValue, choice, first_value, level, addend_level as addend_value_level, meaning, addend_meaning}
+use Rattle.qs_expr_meaning.specs.Meaning.{truth, boolean_value, of_both, integer_value, SignedValue, choice, first_value, level, addend_level as addend_value_level, meaning}
+use Rattle.qs_expr_meaning.specs.inner.Meaning.{addend_meaning}
 use Rattle.qs_expr_meaning.specs.declared.operator.UnaryFunction.{UnaryFunction}
 use Rattle.qs_expr_meaning.specs.declared.operator.UnaryFunction.TheVariants.{IsIri, IsBlank, IsLiteral, IsNumeric, Str, Lang, Datatype, StrLen}
 use Rattle.qs_expr_meaning.specs.declared.operator.BinaryFunction.{BinaryFunction}

@@ -15,7 +15,8 @@ use Rattle.qs_algebra_patterns.specs.declared.pattern.Step.{Step, map-Step, roll
 use Rattle.qs_algebra_patterns.specs.declared.pattern.PatternNode.{PatternNode, map-PatternNode, roll-PatternNode, fold-roll-PatternNode, ind-PatternNode}
 use Rattle.qs_algebra_patterns.specs.declared.pattern.PatternNode.TheOpen.{PatternNode-F, Step-F, Basic, Group, Union, Graph, EachGraph, Values, Join, LeftJoin, Minus, Extend}
 use Rattle.qs_algebra_patterns.specs.Basic.{Graph as Triples}
-use Rattle.qs_algebra_patterns.specs.Eval.{Found, Stepped, eval, step, eval_level, step_level as stepped_level, all_hold, all_steps, bound_to, extended, in_each, rows_of}
+use Rattle.qs_algebra_patterns.specs.Eval.{Found, Stepped, eval, eval_level, step_level as stepped_level, all_hold, all_steps, bound_to, extended, in_each, rows_of}
+use Rattle.qs_algebra_patterns.specs.inner.Eval.{step}
 use Rattle.qs_update_laws.specs.inner.Below.{is_solution_below, is_triple_below, are_triples_below, have_iri_predicates}
 use Rattle.qs_update_laws.specs.inner.NoBlank.{is_no_blank, all, all_have_no_blank, row_has_no_blank, table_has_no_blank, pattern_level, step_level, has_no_blank, step_has_no_blank}
 use Rattle.qs_update_laws.proofs.Lists.{both_hold, each_append, each_filter, each_once, each_where, each_map, each_flat_map, each_passes, all_pass}

@@ -29,7 +29,8 @@ use Rattle.qs_algebra_patterns.specs.declared.pattern.PatternNode.TheVariants.{r
 use Rattle.qs_algebra.specs.Numbers.{hidden_of}
 use Rattle.qs_algebra.specs.Basic.{term_slot, verb_slot, path_of, triple_between, path_between, triple_pattern, path_pattern, basic_of, basic_pattern}
 use Rattle.qs_algebra.specs.Expressions.{expr_of}
-use Rattle.qs_algebra.specs.Translation.{one_or_union, in_graph, number_of, table_of, alone, unfiltered, filtered, closed, step_level as translated_level, group_level as translated_group, group_parts, step_of, translated_where, in_block, block_step, translated_blocks}
+use Rattle.qs_algebra.specs.Translation.{one_or_union, in_graph, number_of, table_of, alone, unfiltered, filtered, closed, step_level as translated_level, group_level as translated_group, group_parts, translated_where, in_block, block_step, translated_blocks}
+use Rattle.qs_algebra.specs.inner.Translation.{step_of}
 use Rattle.qs_algebra.specs.declared.hidden.Hidden.{Hidden}
 use Rattle.qs_algebra.specs.declared.parts.GroupParts.{GroupParts}
 use Rattle.qs_update_laws.specs.inner.NoBlank.{all, expr_has_no_blank, all_have_no_blank, slot_has_no_blank, triple_has_no_blank, path_has_no_blank, basic_has_no_blank, pattern_level, step_level, has_no_blank, step_has_no_blank}

@@ -10,7 +10,8 @@ use Rattle.qs_syntax_ast.specs.declared.expression.Addend.{Addend as WrittenAdde
 use Rattle.qs_syntax_ast.specs.declared.expression.Expression.TheOpen.{Expression-F, Addend-F}
 use Rattle.qs_syntax_scope.specs.Names.{Name}
 use Rattle.qs_syntax_scope.specs.Places.{place_of}
-use Rattle.qs_algebra.specs.Expressions.{comparison, sign, unary_function, binary_function, product, expr_level as translated_level, addend_level as translated_addend, expr_of, addend_of}
+use Rattle.qs_algebra.specs.Expressions.{comparison, sign, unary_function, binary_function, product, expr_level as translated_level, addend_level as translated_addend, expr_of}
+use Rattle.qs_algebra.specs.inner.Expressions.{addend_of}
 use Rattle.qs_update_laws.specs.inner.NoBlank.{all, expr_level, addend_level, expr_has_no_blank, addend_has_no_blank}
 use Rattle.qs_update_laws.proofs.Lists.{and_both}
 

@@ -33,31 +33,53 @@ use qs_query_template::laws::{blanks_are_fresh, templates_name_no_blanks};
 /// graph have numbers below one, so do those of the solutions. The predicates of quads are IRIs, so that a variable in their place is
 /// bound to no blank node. Of the quads, each graph is such a graph.
 pub fn solutions_bind_no_other_blanks()
-    ensures any { (next width : ℕ) (quads : List Statement) (pattern : PatternNode) (graph : Graph) → IsTrue (has_no_blank pattern) → IsTrue (is_above_blanks next quads) → IsTrue (have_iri_predicates quads) → IsTrue (are_triples_below next graph) → All (λ (m : Solution). is_solution_below next m ≡ true) (eval width quads pattern graph) }
-    ensures one { (next width : ℕ) (quads : List Statement) (pattern : PatternNode) (name : Option Term) → IsTrue (has_no_blank pattern) → IsTrue (is_above_blanks next quads) → IsTrue (have_iri_predicates quads) → All (λ (m : Solution). is_solution_below next m ≡ true) (eval width quads pattern (graph_of quads name)) }
+    ensures any { (next width : ℕ) (quads : List Statement) (pattern : PatternNode) (graph : Graph)
+        → IsTrue (has_no_blank pattern) → IsTrue (is_above_blanks next quads)
+        → IsTrue (have_iri_predicates quads) → IsTrue (are_triples_below next graph)
+        → All (λ (m : Solution). is_solution_below next m ≡ true) (eval width quads pattern graph) }
+    ensures one { (next width : ℕ) (quads : List Statement) (pattern : PatternNode)
+        (name : Option Term) → IsTrue (has_no_blank pattern) → IsTrue (is_above_blanks next quads)
+        → IsTrue (have_iri_predicates quads)
+        → All (λ (m : Solution). is_solution_below next m ≡ true)
+        (eval width quads pattern (graph_of quads name)) }
 {}
 
 /// The pattern of a text's WHERE names no blank node, where no row of a VALUES in it has one.
 pub fn texts_name_no_blanks()
-    ensures { (variables : List Variable) (group : Group) → IsTrue (values_have_no_blank group) → IsTrue (has_no_blank (translated_where variables group).root) }
+    ensures { (variables : List Variable) (group : Group) → IsTrue (values_have_no_blank group)
+        → IsTrue (has_no_blank (translated_where variables group).root) }
 {}
 
 /// The pattern of a text's DELETE WHERE names no blank node.
 pub fn blocks_name_no_blanks()
-    ensures { (variables : List Variable) (blocks : List QuadBlock) → IsTrue (has_no_blank (translated_blocks variables blocks).root) }
+    ensures { (variables : List Variable) (blocks : List QuadBlock)
+        → IsTrue (has_no_blank (translated_blocks variables blocks).root) }
 {}
 
 /// No row of a VALUES in the update of a text has a blank node: none can be written there (SPARQL 1.1 Query, 19.8, DataBlockValue).
 pub fn updates_write_no_blank_rows()
-    ensures { (text : List ℕ) (update : Update) → IsUpdateOutcome text (Ok update) → IsTrue (update_values_have_no_blank update) }
+    ensures { (text : List ℕ) (update : Update) → IsUpdateOutcome text (Ok update)
+        → IsTrue (update_values_have_no_blank update) }
 {}
 
 /// The quads that a template makes of solutions, where no term of the template itself is a blank node, as in templates of a text: if the
 /// blank nodes of the solutions have numbers below the next one, those of the quads have numbers below the one after all fresh ones.
 pub fn instances_are_below()
-    ensures any { (template : Template) (next : ℕ) (rows : List Solution) → ((n : ℕ) → names_blank n template ≡ false) → All (λ (m : Solution). is_solution_below next m ≡ true) rows → IsTrue (is_above_blanks (next_after template next (length rows)) (instances template next rows)) }
-    ensures of_text { (names : List Name) (blocks : List QuadBlock) (next : ℕ) (rows : List Solution) → All (λ (m : Solution). is_solution_below next m ≡ true) rows → IsTrue (is_above_blanks (next_after (template_of_blocks names blocks) next (length rows)) (instances (template_of_blocks names blocks) next rows)) }
-    ensures of_text_with { (graph : Option (List ℕ)) (names : List Name) (blocks : List QuadBlock) (next : ℕ) (rows : List Solution) → let template = template_in graph (template_of_blocks names blocks) in All (λ (m : Solution). is_solution_below next m ≡ true) rows → IsTrue (is_above_blanks (next_after template next (length rows)) (instances template next rows)) }
+    ensures any { (template : Template) (next : ℕ) (rows : List Solution)
+        → ((n : ℕ) → names_blank n template ≡ false)
+        → All (λ (m : Solution). is_solution_below next m ≡ true) rows
+        → IsTrue (is_above_blanks (next_after template next (length rows))
+        (instances template next rows)) }
+    ensures of_text { (names : List Name) (blocks : List QuadBlock) (next : ℕ)
+        (rows : List Solution) → All (λ (m : Solution). is_solution_below next m ≡ true) rows
+        → IsTrue (is_above_blanks (next_after (template_of_blocks names blocks) next (length rows))
+        (instances (template_of_blocks names blocks) next rows)) }
+    ensures of_text_with { (graph : Option (List ℕ)) (names : List Name) (blocks : List QuadBlock)
+        (next : ℕ) (rows : List Solution) → let template =
+        template_in graph (template_of_blocks names blocks)
+        in All (λ (m : Solution). is_solution_below next m ≡ true) rows
+        → IsTrue (is_above_blanks (next_after template next (length rows))
+        (instances template next rows)) }
 {
     blanks_are_fresh();
     templates_name_no_blanks();
@@ -65,15 +87,19 @@ pub fn instances_are_below()
 
 /// The predicate of each quad that a template makes is an IRI.
 pub fn instances_have_iri_predicates()
-    ensures { (template : Template) (next : ℕ) (rows : List Solution) → IsTrue (have_iri_predicates (instances template next rows)) }
+    ensures { (template : Template) (next : ℕ) (rows : List Solution)
+        → IsTrue (have_iri_predicates (instances template next rows)) }
 {}
 
 /// Whether a number is above those of all blank nodes of quads, and whether all predicates are IRIs, is told by each quad alone: so both
 /// hold of whichever quads stand among those of which they hold. A number above those of all blank nodes stays so as it grows.
 pub fn quads_are_told_one_by_one()
-    ensures above { (next : ℕ) (quads : List Statement) → IsTrue (is_above_blanks next quads) ↔ ((q : Statement) → Contains quads q → IsTrue (is_statement_below next q)) }
-    ensures predicates { (quads : List Statement) → IsTrue (have_iri_predicates quads) ↔ ((q : Statement) → Contains quads q → IsTrue (is_iri q.predicate)) }
-    ensures later { (quads : List Statement) (next later : ℕ) → next ≤ later → IsTrue (is_above_blanks next quads) → IsTrue (is_above_blanks later quads) }
+    ensures above { (next : ℕ) (quads : List Statement) → IsTrue (is_above_blanks next quads)
+        ↔ ((q : Statement) → Contains quads q → IsTrue (is_statement_below next q)) }
+    ensures predicates { (quads : List Statement) → IsTrue (have_iri_predicates quads)
+        ↔ ((q : Statement) → Contains quads q → IsTrue (is_iri q.predicate)) }
+    ensures later { (quads : List Statement) (next later : ℕ) → next ≤ later
+        → IsTrue (is_above_blanks next quads) → IsTrue (is_above_blanks later quads) }
 {
     blanks_are_fresh();
 }

@@ -13,14 +13,15 @@ use Rattle.qs_service.specs.Carried.{Carries}
 use Rattle.qs_service.specs.Language.{sparql}
 use Rattle.qs_service.specs.State.{State}
 use Rattle.qs_service_connections.specs.Step.{Event}
-use Rattle.qs_service_replay.specs.Replayed.{StopsAt, IsReplayed}
+use Rattle.qs_service_replay.specs.Replayed.{StopsAt}
+use Rattle.qs_service_replay.specs.inner.Replayed.{IsReplayed}
 use Rattle.qs_service_replay.specs.Script.{IsScript, IsOtherLine}
 use Rattle.qs_service_replay.specs.declared.run.ReplayEnd.{ReplayEnd}
 use Rattle.qs_service_replay.specs.declared.run.ReplayEnd.TheVariants.{SinkFailed, OutOfMemory}
 use Rattle.quads.specs.Due.{line, script_line, service_over, IsLoaded, IsDueOfEvents, IsDueOfScript}
 use Rattle.quads.specs.inner.Refusal.{refusal_text}
 use Rattle.quads.specs.inner.Replay.{IsBegunOfEvents, IsScriptDue, IsScriptBegun, IsReplayDue, IsReplayBegun}
-use Rattle.quads.specs.Run.{Prints, Runs}
+use Rattle.quads.specs.inner.Run.{Prints, Runs}
 use Rattle.quads.specs.inner.Service.{IsRefusalOf}
 use Rattle.quads.specs.declared.job.Ran.{Ran}
 use Rattle.quads.specs.declared.refusal.Refusal.{Refusal}

@@ -9,7 +9,8 @@ use Rattle.qs_store.specs.declared.default_graph.DefaultGraph.{DefaultGraph}
 use Rattle.quads.specs.Due.{line, IsDue, IsBegun}
 use Rattle.quads.specs.inner.JobResult.{IsCheckResult, IsQueryResult, IsUpdateResult, IsExplanationResult, IsJobResult, printed, status}
 use Rattle.quads.specs.inner.Replay.{IsReplayDue, IsReplayBegun}
-use Rattle.quads.specs.Run.{Prints, IsRun, Runs}
+use Rattle.quads.specs.Run.{IsRun}
+use Rattle.quads.specs.inner.Run.{Prints, Runs}
 use Rattle.quads.specs.declared.result.JobResult.{JobResult}
 use Rattle.quads.specs.declared.result.JobResult.TheVariants.{Answered, Quads, Explained, DataRefused, Refused}
 use Rattle.quads.specs.declared.job.Job.{Job}

@@ -9,6 +9,7 @@ use Rattle.qs_store.specs.Content.{Content, Held}
 use Rattle.qs_store.specs.Same.{SameSet}
 use Rattle.qs_store.specs.declared.default_graph.DefaultGraph.{DefaultGraph}
 use Rattle.qs_update.specs.Outcome as update
+use Rattle.qs_update.specs.inner.Outcome as inner
 use Rattle.qs_update.specs.Request.{Bounds, bounds_of}
 use Rattle.quads.specs.Due.{max_rows, max_terms, bounds, IsTextOf, IsUpdateOutcome}
 use Rattle.quads.specs.inner.Update.{BecomesUpdated, AreQuadsAfter}
@@ -18,7 +19,7 @@ same_bounds held e =
     subst (λ (n : ℕ). (let b : Bounds = record { terms = n; rows = max_rows; default_graph = held.default_graph } in b ≡ bounds held.default_graph)) (sym e) refl
 
 module _ (held : Held) (limit : held.limit ≡ max_terms) (bytes text : List ℕ) (is : IsTextOf bytes (Ok text)) where
-  accepted : (new : Content) → update.IsAccepted (bounds_of max_rows held) text held.base new → (c : Content) × IsUpdateOutcome held.default_graph bytes held.base (Ok c) × update.IsSameContent new c
+  accepted : (new : Content) → inner.IsAccepted (bounds_of max_rows held) text held.base new → (c : Content) × IsUpdateOutcome held.default_graph bytes held.base (Ok c) × update.IsSameContent new c
   unfolding sparql
   accepted new a = (a.0, (Ok text, is, subst (λ (b : Bounds). update.IsOutcomeOfText b text held.base (Ok a.0)) (same_bounds held limit) a.1), a.2)
 
@@ -31,7 +32,7 @@ no_text choice bytes old new f is = λ _. (Err f, is, refl)
 
 -- what the update of a text becomes is what that of its bytes becomes
 pub becomes : (held : Held) (bytes text : List ℕ) (new : Content) (r : Outcome (Unit {0})) → held.limit ≡ max_terms → IsTextOf bytes (Ok text)
-    → OnOk r (update.IsAccepted (bounds_of max_rows held) text held.base new) → IfErr r (λ f. f ≢ Memory → update.IsOutcomeOfText (bounds_of max_rows held) text held.base (Err f)) → BecomesUpdated held.default_graph bytes held.base r new
+    → OnOk r (inner.IsAccepted (bounds_of max_rows held) text held.base new) → IfErr r (λ f. f ≢ Memory → update.IsOutcomeOfText (bounds_of max_rows held) text held.base (Err f)) → BecomesUpdated held.default_graph bytes held.base r new
 becomes held bytes text new (Ok done) limit is ok err = accepted held limit bytes text is new ok
 becomes held bytes text new (Err f) limit is ok err = λ n. refused held limit bytes text is f (err n)
 

@@ -1,9 +1,10 @@
--- What is due of a job: the bytes that are printed, and the exit status, 1 where the job is refused or out of memory and else 0.
--- The data of a check are printed as N-Quads. Those of the other jobs are put into a new store, with the default graph that the job
--- chooses. Over it a query is answered, and of an update the dataset after it is printed. Of a replay it is the lines of a run of its
--- events, and of an explanation some text. Or the first fault is told, of the data before that of the text or the script. What a job prints
--- is two relations: what is due whole, and what may have been begun. A job that prints as it goes, and whose sink fails, has more of the
--- second.
+-- What is due of a job: the bytes that are printed, and the exit status, 1 where the job is refused
+-- or out of memory and else 0. The data of a check are printed as N-Quads. Those of the other jobs
+-- are put into a new store, with the default graph that the job chooses. Over it a query is
+-- answered, and of an update the dataset after it is printed. Of a replay it is the lines of a run
+-- of its events, and of an explanation some text. Or the first fault is told, of the data before
+-- that of the text or the script. What a job prints is two relations: what is due whole, and what
+-- may have been begun. A job that prints as it goes, and whose sink fails, has more of the second.
 use Rattle.std.specs.Prelude.{◌≡◌, ◌⊎◌, ◌∷◌, ◌++◌, [], ℕ, List, Ok, Err, codes, decimal}
 use Rattle.std.specs.Str.{IsUtf8, IsValidUpTo}
 use Rattle.serde_json.specs.Written.{compact_text}
@@ -60,34 +61,37 @@ empty = record { quads = []; next = 0; known = [] }
 abbrev pub addition : List Statement → ℕ → Effect
 addition quads next = record { removed = []; added = quads; next = next }
 
--- what a new store holds once the quads are put into it that N-Quads are, whose blank nodes are numbered from 0; or the fault that this
--- finds no room for their terms
+-- what a new store holds once the quads are put into it that N-Quads are, whose blank nodes are
+-- numbered from 0; or the fault that this finds no room for their terms
 abbrev pub IsLoaded : List ℕ → Outcome Content → Type 0
-IsLoaded file first = (quads : List Statement) × (next : ℕ) × IsNquads file 0 quads next × IsCarriedOut max_terms empty (Ok (addition quads next)) first
+IsLoaded file first = (quads : List Statement) × (next : ℕ) × IsNquads file 0 quads next
+    × IsCarriedOut max_terms empty (Ok (addition quads next)) first
 
--- what is due over what a store holds, or the fault that was due before
-abbrev pub IsOver : {A : Type 0} → (Content → Outcome A → Type 0) → Outcome Content → Outcome A → Type 0
-IsOver Due (Ok c) outcome = Due c outcome
+-- what is due over what came before, or the fault that was due there
+abbrev pub IsOver : {A B : Type 0} → (B → Outcome A → Type 0) → Outcome B → Outcome A → Type 0
+IsOver Due (Ok before) outcome = Due before outcome
 IsOver Due (Err f) outcome = outcome ≡ Err f
 
 -- what is due over the data, which are put into a new store before
 abbrev pub IsOverData : {A : Type 0} → (Content → Outcome A → Type 0) → List ℕ → Outcome A → Type 0
-IsOverData Due file outcome = (first : Outcome Content) × IsLoaded file first × IsOver Due first outcome
+IsOverData Due file out = (first : Outcome Content) × IsLoaded file first × IsOver Due first out
 
 -- the bytes are a text; where they aren't UTF-8, the fault is at the first bad byte
 abbrev pub IsTextOf : List ℕ → Outcome (List ℕ) → Type 0
 IsTextOf bytes (Ok text) = IsUtf8 bytes × (text ≡ bytes)
-IsTextOf bytes (Err f) = (¬ (IsUtf8 bytes)) × ((place : ℕ) × IsValidUpTo bytes place × (f ≡ fault.Syntax place))
+IsTextOf bytes (Err f) =
+    (¬ (IsUtf8 bytes)) × ((place : ℕ) × IsValidUpTo bytes place × (f ≡ fault.Syntax place))
+
+-- what is due of the text that the bytes of a file are, or the fault that they are none
+abbrev pub IsOfText : {A : Type 0} → (List ℕ → Outcome A → Type 0) → List ℕ → Outcome A → Type 0
+IsOfText Due bytes out = (text : Outcome (List ℕ)) × IsTextOf bytes text × IsOver Due text out
 
 -- ---- what a query results in
 
-abbrev pub IsQueryOfRead : DefaultGraph → Outcome (List ℕ) → Content → Outcome Answer → Type 0
-IsQueryOfRead choice (Ok text) c outcome = sparql.answers text (bounds choice) c outcome
-IsQueryOfRead choice (Err f) c outcome = outcome ≡ Err f
-
 -- what the bytes of a query's file result in over what a store with this default graph holds
 abbrev pub IsQueryOutcome : DefaultGraph → List ℕ → Content → Outcome Answer → Type 0
-IsQueryOutcome choice bytes c outcome = (text : Outcome (List ℕ)) × IsTextOf bytes text × IsQueryOfRead choice text c outcome
+IsQueryOutcome choice bytes c outcome =
+    IsOfText (λ text. sparql.answers text (bounds choice) c) bytes outcome
 
 -- the same over the data
 abbrev pub IsQueryOfData : DefaultGraph → List ℕ → List ℕ → Outcome Answer → Type 0
@@ -95,13 +99,10 @@ IsQueryOfData choice file text outcome = IsOverData (IsQueryOutcome choice text)
 
 -- ---- what an update results in
 
-abbrev pub IsUpdateOfRead : DefaultGraph → Outcome (List ℕ) → Content → Outcome Content → Type 0
-IsUpdateOfRead choice (Ok text) old outcome = sparql.changes text (bounds choice) old outcome
-IsUpdateOfRead choice (Err f) old outcome = outcome ≡ Err f
-
 -- what the bytes of an update's file result in over what a store with this default graph holds
 abbrev pub IsUpdateOutcome : DefaultGraph → List ℕ → Content → Outcome Content → Type 0
-IsUpdateOutcome choice bytes old outcome = (text : Outcome (List ℕ)) × IsTextOf bytes text × IsUpdateOfRead choice text old outcome
+IsUpdateOutcome choice bytes old outcome =
+    IsOfText (λ text. sparql.changes text (bounds choice) old) bytes outcome
 
 -- the same over the data
 abbrev pub IsUpdateOfData : DefaultGraph → List ℕ → List ℕ → Outcome Content → Type 0
@@ -114,13 +115,9 @@ abbrev pub IsExplained : TextKind → List ℕ → Outcome (List ℕ) → Type 0
 IsExplained kind.Query text outcome = IsExplainedQuery text outcome
 IsExplained kind.Update text outcome = IsExplainedUpdate text outcome
 
-abbrev pub IsExplanationOfRead : TextKind → Outcome (List ℕ) → Outcome (List ℕ) → Type 0
-IsExplanationOfRead k (Ok text) outcome = IsExplained k text outcome
-IsExplanationOfRead k (Err f) outcome = outcome ≡ Err f
-
 -- what the bytes of such a file result in, whatever a store holds
 abbrev pub IsExplanationOutcome : TextKind → List ℕ → Content → Outcome (List ℕ) → Type 0
-IsExplanationOutcome k bytes c outcome = (text : Outcome (List ℕ)) × IsTextOf bytes text × IsExplanationOfRead k text outcome
+IsExplanationOutcome k bytes c outcome = IsOfText (IsExplained k) bytes outcome
 
 -- the same over the data
 abbrev pub IsExplanationOfData : TextKind → List ℕ → List ℕ → Outcome (List ℕ) → Type 0
@@ -143,51 +140,53 @@ abbrev pub outcome_line : Outcome Answer → List ℕ
 outcome_line (Ok answer) = answer_text answer
 outcome_line (Err f) = line (fault_line f)
 
-abbrev pub outcome_status : Outcome Answer → ℕ
-outcome_status (Ok answer) = 0
-outcome_status (Err f) = 1
+-- the exit status
+abbrev pub status_of : {A : Type 0} → Outcome A → ℕ
+status_of (Ok answer) = 0
+status_of (Err f) = 1
 
--- the quads of a store, whose order means nothing, since lines of N-Quads ascend; or the line of the fault
+-- the quads of a store, whose order means nothing, since lines of N-Quads ascend; or the line of
+-- the fault
 abbrev pub IsContentText : Outcome Content → List ℕ → Type 0
-IsContentText (Ok c) bytes = (quads : List Statement) × SameSet quads c.quads × (bytes ≡ nquads_of quads)
+IsContentText (Ok c) bytes = (qs : List Statement) × SameSet qs c.quads × (bytes ≡ nquads_of qs)
 IsContentText (Err f) bytes = bytes ≡ line (fault_line f)
 
-abbrev pub content_status : Outcome Content → ℕ
-content_status (Ok c) = 0
-content_status (Err f) = 1
-
--- the data are quads, and this is printed of what the query results in over them, or of running out of memory
+-- the data are quads, and this is printed of what the query results in over them, or of running out
+-- of memory
 abbrev pub IsDueOfQuery : DefaultGraph → List ℕ → List ℕ → List ℕ → ℕ → Type 0
 IsDueOfQuery choice file text bytes status =
-    (outcome : Outcome Answer) × OneOrOutOfMemory (IsQueryOfData choice file text) outcome × (bytes ≡ outcome_line outcome) × (status ≡ outcome_status outcome)
+    (outcome : Outcome Answer) × OneOrOutOfMemory (IsQueryOfData choice file text) outcome
+    × (bytes ≡ outcome_line outcome) × (status ≡ status_of outcome)
 
--- the data are quads, and this is printed of what the update makes of them, or of running out of memory
+-- the data are quads, and this is printed of what the update makes of them, or of running out of
+-- memory
 abbrev pub IsDueOfUpdate : DefaultGraph → List ℕ → List ℕ → List ℕ → ℕ → Type 0
 IsDueOfUpdate choice file text bytes status =
-    (outcome : Outcome Content) × OneOrOutOfMemory (IsUpdateOfData choice file text) outcome × IsContentText outcome bytes × (status ≡ content_status outcome)
+    (outcome : Outcome Content) × OneOrOutOfMemory (IsUpdateOfData choice file text) outcome
+    × IsContentText outcome bytes × (status ≡ status_of outcome)
 
 -- an explanation, or the line of the fault
 abbrev pub explanation_line : Outcome (List ℕ) → List ℕ
 explanation_line (Ok text) = text
 explanation_line (Err f) = line (fault_line f)
 
-abbrev pub explanation_status : Outcome (List ℕ) → ℕ
-explanation_status (Ok text) = 0
-explanation_status (Err f) = 1
-
--- the data are quads, and this is printed of the explanation of the text over them, or of running out of memory
+-- the data are quads, and this is printed of the explanation of the text over them, or of running
+-- out of memory
 abbrev pub IsDueOfExplanation : TextKind → List ℕ → List ℕ → List ℕ → ℕ → Type 0
 IsDueOfExplanation k file text bytes status =
-    (outcome : Outcome (List ℕ)) × OneOrOutOfMemory (IsExplanationOfData k file text) outcome × (bytes ≡ explanation_line outcome) × (status ≡ explanation_status outcome)
+    (outcome : Outcome (List ℕ)) × OneOrOutOfMemory (IsExplanationOfData k file text) outcome
+    × (bytes ≡ explanation_line outcome) × (status ≡ status_of outcome)
 
 -- the data are none, and this is the line of their fault
 abbrev pub IsDueOfData : List ℕ → List ℕ → ℕ → Type 0
-IsDueOfData file bytes status = (f : NqFault) × IsFault file 0 f.kind f.line × (bytes ≡ line (data_fault_line f)) × (status ≡ 1)
+IsDueOfData file bytes status = (f : NqFault) × IsFault file 0 f.kind f.line
+    × (bytes ≡ line (data_fault_line f)) × (status ≡ 1)
 
 -- the data are a dataset, and this is its text
 abbrev pub IsDueOfDataset : List ℕ → List ℕ → ℕ → Type 0
 IsDueOfDataset file bytes status =
-    (quads : List Statement) × (next : ℕ) × IsNquads file 0 quads next × IsDataset (dataset_of quads next) × (bytes ≡ nquads_of quads) × (status ≡ 0)
+    (quads : List Statement) × (next : ℕ) × IsNquads file 0 quads next
+    × IsDataset (dataset_of quads next) × (bytes ≡ nquads_of quads) × (status ≡ 0)
 
 -- memory ran out, and this is the line of that fault
 abbrev pub IsDueOfMemory : List ℕ → ℕ → Type 0
@@ -197,54 +196,64 @@ IsDueOfMemory bytes status = (bytes ≡ line (fault_line fault.Memory)) × (stat
 
 -- a service over what a store with this default graph holds, with no connection
 abbrev pub service_over : DefaultGraph → Content → State
-service_over choice c = record { stored = record { content = c; bounds = bounds choice }; joined = [] }
+service_over d c = record { stored = record { content = c; bounds = bounds d }; joined = [] }
 
 -- the line of a text that is no script
 abbrev pub script_line : ℕ → List ℕ
 script_line n = codes "script line " ++ decimal n
 
--- what is printed of events that are carried out: all that a run of them writes; or what those before some event write, and the line of
--- running out of memory, where memory ran out for what that one writes
+-- what is printed of events that are carried out: all that a run of them writes; or what those
+-- before some event write, and the line of running out of memory, where memory ran out for what
+-- that one writes
 abbrev pub IsDueOfEvents : State → List Event → List ℕ → ℕ → Type 0
 IsDueOfEvents old events bytes status =
     ((new : State) × Replays (Carries sparql) old 1 events new bytes × (status ≡ 0))
-    ⊎ ((new : State) × (text rest : List ℕ) × StopsAt (Carries sparql) old events new text rest × (bytes ≡ text ++ line (fault_line fault.Memory)) × (status ≡ 1))
+    ⊎ ((new : State) × (text rest : List ℕ) × StopsAt (Carries sparql) old events new text rest
+    × (bytes ≡ text ++ line (fault_line fault.Memory)) × (status ≡ 1))
 
--- the text is a script, and this is printed of its events; or it is none, nothing is run, and this is the line of the first line that
--- tells no event
+-- the text is a script, and this is printed of its events; or it is none, nothing is run, and this
+-- is the line of the first line that tells no event
 abbrev pub IsDueOfScript : State → List ℕ → List ℕ → ℕ → Type 0
 IsDueOfScript old script bytes status =
     ((events : List Event) × IsScript script events × IsDueOfEvents old events bytes status)
     ⊎ ((n : ℕ) × IsOtherLine script n × (bytes ≡ line (script_line n)) × (status ≡ 1))
 
 abbrev pub IsDueOver : DefaultGraph → List ℕ → Outcome Content → List ℕ → ℕ → Type 0
-IsDueOver choice script (Ok c) bytes status = IsDueOfScript (service_over choice c) script bytes status
-IsDueOver choice script (Err f) bytes status = (bytes ≡ line (fault_line f)) × (status ≡ 1)
+IsDueOver d script (Ok c) bytes status = IsDueOfScript (service_over d c) script bytes status
+IsDueOver d script (Err f) bytes status = (bytes ≡ line (fault_line f)) × (status ≡ 1)
 
 -- the data are quads, and this is printed of the script over a store that they are put into
 abbrev pub IsDueOfReplay : DefaultGraph → List ℕ → List ℕ → List ℕ → ℕ → Type 0
-IsDueOfReplay choice file script bytes status = (first : Outcome Content) × IsLoaded file first × IsDueOver choice script first bytes status
+IsDueOfReplay choice file script bytes status =
+    (first : Outcome Content) × IsLoaded file first × IsDueOver choice script first bytes status
 
 -- some events of the script, from the front, were carried out, and these bytes are what they write
 abbrev pub IsBegunOfReplay : DefaultGraph → List ℕ → List ℕ → List ℕ → Type 0
 IsBegunOfReplay choice file script bytes =
-    (c : Content) × (events : List Event) × (new : State) × (text rest : List ℕ) × IsLoaded file (Ok c) × IsScript script events
+    (c : Content) × (events : List Event) × (new : State) × (text rest : List ℕ)
+    × IsLoaded file (Ok c) × IsScript script events
     × StopsAt (Carries sparql) (service_over choice c) events new text rest × (bytes ≡ text ++ rest)
 
 -- ---- what is due of a job
 
 -- these bytes, whole, and this status are due of the job
 abbrev pub IsDue : Job → List ℕ → ℕ → Type 0
-IsDue (Check file) bytes status = IsDueOfDataset file.items bytes status ⊎ (IsDueOfMemory bytes status ⊎ IsDueOfData file.items bytes status)
-IsDue (Query file text choice) bytes status = IsDueOfQuery choice file.items text.items bytes status ⊎ IsDueOfData file.items bytes status
-IsDue (Update file text choice) bytes status = IsDueOfUpdate choice file.items text.items bytes status ⊎ IsDueOfData file.items bytes status
-IsDue (Replay file script choice) bytes status = IsDueOfReplay choice file.items script.items bytes status ⊎ (IsDueOfMemory bytes status ⊎ IsDueOfData file.items bytes status)
-IsDue (Explain file text k choice) bytes status = IsDueOfExplanation k file.items text.items bytes status ⊎ IsDueOfData file.items bytes status
+IsDue (Check file) bytes status = IsDueOfDataset file.items bytes status
+    ⊎ (IsDueOfMemory bytes status ⊎ IsDueOfData file.items bytes status)
+IsDue (Query file text choice) bytes status =
+    IsDueOfQuery choice file.items text.items bytes status ⊎ IsDueOfData file.items bytes status
+IsDue (Update file text choice) bytes status =
+    IsDueOfUpdate choice file.items text.items bytes status ⊎ IsDueOfData file.items bytes status
+IsDue (Replay file script choice) bytes status =
+    IsDueOfReplay choice file.items script.items bytes status
+    ⊎ (IsDueOfMemory bytes status ⊎ IsDueOfData file.items bytes status)
+IsDue (Explain file text k choice) bytes status =
+    IsDueOfExplanation k file.items text.items bytes status ⊎ IsDueOfData file.items bytes status
 
--- the job may have begun to print these bytes: those that are due; of a replay, what some of its events write
+-- the job may have begun to print these bytes: those that are due; of a replay, what some of its
+-- events write
 abbrev pub IsBegun : Job → List ℕ → Type 0
-IsBegun (Check file) bytes = (status : ℕ) × IsDue (Check file) bytes status
-IsBegun (Query file text choice) bytes = (status : ℕ) × IsDue (Query file text choice) bytes status
-IsBegun (Update file text choice) bytes = (status : ℕ) × IsDue (Update file text choice) bytes status
-IsBegun (Replay file script choice) bytes = ((status : ℕ) × IsDue (Replay file script choice) bytes status) ⊎ IsBegunOfReplay choice file.items script.items bytes
-IsBegun (Explain file text k choice) bytes = (status : ℕ) × IsDue (Explain file text k choice) bytes status
+IsBegun (Replay file script choice) bytes =
+    ((status : ℕ) × IsDue (Replay file script choice) bytes status)
+    ⊎ IsBegunOfReplay choice file.items script.items bytes
+IsBegun job bytes = (status : ℕ) × IsDue job bytes status

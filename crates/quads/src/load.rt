@@ -86,7 +86,8 @@ pub fn load_owned_store(
 // A service over the store, with no connection.
 fn service_over(alloc: Global, store: Store) -> Result<Service, Refusal>
     requires limit { store.limit ≡ max_terms }
-    ensures { MatchResult result (λ state. state ≡ spec.service_over store.default_graph store.base) (λ refusal. refusal ≡ Fault Memory) }
+    ensures { MatchResult result (λ state. state ≡ spec.service_over store.default_graph store.base)
+        (λ refusal. refusal ≡ Fault Memory) }
 {
     match Service::new(alloc, store, MAX_ROWS) {
         Ok(service) => Ok(service),

@@ -20,7 +20,8 @@ use std::hash::RandomState;
 ///
 /// Those of `run`.
 pub fn run_owned<S: Sink>(alloc: Global, job: Job, hasher: RandomState, out: &mut S) -> Ran
-    ensures { IsRun job (S.taken out.old) (S.taken out.new) (S.faults out.old) (S.faults out.new) result }
+    ensures { IsRun job (S.taken out.old) (S.taken out.new) (S.faults out.old) (S.faults out.new)
+        result }
 {
     match job {
         Job::Check { data } => put_result(alloc, check_owned(alloc, hasher, data), out),

@@ -22,7 +22,8 @@ use std::hash::RandomState;
 ///
 /// The status is 1 where the job is refused, out of memory, or where the sink fails; nothing is put after a failure. Else it is 0.
 pub fn run<S: Sink>(alloc: Global, job: &Job, hasher: RandomState, out: &mut S) -> Ran
-    ensures { IsRun job.now (S.taken out.old) (S.taken out.new) (S.faults out.old) (S.faults out.new) result }
+    ensures { IsRun job.now (S.taken out.old) (S.taken out.new) (S.faults out.old)
+        (S.faults out.new) result }
 {
     match job {
         Job::Check { data } => {

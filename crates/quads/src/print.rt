@@ -4,10 +4,11 @@ ghost use Rattle.std.specs.Prelude.{◌≡◌, ◌⊎◌, IfOk, string_bytes, tr
 ghost use Rattle.qs_terms.specs.declared.fault.QFault.TheVariants.{Memory};
 ghost use Rattle.serde_json.specs.Written.{compact_text};
 ghost use Rattle.qs_results.specs.Lines as lines;
-ghost use Rattle.qs_results.specs.Json.{has_json, json_of};
+ghost use Rattle.qs_results.specs.Json.{json_of};
+ghost use Rattle.qs_results.specs.inner.Json.{has_json};
 ghost use Rattle.quads.specs.Due as due;
 ghost use Rattle.quads.specs.Due.{line};
-ghost use Rattle.quads.specs.Run.{Prints};
+ghost use Rattle.quads.specs.inner.Run.{Prints};
 ghost use Rattle.quads.specs.inner.JobResult as spec;
 
 use crate::job::Ran;
@@ -96,8 +97,10 @@ pub fn status(end: &JobResult) -> u8
 /// Returns the exit status, and how many bytes the sink took of what is printed of the result, or of the line of the fault for out of memory
 /// where that can't be made.
 pub fn put_result<S: Sink>(alloc: Global, end: JobResult, out: &mut S) -> Ran
-    ensures { Prints (spec.printed end) (spec.status end) (S.taken out.old) (S.taken out.new) (S.faults out.old) (S.faults out.new) result
-        ⊎ Prints (line (lines.fault_line Memory)) 1 (S.taken out.old) (S.taken out.new) (S.faults out.old) (S.faults out.new) result }
+    ensures { Prints (spec.printed end) (spec.status end) (S.taken out.old) (S.taken out.new)
+        (S.faults out.old) (S.faults out.new) result
+        ⊎ Prints (line (lines.fault_line Memory)) 1 (S.taken out.old) (S.taken out.new)
+        (S.faults out.old) (S.faults out.new) result }
 {
     // (The whole text is made before it is printed, so out of memory is never told after a part of it.)
     match result_text(alloc, &end) {

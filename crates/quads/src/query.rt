@@ -14,7 +14,8 @@ use qs_terms::QFault;
 use std::alloc::Global;
 
 fn text_answer(alloc: Global, text: &[u8], store: &Store) -> Result<Answer, QFault>
-    ensures { OneOrOutOfMemory (IsQueryOutcome store.now.default_graph text.now store.now.base) result }
+    ensures { OneOrOutOfMemory (IsQueryOutcome store.now.default_graph text.now store.now.base)
+        result }
 {
     same_set_is_an_equivalence();
     match text_of(text) {

@@ -5,7 +5,7 @@ ghost use Rattle.qs_terms.specs.declared.fault.QFault.TheVariants.{Memory};
 ghost use Rattle.qs_results.specs.Lines.{fault_line};
 ghost use Rattle.quads.specs.Due.{line, script_line};
 ghost use Rattle.quads.specs.inner.Refusal as spec;
-ghost use Rattle.quads.specs.Run.{Prints};
+ghost use Rattle.quads.specs.inner.Run.{Prints};
 
 use crate::job::Ran;
 use crate::print::{data_fault_text, fault_text};
@@ -67,8 +67,10 @@ fn refusal_text(alloc: Global, refusal: &Refusal) -> Result<String, AllocError>
 /// Returns the exit status of a refusal, 1, and how many bytes the sink took of its line, or of the line of the fault for out of memory where
 /// that one can't be made.
 pub fn put_refusal<S: Sink>(alloc: Global, refusal: &Refusal, out: &mut S) -> Ran
-    ensures { Prints (spec.refusal_text refusal.now) 1 (S.taken out.old) (S.taken out.new) (S.faults out.old) (S.faults out.new) result
-        ⊎ Prints (line (fault_line Memory)) 1 (S.taken out.old) (S.taken out.new) (S.faults out.old) (S.faults out.new) result }
+    ensures { Prints (spec.refusal_text refusal.now) 1 (S.taken out.old) (S.taken out.new)
+        (S.faults out.old) (S.faults out.new) result
+        ⊎ Prints (line (fault_line Memory)) 1 (S.taken out.old) (S.taken out.new) (S.faults out.old)
+        (S.faults out.new) result }
 {
     match refusal_text(alloc, refusal) {
         Ok(text) => put(out, text.as_bytes(), 1),

@@ -4,7 +4,7 @@ ghost use Rattle.std.specs.Prelude.{map};
 ghost use Rattle.qs_service_replay.specs.inner.ScriptEvents.{event_of};
 ghost use Rattle.quads.specs.Due.{IsDueOfEvents};
 ghost use Rattle.quads.specs.inner.Replay.{IsBegunOfEvents, IsScriptDue, IsScriptBegun, RunsReplay};
-ghost use Rattle.quads.specs.Run.{Runs};
+ghost use Rattle.quads.specs.inner.Run.{Runs};
 
 use crate::job::Ran;
 use crate::put::put;
@@ -23,7 +23,9 @@ fn run_events<S: Sink>(
     events: &[ScriptEvent],
     out: &mut S,
 ) -> Ran
-    ensures { Runs (IsDueOfEvents service.old (map event_of events.now)) (IsBegunOfEvents service.old (map event_of events.now)) (S.taken out.old) (S.taken out.new) (S.faults out.old) (S.faults out.new) result }
+    ensures { Runs (IsDueOfEvents service.old (map event_of events.now))
+        (IsBegunOfEvents service.old (map event_of events.now)) (S.taken out.old) (S.taken out.new)
+        (S.faults out.old) (S.faults out.new) result }
 {
     let replayed = replay(alloc, service, events, out);
     let written = replayed.written;
@@ -42,7 +44,8 @@ fn run_events<S: Sink>(
 
 // Carries out the events of the script over the service.
 fn run_script<S: Sink>(alloc: Global, service: &mut Service, script: &[u8], out: &mut S) -> Ran
-    ensures { Runs (IsScriptDue service.old script.now) (IsScriptBegun service.old script.now) (S.taken out.old) (S.taken out.new) (S.faults out.old) (S.faults out.new) result }
+    ensures { Runs (IsScriptDue service.old script.now) (IsScriptBegun service.old script.now)
+        (S.taken out.old) (S.taken out.new) (S.faults out.old) (S.faults out.new) result }
 {
     match read_script(alloc, script) {
         Ok(events) => run_events(alloc, service, events.as_slice(), out),
@@ -59,7 +62,8 @@ pub fn replay_script<S: Sink>(
     script: &[u8],
     out: &mut S,
 ) -> Ran
-    ensures { RunsReplay loaded script.now (S.taken out.old) (S.taken out.new) (S.faults out.old) (S.faults out.new) result }
+    ensures { RunsReplay loaded script.now (S.taken out.old) (S.taken out.new) (S.faults out.old)
+        (S.faults out.new) result }
 {
     match loaded {
         Ok(mut service) => {

@@ -35,7 +35,8 @@ pub enum JobResult {
 
 /// The text that bytes are, or the fault at the first that is no part of one.
 pub fn text_of(bytes: &[u8]) -> Result<&str, QFault>
-    ensures { MatchResult result (λ s. IsTextOf bytes.now (Ok s.now)) (λ f. IsTextOf bytes.now (Err f)) }
+    ensures { MatchResult result (λ s. IsTextOf bytes.now (Ok s.now))
+        (λ f. IsTextOf bytes.now (Err f)) }
 {
     match std::str::from_utf8(bytes) {
         Ok(text) => Ok(text),

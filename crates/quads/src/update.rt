@@ -41,8 +41,10 @@ fn quads_of(store: &Store) -> Result<Vec<Quad>, QFault>
 // The quads that the store holds after the update.
 fn quads_after(alloc: Global, store: &mut Store, text: &[u8]) -> Result<Vec<Quad>, QFault>
     requires limit { store.old.limit ≡ max_terms }
-    ensures done { IfOk result (λ all. AreQuadsAfter store.old.default_graph text.now store.old.base all.items) }
-    ensures refused { IfErr result (λ fault. fault ≢ Memory → IsUpdateOutcome store.old.default_graph text.now store.old.base (Err fault)) }
+    ensures done { IfOk result (λ all. AreQuadsAfter store.old.default_graph text.now store.old.base
+        all.items) }
+    ensures refused { IfErr result (λ fault. fault ≢ Memory
+        → IsUpdateOutcome store.old.default_graph text.now store.old.base (Err fault)) }
 {
     same_set_is_an_equivalence();
     match text_update(alloc, text, store) {

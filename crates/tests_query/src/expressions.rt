@@ -45,15 +45,18 @@ fn is_repeated(path: &Path) -> bool {
 
 /// `^..*/..`
 fn is_sequence(verb: &Verb) -> bool {
-    match verb {
-        Verb::Path(Path::Sequence(all)) => matches!(all.as_slice(), [Path::Inverse(first), second]
+    let Verb::Path(path) = verb else {
+        return false;
+    };
+    match path.get() {
+        Path::Sequence(all) => matches!(all.as_slice(), [Path::Inverse(first), second]
             if matches!(first.get(), Path::Repeated(_, Repetition::ZeroOrMore)) && is_repeated(second)),
         _ => false,
     }
 }
 
 fn are_sequences(triples: &[Triple]) -> bool {
-    matches!(triples, [triple] if is_sequence(triple.verb.get()))
+    matches!(triples, [triple] if is_sequence(&triple.verb))
 }
 
 fn is_meant(group: &Group) -> bool {

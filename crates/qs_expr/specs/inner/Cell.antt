@@ -1,9 +1,10 @@
 -- Cells, and the terms and solutions that they denote (SPARQL 1.1 Query, 18.1.8).
-use Rattle.std.specs.Prelude.{◌≡◌, ℕ, Bool, false, ◌==◌, List, Option, None, Some, map, slice_get, slice_index_or}
+use Rattle.std.specs.Prelude.{◌≡◌, ℕ, Bool, false, ◌==◌, List, Option, None, Some, map, slice_get}
+use Rattle.std.specs.Prelude.{slice_index_or}
 use Rattle.std.specs.Bool.{IsTrue}
 use Rattle.std.specs.Option.{is_some}
 use Rattle.qs_terms.specs.declared.term.Term.{Term}
-use Rattle.qs_dict.specs.Dict.{term_at}
+use Rattle.qs_dict.specs.inner.Dict.{term_at}
 use Rattle.qs_algebra_solutions.specs.Solution.{Solution}
 use Rattle.qs_expr.specs.declared.cell.Cell.{Cell}
 use Rattle.qs_expr.specs.declared.cell.Cell.TheVariants.{Known, Scratch}

@@ -1,7 +1,7 @@
 -- Conditions that are prepared over a dictionary.
 use Rattle.std.specs.Prelude.{◌≡◌, ℕ, List, [], ◌∷◌, Option}
 use Rattle.qs_terms.specs.declared.term.Term.{Term}
-use Rattle.qs_dict.specs.Dict.{number_of}
+use Rattle.qs_dict.specs.inner.Dict.{number_of}
 use Rattle.qs_expr_meaning.specs.declared.expr.Expr.{Expr}
 
 -- the condition, and the numbers that some of its terms have, where the dictionary has them

@@ -2,8 +2,8 @@
 use Rattle.std.specs.Prelude.{◌≡◌, Bool, ◌||◌, List, Option, Some, Result, MatchResult}
 use Rattle.std.specs.Option.{is_some}
 use Rattle.qs_terms.specs.declared.term.Term.{Term}
-use Rattle.qs_expr_meaning.specs.Comes.{Errs}
-use Rattle.qs_expr_meaning.specs.Makes.{makes}
+use Rattle.qs_expr_meaning.specs.inner.Comes.{Errs}
+use Rattle.qs_expr_meaning.specs.inner.Makes.{makes}
 use Rattle.qs_expr_meaning.specs.Meaning.{holds, meaning}
 use Rattle.qs_expr_meaning.specs.declared.expr.Expr.{Expr}
 use Rattle.qs_expr_meaning.specs.declared.fault.ExprFault.{ExprFault}
@@ -24,9 +24,11 @@ pub record IsDue (due : Option Term) (known table : List Term) (c : Cell) : Type
   pub is : due ≡ Some term
   pub denotes : denoted known table c ≡ Some term
 
--- the cell, by the new table, of what the expression means at the row, by the old one; an error exactly where it means nothing, and running
--- out of memory only where memory is taken: for a term, or by the expression
-abbrev pub Evaluates : List Term → List Term → List Term → Cells → Expr → Result Cell ExprFault → Type 0
+-- the cell, by the new table, of what the expression means at the row, by the old one; an error
+-- exactly where it means nothing, and running out of memory only where memory is taken: for a term,
+-- or by the expression
+abbrev pub Evaluates : List Term → List Term → List Term → Cells → Expr → Result Cell ExprFault
+    → Type 0
 Evaluates known old new m e result =
     let due = value_at known old m e in
     MatchResult result (IsDue due known new) (Errs (makes e || is_some due) due)

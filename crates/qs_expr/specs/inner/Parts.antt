@@ -3,7 +3,7 @@ use Rattle.std.specs.Prelude.{◌≡◌, ℕ, Bool, List, [], ◌∷◌, Option}
 use Rattle.std.specs.List.{list_all, list_any}
 use Rattle.qs_terms.specs.declared.term.Term.{Term}
 use Rattle.qs_algebra_solutions.specs.Solution.{Solution}
-use Rattle.qs_expr_meaning.specs.Makes.{makes}
+use Rattle.qs_expr_meaning.specs.inner.Makes.{makes}
 use Rattle.qs_expr_meaning.specs.Meaning.{holds}
 use Rattle.qs_expr_meaning.specs.declared.expr.Expr.{Expr}
 use Rattle.qs_expr.specs.inner.Condition.{AreNumbersOf}

@@ -8,7 +8,8 @@ use Rattle.qs_expr.specs.inner.Cell.{denoted}
 
 -- each term has one cell: it stands once in the dictionary, or once in the table, and not in both
 pub record IsTable (known table : List Term) : Type 0 where
-  pub one : (a b : Cell) (t : Term) → denoted known table a ≡ Some t → denoted known table b ≡ Some t → a ≡ b
+  pub one : (a b : Cell) (t : Term) → denoted known table a ≡ Some t → denoted known table b
+      ≡ Some t → a ≡ b
 
 -- the table goes on, and each term still has one cell
 pub record Grows (known old new : List Term) : Type 0 where
@@ -23,4 +24,5 @@ with_term known table t = if list_any (same_term t) (known ++ table) then table 
 -- whether cells of a dictionary and its table denote the same term
 abbrev pub TellsSameTerm : Cell → Cell → Bool → Type 0
 TellsSameTerm a b result =
-    (known table : List Term) (x y : Term) → IsTable known table → denoted known table a ≡ Some x → denoted known table b ≡ Some y → result ≡ same_term x y
+    (known table : List Term) (x y : Term) → IsTable known table → denoted known table a ≡ Some x
+    → denoted known table b ≡ Some y → result ≡ same_term x y

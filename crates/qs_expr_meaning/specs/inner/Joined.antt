@@ -1,5 +1,6 @@
 -- What is left of CONCAT after its first strings.
-use Rattle.std.specs.Prelude.{◌≡◌, ℕ, true, List, [], ◌∷◌, ◌++◌, Option, Some, None, Result, MatchResult, if◌then◌else◌}
+use Rattle.std.specs.Prelude.{◌≡◌, ℕ, true, List, [], ◌∷◌, ◌++◌, Option, Some, None, Result}
+use Rattle.std.specs.Prelude.{MatchResult, if◌then◌else◌}
 use Rattle.std.specs.Borrow.{Bor}
 use Rattle.std.specs.Option.{option_copied, option_map, option_and_then, unwrap_or}
 use Rattle.qs_terms.specs.Literal.{Literal}
@@ -8,7 +9,7 @@ use Rattle.qs_terms.specs.declared.term.Term.{Term}
 use Rattle.qs_terms.specs.declared.term.Term.TheVariants as term
 use Rattle.qs_expr_values.specs.Values.{strung}
 use Rattle.qs_expr_meaning.specs.Calls.{Value, Parts, string_parts}
-use Rattle.qs_expr_meaning.specs.Comes.{Errs}
+use Rattle.qs_expr_meaning.specs.inner.Comes.{Errs}
 use Rattle.qs_expr_meaning.specs.declared.fault.ExprFault.{ExprFault}
 
 abbrev pub Tag : Type 0
@@ -56,4 +57,5 @@ joined_from s (Some t ∷ xs) = option_and_then (λ next. joined_from next xs) (
 
 -- the form and the tag of the strings with one more
 abbrev pub JoinsTo : Option SoFar → List ℕ → Result (Option (Bor Literal)) ExprFault → Type 0
-JoinsTo due form result = MatchResult result (λ tag. due ≡ Some (form, Some (tag_in (option_copied tag)))) (Errs true due)
+JoinsTo due form result =
+    MatchResult result (λ tag. due ≡ Some (form, Some (tag_in (option_copied tag)))) (Errs true due)

@@ -4,7 +4,8 @@ use Rattle.std.specs.List.{fold}
 use Rattle.qs_algebra_solutions.specs.Solution.{Solution}
 use Rattle.qs_expr_meaning.specs.Truth.{any, every}
 use Rattle.qs_expr_meaning.specs.Calls.{Value}
-use Rattle.qs_expr_meaning.specs.Meaning.{truth, meaning, addend_meaning, among, added, multiplied, first_value}
+use Rattle.qs_expr_meaning.specs.Meaning.{truth, meaning, among, added, multiplied, first_value}
+use Rattle.qs_expr_meaning.specs.inner.Meaning.{addend_meaning}
 use Rattle.qs_expr_meaning.specs.declared.expr.Expr.{Expr}
 use Rattle.qs_expr_meaning.specs.declared.expr.Addend.{Addend}
 

@@ -1,4 +1,5 @@
--- What a table of values keeps of a term: the value itself where it is a boolean or an integer of 64 bits, and else its kind.
+-- What a table of values keeps of a term: the value itself where it is a boolean or an integer of
+-- 64 bits, and else its kind.
 use Rattle.std.specs.Prelude.{ℕ, ◌^◌, Bool, nat_lt, if◌then◌else◌, ℤ, pos, negsuc}
 use Rattle.qs_terms.specs.declared.term.Term.{Term}
 use Rattle.qs_expr_values.specs.Values.{Worth, integer, boolean, text, other, worth}

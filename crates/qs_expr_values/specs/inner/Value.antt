@@ -4,7 +4,8 @@ use Rattle.std.specs.Option.{option_copied}
 use Rattle.qs_terms.specs.Literal.{xsd_string, xsd_integer, xsd_boolean, rdf_lang_string}
 use Rattle.qs_terms.specs.declared.term.Term.{Term as RdfTerm}
 use Rattle.qs_terms.specs.declared.term.Term.TheVariants as rdf
-use Rattle.qs_expr_values.specs.Values.{Worth, integer, boolean, text, other, boolean_term, integer_term, text_term, strung}
+use Rattle.qs_expr_values.specs.Values.{Worth, integer, boolean, text, other, boolean_term}
+use Rattle.qs_expr_values.specs.Values.{integer_term, text_term, strung}
 use Rattle.qs_expr_values.specs.declared.datatype.Datatype.{Datatype as SeenDatatype}
 use Rattle.qs_expr_values.specs.declared.datatype.Datatype.TheVariants as datatype
 use Rattle.qs_expr_values.specs.declared.same.Parts.{Parts}
@@ -12,7 +13,9 @@ use Rattle.qs_expr_values.specs.declared.same.Parts.TheVariants as parts
 use Rattle.qs_expr_values.specs.declared.worth.Worth.{Worth as SeenWorth}
 use Rattle.qs_expr_values.specs.declared.worth.Worth.TheVariants as kind
 use Rattle.qs_expr_values.specs.declared.value.Value.{Value}
-use Rattle.qs_expr_values.specs.declared.value.Value.TheVariants.{Term, Known, Boolean, Integer, Text, Digits, Made, Tagged, Datatype}
+use Rattle.qs_expr_values.specs.declared.value.Value.TheVariants.{Term, Known, Boolean, Integer}
+use Rattle.qs_expr_values.specs.declared.value.Value.TheVariants.{Text, Digits, Made, Tagged}
+use Rattle.qs_expr_values.specs.declared.value.Value.TheVariants.{Datatype}
 
 -- the IRI of a datatype
 abbrev pub datatype_text : SeenDatatype → List ℕ
@@ -45,4 +48,5 @@ seen kind.Other = other
 abbrev pub parts_of : Parts → RdfTerm
 parts_of (parts.Iri i) = rdf.Iri i.now
 parts_of (parts.Blank n) = rdf.Blank n
-parts_of (parts.Literal form datatype tag) = rdf.Literal (record { form = form.now; datatype = datatype.now; tag = option_copied tag })
+parts_of (parts.Literal form datatype tag) =
+    rdf.Literal (record { form = form.now; datatype = datatype.now; tag = option_copied tag })

@@ -1,5 +1,6 @@
 -- The search for the head's end, byte by byte.
-use Rattle.std.specs.Prelude.{ℕ, Bool, false, ◌==◌, if◌then◌else◌, List, [], ◌∷◌, Option, None, Some}
+use Rattle.std.specs.Prelude.{ℕ, Bool, false, ◌==◌, if◌then◌else◌, List, [], ◌∷◌, Option, None}
+use Rattle.std.specs.Prelude.{Some}
 use Rattle.qs_http.specs.declared.head_end.HeadState.{HeadState}
 use Rattle.qs_http.specs.declared.head_end.HeadState.TheVariants.{Leading, Line, Feed, FeedReturn}
 use Rattle.qs_http.specs.HeadEnd.{is_line_break, later}

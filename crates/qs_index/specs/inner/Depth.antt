@@ -1,7 +1,8 @@
 -- How many places of an order come first, up to the last one that is given.
 use Rattle.std.specs.Prelude.{ℕ, ◌+◌, Option, Some, None}
 use Rattle.qs_index.specs.declared.permutation.Permutation.{Permutation}
-use Rattle.qs_index.specs.declared.permutation.Permutation.TheVariants.{Gspo, Gpos, Gosp, Spog, Posg, Ospg}
+use Rattle.qs_index.specs.declared.permutation.Permutation.TheVariants.{Gspo, Gpos, Gosp, Spog}
+use Rattle.qs_index.specs.declared.permutation.Permutation.TheVariants.{Posg, Ospg}
 
 -- how many of three places come first, up to the last one that is given
 abbrev pub depth_of : Option ℕ → Option ℕ → Option ℕ → ℕ

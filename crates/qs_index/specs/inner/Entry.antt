@@ -1,5 +1,6 @@
 -- Entries: quads by the numbers of their terms, and their order. Graph 0 is the default graph.
-use Rattle.std.specs.Prelude.{◌≡◌, ℕ, ◌+◌, ◌*◌, ◌<◌, ◌^◌, Bool, true, false, cond, nat_lt, ◌==◌, List, [], ◌∷◌, ◌++◌, drop, length, ◌≢◌, slice_index_or}
+use Rattle.std.specs.Prelude.{◌≡◌, ℕ, ◌+◌, ◌*◌, ◌<◌, ◌^◌, Bool, true, false, cond, nat_lt, ◌==◌}
+use Rattle.std.specs.Prelude.{List, [], ◌∷◌, ◌++◌, drop, length, ◌≢◌, slice_index_or}
 use Rattle.std.specs.List.{All, filter}
 
 -- four numbers of 32 bits: graph, subject, predicate, object
@@ -9,9 +10,11 @@ pub record IsEntry (entry : List ℕ) : Type 0 where
 
 -- the entry as one number of 128 bits, of which its first number is the greatest part
 abbrev pub number_of : List ℕ → ℕ
-number_of entry = (slice_index_or entry 0 0 * 2 ^ 32 + slice_index_or entry 1 0) * 2 ^ 64 + (slice_index_or entry 2 0 * 2 ^ 32 + slice_index_or entry 3 0)
+number_of entry = (slice_index_or entry 0 0 * 2 ^ 32 + slice_index_or entry 1 0) * 2 ^ 64
+    + (slice_index_or entry 2 0 * 2 ^ 32 + slice_index_or entry 3 0)
 
--- whether `entry` stands before each list that begins with `prefix`; at a `prefix` of full length, whether it is less
+-- whether `entry` stands before each list that begins with `prefix`; at a `prefix` of full length,
+-- whether it is less
 abbrev pub is_before : List ℕ → List ℕ → Bool
 is_before entry [] = false
 is_before [] (y ∷ ys) = true

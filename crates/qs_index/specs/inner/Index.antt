@@ -6,7 +6,8 @@ use Rattle.qs_index.specs.inner.OrderOf.{IsOrderOf}
 use Rattle.qs_index.specs.inner.Named.{NamedOrders, AreNamedOf}
 use Rattle.qs_index.specs.declared.permutation.Permutation.TheVariants.{Gspo, Gpos, Gosp}
 
--- an ascending list of entries, how many inserts need no memory, and how many of entries of named graphs need none in the orders of these
+-- an ascending list of entries, how many inserts need no memory, and how many of entries of named
+-- graphs need none in the orders of these
 pub record IndexState : Type 0 where
   pub entries : List (List ℕ)
   pub spare : ℕ

@@ -1,5 +1,6 @@
 -- How an order lies in pages, and for how many inserts the pages set aside suffice.
-use Rattle.std.specs.Prelude.{min, max, ℕ, ◌+◌, ◌<◌, ◌≤◌, ◌≡◌, ◌-◌, ◌*◌, List, [], ◌∷◌, ◌++◌, length, drop, take, slice_index_or}
+use Rattle.std.specs.Prelude.{min, max, ℕ, ◌+◌, ◌<◌, ◌≤◌, ◌≡◌, ◌-◌, ◌*◌, List, [], ◌∷◌, ◌++◌}
+use Rattle.std.specs.Prelude.{length, drop, take, slice_index_or}
 use Rattle.std.specs.List.{All}
 
 -- an order: its pages, and how many pages are set aside
@@ -47,16 +48,18 @@ IsOpenAt pages page entries = page < length pages → entries ≡ page_at pages 
 
 -- the pages with page m in two halves
 abbrev pub split_at : List (List (List ℕ)) → ℕ → List (List (List ℕ))
-split_at pages m = take m pages ++ take 128 (page_at pages m) ∷ drop 128 (page_at pages m) ∷ drop (m + 1) pages
+split_at pages m =
+    take m pages ++ take 128 (page_at pages m) ∷ drop 128 (page_at pages m) ∷ drop (m + 1) pages
 
 -- how many entries the pages have above their halves
 abbrev pub over : List (List (List ℕ)) → ℕ
 over [] = 0
 over (page ∷ pages) = (length page - 128) + over pages
 
--- what holds of the pages in use, those set aside, the room of the two lists, and the count of entries above the halves: a page that
--- changes sides finds room
-pub record IsInOrder (pages spares : List (List (List ℕ))) (room spare_room above_half : ℕ) : Type 0 where
+-- what holds of the pages in use, those set aside, the room of the two lists, and the count of
+-- entries above the halves: a page that changes sides finds room
+pub record IsInOrder (pages spares : List (List (List ℕ))) (room spare_room above_half : ℕ) : Type
+    0 where
   pub sizes : HasPageSizes pages
   pub empty : All (λ page. page ≡ []) spares
   pub room_in_use : length pages + length spares ≤ room
@@ -68,7 +71,8 @@ abbrev pub first_page : List (List (List ℕ)) → ℕ
 first_page [] = 128
 first_page (page ∷ pages) = 0
 
--- how many inserts the pages set aside suffice for: an insert takes one at most, and one that takes a page splits a full one in halves
+-- how many inserts the pages set aside suffice for: an insert takes one at most, and one that takes
+-- a page splits a full one in halves
 abbrev pub room_of : List (List (List ℕ)) → ℕ → ℕ
 room_of pages spare = max spare (128 * spare - (over pages + first_page pages))
 
@@ -76,6 +80,12 @@ room_of pages spare = max spare (128 * spare - (over pages + first_page pages))
 abbrev pub open_room_of : List (List (List ℕ)) → ℕ → ℕ
 open_room_of pages spare = max (spare + 1) (128 * spare - (over pages + first_page pages))
 
--- how much of the room the pages have used up, where all but the last are full, and what the last one has room for below its half
+-- how much of the room the pages have used up, where all but the last are full, and what the last
+-- one has room for below its half
 abbrev pub used_of : List (List (List ℕ)) → ℕ
-used_of pages = 128 * length pages + over pages + min 128 (length (page_at pages (length pages - 1)))
+used_of pages =
+    128 * length pages + over pages + min 128 (length (page_at pages (length pages - 1)))
+
+-- how many entries the pages would have, were all but the last full
+abbrev pub filled_of : List (List (List ℕ)) → ℕ
+filled_of pages = 256 * (length pages - 1) + length (page_at pages (length pages - 1))

@@ -2,7 +2,8 @@
 use Rattle.std.specs.Prelude.{ℕ, Option, Some, None}
 use Rattle.qs_index.specs.inner.Permutation.{order_used, named_order_used}
 use Rattle.qs_index.specs.declared.permutation.Permutation.{Permutation}
-use Rattle.qs_index.specs.declared.permutation.Permutation.TheVariants.{Gspo, Gpos, Gosp, Spog, Posg, Ospg}
+use Rattle.qs_index.specs.declared.permutation.Permutation.TheVariants.{Gspo, Gpos, Gosp, Spog}
+use Rattle.qs_index.specs.declared.permutation.Permutation.TheVariants.{Posg, Ospg}
 use Rattle.qs_index.specs.declared.permutation.Lead.{Lead}
 use Rattle.qs_index.specs.declared.permutation.Lead.TheVariants.{Subject, Predicate, Object}
 

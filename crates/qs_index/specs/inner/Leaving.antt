@@ -3,7 +3,8 @@ use Rattle.std.specs.Prelude.{ℕ, ◌+◌, List, [], ◌∷◌, ◌++◌, take,
 use Rattle.std.specs.List.{remove}
 use Rattle.std.specs.Str.{bytes_eq}
 
--- how many entries of a list, from its first on, are met by those of a page, which are gone through once
+-- how many entries of a list, from its first on, are met by those of a page, which are gone through
+-- once
 abbrev pub met : List (List ℕ) → List (List ℕ) → ℕ
 met [] entries = 0
 met (x ∷ page) [] = 0
@@ -13,7 +14,8 @@ met (x ∷ page) (e ∷ entries) = if bytes_eq x e then met page entries + 1 els
 abbrev pub unmet : List (List ℕ) → List (List ℕ) → List (List ℕ)
 unmet [] entries = []
 unmet (x ∷ page) [] = x ∷ page
-unmet (x ∷ page) (e ∷ entries) = if bytes_eq x e then unmet page entries else (x ∷ unmet page (e ∷ entries))
+unmet (x ∷ page) (e ∷ entries) =
+    if bytes_eq x e then unmet page entries else (x ∷ unmet page (e ∷ entries))
 
 -- the same from a place on
 abbrev pub left_from : ℕ → List (List ℕ) → List (List ℕ) → List (List ℕ)

@@ -3,7 +3,8 @@ use Rattle.std.specs.Prelude.{ℕ, List}
 use Rattle.qs_index.specs.inner.Graph.{named_entries}
 use Rattle.qs_index.specs.inner.OrderOf.{IsOrderOf}
 use Rattle.qs_index.specs.declared.permutation.Permutation.{Permutation}
-use Rattle.qs_index.specs.declared.permutation.Permutation.TheVariants.{Gspo, Gpos, Gosp, Spog, Posg, Ospg}
+use Rattle.qs_index.specs.declared.permutation.Permutation.TheVariants.{Gspo, Gpos, Gosp, Spog}
+use Rattle.qs_index.specs.declared.permutation.Permutation.TheVariants.{Posg, Ospg}
 
 -- the orders of the named graphs: their entries, and how many inserts need no memory
 pub record NamedOrders : Type 0 where

@@ -1,5 +1,6 @@
 -- What a scan over the pages of an order has still to hand out, and what holds of its fields.
-use Rattle.std.specs.Prelude.{ℕ, ◌≡◌, ◌+◌, ◌<◌, ◌≤◌, List, [], ◌∷◌, true, length, slice_index_or, Option, Some, None}
+use Rattle.std.specs.Prelude.{ℕ, ◌≡◌, ◌+◌, ◌<◌, ◌≤◌, List, [], ◌∷◌, true, length, slice_index_or}
+use Rattle.std.specs.Prelude.{Option, Some, None}
 use Rattle.qs_index.specs.inner.Layout.{joined, page_at, rest_at, HasPageSizes}
 use Rattle.qs_index.specs.inner.Entries.{HaveFour}
 use Rattle.qs_index.specs.inner.Entry.{is_before, run_of, IsAscending}

@@ -1,5 +1,6 @@
 -- The pages of an order in blocks.
-use Rattle.std.specs.Prelude.{min, ℕ, ◌≡◌, ◌+◌, ◌-◌, ◌*◌, ◌≤◌, zero, suc, List, [], ◌∷◌, ◌++◌, length, slice_index_or}
+use Rattle.std.specs.Prelude.{min, ℕ, ◌≡◌, ◌+◌, ◌-◌, ◌*◌, ◌≤◌, zero, suc, List, [], ◌∷◌, ◌++◌}
+use Rattle.std.specs.Prelude.{length, slice_index_or}
 
 -- a list of pages, and how many it has room for
 pub record PageBlock : Type 0 where
@@ -30,7 +31,8 @@ gap_at (suc j) (suc k) = gap_at j k
 abbrev pub HasGap : List (List (List (List ℕ))) → ℕ → ℕ → Type 0
 HasGap blocks k n = (j : ℕ) → length (block_at blocks j) + gap_at j k ≡ min 256 (n - 256 * j)
 
--- what holds of the blocks and of the count of their pages: each block is full but the last with pages
+-- what holds of the blocks and of the count of their pages: each block is full but the last with
+-- pages
 pub record IsTiered (blocks : List (List (List (List ℕ)))) (count : ℕ) : Type 0 where
   pub filled : (j : ℕ) → length (block_at blocks j) ≡ min 256 (count - 256 * j)
   pub counted : count ≡ length (flat blocks)

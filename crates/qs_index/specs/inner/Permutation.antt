@@ -1,9 +1,11 @@
 -- The orders of the places of an entry, and which of them a scan uses.
--- In a graph it is GPOS where the predicate is given without the subject, GOSP where the object is given without the predicate, and GSPO
--- elsewhere. Over all named graphs POSG, OSPG and SPOG are used in the same way.
+-- In a graph it is GPOS where the predicate is given without the subject, GOSP where the object is
+-- given without the predicate, and GSPO elsewhere. Over all named graphs POSG, OSPG and SPOG are
+-- used in the same way.
 use Rattle.std.specs.Prelude.{ℕ, List, [], ◌∷◌, Option, Some, None}
 use Rattle.qs_index.specs.declared.permutation.Permutation.{Permutation}
-use Rattle.qs_index.specs.declared.permutation.Permutation.TheVariants.{Gspo, Gpos, Gosp, Spog, Posg, Ospg}
+use Rattle.qs_index.specs.declared.permutation.Permutation.TheVariants.{Gspo, Gpos, Gosp, Spog}
+use Rattle.qs_index.specs.declared.permutation.Permutation.TheVariants.{Posg, Ospg}
 
 -- an entry with its places in the order of a permutation
 abbrev pub turned : Permutation → List ℕ → List ℕ

@@ -1,5 +1,6 @@
 -- Prefixes of entries: filled up with zeros, and the one that follows another.
-use Rattle.std.specs.Prelude.{ℕ, ◌+◌, ◌-◌, ◌^◌, ◌<◌, ◌≤◌, ◌≡◌, ◌||◌, List, [], ◌∷◌, drop, slice_index_or}
+use Rattle.std.specs.Prelude.{ℕ, ◌+◌, ◌-◌, ◌^◌, ◌<◌, ◌≤◌, ◌≡◌, ◌||◌, List, [], ◌∷◌, drop}
+use Rattle.std.specs.Prelude.{slice_index_or}
 use Rattle.qs_index.specs.inner.Entry.{is_before, begins}
 
 abbrev pub AreZeros : List ℕ → Type 0

@@ -13,8 +13,8 @@ pub record ScanState : Type 0 where
   pub looked : ℕ
   pub size : ℕ
 
--- the most looks of a scan. Each entry that it handed out has one. Its start has two for each binary
--- digit of the number of entries, and two. Each skip has two for each digit, and one
+-- the most looks of a scan. Each entry that it handed out has one. Its start has two for each
+-- binary digit of the number of entries, and two. Each skip has two for each digit, and one
 abbrev pub most_looks : ℕ → ℕ → ℕ → ℕ
 most_looks handed skips size =
     handed + skips * (2 * digits size + 1) + 2 * digits size + 2

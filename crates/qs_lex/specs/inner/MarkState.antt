@@ -1,7 +1,7 @@
 -- What is left of the table in each state of the scanner within marks.
 use Rattle.std.specs.Prelude.{[], ◌∷◌}
 use Rattle.qs_lex_regular.specs.Form.{nothing, ◌∣◌, char}
-use Rattle.qs_lex.specs.Table.{Left}
+use Rattle.qs_lex.specs.inner.Table.{Left}
 use Rattle.qs_lex.specs.declared.token.Class.TheVariants as class
 use Rattle.qs_lex.specs.declared.mark_state.MarkState.{MarkState}
 use Rattle.qs_lex.specs.declared.mark_state.MarkState.TheVariants as mark

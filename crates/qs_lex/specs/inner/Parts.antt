@@ -1,4 +1,5 @@
--- What tokens are made of, by their classes (SPARQL 1.1 Query, 19.8): what the layers above take for granted of them.
+-- What tokens are made of, by their classes (SPARQL 1.1 Query, 19.8): what the layers above take
+-- for granted of them.
 use Rattle.std.specs.Prelude.{◌≡◌, ◌⊎◌, ℕ, Bool, false, ◌==◌, List, [], ◌∷◌, ◌++◌, length, IsTrue}
 use Rattle.std.specs.List.{list_any}
 use Rattle.std.specs.Str.{IsUtf8}
@@ -19,7 +20,8 @@ pub record StandsIn (text : List ℕ) (t : Lexeme) : Type 0 where
   pub place : t.place ≡ length before
   pub utf8 : IsUtf8 t.text
 
--- an IRI between `<` and `>`: an escape begins at each backslash, and nothing decoded is a character that IRIs exclude
+-- an IRI between `<` and `>`: an escape begins at each backslash, and nothing decoded is a
+-- character that IRIs exclude
 pub record IsIri (token : List ℕ) : Type 0 where
   pub iri : List ℕ
   pub text : token ≡ 60 ∷ (iri ++ 62 ∷ [])
@@ -27,7 +29,8 @@ pub record IsIri (token : List ℕ) : Type 0 where
   pub escapes : IsTrue (escapes_begin uchar iri)
   pub lawful : list_any is_excluded (decoded uchar iri) ≡ false
 
--- a prefix, in which is no colon, a colon, and a local name: without its backslashes it has no character that IRIs exclude
+-- a prefix, in which is no colon, a colon, and a local name: without its backslashes it has no
+-- character that IRIs exclude
 pub record IsName (token : List ℕ) : Type 0 where
   pub prefix : List ℕ
   pub local : List ℕ
@@ -60,12 +63,14 @@ abbrev pub begins_with : ℕ → List ℕ → Bool
 begins_with q [] = false
 begins_with q (c ∷ cs) = c == q
 
--- a string between quotation marks: one at each end, and none at its beginning; or three. An escape begins at each backslash.
+-- a string between quotation marks: one at each end, and none at its beginning; or three. An escape
+-- begins at each backslash.
 pub record IsString (token : List ℕ) : Type 0 where
   pub mark : ℕ
   pub is_mark : (mark ≡ 34) ⊎ (mark ≡ 39)
   pub written : List ℕ
-  pub text : ((token ≡ mark ∷ (written ++ mark ∷ [])) × (begins_with mark written ≡ false)) ⊎ (token ≡ mark ∷ mark ∷ mark ∷ (written ++ mark ∷ mark ∷ mark ∷ []))
+  pub text : ((token ≡ mark ∷ (written ++ mark ∷ [])) × (begins_with mark written ≡ false))
+      ⊎ (token ≡ mark ∷ mark ∷ mark ∷ (written ++ mark ∷ mark ∷ mark ∷ []))
   pub utf8 : IsUtf8 written
   pub escapes : IsTrue (escapes_begin string_escape written)
 

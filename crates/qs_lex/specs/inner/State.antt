@@ -1,5 +1,5 @@
 -- What is left of the forms in each state of the scanner.
-use Rattle.qs_lex.specs.Table.{Left}
+use Rattle.qs_lex.specs.inner.Table.{Left}
 use Rattle.qs_lex.specs.inner.IriState.{left_of_iri}
 use Rattle.qs_lex.specs.inner.MarkState.{left_of_mark}
 use Rattle.qs_lex.specs.inner.NameState.{left_of_name}

@@ -1,7 +1,8 @@
 -- A text whose tokens are read one after another.
 use Rattle.std.specs.Prelude.{ℕ, List, [], ◌∷◌, ◌++◌, Option, Some, None, length}
 use Rattle.std.specs.Str.{chars}
-use Rattle.qs_lex.specs.Lexes.{Lexeme, lexeme, Reads, Lexes}
+use Rattle.qs_lex.specs.Lexes.{Lexeme, Reads, Lexes}
+use Rattle.qs_lex.specs.inner.Lexes.{lexeme}
 use Rattle.qs_lex.specs.declared.token.Token.{Token}
 
 -- the whole text, and the bytes that are left

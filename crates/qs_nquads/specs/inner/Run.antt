@@ -2,7 +2,7 @@
 use Rattle.std.specs.Prelude.{◌≡◌, ℕ, ◌+◌, Bool, not, ◌&&◌, nat_lt, List, drop, Option}
 use Rattle.std.specs.Str.{chars, IsCharBoundary}
 use Rattle.qs_lex_regular.specs.Character.{is_iri_char}
-use Rattle.qs_lex_regular.specs.Longest.{best}
+use Rattle.qs_lex_regular.specs.inner.Best.{best}
 use Rattle.qs_lex_regular.specs.inner.Scan.{later}
 use Rattle.qs_nquads.specs.Table.{is_string_char}
 use Rattle.qs_nquads.specs.inner.State.{left}
@@ -20,4 +20,5 @@ ends_in_string b = not (nat_lt b 128 && is_string_char b)
 -- n bytes at the front of a text leave the state as it is, with whatever was found before
 pub record HasRun (state : State) (text : List ℕ) (n : ℕ) : Type 0 where
   pub boundary : IsCharBoundary text n
-  pub best : (len : ℕ) (found : Option (Class × ℕ)) → later (best (left state) (chars text)) len found ≡ later (best (left state) (chars (drop n text))) (len + n) found
+  pub best : (len : ℕ) (found : Option (Class × ℕ)) → later (best (left state) (chars text)) len
+      found ≡ later (best (left state) (chars (drop n text))) (len + n) found

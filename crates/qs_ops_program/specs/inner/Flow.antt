@@ -1,12 +1,18 @@
--- What a program makes of a row. A position is counted from the end of the program: position 0 is the end, where a row is finished, and
--- position k + 1 is the instruction at k. An instruction names positions before its own alone.
-use Rattle.std.specs.Prelude.{◌≡◌, ℕ, zero, suc, ◌<◌, ◌≤◌, Bool, true, false, if◌then◌else◌, List, [], ◌∷◌, ◌++◌, length, get_or}
+-- What a program makes of a row. A position is counted from the end of the program: position 0 is
+-- the end, where a row is finished, and position k + 1 is the instruction at k. An instruction
+-- names positions before its own alone.
+use Rattle.std.specs.Prelude.{◌≡◌, ℕ, zero, suc, ◌<◌, ◌≤◌, Bool, true, false, if◌then◌else◌, List}
+use Rattle.std.specs.Prelude.{[], ◌∷◌, ◌++◌, length, get_or}
 use Rattle.std.specs.List.{AllByRecursion, flat_map, fold}
 use Rattle.qs_plan_meaning.specs.declared.stage.Stage.{Stage, fold-Stage}
-use Rattle.qs_plan_meaning.specs.declared.stage.Stage.TheOpen.{Stage-F, Group-F, Triple, Path, Exists, Names, Name, Filter, Bind, Values, Union, Optional, Fed, Minus, Apart}
-use Rattle.qs_plan_meaning.specs.Stages.{Made}
+use Rattle.qs_plan_meaning.specs.declared.stage.Stage.TheOpen.{Stage-F, Group-F, Triple, Path}
+use Rattle.qs_plan_meaning.specs.declared.stage.Stage.TheOpen.{Exists, Names, Name, Filter, Bind}
+use Rattle.qs_plan_meaning.specs.declared.stage.Stage.TheOpen.{Values, Union, Optional, Fed, Minus}
+use Rattle.qs_plan_meaning.specs.declared.stage.Stage.TheOpen.{Apart}
+use Rattle.qs_plan_meaning.specs.inner.Stages.{Made}
 
--- a stage, the position where its rows go on, and for a union the positions where its branches begin
+-- a stage, the position where its rows go on, and for a union the positions where its branches
+-- begin
 pub record Instruction : Type 0 where
   pub stage : Stage
   pub next : ℕ
@@ -67,7 +73,8 @@ at fs position = value_at finished nothing fs position
 
 -- what comes of a row at an instruction
 abbrev pub instr_made : (Stage → Made) → List Made → Instruction → Made
-instr_made gives fs i m = if is_union i.stage then flat_map (λ start. at fs start m) i.starts else flat_map (at fs i.next) (gives i.stage m)
+instr_made gives fs i m = if is_union i.stage then flat_map (λ start. at fs start m) i.starts
+    else flat_map (at fs i.next) (gives i.stage m)
 
 abbrev pub meanings : (Stage → Made) → List Instruction → List Made
 meanings gives code = values_of (instr_made gives) code

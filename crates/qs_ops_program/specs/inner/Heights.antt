@@ -1,7 +1,11 @@
--- How deep the groups are nested that walks of their own evaluate, those of OPTIONAL, MINUS and of Apart.
+-- How deep the groups are nested that walks of their own evaluate, those of OPTIONAL, MINUS and of
+-- Apart.
 use Rattle.std.specs.Prelude.{ℕ, ◌+◌, ◌≤◌, max, List, [], ◌∷◌, map}
 use Rattle.qs_plan_meaning.specs.declared.stage.Stage.{Stage, fold-Stage}
-use Rattle.qs_plan_meaning.specs.declared.stage.Stage.TheOpen.{Stage-F, Group-F, Triple, Path, Exists, Names, Name, Filter, Bind, Values, Union, Optional, Fed, Minus, Apart}
+use Rattle.qs_plan_meaning.specs.declared.stage.Stage.TheOpen.{Stage-F, Group-F, Triple, Path}
+use Rattle.qs_plan_meaning.specs.declared.stage.Stage.TheOpen.{Exists, Names, Name, Filter, Bind}
+use Rattle.qs_plan_meaning.specs.declared.stage.Stage.TheOpen.{Values, Union, Optional, Fed, Minus}
+use Rattle.qs_plan_meaning.specs.declared.stage.Stage.TheOpen.{Apart}
 use Rattle.qs_ops_program.specs.inner.Flow.{Instruction}
 
 -- the greatest of them

@@ -12,8 +12,8 @@ use Rattle.qs_expr.specs.inner.Scratch.{IsTable}
 use Rattle.qs_algebra_solutions.specs.Solution.{Solution, term_at, binding}
 use Rattle.qs_algebra_solutions.specs.Operators.{merges}
 use Rattle.qs_algebra_patterns.specs.declared.pattern.TriplePattern.{TriplePattern}
-use Rattle.qs_plan_meaning.specs.Scans.{extensions}
-use Rattle.qs_plan_meaning.specs.Stages.{each_named, graph_named}
+use Rattle.qs_plan_meaning.specs.inner.Scans.{extensions}
+use Rattle.qs_plan_meaning.specs.inner.Stages.{each_named, graph_named}
 use Rattle.qs_ops_scans.specs.declared.pattern.Place.{Place}
 use Rattle.qs_ops_scans.specs.declared.pattern.Place.TheVariants as place
 use Rattle.qs_ops_scans.specs.declared.pattern.PreparedTriple.{PreparedTriple}
@@ -34,7 +34,8 @@ each_joined quads width v r p m =
 -- whether the term of the cell is the name of a graph
 abbrev pub NamesGraph : Content → Cell → Bool → Type 0
 NamesGraph c cell result =
-    (table : List Term) (name : Term) → IsTable c.known table → denoted c.known table cell ≡ Some name
+    (table : List Term) (name : Term) → IsTable c.known table → denoted c.known table cell
+    ≡ Some name
     → result ≡ list_any (same_term name) (names_of c.quads)
 
 abbrev pub place_misses : ℕ → Place → Bool

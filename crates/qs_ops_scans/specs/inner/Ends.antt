@@ -1,5 +1,6 @@
 -- What a pair of cells makes of a row.
-use Rattle.std.specs.Prelude.{◌≡◌, ℕ, Bool, true, false, ◌==◌, ◌&&◌, nat_lt, List, [], ◌∷◌, drop, length, Option, None, Some, slice_set, if◌then◌else◌}
+use Rattle.std.specs.Prelude.{◌≡◌, ℕ, Bool, true, false, ◌==◌, ◌&&◌, nat_lt, List, [], ◌∷◌, drop}
+use Rattle.std.specs.Prelude.{length, Option, None, Some, slice_set, if◌then◌else◌}
 use Rattle.std.specs.List.{filter_map}
 use Rattle.qs_algebra_patterns.specs.declared.pattern.Slot.{Slot}
 use Rattle.qs_algebra_patterns.specs.declared.pattern.Slot.TheVariants as slot
@@ -45,13 +46,16 @@ cell_after None false c = None
 cell_after None true c = Some c
 cell_after (Some d) b c = Some d
 
--- the object's variable, if it is one, has this cell in the row or none, after the subject was bound
+-- the object's variable, if it is one, has this cell in the row or none, after the subject was
+-- bound
 abbrev pub object_agrees : Option ℕ → Option ℕ → Cell × Cell → Cells → Bool
 object_agrees subject None cells m = true
-object_agrees subject (Some v) cells m = agrees_cell (cell_after (cell_at m v) (binds_end m subject v) cells.0) cells.1
+object_agrees subject (Some v) cells m =
+    agrees_cell (cell_after (cell_at m v) (binds_end m subject v) cells.0) cells.1
 
 abbrev pub pair_agrees : Ends → Cells → Cell × Cell → Bool
-pair_agrees ends m cells = subject_agrees ends.subject cells.0 m && object_agrees ends.subject ends.object cells m
+pair_agrees ends m cells =
+    subject_agrees ends.subject cells.0 m && object_agrees ends.subject ends.object cells m
 
 abbrev pub set_open : Option Cell → ℕ → Cell → Cells → Cells
 set_open None v c m = slice_set m v (Some c)
@@ -88,7 +92,8 @@ object_act m subject None = Pass
 object_act m subject (Some v) = act_for (cell_at m v) (open_act (binds_end m subject v) v)
 
 abbrev pub end_acts : Cells → Ends → EndActs
-end_acts m ends = record { subject = subject_act m ends.subject; object = object_act m ends.subject ends.object }
+end_acts m ends =
+    record { subject = subject_act m ends.subject; object = object_act m ends.subject ends.object }
 
 abbrev pub act_agrees : EndAct → Cell → Cell → Bool
 act_agrees Pass s c = true
@@ -97,7 +102,8 @@ act_agrees (Test d) s c = same_cell d c
 act_agrees AsSubject s c = same_cell s c
 
 abbrev pub acts_agree : EndActs → Cell × Cell → Bool
-acts_agree acts cells = act_agrees acts.subject cells.0 cells.0 && act_agrees acts.object cells.0 cells.1
+acts_agree acts cells =
+    act_agrees acts.subject cells.0 cells.0 && act_agrees acts.object cells.0 cells.1
 
 abbrev pub act_bound : EndAct → Cell → Cells → Cells
 act_bound Pass c m = m
@@ -113,7 +119,9 @@ abbrev pub act_made : EndActs → Cells → Cell × Cell → Option Cells
 act_made acts m cells = if acts_agree acts cells then Some (acts_bound acts cells m) else None
 
 -- the first pair from a place on that makes a row, and the place after it; none where none does
-abbrev pub IsNextPair : EndActs → Cells → List (Cell × Cell) → ℕ → Option (ℕ × (Cell × Cell)) → Type 0
+abbrev pub IsNextPair : EndActs → Cells → List (Cell × Cell) → ℕ → Option (ℕ × (Cell × Cell))
+    → Type 0
 IsNextPair acts m cells from None = filter_map (act_made acts m) (drop from cells) ≡ []
 IsNextPair acts m cells from (Some next) =
-    filter_map (act_made acts m) (drop from cells) ≡ acts_bound acts next.1 m ∷ filter_map (act_made acts m) (drop next.0 cells)
+    filter_map (act_made acts m) (drop from cells) ≡ acts_bound acts next.1 m ∷ filter_map
+    (act_made acts m) (drop next.0 cells)

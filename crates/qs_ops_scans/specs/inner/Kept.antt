@@ -1,5 +1,6 @@
 -- The pairs of a path pattern that are kept.
-use Rattle.std.specs.Prelude.{◌≡◌, Bool, true, false, not, ◌||◌, List, [], ◌∷◌, ◌++◌, None, Some, Ok, if◌then◌else◌}
+use Rattle.std.specs.Prelude.{◌≡◌, Bool, true, false, not, ◌||◌, List, [], ◌∷◌, ◌++◌, None, Some}
+use Rattle.std.specs.Prelude.{Ok, if◌then◌else◌}
 use Rattle.std.specs.List.{filter}
 use Rattle.qs_terms.specs.Term.{same_term}
 use Rattle.qs_terms.specs.declared.term.Term.{Term}
@@ -19,25 +20,35 @@ abbrev pub keeps : Bool → Pair → Bool
 keeps repeated e = not repeated || same_term e.left e.right
 
 abbrev pub kept_with : Bool → List (Cell × Cell) → Cell × Cell → List (Cell × Cell)
-kept_with repeated kept cells = if not repeated || same_cell cells.0 cells.1 then kept ++ cells ∷ [] else kept
+kept_with repeated kept cells =
+    if not repeated || same_cell cells.0 cells.1 then kept ++ cells ∷ [] else kept
 
 -- by each table the cells denote those of the pairs still to come that are kept
-abbrev pub AreCollected : {V : Type 0} → (V → Content) → (V → DefaultGraph) → Pairs V → Bool → List (Cell × Cell) → Type 0
+abbrev pub AreCollected : {V : Type 0} → (V → Content) → (V → DefaultGraph) → Pairs V → Bool
+    → List (Cell × Cell) → Type 0
 AreCollected content default pairs repeated kept =
-    (table : List Term) (ps : List Pair) → IsTable (known_in content pairs.edges) table → IsToCome content default table pairs ps
+    (table : List Term) (ps : List Pair) → IsTable (known_in content pairs.edges) table
+    → IsToCome content default table pairs ps
     → ArePairs (known_in content pairs.edges) table kept (filter (keeps repeated) ps)
 
 -- the next pair was taken, and is kept where its ends are as they are to be
-pub record TakesOne {V : Type 0} (content : V → Content) (default : V → DefaultGraph) (repeated : Bool) (old : Pairs V) (kept : List (Cell × Cell)) (new : Pairs V) (kept' : List (Cell × Cell)) : Type 0 where
+pub record TakesOne {V : Type 0} (content : V → Content) (default : V → DefaultGraph)
+    (repeated : Bool) (old : Pairs V) (kept : List (Cell × Cell)) (new : Pairs V)
+    (kept' : List (Cell × Cell)) : Type 0 where
   pub cells : Cell × Cell
   pub gives : GivesPair content default old (Some (Ok cells)) new
   pub is : kept' ≡ kept_with repeated kept cells
 
 -- there was none
-pub record TakesNone {V : Type 0} (content : V → Content) (default : V → DefaultGraph) (old : Pairs V) (kept : List (Cell × Cell)) (new : Pairs V) (kept' : List (Cell × Cell)) : Type 0 where
+pub record TakesNone {V : Type 0} (content : V → Content) (default : V → DefaultGraph)
+    (old : Pairs V) (kept : List (Cell × Cell)) (new : Pairs V) (kept' : List (Cell × Cell)) : Type
+    0 where
   pub gives : GivesPair content default old None new
   pub is : kept' ≡ kept
 
-abbrev pub IsTaken : {V : Type 0} → (V → Content) → (V → DefaultGraph) → Bool → Pairs V → List (Cell × Cell) → Bool → Pairs V → List (Cell × Cell) → Type 0
-IsTaken content default repeated old kept true new kept' = TakesOne content default repeated old kept new kept'
-IsTaken content default repeated old kept false new kept' = TakesNone content default old kept new kept'
+abbrev pub IsTaken : {V : Type 0} → (V → Content) → (V → DefaultGraph) → Bool → Pairs V
+    → List (Cell × Cell) → Bool → Pairs V → List (Cell × Cell) → Type 0
+IsTaken content default repeated old kept true new kept' =
+    TakesOne content default repeated old kept new kept'
+IsTaken content default repeated old kept false new kept' =
+    TakesNone content default old kept new kept'

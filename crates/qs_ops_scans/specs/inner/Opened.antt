@@ -1,5 +1,6 @@
 -- What a scan leaves to be tested and bound, by cells.
-use Rattle.std.specs.Prelude.{◌≡◌, ℕ, Bool, true, false, ◌==◌, ◌&&◌, nat_lt, if◌then◌else◌, List, [], length, Option, None, Some, slice_index, slice_set}
+use Rattle.std.specs.Prelude.{◌≡◌, ℕ, Bool, true, false, ◌==◌, ◌&&◌, nat_lt, if◌then◌else◌, List}
+use Rattle.std.specs.Prelude.{[], length, Option, None, Some, slice_index, slice_set}
 use Rattle.qs_store.specs.Content.{Content}
 use Rattle.qs_store.specs.inner.Triples.{AreTriplesAnyhow}
 use Rattle.qs_store.specs.declared.active.Active.{Active}
@@ -22,7 +23,8 @@ given_cell None = Some None
 given_cell (Some (Known n)) = Some (Some n)
 given_cell (Some (Scratch k)) = None
 
--- the number that a place has for the row, if it has one; nothing agrees with a term that the dictionary lacks
+-- the number that a place has for the row, if it has one; nothing agrees with a term that the
+-- dictionary lacks
 abbrev pub given_of : Place → Cells → Option (Option ℕ)
 given_of place.Absent m = None
 given_of (place.Number n) m = Some (Some n)
@@ -57,13 +59,15 @@ subject_act m (place.Variable v) = if_open (cell_at m v) (Bind v)
 abbrev pub predicate_act : Cells → Place → Place → Act
 predicate_act m s place.Absent = Pass
 predicate_act m s (place.Number n) = Pass
-predicate_act m s (place.Variable v) = if_open (cell_at m v) (if binds m s v then AsSubject else Bind v)
+predicate_act m s (place.Variable v) =
+    if_open (cell_at m v) (if binds m s v then AsSubject else Bind v)
 
 abbrev pub object_act : Cells → Place → Place → Place → Act
 object_act m s p place.Absent = Pass
 object_act m s p (place.Number n) = Pass
 object_act m s p (place.Variable v) =
-    if_open (cell_at m v) (if binds m s v then AsSubject else if binds m p v then AsPredicate else Bind v)
+    if_open (cell_at m v) (if binds m s v then AsSubject else if binds m p v then AsPredicate
+    else Bind v)
 
 abbrev pub acts_of : PreparedTriple → Cells → Acts
 acts_of k m = record {
@@ -80,7 +84,8 @@ act_passes AsSubject x n = slice_index x 0 == n
 act_passes AsPredicate x n = slice_index x 1 == n
 
 abbrev pub passes : Acts → List ℕ → Bool
-passes acts x = act_passes acts.predicate x (slice_index x 1) && act_passes acts.object x (slice_index x 2)
+passes acts x =
+    act_passes acts.predicate x (slice_index x 1) && act_passes acts.object x (slice_index x 2)
 
 abbrev pub act_bound : Act → ℕ → Cells → Cells
 act_bound Pass n m = m
@@ -90,7 +95,8 @@ act_bound AsPredicate n m = m
 
 abbrev pub bound : Acts → List ℕ → Cells → Cells
 bound acts x m =
-    act_bound acts.object (slice_index x 2) (act_bound acts.predicate (slice_index x 1) (act_bound acts.subject (slice_index x 0) m))
+    act_bound acts.object (slice_index x 2)
+    (act_bound acts.predicate (slice_index x 1) (act_bound acts.subject (slice_index x 0) m))
 
 -- the row that a triple of the scan makes of the row
 abbrev pub row_made : Acts → Cells → List ℕ → Option Cells
@@ -100,12 +106,14 @@ row_made acts m x = if passes acts x then Some (bound acts x m) else None
 
 -- the triples of the graph with the numbers that are given, in some order
 abbrev pub IsAsked : Content → DefaultGraph → Active → Given → List (List ℕ) → Type 0
-IsAsked c default graph g triples = AreTriplesAnyhow c default graph g.subject g.predicate g.object triples
+IsAsked c default graph g triples =
+    AreTriplesAnyhow c default graph g.subject g.predicate g.object triples
 
 -- the triples of the graph with the numbers that are given; none where a term isn't known
 abbrev pub IsScannedBy : Content → DefaultGraph → Active → Option Given → List (List ℕ) → Type 0
 IsScannedBy c default graph None triples = triples ≡ []
 IsScannedBy c default graph (Some g) triples = IsAsked c default graph g triples
 
-abbrev pub IsScanned : Content → DefaultGraph → Active → PreparedTriple → Cells → List (List ℕ) → Type 0
+abbrev pub IsScanned : Content → DefaultGraph → Active → PreparedTriple → Cells → List (List ℕ)
+    → Type 0
 IsScanned c default graph k m triples = IsScannedBy c default graph (givens k m) triples

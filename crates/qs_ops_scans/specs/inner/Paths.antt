@@ -11,7 +11,7 @@ use Rattle.qs_algebra_patterns.specs.declared.pattern.Slot.TheVariants as slot
 use Rattle.qs_algebra_patterns.specs.declared.pattern.PathPattern.{PathPattern}
 use Rattle.qs_expr.specs.declared.cell.Cell.{Cell}
 use Rattle.qs_expr.specs.inner.Cell.{Cells, cell_at, denoted_if}
-use Rattle.qs_plan_meaning.specs.Scans.{path_pairs}
+use Rattle.qs_plan_meaning.specs.inner.Scans.{path_pairs}
 use Rattle.qs_ops_scans.specs.declared.bound.RowEnds.{RowEnds}
 pub use Rattle.qs_paths.specs.inner.Coming.{denoted_pair, pair_if}
 

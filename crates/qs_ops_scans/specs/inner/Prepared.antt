@@ -1,7 +1,7 @@
 -- Triple patterns and graphs by the numbers of their terms.
 use Rattle.std.specs.Prelude.{◌≡◌, ℕ, List, Option, None, Some}
 use Rattle.qs_terms.specs.declared.term.Term.{Term}
-use Rattle.qs_dict.specs.Dict.{number_of}
+use Rattle.qs_dict.specs.inner.Dict.{number_of}
 use Rattle.qs_store.specs.inner.ActiveGraph.{active_graph}
 use Rattle.qs_store.specs.Content.{Content}
 use Rattle.qs_store.specs.declared.active.Active.{Active}
@@ -16,7 +16,7 @@ use Rattle.qs_expr.specs.inner.Cell.{Cells, cell_at, row_solution, FitsRow}
 use Rattle.qs_expr.specs.inner.Scratch.{IsTable}
 use Rattle.qs_plan_meaning.specs.declared.stage.Look.{Look}
 use Rattle.qs_plan_meaning.specs.declared.stage.Look.TheVariants as look
-use Rattle.qs_plan_meaning.specs.Stages.{looked}
+use Rattle.qs_plan_meaning.specs.inner.Stages.{looked}
 use Rattle.qs_ops_scans.specs.declared.pattern.Place.{Place}
 use Rattle.qs_ops_scans.specs.declared.pattern.Place.TheVariants as place
 use Rattle.qs_ops_scans.specs.declared.pattern.PreparedTriple.{PreparedTriple}
@@ -68,5 +68,7 @@ graph_by (prepared.Register r) row graph = graph_of_cell (cell_at row r)
 -- its triples are those of the graph in which the stage looks for the row
 abbrev pub IsGraphOf : Content → DefaultGraph → PreparedLook → Cells → Active → Active → Type 0
 IsGraphOf c default prepared row graph result =
-    (place : Look) (table : List Term) → prepared ≡ prepared_look c.known place → IsTable c.known table → FitsRow c.known table row
-    → active_graph c default result ≡ looked c.quads (active_graph c default graph) place (row_solution c.known table row)
+    (place : Look) (table : List Term) → prepared ≡ prepared_look c.known place
+    → IsTable c.known table → FitsRow c.known table row
+    → active_graph c default result ≡ looked c.quads (active_graph c default graph) place
+    (row_solution c.known table row)

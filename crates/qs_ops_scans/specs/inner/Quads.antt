@@ -1,5 +1,6 @@
 -- What a scan of all named graphs makes of a row, by cells.
-use Rattle.std.specs.Prelude.{◌≡◌, ℕ, Bool, true, ◌||◌, if◌then◌else◌, List, [], ◌∷◌, Option, None, Some, slice_index, slice_set}
+use Rattle.std.specs.Prelude.{◌≡◌, ℕ, Bool, true, ◌||◌, if◌then◌else◌, List, [], ◌∷◌, Option, None}
+use Rattle.std.specs.Prelude.{Some, slice_index, slice_set}
 use Rattle.std.specs.Option.{is_some}
 use Rattle.qs_store.specs.Content.{Content}
 use Rattle.qs_expr.specs.declared.cell.Cell.TheVariants.{Known}
@@ -22,10 +23,12 @@ abbrev pub also_bound : Option ℕ → ℕ → Cells → Cells
 also_bound None n m = m
 also_bound (Some v) n m = slice_set m v (Some (Known n))
 
--- the row with the variables of the quad's triple bound, and the register, and the variable if there is one, to the name of its graph
+-- the row with the variables of the quad's triple bound, and the register, and the variable if
+-- there is one, to the name of its graph
 abbrev pub quad_bound : Acts → ℕ → Option ℕ → Cells → List ℕ → Cells
 quad_bound acts r v m x =
-    also_bound v (slice_index x 0) (slice_set (bound acts (triple_in x) m) r (Some (Known (slice_index x 0))))
+    also_bound v (slice_index x 0)
+    (slice_set (bound acts (triple_in x) m) r (Some (Known (slice_index x 0))))
 
 -- the row that a quad of the scan makes of the row
 abbrev pub quad_made : Acts → ℕ → Option ℕ → Cells → List ℕ → Option Cells

@@ -1,5 +1,6 @@
 -- Pairs that ascend by one end.
-use Rattle.std.specs.Prelude.{◌≡◌, ℕ, ◌<◌, ◌≤◌, List, drop, length, slice_index_or, take, Option, None, Some}
+use Rattle.std.specs.Prelude.{◌≡◌, ℕ, ◌<◌, ◌≤◌, List, drop, length, slice_index_or, take, Option}
+use Rattle.std.specs.Prelude.{None, Some}
 use Rattle.std.specs.List.{filter_map}
 use Rattle.std.specs.List.Sorted.{IsNonDecreasingBy}
 use Rattle.qs_expr.specs.declared.cell.Cell.{Cell}
@@ -29,10 +30,14 @@ end_at ends Subject = ends.subject
 end_at ends Object = ends.object
 
 -- outside of the span no pair has the key
-pub record IsSpanOf (side : Side) (key : ℕ) (cells : List (Cell × Cell)) (span : Span) : Type 0 where
-  pub before : (k : ℕ) (d : Cell × Cell) → k < span.from → k < length cells → (side_key side (slice_index_or cells k d) ≡ key → ⊥)
-  pub past : (k : ℕ) (d : Cell × Cell) → span.to ≤ k → k < length cells → (side_key side (slice_index_or cells k d) ≡ key → ⊥)
+pub record IsSpanOf (side : Side) (key : ℕ) (cells : List (Cell × Cell)) (span : Span) : Type
+    0 where
+  pub before : (k : ℕ) (d : Cell × Cell) → k < span.from → k < length cells
+      → (side_key side (slice_index_or cells k d) ≡ key → ⊥)
+  pub past : (k : ℕ) (d : Cell × Cell) → span.to ≤ k → k < length cells
+      → (side_key side (slice_index_or cells k d) ≡ key → ⊥)
 
 -- those of the span make all rows
 abbrev pub IsSpan : Ends → Cells → List (Cell × Cell) → Span → Type 0
-IsSpan ends m cells span = filter_map (pair_made ends m) (drop span.from (take span.to cells)) ≡ filter_map (pair_made ends m) cells
+IsSpan ends m cells span = filter_map (pair_made ends m) (drop span.from (take span.to cells))
+    ≡ filter_map (pair_made ends m) cells

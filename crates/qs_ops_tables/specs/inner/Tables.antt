@@ -1,5 +1,6 @@
 -- Rows that are kept, and what other rows make of them (SPARQL 1.1 Query, 18.5).
-use Rattle.std.specs.Prelude.{◌≡◌, ℕ, Bool, false, true, ◌&&◌, ◌||◌, List, [], ◌∷◌, Option, None, Some, map, take}
+use Rattle.std.specs.Prelude.{◌≡◌, ℕ, Bool, false, true, ◌&&◌, ◌||◌, List, [], ◌∷◌, Option, None}
+use Rattle.std.specs.Prelude.{Some, map, take}
 use Rattle.std.specs.List.{AllByRecursion, filter, list_any}
 use Rattle.qs_terms.specs.declared.term.Term.{Term}
 use Rattle.qs_algebra_solutions.specs.Operators.{merges, excludes}
@@ -47,16 +48,22 @@ row_solutions known table rows = map (row_solution known table) rows
 -- the merged rows denote the merges of m's solution with those of the rows, as the algebra has it
 abbrev pub GivesMerges : List Cells → Cells → List Cells → Type 0
 GivesMerges rows m merged =
-    (known table : List Term) → IsTable known table → FitRows known table rows → FitsRow known table m
-    → row_solutions known table merged ≡ merges (row_solutions known table rows) (row_solution known table m)
+    (known table : List Term) → IsTable known table → FitRows known table rows
+    → FitsRow known table m
+    → row_solutions known table merged ≡ merges (row_solutions known table rows)
+    (row_solution known table m)
 
 -- the merged rows fit where the rows and m do
 abbrev pub FitsMerges : List Cells → Cells → List Cells → Type 0
 FitsMerges rows m merged =
-    (known table : List Term) → FitRows known table rows → FitsRow known table m → FitRows known table merged
+    (known table : List Term) → FitRows known table rows → FitsRow known table m
+    → FitRows known table merged
 
--- whether one of the rows takes the solution of m's first `width` variables away, as the algebra has it (Minus)
+-- whether one of the rows takes the solution of m's first `width` variables away, as the algebra
+-- has it (Minus)
 abbrev pub TellsExcluded : List Cells → ℕ → Cells → Bool → Type 0
 TellsExcluded rows width m result =
-    (known table : List Term) → IsTable known table → FitRows known table rows → FitsRow known table m
-    → result ≡ list_any (excludes (take width (row_solution known table m))) (row_solutions known table rows)
+    (known table : List Term) → IsTable known table → FitRows known table rows
+    → FitsRow known table m
+    → result ≡ list_any (excludes (take width (row_solution known table m)))
+    (row_solutions known table rows)

@@ -1,5 +1,6 @@
 -- Rows to come that have the same terms at some variables as a row that was given.
-use Rattle.std.specs.Prelude.{◌≡◌, ◌⊎◌, ℕ, ◌<◌, false, List, [], ◌∷◌, ◌++◌, take, Option, Some, None}
+use Rattle.std.specs.Prelude.{◌≡◌, ◌⊎◌, ℕ, ◌<◌, false, List, [], ◌∷◌, ◌++◌, take, Option, Some}
+use Rattle.std.specs.Prelude.{None}
 use Rattle.std.specs.List.{AllByRecursion}
 use Rattle.qs_terms.specs.Bag.{SameBag}
 use Rattle.qs_terms.specs.declared.term.Term.{Term}
@@ -8,11 +9,12 @@ use Rattle.qs_expr.specs.declared.cell.Cell.{Cell}
 use Rattle.qs_expr.specs.inner.Cell.{Cells, cell_at, row_solution, FitsRow}
 use Rattle.qs_plan_meaning.specs.declared.stage.Stage.{Stage}
 use Rattle.qs_plan.specs.inner.Certain.{Keeps}
-use Rattle.qs_ops_scans.specs.Skipped.{SkipsRows}
+use Rattle.qs_ops_scans.specs.inner.Skipped.{SkipsRows}
 use Rattle.qs_ops_program.specs.inner.Flow.{Instruction, is_union}
 use Rattle.qs_ops_walk.specs.declared.source.Level.{Level}
 use Rattle.qs_ops_walk.specs.declared.source.Source.{Source}
-use Rattle.qs_ops_walk.specs.declared.source.Source.TheVariants.{Given, Triple, Quads, Names, Path, Probe, Optional, Fork}
+use Rattle.qs_ops_walk.specs.declared.source.Source.TheVariants.{Given, Triple, Quads, Names, Path}
+use Rattle.qs_ops_walk.specs.declared.source.Source.TheVariants.{Probe, Optional, Fork}
 use Rattle.qs_ops_walk.specs.declared.work.Place.{Place}
 use Rattle.qs_ops_walk.specs.inner.Setting.{Setting, known_of}
 use Rattle.qs_ops_walk.specs.inner.Works.{code_of}
@@ -48,10 +50,12 @@ pub record SharesCell (width : ℕ) (m : Cells) (source : Source) (v : ℕ) : Ty
   pub common : HasCommon v source cell
 
 abbrev pub IsSourceAlike : ℕ → List ℕ → Cells → Source → Type 0
-IsSourceAlike width columns m source = (source ≡ Given None) ⊎ AllByRecursion (SharesCell width m source) columns
+IsSourceAlike width columns m source =
+    (source ≡ Given None) ⊎ AllByRecursion (SharesCell width m source) columns
 
 -- so it is with the last of the levels
-pub record IsLastAlike (width : ℕ) (columns : List ℕ) (m : Cells) (levels : List Level) : Type 0 where
+pub record IsLastAlike (width : ℕ) (columns : List ℕ) (m : Cells) (levels : List Level) : Type
+    0 where
   pub others : List Level
   pub level : Level
   pub are : levels ≡ others ++ level ∷ []
@@ -84,13 +88,17 @@ abbrev pub SharesTerms : ℕ → List ℕ → Solution → Solution → Type 0
 SharesTerms width columns m n = projected columns (take width n) ≡ projected columns m
 
 -- what was to come of the levels and isn't any more shares the terms of m
-pub record ArePassed (s : Setting) (code : List Instruction) (table : List Term) (columns : List ℕ) (m : Cells) (old now : List Level) : Type 0 where
+pub record ArePassed (s : Setting) (code : List Instruction) (table : List Term) (columns : List ℕ)
+    (m : Cells) (old now : List Level) : Type 0 where
   pub passed : List Solution
   pub bag : SameBag (coming s code table old) (passed ++ coming s code table now)
-  pub shared : AllByRecursion (SharesTerms s.width columns (row_solution (known_of s) table m)) passed
+  pub shared : AllByRecursion (SharesTerms s.width columns (row_solution (known_of s) table m))
+      passed
 
--- the walk goes on, over each setting of so many named variables, and by each table that the row fits
+-- the walk goes on, over each setting of so many named variables, and by each table that the row
+-- fits
 abbrev pub SkipsAlike : ℕ → List Place → List ℕ → Cells → List Level → List Level → Type 0
 SkipsAlike width ps columns m old now =
-    (s : Setting) (table : List Term) → s.width ≡ width → IsWalk s table ps old → FitsRow (known_of s) table m
+    (s : Setting) (table : List Term) → s.width ≡ width → IsWalk s table ps old
+    → FitsRow (known_of s) table m
     → IsWalk s table ps now × ArePassed s (code_of ps) table columns m old now

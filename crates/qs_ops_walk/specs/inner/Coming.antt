@@ -13,7 +13,8 @@ use Rattle.qs_ops_walk.specs.declared.source.Fork.{Fork as Branching}
 use Rattle.qs_ops_walk.specs.declared.source.Item.{Item}
 use Rattle.qs_ops_walk.specs.declared.source.Level.{Level}
 use Rattle.qs_ops_walk.specs.declared.source.Source.{Source}
-use Rattle.qs_ops_walk.specs.declared.source.Source.TheVariants.{Given, Triple, Quads, Names, Path, Probe, Optional, Fork}
+use Rattle.qs_ops_walk.specs.declared.source.Source.TheVariants.{Given, Triple, Quads, Names, Path}
+use Rattle.qs_ops_walk.specs.declared.source.Source.TheVariants.{Probe, Optional, Fork}
 use Rattle.qs_ops_walk.specs.inner.Setting.{Setting, known_of, gives_in}
 use Rattle.qs_ops_walk.specs.inner.Works.{expr_of}
 
@@ -32,7 +33,8 @@ or_else known table (Some m) (x ∷ xs) = x ∷ xs
 abbrev pub attempted : Setting → List Term → Attempt → List Solution
 attempted s table a =
     or_else (known_of s) table a.alone
-    (filter (λ n. all_hold (map expr_of a.conditions.list.items) (take s.width n)) (row_solutions (known_of s) table a.probe))
+    (filter (λ n. all_hold (map expr_of a.conditions.list.items) (take s.width n))
+    (row_solutions (known_of s) table a.probe))
 
 -- ---- levels
 
@@ -45,7 +47,8 @@ going next xs = map (λ x. (next, x)) xs
 
 -- the branches that the row is still to go through
 abbrev pub forked : List Term → List Term → Branching → List Going
-forked known table f = map (λ start. (start, row_solution known table f.row)) (drop f.at f.starts.list.items)
+forked known table f =
+    map (λ start. (start, row_solution known table f.row)) (drop f.at f.starts.list.items)
 
 abbrev pub source_items : Setting → List Term → ℕ → Source → List Going
 source_items s table next (Given m) = going next (row_if (known_of s) table m)
@@ -101,20 +104,27 @@ FitLevels known table ls = AllByRecursion (FitsLevel known table) ls
 abbrev pub going_of : List Term → List Term → Item → Going
 going_of known table i = (i.next, row_solution known table i.row)
 
--- the item is the first of those that were to come, and the others are to come; it is none where there were none
+-- the item is the first of those that were to come, and the others are to come; it is none where
+-- there were none
 abbrev pub GivesItem : Setting → List Term → List Going → Option Item → List Going → Type 0
 GivesItem s table old None new = old ≡ []
-GivesItem s table old (Some i) new = (old ≡ going_of (known_of s) table i ∷ new) × FitsRow (known_of s) table i.row
+GivesItem s table old (Some i) new =
+    (old ≡ going_of (known_of s) table i ∷ new) × FitsRow (known_of s) table i.row
 
--- the row is the first of those that were to come, and the others are to come; it is none where there were none
-abbrev pub GivesSolution : List Term → List Term → List Solution → Option Cells → List Solution → Type 0
+-- the row is the first of those that were to come, and the others are to come; it is none where
+-- there were none
+abbrev pub GivesSolution : List Term → List Term → List Solution → Option Cells → List Solution
+    → Type 0
 GivesSolution known table old None new = (old ≡ []) × (new ≡ [])
-GivesSolution known table old (Some m) new = (old ≡ row_solution known table m ∷ new) × FitsRow known table m
+GivesSolution known table old (Some m) new =
+    (old ≡ row_solution known table m ∷ new) × FitsRow known table m
 
 -- the row, before the next of its branches
 abbrev pub GivesBranch : Branching → Option Item → Branching → Type 0
 GivesBranch old None new = drop old.at old.starts.list.items ≡ []
-GivesBranch old (Some i) new = (drop old.at old.starts.list.items ≡ i.next ∷ drop new.at old.starts.list.items) × (i.row ≡ old.row)
+GivesBranch old (Some i) new =
+    (drop old.at old.starts.list.items ≡ i.next ∷ drop new.at old.starts.list.items)
+    × (i.row ≡ old.row)
 
 abbrev pub item_if : ℕ → Option Cells → Option Item
 item_if next None = None

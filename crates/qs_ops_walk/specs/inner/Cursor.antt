@@ -31,11 +31,16 @@ abbrev pub IsWalkUnless : Bool → Setting → List Term → List Place → List
 IsWalkUnless true s table ps ls = Unit {0}
 IsWalkUnless false s table ps ls = IsWalk s table ps ls
 
-pub record IsOp (failed : Bool) (s : Setting) (table : List Term) (ps : List Place) (ls : List Level) : Type 0 where
+pub record IsOp (failed : Bool) (s : Setting) (table : List Term) (ps : List Place)
+    (ls : List Level) : Type 0 where
   pub each_once : IsTable (known_of s) table
   pub walk : IsWalkUnless failed s table ps ls
 
--- the answer is one of the solutions to come over named variables, and the others are left; it is none where none was left, and then no level is
-abbrev pub GivesNamed : Setting → List Instruction → List Term → List Level → Option Cells → List Term → List Level → Type 0
+-- the answer is one of the solutions to come over named variables, and the others are left; it is
+-- none where none was left, and then no level is
+abbrev pub GivesNamed : Setting → List Instruction → List Term → List Level → Option Cells
+    → List Term → List Level → Type 0
 GivesNamed s code old levels None new now = (named_coming s code old levels ≡ []) × (now ≡ [])
-GivesNamed s code old levels (Some row) new now = SameBag (named_coming s code old levels) (row_solution (known_of s) new row ∷ named_coming s code new now) × FitsRow (known_of s) new row
+GivesNamed s code old levels (Some row) new now =
+    SameBag (named_coming s code old levels)
+    (row_solution (known_of s) new row ∷ named_coming s code new now) × FitsRow (known_of s) new row

@@ -11,6 +11,7 @@ use Rattle.qs_ops_walk.specs.inner.Setting.{Setting, known_of}
 use Rattle.qs_ops_walk.specs.inner.Cursor.{named_coming}
 
 -- the rows, and what is still to come over named variables, are all of these solutions
-pub record Gathers (s : Setting) (code : List Instruction) (all : List Solution) (table : List Term) (rows : List Cells) (ls : List Level) : Type 0 where
+pub record Gathers (s : Setting) (code : List Instruction) (all : List Solution) (table : List Term)
+    (rows : List Cells) (ls : List Level) : Type 0 where
   pub bag : SameBag all (row_solutions (known_of s) table rows ++ named_coming s code table ls)
   pub fit : FitRows (known_of s) table rows

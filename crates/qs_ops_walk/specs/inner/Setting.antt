@@ -7,9 +7,10 @@ use Rattle.qs_store.specs.declared.active.Active.{Active}
 use Rattle.qs_store.specs.declared.default_graph.DefaultGraph.{DefaultGraph}
 use Rattle.qs_algebra_patterns.specs.Basic.{Graph}
 use Rattle.qs_plan_meaning.specs.declared.stage.Stage.{Stage}
-use Rattle.qs_plan_meaning.specs.Stages.{Made, gives, through}
+use Rattle.qs_plan_meaning.specs.inner.Stages.{Made, gives, through}
 
--- how many variables of a row are named, the content of the view, the default graph that is seen, and the active graph
+-- how many variables of a row are named, the content of the view, the default graph that is seen,
+-- and the active graph
 pub record Setting : Type 0 where
   pub width : ℕ
   pub content : Content

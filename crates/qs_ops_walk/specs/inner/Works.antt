@@ -1,5 +1,6 @@
 -- What the places of a walk have prepared and keep.
-use Rattle.std.specs.Prelude.{◌≡◌, ℕ, Bool, true, List, Option, None, Some, map, take, length, slice_set, Vec}
+use Rattle.std.specs.Prelude.{◌≡◌, ℕ, Bool, true, List, Option, None, Some, map, take, length}
+use Rattle.std.specs.Prelude.{slice_set, Vec}
 use Rattle.std.specs.List.{AllByRecursion, list_any}
 use Rattle.qs_terms.specs.Bag.{SameBag}
 use Rattle.qs_terms.specs.Dataset.{names_of}
@@ -13,7 +14,7 @@ use Rattle.qs_algebra_patterns.specs.declared.pattern.PathPattern.{PathPattern}
 use Rattle.qs_store.specs.inner.ActiveGraph.{active_graph}
 use Rattle.qs_store.specs.inner.Graphs.{AreGraphs}
 use Rattle.qs_store.specs.declared.active.Active.{Active}
-use Rattle.qs_plan_meaning.specs.Scans.{path_pairs}
+use Rattle.qs_plan_meaning.specs.inner.Scans.{path_pairs}
 use Rattle.qs_ops_scans.specs.inner.Paths.{row_ends, ArePairs, Serve}
 use Rattle.qs_ops_walk.specs.declared.work.EndPairs.{EndPairs}
 use Rattle.qs_ops_walk.specs.declared.work.KeptPairs.{KeptPairs}
@@ -38,7 +39,9 @@ use Rattle.qs_ops_walk.specs.declared.work.Aside.{Aside}
 use Rattle.qs_ops_walk.specs.declared.work.Feed.{Feed}
 use Rattle.qs_ops_walk.specs.declared.work.Right.{Right}
 use Rattle.qs_ops_walk.specs.declared.work.Work.{Work}
-use Rattle.qs_ops_walk.specs.declared.work.Work.TheVariants.{Triple, Path, Names, Exists, Name, Filter, Bind, Values, Union, Optional, Fed, Minus, Apart}
+use Rattle.qs_ops_walk.specs.declared.work.Work.TheVariants.{Triple, Path, Names, Exists, Name}
+use Rattle.qs_ops_walk.specs.declared.work.Work.TheVariants.{Filter, Bind, Values, Union, Optional}
+use Rattle.qs_ops_walk.specs.declared.work.Work.TheVariants.{Fed, Minus, Apart}
 use Rattle.qs_ops_walk.specs.declared.work.Place.{Place}
 use Rattle.qs_ops_walk.specs.inner.Setting.{Setting, known_of, through_in}
 
@@ -58,9 +61,13 @@ abbrev pub only_cells : Option ℕ → ℕ → Option Cell → Cells
 only_cells None n name = no_cells n
 only_cells (Some r) n name = slice_set (no_cells n) r name
 
--- the kept rows denote the solutions of the group for rows of so many cells whose register has this name
-pub record IsAside (s : Setting) (table : List Term) (register : Option ℕ) (stages : List Stage) (a : Aside) : Type 0 where
-  pub rows : SameBag (row_solutions (known_of s) table a.kept.rows) (map (take s.width) (through_in s stages (only_at register a.cells (denoted_if (known_of s) table a.name))))
+-- the kept rows denote the solutions of the group for rows of so many cells whose register has this
+-- name
+pub record IsAside (s : Setting) (table : List Term) (register : Option ℕ) (stages : List Stage)
+    (a : Aside) : Type 0 where
+  pub rows : SameBag (row_solutions (known_of s) table a.kept.rows)
+      (map (take s.width)
+      (through_in s stages (only_at register a.cells (denoted_if (known_of s) table a.name))))
   pub fit : FitRows (known_of s) table a.kept.rows
   pub name : FitsIf (known_of s) table a.name
 
@@ -81,7 +88,8 @@ pub record Serves (right : Right) (m : Cells) (k : KeptRows) : Type 0 where
 
 -- ---- works
 
-pub record IsTriple (known : List Term) (i : Stage) (l : PreparedLook) (k : PreparedTriple) : Type 0 where
+pub record IsTriple (known : List Term) (i : Stage) (l : PreparedLook) (k : PreparedTriple) : Type
+    0 where
   pub look : Look
   pub pattern : TriplePattern
   pub is : i ≡ stage.Triple look pattern
@@ -90,7 +98,9 @@ pub record IsTriple (known : List Term) (i : Stage) (l : PreparedLook) (k : Prep
 
 abbrev pub IfPairs : Setting → List Term → PathPattern → Option KeptPairs → Type 0
 IfPairs s table pattern None = Unit {0}
-IfPairs s table pattern (Some k) = ArePairs (known_of s) table k.pairs (path_pairs pattern (active_graph s.content s.default k.graph))
+IfPairs s table pattern (Some k) =
+    ArePairs (known_of s) table k.pairs
+    (path_pairs pattern (active_graph s.content s.default k.graph))
 
 -- the pairs serve the rows with these cells at the ends
 pub record AreEndPairs
@@ -112,7 +122,8 @@ pub record IsPath (s : Setting) (table : List Term) (i : Stage) (t : Trail) : Ty
   pub last : IfEndPairs s table t.pattern.now t.last
 
 -- the pairs serve m, in the graph in which the path looks for it
-pub record ArePairsFor (s : Setting) (table : List Term) (t : Trail) (m : Cells) (pairs : List (Cell × Cell)) : Type 0 where
+pub record ArePairsFor (s : Setting) (table : List Term) (t : Trail) (m : Cells)
+    (pairs : List (Cell × Cell)) : Type 0 where
   pub graph : Active
   pub looks : IsGraphOf s.content s.default t.look m s.active graph
   pub serve :
@@ -138,7 +149,8 @@ pub record IsFilter (known : List Term) (i : Stage) (c : Prepared) : Type 0 wher
   pub prepared : IsPreparedFor known c
 
 -- the rows are those of the table
-pub record AreValues (s : Setting) (table : List Term) (values : Table) (k : KeptRows) : Type 0 where
+pub record AreValues (s : Setting) (table : List Term) (values : Table) (k : KeptRows) : Type
+    0 where
   pub rows : row_solutions (known_of s) table k.rows ≡ rows_of s.width values
   pub fit : FitRows (known_of s) table k.rows
 
@@ -146,7 +158,8 @@ abbrev pub IfValues : Setting → List Term → Table → Option KeptRows → Ty
 IfValues s table values None = Unit {0}
 IfValues s table values (Some k) = AreValues s table values k
 
-pub record IsValues (s : Setting) (table : List Term) (i : Stage) (values : Table) (kept : Option KeptRows) : Type 0 where
+pub record IsValues (s : Setting) (table : List Term) (i : Stage) (values : Table)
+    (kept : Option KeptRows) : Type 0 where
   pub is : i ≡ stage.Values values
   pub rows : IfValues s table values kept
 
@@ -157,11 +170,13 @@ pub record IsFork (i : Instruction) (starts : List ℕ) : Type 0 where
 abbrev pub expr_of : Prepared → Expr
 expr_of c = c.expr
 
--- the stages look in no register, and a row has the same merges with what they make by themselves as with what they make of the row
+-- the stages look in no register, and a row has the same merges with what they make by themselves
+-- as with what they make of the row
 abbrev pub IsAlike : ℕ → Option ℕ → List Stage → Type 0
 IsAlike width register stages = (register ≡ None) × IsFedAlike width stages
 
-pub record IsOptional (s : Setting) (table : List Term) (i : Stage) (right : Right) (is_alike : Bool) (conditions : List Prepared) : Type 0 where
+pub record IsOptional (s : Setting) (table : List Term) (i : Stage) (right : Right)
+    (is_alike : Bool) (conditions : List Prepared) : Type 0 where
   pub is : i ≡ stage.Optional right.register right.group.now (map expr_of conditions)
   pub alike : is_alike ≡ true → IsAlike s.width right.register right.group.now.stages
   pub prepared : AllByRecursion (IsPreparedFor (known_of s)) conditions
@@ -190,7 +205,8 @@ IsWork s table i (Filter c) = IsFilter (known_of s) i.stage c
 IsWork s table i (Bind v e) = i.stage ≡ stage.Bind v e.now
 IsWork s table i (Values v) = IsValues s table i.stage v.table.now v.kept
 IsWork s table i (Union starts) = IsFork i starts.list.items
-IsWork s table i (Optional c) = IsOptional s table i.stage c.right c.is_alike c.conditions.list.items
+IsWork s table i (Optional c) =
+    IsOptional s table i.stage c.right c.is_alike c.conditions.list.items
 IsWork s table i (Fed feed) = IsFed s i.stage feed
 IsWork s table i (Minus right) = IsMinus s table i.stage right
 IsWork s table i (Apart right) = IsApart s table i.stage right

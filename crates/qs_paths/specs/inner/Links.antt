@@ -26,16 +26,21 @@ pub record IsWeb (nodes : List ℕ) (rows : List (List ℕ)) : Type 0 where
 
 -- under each naming the links lead where they led before
 abbrev pub LeadAlike : List ℕ → List (List ℕ) → List ℕ → List (List ℕ) → Type 0
-LeadAlike nodes rows nodes' rows' = (name : ℕ → Term) → AreApart name → (x : Term) → leads_to (names name nodes') rows' x ≡ leads_to (names name nodes) rows x
+LeadAlike nodes rows nodes' rows' = (name : ℕ → Term) → AreApart name → (x : Term)
+    → leads_to (names name nodes') rows' x ≡ leads_to (names name nodes) rows x
 
 -- from each node links lead to the right ends of the pairs from it, in their order
 abbrev pub LinkPairs : List ℕ → List (List ℕ) → List NodePair → Type 0
-LinkPairs nodes rows es = (name : ℕ → Term) → AreApart name → AreLinks (names name nodes) rows (named_pairs name es)
+LinkPairs nodes rows es =
+    (name : ℕ → Term) → AreApart name → AreLinks (names name nodes) rows (named_pairs name es)
 
 -- these are the links of a path
 abbrev pub LinkSteps : List Term → List ℕ → List (List ℕ) → AtEnds → Type 0
-LinkSteps known nodes rows f = (name : ℕ → Term) → IsNaming known name → HasSteps (names name nodes) rows f
+LinkSteps known nodes rows f =
+    (name : ℕ → Term) → IsNaming known name → HasSteps (names name nodes) rows f
 
 -- from the nodes at these places a closure leads to the nodes at those places, each once
 abbrev pub AreAlike : List Term → Repetition → AtEnds → Graph → List ℕ → List ℕ → List ℕ → Type 0
-AreAlike known repetition f graph nodes found alike = (at n : ℕ) → StandsAt nodes at n → list_any (same_number at) alike ≡ true → AreEnds known repetition f graph n (nodes_at n nodes found)
+AreAlike known repetition f graph nodes found alike = (at n : ℕ) → StandsAt nodes at n
+    → list_any (same_number at) alike ≡ true → AreEnds known repetition f graph n
+    (nodes_at n nodes found)

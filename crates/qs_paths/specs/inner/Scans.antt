@@ -1,11 +1,12 @@
 -- The pairs that scans of a view have still to give.
-use Rattle.std.specs.Prelude.{◌≡◌, ◌≤◌, ℕ, Bool, false, not, ◌&&◌, List, [], ◌∷◌, map, Option, None, Some, ◌⊎◌, option_to_list, if◌then◌else◌}
+use Rattle.std.specs.Prelude.{◌≡◌, ◌≤◌, ℕ, Bool, false, not, ◌&&◌, List, [], ◌∷◌, map, Option, None}
+use Rattle.std.specs.Prelude.{Some, ◌⊎◌, option_to_list, if◌then◌else◌}
 use Rattle.std.specs.List.{filter, list_any}
 use Rattle.qs_terms.specs.declared.term.Term.{Term}
 use Rattle.qs_terms.specs.declared.term.Term.TheVariants as term
 use Rattle.qs_terms.specs.Dataset.{Triple, triple_of}
 use Rattle.qs_terms.specs.Term.{same_term}
-use Rattle.qs_dict.specs.Dict.{number_of, term_at}
+use Rattle.qs_dict.specs.inner.Dict.{number_of, term_at}
 use Rattle.qs_store.specs.Content.{Content}
 use Rattle.qs_store.specs.inner.Entries.{statement_of}
 use Rattle.qs_store.specs.inner.Triples.{AreTriples}
@@ -49,13 +50,19 @@ IsPast (Some n) = 4294967296 ≤ n
 
 -- the numbers are those of the IRIs of the members of this direction, as far as they are known
 abbrev pub AreOutside : List Term → Bool → List NegatedIri → List ℕ → Type 0
-AreOutside known inverse members outside = (t : Term) (p : ℕ) → term_at known p ≡ Some t → list_any (same_number p) outside ≡ list_any (λ m. is_of inverse m && same_term (term.Iri m.iri) t) members
+AreOutside known inverse members outside = (t : Term) (p : ℕ) → term_at known p ≡ Some t
+    → list_any (same_number p) outside ≡ list_any (λ m. is_of inverse m
+    && same_term (term.Iri m.iri) t) members
 
 -- the number of the member's IRI, where it is of this direction and known
 abbrev pub number_out : List Term → Bool → NegatedIri → List ℕ
-number_out known inverse m = if is_of inverse m then option_to_list (number_of known (term.Iri m.iri)) else []
+number_out known inverse m =
+    if is_of inverse m then option_to_list (number_of known (term.Iri m.iri)) else []
 
--- a scan of the triples with these ends and this predicate, or none where an end names no known term
-abbrev pub AreScanned : Content → DefaultGraph → Active → Option ℕ → Option ℕ → Option ℕ → Option (List (List ℕ)) → Type 0
+-- a scan of the triples with these ends and this predicate, or none where an end names no known
+-- term
+abbrev pub AreScanned : Content → DefaultGraph → Active → Option ℕ → Option ℕ → Option ℕ
+    → Option (List (List ℕ)) → Type 0
 AreScanned c default active left predicate right None = IsPast left ⊎ IsPast right
-AreScanned c default active left predicate right (Some triples) = AreTriples c default active left predicate right triples
+AreScanned c default active left predicate right (Some triples) =
+    AreTriples c default active left predicate right triples

@@ -11,4 +11,5 @@ abbrev pub known_in : {V : Type 0} → (V → Content) → Seen V → List Term
 known_in content seen = (content seen.view.now).known
 
 abbrev pub graph_in : {V : Type 0} → (V → Content) → (V → DefaultGraph) → Seen V → Graph
-graph_in content default seen = active_graph (content seen.view.now) (default seen.view.now) seen.active
+graph_in content default seen =
+    active_graph (content seen.view.now) (default seen.view.now) seen.active

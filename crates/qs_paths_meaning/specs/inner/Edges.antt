@@ -7,7 +7,8 @@ use Rattle.qs_paths_meaning.specs.Steps.{Graph, agrees}
 
 -- the triple has these ends and this predicate, as far as they are given
 abbrev pub has : Option Term → Option Term → Option Term → Triple → Bool
-has left predicate right t = agrees left t.subject && (agrees predicate t.predicate && agrees right t.object)
+has left predicate right t =
+    agrees left t.subject && (agrees predicate t.predicate && agrees right t.object)
 
 -- those of the triples that do
 abbrev pub having : Option Term → Option Term → Option Term → Graph → Graph

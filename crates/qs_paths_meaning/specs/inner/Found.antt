@@ -1,12 +1,14 @@
 -- What the program keeps while it goes over quads and walks.
-use Rattle.std.specs.Prelude.{◌≡◌, ℕ, Bool, true, false, ◌&&◌, ◌||◌, List, [], ◌∷◌, map, Option, Some, None, ◌==◌, if◌then◌else◌}
+use Rattle.std.specs.Prelude.{◌≡◌, ℕ, Bool, true, false, ◌&&◌, ◌||◌, List, [], ◌∷◌, map, Option}
+use Rattle.std.specs.Prelude.{Some, None, ◌==◌, if◌then◌else◌}
 use Rattle.std.specs.List.{list_any, filter}
 use Rattle.qs_terms.specs.declared.term.Term.{Term}
 use Rattle.qs_terms.specs.Bag.{Distinct, with_new}
 use Rattle.qs_terms.specs.Dataset.{Triple, nodes_of}
 use Rattle.qs_terms.specs.Term.{same_term}
 use Rattle.qs_syntax_tree.specs.declared.path.Repetition.{Repetition}
-use Rattle.qs_syntax_tree.specs.declared.path.Repetition.TheVariants.{ZeroOrOne, ZeroOrMore, OneOrMore}
+use Rattle.qs_syntax_tree.specs.declared.path.Repetition.TheVariants.{ZeroOrOne, ZeroOrMore}
+use Rattle.qs_syntax_tree.specs.declared.path.Repetition.TheVariants.{OneOrMore}
 use Rattle.qs_paths_meaning.specs.Pair.{Pair, pair, swapped}
 use Rattle.qs_paths_meaning.specs.Steps.{is_between}
 use Rattle.qs_paths_meaning.specs.Pairs.{AtEnds}

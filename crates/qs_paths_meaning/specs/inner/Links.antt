@@ -1,5 +1,6 @@
 -- The terms that steps lead to, kept at those that they lead from, by numbers.
-use Rattle.std.specs.Prelude.{◌≡◌, ℕ, ◌<◌, ◌≤◌, ◌==◌, Bool, true, List, [], ◌∷◌, ◌++◌, length, map, None, Vec, All, slice_index_or, slice_set, if◌then◌else◌}
+use Rattle.std.specs.Prelude.{◌≡◌, ℕ, ◌<◌, ◌≤◌, ◌==◌, Bool, true, List, [], ◌∷◌, ◌++◌, length, map}
+use Rattle.std.specs.Prelude.{None, Vec, All, slice_index_or, slice_set, if◌then◌else◌}
 use Rattle.std.specs.List.{filter, flat_map, list_any}
 use Rattle.qs_terms.specs.declared.term.Term.{Term}
 use Rattle.qs_terms.specs.Bag.{SameBag, with_new}
@@ -66,14 +67,18 @@ HasSteps terms rows f = (es : List Pair) × (SameBag es (f None None) × AreLink
 
 -- ---- what a walk reached
 
--- a number is among those reached where its round is this one; rounds before this one had smaller numbers
+-- a number is among those reached where its round is this one; rounds before this one had smaller
+-- numbers
 pub record IsMarked (round : ℕ) (rounds numbers : List ℕ) : Type 0 where
-  pub marks : (m : ℕ) → m < length rounds → same_number (slice_index_or rounds m 0) round ≡ list_any (same_number m) numbers
+  pub marks : (m : ℕ) → m < length rounds → same_number (slice_index_or rounds m 0) round ≡ list_any
+      (same_number m) numbers
   pub below : AreBelow (length rounds) numbers
   pub past : All (λ k. k ≤ round) rounds
 
 -- nodes from which, with both ends open, all pairs of the closure lead
 abbrev pub AreStarts : Graph → AtEnds → Repetition → List Term → Type 0
 AreStarts graph f repetition starts =
-    ((x : Term) → list_any (same_term x) starts ≡ true → list_any (same_term x) (nodes_of graph) ≡ true)
-    × SameBag (flat_map (from_start repetition (is_step f) graph None) starts) (closure repetition (is_step f) graph None None)
+    ((x : Term) → list_any (same_term x) starts ≡ true → list_any (same_term x) (nodes_of graph)
+    ≡ true)
+    × SameBag (flat_map (from_start repetition (is_step f) graph None) starts)
+    (closure repetition (is_step f) graph None None)

@@ -15,7 +15,8 @@ use Rattle.qs_expr_meaning.specs.declared.expr.Expr.TheVariants as expr
 use Rattle.qs_algebra_solutions.specs.Solution.{Solution, term_at}
 use Rattle.qs_algebra_solutions.specs.Operators.{merges}
 use Rattle.qs_algebra_patterns.specs.Basic.{Graph}
-use Rattle.qs_algebra_patterns.specs.Eval.{step, kept}
+use Rattle.qs_algebra_patterns.specs.Eval.{kept}
+use Rattle.qs_algebra_patterns.specs.inner.Eval.{step}
 use Rattle.qs_algebra_patterns.specs.declared.pattern.Step.{Step}
 use Rattle.qs_plan.specs.declared.certain.Size.{Size}
 use Rattle.qs_plan_meaning.specs.declared.stage.Look.{Look}

@@ -1,6 +1,7 @@
--- Paths as joins (SPARQL 1.1 Query, 18.2.2.4): stages that make of a row what the pairs of a path make of it, with hidden variables for
--- what stands between the parts of a sequence.
-use Rattle.std.specs.Prelude.{◌≡◌, ◌⊎◌, ℕ, ◌+◌, ◌<◌, ◌≤◌, List, [], ◌∷◌, ◌++◌, length, map, take, Option, Some, None}
+-- Paths as joins (SPARQL 1.1 Query, 18.2.2.4): stages that make of a row what the pairs of a path
+-- make of it, with hidden variables for what stands between the parts of a sequence.
+use Rattle.std.specs.Prelude.{◌≡◌, ◌⊎◌, ℕ, ◌+◌, ◌<◌, ◌≤◌, List, [], ◌∷◌, ◌++◌, length, map, take}
+use Rattle.std.specs.Prelude.{Option, Some, None}
 use Rattle.std.specs.List.{AllByRecursion}
 use Rattle.qs_terms.specs.Statement.{Statement}
 use Rattle.qs_terms.specs.declared.term.Term.TheVariants as term
@@ -16,8 +17,8 @@ use Rattle.qs_algebra_patterns.specs.declared.pattern.TriplePattern.{TriplePatte
 use Rattle.qs_plan_meaning.specs.declared.stage.Look.{Look}
 use Rattle.qs_plan_meaning.specs.declared.stage.Group.{Group}
 use Rattle.qs_plan_meaning.specs.declared.stage.Stage.{Stage}
-use Rattle.qs_plan_meaning.specs.Scans.{path_extensions}
-use Rattle.qs_plan_meaning.specs.Stages.{looked, register_of, through}
+use Rattle.qs_plan_meaning.specs.inner.Scans.{path_extensions}
+use Rattle.qs_plan_meaning.specs.inner.Stages.{looked, register_of, through}
 use Rattle.qs_plan.specs.inner.Numbers.{past, path_of, triple_stages}
 use Rattle.qs_plan.specs.inner.Sames.{Misses}
 
@@ -42,7 +43,8 @@ abbrev pub Stands : ℕ → Slot → Type 0
 Stands n (slot.Term t) = Unit {0}
 Stands n (slot.Variable v) = (v < n) ⊎ (past ≤ v)
 
--- an end of a path that is joined: a term, or a variable below `from` that isn't the register in which is looked
+-- an end of a path that is joined: a term, or a variable below `from` that isn't the register in
+-- which is looked
 abbrev pub IsEnd : ℕ → Look → Slot → Type 0
 IsEnd from place s = Lower from s × Misses (register_of place) s
 
@@ -58,12 +60,16 @@ between s p o = record { subject = s; path = p; object = o }
 abbrev pub by_iri : Slot → List ℕ → Slot → TriplePattern
 by_iri s i o = record { subject = s; predicate = slot.Term (term.Iri i); object = o }
 
--- of a row whose cells from `from` on are unbound the stages make what the pairs of the path do, and bind below `next` alone
-pub record Joined (place : Look) (from next : ℕ) (stages : List Stage) (p : PathPattern) : Type 0 where
+-- of a row whose cells from `from` on are unbound the stages make what the pairs of the path do,
+-- and bind below `next` alone
+pub record Joined (place : Look) (from next : ℕ) (stages : List Stage) (p : PathPattern) : Type
+    0 where
   pub up : from ≤ next
   pub rows : (width : ℕ) (quads : List Statement) (active : Graph) (m : Solution) → Free from next m
-      → map (take from) (through width quads active stages m) ≡ map (take from) (path_extensions p (looked quads active place m) m)
-  pub ended : (width : ℕ) (quads : List Statement) (active : Graph) (m : Solution) → Free from next m
+      → map (take from) (through width quads active stages m) ≡ map (take from)
+      (path_extensions p (looked quads active place m) m)
+  pub ended : (width : ℕ) (quads : List Statement) (active : Graph) (m : Solution)
+      → Free from next m
       → AllByRecursion (Ended next m) (through width quads active stages m)
 
 -- each branch makes what the pairs of one of the paths do
@@ -71,18 +77,23 @@ abbrev pub AllJoined : Look → ℕ → ℕ → Slot → Slot → List Group →
 AllJoined place from next s o [] [] = Unit {0}
 AllJoined place from next s o [] (p ∷ parts) = ⊥
 AllJoined place from next s o (b ∷ branches) [] = ⊥
-AllJoined place from next s o (b ∷ branches) (p ∷ parts) = Joined place from next b.stages (between s p o) × AllJoined place from next s o branches parts
+AllJoined place from next s o (b ∷ branches) (p ∷ parts) =
+    Joined place from next b.stages (between s p o) × AllJoined place from next s o branches parts
 
--- the first parts of a sequence: stages up to a slot, after which those of the parts that are left may follow
-pub record Leading (place : Look) (from : ℕ) (s : Slot) (parts : List Path) (stages : List Stage) (middle : Slot) (next : ℕ) : Type 0 where
+-- the first parts of a sequence: stages up to a slot, after which those of the parts that are left
+-- may follow
+pub record Leading (place : Look) (from : ℕ) (s : Slot) (parts : List Path) (stages : List Stage)
+    (middle : Slot) (next : ℕ) : Type 0 where
   pub up : from ≤ next
   pub is_end : IsEnd next place middle
-  pub then_rest : (o : Slot) (part : Path) (rest : List Path) (end : ℕ) (more : List Stage) → IsEnd from place o
+  pub then_rest : (o : Slot) (part : Path) (rest : List Path) (end : ℕ) (more : List Stage)
+      → IsEnd from place o
       → Joined place next end more (between middle (Sequence (part ∷ rest)) o)
       → Joined place from end (stages ++ more) (between s (Sequence (parts ++ part ∷ rest)) o)
 
 -- the stages of a path, and after them those of others
-pub record JoinedFirst (place : Look) (from : ℕ) (stages : List Stage) (p : PathPattern) (Others : ℕ → List Stage → Type 0) : Type 0 where
+pub record JoinedFirst (place : Look) (from : ℕ) (stages : List Stage) (p : PathPattern)
+    (Others : ℕ → List Stage → Type 0) : Type 0 where
   pub mid : ℕ
   pub first : List Stage
   pub rest : List Stage
@@ -93,10 +104,13 @@ pub record JoinedFirst (place : Look) (from : ℕ) (stages : List Stage) (p : Pa
 -- the stages of one path after another
 abbrev pub JoinedAll : Look → ℕ → ℕ → List Stage → List PathPattern → Type 0
 JoinedAll place from next stages [] = (stages ≡ []) × (next ≡ from)
-JoinedAll place from next stages (p ∷ paths) = JoinedFirst place from stages p (λ mid rest. JoinedAll place mid next rest paths)
+JoinedAll place from next stages (p ∷ paths) =
+    JoinedFirst place from stages p (λ mid rest. JoinedAll place mid next rest paths)
 
 -- the stages of a basic graph pattern: its triples, and after them what its paths are joined of
-pub record IsRun (width from next : ℕ) (place : Look) (pattern : BasicPattern) (stages : List Stage) : Type 0 where
+pub record IsRun (width from next : ℕ) (place : Look) (pattern : BasicPattern)
+    (stages : List Stage) : Type 0 where
   pub paths : List Stage
   pub is : stages ≡ triple_stages width pattern.hidden from place pattern.triples ++ paths
-  pub joined : JoinedAll place (from + pattern.hidden) next paths (map (path_of width pattern.hidden from) pattern.paths)
+  pub joined : JoinedAll place (from + pattern.hidden) next paths
+      (map (path_of width pattern.hidden from) pattern.paths)

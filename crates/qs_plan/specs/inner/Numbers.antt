@@ -1,5 +1,6 @@
--- Where the variables of a basic graph pattern stand in the rows of a plan: named ones at their numbers, hidden ones from `from` on. One
--- past the last gets a number past all rows, and is bound nowhere.
+-- Where the variables of a basic graph pattern stand in the rows of a plan: named ones at their
+-- numbers, hidden ones from `from` on. One past the last gets a number past all rows, and is bound
+-- nowhere.
 use Rattle.std.specs.Prelude.{ℕ, ◌+◌, ◌-◌, nat_lt, List, map, if◌then◌else◌}
 use Rattle.qs_algebra_patterns.specs.declared.pattern.Slot.{Slot}
 use Rattle.qs_algebra_patterns.specs.declared.pattern.Slot.TheVariants as slot
@@ -15,7 +16,8 @@ abbrev pub past : ℕ
 past = 18446744073709551614
 
 abbrev pub number : ℕ → ℕ → ℕ → ℕ → ℕ → ℕ
-number width hidden from none v = if nat_lt v width then v else (if nat_lt v (width + hidden) then from + (v - width) else none)
+number width hidden from none v =
+    if nat_lt v width then v else (if nat_lt v (width + hidden) then from + (v - width) else none)
 
 abbrev pub slot_of : ℕ → ℕ → ℕ → ℕ → Slot → Slot
 slot_of width hidden from none (slot.Term t) = slot.Term t
@@ -40,4 +42,5 @@ path_of width hidden from p = record {
 }
 
 abbrev pub triple_stages : ℕ → ℕ → ℕ → Look → List TriplePattern → List Stage
-triple_stages width hidden from place triples = map (λ p. stage.Triple place (triple_of width hidden from p)) triples
+triple_stages width hidden from place triples =
+    map (λ p. stage.Triple place (triple_of width hidden from p)) triples

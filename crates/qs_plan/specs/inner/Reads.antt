@@ -8,7 +8,7 @@ use Rattle.qs_expr_meaning.specs.Meaning.{meaning}
 use Rattle.qs_expr_meaning.specs.declared.expr.Addend.{Addend}
 use Rattle.qs_expr_meaning.specs.declared.expr.Expr.{Expr}
 use Rattle.qs_plan_meaning.specs.declared.stage.Stage.{Stage}
-use Rattle.qs_plan_meaning.specs.Stages.{gives, through}
+use Rattle.qs_plan_meaning.specs.inner.Stages.{gives, through}
 
 -- both bind these variables alike
 abbrev pub Agree : List ℕ → Solution → Solution → Type 0
@@ -28,8 +28,10 @@ pub record Grows (old new : List ℕ) : Type 0 where
 
 -- what the stage makes of a row binds the variable as the row does
 pub record Leaves (v : ℕ) (s : Stage) : Type 0 where
-  pub same : (width : ℕ) (quads : List Statement) (active : Graph) (m : Solution) → AllByRecursion (λ q. term_at q v ≡ term_at m v) (gives width quads active s m)
+  pub same : (width : ℕ) (quads : List Statement) (active : Graph) (m : Solution)
+      → AllByRecursion (λ q. term_at q v ≡ term_at m v) (gives width quads active s m)
 
 -- the same of stages one after another
 pub record LeaveAll (v : ℕ) (ss : List Stage) : Type 0 where
-  pub same : (width : ℕ) (quads : List Statement) (active : Graph) (m : Solution) → AllByRecursion (λ q. term_at q v ≡ term_at m v) (through width quads active ss m)
+  pub same : (width : ℕ) (quads : List Statement) (active : Graph) (m : Solution)
+      → AllByRecursion (λ q. term_at q v ≡ term_at m v) (through width quads active ss m)

@@ -10,11 +10,12 @@ use Rattle.qs_algebra_patterns.specs.Basic.{Graph}
 use Rattle.qs_algebra_patterns.specs.declared.pattern.Slot.{Slot}
 use Rattle.qs_algebra_patterns.specs.declared.pattern.Slot.TheVariants as slot
 use Rattle.qs_plan_meaning.specs.declared.stage.Stage.{Stage}
-use Rattle.qs_plan_meaning.specs.Stages.{gives, through}
+use Rattle.qs_plan_meaning.specs.inner.Stages.{gives, through}
 
 -- of each row with a cell for each named variable they make the same
 pub record SameStages (ss ts : List Stage) : Type 0 where
-  pub same : (width : ℕ) (quads : List Statement) (active : Graph) (m : Solution) → width ≤ length m → SameBag (through width quads active ss m) (through width quads active ts m)
+  pub same : (width : ℕ) (quads : List Statement) (active : Graph) (m : Solution) → width ≤ length m
+      → SameBag (through width quads active ss m) (through width quads active ts m)
 
 -- what the register of a row holds
 abbrev pub held : Option ℕ → Solution → Option Term
@@ -26,12 +27,15 @@ pub record Stays (r : Option ℕ) (m q : Solution) : Type 0 where
   pub wide : length q ≡ length m
   pub holds : held r q ≡ held r m
 
--- a stage that merges each row with a cell for each named variable with rows that the register and the row's width alone determine, and leaves
--- the register
+-- a stage that merges each row with a cell for each named variable with rows that the register and
+-- the row's width alone determine, and leaves the register
 pub record IsScan (r : Option ℕ) (s : Stage) : Type 0 where
   pub rows : ℕ → List Statement → Graph → Option Term → ℕ → List Solution
-  pub gives_rows : (width : ℕ) (quads : List Statement) (active : Graph) (m : Solution) → width ≤ length m → gives width quads active s m ≡ merges (rows width quads active (held r m) (length m)) m
-  pub stays : (width : ℕ) (quads : List Statement) (active : Graph) (m : Solution) → width ≤ length m → AllByRecursion (Stays r m) (gives width quads active s m)
+  pub gives_rows : (width : ℕ) (quads : List Statement) (active : Graph) (m : Solution)
+      → width ≤ length m → gives width quads active s m
+      ≡ merges (rows width quads active (held r m) (length m)) m
+  pub stays : (width : ℕ) (quads : List Statement) (active : Graph) (m : Solution)
+      → width ≤ length m → AllByRecursion (Stays r m) (gives width quads active s m)
 
 -- the slot isn't the variable that is the register
 abbrev pub Misses : Option ℕ → Slot → Type 0

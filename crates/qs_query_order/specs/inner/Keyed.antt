@@ -1,5 +1,6 @@
 -- Rows with their keys.
-use Rattle.std.specs.Prelude.{◌≡◌, ℕ, ◌≤◌, Bool, not, List, ◌++◌, length, map, take, Option, Some, None}
+use Rattle.std.specs.Prelude.{◌≡◌, ℕ, ◌≤◌, Bool, not, List, ◌++◌, length, map, take, Option, Some}
+use Rattle.std.specs.Prelude.{None}
 use Rattle.std.specs.List.{All, count_by}
 use Rattle.std.specs.List.Sorted.{IsPermutation, IsSortedBy}
 use Rattle.std.specs.Ordering.{is_lt}
@@ -33,7 +34,8 @@ AreInFrontIf conditions (Some n) kept = AreInFront conditions n kept
 
 -- whether one solution is below another, by their keys
 abbrev pub is_below : List OrderCondition → Solution → Solution → Bool
-is_below conditions a b = is_lt (compare_keys conditions (keys_of conditions a) (keys_of conditions b))
+is_below conditions a b =
+    is_lt (compare_keys conditions (keys_of conditions a) (keys_of conditions b))
 
 -- n of those kept are not above the solution
 abbrev pub Covers : List OrderCondition → ℕ → List Solution → Solution → Type 0
@@ -41,7 +43,8 @@ Covers conditions n kept b = n ≤ count_by (λ a. not (is_below conditions b a)
 
 -- of the solutions that were seen these are kept, and n of the least are among them
 abbrev pub AreKept : List OrderCondition → ℕ → List Solution → List Solution → Type 0
-AreKept conditions n seen kept = (others : List Solution) × IsPermutation seen (kept ++ others) × All (Covers conditions n kept) others
+AreKept conditions n seen kept = (others : List Solution) × IsPermutation seen (kept ++ others)
+    × All (Covers conditions n kept) others
 
 -- the same where a count is given; else all are kept
 abbrev pub AreKeptIf : List OrderCondition → Option ℕ → List Solution → List Solution → Type 0

@@ -24,4 +24,5 @@ behind_first (k ∷ ks) = ks
 -- by the first condition that tells them apart
 abbrev pub compare_keys : List OrderCondition → List Key → List Key → Ordering
 compare_keys [] xs ys = Equal
-compare_keys (c ∷ cs) xs ys = ordering_then (directed c.direction (first_key xs) (first_key ys)) (compare_keys cs (behind_first xs) (behind_first ys))
+compare_keys (c ∷ cs) xs ys = ordering_then (directed c.direction (first_key xs) (first_key ys))
+    (compare_keys cs (behind_first xs) (behind_first ys))

@@ -8,8 +8,10 @@ abbrev pub projected_if : Option (List ℕ) → Solution → Solution
 projected_if None m = m
 projected_if (Some columns) m = projected columns m
 
--- the rows are the terms of these variables in the solutions after the first `offset` of some, of which so many suffice (SPARQL 1.1 Query,
+-- the rows are the terms of these variables in the solutions after the first `offset` of some, of
+-- which so many suffice (SPARQL 1.1 Query,
 -- 18.5: Project and Slice)
 abbrev pub AreSomeAfter : Option (List ℕ) → ℕ → Option ℕ → List Solution → List Solution → Type 0
 AreSomeAfter columns offset most rows all =
-    (some : List Solution) × AreSome most some all × (rows ≡ map (projected_if columns) (drop offset some))
+    (some : List Solution) × AreSome most some all
+    × (rows ≡ map (projected_if columns) (drop offset some))

@@ -13,7 +13,8 @@ abbrev pub Fit : List Term → List Term → List (KeyedRow Cells) → Type 0
 Fit known table kept = All (λ k. FitsRow known table k.row) kept
 
 -- these are kept of the solutions that were seen, with their keys
-pub record AreSoFar (known table : List Term) (conditions : List OrderCondition) (count : Option ℕ) (seen : List Solution) (kept : List (KeyedRow Cells)) : Type 0 where
+pub record AreSoFar (known table : List Term) (conditions : List OrderCondition) (count : Option ℕ)
+    (seen : List Solution) (kept : List (KeyedRow Cells)) : Type 0 where
   pub fits : Fit known table kept
   pub keyed : All (IsKeyed (row_solution known table) conditions) kept
   pub are_kept : AreKeptIf conditions count seen (solutions_of (row_solution known table) kept)

@@ -1,6 +1,8 @@
--- Where blank nodes stand, and which of them are fresh. A blank node of an instance is one that the solution binds, a term of the template,
--- or of the solution's block of numbers (`laws::blanks_are_fresh`).
-use Rattle.std.specs.Prelude.{ℕ, ◌+◌, ◌<◌, ◌≤◌, Bool, true, false, ◌||◌, ◌&&◌, nat_eq, nat_lt, Option, Some, None}
+-- Where blank nodes stand, and which of them are fresh. A blank node of an instance is one that the
+-- solution binds, a term of the template, or of the solution's block of numbers
+-- (`laws::blanks_are_fresh`).
+use Rattle.std.specs.Prelude.{ℕ, ◌+◌, ◌<◌, ◌≤◌, Bool, true, false, ◌||◌, ◌&&◌, nat_eq, nat_lt}
+use Rattle.std.specs.Prelude.{Option, Some, None}
 use Rattle.std.specs.List.{list_all, list_any}
 use Rattle.qs_terms.specs.Statement.{Statement}
 use Rattle.qs_terms.specs.declared.term.Term.{Term}
@@ -40,7 +42,8 @@ graph_is_blank n (Some s) = slot_is_blank n s
 
 -- whether it is itself a term of the template
 abbrev pub template_quad_has_blank : ℕ → QuadTemplate → Bool
-template_quad_has_blank n q = graph_is_blank n q.graph || (slot_is_blank n q.subject || slot_is_blank n q.object)
+template_quad_has_blank n q =
+    graph_is_blank n q.graph || (slot_is_blank n q.subject || slot_is_blank n q.object)
 
 abbrev pub names_blank : ℕ → Template → Bool
 names_blank n t = list_any (template_quad_has_blank n) t.quads
@@ -63,7 +66,9 @@ graph_is_numbered blanks (Some s) = slot_is_numbered blanks s
 -- each blank node of the quad is one of so many
 abbrev pub quad_is_numbered : ℕ → QuadTemplate → Bool
 quad_is_numbered blanks q =
-    graph_is_numbered blanks q.graph && (slot_is_numbered blanks q.subject && (slot_is_numbered blanks q.predicate && slot_is_numbered blanks q.object))
+    graph_is_numbered blanks q.graph
+    && (slot_is_numbered blanks q.subject
+    && (slot_is_numbered blanks q.predicate && slot_is_numbered blanks q.object))
 
 -- each blank node of the template has its number among those that a solution takes
 abbrev pub is_numbered : Template → Bool

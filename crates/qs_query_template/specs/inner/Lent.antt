@@ -1,6 +1,6 @@
 -- Lists of borrowed values, and outcomes that a Vec holds.
 use Rattle.std.specs.Prelude.{List, Ok, Err, Result, Vec}
-pub use Rattle.qs_base.specs.Lent.{lent}
+pub use Rattle.qs_base.specs.inner.Lent.{lent}
 use Rattle.qs_terms.specs.Outcome.{Outcome}
 use Rattle.qs_terms.specs.declared.fault.QFault.{QFault}
 

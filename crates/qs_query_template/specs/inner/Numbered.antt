@@ -14,6 +14,7 @@ abbrev pub by_text : Bor Name → Bor Name → Ordering
 by_text a b = slice_cmp nat_cmp a.now b.now
 
 -- the number of each blank node is found
-pub record AreNumbered (nodes : List BlankNode) (labels : Bor Name → Option ℕ) (anonymous : ℕ → Option ℕ) : Type 0 where
+pub record AreNumbered (nodes : List BlankNode) (labels : Bor Name → Option ℕ)
+    (anonymous : ℕ → Option ℕ) : Type 0 where
   pub labelled : (label : Bor Name) → labels label ≡ number_in nodes (Label label.now)
   pub unlabelled : (place : ℕ) → anonymous place ≡ number_in nodes (Anonymous place)

@@ -1,4 +1,5 @@
--- The columns of rows, in the order of their names, and the tokens that are written for what they hold.
+-- The columns of rows, in the order of their names, and the tokens that are written for what they
+-- hold.
 use Rattle.std.specs.Prelude.{◌≡◌, ℕ, List, [], ◌∷◌, Option, Some, None}
 use Rattle.json.specs.Token.{Token}
 use Rattle.json.specs.Tree.{json_tokens}

@@ -16,4 +16,5 @@ MadeOf (Err e) made = made ≡ fixed_message Memory
 -- the whole dataset's reply, with that fixed for requests
 abbrev pub CarriesDump : Language → Content → Bounds → Message → Type 0
 CarriesDump l content bounds reply =
-    let stored : Stored = record { content = content; bounds = bounds } in Carries l stored Dump stored reply
+    let stored : Stored =
+    record { content = content; bounds = bounds } in Carries l stored Dump stored reply

@@ -1,6 +1,7 @@
 -- What a connection denotes.
-use Rattle.std.specs.Prelude.{◌≡◌, ◌≤◌, ◌-◌, ℕ, List, [], ◌++◌, length, take, drop, Option, None, Some}
-use Rattle.qs_http.specs.Feeding.{Seen, Reading, Done}
+use Rattle.std.specs.Prelude.{◌≡◌, ◌≤◌, ◌-◌, ℕ, List, [], ◌++◌, length, take, drop, Option, None}
+use Rattle.std.specs.Prelude.{Some}
+use Rattle.qs_http.specs.inner.Feeding.{Seen, Reading, Done}
 use Rattle.qs_http.specs.Outcome.{More}
 use Rattle.qs_http.specs.RequestOf.{IsRequestOf}
 use Rattle.qs_service_connections.specs.Meaning.{RequestMeaning}
@@ -29,9 +30,12 @@ IsConnectionState (connection.Reading session) = IsReading session
 IsConnectionState (connection.Answered reply taken) = taken ≤ length reply.bytes
 
 -- a piece is received while the request is read: it isn't whole yet, or its reply is made
-abbrev pub ReceivesOn : {S : Type 0} → RequestMeaning S → S → List ℕ → List ℕ → S → Seen → Option Message → Type 0
-ReceivesOn carries old read piece new seen None = (new ≡ old) × (seen ≡ Reading (read ++ piece)) × IsRequestOf (read ++ piece) More
-ReceivesOn carries old read piece new seen (Some reply) = Receives carries old (state.Reading read) piece new (state.Answered reply 0)
+abbrev pub ReceivesOn : {S : Type 0} → RequestMeaning S → S → List ℕ → List ℕ → S → Seen
+    → Option Message → Type 0
+ReceivesOn carries old read piece new seen None =
+    (new ≡ old) × (seen ≡ Reading (read ++ piece)) × IsRequestOf (read ++ piece) More
+ReceivesOn carries old read piece new seen (Some reply) =
+    Receives carries old (state.Reading read) piece new (state.Answered reply 0)
 
 -- the bytes that a session has read
 abbrev pub bytes_read : Seen → List ℕ

@@ -1,5 +1,6 @@
 -- The table of connections.
-use Rattle.std.specs.Prelude.{◌≡◌, ◌<◌, ◌≤◌, ◌==◌, Bool, ℕ, List, length, Vec, vec_capacity, slice_set, slice_index_or, Some, None}
+use Rattle.std.specs.Prelude.{◌≡◌, ◌<◌, ◌≤◌, ◌==◌, Bool, ℕ, List, length, Vec, vec_capacity}
+use Rattle.std.specs.Prelude.{slice_set, slice_index_or, Some, None}
 use Rattle.std.specs.List.{remove}
 use Rattle.std.specs.declared.alloc.Global.{Global}
 use Rattle.qs_service_connections.specs.State.{Joined, exchange_of, put_exchange, without_id}
@@ -11,9 +12,11 @@ has_id id c = c.id == id
 pub record IsPlace (id : ℕ) (joined : List Joined) (place : ℕ) : Type 0 where
   pub within : place ≤ length joined
   pub absent : place ≡ length joined → exchange_of id joined ≡ None
-  pub there : (d : Joined) → place < length joined → exchange_of id joined ≡ Some (slice_index_or joined place d).exchange
+  pub there : (d : Joined) → place < length joined → exchange_of id joined
+      ≡ Some (slice_index_or joined place d).exchange
   pub removed : place < length joined → remove joined place ≡ without_id id joined
-  pub put : (d e : Joined) → place < length joined → e.id ≡ (slice_index_or joined place d).id → slice_set joined place e ≡ put_exchange id e.exchange joined
+  pub put : (d e : Joined) → place < length joined → e.id ≡ (slice_index_or joined place d).id
+      → slice_set joined place e ≡ put_exchange id e.exchange joined
 
 -- room for 64 was made, and no more are joined
 pub record IsTable (connections : Vec Joined Global) : Type 0 where

@@ -1,11 +1,13 @@
 -- When the system has no descriptor or no memory left to accept a connection.
-use Rattle.std.specs.Prelude.{◌≡◌, ◌==◌, ◌||◌, ℤ, pos, negsuc, Bool, true, false, Option, None, Some, IsTrue}
+use Rattle.std.specs.Prelude.{◌≡◌, ◌==◌, ◌||◌, ℤ, pos, negsuc, Bool, true, false, Option, None}
+use Rattle.std.specs.Prelude.{Some, IsTrue}
 use Rattle.std.specs.IoError.{error_kind, raw_os_error}
 use Rattle.std.specs.declared.io.Error.{Error}
 use Rattle.std.specs.declared.io.ErrorKind.{ErrorKind}
 use Rattle.std.specs.declared.io.ErrorKind.TheVariants.{OutOfMemory}
 use Rattle.qs_service_reactor.specs.declared.arrivals.Arrivals.{Arrivals}
-use Rattle.qs_service_reactor.specs.declared.arrivals.Arrivals.TheVariants.{None as Nobody, Pending, Short}
+use Rattle.qs_service_reactor.specs.declared.arrivals.Arrivals.TheVariants.{None as Nobody, Pending}
+use Rattle.qs_service_reactor.specs.declared.arrivals.Arrivals.TheVariants.{Short}
 
 -- the errors of Linux that say so: ENOMEM, ENFILE, EMFILE and ENOBUFS
 abbrev pub is_shortage_code : ℤ → Bool

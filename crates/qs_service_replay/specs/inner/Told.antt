@@ -1,5 +1,6 @@
 -- What a line tells, in its parts, and what is known before an event is told.
-use Rattle.std.specs.Prelude.{◌≡◌, ℕ, List, ◌∷◌, ◌++◌, Result, Ok, Err, Option, None, Some, Bool, false}
+use Rattle.std.specs.Prelude.{◌≡◌, ℕ, List, ◌∷◌, ◌++◌, Result, Ok, Err, Option, None, Some, Bool}
+use Rattle.std.specs.Prelude.{false}
 use Rattle.std.specs.List.{AllZip}
 use Rattle.std.specs.Option.{is_some}
 use Rattle.hex.specs.Hex.{decode_of}
@@ -13,7 +14,8 @@ use Rattle.qs_service_replay.specs.declared.script.ScriptFault.TheVariants.{Line
 
 -- what stands after the word of a piece
 abbrev pub IsPiece : List ℕ → ℕ → List ℕ → Type 0
-IsPiece rest id bytes = (digits hex : List ℕ) × IsId digits id × (decode_of hex ≡ Ok bytes) × (rest ≡ digits ++ 32 ∷ hex)
+IsPiece rest id bytes = (digits hex : List ℕ) × IsId digits id × (decode_of hex ≡ Ok bytes)
+    × (rest ≡ digits ++ 32 ∷ hex)
 
 -- it is the event that the line tells, or the line tells none
 abbrev pub IsToldBy : List ℕ → Option ScriptEvent → Type 0
@@ -22,7 +24,8 @@ IsToldBy line (Some h) = IsLine line (event_of h)
 
 -- these events are told by the lines before what is left of the text
 abbrev pub IsReadTo : List ℕ → List Event → List ℕ → Type 0
-IsReadTo text events rest = (front : List (List ℕ)) × AllZip IsLine front events × ((lines : List (List ℕ)) → AreLines rest lines → AreLines text (front ++ lines))
+IsReadTo text events rest = (front : List (List ℕ)) × AllZip IsLine front events
+    × ((lines : List (List ℕ)) → AreLines rest lines → AreLines text (front ++ lines))
 
 -- the event that the line of this number tells, or its fault
 abbrev pub IsToldAt : List ℕ → ℕ → Result ScriptEvent ScriptFault → Type 0

@@ -5,8 +5,9 @@ use Rattle.qs_terms.specs.Bag.{once}
 use Rattle.qs_terms.specs.Dataset.{Triple, triple_of, same_triple, graph_of}
 use Rattle.qs_terms.specs.Statement.{Statement}
 use Rattle.qs_terms.specs.declared.term.Term.{Term}
-use Rattle.qs_dict.specs.Dict.{term_at}
-use Rattle.qs_store.specs.Content.{Content, IsContent, KnowsItsTerms}
+use Rattle.qs_dict.specs.inner.Dict.{term_at}
+use Rattle.qs_store.specs.Content.{Content}
+use Rattle.qs_store.specs.inner.Content.{IsContent, KnowsItsTerms}
 use Rattle.qs_store.specs.declared.active.Active.{Active}
 use Rattle.qs_store.specs.declared.active.Active.TheVariants.{Default, Graph, Empty}
 use Rattle.qs_store.specs.declared.default_graph.DefaultGraph.{DefaultGraph}
@@ -26,11 +27,12 @@ abbrev pub named_graph : List Statement → Option Term → List Triple
 named_graph quads None = []
 named_graph quads (Some name) = graph_of quads (Some name)
 
--- the triples of the graph that is read: number 0 is the stored default graph's; a union default graph has those of all named graphs, each
--- once
+-- the triples of the graph that is read: number 0 is the stored default graph's; a union default
+-- graph has those of all named graphs, each once
 abbrev pub active_graph : Content → DefaultGraph → Active → List Triple
 active_graph c default (Graph zero) = graph_of c.quads None
 active_graph c default (Graph (suc place)) = named_graph c.quads (term_at c.known (suc place))
 active_graph c default Empty = []
 active_graph c Stored Default = graph_of c.quads None
-active_graph c Union Default = once same_triple (map triple_of (filter (λ q. is_named q.graph) c.quads))
+active_graph c Union Default =
+    once same_triple (map triple_of (filter (λ q. is_named q.graph) c.quads))

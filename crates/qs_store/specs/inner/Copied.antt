@@ -17,11 +17,13 @@ pub record IsCopy (entries : List (List ℕ)) (from to : ℕ) (y : List ℕ) : T
 
 -- the entries of one graph, put into another
 pub record AreCopies (entries : List (List ℕ)) (from to : ℕ) (found : List (List ℕ)) : Type 0 where
-  pub has : (x : List ℕ) → Contains entries x → graph_of x ≡ from → Contains found (to ∷ triple_of x)
+  pub has : (x : List ℕ) → Contains entries x → graph_of x ≡ from
+      → Contains found (to ∷ triple_of x)
   pub only : (y : List ℕ) → Contains found y → IsCopy entries from to y
 
 -- the entries of these graphs
-pub record AreInGraphs (entries : List (List ℕ)) (graphs : List ℕ) (found : List (List ℕ)) : Type 0 where
+pub record AreInGraphs (entries : List (List ℕ)) (graphs : List ℕ) (found : List (List ℕ)) : Type
+    0 where
   pub has : (x : List ℕ) → Contains entries x → Contains graphs (graph_of x) → Contains found x
   pub only : (x : List ℕ) → Contains found x → Contains entries x × Contains graphs (graph_of x)
 
@@ -31,9 +33,11 @@ AreNamed entries found = (x : List ℕ) → Contains found x ↔ (Contains entri
 
 -- the entries of a list that are of other graphs
 abbrev pub IsWithoutGraph : ℕ → List (List ℕ) → List (List ℕ) → Type 0
-IsWithoutGraph graph old new = (x : List ℕ) → Contains new x ↔ (Contains old x × (graph_of x ≢ graph))
+IsWithoutGraph graph old new =
+    (x : List ℕ) → Contains new x ↔ (Contains old x × (graph_of x ≢ graph))
 
 -- entries over these terms, which say the quads of a list
-pub record AreEntriesOf (terms : List Term) (quads : List Statement) (found : List (List ℕ)) : Type 0 where
+pub record AreEntriesOf (terms : List Term) (quads : List Statement) (found : List (List ℕ)) : Type
+    0 where
   pub entries : AreEntries terms found
   pub says : SameSet (said terms found) quads

@@ -30,4 +30,5 @@ pub record RemovesGraph (graph : ℕ) (index old new : List (List ℕ)) : Type 0
   pub once : IsAscending new
   pub kept : (x : List ℕ) → Contains old x → Contains new x
   pub all : (x : List ℕ) → Contains index x → graph_of x ≡ graph → Contains new x
-  pub only : (x : List ℕ) → Contains new x → Contains old x ⊎ (Contains index x × (graph_of x ≡ graph))
+  pub only : (x : List ℕ) → Contains new x → Contains old x
+      ⊎ (Contains index x × (graph_of x ≡ graph))

@@ -4,10 +4,11 @@ use Rattle.std.specs.List.{Contains}
 use Rattle.std.specs.List.Sorted.{IsStrictlyIncreasing}
 use Rattle.qs_terms.specs.Statement.{Statement}
 use Rattle.qs_terms.specs.declared.term.Term.{Term}
-use Rattle.qs_dict.specs.Dict.{term_at}
+use Rattle.qs_dict.specs.inner.Dict.{term_at}
 use Rattle.qs_store.specs.Content.{Content}
 
--- the number is that of the name of a graph that a quad has (RDF 1.1 Concepts, 4: no named graph is empty here)
+-- the number is that of the name of a graph that a quad has (RDF 1.1 Concepts, 4: no named graph is
+-- empty here)
 pub record IsGraph (c : Content) (number : ℕ) : Type 0 where
   pub quad : Statement
   pub name : Term

@@ -23,7 +23,8 @@ AreWithin entries after = (x : List ℕ) → Contains entries x → graph_of x �
 pub record AreGraphsUpTo (entries : List (List ℕ)) (after : ℕ) (numbers : List ℕ) : Type 0 where
   pub ascending : IsStrictlyIncreasing numbers
   pub within : (n : ℕ) → Contains numbers n → n ≤ after
-  pub has : (x : List ℕ) → Contains entries x → 0 < graph_of x → graph_of x ≤ after → Contains numbers (graph_of x)
+  pub has : (x : List ℕ) → Contains entries x → 0 < graph_of x → graph_of x ≤ after
+      → Contains numbers (graph_of x)
   pub named : (n : ℕ) → Contains numbers n → 0 < n
   pub only : (n : ℕ) → Contains numbers n → HasGraph entries n
 

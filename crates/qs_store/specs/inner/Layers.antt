@@ -24,8 +24,8 @@ pub record IsDraft (index removed added : List (List ℕ)) : Type 0 where
   pub apart : (x : List ℕ) → Contains added x → Contains index x → Contains removed x
   pub taken : (x : List ℕ) → Contains removed x → Contains index x
 
--- there is room for a commit: for the added in all orders of the index, and for either list in one of this length; of the emptied graphs
--- all entries of the store are removed
+-- there is room for a commit: for the added in all orders of the index, and for either list in one
+-- of this length; of the emptied graphs all entries of the store are removed
 pub record AreLayers (index removed added : IndexState) (emptied : List ℕ) (room : ℕ) : Type 0 where
   pub parted : IsDraft index.entries removed.entries added.entries
   pub out : AreEmptied index.entries removed.entries emptied

@@ -4,7 +4,8 @@ use Rattle.std.specs.List.{Contains}
 use Rattle.qs_index.specs.inner.Entry.{IsAscending}
 
 -- the entries of a list, and those of another that are chosen
-pub record IsUnionWith (old more : List (List ℕ)) (Chosen : List ℕ → Type 0) (new : List (List ℕ)) : Type 0 where
+pub record IsUnionWith (old more : List (List ℕ)) (Chosen : List ℕ → Type 0)
+    (new : List (List ℕ)) : Type 0 where
   pub ascending : IsAscending new
   pub has_old : (x : List ℕ) → Contains old x → Contains new x
   pub has_more : (x : List ℕ) → Contains more x → Chosen x → Contains new x

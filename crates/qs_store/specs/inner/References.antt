@@ -2,7 +2,7 @@
 use Rattle.std.specs.Prelude.{ℕ, List, Option, Some, None}
 use Rattle.qs_terms.specs.Statement.{Statement}
 use Rattle.qs_terms.specs.declared.term.Term.{Term}
-use Rattle.qs_dict.specs.Dict.{IsInUse}
+use Rattle.qs_dict.specs.inner.Dict.{IsInUse}
 use Rattle.qs_store.specs.inner.Entries.{term_or}
 use Rattle.qs_store.specs.declared.reference.TermRef.{TermRef}
 use Rattle.qs_store.specs.declared.reference.TermRef.TheVariants as term
@@ -30,7 +30,12 @@ IsReferredGraph known (Some t) = IsReferred known t
 -- the quad that is meant
 abbrev pub referred_quad : List Term → QuadRef → Statement
 referred_quad known q =
-    record { graph = referred_graph known q.graph; subject = referred known q.subject; predicate = referred known q.predicate; object = referred known q.object }
+    record {
+      graph = referred_graph known q.graph;
+      subject = referred known q.subject;
+      predicate = referred known q.predicate;
+      object = referred known q.object;
+    }
 
 -- each number is in use
 pub record IsReferredQuad (known : List Term) (q : QuadRef) : Type 0 where

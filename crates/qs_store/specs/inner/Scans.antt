@@ -1,5 +1,6 @@
 -- Scans of the entries of a store and of its draft.
-use Rattle.std.specs.Prelude.{◌≡◌, ℕ, Bool, true, false, cond, List, [], ◌∷◌, map, drop, Option, Some, None}
+use Rattle.std.specs.Prelude.{◌≡◌, ℕ, Bool, true, false, cond, List, [], ◌∷◌, map, drop, Option}
+use Rattle.std.specs.Prelude.{Some, None}
 use Rattle.std.specs.Str.{bytes_eq}
 use Rattle.std.specs.List.{Contains}
 use Rattle.qs_index.specs.inner.Agreeing.{agrees, agrees_anywhere}
@@ -26,7 +27,8 @@ graphs_of Union Default = Named
 abbrev pub IsRead : Graphs → Option ℕ → Option ℕ → Option ℕ → List ℕ → Type 0
 IsRead Nothing subject predicate object x = ⊥
 IsRead (One graph) subject predicate object x = agrees graph subject predicate object x ≡ true
-IsRead Named subject predicate object x = (is_named x ≡ true) × (agrees_anywhere subject predicate object x ≡ true)
+IsRead Named subject predicate object x =
+    (is_named x ≡ true) × (agrees_anywhere subject predicate object x ≡ true)
 
 -- the order in which the entries of these graphs are handed out
 abbrev pub order_in : Graphs → Option ℕ → Option ℕ → Option ℕ → Permutation
@@ -35,7 +37,8 @@ order_in (One graph) subject predicate object = order_used subject predicate obj
 order_in Named subject predicate object = named_order_used subject predicate object
 
 -- those of a list's entries of which P holds, each once, ascending by their keys
-pub record IsScanOf (P : List ℕ → Type 0) (key : List ℕ → List ℕ) (entries rest : List (List ℕ)) : Type 0 where
+pub record IsScanOf (P : List ℕ → Type 0) (key : List ℕ → List ℕ)
+    (entries rest : List (List ℕ)) : Type 0 where
   pub ascending : IsAscending (map key rest)
   pub has : (x : List ℕ) → Contains entries x → P x → Contains rest x
   pub only : (x : List ℕ) → Contains rest x → Contains entries x × P x
@@ -52,9 +55,11 @@ without (x ∷ xs) [] = x ∷ xs
 without (x ∷ xs) (y ∷ ys) = cond (bytes_eq y x) (without xs ys) (x ∷ without xs (y ∷ ys))
 
 -- x in front of xs, and ys, where `on` has what comes of xs
-abbrev pub merged_from : (List ℕ → List ℕ) → List ℕ → List (List ℕ) → (List (List ℕ) → List (List ℕ)) → List (List ℕ) → List (List ℕ)
+abbrev pub merged_from : (List ℕ → List ℕ) → List ℕ → List (List ℕ)
+    → (List (List ℕ) → List (List ℕ)) → List (List ℕ) → List (List ℕ)
 merged_from key x xs on [] = x ∷ xs
-merged_from key x xs on (y ∷ ys) = cond (is_before (key x) (key y)) (x ∷ on (y ∷ ys)) (y ∷ merged_from key x xs on ys)
+merged_from key x xs on (y ∷ ys) =
+    cond (is_before (key x) (key y)) (x ∷ on (y ∷ ys)) (y ∷ merged_from key x xs on ys)
 
 -- two lists, each ascending by its keys, as one
 abbrev pub merged : (List ℕ → List ℕ) → List (List ℕ) → List (List ℕ) → List (List ℕ)
@@ -80,33 +85,43 @@ abbrev pub unrepeated : Option (List ℕ) → List (List ℕ) → List (List ℕ
 unrepeated last [] = []
 unrepeated last (x ∷ xs) = cond (is_last last x) (unrepeated last xs) (x ∷ unrepeated (Some x) xs)
 
--- the triples of entries, of which those that follow one another in several graphs are handed out once
+-- the triples of entries, of which those that follow one another in several graphs are handed out
+-- once
 abbrev pub triples_left : Bool → Option (List ℕ) → List (List ℕ) → List (List ℕ)
 triples_left false last entries = map triple_of entries
 triples_left true last entries = unrepeated last (map triple_of entries)
 
 -- an entry that is read and has the triple
-pub record HasTriple (graphs : Graphs) (subject predicate object : Option ℕ) (entries : List (List ℕ)) (t : List ℕ) : Type 0 where
+pub record HasTriple (graphs : Graphs) (subject predicate object : Option ℕ)
+    (entries : List (List ℕ)) (t : List ℕ) : Type 0 where
   pub entry : List ℕ
   pub stands : Contains entries entry
   pub read : IsRead graphs subject predicate object entry
   pub is : triple_of entry ≡ t
 
 -- the triples of the entries that are read, each once, ascending in an order
-pub record AreTriplesIn (order : Permutation) (graphs : Graphs) (subject predicate object : Option ℕ) (entries triples : List (List ℕ)) : Type 0 where
+pub record AreTriplesIn (order : Permutation) (graphs : Graphs)
+    (subject predicate object : Option ℕ) (entries triples : List (List ℕ)) : Type 0 where
   pub ascending : IsAscending (map (turned_triple order) triples)
-  pub has : (x : List ℕ) → Contains entries x → IsRead graphs subject predicate object x → Contains triples (triple_of x)
+  pub has : (x : List ℕ) → Contains entries x → IsRead graphs subject predicate object x
+      → Contains triples (triple_of x)
   pub only : (t : List ℕ) → Contains triples t → HasTriple graphs subject predicate object entries t
 
 -- in the order of a scan that gives these numbers
-abbrev pub AreTriplesOf : Graphs → Option ℕ → Option ℕ → Option ℕ → List (List ℕ) → List (List ℕ) → Type 0
-AreTriplesOf graphs subject predicate object entries triples = AreTriplesIn (order_used subject predicate object) graphs subject predicate object entries triples
+abbrev pub AreTriplesOf : Graphs → Option ℕ → Option ℕ → Option ℕ → List (List ℕ) → List (List ℕ)
+    → Type 0
+AreTriplesOf graphs subject predicate object entries triples =
+    AreTriplesIn (order_used subject predicate object) graphs subject predicate object entries
+    triples
 
 -- in some order
-pub record AreTriplesOfAnyhow (graphs : Graphs) (subject predicate object : Option ℕ) (entries triples : List (List ℕ)) : Type 0 where
+pub record AreTriplesOfAnyhow (graphs : Graphs) (subject predicate object : Option ℕ)
+    (entries triples : List (List ℕ)) : Type 0 where
   pub order : Permutation
   pub in_order : AreTriplesIn order graphs subject predicate object entries triples
 
 -- the entries of named graphs that have the given numbers, each once, ascending
 abbrev pub AreNamedQuadsOf : Option ℕ → Option ℕ → Option ℕ → List (List ℕ) → List (List ℕ) → Type 0
-AreNamedQuadsOf subject predicate object = IsScanOf (IsRead Named subject predicate object) (turned (named_order_used subject predicate object))
+AreNamedQuadsOf subject predicate object =
+    IsScanOf (IsRead Named subject predicate object)
+    (turned (named_order_used subject predicate object))

@@ -7,8 +7,10 @@ use Rattle.qs_terms.specs.Term.{same_term}
 use Rattle.qs_terms.specs.declared.term.Term.{Term}
 use Rattle.qs_store.specs.inner.Entries.{said, AreEntries}
 
--- the dictionary's terms, the entries of the store and of its draft, how many of the terms the store knows, and the next numbers of both
-pub record IsStore (terms : List Term) (base draft : List (List ℕ)) (known next draft_next : ℕ) : Type 0 where
+-- the dictionary's terms, the entries of the store and of its draft, how many of the terms the
+-- store knows, and the next numbers of both
+pub record IsStore (terms : List Term) (base draft : List (List ℕ))
+    (known next draft_next : ℕ) : Type 0 where
   pub distinct : Distinct same_term terms
   pub within : known ≤ length terms
   pub known_base : AreEntries (take known terms) base

@@ -1,10 +1,11 @@
 -- The triples of a graph, by the numbers of their terms.
-use Rattle.std.specs.Prelude.{◌≡◌, ◌≢◌, ℕ, Bool, false, ◌&&◌, List, [], ◌∷◌, map, Option, Some, None}
+use Rattle.std.specs.Prelude.{◌≡◌, ◌≢◌, ℕ, Bool, false, ◌&&◌, List, [], ◌∷◌, map, Option, Some}
+use Rattle.std.specs.Prelude.{None}
 use Rattle.std.specs.Bool.{IsTrue}
 use Rattle.std.specs.List.{Contains}
 use Rattle.qs_terms.specs.Statement.{Statement}
 use Rattle.qs_terms.specs.declared.term.Term.{Term}
-use Rattle.qs_dict.specs.Dict.{term_at}
+use Rattle.qs_dict.specs.inner.Dict.{term_at}
 use Rattle.qs_index.specs.inner.Agreeing.{fits}
 use Rattle.qs_index.specs.inner.Entry.{IsAscending}
 use Rattle.qs_index.specs.inner.Permutation.{order_used}
@@ -21,17 +22,20 @@ abbrev pub IsGraphNumber : List Term → ℕ → Option Term → Type 0
 IsGraphNumber known number None = number ≡ 0
 IsGraphNumber known number (Some name) = term_at known number ≡ Some name
 
--- the graph of a quad is one of those that are read (SPARQL 1.1 Query, 13.1: the default graph; 13.3: the active graph): the one with this
--- number, of which 0 is the stored default graph, whatever queries see as theirs; none; or the default graph, which is the stored one, or
--- for a union all named graphs without that
+-- the graph of a quad is one of those that are read (SPARQL 1.1 Query, 13.1: the default graph;
+-- 13.3: the active graph): the one with this number, of which 0 is the stored default graph,
+-- whatever queries see as theirs; none; or the default graph, which is the stored one, or for a
+-- union all named graphs without that
 abbrev pub IsActive : List Term → DefaultGraph → Active → Option Term → Type 0
 IsActive known default (Graph number) graph = IsGraphNumber known number graph
 IsActive known default Empty graph = ⊥
 IsActive known Stored Default graph = graph ≡ None
 IsActive known Union Default graph = graph ≢ None
 
--- the numbers s, p and o are those of the subject, predicate and object of a quad of the active graph, and are the ones that are given
-pub record IsMatch (c : Content) (default : DefaultGraph) (active : Active) (subject predicate object : Option ℕ) (s p o : ℕ) : Type 0 where
+-- the numbers s, p and o are those of the subject, predicate and object of a quad of the active
+-- graph, and are the ones that are given
+pub record IsMatch (c : Content) (default : DefaultGraph) (active : Active)
+    (subject predicate object : Option ℕ) (s p o : ℕ) : Type 0 where
   pub quad : Statement
   pub stands : Contains c.quads quad
   pub read : IsActive c.known default active quad.graph
@@ -43,8 +47,10 @@ pub record IsMatch (c : Content) (default : DefaultGraph) (active : Active) (sub
   pub object_given : IsTrue (fits object o)
 
 -- the triple of three numbers is one of the active graph that has the given ones
-abbrev pub IsTriple : Content → DefaultGraph → Active → Option ℕ → Option ℕ → Option ℕ → List ℕ → Type 0
-IsTriple c default active subject predicate object (s ∷ p ∷ o ∷ []) = IsMatch c default active subject predicate object s p o
+abbrev pub IsTriple : Content → DefaultGraph → Active → Option ℕ → Option ℕ → Option ℕ → List ℕ
+    → Type 0
+IsTriple c default active subject predicate object (s ∷ p ∷ o ∷ []) =
+    IsMatch c default active subject predicate object s p o
 IsTriple c default active subject predicate object triple = ⊥
 
 -- a triple with its places in the order of a permutation, whose graph it leaves out
@@ -56,21 +62,28 @@ turned_triple Ospg (s ∷ p ∷ o ∷ rest) = o ∷ s ∷ p ∷ rest
 turned_triple permutation triple = triple
 
 -- the triples of the active graph that have the given numbers, each once, ascending in an order
-pub record AreTriplesBy (order : Permutation) (c : Content) (default : DefaultGraph) (active : Active) (subject predicate object : Option ℕ) (triples : List (List ℕ)) : Type 0 where
+pub record AreTriplesBy (order : Permutation) (c : Content) (default : DefaultGraph)
+    (active : Active) (subject predicate object : Option ℕ) (triples : List (List ℕ)) : Type 0 where
   pub ascending : IsAscending (map (turned_triple order) triples)
   pub has : (t : List ℕ) → IsTriple c default active subject predicate object t → Contains triples t
-  pub only : (t : List ℕ) → Contains triples t → IsTriple c default active subject predicate object t
+  pub only : (t : List ℕ) → Contains triples t → IsTriple c default active subject predicate object
+      t
 
 -- in the order of a scan that gives these numbers
-abbrev pub AreTriples : Content → DefaultGraph → Active → Option ℕ → Option ℕ → Option ℕ → List (List ℕ) → Type 0
-AreTriples c default active subject predicate object triples = AreTriplesBy (order_used subject predicate object) c default active subject predicate object triples
+abbrev pub AreTriples : Content → DefaultGraph → Active → Option ℕ → Option ℕ → Option ℕ
+    → List (List ℕ) → Type 0
+AreTriples c default active subject predicate object triples =
+    AreTriplesBy (order_used subject predicate object) c default active subject predicate object
+    triples
 
 -- in some order
-pub record AreTriplesAnyhow (c : Content) (default : DefaultGraph) (active : Active) (subject predicate object : Option ℕ) (triples : List (List ℕ)) : Type 0 where
+pub record AreTriplesAnyhow (c : Content) (default : DefaultGraph) (active : Active)
+    (subject predicate object : Option ℕ) (triples : List (List ℕ)) : Type 0 where
   pub order : Permutation
   pub in_order : AreTriplesBy order c default active subject predicate object triples
 
 -- whether a triple has the subject, predicate and object that are given
 abbrev pub triple_fits : Option ℕ → Option ℕ → Option ℕ → List ℕ → Bool
-triple_fits subject predicate object (s ∷ p ∷ o ∷ []) = fits subject s && fits predicate p && fits object o
+triple_fits subject predicate object (s ∷ p ∷ o ∷ []) =
+    fits subject s && fits predicate p && fits object o
 triple_fits subject predicate object triple = false

@@ -1,5 +1,5 @@
--- N-Quads that are put into a store: what they say is added to its quads, with the labels of blank nodes numbered from its next number
--- (RDF 1.1 N-Quads, 3; SPARQL 1.1 Update, 3.1.4).
+-- N-Quads that are put into a store: what they say is added to its quads, with the labels of blank
+-- nodes numbered from its next number (RDF 1.1 N-Quads, 3; SPARQL 1.1 Update, 3.1.4).
 use Rattle.std.specs.Prelude.{ℕ, ◌<◌, ◌≤◌, List, [], length}
 use Rattle.qs_terms.specs.Statement.{Statement}
 use Rattle.qs_terms.specs.declared.term.Term.{Term}
@@ -10,7 +10,8 @@ use Rattle.qs_store.specs.declared.fault.StoreFault.TheVariants as store_fault
 use Rattle.qs_store_load.specs.declared.fault.LoadFault.{LoadFault}
 use Rattle.qs_store_load.specs.declared.fault.LoadFault.TheVariants.{Text, Store}
 
--- the bytes are N-Quads, and the store has changed as by one change that adds their quads; its terms are no more than the limit
+-- the bytes are N-Quads, and the store has changed as by one change that adds their quads; its
+-- terms are no more than the limit
 pub record IsLoaded (limit : ℕ) (bytes : List ℕ) (old new : Content) : Type 0 where
   pub quads : List Statement
   pub reads : IsNquads bytes old.next quads new.next

@@ -21,7 +21,8 @@ pub record Learns (old new : Held) : Type 0 where
   pub default_graph : new.default_graph ≡ old.default_graph
 
 -- entries over the known terms say these quads, whose terms are those that became known
-pub record Say (first known : List Term) (entries : List (List ℕ)) (quads : List Statement) : Type 0 where
+pub record Say (first known : List Term) (entries : List (List ℕ)) (quads : List Statement) : Type
+    0 where
   pub entries_are : AreEntries known entries
   pub says : said known entries ≡ quads
   pub known_is : known ≡ with_terms_of first quads
@@ -49,13 +50,15 @@ IsToldFor store_fault.Full bytes first quads f = IsTold bytes first quads f
 IsToldFor store_fault.Memory bytes first quads f = f ≡ Store store_fault.Memory
 
 -- the text has ended, and the entries say its quads
-pub record AreNumbered (bytes : List ℕ) (first next : ℕ) (old known : List Term) (entries : List (List ℕ)) : Type 0 where
+pub record AreNumbered (bytes : List ℕ) (first next : ℕ) (old known : List Term)
+    (entries : List (List ℕ)) : Type 0 where
   pub quads : List Statement
   pub reads : IsNquads bytes first quads next
   pub say : Say old known entries quads
 
 -- the same of a draft that has learnt the terms of the text alone, and is otherwise the store
-pub record IsNumbered (bytes : List ℕ) (next : ℕ) (held : Held) (entries : List (List ℕ)) : Type 0 where
+pub record IsNumbered (bytes : List ℕ) (next : ℕ) (held : Held) (entries : List (List ℕ)) : Type
+    0 where
   pub same_quads : held.draft.quads ≡ held.base.quads
   pub same_next : held.draft.next ≡ held.base.next
   pub numbered : AreNumbered bytes held.base.next next held.base.known held.draft.known entries

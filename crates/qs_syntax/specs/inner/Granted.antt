@@ -1,5 +1,5 @@
--- What the layers above take for granted of the tokens of a text, by their kinds: what they read of a token is a piece of the text, and
--- is lawful (SPARQL 1.1 Query, 19.8).
+-- What the layers above take for granted of the tokens of a text, by their kinds: what they read of
+-- a token is a piece of the text, and is lawful (SPARQL 1.1 Query, 19.8).
 use Rattle.std.specs.Prelude.{◌≡◌, ℕ, ◌+◌, ◌-◌, false, List, [], ◌∷◌, ◌++◌, IsTrue}
 use Rattle.std.specs.List.{list_any, before_first, after_first}
 use Rattle.qs_lex_escapes.specs.Decoded.{decoded, unescaped}
@@ -14,16 +14,20 @@ use Rattle.qs_syntax_tree.specs.declared.kind.Kind.TheVariants as k
 use Rattle.qs_syntax_tree.specs.declared.token.Span.{Span}
 use Rattle.qs_syntax_tree.specs.declared.token.Token.{Token}
 
--- between `<` and `>`: an escape begins at each backslash, and nothing decoded is a character that IRIs exclude
+-- between `<` and `>`: an escape begins at each backslash, and nothing decoded is a character that
+-- IRIs exclude
 pub record IsIri (text : List ℕ) (s : Span) : Type 0 where
   pub whole : piece text s.start s.end ≡ 60 ∷ (piece text (s.start + 1) (s.end - 1) ++ 62 ∷ [])
   pub escapes : IsTrue (escapes_begin uchar (piece text (s.start + 1) (s.end - 1)))
   pub lawful : list_any is_excluded (decoded uchar (piece text (s.start + 1) (s.end - 1))) ≡ false
 
--- a prefix, a colon and a local name, which without its backslashes has no character that IRIs exclude
+-- a prefix, a colon and a local name, which without its backslashes has no character that IRIs
+-- exclude
 pub record IsName (text : List ℕ) (s : Span) : Type 0 where
-  pub whole : piece text s.start s.end ≡ before_first is_colon (piece text s.start s.end) ++ 58 ∷ after_first is_colon (piece text s.start s.end)
-  pub lawful : list_any is_excluded (unescaped (after_first is_colon (piece text s.start s.end))) ≡ false
+  pub whole : piece text s.start s.end ≡ before_first is_colon (piece text s.start s.end) ++ 58
+      ∷ after_first is_colon (piece text s.start s.end)
+  pub lawful : list_any is_excluded (unescaped (after_first is_colon (piece text s.start s.end)))
+      ≡ false
 
 -- the same without a local name
 pub record IsPrefix (text : List ℕ) (s : Span) : Type 0 where
@@ -50,8 +54,10 @@ ends text s = marks (piece text s.start s.end)
 
 pub record IsString (text : List ℕ) (s : Span) : Type 0 where
   pub quotes : List ℕ
-  pub whole : piece text s.start s.end ≡ quotes ++ (piece text (s.start + ends text s) (s.end - ends text s) ++ quotes)
-  pub escapes : IsTrue (escapes_begin string_escape (piece text (s.start + ends text s) (s.end - ends text s)))
+  pub whole : piece text s.start s.end ≡ quotes
+      ++ (piece text (s.start + ends text s) (s.end - ends text s) ++ quotes)
+  pub escapes : IsTrue
+      (escapes_begin string_escape (piece text (s.start + ends text s) (s.end - ends text s)))
 
 -- by the kind; of words, numbers and marks nothing is asked
 abbrev pub IsGranted : List ℕ → Kind → Span → Type 0

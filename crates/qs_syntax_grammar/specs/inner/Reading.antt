@@ -1,9 +1,11 @@
 -- How a rule is read from the left, by one token ahead, and when that is sure to work.
-use Rattle.std.specs.Prelude.{◌≡◌, ◌≢◌, ℕ, zero, suc, Bool, true, false, ◌&&◌, ◌||◌, not, if◌then◌else◌, List, [], ◌∷◌, ◌++◌, length, Result, Ok, Err}
+use Rattle.std.specs.Prelude.{◌≡◌, ◌≢◌, ℕ, zero, suc, Bool, true, false, ◌&&◌, ◌||◌, not}
+use Rattle.std.specs.Prelude.{if◌then◌else◌, List, [], ◌∷◌, ◌++◌, length, Result, Ok, Err}
 use Rattle.std.specs.List.{list_all, list_any}
 use Rattle.qs_syntax_grammar.specs.declared.fault.Fault.{Fault}
 use Rattle.qs_syntax_grammar.specs.declared.fault.Fault.TheVariants.{Memory, Deep, Syntax}
-use Rattle.qs_syntax_grammar.specs.Rule.{Language, Rule, token, empty, both, either, many, made, placed, ref, place_of}
+use Rattle.qs_syntax_grammar.specs.Rule.{Language, Rule, token, empty, both, either, many, made}
+use Rattle.qs_syntax_grammar.specs.Rule.{placed, ref, place_of}
 
 -- a tree and the tokens after it, or a fault
 abbrev pub Outcome : Type 0 → Type 0 → Type 0
@@ -35,9 +37,13 @@ first_token (t ∷ ts) = Ok (t, ts)
 abbrev pub take_kind : (L : Language) → L.Kind → Reader L.Token L.Token
 take_kind L k ts = if starts L (k ∷ []) ts then first_token ts else refuse ts
 
-abbrev pub loop : (L : Language) → {A : Type 0} → ℕ → List L.Kind → Reader L.Token A → Reader L.Token (List A)
+abbrev pub loop : (L : Language) → {A : Type 0} → ℕ → List L.Kind → Reader L.Token A
+    → Reader L.Token (List A)
 loop L zero ks p ts = Err Deep
-loop L (suc n) ks p ts = if starts L ks ts then and_then (p ts) (λ x s. and_then (loop L n ks p s) (λ xs s'. Ok (x ∷ xs, s'))) else Ok ([], ts)
+loop L (suc n) ks p ts =
+    if starts L ks ts
+    then and_then (p ts) (λ x s. and_then (loop L n ks p s) (λ xs s'. Ok (x ∷ xs, s')))
+    else Ok ([], ts)
 
 -- ---- what a rule begins with
 
@@ -68,21 +74,27 @@ first fs (made f p) = first fs p
 first fs (placed p) = first fs p
 first fs (ref n) = fs n
 
--- what the rule takes from the front of the tokens by one token ahead: its tree and the tokens after it, or a fault
-abbrev pub reading : {L : Language} → (L.Name → List L.Kind) → ((n : L.Name) → Reader L.Token (L.Tree n)) → {A : Type 0} → Rule L A → Reader L.Token A
+-- what the rule takes from the front of the tokens by one token ahead: its tree and the tokens
+-- after it, or a fault
+abbrev pub reading : {L : Language} → (L.Name → List L.Kind)
+    → ((n : L.Name) → Reader L.Token (L.Tree n)) → {A : Type 0} → Rule L A → Reader L.Token A
 reading {L} fs env (token k) ts = take_kind L k ts
 reading fs env (empty a) ts = Ok (a, ts)
-reading fs env (both p q) ts = and_then (reading fs env p ts) (λ x s. and_then (reading fs env q s) (λ y s'. Ok ((x, y), s')))
-reading {L} fs env (either p q) ts = if starts L (first fs p) ts then reading fs env p ts else reading fs env q ts
+reading fs env (both p q) ts =
+    and_then (reading fs env p ts) (λ x s. and_then (reading fs env q s) (λ y s'. Ok ((x, y), s')))
+reading {L} fs env (either p q) ts =
+    if starts L (first fs p) ts then reading fs env p ts else reading fs env q ts
 reading {L} fs env (many p) ts = loop L (suc (length ts)) (first fs p) (reading fs env p) ts
 reading fs env (made f p) ts = and_then (reading fs env p ts) (λ x s. Ok (f x, s))
-reading {L} fs env (placed p) ts = and_then (reading fs env p ts) (λ x s. Ok ((place_of L ts, x), s))
+reading {L} fs env (placed p) ts =
+    and_then (reading fs env p ts) (λ x s. Ok ((place_of L ts, x), s))
 reading fs env (ref n) ts = env n ts
 
 -- ---- when one token ahead is enough
 
 -- the kinds that go on with a rule where it could also be over
-abbrev pub more : {L : Language} → (L.Name → List L.Kind) → (L.Name → List L.Kind) → {A : Type 0} → Rule L A → List L.Kind
+abbrev pub more : {L : Language} → (L.Name → List L.Kind) → (L.Name → List L.Kind) → {A : Type 0}
+    → Rule L A → List L.Kind
 more fs ms (token k) = []
 more fs ms (empty a) = []
 more fs ms (both p q) = join (nullable q) (more fs ms q) (more fs ms p)
@@ -99,12 +111,16 @@ abbrev pub within : (L : Language) → List L.Kind → List L.Kind → Bool
 within L a b = list_all (has L b) a
 
 -- one token ahead is enough for the rule, where it is for the named rules in it
-abbrev pub is_sure : {L : Language} → (L.Name → List L.Kind) → (L.Name → List L.Kind) → {A : Type 0} → Rule L A → Bool
+abbrev pub is_sure : {L : Language} → (L.Name → List L.Kind) → (L.Name → List L.Kind) → {A : Type 0}
+    → Rule L A → Bool
 is_sure fs ms (token k) = true
 is_sure fs ms (empty a) = true
-is_sure {L} fs ms (both p q) = is_sure fs ms p && is_sure fs ms q && apart L (more fs ms p) (first fs q)
-is_sure {L} fs ms (either p q) = is_sure fs ms p && is_sure fs ms q && apart L (first fs p) (first fs q) && not (nullable p)
-is_sure {L} fs ms (many p) = is_sure fs ms p && apart L (more fs ms p) (first fs p) && not (nullable p)
+is_sure {L} fs ms (both p q) =
+    is_sure fs ms p && is_sure fs ms q && apart L (more fs ms p) (first fs q)
+is_sure {L} fs ms (either p q) =
+    is_sure fs ms p && is_sure fs ms q && apart L (first fs p) (first fs q) && not (nullable p)
+is_sure {L} fs ms (many p) =
+    is_sure fs ms p && apart L (more fs ms p) (first fs p) && not (nullable p)
 is_sure fs ms (made f p) = is_sure fs ms p
 is_sure fs ms (placed p) = is_sure fs ms p && not (nullable p)
 is_sure fs ms (ref n) = true

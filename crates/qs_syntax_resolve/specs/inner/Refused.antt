@@ -3,7 +3,8 @@ use Rattle.std.specs.Prelude.{Option, Some, None, Result, Ok, Err}
 use Rattle.qs_terms.specs.Outcome.{Outcome}
 use Rattle.qs_terms.specs.declared.fault.TermFault.{TermFault}
 use Rattle.qs_terms.specs.declared.fault.TermFault.TheVariants as term
-use Rattle.qs_terms.specs.declared.fault.TermFault.TheVariants.{NotAbsolute, BadChar, BadTag, BadDatatype}
+use Rattle.qs_terms.specs.declared.fault.TermFault.TheVariants.{NotAbsolute, BadChar, BadTag}
+use Rattle.qs_terms.specs.declared.fault.TermFault.TheVariants.{BadDatatype}
 use Rattle.qs_terms.specs.declared.fault.QFault.TheVariants.{Memory}
 
 -- a literal that was made, or none where its parts make none

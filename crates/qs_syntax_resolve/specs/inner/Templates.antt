@@ -7,5 +7,8 @@ use Rattle.qs_syntax_resolve.specs.Resolving.{Resolving, pure, ◌>>=◌}
 use Rattle.qs_syntax_resolve.specs.Update.{template, with_graph}
 
 -- the graph of WITH, what is deleted, and what is inserted
-unfoldable pub templates : Option Iri → Option QuadPattern → Option QuadPattern → Resolving ((Option (List ℕ) × List QuadBlock) × List QuadBlock)
-templates with delete insert = with_graph with >>= (λ w. template delete >>= (λ d. template insert >>= (λ i. pure ((w, d), i))))
+unfoldable pub templates : Option Iri → Option QuadPattern → Option QuadPattern
+    → Resolving ((Option (List ℕ) × List QuadBlock) × List QuadBlock)
+templates with delete insert =
+    with_graph with
+    >>= (λ w. template delete >>= (λ d. template insert >>= (λ i. pure ((w, d), i))))

@@ -2,7 +2,8 @@
 use Rattle.std.specs.Prelude.{◌≡◌, ℕ, List, [], Option, None, Some, slice_get}
 use Rattle.qs_terms.specs.Statement.{Statement}
 use Rattle.qs_terms.specs.declared.term.Term.{Term}
-use Rattle.qs_store.specs.inner.References.{referred, referred_graph, referred_quad, IsReferred, IsReferredGraph, IsReferredQuad}
+use Rattle.qs_store.specs.inner.References.{referred, referred_graph, referred_quad, IsReferred}
+use Rattle.qs_store.specs.inner.References.{IsReferredGraph, IsReferredQuad}
 use Rattle.qs_store.specs.declared.reference.TermRef.{TermRef}
 use Rattle.qs_store.specs.declared.reference.QuadRef.{QuadRef}
 use Rattle.qs_query_template.specs.Instances.{fresh, lawful}
@@ -28,7 +29,8 @@ if_lawful q = lawful q.graph q.subject q.predicate q.object
 -- the reference means the quads: none, or one where its terms may stand in their places
 abbrev pub RefersToQuad : List Term → List Statement → Option QuadRef → Type 0
 RefersToQuad known quads None = quads ≡ []
-RefersToQuad known quads (Some r) = IsReferredQuad known r × (quads ≡ if_lawful (referred_quad known r))
+RefersToQuad known quads (Some r) =
+    IsReferredQuad known r × (quads ≡ if_lawful (referred_quad known r))
 
 -- so many fresh blank nodes, from the first number on
 abbrev pub AreFresh : ℕ → ℕ → List Term → Type 0

@@ -15,7 +15,8 @@ pub record Learns (old new : Held) : Type 0 where
   pub default_graph : new.default_graph ≡ old.default_graph
 
 -- entries over the known terms say these quads, whose terms are those that became known
-pub record Say (first known : List Term) (entries : List (List ℕ)) (quads : List Statement) : Type 0 where
+pub record Say (first known : List Term) (entries : List (List ℕ)) (quads : List Statement) : Type
+    0 where
   pub entries_are : AreEntries known entries
   pub says : said known entries ≡ quads
   pub known_is : known ≡ with_terms_of first quads

@@ -11,7 +11,8 @@ abbrev pub is_solution_below : ℕ → Solution → Bool
 is_solution_below next m = list_all (is_cell_below next) m
 
 abbrev pub is_triple_below : ℕ → Triple → Bool
-is_triple_below next t = is_term_below next t.subject && (is_term_below next t.predicate && is_term_below next t.object)
+is_triple_below next t = is_term_below next t.subject
+    && (is_term_below next t.predicate && is_term_below next t.object)
 
 -- the same of each blank node of the graph
 abbrev pub are_triples_below : ℕ → Graph → Bool

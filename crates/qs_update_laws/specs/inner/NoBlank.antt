@@ -1,5 +1,5 @@
--- Patterns that name no blank node: no term that stands in them is one. Blank nodes of a text are hidden variables of its patterns
--- (SPARQL 1.1 Query, 4.1.4), so patterns of texts name none.
+-- Patterns that name no blank node: no term that stands in them is one. Blank nodes of a text are
+-- hidden variables of its patterns (SPARQL 1.1 Query, 4.1.4), so patterns of texts name none.
 use Rattle.std.specs.Prelude.{Bool, true, false, ◌&&◌, List, Option, Some, None}
 use Rattle.std.specs.List.{list_all}
 use Rattle.qs_terms.specs.declared.term.Term.{Term}
@@ -15,7 +15,11 @@ use Rattle.qs_algebra_patterns.specs.declared.pattern.BasicPattern.{BasicPattern
 use Rattle.qs_algebra_patterns.specs.declared.table.Table.{Table}
 use Rattle.qs_algebra_patterns.specs.declared.pattern.Step.{Step, fold-Step}
 use Rattle.qs_algebra_patterns.specs.declared.pattern.PatternNode.{PatternNode, fold-PatternNode}
-use Rattle.qs_algebra_patterns.specs.declared.pattern.PatternNode.TheOpen.{PatternNode-F, Step-F, Basic, Group, Union, Graph, EachGraph, Values, Join, LeftJoin, Minus, Extend}
+use Rattle.qs_algebra_patterns.specs.declared.pattern.PatternNode.TheOpen.{PatternNode-F, Step-F}
+use Rattle.qs_algebra_patterns.specs.declared.pattern.PatternNode.TheOpen.{Basic, Group, Union}
+use Rattle.qs_algebra_patterns.specs.declared.pattern.PatternNode.TheOpen.{Graph, EachGraph, Values}
+use Rattle.qs_algebra_patterns.specs.declared.pattern.PatternNode.TheOpen.{Join, LeftJoin, Minus}
+use Rattle.qs_algebra_patterns.specs.declared.pattern.PatternNode.TheOpen.{Extend}
 
 abbrev pub is_no_blank : Term → Bool
 is_no_blank (term.Iri i) = true
@@ -66,7 +70,8 @@ slot_has_no_blank (slot.Term t) = is_no_blank t
 slot_has_no_blank (slot.Variable v) = true
 
 abbrev pub triple_has_no_blank : TriplePattern → Bool
-triple_has_no_blank p = slot_has_no_blank p.subject && (slot_has_no_blank p.predicate && slot_has_no_blank p.object)
+triple_has_no_blank p =
+    slot_has_no_blank p.subject && (slot_has_no_blank p.predicate && slot_has_no_blank p.object)
 
 -- (a path names IRIs alone)
 abbrev pub path_has_no_blank : PathPattern → Bool

@@ -1,9 +1,12 @@
--- Groups of a text in which no row of a VALUES has a blank node. By the grammar none has (SPARQL 1.1 Query, 19.8, DataBlockValue).
+-- Groups of a text in which no row of a VALUES has a blank node. By the grammar none has (SPARQL
+-- 1.1 Query, 19.8, DataBlockValue).
 use Rattle.std.specs.Prelude.{Bool, true}
 use Rattle.std.specs.List.{list_all}
 use Rattle.qs_syntax_ast.specs.declared.pattern.Group.{Group, fold-Group}
 use Rattle.qs_syntax_ast.specs.declared.pattern.GraphPattern.{GraphPattern, fold-GraphPattern}
-use Rattle.qs_syntax_ast.specs.declared.pattern.GraphPattern.TheOpen.{Group-F, GraphPattern-F, Triples, Union, Optional, Minus, Graph, Bind, Values}
+use Rattle.qs_syntax_ast.specs.declared.pattern.GraphPattern.TheOpen.{Group-F, GraphPattern-F}
+use Rattle.qs_syntax_ast.specs.declared.pattern.GraphPattern.TheOpen.{Triples, Union, Optional}
+use Rattle.qs_syntax_ast.specs.declared.pattern.GraphPattern.TheOpen.{Minus, Graph, Bind, Values}
 use Rattle.qs_syntax_ast.specs.declared.pattern.InlineData.{InlineData}
 use Rattle.qs_syntax_ast.specs.declared.update.Operation.{Operation}
 use Rattle.qs_syntax_ast.specs.declared.update.Operation.TheVariants as operation

@@ -1,5 +1,6 @@
--- The result of a job, before anything is printed. A query results in no dataset, a check in nothing but a dataset or the fault of the data,
--- an update in no answer, and an explanation in neither; a replay prints while it runs.
+-- The result of a job, before anything is printed. A query results in no dataset, a check in
+-- nothing but a dataset or the fault of the data, an update in no answer, and an explanation in
+-- neither; a replay prints while it runs.
 use Rattle.std.specs.Prelude.{ℕ, List, Result, Ok, Err}
 use Rattle.qs_store.specs.Content.{Content, Held}
 use Rattle.qs_store.specs.Same.{SameSet}
@@ -12,11 +13,13 @@ use Rattle.qs_store_load.specs.declared.fault.LoadFault.TheVariants.{Text, Store
 use Rattle.qs_nquads.specs.Nquads.{IsNquads, IsFault}
 use Rattle.qs_nquads.specs.Written.{nquads_of}
 use Rattle.qs_results.specs.Lines.{data_fault_line}
-use Rattle.quads.specs.Due.{IsQueryOfData, IsUpdateOfData, IsExplanationOfData, line, outcome_line, explanation_line}
+use Rattle.quads.specs.Due.{IsQueryOfData, IsUpdateOfData, IsExplanationOfData, line, outcome_line}
+use Rattle.quads.specs.Due.{explanation_line}
 use Rattle.quads.specs.inner.Refusal.{fault_of}
 use Rattle.quads.specs.inner.Load.{BecomesStored}
 use Rattle.quads.specs.declared.result.JobResult.{JobResult}
-use Rattle.quads.specs.declared.result.JobResult.TheVariants.{Answered, Quads, Explained, DataRefused, Refused}
+use Rattle.quads.specs.declared.result.JobResult.TheVariants.{Answered, Quads, Explained}
+use Rattle.quads.specs.declared.result.JobResult.TheVariants.{DataRefused, Refused}
 use Rattle.quads.specs.declared.job.Job.{Job}
 use Rattle.quads.specs.declared.job.Job.TheVariants.{Check, Query, Update, Replay, Explain}
 use Rattle.quads.specs.declared.job.TextKind.{TextKind}
@@ -26,28 +29,34 @@ IsQueryResult choice file text (Answered answer) = IsQueryOfData choice file tex
 IsQueryResult choice file text (Quads quads) = ⊥
 IsQueryResult choice file text (Explained explanation) = ⊥
 IsQueryResult choice file text (DataRefused f) = IsFault file 0 f.kind f.line
-IsQueryResult choice file text (Refused f) = OneOrOutOfMemory (IsQueryOfData choice file text) (Err f)
+IsQueryResult choice file text (Refused f) =
+    OneOrOutOfMemory (IsQueryOfData choice file text) (Err f)
 
 abbrev pub IsCheckResult : List ℕ → JobResult → Type 0
 IsCheckResult file (Answered answer) = ⊥
-IsCheckResult file (Quads quads) = (next : ℕ) × IsNquads file 0 quads.items next × IsDataset (dataset_of quads.items next)
+IsCheckResult file (Quads quads) =
+    (next : ℕ) × IsNquads file 0 quads.items next × IsDataset (dataset_of quads.items next)
 IsCheckResult file (Explained explanation) = ⊥
 IsCheckResult file (DataRefused f) = IsFault file 0 f.kind f.line
 IsCheckResult file (Refused f) = ⊥
 
 abbrev pub IsUpdateResult : DefaultGraph → List ℕ → List ℕ → JobResult → Type 0
 IsUpdateResult choice file text (Answered answer) = ⊥
-IsUpdateResult choice file text (Quads quads) = (c : Content) × IsUpdateOfData choice file text (Ok c) × SameSet quads.items c.quads
+IsUpdateResult choice file text (Quads quads) =
+    (c : Content) × IsUpdateOfData choice file text (Ok c) × SameSet quads.items c.quads
 IsUpdateResult choice file text (Explained explanation) = ⊥
 IsUpdateResult choice file text (DataRefused f) = IsFault file 0 f.kind f.line
-IsUpdateResult choice file text (Refused f) = OneOrOutOfMemory (IsUpdateOfData choice file text) (Err f)
+IsUpdateResult choice file text (Refused f) =
+    OneOrOutOfMemory (IsUpdateOfData choice file text) (Err f)
 
 abbrev pub IsExplanationResult : TextKind → List ℕ → List ℕ → JobResult → Type 0
 IsExplanationResult kind file text (Answered answer) = ⊥
 IsExplanationResult kind file text (Quads quads) = ⊥
-IsExplanationResult kind file text (Explained explanation) = IsExplanationOfData kind file text (Ok explanation)
+IsExplanationResult kind file text (Explained explanation) =
+    IsExplanationOfData kind file text (Ok explanation)
 IsExplanationResult kind file text (DataRefused f) = IsFault file 0 f.kind f.line
-IsExplanationResult kind file text (Refused f) = OneOrOutOfMemory (IsExplanationOfData kind file text) (Err f)
+IsExplanationResult kind file text (Refused f) =
+    OneOrOutOfMemory (IsExplanationOfData kind file text) (Err f)
 
 abbrev pub IsJobResult : Job → JobResult → Type 0
 IsJobResult (Check file) end = IsCheckResult file.items end
@@ -56,15 +65,19 @@ IsJobResult (Update file text choice) end = IsUpdateResult choice file.items tex
 IsJobResult (Replay file script choice) end = ⊥
 IsJobResult (Explain file text kind choice) end = IsExplanationResult kind file.items text.items end
 
--- the result of a query, of an update, or of an explanation, of any data that became this store or this fault
+-- the result of a query, of an update, or of an explanation, of any data that became this store or
+-- this fault
 abbrev pub IsQueryResultOver : Result Held LoadFault → List ℕ → JobResult → Type 0
-IsQueryResultOver loaded text end = (choice : DefaultGraph) (file : List ℕ) → BecomesStored choice file loaded → IsQueryResult choice file text end
+IsQueryResultOver loaded text end = (choice : DefaultGraph) (file : List ℕ)
+    → BecomesStored choice file loaded → IsQueryResult choice file text end
 
 abbrev pub IsUpdateResultOver : Result Held LoadFault → List ℕ → JobResult → Type 0
-IsUpdateResultOver loaded text end = (choice : DefaultGraph) (file : List ℕ) → BecomesStored choice file loaded → IsUpdateResult choice file text end
+IsUpdateResultOver loaded text end = (choice : DefaultGraph) (file : List ℕ)
+    → BecomesStored choice file loaded → IsUpdateResult choice file text end
 
 abbrev pub IsExplanationResultOver : TextKind → Result Held LoadFault → List ℕ → JobResult → Type 0
-IsExplanationResultOver kind loaded text end = (choice : DefaultGraph) (file : List ℕ) → BecomesStored choice file loaded → IsExplanationResult kind file text end
+IsExplanationResultOver kind loaded text end = (choice : DefaultGraph) (file : List ℕ)
+    → BecomesStored choice file loaded → IsExplanationResult kind file text end
 
 -- the result of a job whose data aren't put into a store
 abbrev pub load_refusal : LoadFault → JobResult

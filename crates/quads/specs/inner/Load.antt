@@ -9,5 +9,6 @@ use Rattle.quads.specs.inner.Service.{IsRefusalOf}
 
 -- a store of the data with this default graph, or why there is none
 abbrev pub BecomesStored : DefaultGraph → List ℕ → Result Held LoadFault → Type 0
-BecomesStored choice file (Ok held) = IsLoaded file (Ok held.base) × (held.limit ≡ max_terms) × (held.default_graph ≡ choice)
+BecomesStored choice file (Ok held) =
+    IsLoaded file (Ok held.base) × (held.limit ≡ max_terms) × (held.default_graph ≡ choice)
 BecomesStored choice file (Err f) = IsRefusalOf file (refusal_of f)

@@ -17,5 +17,6 @@ IsRefusalOf file (Fault f) = f ≢ Memory → IsLoaded file (Err f)
 
 -- a service over a store of the data with this default graph, or why there is none
 abbrev pub BecomesService : DefaultGraph → List ℕ → Result State Refusal → Type 0
-BecomesService choice file (Ok state) = (c : Content) × IsLoaded file (Ok c) × (state ≡ service_over choice c)
+BecomesService choice file (Ok state) =
+    (c : Content) × IsLoaded file (Ok c) × (state ≡ service_over choice c)
 BecomesService choice file (Err refusal) = IsRefusalOf file refusal

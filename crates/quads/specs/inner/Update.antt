@@ -11,9 +11,11 @@ use Rattle.quads.specs.Due.{IsUpdateOutcome}
 
 -- the store holds what the update of the bytes makes of what it held
 abbrev pub BecomesUpdated : DefaultGraph → List ℕ → Content → Outcome (Unit {0}) → Content → Type 0
-BecomesUpdated choice text old (Ok done) new = (c : Content) × IsUpdateOutcome choice text old (Ok c) × IsSameContent new c
+BecomesUpdated choice text old (Ok done) new =
+    (c : Content) × IsUpdateOutcome choice text old (Ok c) × IsSameContent new c
 BecomesUpdated choice text old (Err f) new = f ≢ Memory → IsUpdateOutcome choice text old (Err f)
 
 -- the quads after the update of the bytes
 abbrev pub AreQuadsAfter : DefaultGraph → List ℕ → Content → List Statement → Type 0
-AreQuadsAfter choice text old all = (c : Content) × IsUpdateOutcome choice text old (Ok c) × SameSet all c.quads
+AreQuadsAfter choice text old all =
+    (c : Content) × IsUpdateOutcome choice text old (Ok c) × SameSet all c.quads

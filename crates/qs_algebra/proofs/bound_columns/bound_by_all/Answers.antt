@@ -4,7 +4,7 @@ use Rattle.std.proofs.lemmas.List.{take_all}
 use Rattle.std.specs.Option.{is_some}
 use Rattle.qs_terms.specs.declared.term.Term.{Term}
 use Rattle.qs_algebra_solutions.specs.Solution.{term_at, binding}
-use Rattle.qs_algebra.specs.Flags.{flags_from}
+use Rattle.qs_algebra.specs.inner.Flags.{flags_from}
 use Rattle.qs_algebra.specs.inner.Flags.{flag_at}
 use Rattle.qs_algebra.proofs.Arms.{every_more}
 use Rattle.qs_algebra.proofs.bound_columns.bound_by_all.Goals as goal

@@ -2,7 +2,7 @@ use Rattle.std.proofs.Common.{◌≡◌, take}
 use Rattle.std.specs.List.{list_all}
 use Rattle.std.specs.Option.{is_some}
 use Rattle.qs_algebra_solutions.specs.Solution.{term_at, binding}
-use Rattle.qs_algebra.specs.Flags.{flags_from}
+use Rattle.qs_algebra.specs.inner.Flags.{flags_from}
 use Rattle.qs_algebra.proofs.bound_columns.bound_by_all.Given as goal
 
 abbrev pub invariant-loop-row : goal.invariant-loop-row

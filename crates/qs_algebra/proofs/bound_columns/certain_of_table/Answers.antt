@@ -3,7 +3,7 @@ use Rattle.std.specs.List.{list_any, list_all}
 use Rattle.std.specs.Option.{is_some}
 use Rattle.qs_terms.specs.declared.term.Term.{Term}
 use Rattle.qs_algebra_solutions.specs.Solution.{term_at, binding}
-use Rattle.qs_algebra.specs.Flags.{flags_from}
+use Rattle.qs_algebra.specs.inner.Flags.{flags_from}
 use Rattle.qs_algebra.specs.inner.Flags.{flag_at}
 use Rattle.qs_algebra.proofs.ColumnLaws.{both_are}
 use Rattle.qs_algebra.proofs.bound_columns.certain_of_table.Goals as goal

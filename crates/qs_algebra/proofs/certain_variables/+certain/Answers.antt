@@ -1,7 +1,7 @@
 use Rattle.std.proofs.Common.{◌||◌, ◌&&◌, ap, ◌∙◌}
-use Rattle.qs_algebra.specs.Flags.{flags_from}
+use Rattle.qs_algebra.specs.inner.Flags.{flags_from}
 use Rattle.qs_algebra.specs.inner.Flags.{flag_at}
-use Rattle.qs_algebra.specs.Certain.{is_certain, is_certain_step}
+use Rattle.qs_algebra.specs.inner.Certain.{is_certain, is_certain_step}
 use Rattle.qs_algebra.proofs.Arms.{certain_basic_arm, certain_group_arm, certain_union_arm, certain_graph_arm, certain_each_arm, certain_values_arm, certain_join_arm, certain_left_join_arm, certain_minus_arm, certain_extend_arm, some_more, every_more}
 use Rattle.qs_algebra.proofs.certain_variables.+certain.Goals as goal
 

@@ -1,7 +1,7 @@
 use Rattle.std.proofs.Common.{◌≡◌, take}
 use Rattle.std.specs.List.{list_any, list_all}
-use Rattle.qs_algebra.specs.Flags.{flags_from}
-use Rattle.qs_algebra.specs.Certain.{is_certain, is_certain_step}
+use Rattle.qs_algebra.specs.inner.Flags.{flags_from}
+use Rattle.qs_algebra.specs.inner.Certain.{is_certain, is_certain_step}
 use Rattle.qs_algebra.proofs.certain_variables.+certain.Given as goal
 
 abbrev pub invariant-certain_in_every-loop-part : goal.invariant-certain_in_every-loop-part

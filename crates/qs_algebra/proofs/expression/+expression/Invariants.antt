@@ -1,5 +1,6 @@
 use Rattle.std.proofs.Common.{◌≡◌, map, take}
-use Rattle.qs_algebra.specs.Expressions.{expr_of, addend_of}
+use Rattle.qs_algebra.specs.Expressions.{expr_of}
+use Rattle.qs_algebra.specs.inner.Expressions.{addend_of}
 use Rattle.qs_algebra.proofs.expression.+expression.Given as goal
 
 abbrev pub invariant-exprs_of-loop-expression : goal.invariant-exprs_of-loop-expression

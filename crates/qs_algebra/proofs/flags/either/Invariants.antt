@@ -1,5 +1,5 @@
 use Rattle.std.proofs.Common.{◌≡◌, ◌||◌}
-use Rattle.qs_algebra.specs.Flags.{flags_from}
+use Rattle.qs_algebra.specs.inner.Flags.{flags_from}
 use Rattle.qs_algebra.specs.inner.Flags.{flag_at}
 use Rattle.qs_algebra.proofs.flags.either.Given as goal
 

@@ -1,6 +1,6 @@
 use Rattle.std.proofs.Common.{◌≡◌, take}
-use Rattle.qs_algebra_patterns.specs.Basic.{is_end}
-use Rattle.qs_algebra.specs.Flags.{flags_from}
+use Rattle.qs_algebra_patterns.specs.inner.Basic.{is_end}
+use Rattle.qs_algebra.specs.inner.Flags.{flags_from}
 use Rattle.qs_algebra.proofs.mentioned.at_ends.Given as goal
 
 abbrev pub invariant-loop-path : goal.invariant-loop-path

@@ -1,6 +1,7 @@
 use Rattle.std.proofs.Common.{◌||◌, ap, ◌∙◌}
-use Rattle.qs_algebra_patterns.specs.Basic.{mentions, is_end}
-use Rattle.qs_algebra.specs.Flags.{flags_from}
+use Rattle.qs_algebra_patterns.specs.Basic.{mentions}
+use Rattle.qs_algebra_patterns.specs.inner.Basic.{is_end}
+use Rattle.qs_algebra.specs.inner.Flags.{flags_from}
 use Rattle.qs_algebra.specs.inner.Flags.{flag_at}
 use Rattle.qs_algebra.proofs.ColumnLaws.{either_are}
 use Rattle.qs_algebra.proofs.mentioned.mentioned.Goals as goal

@@ -1,8 +1,8 @@
 use Rattle.std.proofs.Common.{◌||◌, ◌==◌, ap, ◌∙◌}
 use Rattle.std.specs.List.{list_any}
-use Rattle.qs_algebra.specs.Flags.{flags_from}
+use Rattle.qs_algebra.specs.inner.Flags.{flags_from}
 use Rattle.qs_algebra.specs.inner.Flags.{flag_at}
-use Rattle.qs_algebra.specs.Possible.{is_possible, is_possible_step}
+use Rattle.qs_algebra.specs.inner.Possible.{is_possible, is_possible_step}
 use Rattle.qs_algebra.proofs.Arms.{possible_basic_arm, possible_group_arm, possible_union_arm, possible_graph_arm, possible_each_arm, possible_values_arm, possible_join_arm, possible_left_join_arm, possible_minus_arm, possible_extend_arm, some_more}
 use Rattle.qs_algebra.proofs.possible_variables.+possible.Goals as goal
 

@@ -1,7 +1,7 @@
 use Rattle.std.proofs.Common.{◌≡◌, take}
 use Rattle.std.specs.List.{list_any}
-use Rattle.qs_algebra.specs.Flags.{flags_from}
-use Rattle.qs_algebra.specs.Possible.{is_possible, is_possible_step}
+use Rattle.qs_algebra.specs.inner.Flags.{flags_from}
+use Rattle.qs_algebra.specs.inner.Possible.{is_possible, is_possible_step}
 use Rattle.qs_algebra.proofs.possible_variables.+possible.Given as goal
 
 abbrev pub invariant-possible_in_some-loop-part : goal.invariant-possible_in_some-loop-part

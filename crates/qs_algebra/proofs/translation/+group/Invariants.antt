@@ -1,5 +1,6 @@
 use Rattle.std.proofs.Common.{◌≡◌, map, take}
-use Rattle.qs_algebra.specs.Translation.{group_pattern, step_of}
+use Rattle.qs_algebra.specs.Translation.{group_pattern}
+use Rattle.qs_algebra.specs.inner.Translation.{step_of}
 use Rattle.qs_algebra.proofs.translation.+group.Given as goal
 
 abbrev pub invariant-operands-loop-group : goal.invariant-operands-loop-group

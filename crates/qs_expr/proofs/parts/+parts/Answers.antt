@@ -1,7 +1,7 @@
 use Rattle.std.proofs.Common.{◌&&◌, ◌||◌, sym, ◌∙◌, ap}
 use Rattle.std.specs.List.{list_all, list_any}
 use Rattle.std.proofs.lemmas.Result.{on_ok_weaker}
-use Rattle.qs_expr_meaning.specs.Makes.{makes}
+use Rattle.qs_expr_meaning.specs.inner.Makes.{makes}
 use Rattle.qs_expr_meaning.specs.Meaning.{holds}
 use Rattle.qs_expr.specs.inner.Parts.{all_hold, some_make}
 use Rattle.qs_expr.proofs.Taken.{all_hold_more, and_holds, and_takes, hold_more, make_more, numbers_more, some_make_more}

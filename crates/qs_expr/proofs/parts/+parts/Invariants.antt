@@ -1,7 +1,7 @@
 use Rattle.std.proofs.Common.{◌≡◌, ◌&&◌, ◌||◌, take}
 use Rattle.std.specs.List.{list_all, list_any}
 use Rattle.qs_algebra_solutions.specs.Solution.{Solution}
-use Rattle.qs_expr_meaning.specs.Makes.{makes}
+use Rattle.qs_expr_meaning.specs.inner.Makes.{makes}
 use Rattle.qs_expr_meaning.specs.Meaning.{holds}
 use Rattle.qs_expr.specs.inner.Condition.{AreNumbersOf}
 use Rattle.qs_expr.specs.inner.Parts.{all_hold, numbers_of, some_make}

@@ -1,8 +1,8 @@
 use Rattle.std.proofs.Common.{rules, ◌+◌, Some, map, refl, ap, sym, subst, ◌∙◌, FitsSigned}
 use Rattle.std.specs.Int.{w128}
 use Rattle.std.proofs.lemmas.Int.{to_z-of_z}
-use Rattle.qs_expr_meaning.specs.Comes.{Errs}
-use Rattle.qs_expr_meaning.specs.Makes.{makes, addend_makes, some}
+use Rattle.qs_expr_meaning.specs.inner.Comes.{Errs}
+use Rattle.qs_expr_meaning.specs.inner.Makes.{makes, addend_makes, some}
 use Rattle.qs_expr_meaning.specs.inner.SoFar.{sum_from, product_from}
 use Rattle.qs_expr_meaning.proofs.Steps.{sum_more, sum_error, product_more, product_error}
 use Rattle.std.specs.Prelude.{string_bytes}

@@ -1,8 +1,8 @@
 use Rattle.std.proofs.Common.{◌≡◌, ◌∙◌, ap, sym, subst, arith, inl, length, List, ℕ, ◌<◌, ◌+◌, ◌++◌, ◌-◌, length-append, length-take}
 use Rattle.std.proofs.lemmas.List.{take_all}
 use Rattle.qs_http.specs.Outcome.{More}
-use Rattle.qs_http.specs.Stage.{AwaitsBody}
-use Rattle.qs_http.specs.Feeding.{Reading}
+use Rattle.qs_http.specs.inner.Stage.{AwaitsBody}
+use Rattle.qs_http.specs.inner.Feeding.{Reading}
 use Rattle.qs_http.proofs.Steps.{awaits-kept, request_waits, ends_more, front_and_rest}
 use Rattle.qs_http.proofs.advance.advance_body.Goals as goal
 

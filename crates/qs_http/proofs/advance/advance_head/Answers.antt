@@ -2,8 +2,8 @@ use Rattle.std.proofs.Common.{◌≡◌, take, ◌∙◌, ap, sym, refl, subst, 
 use Rattle.qs_http.specs.Outcome.{More, Refused}
 use Rattle.qs_http.specs.declared.fixed_reply.Fixed.TheVariants.{HeadTooLarge}
 use Rattle.qs_http.specs.HeadEnd.{head_end}
-use Rattle.qs_http.specs.Stage.{seen_of}
-use Rattle.qs_http.specs.Feeding.{StandsAt, Reading}
+use Rattle.qs_http.specs.inner.Stage.{seen_of}
+use Rattle.qs_http.specs.inner.Feeding.{StandsAt, Reading}
 use Rattle.qs_http.proofs.Steps.{head_ends, head_goes_on, place_goes_on, request_before, request_too_long}
 use Rattle.qs_http.proofs.advance.advance_head.Goals as goal
 

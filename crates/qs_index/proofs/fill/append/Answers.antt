@@ -3,7 +3,7 @@ use Rattle.std.specs.List.{insert}
 use Rattle.std.proofs.lemmas.List.{length-set, length_push}
 use Rattle.qs_index.specs.inner.Layout.{joined, page_at, rest_at}
 use Rattle.qs_index.proofs.EntryEdits.{put_in_order}
-use Rattle.qs_index.proofs.Filled.{with_behind, rest_last, used_put, joined_open, used_open}
+use Rattle.qs_index.proofs.Filled.{with_behind, rest_last, used_put, filled_put, joined_open, used_open, filled_open}
 use Rattle.qs_index.proofs.fill.append.Goals as goal
 
 pub returns-then-at-lt-PAGE-clause-some : goal.returns-then-at-lt-PAGE-clause-some
@@ -23,6 +23,10 @@ returns-then-at-lt-PAGE-clause-entries c =
 pub returns-then-at-lt-PAGE-clause-used : goal.returns-then-at-lt-PAGE-clause-used
 returns-then-at-lt-PAGE-clause-used c =
     rw c.put.ensures.pages (used_put c.args.pages.now.pages (c.len-page.result - 1) c.page_len-at.result c.args.entry (omega (arith, c.len-page.ensures.len, c.requires.some)) (omega (arith, c.page_len-at.ensures.len)))
+
+pub returns-then-at-lt-PAGE-clause-filled : goal.returns-then-at-lt-PAGE-clause-filled
+returns-then-at-lt-PAGE-clause-filled c =
+    rw c.put.ensures.pages (filled_put c.args.pages.now.pages (c.len-page.result - 1) c.page_len-at.result c.args.entry (omega (arith, c.len-page.ensures.len, c.requires.some)) (omega (arith, c.page_len-at.ensures.len)))
 
 pub returns-then-at-lt-PAGE-clause-all : goal.returns-then-at-lt-PAGE-clause-all
 returns-then-at-lt-PAGE-clause-all c =
@@ -52,6 +56,13 @@ returns-clause-used c =
     let same : length pages - 1 ≡ c.len-page.result - 1 = omega (arith, c.len-page.ensures.len) in
     let full = ap (λ k. length (page_at pages k)) same in
     rw c.put_last.ensures.pages (used_open pages c.args.entry (omega (arith, c.if-at-lt-PAGE.false, c.page_len-at.ensures.len)))
+
+pub returns-clause-filled : goal.returns-clause-filled
+returns-clause-filled c =
+    let pages = c.args.pages.now.pages in
+    let same : length pages - 1 ≡ c.len-page.result - 1 = omega (arith, c.len-page.ensures.len) in
+    let full = ap (λ k. length (page_at pages k)) same in
+    rw c.put_last.ensures.pages (filled_open pages c.args.entry c.requires.some (omega (arith, c.if-at-lt-PAGE.false, c.page_len-at.ensures.len)))
 
 pub returns-clause-all : goal.returns-clause-all
 returns-clause-all c =

@@ -1,5 +1,6 @@
 use Rattle.std.proofs.Common.{List, ℕ, map, ◌∙◌, subst}
-use Rattle.qs_lex.specs.Lexes.{Lexes, lexeme}
+use Rattle.qs_lex.specs.Lexes.{Lexes}
+use Rattle.qs_lex.specs.inner.Lexes.{lexeme}
 use Rattle.qs_lex.proofs.Places.{Placed, placed_whole}
 use Rattle.qs_lex.proofs.token_list.tokens.Goals as goal
 use Rattle.qs_lex.proofs.token_list.tokens.Goals.{In-Ok-None}

@@ -1,5 +1,5 @@
 use Rattle.std.proofs.Common.{◌≡◌, length, map}
-use Rattle.qs_lex.specs.Lexes.{lexeme}
+use Rattle.qs_lex.specs.inner.Lexes.{lexeme}
 use Rattle.qs_lex.specs.inner.Unread.{HasRead}
 use Rattle.qs_lex.proofs.token_list.tokens.Given as goal
 

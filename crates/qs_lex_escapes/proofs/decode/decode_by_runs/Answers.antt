@@ -3,8 +3,8 @@ use Rattle.std.proofs.Common.{rules, ◌≡◌, ◌∙◌, sym, subst, ◌<◌, 
 use Rattle.std.specs.List.{position_or_len, before_first, after_first}
 use Rattle.std.specs.Str.{IsUtf8}
 use Rattle.qs_lex_escapes.specs.Decoded.{stands_for, length_of}
-use Rattle.qs_lex_escapes.specs.Escape.{escape}
-use Rattle.qs_lex_escapes.specs.Decoded.{is_backslash}
+use Rattle.qs_lex_escapes.specs.inner.Escape.{escape}
+use Rattle.qs_lex_escapes.specs.inner.Decoded.{is_backslash}
 use Rattle.qs_lex_escapes.proofs.Backslashes.{turned}
 use Rattle.qs_lex_escapes.proofs.EscapeEnds.{boundary, rest_is_text}
 use Rattle.qs_lex_escapes.proofs.decode.decode_by_runs.Goals as goal

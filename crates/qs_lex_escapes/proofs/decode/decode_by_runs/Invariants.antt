@@ -3,7 +3,7 @@ use Rattle.std.proofs.Common.{◌≡◌, ◌++◌, length, string_bytes}
 use denote.Shadow.{shadow}
 use denote.Text.{Utf8}
 use Rattle.qs_lex_escapes.specs.Decoded.{decoded}
-use Rattle.qs_lex_escapes.specs.Escape.{escape}
+use Rattle.qs_lex_escapes.specs.inner.Escape.{escape}
 use Rattle.qs_lex_escapes.proofs.decode.decode_by_runs.Given as goal
 
 abbrev pub invariant-loop-run : goal.invariant-loop-run

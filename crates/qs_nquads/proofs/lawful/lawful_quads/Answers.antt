@@ -1,5 +1,5 @@
 use Rattle.std.proofs.Common.{subst, arith}
-use Rattle.qs_nquads.specs.Renumbered.{IsQuad}
+use Rattle.qs_nquads.specs.inner.Renumbered.{IsQuad}
 use Rattle.qs_nquads.proofs.LawfulQuads.{one_more}
 use Rattle.qs_nquads.proofs.lawful.lawful_quads.Goals as goal
 

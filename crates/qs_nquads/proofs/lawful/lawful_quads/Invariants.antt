@@ -1,5 +1,5 @@
 use Rattle.std.proofs.Common.{take}
-use Rattle.qs_nquads.specs.Renumbered.{AreQuads}
+use Rattle.qs_nquads.specs.inner.Renumbered.{AreQuads}
 use Rattle.qs_nquads.proofs.lawful.lawful_quads.Given as goal
 
 abbrev pub invariant-loop-quad : goal.invariant-loop-quad

@@ -1,6 +1,6 @@
 use Rattle.std.proofs.Common.{◌≡◌, ◌+◌, length, IsUtf8, chars}
 use Rattle.std.specs.Str.Iter.{chars_rest}
-use Rattle.qs_lex_regular.specs.Longest.{best}
+use Rattle.qs_lex_regular.specs.inner.Best.{best}
 use Rattle.qs_lex_regular.specs.inner.Scan.{later}
 use Rattle.qs_nquads.specs.Table.{table}
 use Rattle.qs_nquads.specs.inner.State.{left}

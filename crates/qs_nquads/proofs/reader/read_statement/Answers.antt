@@ -1,6 +1,7 @@
 use Rattle.std.proofs.Common.{◌<◌, ◌∷◌, ◌++◌, [], length, refl, sym, ap, arith}
-use Rattle.qs_nquads.specs.Reading.{on}
+use Rattle.qs_nquads.specs.inner.Reading.{on}
 use Rattle.qs_nquads.specs.inner.Unread.{reading, state}
+use Rattle.qs_nquads.proofs.AfterStatement.{whole_done}
 use Rattle.qs_nquads.proofs.Fronts.{Front, front_of}
 use Rattle.qs_nquads.proofs.Steps.{some_from, goes_on, stops_with}
 use Rattle.qs_nquads.proofs.Stops.{stop_of}
@@ -57,4 +58,9 @@ returns-in-Err-clause-read c = λ from quads h.
           (some_from _ c.if-is_empty.ensures) (sym c.in-Some.ensures) (rw (← c.split_at.ensures.front) (c.in-Err.ensures.fault quads m)),
       refl,
     ))
-    (state c.tokens.place c.tokens.labels c.tokens.rest.now quads, c.tokens.invariant.comes from quads h, ap length c.behind_gap-front.ensures.value)
+    (state c.tokens.place c.tokens.labels c.tokens.rest.now quads, c.tokens.invariant.comes from quads h, ap length c.behind_gap-front.ensures.value, some_from _ c.if-is_empty.ensures)
+
+pub returns-in-Ok-Some-clause-done : goal.returns-in-Ok-Some-clause-done
+returns-in-Ok-Some-clause-done c =
+    whole_done [] c.in-Ok-Some.quad c.read_front.new.place c.read_front.new.labels c.tokens.place c.tokens.labels c.in-Some.class c.split_at.result.0.now
+    (rw c.in-Ok-Some.field-0-is at (c.in-Ok-Some.ensures.read []))

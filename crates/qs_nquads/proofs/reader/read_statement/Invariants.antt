@@ -2,7 +2,7 @@ use Rattle.std.proofs.Common.{◌≤◌, List, length, IsUtf8}
 use denote.Text.{Utf8}
 use denote.Shadow.{shadow}
 use Rattle.qs_terms.specs.Statement.{Statement}
-use Rattle.qs_nquads.specs.Reading.{State, Comes}
+use Rattle.qs_nquads.specs.inner.Reading.{State, Comes}
 use Rattle.qs_nquads.specs.inner.Unread.{state}
 use Rattle.qs_nquads.proofs.reader.read_statement.Given as goal
 

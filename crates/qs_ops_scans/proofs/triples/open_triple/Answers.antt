@@ -1,4 +1,4 @@
-use Rattle.qs_plan_meaning.specs.Scans.{extensions}
+use Rattle.qs_plan_meaning.specs.inner.Scans.{extensions}
 use Rattle.qs_ops_scans.proofs.Looks.{made_in}
 use Rattle.qs_ops_scans.proofs.triples.open_triple.Goals as goal
 

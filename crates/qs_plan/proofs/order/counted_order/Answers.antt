@@ -1,6 +1,6 @@
 use Rattle.std.proofs.Common.{refl, subst}
 use Rattle.std.proofs.lemmas.Result.{IfOk-weaker}
-use Rattle.qs_plan.specs.Plans.{SamePlan}
+use Rattle.qs_plan.specs.inner.Plans.{SamePlan}
 use Rattle.qs_plan.specs.inner.Sames.{SameStages}
 use Rattle.qs_plan.proofs.Sames.{same_copy, same_plan}
 use Rattle.qs_plan.proofs.order.counted_order.Goals as goal

@@ -1,5 +1,5 @@
 use Rattle.std.proofs.Common.{◌∙◌}
-use Rattle.qs_base.specs.Lent.{lent}
+use Rattle.qs_base.specs.inner.Lent.{lent}
 use Rattle.qs_query_forms.proofs.AnyOrder.{ordered_all}
 use Rattle.qs_query_forms.proofs.answer.all_ordered_once.Goals as goal
 

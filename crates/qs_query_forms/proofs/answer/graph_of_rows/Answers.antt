@@ -1,5 +1,5 @@
 use Rattle.std.proofs.Common.{◌≡◌, ◌≤◌, ◌∙◌, ap, sym, subst, length, arith}
-use Rattle.qs_base.specs.Lent.{lent}
+use Rattle.qs_base.specs.inner.Lent.{lent}
 use Rattle.qs_query_template.specs.Instances.{made}
 use Rattle.qs_query_forms.proofs.AnyOrder.{built_rest}
 use Rattle.qs_query_forms.proofs.answer.graph_of_rows.Goals as goal

@@ -1,6 +1,6 @@
 use Rattle.std.proofs.Common.{◌≡◌, ◌∙◌, ap, map}
 use Rattle.qs_algebra_solutions.specs.Solution.{projected}
-use Rattle.qs_base.specs.Lent.{lent}
+use Rattle.qs_base.specs.inner.Lent.{lent}
 use Rattle.qs_query_forms.specs.Sequence.{sliced}
 use Rattle.qs_query_forms.proofs.Ordered.{few}
 use Rattle.qs_query_forms.proofs.answer.rows_of.Goals as goal

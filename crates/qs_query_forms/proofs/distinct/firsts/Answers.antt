@@ -1,7 +1,7 @@
 use Rattle.std.proofs.Common.{◌≡◌, ◌++◌, ◌∷◌, [], ◌∙◌, ap, map, take, sym, List, ◌+◌}
 use Rattle.qs_terms.specs.Bag.{once}
 use Rattle.qs_algebra_solutions.specs.Solution.{Solution, projected, same_solution}
-use Rattle.qs_base.specs.Lent.{lent}
+use Rattle.qs_base.specs.inner.Lent.{lent}
 use Rattle.qs_algebra_solutions.proofs.Same.{same_solution-Decides}
 use Rattle.qs_algebra_solutions.proofs.KnownValues.{was_new, was_known, on_false}
 use Rattle.qs_query_forms.proofs.Cells.{read, order, reads}

@@ -1,7 +1,7 @@
 use Rattle.std.proofs.Common.{◌≡◌, map, take}
 use Rattle.qs_terms.specs.Bag.{once}
 use Rattle.qs_algebra_solutions.specs.Solution.{projected, same_solution}
-use Rattle.qs_base.specs.Lent.{lent}
+use Rattle.qs_base.specs.inner.Lent.{lent}
 use Rattle.qs_algebra_solutions.proofs.Same.{same_solution-Decides}
 use Rattle.qs_query_forms.proofs.Cells.{read, order, reads}
 use Rattle.qs_algebra_solutions.proofs.KnownKeys.{Knows}

@@ -1,5 +1,5 @@
 use Rattle.std.proofs.Common.{◌≡◌, take}
-use Rattle.qs_base.specs.Lent.{lent}
+use Rattle.qs_base.specs.inner.Lent.{lent}
 use Rattle.qs_query_forms.proofs.sequence.lent_rows.Given as goal
 
 abbrev pub invariant-loop-row : goal.invariant-loop-row

@@ -1,6 +1,6 @@
 use Rattle.std.proofs.Common.{◌∙◌, sym, subst}
 use Rattle.qs_store.specs.inner.ActiveGraph.{active_graph}
-use Rattle.qs_plan.specs.Plans.{plan_list}
+use Rattle.qs_plan.specs.inner.Plans.{plan_list}
 use Rattle.qs_query_solutions.specs.inner.CellRows.{AreAll}
 use Rattle.qs_query_solutions.proofs.Listing.{Fitting, all_planned, too_many_planned}
 use Rattle.qs_query_solutions.proofs.cell_rows.list_planned.Goals as goal

@@ -1,7 +1,7 @@
 use Rattle.std.proofs.Common.{ℕ, List, IfOk, subst, sym}
 use Rattle.qs_http.specs.declared.request.Request.{Request}
 use Rattle.qs_http.specs.declared.request.Request.TheVariants.{Query, Update, Dump}
-use Rattle.qs_service_connections.specs.Meaning.{CarriesOrMemory}
+use Rattle.qs_service_connections.specs.inner.Meaning.{CarriesOrMemory}
 use Rattle.qs_service.specs.Carried.{Carries}
 use Rattle.qs_service.specs.Language.{sparql}
 use Rattle.qs_service.specs.State.{stored_of}

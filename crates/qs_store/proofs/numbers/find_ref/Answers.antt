@@ -1,5 +1,5 @@
 use Rattle.std.proofs.Common.{◌≡◌, Some, sym, subst}
-use Rattle.qs_dict.specs.Dict.{number_of, IsInUse}
+use Rattle.qs_dict.specs.inner.Dict.{number_of, IsInUse}
 use Rattle.qs_store.specs.inner.References.{referred, IsReferred}
 use Rattle.qs_store.proofs.References.{own_number}
 use Rattle.qs_store.proofs.numbers.find_ref.Goals as goal

@@ -1,5 +1,5 @@
 use Rattle.std.proofs.Common.{◌≡◌, Some, subst}
-use Rattle.qs_dict.specs.Dict.{number_of}
+use Rattle.qs_dict.specs.inner.Dict.{number_of}
 use Rattle.qs_store.specs.inner.Entries.{graph_number}
 use Rattle.qs_store.proofs.Terms.{entry_in_steps}
 use Rattle.qs_store.proofs.numbers.numbered.Goals as goal

@@ -1,8 +1,8 @@
 use Rattle.std.proofs.Common.{◌≡◌, Some, map, take}
 use Rattle.qs_store.specs.Change.{with_terms_of}
 use Rattle.qs_store.specs.inner.Entries.{entry_of}
-use Rattle.qs_dict.specs.Dict.{IsDictionary}
-use Rattle.qs_store.specs.Content.{AreLawful}
+use Rattle.qs_dict.specs.inner.Dict.{IsDictionary}
+use Rattle.qs_store.specs.inner.Content.{AreLawful}
 use Rattle.qs_store.specs.inner.Store.{IsFront}
 use Rattle.qs_store.proofs.numbers.numbered_all.Given as goal
 

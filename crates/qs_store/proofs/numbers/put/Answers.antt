@@ -1,8 +1,8 @@
 use Rattle.std.proofs.Common.{Err, ap, subst, sym, length}
 use Rattle.qs_terms.specs.Bag.{with_new}
 use Rattle.qs_terms.specs.Term.{same_term}
-use Rattle.qs_dict.specs.Dict.{IsDictionary}
-use Rattle.qs_store.specs.Change.{IsFullAt}
+use Rattle.qs_dict.specs.inner.Dict.{IsDictionary}
+use Rattle.qs_store.specs.inner.Change.{IsFullAt}
 use Rattle.qs_store.proofs.Terms.{put_full}
 use Rattle.qs_store.proofs.numbers.put.Goals as goal
 

@@ -1,7 +1,7 @@
 use Rattle.std.proofs.Common.{◌≡◌, Some, sym, subst}
 use Rattle.qs_terms.specs.Bag.{with_new}
 use Rattle.qs_terms.specs.Term.{same_term}
-use Rattle.qs_dict.specs.Dict.{number_of, IsInUse}
+use Rattle.qs_dict.specs.inner.Dict.{number_of, IsInUse}
 use Rattle.qs_store.specs.inner.References.{referred, IsReferred}
 use Rattle.qs_store.proofs.References.{known_number, known_again}
 use Rattle.qs_store.proofs.numbers.put_ref.Goals as goal

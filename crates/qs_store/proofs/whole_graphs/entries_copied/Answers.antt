@@ -1,7 +1,7 @@
 use Rattle.std.proofs.Common.{length, subst, ◌∙◌}
 use Rattle.std.proofs.lemmas.Result.{err_from_is_err_and}
 use Rattle.std.specs.Option.{option_copied}
-use Rattle.qs_store.specs.Change.{IsFullAt}
+use Rattle.qs_store.specs.inner.Change.{IsFullAt}
 use Rattle.qs_store.specs.inner.Entries.{statement_of}
 use Rattle.qs_store.proofs.Copied.{copied_said, held_quad}
 use Rattle.qs_store.proofs.CopiedTerms.{terms_copied}

@@ -1,7 +1,8 @@
 use Rattle.std.proofs.Common.{◌∷◌, ◌++◌, [], List, length, subst, ◌∙◌}
 use Rattle.qs_nquads.specs.inner.Unread.{HasRead}
 use Rattle.qs_terms.specs.Statement.{Statement}
-use Rattle.qs_store.specs.Change.{IsFullAt, with_terms_of}
+use Rattle.qs_store.specs.Change.{with_terms_of}
+use Rattle.qs_store.specs.inner.Change.{IsFullAt}
 use Rattle.qs_store.specs.inner.Entries.{said}
 use Rattle.qs_store_load.specs.inner.Loading.{IsToldFor}
 use Rattle.qs_store_load.proofs.Loads.{refused_for}

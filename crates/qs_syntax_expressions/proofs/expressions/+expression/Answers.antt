@@ -1,5 +1,5 @@
 use Rattle.std.proofs.Common.{arith}
-use Rattle.qs_syntax_grammar.specs.Grammar.{read_at}
+use Rattle.qs_syntax_grammar.specs.inner.Grammar.{read_at}
 use Rattle.qs_syntax_grammar.proofs.Loops.{deeper}
 use Rattle.qs_syntax_tree.specs.Sparql as name
 use Rattle.qs_syntax_tree.specs.Table.{grammar, rule}

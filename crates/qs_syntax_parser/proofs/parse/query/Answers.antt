@@ -1,6 +1,6 @@
 use Rattle.std.proofs.Common.{◌≡◌, arith, ap, length, Ok, Err, inl, refl}
 use Rattle.qs_syntax_grammar.specs.declared.fault.Fault.TheVariants.{Syntax}
-use Rattle.qs_syntax_grammar.specs.Grammar.{read, whole}
+use Rattle.qs_syntax_grammar.specs.inner.Grammar.{read, whole}
 use Rattle.qs_syntax_grammar.proofs.Whole.{found_spelt, not_deep, is_due, at_most, none_spelt, one_tree}
 use Rattle.qs_syntax_tree.specs.Rules as rules
 use Rattle.qs_syntax_tree.specs.Sparql.{sparql}

@@ -1,7 +1,7 @@
 use Rattle.std.proofs.Common.{rules, arith, ◌≡◌, Ok, Err, ◌∙◌, ap, sym}
 use Rattle.std.proofs.lemmas.Grind.{common_steps}
 use Rattle.qs_syntax_grammar.specs.declared.fault.Fault.{Fault}
-use Rattle.qs_syntax_grammar.specs.Grammar.{read}
+use Rattle.qs_syntax_grammar.specs.inner.Grammar.{read}
 use Rattle.qs_syntax_tree.specs.Rules.{operation, prologue}
 use Rattle.qs_syntax_tree.specs.Table.{grammar}
 use Rattle.qs_syntax_parser.proofs.StepsLoop.{no_operation, no_more, no_prologue, last, deep, goes_on}

@@ -1,6 +1,6 @@
 use Rattle.std.proofs.Common.{◌≡◌, ◌++◌, Ok, Some}
 use Rattle.qs_syntax_grammar.specs.inner.Reading.{and_then}
-use Rattle.qs_syntax_grammar.specs.Grammar.{read}
+use Rattle.qs_syntax_grammar.specs.inner.Grammar.{read}
 use Rattle.qs_syntax_tree.specs.Rules.{operations_rule}
 use Rattle.qs_syntax_tree.specs.Table.{grammar}
 use Rattle.qs_syntax_tree.specs.Trees.{steps_of}

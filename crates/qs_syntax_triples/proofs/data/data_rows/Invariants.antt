@@ -1,7 +1,7 @@
 use Rattle.std.proofs.Common.{◌≡◌, ◌-◌, ◌∷◌, []}
 use Rattle.qs_syntax_grammar.specs.inner.Reading.{loop}
 use Rattle.qs_syntax_grammar.specs.inner.Repeated.{into, push}
-use Rattle.qs_syntax_grammar.specs.Grammar.{read}
+use Rattle.qs_syntax_grammar.specs.inner.Grammar.{read}
 use Rattle.qs_syntax_tree.specs.declared.kind.Kind.TheVariants as k
 use Rattle.qs_syntax_tree.specs.Sparql.{sparql}
 use Rattle.qs_syntax_tree.specs.Table.{grammar}

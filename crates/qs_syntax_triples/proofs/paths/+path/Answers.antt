@@ -2,7 +2,7 @@ use Rattle.std.proofs.Common.{rules, arith, ◌∷◌, [], refl}
 use Rattle.qs_syntax_grammar.specs.inner.Repeated.{push}
 use Rattle.qs_syntax_grammar.specs.Rule.{placed}
 use Rattle.qs_syntax_grammar.specs.Notation.{◌>>◌, ◌<$>◌}
-use Rattle.qs_syntax_grammar.specs.Grammar.{read, read_at}
+use Rattle.qs_syntax_grammar.specs.inner.Grammar.{read, read_at}
 use Rattle.qs_syntax_grammar.proofs.Loops.{all_read, goes_on, deeper}
 use Rattle.qs_syntax_tree.specs.declared.kind.Kind.TheVariants as k
 use Rattle.qs_syntax_tree.specs.Sparql.{sparql}

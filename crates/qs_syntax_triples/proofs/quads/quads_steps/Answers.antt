@@ -1,5 +1,5 @@
 use Rattle.std.proofs.Common.{rules, arith, ◌++◌, ◌∷◌, []}
-use Rattle.qs_syntax_grammar.specs.Grammar.{read}
+use Rattle.qs_syntax_grammar.specs.inner.Grammar.{read}
 use Rattle.qs_syntax_grammar.proofs.Loops.{all_joined, goes_on}
 use Rattle.qs_syntax_tree.specs.declared.kind.Kind.TheVariants as k
 use Rattle.qs_syntax_tree.specs.Sparql.{sparql}

@@ -2,7 +2,7 @@ use Rattle.std.proofs.lemmas.Grind.{common_steps}
 use Rattle.std.proofs.Common.{rules, arith, ap, ◌∙◌, Err, ◌≡◌, ◌∷◌, [], refl}
 use Rattle.qs_syntax_grammar.specs.inner.Repeated.{keep, push}
 use Rattle.qs_syntax_grammar.specs.Notation.{◌>>◌}
-use Rattle.qs_syntax_grammar.specs.Grammar.{read, read_at}
+use Rattle.qs_syntax_grammar.specs.inner.Grammar.{read, read_at}
 use Rattle.qs_syntax_grammar.proofs.Loops.{all_read, all_kept, goes_on, deeper, after_none, after_some, after_fault}
 use Rattle.qs_syntax_grammar.specs.declared.fault.Fault.{Fault}
 use Rattle.qs_syntax_grammar.specs.inner.Reading.{starts}

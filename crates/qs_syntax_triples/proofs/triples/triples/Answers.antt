@@ -1,7 +1,7 @@
 use Rattle.std.proofs.Common.{rules, arith, ◌≡◌, Ok, Err, ap, sym, ◌∙◌}
 use Rattle.std.proofs.lemmas.Grind.{common_steps}
 use Rattle.qs_syntax_grammar.specs.declared.fault.Fault.{Fault}
-use Rattle.qs_syntax_grammar.specs.Grammar.{read, read_at}
+use Rattle.qs_syntax_grammar.specs.inner.Grammar.{read, read_at}
 use Rattle.qs_syntax_tree.specs.Sparql.{triples}
 use Rattle.qs_syntax_tree.specs.Rules.{same_subject}
 use Rattle.qs_syntax_tree.specs.Table.{grammar}

@@ -1,6 +1,6 @@
 use Rattle.std.proofs.Common.{◌≡◌, ◌++◌, Ok}
 use Rattle.qs_syntax_grammar.specs.inner.Reading.{and_then}
-use Rattle.qs_syntax_grammar.specs.Grammar.{read_at}
+use Rattle.qs_syntax_grammar.specs.inner.Grammar.{read_at}
 use Rattle.qs_syntax_tree.specs.Sparql.{triples}
 use Rattle.qs_syntax_tree.specs.Table.{grammar}
 use Rattle.qs_syntax_triples.proofs.triples.triples.Given as goal

@@ -2,7 +2,8 @@ use Rattle.std.proofs.Common.{◌++◌, ◌∙◌, length, map, take, ap, sym, s
 use Rattle.std.proofs.lemmas.Result.{err_from_is_err_and}
 use Rattle.qs_expr.specs.inner.Cell.{row_solution, FitsRow}
 use Rattle.qs_query_template.specs.Instances.{instances, instances_under}
-use Rattle.qs_store.specs.Change.{with_terms_of, IsFullAt}
+use Rattle.qs_store.specs.Change.{with_terms_of}
+use Rattle.qs_store.specs.inner.Change.{IsFullAt}
 use Rattle.qs_store.proofs.Terms.{front_trans}
 use Rattle.qs_update_entries.specs.inner.Say.{Say}
 use Rattle.qs_update_entries.proofs.Adding.{full_of_more, more_instances, next_first, rest_of_instances, with_rest_of_instances}

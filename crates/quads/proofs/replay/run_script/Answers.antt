@@ -1,6 +1,7 @@
 use Rattle.std.proofs.Common.{List, map, subst, sym}
 use Rattle.qs_service_replay.specs.inner.ScriptEvents.{event_of}
-use Rattle.qs_service_replay.specs.Script.{IsScript, IsScriptFault}
+use Rattle.qs_service_replay.specs.Script.{IsScript}
+use Rattle.qs_service_replay.specs.inner.Script.{IsScriptFault}
 use Rattle.qs_service_replay.specs.declared.script.ScriptFault.{ScriptFault}
 use Rattle.qs_service_replay.specs.declared.script_event.ScriptEvent.{ScriptEvent}
 use Rattle.quads.specs.Due.{line, script_line, IsDueOfEvents}

@@ -1,5 +1,5 @@
 use Rattle.std.proofs.Common.{◌≡◌, ◌<◌, ◌≤◌, ◌-◌, Some, length, get_or, ap, subst, ◌∙◌, arith}
-use Rattle.qs_dict.specs.Dict.{term_at, number_of}
+use Rattle.qs_dict.specs.inner.Dict.{term_at, number_of}
 use Rattle.qs_dict.proofs.Numbers.{exact_number, term_there}
 use Rattle.qs_dict.proofs.dict.Dict.is_numbered.Goals as goal
 

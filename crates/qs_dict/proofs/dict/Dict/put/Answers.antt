@@ -3,7 +3,7 @@ use Rattle.std.proofs.lemmas.Option.{same_Some, none-some}
 use Rattle.qs_terms.specs.Bag.{with_new}
 use Rattle.qs_terms.specs.Term.{same_term}
 use Rattle.qs_terms.specs.declared.term.Term.{Term}
-use Rattle.qs_dict.specs.Dict.{Dictionary, number_of}
+use Rattle.qs_dict.specs.inner.Dict.{Dictionary, number_of}
 use Rattle.qs_dict.proofs.Numbers.{exact_number, keeps_with, more_by_one, with_known}
 use Rattle.qs_dict.proofs.dict.Dict.put.Goals as goal
 

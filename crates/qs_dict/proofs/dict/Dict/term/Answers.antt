@@ -1,5 +1,5 @@
 use Rattle.std.proofs.Common.{◌≡◌, ◌≤◌, Some, length, ap}
-use Rattle.qs_dict.specs.Dict.{term_at}
+use Rattle.qs_dict.specs.inner.Dict.{term_at}
 use Rattle.qs_dict.proofs.Numbers.{term_there, exact_number}
 use Rattle.qs_dict.proofs.dict.Dict.term.Goals as goal
 

@@ -1,5 +1,5 @@
 use Rattle.std.proofs.Common.{[], subst, sym, rules, IsUtf8}
-use Rattle.qs_nquads.specs.Reading.{start, Comes, here}
+use Rattle.qs_nquads.specs.inner.Reading.{start, Comes, here}
 use Rattle.qs_nquads.specs.inner.Unread.{state}
 use Rattle.qs_nquads.specs.declared.statement_state.StatementState.TheVariants as place
 use Rattle.qs_nquads.proofs.reader.Reader.with_labels.Goals as goal

@@ -1,7 +1,7 @@
 use Rattle.std.proofs.Common.{◌≡◌, subst}
 use Rattle.qs_algebra_patterns.specs.declared.pattern.TriplePattern.{TriplePattern}
-use Rattle.qs_plan_meaning.specs.Scans.{extensions}
-use Rattle.qs_plan_meaning.specs.Stages.{looked}
+use Rattle.qs_plan_meaning.specs.inner.Scans.{extensions}
+use Rattle.qs_plan_meaning.specs.inner.Stages.{looked}
 use Rattle.qs_plan_meaning.specs.declared.stage.Look.{Look}
 use Rattle.qs_ops_scans.specs.inner.Makes.{Makes}
 use Rattle.qs_ops_scans.specs.inner.Prepared.{prepared_look, prepared_triple}

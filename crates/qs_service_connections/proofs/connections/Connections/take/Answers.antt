@@ -1,6 +1,7 @@
 use Rattle.std.proofs.Common.{◌≡◌, ◌-◌, ℕ, arith, sym, ap, subst, ◌∙◌, refl, List, take, drop, Option, Some}
 use Rattle.std.proofs.lemmas.Grind.{get_or-set_at}
-use Rattle.qs_service_connections.specs.State.{Joined, Exchange, Reading, Answered, put_exchange, with_taken}
+use Rattle.qs_service_connections.specs.State.{Joined, Exchange, Reading, Answered, put_exchange}
+use Rattle.qs_service_connections.specs.State.{with_taken}
 use Rattle.qs_service_connections.specs.Step.{joined_taken}
 use Rattle.qs_service_connections.specs.inner.Table.{IsPlace}
 use Rattle.qs_service_connections.specs.inner.Receive.{bytes_in}

@@ -1,5 +1,5 @@
 use Rattle.std.proofs.Common.{subst}
-use Rattle.qs_store.specs.Content.{IsContent}
+use Rattle.qs_store.specs.inner.Content.{IsContent}
 use Rattle.qs_store.proofs.Stored.{said_once}
 use Rattle.qs_store.proofs.store.Store.draft_count.Goals as goal
 

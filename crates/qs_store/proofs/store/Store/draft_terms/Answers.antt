@@ -1,5 +1,5 @@
 use Rattle.std.proofs.Common.{subst}
-use Rattle.qs_store.specs.Content.{KnowsItsTerms, AreLawful}
+use Rattle.qs_store.specs.inner.Content.{KnowsItsTerms, AreLawful}
 use Rattle.qs_store.proofs.Stored.{draft_known, draft_lawful}
 use Rattle.qs_store.proofs.store.Store.draft_terms.Goals as goal
 

@@ -1,5 +1,6 @@
 use Rattle.std.proofs.Common.{◌∷◌, ◌++◌, length, ap, subst, ◌∙◌}
-use Rattle.qs_store.specs.Change.{IsFullAt, with_terms_of}
+use Rattle.qs_store.specs.Change.{with_terms_of}
+use Rattle.qs_store.specs.inner.Change.{IsFullAt}
 use Rattle.qs_store.specs.inner.Entries.{AreEntries, IsSaidBehind}
 use Rattle.qs_store.proofs.Loaded.{store_more, draft_said, said_behind, known_behind, full_behind}
 use Rattle.qs_store.proofs.Stored.{base_same}

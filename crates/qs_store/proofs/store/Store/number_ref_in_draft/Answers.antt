@@ -1,7 +1,8 @@
 use Rattle.std.proofs.Common.{◌≡◌, ◌∷◌, ◌++◌, [], List, IsTrue, length, ap, sym, subst, ◌∙◌}
 use Rattle.qs_terms.specs.Statement.{Statement, fits_places}
 use Rattle.qs_terms.specs.declared.term.Term.{Term}
-use Rattle.qs_store.specs.Change.{IsFullAt, with_terms_of}
+use Rattle.qs_store.specs.Change.{with_terms_of}
+use Rattle.qs_store.specs.inner.Change.{IsFullAt}
 use Rattle.qs_store.specs.inner.Entries.{AreEntries, IsSaidBehind}
 use Rattle.qs_store.specs.inner.References.{referred_quad}
 use Rattle.qs_store.proofs.Loaded.{store_more, draft_said, said_behind, known_behind, full_behind}

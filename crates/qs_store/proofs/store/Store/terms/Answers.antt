@@ -1,5 +1,5 @@
 use Rattle.std.proofs.Common.{subst}
-use Rattle.qs_store.specs.Content.{KnowsItsTerms, AreLawful}
+use Rattle.qs_store.specs.inner.Content.{KnowsItsTerms, AreLawful}
 use Rattle.qs_store.proofs.Stored.{base_known, base_lawful}
 use Rattle.qs_store.proofs.store.Store.terms.Goals as goal
 

@@ -1,6 +1,6 @@
 use Rattle.std.proofs.Common.{rules, arith, ◌∷◌, []}
 use Rattle.qs_syntax_grammar.specs.inner.Repeated.{push}
-use Rattle.qs_syntax_grammar.specs.Grammar.{read}
+use Rattle.qs_syntax_grammar.specs.inner.Grammar.{read}
 use Rattle.qs_syntax_grammar.proofs.Loops.{all_read, goes_on}
 use Rattle.qs_syntax_tree.specs.declared.kind.Kind.TheVariants as k
 use Rattle.qs_syntax_tree.specs.Sparql.{sparql}

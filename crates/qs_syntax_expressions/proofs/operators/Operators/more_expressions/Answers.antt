@@ -1,7 +1,7 @@
 use Rattle.std.proofs.lemmas.Grind.{common_steps}
 use Rattle.std.proofs.Common.{rules, arith, ◌≡◌, Err, ◌∷◌, []}
 use Rattle.qs_syntax_grammar.specs.inner.Repeated.{push}
-use Rattle.qs_syntax_grammar.specs.Grammar.{read}
+use Rattle.qs_syntax_grammar.specs.inner.Grammar.{read}
 use Rattle.qs_syntax_grammar.proofs.Loops.{all_read, goes_on, fails}
 use Rattle.qs_syntax_grammar.specs.declared.fault.Fault.{Fault}
 use Rattle.qs_syntax_tree.specs.declared.kind.Kind.TheVariants as k

@@ -1,5 +1,6 @@
 use Rattle.std.proofs.Common.{◌≡◌, map, drop}
-use Rattle.qs_syntax_resolve.specs.Expression.{expression_of, addend_of, addends, operands, list}
+use Rattle.qs_syntax_resolve.specs.Expression.{expression_of}
+use Rattle.qs_syntax_resolve.specs.inner.Expression.{addend_of, addends, operands, list}
 use Rattle.qs_syntax_resolve.specs.Resolving.{all_behind}
 use Rattle.qs_syntax_resolve.proofs.resolver.Resolver.+expression.Given as goal
 

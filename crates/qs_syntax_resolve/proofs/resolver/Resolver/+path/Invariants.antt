@@ -1,5 +1,6 @@
 use Rattle.std.proofs.Common.{◌≡◌, map, drop}
-use Rattle.qs_syntax_resolve.specs.Path.{path_of, operands}
+use Rattle.qs_syntax_resolve.specs.Path.{path_of}
+use Rattle.qs_syntax_resolve.specs.inner.Path.{operands}
 use Rattle.qs_syntax_resolve.specs.Resolving.{all_behind}
 use Rattle.qs_syntax_resolve.proofs.resolver.Resolver.+path.Given as goal
 

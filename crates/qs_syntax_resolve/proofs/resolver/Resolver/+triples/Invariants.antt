@@ -1,5 +1,6 @@
 use Rattle.std.proofs.Common.{◌≡◌, map, drop}
-use Rattle.qs_syntax_resolve.specs.Triples.{each_object, each_property, object_of, property_of, objects, properties}
+use Rattle.qs_syntax_resolve.specs.Triples.{each_object, each_property, property_of, properties}
+use Rattle.qs_syntax_resolve.specs.inner.Triples.{object_of, objects}
 use Rattle.qs_syntax_resolve.proofs.resolver.Resolver.+triples.Given as goal
 
 abbrev pub invariant-objects-loop-node : goal.invariant-objects-loop-node

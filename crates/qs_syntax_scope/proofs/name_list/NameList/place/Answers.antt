@@ -3,7 +3,8 @@ use Rattle.std.specs.Ordering.{nat_cmp}
 use Rattle.std.specs.Cmp.Lexicographic.{slice_cmp}
 use Rattle.std.specs.BTreeMap.{get}
 use Rattle.qs_syntax_scope.specs.Names.{Name}
-use Rattle.qs_syntax_scope.specs.Places.{first_with, place_of}
+use Rattle.qs_syntax_scope.specs.Places.{place_of}
+use Rattle.qs_syntax_scope.specs.inner.Places.{first_with}
 use Rattle.qs_syntax_scope.proofs.FirstPlace.{first_place}
 use Rattle.qs_syntax_scope.proofs.name_list.NameList.place.Goals as goal
 

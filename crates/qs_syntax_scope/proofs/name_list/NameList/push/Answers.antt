@@ -3,7 +3,7 @@ use Rattle.std.specs.Ordering.{nat_cmp}
 use Rattle.std.specs.Cmp.Lexicographic.{slice_cmp}
 use Rattle.std.specs.BTreeMap.{get, is_at}
 use Rattle.qs_syntax_scope.specs.Names.{Name}
-use Rattle.qs_syntax_scope.specs.Places.{first_with}
+use Rattle.qs_syntax_scope.specs.inner.Places.{first_with}
 use Rattle.qs_syntax_scope.specs.declared.name_list.Places.{Places}
 use Rattle.qs_syntax_scope.proofs.PlacesKept.{index_with, with_name}
 use Rattle.qs_syntax_scope.proofs.name_list.NameList.push.Goals as goal

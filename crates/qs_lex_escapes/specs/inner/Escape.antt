@@ -1,0 +1,11 @@
+-- Definitions over those of `Escape`, for proofs and the layers between.
+use Rattle.std.specs.Prelude.{ℕ, List, Option}
+use Rattle.qs_lex_escapes.specs.declared.escape.Escape.{Escape}
+use Rattle.qs_lex_escapes.specs.declared.escape.Escapes.{Escapes}
+use Rattle.qs_lex_escapes.specs.declared.escape.Escapes.TheVariants.{Codepoints, Strings}
+use Rattle.qs_lex_escapes.specs.Escape.{uchar, string_escape}
+
+-- an escape of that sort: codepoint escapes alone, as IRIs have them, or those of a string
+abbrev pub escape : Escapes → List ℕ → Option Escape
+escape Codepoints = uchar
+escape Strings = string_escape

@@ -1,0 +1,8 @@
+-- For proofs and the layers between: no clause of the headline cites a definition of these files.
+pub mod Laws
+pub mod Met
+pub mod Places
+pub mod Runs
+pub mod Scope
+pub mod Tables
+pub mod VariablesIn
