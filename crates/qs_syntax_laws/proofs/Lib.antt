@@ -11,3 +11,6 @@ mod Updates
 mod Knot
 mod Ascending
 mod First
+mod SpelledKinds
+mod MarkKinds
+mod CharacterTables

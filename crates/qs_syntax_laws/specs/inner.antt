@@ -1,3 +1,4 @@
 -- For proofs and the layers between: no clause of the headline cites a definition of these files.
 pub mod NameFaults
 pub mod TellsFirst
+pub mod Spelling
