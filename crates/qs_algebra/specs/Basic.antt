@@ -35,35 +35,24 @@ abbrev pub path_of : Verb → Option Path
 path_of (verb.Path p) = Some p
 path_of _ = None
 
-abbrev pub triple_between : Slot → Slot → Slot → TriplePattern
-triple_between subject object predicate =
-    record { subject = subject; predicate = predicate; object = object }
-
-abbrev pub path_between : Slot → Slot → Path → PathPattern
-path_between subject object path = record { subject = subject; path = path; object = object }
-
 -- a triple whose verb is no path is a triple pattern
 abbrev pub triple_pattern : List Name → Hidden → Triple → Option TriplePattern
-triple_pattern names hidden t =
-    option_map (triple_between (term_slot names hidden t.subject) (term_slot names hidden t.object))
+triple_pattern names hidden t = let end = term_slot names hidden in
+    option_map (λ p. record { subject = end t.subject; predicate = p; object = end t.object })
     (verb_slot names t.verb)
 
 -- and one whose verb is a path, a path pattern
 abbrev pub path_pattern : List Name → Hidden → Triple → Option PathPattern
-path_pattern names hidden t =
-    option_map (path_between (term_slot names hidden t.subject) (term_slot names hidden t.object))
+path_pattern names hidden t = let end = term_slot names hidden in
+    option_map (λ p. record { subject = end t.subject; path = p; object = end t.object })
     (path_of t.verb)
 
--- both in the order of the text; the hidden variables are those of all
-abbrev pub basic_of : List Name → Hidden → List Triple → BasicPattern
-basic_of names hidden triples =
-    record {
+-- the basic graph pattern of these triples: both in the order of the text; the hidden variables are
+-- those of all
+abbrev pub basic_pattern : List Name → List Triple → BasicPattern
+basic_pattern names triples =
+    let hidden = hidden_of triples in record {
       triples = filter_map (triple_pattern names hidden) triples;
-      paths = filter_map
-          (path_pattern names hidden) triples;
+      paths = filter_map (path_pattern names hidden) triples;
       hidden = width hidden;
     }
-
--- the basic graph pattern of these triples
-abbrev pub basic_pattern : List Name → List Triple → BasicPattern
-basic_pattern names triples = basic_of names (hidden_of triples) triples

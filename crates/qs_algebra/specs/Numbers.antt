@@ -6,6 +6,7 @@
 use Rattle.std.specs.Prelude.{ℕ, ◌+◌, ◌-◌, List, [], ◌∷◌, ◌++◌, length, min, max, Option, Some}
 use Rattle.std.specs.Prelude.{None, if◌then◌else◌}
 use Rattle.std.specs.List.{fold}
+use Rattle.std.specs.Option.{option_map_or}
 use Rattle.qs_syntax_ast.specs.declared.pattern.Triple.{Triple}
 use Rattle.qs_syntax_ast.specs.declared.term.BlankNode.{BlankNode}
 use Rattle.qs_syntax_ast.specs.declared.term.BlankNode.TheVariants as blank
@@ -19,9 +20,6 @@ use Rattle.qs_algebra.specs.declared.hidden.Span.{Span}
 -- ---- the blank nodes of a basic graph pattern: their labels, and of those without one the
 -- least number and the greatest
 
-abbrev pub none_hidden : Hidden
-none_hidden = record { labels = []; span = None }
-
 abbrev pub add_label : List Name → Name → List Name
 add_label labels label = if contains labels label then labels else labels ++ label ∷ []
 
@@ -30,8 +28,8 @@ add_number None n = Some (record { least = n; greatest = n })
 add_number (Some s) n = Some (record { least = min s.least n; greatest = max s.greatest n })
 
 abbrev pub add_blank : Hidden → BlankNode → Hidden
-add_blank h (blank.Label label) = record { labels = add_label h.labels label; span = h.span }
-add_blank h (blank.Anonymous n) = record { labels = h.labels; span = add_number h.span n }
+add_blank h (blank.Label label) = record h { labels = add_label h.labels label }
+add_blank h (blank.Anonymous n) = record h { span = add_number h.span n }
 
 abbrev pub add_term : Hidden → TermPattern → Hidden
 add_term hidden (term.Blank b) = add_blank hidden b
@@ -42,22 +40,14 @@ add_triple hidden t = add_term (add_term hidden t.subject) t.object
 
 -- the blank nodes of these triples
 abbrev pub hidden_of : List Triple → Hidden
-hidden_of triples = fold add_triple none_hidden triples
-
-abbrev pub least_of : Option Span → ℕ
-least_of None = 0
-least_of (Some s) = s.least
-
-abbrev pub width_of : Option Span → ℕ
-width_of None = 0
-width_of (Some s) = s.greatest - s.least + 1
+hidden_of triples = fold add_triple (record { labels = []; span = None }) triples
 
 -- how many numbers the hidden variables take
 abbrev pub width : Hidden → ℕ
-width hidden = length hidden.labels + width_of hidden.span
+width h = length h.labels + option_map_or (λ (s : Span). s.greatest - s.least + 1) h.span 0
 
 -- the number of a hidden variable, after those of the named ones
 abbrev pub hidden_number : List Name → Hidden → BlankNode → ℕ
-hidden_number names hidden (blank.Label label) = length names + place_of hidden.labels label
-hidden_number names hidden (blank.Anonymous n) =
-    length names + length hidden.labels + (n - least_of hidden.span)
+hidden_number names h (blank.Label label) = length names + place_of h.labels label
+hidden_number names h (blank.Anonymous n) =
+    length names + length h.labels + (n - option_map_or (λ (s : Span). s.least) h.span 0)

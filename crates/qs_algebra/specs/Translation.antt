@@ -2,15 +2,15 @@
 -- the order of the text, as far as its filters hold. The simplification of a single part (18.2.2.8)
 -- holds for a pattern that is joined alone. `{ OPTIONAL { .. } }` stays a left join of the empty
 -- solution.
-use Rattle.std.specs.Prelude.{ℕ, List, [], ◌∷◌, ◌++◌, map, Option, Some, None}
+use Rattle.std.specs.Prelude.{List, [], ◌∷◌, ◌++◌, map, Option, Some, None}
 use Rattle.std.specs.List.{flat_map}
+use Rattle.std.specs.Option.{option_map_or}
 use Rattle.qs_terms.specs.declared.term.Term.TheVariants as value
 use Rattle.qs_syntax_ast.specs.declared.pattern.Group.{Group, fold-Group}
 use Rattle.qs_syntax_ast.specs.declared.pattern.GraphPattern.TheOpen.{Group-F, GraphPattern-F}
 use Rattle.qs_syntax_ast.specs.declared.pattern.GraphPattern.TheOpen.{Triples, Union, Optional}
 use Rattle.qs_syntax_ast.specs.declared.pattern.GraphPattern.TheOpen.{Minus, Graph, Bind, Values}
 use Rattle.qs_syntax_ast.specs.declared.pattern.InlineData.{InlineData}
-use Rattle.qs_syntax_ast.specs.declared.pattern.Triple.{Triple}
 use Rattle.qs_syntax_ast.specs.declared.query.Projection.{Projection}
 use Rattle.qs_syntax_ast.specs.declared.query.Projection.TheVariants as projection
 use Rattle.qs_syntax_ast.specs.declared.query.Query.{Query}
@@ -39,22 +39,19 @@ use Rattle.qs_algebra.specs.declared.parts.GroupParts.{GroupParts}
 
 -- one group, or a union of groups
 abbrev pub one_or_union : List PatternNode → PatternNode
-one_or_union [] = pattern.Union []
 one_or_union (part ∷ []) = part
-one_or_union (part ∷ second ∷ parts) = pattern.Union (part ∷ second ∷ parts)
+one_or_union parts = pattern.Union parts
 
--- the graph of a name, or each graph
-abbrev pub in_graph : List Name → VarOrIri → PatternNode → PatternNode
-in_graph names (name.Variable v) part = pattern.EachGraph (place_of names v.name) part
-in_graph names (name.Iri i) part = pattern.Graph (value.Iri i) part
+-- the active graph, or the graph of a name, or each graph
+abbrev pub in_graph : List Name → Option VarOrIri → PatternNode → PatternNode
+in_graph names None part = part
+in_graph names (Some (name.Variable v)) part = pattern.EachGraph (place_of names v.name) part
+in_graph names (Some (name.Iri i)) part = pattern.Graph (value.Iri i) part
 
--- the number of a variable
-abbrev pub number_of : List Name → Variable → ℕ
-number_of names v = place_of names v.name
-
--- the table of VALUES
+-- the table of VALUES, its variables by their numbers
 abbrev pub table_of : List Name → InlineData → Table
-table_of names t = record { variables = map (number_of names) t.variables; rows = t.rows }
+table_of names t =
+    record { variables = map (λ (v : Variable). place_of names v.name) t.variables; rows = t.rows }
 
 -- ---- the steps and the filters of a group, and the group that is closed after them
 
@@ -65,9 +62,8 @@ alone s _ = pattern.Group (s ∷ []) []
 
 -- the steps without filters
 abbrev pub unfiltered : List Step → PatternNode
-unfiltered [] = pattern.Group [] []
 unfiltered (s ∷ []) = alone s (out-Step s)
-unfiltered (s ∷ t ∷ more) = pattern.Group (s ∷ t ∷ more) []
+unfiltered steps = pattern.Group steps []
 
 -- the steps, with the filters, which apply to the whole group (5.2.2)
 abbrev pub filtered : List Step → List Expr → PatternNode
@@ -77,17 +73,14 @@ filtered steps (f ∷ fs) = pattern.Group steps (f ∷ fs)
 abbrev pub closed : GroupParts → PatternNode
 closed group = filtered group.steps group.conditions
 
--- an optional group: its own filters are the condition (18.2.2.6)
-abbrev pub optional : GroupParts → Step
-optional group = step.LeftJoin (unfiltered group.steps) group.conditions
-
+-- the step of each part; of an optional group its own filters are the condition (18.2.2.6)
 abbrev pub step_level : List Name → GraphPattern-F Step GroupParts → Step
 step_level names (Triples triples) = step.Join (pattern.Basic (basic_pattern names triples))
 step_level names (Union groups) = step.Join (one_or_union (map closed groups))
-step_level names (Optional group) = optional group
+step_level names (Optional group) = step.LeftJoin (unfiltered group.steps) group.conditions
 step_level names (Minus group) = step.Minus (closed group)
-step_level names (Graph graph group) = step.Join (in_graph names graph (closed group))
-step_level names (Bind value v) = step.Extend (number_of names v) (expr_of names value)
+step_level names (Graph graph group) = step.Join (in_graph names (Some graph) (closed group))
+step_level names (Bind value v) = step.Extend (place_of names v.name) (expr_of names value)
 step_level names (Values table) = step.Join (pattern.Values (table_of names table))
 
 abbrev pub group_level : List Name → Group-F Step GroupParts → GroupParts
@@ -102,13 +95,10 @@ abbrev pub group_pattern : List Name → Group → PatternNode
 group_pattern names group = closed (group_parts names group)
 
 -- the pattern of a query: that of its WHERE, which in a short CONSTRUCT is its template (16.2.4)
-abbrev pub template_or_group : List Name → List Triple → Option Group → PatternNode
-template_or_group names template None = pattern.Basic (basic_pattern names template)
-template_or_group names template (Some group) = group_pattern names group
-
 abbrev pub form_pattern : List Name → QueryForm → PatternNode
 form_pattern names (form.Select s) = group_pattern names s.pattern
-form_pattern names (form.Construct c) = template_or_group names c.template c.pattern
+form_pattern names (form.Construct c) =
+    option_map_or (group_pattern names) c.pattern (pattern.Basic (basic_pattern names c.template))
 form_pattern names (form.Ask a) = group_pattern names a.pattern
 
 -- the trailing VALUES, if there is one (18.2.4.3)
@@ -119,7 +109,7 @@ trailing_steps names (Some table) = step.Join (pattern.Values (table_of names ta
 -- an item of SELECT: an expression extends each solution, a variable does nothing (18.2.4.4)
 abbrev pub item_steps : List Name → SelectItem → List Step
 item_steps names (item.Variable v) = []
-item_steps names (item.As value v) = step.Extend (number_of names v) (expr_of names value) ∷ []
+item_steps names (item.As value v) = step.Extend (place_of names v.name) (expr_of names value) ∷ []
 
 abbrev pub projection_steps : List Name → Projection → List Step
 projection_steps names projection.All = []
@@ -130,43 +120,30 @@ abbrev pub selected_steps : List Name → QueryForm → List Step
 selected_steps names (form.Select select) = projection_steps names select.projection
 selected_steps names _ = []
 
--- what stands after a query's pattern: it is joined with the trailing VALUES, and then extended by
--- the select expressions
-abbrev pub behind : List Name → Query → List Step
-behind names query = trailing_steps names query.values ++ selected_steps names query.form
-
-abbrev pub with_steps : List Step → PatternNode → PatternNode
-with_steps steps part = unfiltered (step.Join part ∷ steps)
-
--- the pattern of a query, whose variables have the numbers of their places in its list
+-- the pattern of a query, whose variables have the numbers of their places in its list: that of its
+-- form, joined with the trailing VALUES, and then extended by the select expressions
 abbrev pub query_pattern : Query → PatternNode
 query_pattern query =
-    with_steps (behind (names_of query.variables) query)
-    (form_pattern (names_of query.variables) query.form)
-
--- a pattern with the names of its variables
-abbrev pub named : List Variable → PatternNode → Pattern
-named variables pattern = record { names = names_of variables; root = pattern }
+    let names = names_of query.variables in
+    unfiltered (step.Join (form_pattern names query.form)
+    ∷ (trailing_steps names query.values ++ selected_steps names query.form))
 
 -- the pattern of a query, with its variables
 abbrev pub translated : Query → Pattern
-translated query = named query.variables (query_pattern query)
+translated query = record { names = names_of query.variables; root = query_pattern query }
 
 -- the pattern of a WHERE by itself, with the variables of its operation
 abbrev pub translated_where : List Variable → Group → Pattern
-translated_where variables group = named variables (group_pattern (names_of variables) group)
+translated_where variables group = let names = names_of variables in
+    record { names = names; root = group_pattern names group }
 
 -- ---- the pattern of DELETE WHERE: the quads of its template (SPARQL 1.1 Update, 3.1.3.3)
 
-abbrev pub in_block : List Name → Option VarOrIri → PatternNode → PatternNode
-in_block names None part = part
-in_block names (Some graph) part = in_graph names graph part
-
 abbrev pub block_step : List Name → QuadBlock → Step
-block_step vs b = step.Join (in_block vs b.graph (pattern.Basic (basic_pattern vs b.triples)))
+block_step vs b = step.Join (in_graph vs b.graph (pattern.Basic (basic_pattern vs b.triples)))
 
 -- the pattern of blocks of triples, each of the default graph or of the graph that it names, with
 -- the variables of its operation
 abbrev pub translated_blocks : List Variable → List QuadBlock → Pattern
-translated_blocks variables blocks =
-    named variables (unfiltered (map (block_step (names_of variables)) blocks))
+translated_blocks variables blocks = let names = names_of variables in
+    record { names = names; root = unfiltered (map (block_step names) blocks) }

@@ -4,3 +4,5 @@ pub mod Certain
 pub mod Possible
 pub mod Expressions
 pub mod Translation
+pub mod Basic
+pub mod Numbers

@@ -22,7 +22,7 @@ fn in_block<'a>(
     graph: &'a Option<VarOrIri>,
     part: PatternNode,
 ) -> Result<PatternNode, AllocError>
-    ensures { IfOk result (λ p. p ≡ spec.in_block names.now graph.now part) }
+    ensures { IfOk result (λ p. p ≡ spec.in_graph names.now graph.now part) }
 {
     match graph {
         None => Ok(part),

@@ -4,7 +4,6 @@ ghost use Rattle.std.specs.Prelude.{◌≡◌, map, IfOk};
 ghost use Rattle.qs_algebra.specs.Expressions as spec;
 ghost use Rattle.qs_algebra.specs.inner.Expressions as inner_spec;
 
-use crate::operator::{binary_function, comparison, sign, unary_function};
 use qs_base::keep_beside;
 use qs_expr_meaning::{Addend, Expr};
 use qs_syntax_ast::expression::{Addend as WrittenAddend, Expression};
@@ -31,7 +30,7 @@ pub fn expr_of<'a>(
         Expression::Compare(by, a, b) => {
             let a = boxed(alloc, names, a.get())?;
             let (a, b) = keep_beside(a, boxed(alloc, names, b.get()))?;
-            Ok(Expr::Compare(comparison(*by), a, b))
+            Ok(Expr::Compare(*by, a, b))
         }
         Expression::In(inner, parts) => {
             let inner = boxed(alloc, names, inner.get())?;
@@ -52,7 +51,7 @@ pub fn expr_of<'a>(
         Expression::Not(inner) => Ok(Expr::Not(boxed(alloc, names, inner.get())?)),
         Expression::Signed(by, inner) => {
             let inner = boxed(alloc, names, inner.get())?;
-            Ok(Expr::Signed(sign(*by), inner))
+            Ok(Expr::Signed(*by, inner))
         }
         Expression::Bound(variable) => Ok(Expr::Bound(names.place(variable.text()))),
         Expression::If(test, then, otherwise) => {
@@ -68,12 +67,12 @@ pub fn expr_of<'a>(
         Expression::Concat(parts) => Ok(Expr::Concat(exprs_of(alloc, names, parts.as_slice())?)),
         Expression::Unary(function, argument) => {
             let argument = boxed(alloc, names, argument.get())?;
-            Ok(Expr::Unary(unary_function(*function), argument))
+            Ok(Expr::Unary(*function, argument))
         }
         Expression::Binary(function, a, b) => {
             let a = boxed(alloc, names, a.get())?;
             let (a, b) = keep_beside(a, boxed(alloc, names, b.get()))?;
-            Ok(Expr::Binary(binary_function(*function), a, b))
+            Ok(Expr::Binary(*function, a, b))
         }
     }
 }
@@ -137,7 +136,7 @@ fn addends_of<'a>(
     for addend in written {
         let operand = expr_of(alloc, names, &addend.operand)?;
         addends.push(Addend {
-            sign: sign(addend.sign),
+            sign: addend.sign,
             operand,
         })?;
     }

@@ -1,10 +1,11 @@
 //! The hidden variables of a basic graph pattern: its blank nodes (SPARQL 1.1 Query, 4.1.4).
 
-ghost use Rattle.std.specs.Prelude.{◌≡◌, ◌+◌, length, IfOk, OnOk, Some};
+ghost use Rattle.std.specs.Prelude.{◌≡◌, ◌+◌, [], length, IfOk, OnOk, Some, None};
 ghost use Rattle.std.specs.List.{fold};
 ghost use Rattle.std.specs.Option.{IfSome};
 ghost use Rattle.qs_syntax_scope.specs.Names.{contains};
 ghost use Rattle.qs_algebra.specs.Numbers as spec;
+ghost use Rattle.qs_algebra.specs.inner.Numbers as inner;
 
 use qs_base::Shared;
 use qs_syntax_ast::pattern::Triple;
@@ -43,7 +44,7 @@ fn with_number(span: Option<Span>, number: usize) -> Span
 }
 
 fn least(span: Option<Span>) -> usize
-    ensures { result ≡ spec.least_of span }
+    ensures { result ≡ inner.least_of span }
 {
     match span {
         None => 0,
@@ -53,7 +54,7 @@ fn least(span: Option<Span>) -> usize
 
 // None where it passes the greatest number
 fn span_width(span: Option<Span>) -> Option<usize>
-    ensures { IfSome result (λ n. n ≡ spec.width_of span) }
+    ensures { IfSome result (λ n. n ≡ inner.width_of span) }
 {
     match span {
         None => Some(0),
@@ -69,7 +70,7 @@ fn sum(a: usize, b: usize) -> Result<usize, AllocError>
 
 impl<'a> Hidden<'a> {
     pub fn new(alloc: Global) -> Hidden<'a>
-        ensures { result ≡ spec.none_hidden }
+        ensures { result ≡ record { labels = []; span = None } }
     {
         Hidden {
             labels: NameList::new(alloc),

@@ -10,7 +10,6 @@ mod expression;
 mod flags;
 mod hidden;
 mod mentioned;
-mod operator;
 mod parts;
 mod pattern;
 mod possible_variables;

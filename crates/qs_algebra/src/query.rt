@@ -4,11 +4,14 @@
 //! its WHERE have the numbers of the text's variables in common. By themselves the variables of filters are the last.
 
 ghost use Rattle.std.specs.List.{flat_map};
-ghost use Rattle.std.specs.Prelude.{◌≡◌, ◌++◌, IfOk, IfErr, OnOk};
+ghost use Rattle.std.specs.Prelude.{◌≡◌, ◌∷◌, ◌++◌, IfOk, IfErr, OnOk};
 ghost use Rattle.qs_terms.specs.declared.fault.QFault.TheVariants.{Memory};
 ghost use Rattle.qs_syntax_scope.specs.Firsts as first;
 ghost use Rattle.qs_syntax_scope.specs.inner.VariablesIn.{group_variables};
+ghost use Rattle.qs_syntax_ast.specs.declared.query.QueryForm.TheVariants as written;
+ghost use Rattle.qs_algebra_patterns.specs.declared.pattern.Step.TheVariants as made;
 ghost use Rattle.qs_algebra.specs.Translation as spec;
+ghost use Rattle.qs_algebra.specs.inner.Translation as inner;
 
 use crate::basic::basic_pattern;
 use crate::expression::expr_of;
@@ -29,8 +32,7 @@ fn construct_pattern<'a>(
     names: &NameList<'a>,
     construct: &'a Construct,
 ) -> Result<PatternNode, AllocError>
-    ensures { IfOk result (λ p. p ≡ spec.template_or_group names.now construct.now.template
-        construct.now.pattern) }
+    ensures { IfOk result (λ p. p ≡ spec.form_pattern names.now (written.Construct construct.now)) }
 {
     match &construct.pattern {
         None => {
@@ -132,7 +134,10 @@ fn with_steps<'a>(
     query: &'a Query,
     pattern: PatternNode,
 ) -> Result<PatternNode, AllocError>
-    ensures { IfOk result (λ p. p ≡ spec.with_steps (spec.behind names.now query.now) pattern) }
+    ensures { IfOk result
+        (λ p. p ≡ spec.unfiltered (made.Join pattern
+        ∷ (spec.trailing_steps names.now query.now.values
+        ++ spec.selected_steps names.now query.now.form))) }
 {
     let mut steps = Items::new(alloc);
     steps.push(Step::Join(pattern))?;
@@ -159,7 +164,7 @@ pub fn named(
     variables: &[Variable],
     pattern: PatternNode,
 ) -> Result<Pattern, AllocError>
-    ensures { IfOk result (λ p. p ≡ spec.named variables.now pattern) }
+    ensures { IfOk result (λ p. p ≡ inner.named variables.now pattern) }
 {
     let (pattern, names) = keep_beside(pattern, names_of(alloc, variables))?;
     Ok(Pattern {

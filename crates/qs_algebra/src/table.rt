@@ -2,6 +2,7 @@
 
 ghost use Rattle.std.specs.Prelude.{◌≡◌, map, IfOk};
 ghost use Rattle.qs_algebra.specs.Translation as spec;
+ghost use Rattle.qs_algebra.specs.inner.Translation as inner;
 
 use qs_algebra_patterns::{Table, rows_copy};
 use qs_syntax_ast::pattern::InlineData;
@@ -16,7 +17,7 @@ fn numbers<'a>(
     names: &NameList<'a>,
     variables: &'a [Variable],
 ) -> Result<Items<usize>, AllocError>
-    ensures { IfOk result (λ numbers. numbers ≡ map (spec.number_of names.now) variables.now) }
+    ensures { IfOk result (λ numbers. numbers ≡ map (inner.number_of names.now) variables.now) }
 {
     let mut numbers = Items::new(alloc);
     for variable in variables {

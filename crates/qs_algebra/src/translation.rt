@@ -1,6 +1,7 @@
 //! Groups as patterns of the algebra (SPARQL 1.1 Query, 18.2.2).
 
-ghost use Rattle.std.specs.Prelude.{◌≡◌, map, IfOk};
+ghost use Rattle.std.specs.Prelude.{◌≡◌, map, Some, IfOk};
+ghost use Rattle.qs_algebra_patterns.specs.declared.pattern.Step.TheVariants as made;
 ghost use Rattle.qs_algebra.specs.Translation as spec;
 ghost use Rattle.qs_algebra.specs.inner.Translation as inner;
 
@@ -57,7 +58,7 @@ fn closed(alloc: Global, group: GroupParts) -> Result<PatternNode, AllocError>
 
 /// An optional group, whose own filters are the condition.
 fn optional(alloc: Global, group: GroupParts) -> Result<Step, AllocError>
-    ensures { IfOk result (λ s. s ≡ spec.optional group) }
+    ensures { IfOk result (λ s. s ≡ made.LeftJoin (spec.unfiltered group.steps) group.conditions) }
 {
     let (conditions, part) = keep_beside(group.conditions, unfiltered(alloc, group.steps))?;
     Ok(Step::LeftJoin(part, conditions))
@@ -81,7 +82,7 @@ pub fn in_graph<'a>(
     name: &'a VarOrIri,
     part: PatternNode,
 ) -> Result<PatternNode, AllocError>
-    ensures { IfOk result (λ p. p ≡ spec.in_graph names.now name.now part) }
+    ensures { IfOk result (λ p. p ≡ spec.in_graph names.now (Some name.now) part) }
 {
     let part = Boxed::new(alloc, part)?;
     match name {

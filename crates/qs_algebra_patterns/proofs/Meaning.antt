@@ -16,8 +16,8 @@ use Rattle.qs_algebra_patterns.specs.declared.pattern.PatternNode.{PatternNode, 
 use Rattle.qs_algebra_patterns.specs.declared.pattern.PatternNode.TheOpen as level
 use Rattle.qs_algebra_patterns.specs.declared.pattern.PatternNode.TheVariants.{Basic, Group, Union, Graph, EachGraph, Values, rolls-Basic, rolls-Group, rolls-Union, rolls-Graph, rolls-EachGraph, rolls-Values}
 use Rattle.qs_algebra_patterns.specs.Basic.{Graph as Triples, basic}
-use Rattle.qs_algebra_patterns.specs.Eval.{Found, Stepped, eval, eval_level, step_level, all_hold, kept, extended, in_named, in_each, rows_of}
-use Rattle.qs_algebra_patterns.specs.inner.Eval.{step}
+use Rattle.qs_algebra_patterns.specs.Eval.{Found, Stepped, eval, eval_level, step_level, all_hold, extended, in_named, in_each}
+use Rattle.qs_algebra_patterns.specs.inner.Eval.{kept, rows_of, step}
 
 module _ (width : ℕ) (quads : List Statement) (graph : Triples) where
   pub eval_basic : (b : BasicPattern) → eval width quads (Basic b) graph ≡ basic width b graph

@@ -19,7 +19,8 @@ use Rattle.qs_algebra_patterns.specs.declared.pattern.TriplePattern.{TriplePatte
 use Rattle.qs_algebra_patterns.specs.declared.pattern.PathPattern.{PathPattern}
 use Rattle.qs_algebra_patterns.specs.declared.pattern.BasicPattern.{BasicPattern}
 use Rattle.qs_algebra_patterns.specs.Basic.{Graph, basic, path_solutions, with_paths, ends_bound, fits, end_of}
-use Rattle.qs_algebra_patterns.specs.Eval.{in_named, in_each, rows_of}
+use Rattle.qs_algebra_patterns.specs.Eval.{in_named, in_each}
+use Rattle.qs_algebra_patterns.specs.inner.Eval.{rows_of}
 
 abbrev says : ℕ → ℕ → ℕ → Triple
 says s p o = record { subject = Blank s; predicate = Blank p; object = Blank o }

@@ -28,10 +28,8 @@ value m (slot.Term t) = Some t
 value m (slot.Variable v) = term_at m v
 
 abbrev pub triple_from : Option Term → Option Term → Option Term → Option Triple
-triple_from None p o = None
-triple_from (Some s) None o = None
-triple_from (Some s) (Some p) None = None
 triple_from (Some s) (Some p) (Some o) = Some (record { subject = s; predicate = p; object = o })
+triple_from _ _ _ = None
 
 -- the triple that a solution makes of a triple pattern
 abbrev pub instance : Solution → TriplePattern → Option Triple
@@ -56,12 +54,9 @@ mentions (p ∷ ps) v =
     is_variable p.subject v
     || (is_variable p.predicate v || (is_variable p.object v || mentions ps v))
 
-abbrev pub terms_of_triple : Triple → List Term
-terms_of_triple t = t.subject ∷ t.predicate ∷ t.object ∷ []
-
 -- the terms that stand anywhere in the graph, each once
 abbrev pub terms_of : Graph → List Term
-terms_of graph = once same_term (flat_map terms_of_triple graph)
+terms_of graph = once same_term (flat_map (λ t. t.subject ∷ t.predicate ∷ t.object ∷ []) graph)
 
 -- all maps from the variables that `is_bound` names, of n variables from v on, to these terms
 abbrev pub all_maps : (ℕ → Bool) → List Term → ℕ → ℕ → List Solution

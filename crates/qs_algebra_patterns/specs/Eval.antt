@@ -1,7 +1,8 @@
 -- What a pattern means (SPARQL 1.1 Query, 18.5 and 18.6): its solutions over a dataset, where a
 -- graph is active. By recursion on the pattern; each list is a bag.
-use Rattle.std.specs.Prelude.{ℕ, Bool, List, [], ◌∷◌, map, Option, Some, None, slice_set}
+use Rattle.std.specs.Prelude.{ℕ, Bool, List, [], ◌∷◌, map, Some, slice_set}
 use Rattle.std.specs.Prelude.{if◌then◌else◌}
+use Rattle.std.specs.Option.{option_map_or}
 use Rattle.std.specs.List.{filter, flat_map, fold, list_any, list_all}
 use Rattle.qs_terms.specs.Dataset.{graph_of, names_of}
 use Rattle.qs_terms.specs.Statement.{Statement}
@@ -12,7 +13,6 @@ use Rattle.qs_algebra_solutions.specs.Operators as of
 use Rattle.qs_expr_meaning.specs.Meaning.{meaning, holds}
 use Rattle.qs_expr_meaning.specs.declared.expr.Expr.{Expr}
 use Rattle.qs_algebra_patterns.specs.Basic.{Graph as Triples, basic}
-use Rattle.qs_algebra_patterns.specs.declared.table.Table.{Table}
 use Rattle.qs_algebra_patterns.specs.declared.pattern.PatternNode.{PatternNode, fold-PatternNode}
 use Rattle.qs_algebra_patterns.specs.declared.pattern.PatternNode.TheOpen.{PatternNode-F, Step-F}
 use Rattle.qs_algebra_patterns.specs.declared.pattern.PatternNode.TheOpen.{Basic, Group, Union}
@@ -32,18 +32,9 @@ Stepped = Triples → List Solution → List Solution
 abbrev pub all_hold : List Expr → Solution → Bool
 all_hold conditions m = list_all (holds m) conditions
 
--- the solutions in which all conditions hold (Filter)
-abbrev pub kept : List Expr → List Solution → List Solution
-kept conditions = filter (all_hold conditions)
-
--- the solution with the variable bound to the value, or as it is where there is an error
-abbrev pub bound_to : Solution → ℕ → Option Term → Solution
-bound_to m v None = m
-bound_to m v (Some t) = slice_set m v (Some t)
-
--- Extend
+-- Extend: the solution with the variable bound to the value, or as it is where there is an error
 abbrev pub extended : ℕ → Expr → Solution → Solution
-extended v e m = bound_to m v (meaning m e)
+extended v e m = option_map_or (λ t. slice_set m v (Some t)) (meaning m e) m
 
 -- the steps from left to right, from the one solution of `width` variables that binds none
 abbrev pub all_steps : ℕ → Triples → List Stepped → List Solution
@@ -61,18 +52,15 @@ in_each width quads v part names =
     flat_map (λ name. of.join (part (graph_of quads (Some name)))
     (binding width (v ∷ []) (Some name ∷ []) ∷ [])) names
 
+-- a group is filtered at its end; a union is the lists of its parts, one after another; a table has
 -- a solution for each row
-abbrev pub rows_of : ℕ → Table → List Solution
-rows_of width table = map (binding width table.variables) table.rows
-
--- a union is the lists of its parts, one after another
 abbrev pub eval_level : ℕ → List Statement → PatternNode-F Found Stepped → Found
 eval_level width quads (Basic pattern) graph = basic width pattern graph
-eval_level width quads (Group steps cs) graph = kept cs (all_steps width graph steps)
+eval_level width quads (Group steps cs) graph = filter (all_hold cs) (all_steps width graph steps)
 eval_level width quads (Union parts) graph = flat_map (λ part. part graph) parts
 eval_level width quads (Graph name part) graph = in_named quads name part
 eval_level width quads (EachGraph v part) graph = in_each width quads v part (names_of quads)
-eval_level width quads (Values table) graph = rows_of width table
+eval_level width quads (Values table) graph = map (binding width table.variables) table.rows
 
 -- the conditions of an optional step are looked at in the merged solution
 abbrev pub step_level : Step-F Found Stepped → Stepped

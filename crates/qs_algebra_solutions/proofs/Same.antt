@@ -6,7 +6,8 @@ use Rattle.qs_terms.specs.declared.term.Term.{Term}
 use Rattle.qs_terms.specs.Term.{same_term}
 use Rattle.qs_terms.proofs.SameTerm.{same_term-Decides}
 use Rattle.qs_terms.specs.Dataset.{Triple, same_triple}
-use Rattle.qs_algebra_solutions.specs.Solution.{Solution, term_at, same_cell, same_solution}
+use Rattle.qs_algebra_solutions.specs.Solution.{Solution, term_at, same_solution}
+use Rattle.qs_algebra_solutions.specs.inner.Solution.{same_cell}
 
 pub same_cell-Decides : (a b : Option Term) → Decides (same_cell a b) (a ≡ b)
 same_cell-Decides None None = (λ _. refl, λ _. refl)

@@ -2,6 +2,8 @@
 -- none where it is not bound.
 use Rattle.std.specs.Prelude.{ℕ, zero, suc, Bool, true, false, ◌&&◌, ◌||◌, List, [], ◌∷◌, Option}
 use Rattle.std.specs.Prelude.{Some, None, slice_index_or, slice_set, map}
+use Rattle.std.specs.Cmp.Lexicographic.{pointwise}
+use Rattle.std.specs.Option.{is_some, option_or, option_eq}
 use Rattle.qs_terms.specs.declared.term.Term.{Term}
 use Rattle.qs_terms.specs.Term.{same_term}
 
@@ -40,32 +42,17 @@ abbrev pub compatible : Solution → Solution → Bool
 compatible (x ∷ a) (y ∷ b) = compatible_terms x y && compatible a b
 compatible _ _ = true
 
-abbrev pub first_bound : Option Term → Option Term → Option Term
-first_bound None y = y
-first_bound (Some x) y = Some x
-
--- the bindings of both
+-- the bindings of both; where a variable is bound in both, that of the first
 abbrev pub merge : Solution → Solution → Solution
 merge [] b = b
 merge (x ∷ a) [] = x ∷ a
-merge (x ∷ a) (y ∷ b) = first_bound x y ∷ merge a b
-
-abbrev pub both_bound : Option Term → Option Term → Bool
-both_bound (Some x) (Some y) = true
-both_bound _ _ = false
+merge (x ∷ a) (y ∷ b) = option_or x y ∷ merge a b
 
 -- some variable is bound in both
 abbrev pub share : Solution → Solution → Bool
-share (x ∷ a) (y ∷ b) = both_bound x y || share a b
+share (x ∷ a) (y ∷ b) = (is_some x && is_some y) || share a b
 share _ _ = false
-
-abbrev pub same_cell : Option Term → Option Term → Bool
-same_cell None None = true
-same_cell (Some x) (Some y) = same_term x y
-same_cell _ _ = false
 
 -- the same term at each variable
 abbrev pub same_solution : Solution → Solution → Bool
-same_solution [] [] = true
-same_solution (x ∷ a) (y ∷ b) = same_cell x y && same_solution a b
-same_solution _ _ = false
+same_solution = pointwise (option_eq same_term)

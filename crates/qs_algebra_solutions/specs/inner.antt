@@ -1,2 +1,3 @@
 -- For proofs and the layers between: no clause of the headline cites a definition of these files.
+pub mod Solution
 pub mod Some

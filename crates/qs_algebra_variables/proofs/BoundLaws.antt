@@ -20,8 +20,8 @@ use Rattle.qs_algebra_patterns.specs.declared.pattern.PatternNode.TheOpen as lev
 use Rattle.qs_algebra_patterns.specs.declared.pattern.PatternNode.TheVariants.{Basic, Values, rolls-Basic, rolls-Group, rolls-Union, rolls-Graph, rolls-EachGraph, rolls-Values}
 use Rattle.qs_algebra_patterns.specs.Basic.{Graph as Triples, mentions, puts_into, terms_of, all_maps, matches, with_paths}
 use Rattle.qs_algebra_patterns.specs.inner.Basic.{is_end, occurs}
-use Rattle.qs_algebra_patterns.specs.Eval.{eval, all_hold, extended, in_each, rows_of}
-use Rattle.qs_algebra_patterns.specs.inner.Eval.{step}
+use Rattle.qs_algebra_patterns.specs.Eval.{eval, all_hold, extended, in_each}
+use Rattle.qs_algebra_patterns.specs.inner.Eval.{rows_of, step}
 use Rattle.qs_algebra_patterns.proofs.Meaning.{eval_basic, eval_group, eval_union, eval_graph, eval_each_graph, eval_values, step_join, step_left_join, step_minus, step_extend}
 use Rattle.qs_expr_meaning.specs.Meaning.{meaning}
 use Rattle.qs_algebra.specs.inner.Certain.{is_certain, is_certain_step, is_column, is_set}

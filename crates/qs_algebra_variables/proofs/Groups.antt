@@ -12,9 +12,11 @@ use Rattle.qs_syntax_ast.specs.declared.pattern.GraphPattern.TheOpen as written
 use Rattle.qs_syntax_ast.specs.declared.term.VarOrIri.{VarOrIri}
 use Rattle.qs_syntax_ast.specs.declared.term.VarOrIri.TheVariants as name_of
 use Rattle.qs_syntax_scope.specs.Names.{Name, contains}
-use Rattle.qs_syntax_scope.specs.Met.{after}
+use Rattle.qs_syntax_scope.proofs.Kept.{names_in_scope}
+use Rattle.qs_syntax_scope.specs.inner.Met.{after}
 use Rattle.qs_syntax_scope.specs.Places.{place_of}
-use Rattle.qs_syntax_scope.specs.Scope.{Part, add_part, add_operand, pattern_part, group_parts as scope_parts, scope, part, in_scope}
+use Rattle.qs_syntax_scope.specs.Scope.{in_scope}
+use Rattle.qs_syntax_scope.specs.inner.Scope.{Part, add_part, add_operand, pattern_part, group_parts as scope_parts, scope_of, part}
 use Rattle.qs_syntax_scope.specs.Variables.{graph_variables}
 use Rattle.qs_syntax_scope.specs.declared.met.Met.{Met}
 use Rattle.qs_algebra_patterns.specs.declared.pattern.PatternNode.{PatternNode}
@@ -24,7 +26,8 @@ use Rattle.qs_algebra_patterns.specs.declared.pattern.Step.{Step, map-Step, out-
 use Rattle.qs_algebra.specs.Basic.{basic_pattern}
 use Rattle.qs_algebra.specs.Expressions.{expr_of}
 use Rattle.qs_algebra.specs.Numbers.{hidden_of}
-use Rattle.qs_algebra.specs.Translation.{one_or_union, in_graph, number_of, table_of, alone, unfiltered, filtered, closed, step_level, group_level, group_parts, group_pattern}
+use Rattle.qs_algebra.specs.Translation.{one_or_union, in_graph, table_of, alone, unfiltered, filtered, closed, step_level, group_level, group_parts, group_pattern}
+use Rattle.qs_algebra.specs.inner.Translation.{number_of}
 use Rattle.qs_algebra.specs.inner.Translation.{step_of}
 use Rattle.qs_algebra.specs.declared.parts.GroupParts.{GroupParts}
 use Rattle.qs_algebra.specs.inner.Possible.{is_possible, is_possible_step, is_possible_level, is_possible_step_level}
@@ -102,7 +105,7 @@ module _ (names : List Name) (name : Name) (within : place_of names name < lengt
   Agrees p = is_possible_step width (step_of names p) v ≡ contains (part p).names name
 
   abbrev AgreesGroup : Group → Type 0
-  AgreesGroup g = steps_bind width v (group_parts names g).steps ≡ contains (scope g).names name
+  AgreesGroup g = steps_bind width v (group_parts names g).steps ≡ contains (scope_of g).names name
 
   abbrev Known : Type 0
   Known = (p : GraphPattern) × Agrees p
@@ -116,14 +119,14 @@ module _ (names : List Name) (name : Name) (within : place_of names name < lengt
   abbrev inner_group : written.Group-F Known KnownGroup → written.Group-F GraphPattern Group
   inner_group y = map-Group Known KnownGroup GraphPattern Group (λ e. e.0) (λ e. e.0) y
 
-  group_is : (e : KnownGroup) → is_possible width (closed (group_parts names e.0)) v ≡ contains (scope e.0).names name
+  group_is : (e : KnownGroup) → is_possible width (closed (group_parts names e.0)) v ≡ contains (scope_of e.0).names name
   group_is e = closed_is width v (group_parts names e.0) ∙ e.1
 
-  groups_are : (es : List KnownGroup) → list_any (λ p. is_possible width p v) (map closed (map (group_parts names) (map (λ e. e.0) es))) ≡ list_any (λ (m : Met). contains m.names name) (map (λ g. scope g) (map (λ e. e.0) es))
+  groups_are : (es : List KnownGroup) → list_any (λ p. is_possible width p v) (map closed (map (group_parts names) (map (λ e. e.0) es))) ≡ list_any (λ (m : Met). contains m.names name) (map (λ g. scope_of g) (map (λ e. e.0) es))
   groups_are [] = refl
   groups_are (e ∷ es) = rw (group_is e, groups_are es) refl
 
-  graph_is : (n : VarOrIri) (p : PatternNode) → is_possible width (in_graph names n p) v ≡ (contains (graph_variables n) name || is_possible width p v)
+  graph_is : (n : VarOrIri) (p : PatternNode) → is_possible width (in_graph names (Some n) p) v ≡ (contains (graph_variables n) name || is_possible width p v)
   graph_is (name_of.Variable w) p =
       possible_each_graph width v (place_of names w.name) p
       ∙ ap (λ b. b || is_possible width p v) (ap (λ b. b && (place_of names w.name == v)) (lt-ltb v width within) ∙ number_is names name within at w)
@@ -131,18 +134,18 @@ module _ (names : List Name) (name : Name) (within : place_of names name < lengt
 
   level_agrees : (y : written.GraphPattern-F Known KnownGroup)
       → is_possible_step width (step_level names (map-GraphPattern GraphPattern Group Step GroupParts (step_of names) (group_parts names) (inner y))) v
-      ≡ contains (pattern_part (map-GraphPattern GraphPattern Group Part Met (λ p. part p) (λ g. scope g) (inner y))).names name
+      ≡ contains (pattern_part (map-GraphPattern GraphPattern Group Part Met (λ p. part p) (λ g. scope_of g) (inner y))).names name
   level_agrees (written.Triples ts) =
       possible_join width v (pattern.Basic (basic_pattern names ts)) ∙ (possible_basic width v (basic_pattern names ts) ∙ basic_is names name within at (hidden_of ts) ts)
   level_agrees (written.Union es) =
       possible_join width v (one_or_union (map closed (map (group_parts names) (map (λ e. e.0) es))))
-      ∙ (union_is width v (map closed (map (group_parts names) (map (λ e. e.0) es))) ∙ (groups_are es ∙ sym (operands_have name (after []) (map (λ g. scope g) (map (λ e. e.0) es)))))
+      ∙ (union_is width v (map closed (map (group_parts names) (map (λ e. e.0) es))) ∙ (groups_are es ∙ sym (operands_have name (after []) (map (λ g. scope_of g) (map (λ e. e.0) es)))))
   level_agrees (written.Optional e) =
       possible_left_join width v (unfiltered (group_parts names e.0).steps) (group_parts names e.0).conditions ∙ (unfiltered_is width v (group_parts names e.0).steps ∙ e.1)
   level_agrees (written.Minus e) = possible_minus width v (closed (group_parts names e.0))
   level_agrees (written.Graph n e) =
-      possible_join width v (in_graph names n (closed (group_parts names e.0)))
-      ∙ (graph_is n (closed (group_parts names e.0)) ∙ (ap (λ b. contains (graph_variables n) name || b) (group_is e) ∙ sym (has_append name (graph_variables n) (scope e.0).names)))
+      possible_join width v (in_graph names (Some n) (closed (group_parts names e.0)))
+      ∙ (graph_is n (closed (group_parts names e.0)) ∙ (ap (λ b. contains (graph_variables n) name || b) (group_is e) ∙ sym (has_append name (graph_variables n) (scope_of e.0).names)))
   level_agrees (written.Bind e w) = possible_extend width v (number_of names w) (expr_of names e) ∙ number_is names name within at w
   level_agrees (written.Values table) =
       possible_join width v (pattern.Values (table_of names table))
@@ -168,4 +171,4 @@ module _ (names : List Name) (name : Name) (within : place_of names name < lengt
   each_agrees = ind-Group Agrees AgreesGroup (λ x y is. subst (λ z. Agrees (roll-GraphPattern z)) is (rolled_agrees y)) (λ x y is. subst (λ z. AgreesGroup (roll-Group z)) is (rolled_group_agrees y))
 
   pub pattern_agrees : (g : Group) → is_possible width (group_pattern names g) v ≡ contains (in_scope g) name
-  pattern_agrees g = closed_is width v (group_parts names g) ∙ each_agrees g
+  pattern_agrees g = closed_is width v (group_parts names g) ∙ each_agrees g ∙ ap (λ ns. contains ns name) (names_in_scope g)

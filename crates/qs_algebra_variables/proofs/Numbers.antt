@@ -18,9 +18,10 @@ use Rattle.qs_syntax_scope.specs.Places.{place_of}
 use Rattle.qs_syntax_scope.specs.Variables.{term_variables, verb_variables, triple_variables}
 use Rattle.qs_algebra_patterns.specs.Basic.{is_variable, mentions}
 use Rattle.qs_algebra_patterns.specs.inner.Basic.{is_end, occurs}
-use Rattle.qs_algebra.specs.Basic.{term_slot, verb_slot, path_of, triple_between, path_between, triple_pattern, path_pattern, basic_of}
+use Rattle.qs_algebra.specs.Basic.{term_slot, verb_slot, path_of, triple_pattern, path_pattern}
+use Rattle.qs_algebra.specs.inner.Basic.{triple_between, path_between, basic_of}
 use Rattle.qs_algebra.specs.Numbers.{hidden_number}
-use Rattle.qs_algebra.specs.Translation.{number_of}
+use Rattle.qs_algebra.specs.inner.Translation.{number_of}
 use Rattle.qs_algebra.specs.declared.hidden.Hidden.{Hidden}
 
 pub or_false : (b : Bool) → (b || false) ≡ b

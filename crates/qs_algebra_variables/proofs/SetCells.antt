@@ -4,7 +4,7 @@ use Rattle.std.specs.List.{list_any}
 use Rattle.std.proofs.lemmas.Bool.Decides.{eqb_tells}
 use Rattle.qs_terms.specs.declared.term.Term.{Term}
 use Rattle.qs_algebra_solutions.specs.Solution.{Solution, term_at, unbound, bind_all, binding}
-use Rattle.qs_algebra_patterns.specs.Eval.{bound_to}
+use Rattle.qs_algebra_patterns.specs.inner.Eval.{bound_to}
 use Rattle.qs_algebra_variables.proofs.BoundCells.{Bound, Unbound, unbound_at}
 
 -- the variable that is set

@@ -2,7 +2,8 @@
 use Rattle.std.proofs.Common.{◌≡◌, ℕ, zero, suc, ◌<◌, ◌+◌, true, ◌&&◌, List, [], ◌∷◌, length, take, drop, slice_set, Option, Some, None, max, subst, refl, sym, ap, ◌∙◌, arith, add-one}
 use Rattle.std.specs.Option.{is_some}
 use Rattle.qs_terms.specs.declared.term.Term.{Term}
-use Rattle.qs_algebra_solutions.specs.Solution.{compatible_terms, compatible, first_bound, merge, unbound}
+use Rattle.qs_algebra_solutions.specs.Solution.{compatible_terms, compatible, merge, unbound}
+use Rattle.qs_algebra_solutions.specs.inner.Solution.{first_bound}
 use Rattle.qs_expr.specs.declared.cell.Cell.{Cell}
 use Rattle.qs_expr.specs.inner.Cell.{Cells, cell_at, denoted, denoted_if, row_solution, FitsRow}
 use Rattle.qs_expr.specs.inner.Row.{no_cells, agree, compatible_cells, first_cell, merged_cells}

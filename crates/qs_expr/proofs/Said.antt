@@ -16,15 +16,16 @@ use Rattle.qs_terms.specs.Term.{same_term}
 use Rattle.qs_terms.proofs.SameTerm.{same_term-Decides}
 use Rattle.qs_algebra_solutions.specs.Solution.{Solution, term_at}
 use Rattle.qs_expr_values.specs.Number.{integer_of}
-use Rattle.qs_expr_values.specs.Values.{Worth, integer, boolean, text, other, worth, boolean_of, integer_or_other, boolean_or_other, compare, by_order, equal, equal_terms, is_literal, is_true, boolean_term}
-use Rattle.qs_expr_meaning.specs.Calls.{binary}
+use Rattle.qs_expr_values.specs.Values.{Worth, integer, boolean, text, other, worth, boolean_of, compare, equal, equal_terms, is_literal, boolean_term}
+use Rattle.qs_expr_values.specs.inner.Values.{is_true, integer_or_other, boolean_or_other, by_order}
+use Rattle.qs_expr_meaning.specs.Calls.{binary, of_both}
 use Rattle.qs_expr_meaning.specs.Truth.{denied}
-use Rattle.qs_expr_meaning.specs.Meaning.{compared, holds, meaning, of_both, truth}
+use Rattle.qs_expr_meaning.specs.Meaning.{compared, holds, meaning, truth}
 use Rattle.qs_expr_meaning.specs.declared.expr.Expr.{Expr}
 use Rattle.qs_expr_meaning.specs.declared.expr.Expr.TheVariants as expr
-use Rattle.qs_expr_meaning.specs.declared.operator.Comparison.{Comparison}
-use Rattle.qs_expr_meaning.specs.declared.operator.Comparison.TheVariants.{Equal, NotEqual, Less, Greater, LessOrEqual, GreaterOrEqual}
-use Rattle.qs_expr_meaning.specs.declared.operator.BinaryFunction.TheVariants.{SameTerm}
+use Rattle.qs_syntax_tree.specs.declared.expression.Comparison.{Comparison}
+use Rattle.qs_syntax_tree.specs.declared.expression.Comparison.TheVariants.{Equal, NotEqual, Less, Greater, LessOrEqual, GreaterOrEqual}
+use Rattle.qs_syntax_tree.specs.declared.expression.BinaryFunction.TheVariants.{SameTerm}
 use Rattle.qs_expr_meaning.proofs.Equations.{variable_is, term_is, compare_is, binary_is}
 use Rattle.qs_expr_meaning.proofs.Truths.{truth_of, truth_told}
 use Rattle.qs_expr.specs.inner.Against.{has_term, ordered, satisfies, with_constant}

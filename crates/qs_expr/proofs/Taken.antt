@@ -5,7 +5,7 @@ use Rattle.std.proofs.lemmas.List.{take_more}
 use Rattle.std.proofs.lemmas.List.Folds.{list_all-append, list_any-append}
 use Rattle.qs_terms.specs.declared.term.Term.{Term}
 use Rattle.qs_algebra_solutions.specs.Solution.{Solution}
-use Rattle.qs_expr_values.specs.Values.{is_true}
+use Rattle.qs_expr_values.specs.inner.Values.{is_true}
 use Rattle.qs_expr_meaning.specs.inner.Makes.{makes, some}
 use Rattle.qs_expr_meaning.specs.Truth.{both, every}
 use Rattle.qs_expr_meaning.specs.Meaning.{holds, meaning, truth}

@@ -7,7 +7,7 @@ ghost use Rattle.qs_algebra_solutions.specs.Solution.{Solution, term_at};
 ghost use Rattle.qs_expr_meaning.specs.inner.Makes.{makes};
 ghost use Rattle.qs_expr_meaning.specs.Meaning as spec;
 ghost use Rattle.qs_expr_meaning.specs.declared.expr.Expr.TheVariants as expr_of;
-ghost use Rattle.qs_expr_meaning.specs.declared.operator.BinaryFunction.TheVariants as binary_function;
+ghost use Rattle.qs_syntax_tree.specs.declared.expression.BinaryFunction.TheVariants as binary_function;
 ghost use Rattle.qs_expr_values.specs.Values as of_terms;
 ghost use Rattle.qs_expr.specs.inner.Condition.{AreNumbersOf};
 ghost use Rattle.qs_expr.specs.inner.Against.{has_term, with_constant};

@@ -7,8 +7,8 @@ use Rattle.qs_expr_values.specs.Values.{boolean_term}
 use Rattle.qs_expr_meaning.specs.Calls.{Value}
 use Rattle.qs_expr_meaning.specs.Truth.{either, denied}
 use Rattle.qs_expr_meaning.specs.inner.Makes.{makes, addend_makes, some}
-use Rattle.qs_expr_meaning.specs.Meaning.{boolean_value, integer_value, number, among, added, multiplied, meaning}
-use Rattle.qs_expr_meaning.specs.inner.Meaning.{addend_meaning}
+use Rattle.qs_expr_meaning.specs.Meaning.{number, among, added, multiplied, meaning}
+use Rattle.qs_expr_meaning.specs.inner.Meaning.{boolean_value, integer_value, addend_meaning}
 use Rattle.qs_expr_meaning.specs.inner.Comes.{Errs}
 use Rattle.qs_expr_meaning.specs.declared.fault.ExprFault.{ExprFault}
 use Rattle.qs_expr_meaning.specs.declared.fault.ExprFault.TheVariants.{TypeError, Memory}

@@ -7,14 +7,14 @@ use Rattle.qs_algebra_solutions.specs.Solution.{Solution, term_at}
 use Rattle.qs_expr_values.specs.Number.{in_range}
 use Rattle.qs_expr_values.specs.Values.{boolean_term}
 use Rattle.qs_expr_meaning.specs.Truth.{any, every, denied}
-use Rattle.qs_expr_meaning.specs.Calls.{joined, strings, unary, binary}
+use Rattle.qs_expr_meaning.specs.Calls.{joined, strings, unary, binary, of_both}
 use Rattle.qs_expr_meaning.specs.inner.Makes.{makes, addend_makes, some}
-use Rattle.qs_expr_meaning.specs.Meaning.{truth, boolean_value, compared, of_both, among, number, integer_value, added, multiplied, with_sign, choice, first_value, meaning}
-use Rattle.qs_expr_meaning.specs.inner.Meaning.{addend_meaning}
-use Rattle.qs_expr_meaning.specs.declared.operator.Comparison.{Comparison}
-use Rattle.qs_expr_meaning.specs.declared.operator.Sign.{Sign}
-use Rattle.qs_expr_meaning.specs.declared.operator.UnaryFunction.{UnaryFunction}
-use Rattle.qs_expr_meaning.specs.declared.operator.BinaryFunction.{BinaryFunction}
+use Rattle.qs_expr_meaning.specs.Meaning.{truth, compared, among, number, added, multiplied, with_sign, choice, first_value, meaning}
+use Rattle.qs_expr_meaning.specs.inner.Meaning.{boolean_value, integer_value, addend_meaning}
+use Rattle.qs_syntax_tree.specs.declared.expression.Comparison.{Comparison}
+use Rattle.qs_syntax_tree.specs.declared.expression.Sign.{Sign}
+use Rattle.qs_syntax_tree.specs.declared.expression.UnaryFunction.{UnaryFunction}
+use Rattle.qs_syntax_tree.specs.declared.expression.BinaryFunction.{BinaryFunction}
 use Rattle.qs_expr_meaning.specs.declared.expr.Expr.{Expr, the_lemmas}
 use Rattle.qs_expr_meaning.specs.declared.expr.Expr.TheVariants as expr
 use Rattle.qs_expr_meaning.specs.declared.expr.Addend.{Addend, the_lemmas as addend_lemmas}

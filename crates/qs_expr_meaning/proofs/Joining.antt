@@ -6,7 +6,8 @@ use Rattle.std.specs.Prelude.{ℕ}
 use Rattle.qs_terms.specs.Literal.{Literal}
 use Rattle.qs_terms.specs.declared.term.Term.{Term}
 use Rattle.qs_expr_values.specs.Values.{strung}
-use Rattle.qs_expr_meaning.specs.Calls.{Value, string_of, literal_parts, strings, forms, agreed, common_tag, joined}
+use Rattle.qs_expr_meaning.specs.Calls.{Value, string_of, strings, common_tag, joined}
+use Rattle.qs_expr_meaning.specs.inner.Calls.{literal_parts, forms, agreed}
 use Rattle.qs_expr_meaning.specs.inner.Joined.{SoFar, Tag, nothing, with_tag, with_parts, with_value, joined_from}
 
 abbrev tag_after : Option Tag → List Literal → Tag

@@ -9,10 +9,10 @@ use Rattle.qs_expr_values.specs.Values.{integer_term, boolean_term, text_term}
 use Rattle.qs_expr_meaning.specs.Calls.{Value, unary, binary, strings, joined}
 use Rattle.qs_expr_meaning.specs.Truth.{either, both, any, every, denied}
 use Rattle.qs_expr_meaning.specs.Meaning.{truth, among, number, added, multiplied, with_sign, choice, first_value, compared}
-use Rattle.qs_expr_meaning.specs.declared.operator.Comparison.TheVariants.{Equal, NotEqual, Less}
-use Rattle.qs_expr_meaning.specs.declared.operator.Sign.TheVariants.{Plus, Minus}
-use Rattle.qs_expr_meaning.specs.declared.operator.UnaryFunction.TheVariants.{StrLen, Lang, Datatype, Str, IsNumeric}
-use Rattle.qs_expr_meaning.specs.declared.operator.BinaryFunction.TheVariants.{LangMatches, Contains, SameTerm}
+use Rattle.qs_syntax_tree.specs.declared.expression.Comparison.TheVariants.{Equal, NotEqual, Less}
+use Rattle.qs_syntax_tree.specs.declared.expression.Sign.TheVariants.{Plus, Minus}
+use Rattle.qs_syntax_tree.specs.declared.expression.UnaryFunction.TheVariants.{StrLen, Lang, Datatype, Str, IsNumeric}
+use Rattle.qs_syntax_tree.specs.declared.expression.BinaryFunction.TheVariants.{LangMatches, Contains, SameTerm}
 
 -- ---- truth with errors: the table of SPARQL 1.1 Query, 17.2
 

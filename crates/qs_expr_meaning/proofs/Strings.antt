@@ -9,7 +9,8 @@ use Rattle.qs_terms.specs.declared.term.Term.TheVariants.{Iri, Blank, Literal as
 use Rattle.qs_expr_values.specs.Values.{boolean_term, integer_term, text_term, strung}
 use Rattle.qs_expr_meaning.specs.inner.Comes.{tagged_datatype}
 use Rattle.qs_expr_meaning.specs.inner.Joined.{tag_of_term}
-use Rattle.qs_expr_meaning.specs.Calls.{form_of, tag_of, datatype_of, string_of, string_parts, length_of, literal_parts, Parts}
+use Rattle.qs_expr_meaning.specs.Calls.{string_of, of_both, compatible, both_forms}
+use Rattle.qs_expr_meaning.specs.inner.Calls.{form_of, tag_of, datatype_of, length_of, Parts, literal_parts, string_parts, agreeing, forms_of_parts}
 
 pub form_strung : (tag : Option (List ℕ)) (form : List ℕ) → form_of (strung tag form) ≡ Some (text_term form)
 form_strung None form = refl
@@ -47,6 +48,15 @@ length_by_parts t = by (string_of t)
     by : (o : Option Literal) → option_map length_of o ≡ option_map (λ p. integer_term (pos (length (chars p.0)))) (option_map literal_parts o)
     by None = refl
     by (Some l) = refl
+
+-- the forms of two strings are those of their parts
+pub forms_by_parts : (a b : Term) → both_forms a b ≡ forms_of_parts a b
+forms_by_parts a b = by (string_of a) (string_of b)
+  where
+    by : (o p : Option Literal) → of_both (λ s t. if compatible s.tag t.tag then Some (s.form, t.form) else None) o p ≡ of_both agreeing (option_map literal_parts o) (option_map literal_parts p)
+    by None p = refl
+    by (Some s) None = refl
+    by (Some s) (Some t) = refl
 
 pub tag_of_strung : (tag : Option (List ℕ)) (form : List ℕ) → tag_of_term (strung tag form) ≡ tag
 tag_of_strung None form = refl

@@ -3,7 +3,8 @@ use Rattle.std.proofs.Common.{◌≡◌, Bool, true, false, Option, Some, None, 
 use Rattle.qs_terms.specs.Literal.{xsd_boolean}
 use Rattle.qs_expr_values.specs.Values.{boolean_term}
 use Rattle.qs_expr_meaning.specs.Calls.{Value}
-use Rattle.qs_expr_meaning.specs.Meaning.{truth, boolean_value}
+use Rattle.qs_expr_meaning.specs.Meaning.{truth}
+use Rattle.qs_expr_meaning.specs.inner.Meaning.{boolean_value}
 
 told : (b : Bool) → truth (Some (boolean_term b)) ≡ Some b
 unfolding xsd_boolean

@@ -6,20 +6,22 @@ ghost use Rattle.qs_terms.specs.declared.term.Term.TheVariants as rdf;
 ghost use Rattle.qs_expr_values.specs.inner.Value.{term_of};
 ghost use Rattle.qs_expr_values.specs.Values as of;
 ghost use Rattle.qs_expr_meaning.specs.Calls as spec;
+ghost use Rattle.qs_expr_meaning.specs.inner.Calls as inner_spec;
+ghost use Rattle.qs_terms.specs.Statement as of_statement;
 ghost use Rattle.qs_expr_meaning.specs.inner.Comes.{parts_seen, forms_seen, iri_of, tagged_datatype};
-ghost use Rattle.qs_expr_meaning.specs.declared.operator.UnaryFunction.TheVariants as unary_function;
-ghost use Rattle.qs_expr_meaning.specs.declared.operator.BinaryFunction.TheVariants as binary_function;
+ghost use Rattle.qs_syntax_tree.specs.declared.expression.UnaryFunction.TheVariants as unary_function;
+ghost use Rattle.qs_syntax_tree.specs.declared.expression.BinaryFunction.TheVariants as binary_function;
 
-use crate::operator::{BinaryFunction, UnaryFunction};
 use crate::relation::number;
 use qs_expr_values::{
     Datatype, Value, Worth, boolean_form, contains, count, digits, ends, is_literal, is_same,
     matches_range, starts, worth_of,
 };
+use qs_syntax_tree::expression::{BinaryFunction, UnaryFunction};
 use qs_terms::{Lit, Term};
 
 fn is_iri_term(term: &Term) -> bool
-    ensures { result ≡ spec.is_iri term.now }
+    ensures { result ≡ of_statement.is_iri term.now }
 {
     match term {
         Term::Iri(_) => true,
@@ -29,7 +31,7 @@ fn is_iri_term(term: &Term) -> bool
 }
 
 fn is_iri(value: &Value<'_>) -> bool
-    ensures { result ≡ spec.is_iri (term_of value.entry.now) }
+    ensures { result ≡ of_statement.is_iri (term_of value.entry.now) }
 {
     match value {
         Value::Term(term) => is_iri_term(term),
@@ -60,13 +62,13 @@ fn is_blank(value: &Value<'_>) -> bool
 }
 
 fn is_numeric(value: &Value<'_>) -> bool
-    ensures { result ≡ spec.is_numeric (term_of value.entry.now) }
+    ensures { result ≡ inner_spec.is_numeric (term_of value.entry.now) }
 {
     number(value).is_some()
 }
 
 fn form_of_term(term: &Term) -> Option<&str>
-    ensures { option_map of.text_term (option_copied result) ≡ spec.form_of term.now }
+    ensures { option_map of.text_term (option_copied result) ≡ inner_spec.form_of term.now }
 {
     match term {
         Term::Iri(iri) => Some(iri.text()),
@@ -87,7 +89,7 @@ fn text_value<'a>(text: Option<&'a str>) -> Option<Value<'a>>
 /// STR
 #[tactic(auto, using(crate::proofs::Strings::form_strung))]
 fn form<'a>(value: Value<'a>) -> Option<Value<'a>>
-    ensures { option_map term_of result ≡ spec.form_of (term_of value.entry) }
+    ensures { option_map term_of result ≡ inner_spec.form_of (term_of value.entry) }
 {
     match value {
         Value::Term(term) => text_value(form_of_term(term)),
@@ -112,7 +114,7 @@ fn tag_or_empty(lit: &Lit) -> &str
 }
 
 fn tag_of_term(term: &Term) -> Option<&str>
-    ensures { option_map of.text_term (option_copied result) ≡ spec.tag_of term.now }
+    ensures { option_map of.text_term (option_copied result) ≡ inner_spec.tag_of term.now }
 {
     match term {
         Term::Iri(_) => None,
@@ -124,7 +126,7 @@ fn tag_of_term(term: &Term) -> Option<&str>
 /// LANG
 #[tactic(auto, using(crate::proofs::Strings::tag_strung))]
 fn tag<'a>(value: &Value<'a>) -> Option<Value<'a>>
-    ensures { option_map term_of result ≡ spec.tag_of (term_of value.entry.now) }
+    ensures { option_map term_of result ≡ inner_spec.tag_of (term_of value.entry.now) }
 {
     match value {
         Value::Term(term) => text_value(tag_of_term(term)),
@@ -136,7 +138,7 @@ fn tag<'a>(value: &Value<'a>) -> Option<Value<'a>>
 }
 
 fn datatype_of_term(term: &Term) -> Option<Datatype<'_>>
-    ensures { option_map iri_of result ≡ spec.datatype_of term.now }
+    ensures { option_map iri_of result ≡ inner_spec.datatype_of term.now }
 {
     match term {
         Term::Iri(_) => None,
@@ -166,7 +168,7 @@ fn datatype_value<'a>(datatype: Option<Datatype<'a>>) -> Option<Value<'a>>
 /// DATATYPE
 #[tactic(auto, using(crate::proofs::Strings::datatype_strung))]
 fn datatype<'a>(value: &Value<'a>) -> Option<Value<'a>>
-    ensures { option_map term_of result ≡ spec.datatype_of (term_of value.entry.now) }
+    ensures { option_map term_of result ≡ inner_spec.datatype_of (term_of value.entry.now) }
 {
     match value {
         Value::Term(term) => datatype_value(datatype_of_term(term)),
@@ -180,7 +182,7 @@ fn datatype<'a>(value: &Value<'a>) -> Option<Value<'a>>
 }
 
 fn string_of_literal(lit: &Lit) -> Option<(&str, Option<&str>)>
-    ensures { option_map parts_seen result ≡ spec.string_parts (rdf.Literal lit.now) }
+    ensures { option_map parts_seen result ≡ inner_spec.string_parts (rdf.Literal lit.now) }
 {
     if lit.is_string() || lit.tag().is_some() {
         Some((lit.form(), lit.tag()))
@@ -190,7 +192,7 @@ fn string_of_literal(lit: &Lit) -> Option<(&str, Option<&str>)>
 }
 
 fn string_of_term(term: &Term) -> Option<(&str, Option<&str>)>
-    ensures { option_map parts_seen result ≡ spec.string_parts term.now }
+    ensures { option_map parts_seen result ≡ inner_spec.string_parts term.now }
 {
     match term {
         Term::Iri(_) => None,
@@ -202,7 +204,7 @@ fn string_of_term(term: &Term) -> Option<(&str, Option<&str>)>
 /// The form and the tag of a string: an xsd:string or a literal with a tag.
 #[tactic(auto, using(crate::proofs::Strings::string_boolean, crate::proofs::Strings::string_integer, crate::proofs::Strings::string_text, crate::proofs::Strings::string_strung))]
 pub(crate) fn string_of<'a>(value: &'a Value<'_>) -> Option<(&'a str, Option<&'a str>)>
-    ensures { option_map parts_seen result ≡ spec.string_parts (term_of value.entry.now) }
+    ensures { option_map parts_seen result ≡ inner_spec.string_parts (term_of value.entry.now) }
 {
     match value {
         Value::Term(term) => string_of_term(term),
@@ -258,6 +260,7 @@ fn is_compatible(a: Option<&str>, b: Option<&str>) -> bool
     }
 }
 
+#[tactic(auto, using(crate::proofs::Strings::forms_by_parts))]
 fn both_forms<'a>(a: &'a Value<'_>, b: &'a Value<'_>) -> Option<(&'a str, &'a str)>
     ensures { option_map forms_seen result ≡ spec.both_forms (term_of a.entry.now)
         (term_of b.entry.now) }

@@ -21,9 +21,9 @@ use crate::call::{binary, unary};
 use crate::expr::{Addend, Expr};
 use crate::fault::ExprFault;
 use crate::joined::{add, finish};
-use crate::operator::{BinaryFunction, Comparison, Sign, UnaryFunction};
 use crate::relation::{compared, number, with_factor, with_part, with_sign};
 use qs_expr_values::{Value, ebv, equal};
+use qs_syntax_tree::expression::{BinaryFunction, Comparison, Sign, UnaryFunction};
 use qs_terms::Lit;
 use std::alloc::Global;
 
@@ -252,7 +252,7 @@ fn is_related<B: Bindings>(
     bindings: &B,
 ) -> Result<bool, ExprFault>
     ensures { Comes (makes b.now)
-        (spec.of_both (spec.compared comparison) (Some (term_of x.entry.now))
+        (of_calls.of_both (spec.compared comparison) (Some (term_of x.entry.now))
         (spec.meaning (B.solution bindings.now) b.now)) result }
 {
     let y = value(alloc, b, bindings)?;
@@ -270,7 +270,7 @@ fn is_tested<B: Bindings>(
     bindings: &B,
 ) -> Result<bool, ExprFault>
     ensures { Tells (makes b.now)
-        (spec.of_both (of_calls.binary function) (Some (term_of x.entry.now))
+        (of_calls.of_both (of_calls.binary function) (Some (term_of x.entry.now))
         (spec.meaning (B.solution bindings.now) b.now)) result }
 {
     let y = value(alloc, b, bindings)?;
@@ -335,7 +335,7 @@ fn is_equal<B: Bindings>(
     part: &Expr,
     bindings: &B,
 ) -> Result<bool, ExprFault>
-    ensures { Comes (makes part.now) (spec.of_both of_terms.equal (Some (term_of x.entry.now))
+    ensures { Comes (makes part.now) (of_calls.of_both of_terms.equal (Some (term_of x.entry.now))
         (spec.meaning (B.solution bindings.now) part.now)) result }
 {
     let y = value(alloc, part, bindings)?;

@@ -1,6 +1,6 @@
 //! Expressions.
 
-use crate::operator::{BinaryFunction, Comparison, Sign, UnaryFunction};
+use qs_syntax_tree::expression::{BinaryFunction, Comparison, Sign, UnaryFunction};
 use qs_terms::Term;
 use sqlite_items::{Boxed, Items};
 

@@ -16,7 +16,6 @@ mod fault;
 mod joined;
 pub mod laws;
 mod make;
-mod operator;
 mod relation;
 
 pub use bindings::Bindings;
@@ -24,4 +23,4 @@ pub use evaluate::{truth, value};
 pub use expr::{Addend, Expr};
 pub use fault::ExprFault;
 pub use make::{ebv_terms, eval_terms, holds, order_key_terms};
-pub use operator::{BinaryFunction, Comparison, Sign, UnaryFunction};
+pub use qs_syntax_tree::expression::{BinaryFunction, Comparison, Sign, UnaryFunction};

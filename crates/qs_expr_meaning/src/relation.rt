@@ -7,9 +7,10 @@ ghost use Rattle.qs_expr_values.specs.Values as of;
 ghost use Rattle.qs_expr_values.specs.Number.{in_range};
 ghost use Rattle.qs_expr_meaning.specs.Calls.{integer_of_worth};
 ghost use Rattle.qs_expr_meaning.specs.Meaning as spec;
+ghost use Rattle.qs_expr_meaning.specs.inner.Meaning as inner_spec;
 
-use crate::operator::{Comparison, Sign};
 use qs_expr_values::{Value, Worth, add, equal, multiply, negate, subtract, worth_of};
+use qs_syntax_tree::expression::{Comparison, Sign};
 use std::cmp::Ordering;
 
 fn order(a: &Value<'_>, b: &Value<'_>) -> Option<Ordering>
@@ -70,7 +71,7 @@ pub(crate) fn with_part(sign: Sign, sum: i128, part: i128) -> Option<i128>
 
 /// The product with one operand more.
 pub(crate) fn with_factor(product: i128, factor: i128) -> Option<i128>
-    ensures { result ≡ spec.applied spec.times (Some product) (Some factor) }
+    ensures { result ≡ spec.applied inner_spec.times (Some product) (Some factor) }
 {
     multiply(product, factor)
 }

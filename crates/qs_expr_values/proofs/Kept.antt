@@ -13,7 +13,9 @@ use Rattle.qs_terms.specs.Literal.{xsd_string, xsd_integer, xsd_boolean}
 use Rattle.qs_terms.specs.declared.term.Term.{Term}
 use Rattle.qs_terms.specs.declared.term.Term.TheVariants.{Iri, Blank, Literal}
 use Rattle.qs_expr_values.specs.Number.{whole_number, integer_of}
-use Rattle.qs_expr_values.specs.Values.{Worth, integer, boolean, text, other, integer_or_other, boolean_or_other, boolean_of, worth, is_true, is_not_zero, is_not_empty, ebv}
+use Rattle.qs_expr_values.specs.Values.{Worth, integer, boolean, text, other, boolean_of, worth, is_not_zero, ebv}
+use Rattle.qs_expr_values.specs.inner.Values.{is_true, integer_or_other, boolean_or_other}
+use Rattle.qs_expr_values.specs.Text.{is_not_empty}
 use Rattle.qs_expr_values.specs.inner.TermValue.{is_of_64_bits, integer_or_wide, value_of_worth, term_value}
 use Rattle.qs_expr_values.specs.declared.term_value.TermValue.{TermValue}
 use Rattle.qs_expr_values.specs.declared.term_value.TermValue.TheVariants as kept

@@ -15,7 +15,8 @@ use Rattle.std.specs.Str.Parse.{ParsesSigned, IsNumeral, digits_value}
 use Rattle.std.proofs.lemmas.Bool.Decides.{nat_tests}
 use Rattle.std.proofs.lemmas.Str.Parse.{IsNumeralModel, numerals_by_fold, parse_signed_plain, parse_signed_plus, parse_signed_minus}
 use borrow.Author.Tests.{ltb-true, eqb-true, eqb-false}
-use Rattle.qs_expr_values.specs.Number.{value_behind, is_numeral, signed, minus, whole_number, is_in_range, in_range, integer_of, canonical}
+use Rattle.qs_expr_values.specs.Number.{is_numeral, signed, whole_number, is_in_range, in_range, integer_of, canonical}
+use Rattle.qs_expr_values.specs.inner.Number.{value_behind, minus}
 
 own : IsNumeralModel (λ ds. all_ascii_digits ds ≡ true) (value_behind 0)
 own = numerals_by_fold _ (search rules) value_behind (search rules)
@@ -59,20 +60,28 @@ numeral : (ds : List ℕ) → all_ascii_digits ds ≡ true → 0 < length ds →
 numeral [] h l = absurd (omega arith)
 numeral (c ∷ cs) h l = h
 
+-- the value of digits, as they are read one after another
+same_signed_if : (sign : ℕ → ℤ) (ds : List ℕ) (b : Bool) → is_numeral ds ≡ b → (if b then Some (sign (value_behind 0 ds)) else None) ≡ (if b then Some (sign (digits_value 10 ds)) else None)
+same_signed_if sign ds true e = ap (λ n. Some (sign n)) (own.same ds (own.to ds (all_digits ds e)))
+same_signed_if sign ds false e = refl
+
+pub same_signed : (sign : ℕ → ℤ) (ds : List ℕ) → (if is_numeral ds then Some (sign (value_behind 0 ds)) else None) ≡ signed sign ds
+same_signed sign ds = same_signed_if sign ds (is_numeral ds) refl
+
 module _ {E : Type 0} (r : Result ℤ E) (ds : List ℕ) where
   positive : OkIff r ((all_ascii_digits ds ≡ true) × (0 < length ds) × (value_behind 0 ds < 2 ^ 127)) (pos (value_behind 0 ds)) → result_ok r ≡ in_range (signed pos ds)
   positive h =
       decided r _ _ (is_numeral ds && nat_lt (value_behind 0 ds) (2 ^ 127)) h
       (λ e. (all_digits ds (first _ _ e), some_digits ds (first _ _ e), above _ _ (second (is_numeral ds) _ e)))
       (λ q. both _ _ (numeral ds q.0 q.1) (below _ _ q.2))
-      ∙ sym (ranged (is_numeral ds) _ (pos (value_behind 0 ds)) refl)
+      ∙ (sym (ranged (is_numeral ds) _ (pos (value_behind 0 ds)) refl) ∙ ap in_range (same_signed pos ds))
 
   negative : OkIff r ((all_ascii_digits ds ≡ true) × (0 < length ds) × (value_behind 0 ds ≤ 2 ^ 127)) (neg_ℤ (pos (value_behind 0 ds))) → result_ok r ≡ in_range (signed minus ds)
   negative h =
       decided r _ _ (is_numeral ds && is_in_range (minus (value_behind 0 ds))) h
       (λ e. (all_digits ds (first _ _ e), some_digits ds (first _ _ e), to (value_behind 0 ds) (second (is_numeral ds) _ e)))
       (λ q. both _ _ (numeral ds q.0 q.1) (from (value_behind 0 ds) q.2))
-      ∙ sym (ranged (is_numeral ds) _ (minus (value_behind 0 ds)) refl)
+      ∙ (sym (ranged (is_numeral ds) _ (minus (value_behind 0 ds)) refl) ∙ ap in_range (same_signed minus ds))
     where
       to : (n : ℕ) → is_in_range (minus n) ≡ true → n ≤ 2 ^ 127
       to zero e = omega arith
@@ -103,11 +112,8 @@ module _ (n : ℕ) (small : n ≤ 2 ^ 127) where
   digits : all_ascii_digits (decimal n) ≡ true
   digits = own.from (decimal n) written.0.1
 
-  valued : value_behind 0 (decimal n) ≡ n
-  valued = own.same (decimal n) written.0.1 ∙ written.1
-
   signed_back : (sign : ℕ → ℤ) → signed sign (decimal n) ≡ Some (sign n)
-  signed_back sign = ap (λ b. if b then Some (sign (value_behind 0 (decimal n))) else None) (numeral (decimal n) digits written.0.0) ∙ ap (λ m. Some (sign m)) valued
+  signed_back sign = ap (λ b. if b then Some (sign (digits_value 10 (decimal n))) else None) (numeral (decimal n) digits written.0.0) ∙ ap (λ m. Some (sign m)) written.1
 
 pub no_sign : (ds : List ℕ) → all_ascii_digits ds ≡ true → whole_number ds ≡ signed pos ds
 no_sign [] h = refl
@@ -147,7 +153,7 @@ other_than_zero (negsuc n) h = let k : n < 2 ^ 127 = h.sfits in grind (arith, na
 some_signed : (sign : ℕ → ℤ) (ds : List ℕ) → is_some (signed sign ds) ≡ is_numeral ds
 some_signed sign ds = by (is_numeral ds)
   where
-    by : (b : Bool) → is_some (if b then Some (sign (value_behind 0 ds)) else None) ≡ b
+    by : (b : Bool) → is_some (if b then Some (sign (digits_value 10 ds)) else None) ≡ b
     by true = refl
     by false = refl
 

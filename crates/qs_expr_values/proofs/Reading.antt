@@ -5,8 +5,9 @@ use Rattle.std.specs.Char.{is_ascii_digit}
 use Rattle.std.specs.Str.{all_ascii_digits}
 use Rattle.std.proofs.lemmas.List.{drop_all}
 use Rattle.std.proofs.Math.Seq.{drop-cons}
-use Rattle.qs_expr_values.specs.Number.{value_behind, in_range, integer_of}
-use Rattle.qs_expr_values.proofs.Numbers.{no_sign, numeral_of, below}
+use Rattle.qs_expr_values.specs.Number.{in_range, integer_of}
+use Rattle.qs_expr_values.specs.inner.Number.{value_behind}
+use Rattle.qs_expr_values.proofs.Numbers.{no_sign, numeral_of, below, same_signed}
 
 drop_step : (digits : List ℕ) (i : ℕ) → i < length digits → drop i digits ≡ slice_index digits i ∷ drop (i + 1) digits
 drop_step digits i l = rw (add-one, drop-cons digits i 0)
@@ -23,5 +24,5 @@ unfolding integer_of
 last digits i value some l h ev ed =
     let all : all_ascii_digits digits ≡ true = sym ed ∙ ap all_ascii_digits (drop_all i digits l) in
     let is : value_behind 0 digits ≡ value = sym ev ∙ ap (value_behind value) (drop_all i digits l) in
-    ap in_range (no_sign digits all ∙ (ap (λ b. if b then Some (pos (value_behind 0 digits)) else None) (numeral_of digits some ∙ all) ∙ ap (λ n. Some (pos n)) is))
+    ap in_range (no_sign digits all ∙ (sym (same_signed pos digits) ∙ (ap (λ b. if b then Some (pos (value_behind 0 digits)) else None) (numeral_of digits some ∙ all) ∙ ap (λ n. Some (pos n)) is)))
     ∙ ap (λ b. if b then Some (pos value) else None) (below value (2 ^ 127) (omega arith))

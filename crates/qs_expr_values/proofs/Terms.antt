@@ -5,7 +5,9 @@ use Rattle.std.specs.Int.{w128}
 use Rattle.std.specs.Int.RustNames.{FitsSigned}
 use Rattle.qs_terms.specs.Literal.{xsd_string, xsd_integer, xsd_boolean, rdf_lang_string}
 use Rattle.qs_expr_values.specs.Number.{integer_of, in_range, canonical}
-use Rattle.qs_expr_values.specs.Values.{integer, boolean, text, other, integer_or_other, worth, boolean_term, integer_term, text_term, strung, is_not_zero, is_not_empty, ebv}
+use Rattle.qs_expr_values.specs.Values.{integer, boolean, text, other, worth, boolean_term, integer_term, text_term, strung, is_not_zero, ebv}
+use Rattle.qs_expr_values.specs.Text.{is_not_empty}
+use Rattle.qs_expr_values.specs.inner.Values.{integer_or_other}
 use Rattle.qs_expr_values.proofs.Numbers.{read_back, fits}
 
 pub value_back : (z : ℤ) → FitsSigned w128 z → integer_of (canonical z) ≡ Some z

@@ -1,5 +1,5 @@
+pub mod Text
 pub mod Number
 pub mod Values
 pub mod Sorting
-pub mod Text
 pub mod inner

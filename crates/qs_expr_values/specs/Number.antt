@@ -1,31 +1,25 @@
 -- Integers as texts (XML Schema 1.1 part 2, 3.4.13): the whole number that a form denotes, and the
 -- form that a number is written in.
-use Rattle.std.specs.Prelude.{ℕ, ◌+◌, ◌-◌, ◌*◌, ◌^◌, ◌==◌, Bool, false, nat_lt, List, [], ◌∷◌}
+use Rattle.std.specs.Prelude.{ℕ, ◌^◌, ◌==◌, Bool, ◌&&◌, nat_lt, List, [], ◌∷◌}
 use Rattle.std.specs.Prelude.{Option, Some, None, if◌then◌else◌, ℤ, pos, negsuc, neg_ℤ}
 use Rattle.std.specs.Str.{all_ascii_digits}
+use Rattle.std.specs.Option.{option_and_then}
+use Rattle.std.specs.Str.Parse.{digits_value}
 use Rattle.std.specs.Fmt.{signed_decimal}
-
--- decimal digits after digits of this value: the value of them all
-abbrev pub value_behind : ℕ → List ℕ → ℕ
-value_behind value [] = value
-value_behind value (c ∷ cs) = value_behind (value * 10 + (c - 48)) cs
+use Rattle.qs_expr_values.specs.Text.{is_not_empty}
 
 -- one or more digits
 abbrev pub is_numeral : List ℕ → Bool
-is_numeral [] = false
-is_numeral (c ∷ cs) = all_ascii_digits (c ∷ cs)
-
-abbrev pub minus : ℕ → ℤ
-minus n = neg_ℤ (pos n)
+is_numeral digits = is_not_empty digits && all_ascii_digits digits
 
 abbrev pub signed : (ℕ → ℤ) → List ℕ → Option ℤ
-signed sign digits = if is_numeral digits then Some (sign (value_behind 0 digits)) else None
+signed sign digits = if is_numeral digits then Some (sign (digits_value 10 digits)) else None
 
 -- an optional sign, and digits; leading zeros change nothing, and `-0` is 0
 abbrev pub whole_number : List ℕ → Option ℤ
 whole_number [] = None
 whole_number (c ∷ cs) = if c == 43 then signed pos cs
-    else (if c == 45 then signed minus cs else signed pos (c ∷ cs))
+    else (if c == 45 then signed (λ n. neg_ℤ (pos n)) cs else signed pos (c ∷ cs))
 
 -- the range of integers: that of signed 128 bits. It stands here alone; a computed number out of it
 -- is an error
@@ -35,8 +29,7 @@ is_in_range (negsuc n) = nat_lt n (2 ^ 127)
 
 -- a number, unless it is out of the range
 abbrev pub in_range : Option ℤ → Option ℤ
-in_range None = None
-in_range (Some z) = if is_in_range z then Some z else None
+in_range = option_and_then (λ z. if is_in_range z then Some z else None)
 
 -- the value of a form
 unfoldable pub integer_of : List ℕ → Option ℤ

@@ -14,20 +14,14 @@ use Rattle.qs_expr_values.specs.declared.key.Key.{Key}
 use Rattle.qs_expr_values.specs.declared.key.Key.TheVariants.{Unbound, Blank, Iri, Boolean, Integer}
 use Rattle.qs_expr_values.specs.declared.key.Key.TheVariants.{String, Other}
 
-abbrev pub other_key : List ℕ → List ℕ → Option (List ℕ) → Key
-other_key form datatype tag = Other datatype form tag
-
--- the key of a term without a value
-abbrev pub plain_key : Term → Key
-plain_key (rdf.Iri i) = Iri i
-plain_key (rdf.Blank n) = Blank n
-plain_key (rdf.Literal l) = other_key l.form l.datatype l.tag
-
+-- the key of a term that is worth this
 abbrev pub key_by_worth : Worth → Term → Key
 key_by_worth (boolean b) t = Boolean b
 key_by_worth (integer z) t = Integer z
 key_by_worth (text s) t = String s
-key_by_worth other t = plain_key t
+key_by_worth other (rdf.Iri i) = Iri i
+key_by_worth other (rdf.Blank n) = Blank n
+key_by_worth other (rdf.Literal l) = Other l.datatype l.form l.tag
 
 -- the key of a term; none is an unbound variable or an error
 abbrev pub key_of : Option Term → Key

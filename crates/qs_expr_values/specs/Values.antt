@@ -1,8 +1,8 @@
 -- The values of terms (SPARQL 1.1 Query, 17.1 to 17.4): booleans, integers and strings; what is
 -- true of a term, and how terms compare.
-use Rattle.std.specs.Prelude.{ℕ, Bool, true, false, ◌&&◌, ◌||◌, ◌==◌, not, List, [], ◌∷◌, codes}
+use Rattle.std.specs.Prelude.{ℕ, Bool, true, false, ◌&&◌, ◌||◌, ◌==◌, not, List, codes}
 use Rattle.std.specs.Prelude.{Option, Some, None, if◌then◌else◌, ℤ, pos, negsuc}
-use Rattle.std.specs.Option.{is_some}
+use Rattle.std.specs.Option.{is_some, unwrap_or, option_or, option_map, option_map_or}
 use Rattle.std.specs.Str.{bytes_eq}
 use Rattle.std.specs.declared.cmp.Ordering.{Ordering}
 use Rattle.std.specs.Ordering.{is_eq, nat_cmp, bool_cmp, int_cmp}
@@ -11,7 +11,8 @@ use Rattle.qs_terms.specs.Literal as lit
 use Rattle.qs_terms.specs.Literal.{xsd_string, xsd_integer, xsd_boolean}
 use Rattle.qs_terms.specs.Term.{same_term}
 use Rattle.qs_terms.specs.declared.term.Term.{Term}
-use Rattle.qs_terms.specs.declared.term.Term.TheVariants.{Iri, Blank, Literal}
+use Rattle.qs_terms.specs.declared.term.Term.TheVariants.{Literal}
+use Rattle.qs_expr_values.specs.Text.{is_not_empty}
 use Rattle.qs_expr_values.specs.Number.{whole_number, integer_of, canonical}
 
 -- ---- forms and values
@@ -30,32 +31,17 @@ pub data Worth : Type 0 where
   text : List ℕ → Worth
   other : Worth
 
-abbrev pub integer_or_other : Option ℤ → Worth
-integer_or_other (Some z) = integer z
-integer_or_other None = other
-
-abbrev pub boolean_or_other : Option Bool → Worth
-boolean_or_other (Some b) = boolean b
-boolean_or_other None = other
-
-abbrev pub worth_of_literal : List ℕ → List ℕ → Worth
-worth_of_literal form datatype =
-    if bytes_eq datatype xsd_integer then integer_or_other (integer_of form)
-    else (if bytes_eq datatype xsd_boolean then boolean_or_other (boolean_of form)
-    else (if bytes_eq datatype xsd_string then text form else other))
-
 abbrev pub worth : Term → Worth
-worth (Literal l) = worth_of_literal l.form l.datatype
+worth (Literal l) =
+    if bytes_eq l.datatype xsd_integer then option_map_or integer (integer_of l.form) other
+    else (if bytes_eq l.datatype xsd_boolean then option_map_or boolean (boolean_of l.form) other
+    else (if bytes_eq l.datatype xsd_string then text l.form else other))
 worth _ = other
 
 -- ---- terms that are computed
 
-abbrev pub boolean_form : Bool → List ℕ
-boolean_form true = codes "true"
-boolean_form false = codes "false"
-
 abbrev pub boolean_term : Bool → Term
-boolean_term b = Literal (lit.typed (boolean_form b) xsd_boolean)
+boolean_term b = Literal (lit.typed (if b then codes "true" else codes "false") xsd_boolean)
 
 abbrev pub integer_term : ℤ → Term
 integer_term z = Literal (lit.typed (canonical z) xsd_integer)
@@ -71,30 +57,20 @@ strung (Some tag) form =
 
 -- ---- what is true (17.2.2)
 
-abbrev pub is_true : Option Bool → Bool
-is_true None = false
-is_true (Some b) = b
-
 -- a number that is not 0, of any size; what is no number is false
 abbrev pub is_not_zero : Option ℤ → Bool
 is_not_zero None = false
 is_not_zero (Some (pos n)) = not (n == 0)
 is_not_zero (Some (negsuc n)) = true
 
-abbrev pub is_not_empty : List ℕ → Bool
-is_not_empty [] = false
-is_not_empty (c ∷ cs) = true
-
 -- of a boolean its value, of an integer whether it isn't 0, of a string, with a tag or without,
 -- whether it isn't empty; else an error; an ill-formed boolean or integer is false
-abbrev pub ebv_of_literal : List ℕ → List ℕ → Option (List ℕ) → Option Bool
-ebv_of_literal form datatype tag =
-    if bytes_eq datatype xsd_boolean then Some (is_true (boolean_of form))
-    else (if bytes_eq datatype xsd_integer then Some (is_not_zero (whole_number form))
-    else (if bytes_eq datatype xsd_string || is_some tag then Some (is_not_empty form) else None))
-
 abbrev pub ebv : Term → Option Bool
-ebv (Literal l) = ebv_of_literal l.form l.datatype l.tag
+ebv (Literal l) =
+    if bytes_eq l.datatype xsd_boolean then Some (unwrap_or (boolean_of l.form) false)
+    else (if bytes_eq l.datatype xsd_integer then Some (is_not_zero (whole_number l.form))
+    else (if bytes_eq l.datatype xsd_string || is_some l.tag then Some (is_not_empty l.form)
+    else None))
 ebv _ = None
 
 -- ---- comparisons (17.3 and 17.4.1.7)
@@ -117,10 +93,6 @@ abbrev pub equal_terms : Term → Term → Option Bool
 equal_terms a b = if same_term a b then Some true
     else (if is_literal a && is_literal b then None else Some false)
 
-abbrev pub by_order : Option Ordering → Option Bool → Option Bool
-by_order (Some o) x = Some (is_eq o)
-by_order None x = x
-
 -- `=`: by value where both have values of one kind, and else as terms
 abbrev pub equal : Term → Term → Option Bool
-equal a b = by_order (compare (worth a) (worth b)) (equal_terms a b)
+equal a b = option_or (option_map is_eq (compare (worth a) (worth b))) (equal_terms a b)

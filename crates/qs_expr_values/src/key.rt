@@ -56,7 +56,7 @@ fn other_key(
     tag: Option<&str>,
 ) -> Result<Key, AllocError>
     ensures { IfOk result
-        (λ k. k ≡ spec.other_key form.now datatype.now (option_copied tag.entry)) }
+        (λ k. k ≡ inner.other_key form.now datatype.now (option_copied tag.entry)) }
 {
     let datatype = Text::new(alloc, datatype)?;
     let form = Text::new(alloc, form)?;
@@ -66,9 +66,9 @@ fn other_key(
 
 // The key of a term of these parts that is worth nothing.
 fn plain_key(alloc: Global, parts: Parts<'_>) -> Result<Key, AllocError>
-    ensures key { IfOk result (λ k. k ≡ spec.plain_key (parts_of parts.entry)) }
+    ensures key { IfOk result (λ k. k ≡ inner.plain_key (parts_of parts.entry)) }
     ensures memory { OnErr result
-        (IsTrue (inner.has_text (spec.plain_key (parts_of parts.entry)))) }
+        (IsTrue (inner.has_text (inner.plain_key (parts_of parts.entry)))) }
 {
     match parts {
         Parts::Iri(text) => Ok(Key::Iri(Text::new(alloc, text)?)),

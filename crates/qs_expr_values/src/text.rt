@@ -5,6 +5,7 @@ ghost use Rattle.std.specs.List.{starts_with, ends_with};
 ghost use Rattle.std.specs.Str.{chars};
 ghost use Rattle.qs_terms.specs.Tag.{lowered};
 ghost use Rattle.qs_expr_values.specs.Text as spec;
+ghost use Rattle.qs_expr_values.specs.inner.Text as inner_spec;
 
 use memchr::memmem;
 
@@ -56,7 +57,7 @@ fn begins_with_range(range: &[u8], tag: &[u8]) -> bool
 
 // Whether the range is `*`, and the tag has something.
 fn is_any_range(range: &str, tag: &str) -> bool
-    ensures { result ≡ spec.is_any_range range.now tag.now }
+    ensures { result ≡ inner_spec.is_any_range range.now tag.now }
 {
     !tag.is_empty() && range == "*"
 }

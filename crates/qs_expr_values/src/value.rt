@@ -5,6 +5,8 @@ ghost use Rattle.std.specs.Option.{option_copied};
 ghost use Rattle.qs_terms.specs.declared.term.Term.TheVariants as rdf;
 ghost use Rattle.qs_expr_values.specs.Number.{canonical};
 ghost use Rattle.qs_expr_values.specs.Values as spec;
+ghost use Rattle.qs_expr_values.specs.Text as spec_text;
+ghost use Rattle.qs_expr_values.specs.inner.Values as inner_spec;
 ghost use Rattle.qs_expr_values.specs.inner.Value.{term_of};
 
 use crate::datatype::Datatype;
@@ -38,7 +40,7 @@ pub enum Value<'a> {
 }
 
 pub(crate) fn is_not_empty(text: &str) -> bool
-    ensures { result ≡ spec.is_not_empty text.now }
+    ensures { result ≡ spec_text.is_not_empty text.now }
 {
     !text.is_empty()
 }
@@ -87,7 +89,7 @@ pub fn ebv(value: &Value<'_>) -> Option<bool>
 
 /// The form that a boolean is written in.
 pub fn boolean_form(truth: bool) -> &'static str
-    ensures { result.now ≡ spec.boolean_form truth }
+    ensures { result.now ≡ inner_spec.boolean_form truth }
 {
     if truth { "true" } else { "false" }
 }

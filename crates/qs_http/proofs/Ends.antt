@@ -1,10 +1,14 @@
 -- The search for the head's end goes on where it stopped.
 use Rattle.std.proofs.Common.{suc, one-add, take, not, ◌||◌, ◌&&◌, ◌==◌, ◌≡◌, ℕ, ◌+◌, ◌<◌, Bool, true, false, List, [], ◌∷◌, ◌++◌, length, get_or, drop, refl, ap, sym, ◌∙◌, arith, if◌then◌else◌, Option, None, Some}
 use Rattle.std.proofs.lemmas.List.{drop_more}
-use Rattle.std.proofs.lemmas.Bool.{cond-true, cond-false, true≢false}
+use Rattle.std.proofs.lemmas.Bool.{cond-true, cond-false, true≢false, eq-eqb, eqb-true}
+use Rattle.std.specs.Prelude.{nat_eq}
+use Rattle.std.specs.List.{starts_with}
+use Rattle.std.proofs.Math.Dec.{eqb}
 use Rattle.qs_http.specs.declared.head_end.HeadState.{HeadState}
 use Rattle.qs_http.specs.declared.head_end.HeadState.TheVariants.{Leading, Line, Feed, FeedReturn}
-use Rattle.qs_http.specs.HeadEnd.{later, is_line_break, leading, without_leading, begins_with_feed, begins_with_return_feed, end_of_head, head_limit, head_end}
+use Rattle.qs_http.specs.HeadEnd.{leading, without_leading, end_of_head, head_limit, head_end}
+use Rattle.qs_http.specs.inner.HeadEnd.{later, is_line_break, begins_with_feed, begins_with_return_feed}
 use Rattle.qs_http.specs.inner.HeadState.{place_after, ends_head, end_from, place_from}
 
 pub later-zero : (o : Option ℕ) → later 0 o ≡ o
@@ -143,13 +147,43 @@ record Finds (bytes : List ℕ) : Type 0 where
   feed : end_from Feed bytes ≡ after_feed bytes
   feed_return : end_from FeedReturn bytes ≡ after_return bytes
 
-end_of_head-other : (b : ℕ) (bytes : List ℕ) → (b == 10) ≡ false → end_of_head (b ∷ bytes) ≡ later 1 (end_of_head bytes)
+-- the first bytes, compared in one go or byte by byte
+swapped : (a b : ℕ) (x y : Bool) → eqb a b ≡ x → eqb b a ≡ y → eqb a b ≡ eqb b a
+swapped a b true true p q = p ∙ sym q
+swapped a b false false p q = p ∙ sym q
+swapped a b true false p q = absurd (true≢false (sym (eq-eqb b a (sym (eqb-true a b p))) ∙ q))
+swapped a b false true p q = absurd (true≢false (sym (eq-eqb a b (sym (eqb-true b a q))) ∙ p))
+
+is_byte : (n b : ℕ) → eqb n b ≡ (b == n)
+is_byte n b = swapped n b (eqb n b) (eqb b n) refl refl
+
+and_true : (b : Bool) → (b && true) ≡ b
+and_true true = refl
+and_true false = refl
+
+begins_feed : (bytes : List ℕ) → starts_with nat_eq bytes (10 ∷ []) ≡ begins_with_feed bytes
+begins_feed [] = refl
+begins_feed (b ∷ bytes) = and_true (eqb 10 b) ∙ is_byte 10 b
+
+begins_return_feed : (bytes : List ℕ) → starts_with nat_eq bytes (13 ∷ 10 ∷ []) ≡ begins_with_return_feed bytes
+begins_return_feed [] = refl
+begins_return_feed (b ∷ bytes) = ap (λ (x : Bool). x && starts_with nat_eq bytes (10 ∷ [])) (is_byte 13 b) ∙ ap (λ (x : Bool). (b == 13) && x) (begins_feed bytes)
+
+end_of_head-on : (b : ℕ) (bytes : List ℕ)
+    → end_of_head (b ∷ bytes)
+    ≡ (if b == 10 && begins_with_feed bytes then Some 2 else (if b == 10 && begins_with_return_feed bytes then Some 3 else later 1 (end_of_head bytes)))
 unfolding end_of_head
-end_of_head-other b bytes other = rw other refl
+end_of_head-on b bytes =
+    ap (λ (x : Bool). if x && starts_with nat_eq bytes (10 ∷ []) then Some 2 else (if x && starts_with nat_eq bytes (13 ∷ 10 ∷ []) then Some 3 else later 1 (end_of_head bytes))) (is_byte 10 b)
+    ∙ ap (λ (x : Bool). if b == 10 && x then Some 2 else (if b == 10 && starts_with nat_eq bytes (13 ∷ 10 ∷ []) then Some 3 else later 1 (end_of_head bytes))) (begins_feed bytes)
+    ∙ ap (λ (x : Bool). if b == 10 && begins_with_feed bytes then Some 2 else (if b == 10 && x then Some 3 else later 1 (end_of_head bytes))) (begins_return_feed bytes)
+
+end_of_head-other : (b : ℕ) (bytes : List ℕ) → (b == 10) ≡ false → end_of_head (b ∷ bytes) ≡ later 1 (end_of_head bytes)
+end_of_head-other b bytes other = end_of_head-on b bytes ∙ (rw other refl)
 
 end_of_head-feed : (b : ℕ) (bytes : List ℕ) → (b == 10) ≡ true → end_of_head (b ∷ bytes) ≡ later 1 (after_feed bytes)
-unfolding end_of_head after_feed
-end_of_head-feed b bytes is = rw is (by_next (begins_with_feed bytes) (begins_with_return_feed bytes) (end_of_head bytes))
+unfolding after_feed
+end_of_head-feed b bytes is = end_of_head-on b bytes ∙ (rw is (by_next (begins_with_feed bytes) (begins_with_return_feed bytes) (end_of_head bytes)))
   where
     by_next : (feed return_feed : Bool) (rest : Option ℕ)
         → (if feed then Some 2 else (if return_feed then Some 3 else later 1 rest)) ≡ later 1 (if feed then Some 1 else (if return_feed then Some 2 else rest))

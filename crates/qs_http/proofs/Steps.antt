@@ -11,15 +11,19 @@ use Rattle.qs_http.specs.declared.fixed_reply.Fixed.{Fixed}
 use Rattle.qs_http.specs.declared.fixed_reply.Fixed.TheVariants.{HeadTooLarge, BadRequest, Memory}
 use Rattle.qs_http.specs.declared.request.Request.{Request}
 use Rattle.qs_http.specs.Outcome.{Outcome, More, Ready, Refused}
-use Rattle.qs_http.specs.HeadEnd.{later, head_end, head_limit, without_leading, leading}
+use Rattle.qs_http.specs.HeadEnd.{head_end, head_limit, without_leading, leading}
+use Rattle.qs_http.specs.inner.HeadEnd.{later}
 use Rattle.qs_http.specs.inner.HeadState.{place_after, ends_head, end_from, place_from}
 use Rattle.qs_http.specs.Head.{Head, is_get, is_post, at_query, at_update, at_data, body_length}
-use Rattle.qs_http.specs.Checks.{first_due, head_checks, lacks_host, is_unknown_path, query_method_not_allowed, update_method_not_allowed, data_method_not_allowed, lacks_length, has_bad_length, has_long_body}
-use Rattle.qs_http.specs.RequestOf.{IsReading, ReadsHead, outcome_at, of_reading, of_sound_head, of_body, unless_due, IsRequestOf}
+use Rattle.qs_http.specs.Checks.{first_due, head_checks}
+use Rattle.qs_http.specs.inner.Checks.{lacks_host, is_unknown_path, query_method_not_allowed, update_method_not_allowed, data_method_not_allowed, lacks_length, has_bad_length, has_long_body}
+use Rattle.qs_http.specs.RequestOf.{IsReading, of_reading, of_sound_head, of_body, IsRequestOf}
+use Rattle.qs_http.specs.inner.RequestOf.{ReadsHead, outcome_at}
+use Rattle.qs_http.specs.inner.RequestOf.{unless_due}
 use Rattle.qs_http.specs.inner.Stage.{AwaitsBody, EndsAt, IsStep, IsHeadStep}
 use Rattle.qs_http.specs.inner.Feeding.{Seen, Reading, Done, seen_at, StandsAt, Feeds, FeedsAll}
 use Rattle.qs_http.specs.inner.Laws.{joined}
-use Rattle.qs_http.proofs.RequestLaws.{reading_unique}
+use Rattle.qs_http.proofs.RequestLaws.{reading_unique, parts_of, of_parts}
 use Rattle.qs_http.proofs.Ends.{Some-None, end_from-nil, end_from-append, end_from-kept, end_from-on, end_from-found, place_from-append, end_from-front, head_end-searched}
 
 take_append_case : (n : ℕ) (xs ys : List ℕ) (b : Bool) → leb n (length xs) ≡ b → take n (xs ++ ys) ≡ take n xs ++ take (n - length xs) ys
@@ -75,14 +79,14 @@ head_end-on bytes piece none short =
 -- what the bytes result in, the head's end known
 pub request_at : (bytes : List ℕ) (end : ℕ) (reading : Option Head) (outcome : Outcome) → head_end bytes ≡ Some end
     → IsReading (without_leading (take end bytes)) reading → outcome ≡ of_reading reading (drop end bytes) → IsRequestOf bytes outcome
-request_at bytes end reading outcome ends reads is = record {
+request_at bytes end reading outcome ends reads is = of_parts bytes outcome record {
   reading = reading;
   reads = subst (λ (o : Option ℕ). ReadsHead bytes o reading) (sym ends) reads;
   is = is ∙ ap (λ (o : Option ℕ). outcome_at o reading bytes) (sym ends);
 }
 
 pub request_before : (bytes : List ℕ) → head_end bytes ≡ None → length bytes < head_limit → IsRequestOf bytes More
-request_before bytes none short = record {
+request_before bytes none short = of_parts bytes More record {
   reading = None;
   reads = subst (λ (o : Option ℕ). ReadsHead bytes o None) (sym none) refl;
   is = sym (cond-false _ _ _ (is_short (leb head_limit (length bytes)) refl)) ∙ ap (λ (o : Option ℕ). outcome_at o None bytes) (sym none);
@@ -93,7 +97,7 @@ request_before bytes none short = record {
     is_short true is = absurd (omega (arith, leb-true head_limit (length bytes) is))
 
 pub request_too_long : (bytes : List ℕ) → head_end bytes ≡ None → head_limit ≤ length bytes → IsRequestOf bytes (Refused HeadTooLarge)
-request_too_long bytes none long = record {
+request_too_long bytes none long = of_parts bytes (Refused HeadTooLarge) record {
   reading = None;
   reads = subst (λ (o : Option ℕ). ReadsHead bytes o None) (sym none) refl;
   is = sym (cond-true _ _ _ (le-leb head_limit (length bytes) long)) ∙ ap (λ (o : Option ℕ). outcome_at o None bytes) (sym none);
@@ -174,26 +178,6 @@ pub none_due : (due : Bool) (fixed : Fixed) (rest : Option Fixed) → (if due th
 none_due true fixed rest none = absurd (Some-None none)
 none_due false fixed rest none = (refl, none)
 
-from_elsewhere : (h : Head) → is_unknown_path h ≡ false → not (at_query h || at_update h || at_data h) ≡ false
-unfolding is_unknown_path
-from_elsewhere h e = e
-
-from_query : (h : Head) → query_method_not_allowed h ≡ false → (at_query h && not (is_get h || is_post h)) ≡ false
-unfolding query_method_not_allowed
-from_query h e = e
-
-from_update : (h : Head) → update_method_not_allowed h ≡ false → (at_update h && not (is_post h)) ≡ false
-unfolding update_method_not_allowed
-from_update h e = e
-
-from_data : (h : Head) → data_method_not_allowed h ≡ false → (at_data h && not (is_get h)) ≡ false
-unfolding data_method_not_allowed
-from_data h e = e
-
-from_long : (h : Head) → has_long_body h ≡ false → (is_post h && ltb 4194304 (body_length h)) ≡ false
-unfolding has_long_body
-from_long h e = e
-
 no_path : (query update data_path get : Bool) → get ≡ false → not (query || update || data_path) ≡ false
     → (query && not (get || false)) ≡ false → (update && not false) ≡ false → (data_path && not get) ≡ false → ⊥
 no_path true u d false g e q v w = true≢false q
@@ -210,6 +194,7 @@ short_from h query update data_path get false true g e q u d l is = absurd (no_p
 short_from h query update data_path get true true g e q u d l is = absurd (true≢false l)
 
 pub sound_length : (h : Head) → first_due (head_checks h) ≡ None → is_get h ≡ false → body_length h ≤ 4194304
+unfolding lacks_host is_unknown_path query_method_not_allowed update_method_not_allowed data_method_not_allowed lacks_length has_bad_length has_long_body
 sound_length h none posts =
     let r0 = none_due (lacks_host h) _ _ none in
     let r1 = none_due (is_unknown_path h) _ _ r0.1 in
@@ -219,7 +204,7 @@ sound_length h none posts =
     let r5 = none_due (lacks_length h) _ _ r4.1 in
     let r6 = none_due (has_bad_length h) _ _ r5.1 in
     let r7 = none_due (has_long_body h) _ _ r6.1 in
-    short_from h (at_query h) (at_update h) (at_data h) (is_get h) (is_post h) (ltb 4194304 (body_length h)) posts (from_elsewhere h r1.0) (from_query h r2.0) (from_update h r3.0) (from_data h r4.0) (from_long h r7.0) refl
+    short_from h (at_query h) (at_update h) (at_data h) (is_get h) (is_post h) (ltb 4194304 (body_length h)) posts r1.0 r2.0 r3.0 r4.0 r7.0 refl
 
 -- once they result in something, further bytes don't change it
 sound_kept : (h : Head) (behind more : List ℕ) (get short : Bool) → is_get h ≡ get → ltb (length behind) (body_length h) ≡ short
@@ -264,7 +249,9 @@ kept_by_end bytes more outcome (Some end) ends done reading reads is =
     (is ∙ sym (ap (of_reading reading) (drop-append-le end bytes more within) ∙ reading_kept reading (drop end bytes) more (λ e. done (is ∙ e))))
 
 pub request_kept : (bytes more : List ℕ) (outcome : Outcome) → IsRequestOf bytes outcome → (outcome ≡ More → ⊥) → IsRequestOf (bytes ++ more) outcome
-request_kept bytes more outcome x done = kept_by_end bytes more outcome (head_end bytes) refl done x.reading x.reads x.is
+request_kept bytes more outcome h done =
+    let x = parts_of bytes outcome h in
+    kept_by_end bytes more outcome (head_end bytes) refl done x.reading x.reads x.is
 
 -- a piece brings the head's end
 pub head_ends : (bytes piece front last : List ℕ) (before room found : ℕ) (place : HeadState) → before ≡ length bytes

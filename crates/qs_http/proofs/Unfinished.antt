@@ -9,8 +9,12 @@ use Rattle.qs_http.specs.Outcome.{Outcome, More, Ready, Refused}
 use Rattle.qs_http.specs.HeadEnd.{head_end, head_limit}
 use Rattle.qs_http.specs.Head.{Head, is_get, is_form, at_query, at_data, body_length}
 use Rattle.qs_http.specs.Checks.{first_due, head_checks}
-use Rattle.qs_http.specs.Parameters.{of_text, of_pairs, only_value}
-use Rattle.qs_http.specs.RequestOf.{IsRequestOf, outcome_at, of_reading, of_sound_head, of_body, of_get, unless_due}
+use Rattle.qs_http.specs.Parameters.{of_pairs, only_value}
+use Rattle.qs_http.specs.inner.Parameters.{of_text}
+use Rattle.qs_http.specs.RequestOf.{IsRequestOf, of_reading, of_sound_head, of_body, of_get}
+use Rattle.qs_http.specs.inner.RequestOf.{outcome_at}
+use Rattle.qs_http.specs.inner.RequestOf.{unless_due}
+use Rattle.qs_http.proofs.RequestLaws.{parts_of}
 use Rattle.qs_http.proofs.Steps.{sound_length, head_end_short}
 
 refused_more : (fixed : Fixed) → Refused fixed ≡ More → ⊥
@@ -66,4 +70,6 @@ short_by_end bytes (Some end) ends reading is =
     omega (arith, reading_short reading (drop end bytes) (sym is), head_end_short bytes end ends, length-drop end bytes)
 
 pub more_is_short : (bytes : List ℕ) → IsRequestOf bytes More → length bytes < 4210688
-more_is_short bytes r = short_by_end bytes (head_end bytes) refl r.reading r.is
+more_is_short bytes h =
+    let r = parts_of bytes More h in
+    short_by_end bytes (head_end bytes) refl r.reading r.is

@@ -7,7 +7,7 @@ use Rattle.std.specs.Str.Parse.{digits_value_after}
 use Rattle.std.specs.Char.{digit_value}
 use Rattle.httparse.specs.declared.spans.HeaderSpan.{HeaderSpan}
 use Rattle.httparse.specs.Spans.{span_bytes, header_bytes}
-use Rattle.qs_http.specs.Head.{values_in}
+use Rattle.qs_http.specs.inner.HeadView.{values_in}
 
 pub values_in-append : (name : List ℕ) (xs ys : List (List ℕ × List ℕ)) → values_in name (xs ++ ys) ≡ values_in name xs ++ values_in name ys
 unfolding values_in

@@ -17,25 +17,16 @@ pub record Head : Type 0 where
 
 -- the same of a head as the parser's grammar reads it
 abbrev pub plain_head : RequestHead → Head
-plain_head h =
-    record {
-      method = h.method;
-      target = h.target;
-      minor = h.minor;
-      fields = map name_and_value
-          h.fields;
-    }
+plain_head h = record {
+  method = h.method;
+  target = h.target;
+  minor = h.minor;
+  fields = map name_and_value h.fields;
+}
 
 -- the values of the fields of that name, ASCII case aside (RFC 9110, 5.1)
-unfoldable pub values_in : List ℕ → List (List ℕ × List ℕ) → List (List ℕ)
-values_in name fields = map (λ f. f.1) (filter (λ f. str_eq_ignore_ascii_case name f.0) fields)
-
-abbrev pub values_of : List ℕ → Head → List (List ℕ)
-values_of name h = values_in name h.fields
-
--- there is one, and no other
-abbrev pub has_one : List (List ℕ) → Bool
-has_one values = length values == 1
+unfoldable pub values_of : List ℕ → Head → List (List ℕ)
+values_of name h = map (λ f. f.1) (filter (λ f. str_eq_ignore_ascii_case name f.0) h.fields)
 
 abbrev pub first_of : List (List ℕ) → List ℕ
 first_of [] = []
@@ -80,13 +71,10 @@ is_direct h =
     str_eq_ignore_ascii_case (media_of h) (if at_query h then codes "application/sparql-query"
     else codes "application/sparql-update")
 
-abbrev pub lengths : Head → List (List ℕ)
-lengths h = values_of (codes "content-length") h
-
 -- digits alone, and at least one (RFC 9110, 8.6)
 abbrev pub is_number : List ℕ → Bool
 is_number value = nat_lt 0 (length value) && list_all is_ascii_digit value
 
 -- the number that the first Content-Length writes
 unfoldable pub body_length : Head → ℕ
-body_length h = digits_value 10 (first_of (lengths h))
+body_length h = digits_value 10 (first_of (values_of (codes "content-length") h))

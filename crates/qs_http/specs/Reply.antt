@@ -25,56 +25,37 @@ media_text NTriples = codes "application/n-triples"
 media_text NQuads = codes "application/n-quads"
 media_text Text = codes "text/plain; charset=utf-8"
 
-unfoldable pub status_line : ℕ → List ℕ → List ℕ
-status_line status phrase = line (codes "HTTP/1.1 " ++ decimal status ++ codes " " ++ phrase)
+-- of a status code and its phrase
+unfoldable pub status_line : ℕ × List ℕ → List ℕ
+status_line status = line (codes "HTTP/1.1 " ++ decimal status.0 ++ codes " " ++ status.1)
 
 unfoldable pub closing : List ℕ
 closing = line (codes "Connection: close")
 
--- the type and the length of a body of so many bytes, and an empty line
-unfoldable pub body_fields : Media → ℕ → List ℕ
-body_fields media size =
+-- the type and the length of a body, an empty line, and the body
+unfoldable pub with_body : Media → List ℕ → List ℕ
+with_body media body =
     line (codes "Content-Type: " ++ media_text media)
-    ++ line (codes "Content-Length: " ++ decimal size)
-    ++ line []
-
--- these and the body
-abbrev pub with_body : Media → List ℕ → List ℕ
-with_body media body = body_fields media (length body) ++ body
-
--- all that stands before the body in a reply with that status and type, and a body of so many bytes
-unfoldable pub head_of : ℕ → Media → ℕ → List ℕ
-head_of status m size = status_line status (phrase_of status) ++ closing ++ body_fields m size
+    ++ line (codes "Content-Length: " ++ decimal (length body))
+    ++ line [] ++ body
 
 -- a reply with that status, type and body
 unfoldable pub reply_of : ℕ → Media → List ℕ → List ℕ
-reply_of status media body = head_of status media (length body) ++ body
+reply_of status m body = status_line (status, phrase_of status) ++ closing ++ with_body m body
 
-abbrev pub status_of : Fixed → ℕ
-status_of NoContent = 204
-status_of BadRequest = 400
-status_of NotFound = 404
-status_of QueryMethod = 405
-status_of UpdateMethod = 405
-status_of DataMethod = 405
-status_of NoLength = 411
-status_of BodyTooLarge = 413
-status_of MediaType = 415
-status_of HeadTooLarge = 431
-status_of Memory = 500
-
-abbrev pub fixed_phrase : Fixed → List ℕ
-fixed_phrase NoContent = codes "No Content"
-fixed_phrase BadRequest = codes "Bad Request"
-fixed_phrase NotFound = codes "Not Found"
-fixed_phrase QueryMethod = codes "Method Not Allowed"
-fixed_phrase UpdateMethod = codes "Method Not Allowed"
-fixed_phrase DataMethod = codes "Method Not Allowed"
-fixed_phrase NoLength = codes "Length Required"
-fixed_phrase BodyTooLarge = codes "Payload Too Large"
-fixed_phrase MediaType = codes "Unsupported Media Type"
-fixed_phrase HeadTooLarge = codes "Request Header Fields Too Large"
-fixed_phrase Memory = codes "Internal Server Error"
+-- the status of a fixed reply and its phrase (RFC 9110, 15; RFC 6585, 5)
+abbrev pub status_of : Fixed → ℕ × List ℕ
+status_of NoContent = (204, codes "No Content")
+status_of BadRequest = (400, codes "Bad Request")
+status_of NotFound = (404, codes "Not Found")
+status_of QueryMethod = (405, codes "Method Not Allowed")
+status_of UpdateMethod = (405, codes "Method Not Allowed")
+status_of DataMethod = (405, codes "Method Not Allowed")
+status_of NoLength = (411, codes "Length Required")
+status_of BodyTooLarge = (413, codes "Payload Too Large")
+status_of MediaType = (415, codes "Unsupported Media Type")
+status_of HeadTooLarge = (431, codes "Request Header Fields Too Large")
+status_of Memory = (500, codes "Internal Server Error")
 
 -- the methods that the path has, where it lacks the request's (RFC 9110, 10.2.1)
 abbrev pub allow_line : Fixed → List ℕ
@@ -86,7 +67,7 @@ allow_line fixed = []
 -- the phrase again, or the fault line, and an LF
 abbrev pub fixed_body : Fixed → List ℕ
 fixed_body Memory = codes "F9 out of memory" ++ 10 ∷ []
-fixed_body fixed = fixed_phrase fixed ++ 10 ∷ []
+fixed_body fixed = (status_of fixed).1 ++ 10 ∷ []
 
 -- No Content has no body, and neither type nor length of one (RFC 9110, 8.6 and 15.3.5)
 abbrev pub fixed_rest : Fixed → List ℕ
@@ -95,5 +76,4 @@ fixed_rest fixed = with_body Text (fixed_body fixed)
 
 -- the reply that is the same bytes each time
 unfoldable pub fixed_of : Fixed → List ℕ
-fixed_of fixed = status_line (status_of fixed) (fixed_phrase fixed) ++ closing ++ allow_line fixed
-    ++ fixed_rest fixed
+fixed_of fixed = status_line (status_of fixed) ++ closing ++ allow_line fixed ++ fixed_rest fixed

@@ -2,10 +2,10 @@
 -- six checks in their order. The first that fails decides the reply: the head's length, its grammar
 -- and Host, its path, its method, its body's length and media type, its parameters.
 use Rattle.std.specs.Prelude.{◌≡◌, ℕ, ◌≤◌, ◌<◌, not, ◌&&◌, nat_lt, nat_le, if◌then◌else◌, List, []}
-use Rattle.std.specs.Prelude.{length, take, drop, codes, Option, None, Some}
+use Rattle.std.specs.Prelude.{length, take, drop, codes, Option, None, Some, option_map, unwrap_or}
+use Rattle.std.specs.Prelude.{MatchOption}
 use Rattle.std.specs.Str.{is_utf8}
 use Rattle.httparse.specs.Grammar.{RequestHead, ReadsRequest}
-use Rattle.qs_http.specs.declared.fixed_reply.Fixed.{Fixed}
 use Rattle.qs_http.specs.declared.fixed_reply.Fixed.TheVariants.{BadRequest, HeadTooLarge}
 use Rattle.qs_http.specs.declared.request.Request.TheVariants.{Query, Update, Dump}
 use Rattle.qs_http.specs.Outcome.{Outcome, More, Ready, Refused}
@@ -42,27 +42,15 @@ of_sound_head h behind =
     else (if nat_lt (length behind) (body_length h) then More
     else of_body h (take (body_length h) behind))
 
-abbrev pub unless_due : Option Fixed → Outcome → Outcome
-unless_due None outcome = outcome
-unless_due (Some fixed) outcome = Refused fixed
-
 -- the second check is the reading itself, and the first of `head_checks`
 abbrev pub of_reading : Option Head → List ℕ → Outcome
 of_reading None behind = Refused BadRequest
-of_reading (Some h) behind = unless_due (first_due (head_checks h)) (of_sound_head h behind)
+of_reading (Some h) behind =
+    unwrap_or (option_map Refused (first_due (head_checks h))) (of_sound_head h behind)
 
--- the first check: the head ends within its limit
-abbrev pub outcome_at : Option ℕ → Option Head → List ℕ → Outcome
-outcome_at None r bytes = if nat_le head_limit (length bytes) then Refused HeadTooLarge else More
-outcome_at (Some end) r bytes = of_reading r (drop end bytes)
-
--- how the head reads, where it has ended
-abbrev pub ReadsHead : List ℕ → Option ℕ → Option Head → Type 0
-ReadsHead bytes None reading = reading ≡ None
-ReadsHead bytes (Some end) reading = IsReading (without_leading (take end bytes)) reading
-
--- the bytes result in this
-pub record IsRequestOf (bytes : List ℕ) (outcome : Outcome) : Type 0 where
-  pub reading : Option Head
-  pub reads : ReadsHead bytes (head_end bytes) reading
-  pub is : outcome ≡ outcome_at (head_end bytes) reading bytes
+-- the bytes result in this: the first check is that the head ends within its limit
+unfoldable pub IsRequestOf : List ℕ → Outcome → Type 0
+IsRequestOf bytes outcome = MatchOption (head_end bytes)
+    (outcome ≡ (if nat_le head_limit (length bytes) then Refused HeadTooLarge else More))
+    (λ end. (reading : Option Head) × IsReading (without_leading (take end bytes)) reading
+    × (outcome ≡ of_reading reading (drop end bytes)))

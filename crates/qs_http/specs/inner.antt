@@ -5,3 +5,7 @@ pub mod Feeding
 pub mod Laws
 pub mod Stage
 pub mod Reply
+pub mod HeadEnd
+pub mod Checks
+pub mod Parameters
+pub mod RequestOf

@@ -8,9 +8,11 @@ use crate::head::Head;
 
 impl<'b> Head<'b> {
     ghost use Rattle.qs_http.specs.inner.HeadView.{plain, IsSound};
-    ghost use Rattle.qs_http.specs.Checks.{first_due, head_checks, lacks_host, is_unknown_path, query_method_not_allowed, update_method_not_allowed, data_method_not_allowed, lacks_length, has_bad_length, has_long_body, has_other_media};
+    ghost use Rattle.qs_http.specs.Checks.{first_due, head_checks};
+    ghost use Rattle.qs_http.specs.inner.Checks.{lacks_host, is_unknown_path, query_method_not_allowed, update_method_not_allowed, data_method_not_allowed, lacks_length, has_bad_length, has_long_body, has_other_media};
 
     /// The first check that fails.
+    #[tactic(auto, unfolding(crate::specs::inner::Checks::lacks_host, crate::specs::inner::Checks::is_unknown_path, crate::specs::inner::Checks::query_method_not_allowed, crate::specs::inner::Checks::update_method_not_allowed, crate::specs::inner::Checks::data_method_not_allowed, crate::specs::inner::Checks::lacks_length, crate::specs::inner::Checks::has_bad_length, crate::specs::inner::Checks::has_long_body, crate::specs::inner::Checks::has_other_media))]
     pub fn due(&self) -> Option<Fixed>
         requires { IsSound self.now }
         ensures { result ≡ first_due (head_checks (plain self.now)) }
@@ -38,7 +40,7 @@ impl<'b> Head<'b> {
         }
     }
 
-    #[tactic(auto, unfolding(crate::specs::Checks::lacks_host))]
+    #[tactic(auto, unfolding(crate::specs::inner::Checks::lacks_host))]
     fn lacks_host(&self) -> bool
         requires { IsSound self.now }
         ensures { result ≡ lacks_host (plain self.now) }
@@ -46,7 +48,7 @@ impl<'b> Head<'b> {
         self.spans.version == 1 && self.values(b"host").count != 1
     }
 
-    #[tactic(auto, unfolding(crate::specs::Checks::is_unknown_path))]
+    #[tactic(auto, unfolding(crate::specs::inner::Checks::is_unknown_path))]
     fn is_unknown_path(&self) -> bool
         requires { IsSound self.now }
         ensures { result ≡ is_unknown_path (plain self.now) }
@@ -54,7 +56,7 @@ impl<'b> Head<'b> {
         !(self.at_query() || self.at_update() || self.at_data())
     }
 
-    #[tactic(auto, unfolding(crate::specs::Checks::query_method_not_allowed))]
+    #[tactic(auto, unfolding(crate::specs::inner::Checks::query_method_not_allowed))]
     fn query_method_not_allowed(&self) -> bool
         requires { IsSound self.now }
         ensures { result ≡ query_method_not_allowed (plain self.now) }
@@ -62,7 +64,7 @@ impl<'b> Head<'b> {
         self.at_query() && !(self.is_get() || self.is_post())
     }
 
-    #[tactic(auto, unfolding(crate::specs::Checks::update_method_not_allowed))]
+    #[tactic(auto, unfolding(crate::specs::inner::Checks::update_method_not_allowed))]
     fn update_method_not_allowed(&self) -> bool
         requires { IsSound self.now }
         ensures { result ≡ update_method_not_allowed (plain self.now) }
@@ -70,7 +72,7 @@ impl<'b> Head<'b> {
         self.at_update() && !self.is_post()
     }
 
-    #[tactic(auto, unfolding(crate::specs::Checks::data_method_not_allowed))]
+    #[tactic(auto, unfolding(crate::specs::inner::Checks::data_method_not_allowed))]
     fn data_method_not_allowed(&self) -> bool
         requires { IsSound self.now }
         ensures { result ≡ data_method_not_allowed (plain self.now) }
@@ -78,7 +80,7 @@ impl<'b> Head<'b> {
         self.at_data() && !self.is_get()
     }
 
-    #[tactic(auto, unfolding(crate::specs::Checks::lacks_length))]
+    #[tactic(auto, unfolding(crate::specs::inner::Checks::lacks_length))]
     fn lacks_length(&self) -> bool
         requires { IsSound self.now }
         ensures { result ≡ lacks_length (plain self.now) }
@@ -88,7 +90,7 @@ impl<'b> Head<'b> {
                 || self.values(b"content-length").count == 0)
     }
 
-    #[tactic(auto, unfolding(crate::specs::Checks::has_bad_length))]
+    #[tactic(auto, unfolding(crate::specs::inner::Checks::has_bad_length))]
     fn has_bad_length(&self) -> bool
         requires { IsSound self.now }
         ensures { result ≡ has_bad_length (plain self.now) }
@@ -97,7 +99,7 @@ impl<'b> Head<'b> {
         self.is_post() && !(lengths.count == 1 && is_number(lengths.first))
     }
 
-    #[tactic(auto, unfolding(crate::specs::Checks::has_long_body))]
+    #[tactic(auto, unfolding(crate::specs::inner::Checks::has_long_body))]
     fn has_long_body(&self) -> bool
         requires { IsSound self.now }
         ensures { result ≡ has_long_body (plain self.now) }
@@ -105,7 +107,7 @@ impl<'b> Head<'b> {
         self.is_post() && self.body_length().is_none()
     }
 
-    #[tactic(auto, unfolding(crate::specs::Checks::has_other_media))]
+    #[tactic(auto, unfolding(crate::specs::inner::Checks::has_other_media))]
     fn has_other_media(&self) -> bool
         requires { IsSound self.now }
         ensures { result ≡ has_other_media (plain self.now) }

@@ -35,7 +35,7 @@ impl Fixed {
 
     /// The reply's status code.
     pub fn status(self) -> u16
-        ensures { result ≡ status_of self }
+        ensures { result ≡ (status_of self).0 }
     {
         match self {
             Fixed::NoContent => 204,

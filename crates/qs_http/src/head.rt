@@ -135,6 +135,7 @@ impl<'b> Head<'b> {
     }
 
     /// The values of the fields of that name.
+    #[tactic(auto, unfolding(crate::specs::Head::values_of, crate::specs::inner::HeadView::values_in))]
     pub fn values(&self, name: &[u8]) -> Values<'b>
         requires { IsSound self.now }
         ensures { AreValues result (values_of name.now (plain self.now)) }

@@ -6,7 +6,8 @@
 ghost use Rattle.std.specs.Prelude.{◌≡◌, List, ℕ, IfOk};
 ghost use Rattle.std.specs.Str.{bytes_eq};
 ghost use Rattle.qs_http.specs.declared.request.Request.{Request};
-ghost use Rattle.qs_http.specs.Parameters.{decoded, is_graph_name, has_graph, only_value, of_pairs};
+ghost use Rattle.qs_http.specs.Parameters.{decoded, has_graph, only_value, of_pairs};
+ghost use Rattle.qs_http.specs.inner.Parameters.{is_graph_name};
 ghost use Rattle.qs_http.specs.inner.Stage.{IsText};
 
 use crate::fixed_reply::Fixed;

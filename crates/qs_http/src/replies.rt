@@ -1,7 +1,8 @@
 //! The bytes of replies.
 
 ghost use Rattle.std.specs.Prelude.{◌≡◌, ◌++◌, ◌≤◌, IfOk, vec_len};
-ghost use Rattle.qs_http.specs.Reply.{line, phrase_of, status_line, body_fields, head_of, reply_of, fixed_of};
+ghost use Rattle.qs_http.specs.Reply.{line, phrase_of, status_line, reply_of, fixed_of};
+ghost use Rattle.qs_http.specs.inner.Reply.{body_fields, head_of};
 ghost use Rattle.qs_http.specs.inner.Reply.{IsReplyStatus};
 
 use crate::fixed_reply::Fixed;
@@ -46,7 +47,7 @@ pub(crate) fn reply_head(
 /// The first line of a reply that isn't fixed.
 fn status_text(status: StatusCode) -> &'static str
     requires { IsReplyStatus status }
-    ensures { result.now ≡ status_line status (phrase_of status) }
+    ensures { result.now ≡ status_line (status, phrase_of status) }
 {
     let code = status.as_u16();
     if code == 200 {

@@ -4,11 +4,11 @@ use Rattle.std.proofs.lemmas.Bool.{lt-leb, leb-true}
 use Rattle.std.proofs.Math.Dec.{leb}
 use Rattle.std.proofs.Math.Bool.{or-false}
 use Rattle.std.specs.Int.{is_in_range}
-use Rattle.qs_lex_regular.specs.Character.{is_iri_char, within, is_digit, is_base, is_pn_chars_u, is_pn_chars, is_mark_in_name, is_letter}
+use Rattle.qs_lex_regular.specs.Character.{is_iri_char, is_digit, is_base, is_pn_chars_u, is_pn_chars, is_mark_in_name, is_letter}
 use Rattle.qs_lex.specs.Table.{is_word_char}
 use Rattle.qs_lex.proofs.Apart.{apart}
 
-under : (m n c : ℕ) → c < 128 → 128 ≤ m → within m n c ≡ false
+under : (m n c : ℕ) → c < 128 → 128 ≤ m → is_in_range m n c ≡ false
 under m n c h k = let e = lt-leb m c (omega arith) in rw e refl
 
 or_right : (a b : Bool) → b ≡ false → (a || b) ≡ a

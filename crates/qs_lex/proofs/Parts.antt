@@ -18,7 +18,8 @@ use Rattle.qs_lex_escapes.proofs.SpelledEscapes.{Stands, any, pieces_stand, stri
 use Rattle.qs_lex_escapes.proofs.Spelled.{Within, spelled_pass}
 use Rattle.qs_lex_escapes.proofs.Tags.{tag_form, lawful_tag}
 use Rattle.qs_lex.specs.inner.Parts.{IsIri, IsName, IsPrefix, IsBehind, IsVariable, IsLangTag, IsString, IsMadeOf, begins_with}
-use Rattle.qs_lex.specs.Table.{table, IsToken, is_escapable, name_escape, prefix, pname_ns, local_first, local_middle, local_last, short_string, long_string}
+use Rattle.qs_lex.specs.Table.{table, is_escapable, name_escape, pname_ns, local_first, local_middle, local_last, short_string, long_string}
+use Rattle.qs_lex.specs.inner.Table.{IsToken, prefix}
 use Rattle.qs_lex.specs.declared.token.Class.{Class}
 use Rattle.qs_lex.specs.declared.token.Class.TheVariants as class
 

@@ -9,7 +9,7 @@ use Rattle.qs_lex.specs.inner.Place.{IsSliceOf, StandsBefore}
 use Rattle.qs_lex.specs.declared.token.Token.{Token}
 use Rattle.qs_lex.proofs.TokenList.{nonempty}
 use Rattle.qs_lex.proofs.Unique.{empty_token}
-use Rattle.qs_lex.specs.Table.{IsToken}
+use Rattle.qs_lex.specs.inner.Table.{IsToken}
 
 -- ---- white space and comments are a front
 

@@ -4,8 +4,10 @@ use Rattle.std.proofs.lemmas.Str.{encodes-append, encodes-chars}
 use Rattle.qs_lex_regular.specs.Longest.{LongestFront}
 use Rattle.qs_lex_regular.specs.inner.Best.{best}
 use Rattle.qs_lex_regular.proofs.Longest.{best-some, best-none}
-use Rattle.qs_lex.specs.Lexes.{Lexeme, Lexes, StopsAt, Reads, HasNoToken, IsPlace, IsLongest, skip}
-use Rattle.qs_lex.specs.Table.{table, IsToken}
+use Rattle.qs_lex.specs.Lexes.{Lexeme, Lexes, StopsAt, Reads, IsPlace, IsLongest, skip}
+use Rattle.qs_lex.specs.inner.Lexes.{HasNoToken}
+use Rattle.qs_lex.specs.Table.{table}
+use Rattle.qs_lex.specs.inner.Table.{IsToken}
 use Rattle.qs_lex.specs.declared.token.Class.{Class}
 use Rattle.qs_lex.proofs.Places.{Gap, gap}
 use Rattle.qs_lex.proofs.TokenList.{nonempty}

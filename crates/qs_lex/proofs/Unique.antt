@@ -2,8 +2,10 @@
 use Rattle.std.proofs.Common.{◌≡◌, ◌≤◌, ◌<◌, ℕ, false, List, [], ◌∷◌, ◌++◌, length, refl, sym, ap, ◌∙◌, subst, arith, encode_utf8_all, chars}
 use Rattle.std.proofs.lemmas.Str.{chars-nil}
 use Rattle.qs_lex.specs.inner.Fault.{HasToken}
-use Rattle.qs_lex.specs.Table.{table, IsToken}
-use Rattle.qs_lex.specs.Lexes.{Lexeme, Lexes, StopsAt, Reads, HasNoToken, skip}
+use Rattle.qs_lex.specs.Table.{table}
+use Rattle.qs_lex.specs.inner.Table.{IsToken}
+use Rattle.qs_lex.specs.Lexes.{Lexeme, Lexes, StopsAt, Reads, skip}
+use Rattle.qs_lex.specs.inner.Lexes.{HasNoToken}
 use Rattle.qs_lex.specs.declared.token.Class.{Class}
 use Rattle.qs_lex_regular.proofs.Longest.{one_class, here-none}
 

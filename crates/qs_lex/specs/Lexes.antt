@@ -4,7 +4,8 @@
 use Rattle.std.specs.Prelude.{◌≡◌, ◌≤◌, ◌<◌, ℕ, ◌+◌, Bool, true, false, not, cond, ◌||◌, ◌==◌, List}
 use Rattle.std.specs.Prelude.{[], ◌∷◌, ◌++◌, length}
 use Rattle.std.specs.Str.{chars, encode_utf8_all}
-use Rattle.qs_lex.specs.Table.{IsToken}
+use Rattle.qs_lex_regular.specs.Longest.{IsFirst, HasNoFront}
+use Rattle.qs_lex.specs.Table.{table}
 use Rattle.qs_lex.specs.declared.token.Class.{Class}
 
 -- a token, with the place of its first byte and its bytes
@@ -28,14 +29,12 @@ skip in_comment [] = []
 skip true (c ∷ cs) = skip (not (is_line_end c)) cs
 skip false (c ∷ cs) = cond (is_blank c) (skip false cs) (cond (c == 35) (skip true cs) (c ∷ cs))
 
--- x is a token of the class, and no longer front of x ++ rest is a token
+-- x is a token of the class, the first of the table that it spells, and no longer front of
+-- x ++ rest is a token
 pub record IsLongest (k : Class) (x rest : List ℕ) : Type 0 where
-  pub token : IsToken k x
-  pub longest : (j : Class) (u v : List ℕ) → x ++ rest ≡ u ++ v → IsToken j u → length u ≤ length x
-
--- no front is a token
-abbrev pub HasNoToken : List ℕ → Type 0
-HasNoToken cs = (k : Class) (u v : List ℕ) → cs ≡ u ++ v → IsToken k u → ⊥
+  pub token : IsFirst table k x
+  pub longest : (j : Class) (u v : List ℕ) → x ++ rest ≡ u ++ v → IsFirst table j u
+      → length u ≤ length x
 
 -- what is left, of a text of n bytes, begins at this place
 abbrev pub IsPlace : ℕ → List ℕ → ℕ → Type 0
@@ -59,5 +58,5 @@ Lexes text ts = (rest : List ℕ) × Reads (length text) (chars text) ts rest ×
 abbrev pub StopsAt : List ℕ → ℕ → Type 0
 StopsAt text place =
     (ts : List Lexeme) × (rest : List ℕ) × Reads (length text) (chars text) ts rest
-    × (0 < length (skip false rest)) × HasNoToken (skip false rest)
+    × (0 < length (skip false rest)) × HasNoFront table (skip false rest)
     × IsPlace (length text) (skip false rest) place

@@ -8,7 +8,8 @@ use Rattle.std.specs.Str.{IsUtf8}
 use Rattle.std.specs.List.{list_any, position_or_len, before_first, after_first}
 use Rattle.std.specs.Prelude.{Option}
 use Rattle.qs_lex_escapes.specs.declared.escape.Escape.{Escape}
-use Rattle.qs_lex_escapes.specs.Decoded.{stands_for, length_of, decoded_behind}
+use Rattle.qs_lex_escapes.specs.Decoded.{decoded_behind}
+use Rattle.qs_lex_escapes.specs.inner.Decoded.{stands_for, length_of}
 use Rattle.qs_lex_escapes.specs.inner.Decoded.{is_backslash}
 
 -- ---- a text that begins with what is looked for, or doesn't

@@ -7,8 +7,9 @@ use Rattle.qs_lex_regular.specs.Character.{is_hex, hex_value, is_scalar}
 use Rattle.qs_lex_escapes.specs.declared.escape.Escape.{Escape}
 use Rattle.qs_lex_escapes.specs.declared.escape.Escapes.{Escapes}
 use Rattle.qs_lex_escapes.specs.declared.escape.Escapes.TheVariants.{Codepoints, Strings}
-use Rattle.qs_lex_escapes.specs.Decoded.{length_of}
-use Rattle.qs_lex_escapes.specs.Escape.{hex_number, escape_of, uchar, echar_of, echar_or, string_escape}
+use Rattle.qs_lex_escapes.specs.inner.Decoded.{length_of}
+use Rattle.qs_lex_escapes.specs.Escape.{hex_number, escape_of, uchar, echar_of, string_escape}
+use Rattle.qs_lex_escapes.specs.inner.Escape.{echar_or}
 use Rattle.qs_lex_escapes.specs.inner.Escape.{escape}
 
 -- the bytes have an ASCII byte at the place

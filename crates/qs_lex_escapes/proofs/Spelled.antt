@@ -2,7 +2,7 @@
 use Rattle.std.proofs.Common.{◌≡◌, ℕ, zero, suc, ◌+◌, ◌*◌, Bool, true, List, inl, inr, refl, sym, subst}
 use Rattle.std.specs.List.{list_all}
 use Rattle.qs_lex_regular.specs.Character.{is_hex, hex_value}
-use Rattle.qs_lex_regular.specs.Form.{Form, never, nothing, one, hexes, then, either, many, AreHexes, Pieces, none, more, Spells}
+use Rattle.qs_lex_regular.specs.Form.{Form, never, nothing, one, hexes, ◌⨾◌, ◌∣◌, many, AreHexes, Pieces, none, more, Spells}
 use Rattle.qs_lex_escapes.proofs.Bytes.{all-append}
 
 -- the form's tests let nothing through that the test q doesn't
@@ -11,8 +11,8 @@ Within q never = Unit {0}
 Within q nothing = Unit {0}
 Within q (one p) = (c : ℕ) → p c ≡ true → q c ≡ true
 Within q (hexes n v p) = (c : ℕ) → is_hex c ≡ true → q c ≡ true
-Within q (then r s) = Within q r × Within q s
-Within q (either r s) = Within q r × Within q s
+Within q (r ⨾ s) = Within q r × Within q s
+Within q (r ∣ s) = Within q r × Within q s
 Within q (many r) = Within q r
 
 module _ (q : ℕ → Bool) where
@@ -32,6 +32,6 @@ module _ (q : ℕ → Bool) where
   spelled_pass nothing w cs s = subst (λ z. list_all q z ≡ true) (sym s) refl
   spelled_pass (one p) w cs s = let a : q s.0 ≡ true = w s.0 s.1 in subst (λ z. list_all q z ≡ true) (sym s.2) (rw a refl)
   spelled_pass (hexes n v p) w cs s = hexes_pass n v p w cs s
-  spelled_pass (then r t) w cs s = subst (λ z. list_all q z ≡ true) (sym s.4) (all-append q s.0 s.1 (spelled_pass r w.0 s.0 s.2) (spelled_pass t w.1 s.1 s.3))
-  spelled_pass (either r t) w cs s = elim s [ inl a ↦ spelled_pass r w.0 cs a | inr b ↦ spelled_pass t w.1 cs b ]
+  spelled_pass (r ⨾ t) w cs s = subst (λ z. list_all q z ≡ true) (sym s.4) (all-append q s.0 s.1 (spelled_pass r w.0 s.0 s.2) (spelled_pass t w.1 s.1 s.3))
+  spelled_pass (r ∣ t) w cs s = elim s [ inl a ↦ spelled_pass r w.0 cs a | inr b ↦ spelled_pass t w.1 cs b ]
   spelled_pass (many r) w cs s = pieces_pass (Spells r) (spelled_pass r w) cs s

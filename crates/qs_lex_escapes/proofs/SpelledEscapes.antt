@@ -11,7 +11,8 @@ use Rattle.qs_lex_regular.specs.Form as form
 use Rattle.qs_lex_regular.specs.Form.{Form, Spells, Pieces, AreHexes, none, more, one, many, char, ◌⨾◌, ◌∣◌}
 use Rattle.qs_terms.specs.Iri.{is_excluded}
 use Rattle.qs_lex_escapes.specs.Decoded.{decoded, decoded_behind}
-use Rattle.qs_lex_escapes.specs.Escape.{uchar, string_escape, hex_number, escape_of, echar_of, echar_or}
+use Rattle.qs_lex_escapes.specs.Escape.{uchar, string_escape, hex_number, escape_of, echar_of}
+use Rattle.qs_lex_escapes.specs.inner.Escape.{echar_or}
 use Rattle.qs_lex_escapes.specs.declared.escape.Escape.{Escape}
 use Rattle.qs_lex_escapes.specs.inner.Backslashes.{begins_behind, escapes_begin}
 use Rattle.qs_lex_escapes.specs.inner.StandsFor.{StandsFor}

@@ -1,23 +1,17 @@
 -- Texts with their escapes decoded.
 use Rattle.std.specs.Prelude.{ℕ, zero, suc, not, ◌==◌, List, [], ◌∷◌, ◌++◌, filter, encode_utf8}
-use Rattle.std.specs.Prelude.{Option, Some, None, if◌then◌else◌}
+use Rattle.std.specs.Prelude.{Option, if◌then◌else◌}
+use Rattle.std.specs.Option.{option_map_or}
 use Rattle.qs_lex_escapes.specs.declared.escape.Escape.{Escape}
 
--- the character that an escape names; a backslash that begins none denotes itself
-abbrev pub stands_for : Option Escape → List ℕ
-stands_for None = 92 ∷ []
-stands_for (Some e) = encode_utf8 e.character
-
-abbrev pub length_of : Option Escape → ℕ
-length_of None = 0
-length_of (Some e) = e.length
-
--- the bytes after the first n, with what each backslash and the escape after it denote
+-- the bytes after the first n, with what each backslash and the escape after it denote: the
+-- character that the escape names, or the backslash itself where none begins
 unfoldable pub decoded_behind : (List ℕ → Option Escape) → ℕ → List ℕ → List ℕ
 decoded_behind escape n [] = []
 decoded_behind escape (suc n) (c ∷ cs) = decoded_behind escape n cs
 decoded_behind escape zero (c ∷ cs) =
-    if c == 92 then (stands_for (escape cs) ++ decoded_behind escape (length_of (escape cs)) cs)
+    if c == 92 then (option_map_or (λ e. encode_utf8 e.character) (escape cs) (92 ∷ [])
+    ++ decoded_behind escape (option_map_or (λ e. e.length) (escape cs) 0) cs)
     else (c ∷ decoded_behind escape zero cs)
 
 -- the bytes with the escapes decoded

@@ -3,6 +3,7 @@
 use Rattle.std.specs.Prelude.{ℕ, zero, suc, ◌+◌, ◌*◌, ◌==◌, List, [], ◌∷◌, Option, Some, None}
 use Rattle.std.specs.Prelude.{if◌then◌else◌}
 use Rattle.std.specs.Map.{lookup}
+use Rattle.std.specs.Option.{option_map_or}
 use Rattle.qs_lex_regular.specs.Character.{is_hex, hex_value, is_scalar}
 use Rattle.qs_lex_escapes.specs.declared.escape.Escape.{Escape}
 
@@ -31,11 +32,8 @@ echar_of c =
     lookup (λ letter. letter == c) ((116, 9) ∷ (98, 8) ∷ (110, 10) ∷ (114, 13) ∷ (102, 12)
     ∷ (34, 34) ∷ (39, 39) ∷ (92, 92) ∷ [])
 
-abbrev pub echar_or : Option ℕ → Option Escape → Option Escape
-echar_or None other = other
-echar_or (Some c) other = Some (record { character = c; length = 1 })
-
 -- an escape of a string: ECHAR or UCHAR
 abbrev pub string_escape : List ℕ → Option Escape
 string_escape [] = None
-string_escape (c ∷ cs) = echar_or (echar_of c) (uchar (c ∷ cs))
+string_escape (c ∷ cs) =
+    option_map_or (λ e. Some (record { character = e; length = 1 })) (echar_of c) (uchar (c ∷ cs))

@@ -4,7 +4,8 @@ ghost use Rattle.std.specs.Prelude.{◌≡◌, ◌++◌, IfOk, OnOk, string_byte
 ghost use Rattle.std.specs.List.{list_any};
 ghost use Rattle.std.specs.Str.{IsCharBoundary};
 ghost use Rattle.std.specs.Option.{ForSome};
-ghost use Rattle.qs_lex_escapes.specs.Decoded.{stands_for, length_of, decoded, unescaped};
+ghost use Rattle.qs_lex_escapes.specs.Decoded.{decoded, unescaped};
+ghost use Rattle.qs_lex_escapes.specs.inner.Decoded.{stands_for, length_of};
 ghost use Rattle.qs_lex_escapes.specs.inner.Decoded.{is_backslash};
 ghost use Rattle.qs_lex_escapes.specs.inner.Escape.{escape};
 

@@ -2,63 +2,63 @@
 use Rattle.std.proofs.Common.{◌≡◌, ◌⊎◌, ℕ, zero, suc, ◌+◌, ◌*◌, Bool, true, false, cond, ◌||◌, ◌&&◌, List, [], ◌∷◌, ◌++◌, refl, sym, ap, ◌∙◌, subst, inl, inr, true≢false}
 use Rattle.qs_lex_regular.specs.inner.Derivative.{join, or_never, choose, nullable, derive}
 use Rattle.qs_lex_regular.specs.Character.{is_hex, hex_value}
-use Rattle.qs_lex_regular.specs.Form.{Form, never, nothing, one, hexes, then, either, many, AreHexes, Pieces, none, more, Spells}
+use Rattle.qs_lex_regular.specs.Form.{Form, never, nothing, one, hexes, ◌⨾◌, ◌∣◌, many, AreHexes, Pieces, none, more, Spells}
 
 -- ---- `join` and `choose` are `then` and `either`
 
-pub join-to : (r s : Form) (cs : List ℕ) → Spells (join r s) cs → Spells (then r s) cs
+pub join-to : (r s : Form) (cs : List ℕ) → Spells (join r s) cs → Spells (r ⨾ s) cs
 join-to never s cs h = absurd h
 join-to nothing s cs h = ([], cs, refl, h, refl)
 join-to (one p) s cs h = h
 join-to (hexes n v p) s cs h = h
-join-to (then a b) s cs h = h
-join-to (either a b) s cs h = h
+join-to (a ⨾ b) s cs h = h
+join-to (a ∣ b) s cs h = h
 join-to (many a) s cs h = h
 
-pub join-from : (r s : Form) (cs : List ℕ) → Spells (then r s) cs → Spells (join r s) cs
+pub join-from : (r s : Form) (cs : List ℕ) → Spells (r ⨾ s) cs → Spells (join r s) cs
 join-from never s cs (x, y, h, k, e) = absurd h
 join-from nothing s cs (x, y, h, k, e) =
     let e' : cs ≡ y = cc in subst (λ z. Spells s z) (sym e') k
 join-from (one p) s cs h = h
 join-from (hexes n v p) s cs h = h
-join-from (then a b) s cs h = h
-join-from (either a b) s cs h = h
+join-from (a ⨾ b) s cs h = h
+join-from (a ∣ b) s cs h = h
 join-from (many a) s cs h = h
 
-pub or_never-to : (r s : Form) (cs : List ℕ) → Spells (or_never r s) cs → Spells (either r s) cs
+pub or_never-to : (r s : Form) (cs : List ℕ) → Spells (or_never r s) cs → Spells (r ∣ s) cs
 or_never-to r never cs h = inl h
 or_never-to r nothing cs h = h
 or_never-to r (one p) cs h = h
 or_never-to r (hexes n v p) cs h = h
-or_never-to r (then a b) cs h = h
-or_never-to r (either a b) cs h = h
+or_never-to r (a ⨾ b) cs h = h
+or_never-to r (a ∣ b) cs h = h
 or_never-to r (many a) cs h = h
 
-pub or_never-from : (r s : Form) (cs : List ℕ) → Spells (either r s) cs → Spells (or_never r s) cs
+pub or_never-from : (r s : Form) (cs : List ℕ) → Spells (r ∣ s) cs → Spells (or_never r s) cs
 or_never-from r never cs h = elim h [ inl a ↦ a | inr b ↦ absurd b ]
 or_never-from r nothing cs h = h
 or_never-from r (one p) cs h = h
 or_never-from r (hexes n v p) cs h = h
-or_never-from r (then a b) cs h = h
-or_never-from r (either a b) cs h = h
+or_never-from r (a ⨾ b) cs h = h
+or_never-from r (a ∣ b) cs h = h
 or_never-from r (many a) cs h = h
 
-pub choose-to : (r s : Form) (cs : List ℕ) → Spells (choose r s) cs → Spells (either r s) cs
+pub choose-to : (r s : Form) (cs : List ℕ) → Spells (choose r s) cs → Spells (r ∣ s) cs
 choose-to never s cs h = inr h
 choose-to nothing s cs h = or_never-to nothing s cs h
 choose-to (one p) s cs h = or_never-to (one p) s cs h
 choose-to (hexes n v p) s cs h = or_never-to (hexes n v p) s cs h
-choose-to (then a b) s cs h = or_never-to (then a b) s cs h
-choose-to (either a b) s cs h = or_never-to (either a b) s cs h
+choose-to (a ⨾ b) s cs h = or_never-to (a ⨾ b) s cs h
+choose-to (a ∣ b) s cs h = or_never-to (a ∣ b) s cs h
 choose-to (many a) s cs h = or_never-to (many a) s cs h
 
-pub choose-from : (r s : Form) (cs : List ℕ) → Spells (either r s) cs → Spells (choose r s) cs
+pub choose-from : (r s : Form) (cs : List ℕ) → Spells (r ∣ s) cs → Spells (choose r s) cs
 choose-from never s cs h = elim h [ inl a ↦ absurd a | inr b ↦ b ]
 choose-from nothing s cs h = or_never-from nothing s cs h
 choose-from (one p) s cs h = or_never-from (one p) s cs h
 choose-from (hexes n v p) s cs h = or_never-from (hexes n v p) s cs h
-choose-from (then a b) s cs h = or_never-from (then a b) s cs h
-choose-from (either a b) s cs h = or_never-from (either a b) s cs h
+choose-from (a ⨾ b) s cs h = or_never-from (a ⨾ b) s cs h
+choose-from (a ∣ b) s cs h = or_never-from (a ∣ b) s cs h
 choose-from (many a) s cs h = or_never-from (many a) s cs h
 
 -- ---- nullable
@@ -97,8 +97,8 @@ nullable-to nothing h = refl
 nullable-to (one p) h = absurd (true≢false (sym h))
 nullable-to (hexes zero v p) h = (refl, h)
 nullable-to (hexes (suc n) v p) h = absurd (true≢false (sym h))
-nullable-to (then r s) h = ([], [], nullable-to r (and-left (nullable r) (nullable s) h), nullable-to s (and-right (nullable r) (nullable s) h), refl)
-nullable-to (either r s) h =
+nullable-to (r ⨾ s) h = ([], [], nullable-to r (and-left (nullable r) (nullable s) h), nullable-to s (and-right (nullable r) (nullable s) h), refl)
+nullable-to (r ∣ s) h =
     elim (or-cases (nullable r) (nullable s) h) [ inl a ↦ inl (nullable-to r a) | inr b ↦ inr (nullable-to s b) ]
 nullable-to (many r) h = none
 
@@ -108,10 +108,10 @@ nullable-from nothing h = refl
 nullable-from (one p) (c, q, e) = cc
 nullable-from (hexes zero v p) h = h.1
 nullable-from (hexes (suc n) v p) (c, ds, e, q, k) = cc
-nullable-from (then r s) (x, y, h, k, e) =
+nullable-from (r ⨾ s) (x, y, h, k, e) =
     let es : (x ≡ []) × (y ≡ []) = empty_parts x y e in
     and-true (nullable r) (nullable s) (nullable-from r (subst (λ z. Spells r z) es.0 h)) (nullable-from s (subst (λ z. Spells s z) es.1 k))
-nullable-from (either r s) h =
+nullable-from (r ∣ s) h =
     elim h [ inl a ↦ or-left (nullable r) (nullable s) (nullable-from r a) | inr b ↦ or-right (nullable r) (nullable s) (nullable-from s b) ]
 nullable-from (many r) h = refl
 
@@ -156,16 +156,16 @@ derive-to (hexes (suc zero) v p) c cs h =
 derive-to (hexes (suc (suc n)) v p) c cs h =
     let k : (is_hex c ≡ true) × AreHexes (suc n) (v * 16 + hex_value c) p cs = cond-true (is_hex c) (hexes (suc n) (v * 16 + hex_value c) p) cs h in
     (c, cs, refl, k.0, k.1)
-derive-to (then r s) c cs h =
+derive-to (r ⨾ s) c cs h =
     elim (cond-cases (nullable r) (join (derive r c) s) (derive s c) cs h) [
-      | inl a ↦ (let t : Spells (then (derive r c) s) cs = join-to (derive r c) s cs a in
+      | inl a ↦ (let t : Spells ((derive r c) ⨾ s) cs = join-to (derive r c) s cs a in
           (c ∷ t.0, t.1, derive-to r c t.0 t.2, t.3, ap (λ z. c ∷ z) t.4))
       | inr b ↦ ([], c ∷ cs, nullable-to r b.0, derive-to s c cs b.1, refl)
     ]
-derive-to (either r s) c cs h =
+derive-to (r ∣ s) c cs h =
     elim (choose-to (derive r c) (derive s c) cs h) [ inl a ↦ inl (derive-to r c cs a) | inr b ↦ inr (derive-to s c cs b) ]
 derive-to (many r) c cs h =
-    let t : Spells (then (derive r c) (many r)) cs = join-to (derive r c) (many r) cs h in
+    let t : Spells ((derive r c) ⨾ (many r)) cs = join-to (derive r c) (many r) cs h in
     subst (λ z. Pieces (λ x. Spells r x) (c ∷ z)) (sym t.4) (more (c ∷ t.0) t.1 (derive-to r c t.0 t.2) t.3)
 
 pub derive-from : (r : Form) (c : ℕ) (cs : List ℕ) → Spells r (c ∷ cs) → Spells (derive r c) cs
@@ -184,13 +184,13 @@ derive-from (hexes (suc (suc n)) v p) c cs (d, ds, e, q, k) =
     let same : d ≡ c = cc in let rest : ds ≡ cs = cc in
     cond-true-back (is_hex c) (hexes (suc n) (v * 16 + hex_value c) p) cs (subst (λ z. is_hex z ≡ true) same q)
     (subst (λ z. AreHexes (suc n) (v * 16 + hex_value z) p cs) same (subst (λ z. AreHexes (suc n) (v * 16 + hex_value d) p z) rest k))
-derive-from (then r s) c cs ([], y, h, k, e) =
+derive-from (r ⨾ s) c cs ([], y, h, k, e) =
     cond-second (nullable r) (join (derive r c) s) (derive s c) cs (nullable-from r h) (derive-from s c cs (subst (λ z. Spells s z) (sym e) k))
-derive-from (then r s) c cs (d ∷ x, y, h, k, e) =
+derive-from (r ⨾ s) c cs (d ∷ x, y, h, k, e) =
     let same : d ≡ c = cc in let rest : cs ≡ x ++ y = cc in
     cond-first (nullable r) (join (derive r c) s) (derive s c) cs
     (join-from (derive r c) s cs (x, y, derive-from r c x (subst (λ z. Spells r (z ∷ x)) same h), k, rest))
-derive-from (either r s) c cs h =
+derive-from (r ∣ s) c cs h =
     choose-from (derive r c) (derive s c) cs (elim h [ inl a ↦ inl (derive-from r c cs a) | inr b ↦ inr (derive-from s c cs b) ])
 derive-from (many r) c cs h =
     let t : (x : List ℕ) × (y : List ℕ) × Spells r (c ∷ x) × Pieces (λ z. Spells r z) y × (cs ≡ x ++ y) = pieces-first c cs h refl in

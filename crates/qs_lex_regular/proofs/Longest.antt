@@ -2,7 +2,7 @@
 use Rattle.std.proofs.Common.{◌≡◌, ◌⊎◌, ◌≤◌, ℕ, ◌+◌, Bool, true, false, cond, List, [], ◌∷◌, ◌++◌, Option, Some, None, option_map, length, refl, sym, ap, ◌∙◌, subst, inl, inr, true≢false, encode_utf8_all, arith, length-append}
 use Rattle.std.specs.Char.{len_utf8}
 use Rattle.std.proofs.lemmas.Str.{length-encode}
-use Rattle.qs_lex_regular.specs.Form.{Form, never, nothing, one, hexes, then, either, many, Spells}
+use Rattle.qs_lex_regular.specs.Form.{Form, never, nothing, one, hexes, ◌⨾◌, ◌∣◌, many, Spells}
 use Rattle.qs_lex_regular.specs.inner.Derivative.{derive, nullable}
 use Rattle.qs_lex_regular.specs.Longest.{Table, IsFirst, HasNoFront, LongestFront}
 use Rattle.qs_lex_regular.specs.inner.Best.{keep, advance, here, longer, best}
@@ -15,8 +15,8 @@ keep-to k never fs j cs h = inr (λ f. f, h)
 keep-to k nothing fs j cs h = h
 keep-to k (one p) fs j cs h = h
 keep-to k (hexes n v p) fs j cs h = h
-keep-to k (then r s) fs j cs h = h
-keep-to k (either r s) fs j cs h = h
+keep-to k (r ⨾ s) fs j cs h = h
+keep-to k (r ∣ s) fs j cs h = h
 keep-to k (many r) fs j cs h = h
 
 keep-from : {K : Type 0} → (k : K) (r : Form) (fs : Table K) (j : K) (cs : List ℕ) → IsFirst ((k, r) ∷ fs) j cs → IsFirst (keep k r fs) j cs
@@ -24,8 +24,8 @@ keep-from k never fs j cs h = elim h [ inl a ↦ absurd a.1 | inr b ↦ b.1 ]
 keep-from k nothing fs j cs h = h
 keep-from k (one p) fs j cs h = h
 keep-from k (hexes n v p) fs j cs h = h
-keep-from k (then r s) fs j cs h = h
-keep-from k (either r s) fs j cs h = h
+keep-from k (r ⨾ s) fs j cs h = h
+keep-from k (r ∣ s) fs j cs h = h
 keep-from k (many r) fs j cs h = h
 
 pub advance-to : {K : Type 0} → (fs : Table K) (c : ℕ) (k : K) (cs : List ℕ) → IsFirst (advance fs c) k cs → IsFirst fs k (c ∷ cs)

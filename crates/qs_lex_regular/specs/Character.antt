@@ -1,16 +1,13 @@
 -- Classes of characters of names and of IRIs that SPARQL and N-Quads share, each as a test of a
 -- code point (SPARQL 1.1 Query, 19.8; RDF 1.1 N-Quads, 4).
-use Rattle.std.specs.Prelude.{ℕ, Bool, false, not, ◌||◌, ◌&&◌, ◌==◌, nat_le, nat_lt, List, [], ◌∷◌}
-use Rattle.std.specs.Prelude.{codes}
+use Rattle.std.specs.Prelude.{ℕ, Bool, not, ◌||◌, ◌&&◌, ◌==◌, nat_le, nat_lt, List, codes}
+use Rattle.std.specs.Int.{is_in_range}
+use Rattle.std.specs.List.{list_any}
 use Rattle.std.specs.Char.{is_ascii_digit, is_ascii_alphabetic, is_ascii_alphanumeric}
 use Rattle.std.specs.Char.{is_ascii_hexdigit, digit_value}
 
-abbrev pub within : ℕ → ℕ → ℕ → Bool
-within low high c = nat_le low c && nat_le c high
-
 abbrev pub is_one_of : List ℕ → ℕ → Bool
-is_one_of [] c = false
-is_one_of (x ∷ xs) c = c == x || is_one_of xs c
+is_one_of xs c = list_any (λ x. c == x) xs
 
 -- [0-9]
 unfoldable pub is_digit : ℕ → Bool
@@ -35,11 +32,11 @@ hex_value = digit_value
 -- BASE: PN_CHARS_BASE (SPARQL 1.1 Query, 19.8, [164]; RDF 1.1 N-Quads, 4)
 unfoldable pub is_base : ℕ → Bool
 is_base c =
-    is_ascii_alphabetic c || within 0xC0 0xD6 c || within 0xD8 0xF6 c || within 0xF8 0x2FF c
-    || within 0x370 0x37D c || within 0x37F 0x1FFF c
-    || within 0x200C 0x200D c || within 0x2070 0x218F c || within 0x2C00 0x2FEF c
-    || within 0x3001 0xD7FF c || within 0xF900 0xFDCF c
-    || within 0xFDF0 0xFFFD c || within 0x1_0000 0xE_FFFF c
+    is_ascii_alphabetic c || is_in_range 0xC0 0xD6 c || is_in_range 0xD8 0xF6 c
+    || is_in_range 0xF8 0x2FF c || is_in_range 0x370 0x37D c || is_in_range 0x37F 0x1FFF c
+    || is_in_range 0x200C 0x200D c || is_in_range 0x2070 0x218F c || is_in_range 0x2C00 0x2FEF c
+    || is_in_range 0x3001 0xD7FF c || is_in_range 0xF900 0xFDCF c || is_in_range 0xFDF0 0xFFFD c
+    || is_in_range 0x1_0000 0xE_FFFF c
 
 -- U: PN_CHARS_U of SPARQL (1.1 Query, 19.8, [165]), BASE or `_`; that of N-Quads has `:` too
 unfoldable pub is_pn_chars_u : ℕ → Bool
@@ -47,7 +44,7 @@ is_pn_chars_u c = is_base c || c == 95
 
 -- what a name may hold, but not begin with: U+00B7, U+0300 to 036F, U+203F to 2040
 unfoldable pub is_mark_in_name : ℕ → Bool
-is_mark_in_name c = c == 0xB7 || within 0x300 0x36F c || within 0x203F 0x2040 c
+is_mark_in_name c = c == 0xB7 || is_in_range 0x300 0x36F c || is_in_range 0x203F 0x2040 c
 
 -- CHARS: PN_CHARS of SPARQL (1.1 Query, 19.8, [167]), U, `-`, a digit or one of the marks above
 unfoldable pub is_pn_chars : ℕ → Bool
@@ -60,7 +57,7 @@ is_iri_char c = not (nat_le c 0x20 || is_one_of (codes "<>\"{}|^`\\") c)
 
 -- a code point that is no surrogate (RDF 1.1 N-Quads, 4: what UCHAR names)
 unfoldable pub is_scalar : ℕ → Bool
-is_scalar c = nat_lt c 0xD800 || within 0xE000 0x10_FFFF c
+is_scalar c = nat_lt c 0xD800 || is_in_range 0xE000 0x10_FFFF c
 
 -- what an escape in an IRI may name
 unfoldable pub is_iri_scalar : ℕ → Bool

@@ -2,8 +2,11 @@
 use Rattle.std.specs.Prelude.{◌≡◌, ◌⊎◌, ℕ, zero, suc, ◌+◌, ◌*◌, Bool, true, ◌==◌, List, [], ◌∷◌}
 use Rattle.std.specs.Prelude.{◌++◌, codes}
 use Prim.Native.String.{String}
-use Rattle.qs_lex_regular.specs.Character.{is_hex, hex_value, is_escaped}
+use Rattle.qs_lex_regular.specs.Character.{is_hex, hex_value, is_escaped, is_letter}
+use Rattle.qs_lex_regular.specs.Character.{is_letter_or_digit}
 
+infixr 7 ◌⨾◌
+infixr 6 ◌∣◌
 pub data Form : Type 0 where
   -- no characters
   never : Form
@@ -14,9 +17,9 @@ pub data Form : Type 0 where
   -- so many hexadecimal digits, which after digits of this value name a number that passes the test
   hexes : ℕ → ℕ → (ℕ → Bool) → Form
   -- one form, then another
-  then : Form → Form → Form
+  ◌⨾◌ : Form → Form → Form
   -- one form or another
-  either : Form → Form → Form
+  ◌∣◌ : Form → Form → Form
   -- a form any number of times
   many : Form → Form
 
@@ -37,19 +40,11 @@ Spells never cs = ⊥
 Spells nothing cs = cs ≡ []
 Spells (one p) cs = (c : ℕ) × (p c ≡ true) × (cs ≡ c ∷ [])
 Spells (hexes n v p) cs = AreHexes n v p cs
-Spells (then r s) cs = (x : List ℕ) × (y : List ℕ) × Spells r x × Spells s y × (cs ≡ x ++ y)
-Spells (either r s) cs = Spells r cs ⊎ Spells s cs
+Spells (r ⨾ s) cs = (x : List ℕ) × (y : List ℕ) × Spells r x × Spells s y × (cs ≡ x ++ y)
+Spells (r ∣ s) cs = Spells r cs ⊎ Spells s cs
 Spells (many r) cs = Pieces (Spells r) cs
 
 -- ---- how forms are written
-
-infixr 7 ◌⨾◌
-abbrev pub ◌⨾◌ : Form → Form → Form
-r ⨾ s = then r s
-
-infixr 6 ◌∣◌
-abbrev pub ◌∣◌ : Form → Form → Form
-r ∣ s = either r s
 
 abbrev pub maybe : Form → Form
 maybe r = r ∣ nothing
@@ -68,6 +63,11 @@ spelled (c ∷ d ∷ cs) = char c ⨾ spelled (d ∷ cs)
 -- these very characters
 abbrev pub literal : String → Form
 literal s = spelled (codes s)
+
+-- LANGTAG (SPARQL 1.1 Query, 19.8, [145]; RDF 1.1 N-Quads, [144s]): `@`, letters, then any number
+-- of `-` with letters and digits
+abbrev pub lang_tag : Form
+lang_tag = char 64 ⨾ plus (one is_letter) ⨾ many (char 45 ⨾ plus (one is_letter_or_digit))
 
 -- ---- escapes
 

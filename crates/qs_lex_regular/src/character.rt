@@ -1,10 +1,11 @@
 //! Classes of characters that N-Quads and SPARQL share.
 
 ghost use Rattle.std.specs.Prelude.{◌≡◌};
-ghost use Rattle.qs_lex_regular.specs.Character.{is_base, is_pn_chars, is_digit, is_escaped, is_hex, is_iri_char, is_iri_scalar, is_letter, is_letter_or_digit, is_mark_in_name, is_scalar, is_pn_chars_u, within};
+ghost use Rattle.qs_lex_regular.specs.Character.{is_base, is_pn_chars, is_digit, is_escaped, is_hex, is_iri_char, is_iri_scalar, is_letter, is_letter_or_digit, is_mark_in_name, is_scalar, is_pn_chars_u};
+ghost use Rattle.std.specs.Int.{is_in_range};
 
 fn within(low: u32, high: u32, c: char) -> bool
-    ensures { result ≡ within low high c }
+    ensures { result ≡ is_in_range low high c }
 {
     let code = c as u32;
     low <= code && code <= high

@@ -6,7 +6,8 @@ use Rattle.qs_terms.specs.Literal.{Literal}
 use Rattle.qs_terms.specs.Statement.{Statement}
 use Rattle.qs_terms.specs.declared.fault.TermFault.{TermFault}
 use Rattle.qs_nquads.specs.Labels.{Numbering, number}
-use Rattle.qs_nquads.specs.Part.{said, iri_part, behind}
+use Rattle.qs_nquads.specs.Part.{said}
+use Rattle.qs_nquads.specs.inner.Part.{iri_part, behind}
 use Rattle.qs_nquads.specs.inner.Gap.{behind_gap}
 use Rattle.qs_nquads.specs.inner.Next.{Next}
 use Rattle.qs_nquads.specs.inner.Next as next

@@ -5,7 +5,8 @@ use Rattle.std.proofs.lemmas.Str.{encode_ascii, inside_one, encodes-append}
 use lib.Utf8.{scalar, scalars, encode, encodes, low_scalar}
 use Rattle.qs_lex_escapes.specs.Escape.{string_escape}
 use Rattle.qs_lex_escapes.specs.Decoded.{decoded_behind, decoded}
-use Rattle.qs_nquads.specs.Written.{escaped_byte, escaped}
+use Rattle.qs_nquads.specs.Written.{escaped_byte}
+use Rattle.qs_nquads.specs.inner.Written.{escaped}
 
 -- what holds of the four escapes, and of a byte that denotes itself
 pub escape_cases : (P : ℕ → List ℕ → Type 0) → P 34 (92 ∷ 34 ∷ []) → P 92 (92 ∷ 92 ∷ []) → P 10 (92 ∷ 110 ∷ []) → P 13 (92 ∷ 114 ∷ [])

@@ -10,9 +10,11 @@ use Rattle.qs_terms.specs.declared.fault.TermFault.{TermFault}
 use Rattle.qs_nquads.specs.Document.{IsDocument}
 use Rattle.qs_nquads.specs.Gap.{skip}
 use Rattle.qs_nquads.specs.inner.Gap.{behind_gap}
-use Rattle.qs_nquads.specs.Labels.{Numbering, with_label, known_or_new, number, from}
+use Rattle.qs_nquads.specs.Labels.{Numbering, with_label, number, from}
+use Rattle.qs_nquads.specs.inner.Labels.{known_or_new}
 use Rattle.qs_nquads.specs.Nquads.{Reads, IsBegun, TakesBlank, IsBadType, SaysNone, IsDue, IsFault, line_at}
-use Rattle.qs_nquads.specs.Part.{said, iri_part, blank_part, behind}
+use Rattle.qs_nquads.specs.Part.{said}
+use Rattle.qs_nquads.specs.inner.Part.{iri_part, blank_part, behind}
 use Rattle.qs_nquads.specs.Table.{table}
 use Rattle.qs_nquads.specs.inner.Next.{Next}
 use Rattle.qs_nquads.specs.inner.Outcome.{StopsAt, ComesTo, IsStop, FailsAt}

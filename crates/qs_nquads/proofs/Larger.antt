@@ -1,7 +1,8 @@
 -- What is below a number is below each larger one.
 use Rattle.std.proofs.Common.{◌≡◌, ◌≤◌, ℕ, true, ◌&&◌, List, [], ◌∷◌, ◌++◌, Option, Some, None, refl, arith, ltb-true, lt-ltb}
 use Rattle.std.proofs.lemmas.Bool.{and_from, and_parts}
-use Rattle.qs_terms.specs.Dataset.{is_term_below, is_graph_below, is_statement_below, is_above_blanks}
+use Rattle.qs_terms.specs.Dataset.{is_term_below, is_statement_below, is_above_blanks}
+use Rattle.qs_terms.specs.inner.Dataset.{is_graph_below}
 use Rattle.qs_terms.specs.Statement.{Statement}
 use Rattle.qs_terms.specs.declared.term.Term.{Term}
 use Rattle.qs_terms.specs.declared.term.Term.TheVariants as term

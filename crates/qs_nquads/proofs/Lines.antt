@@ -2,7 +2,8 @@
 use Rattle.std.proofs.Common.{◌≡◌, ℕ, zero, suc, ◌+◌, ◌<◌, ◌≤◌, List, [], ◌∷◌, ◌++◌, Option, Some, None, length, take, get_or, refl, sym, ap, ◌∙◌, arith, append_assoc, append-nil, length-append}
 use Rattle.std.proofs.lemmas.List.{take-append-le}
 use Rattle.std.specs.Io.KnownBytes.{Appends}
-use Rattle.qs_nquads.specs.Written.{escaped_byte, escaped}
+use Rattle.qs_nquads.specs.Written.{escaped_byte}
+use Rattle.qs_nquads.specs.inner.Written.{escaped}
 use Rattle.qs_nquads.specs.inner.Joined.{joined}
 
 pub escaped_step : (form : List ℕ) (i : ℕ) → i < length form → escaped (take (i + 1) form) ≡ escaped (take i form) ++ escaped_byte (get_or form i 0)

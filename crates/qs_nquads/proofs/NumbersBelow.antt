@@ -5,7 +5,9 @@ use Rattle.std.specs.Str.{bytes_eq}
 use Rattle.std.proofs.lemmas.Bool.{cond_both}
 use Rattle.std.proofs.lemmas.List.Elements.{All-nil, All-weaker}
 use Rattle.std.proofs.lemmas.Map.Views.{IfSome-lookup_from_All}
-use Rattle.qs_nquads.specs.Labels.{Numbering, from, with_label, add, known_or_new, number}
+use Rattle.qs_nquads.specs.Labels.{Numbering, from, with_label, number}
+use Rattle.qs_nquads.specs.inner.Labels.{add}
+use Rattle.qs_nquads.specs.inner.Labels.{known_or_new}
 use Rattle.qs_nquads.specs.inner.Entries.{AreBelow}
 use Rattle.qs_nquads.proofs.Numbers.{values_last}
 use Rattle.qs_nquads.specs.declared.fault.NqFaultKind.{NqFaultKind}

@@ -11,7 +11,8 @@ use Rattle.qs_terms.specs.inner.Iri.{is_iri_text}
 use Rattle.qs_terms.specs.Tag.{is_tag, lowered}
 use Rattle.qs_terms.specs.Literal.{Literal, typed, tagged, checked_typed, checked_tagged, rdf_lang_string}
 use Rattle.qs_terms.specs.inner.Literal.{fits_tag, is_lower_tag}
-use Rattle.qs_terms.specs.Statement.{Statement, is_iri, is_node, is_graph}
+use Rattle.qs_terms.specs.Statement.{Statement, is_iri, is_node}
+use Rattle.qs_terms.specs.inner.Dataset.{is_graph}
 use Rattle.qs_terms.specs.declared.term.Term.{Term}
 use Rattle.qs_terms.specs.declared.term.Term.TheVariants as term
 use Rattle.qs_nquads.specs.inner.Gap.{behind_gap}

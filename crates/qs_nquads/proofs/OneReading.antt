@@ -7,7 +7,8 @@ use Rattle.std.specs.Map.{lookup}
 use Rattle.std.proofs.lemmas.Str.{IsUtf8-nil}
 use Rattle.qs_terms.specs.Bag.{once}
 use Rattle.std.proofs.lemmas.Bool.{and_parts}
-use Rattle.qs_terms.specs.Statement.{Statement, is_graph, is_node, is_iri}
+use Rattle.qs_terms.specs.Statement.{Statement, is_node, is_iri}
+use Rattle.qs_terms.specs.inner.Dataset.{is_graph}
 use Rattle.qs_terms.specs.declared.term.Term.{Term}
 use Rattle.qs_terms.specs.declared.term.Term.TheVariants as term
 use Rattle.qs_terms.proofs.FirstOnes.{once_with}

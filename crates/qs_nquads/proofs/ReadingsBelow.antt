@@ -8,7 +8,7 @@ use Rattle.qs_terms.specs.Statement.{Statement}
 use Rattle.qs_terms.specs.declared.fault.TermFault.{TermFault}
 use Rattle.qs_nquads.specs.inner.Gap.{behind_gap}
 use Rattle.qs_nquads.specs.Labels.{Numbering, number}
-use Rattle.qs_nquads.specs.Part.{iri_part, blank_part, behind}
+use Rattle.qs_nquads.specs.inner.Part.{iri_part, blank_part, behind}
 use Rattle.qs_nquads.specs.inner.PartAt.{part_of, label_part, takes_label}
 use Rattle.qs_nquads.specs.inner.StatementState.{after, may_end}
 use Rattle.qs_nquads.specs.inner.Reading.{Reading, State, Step, at_first, start, goes, ends, stops, step_from, step_over, stepped, read, taken, placed, Comes, here, on}

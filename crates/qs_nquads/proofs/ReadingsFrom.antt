@@ -14,8 +14,10 @@ use Rattle.qs_terms.specs.declared.fault.TermFault.{TermFault}
 use Rattle.qs_terms.specs.declared.term.Term.{Term}
 use Rattle.qs_terms.specs.declared.term.Term.TheVariants as term
 use Rattle.qs_nquads.specs.inner.Gap.{behind_gap}
-use Rattle.qs_nquads.specs.Labels.{Numbering, with_label, add, known_or_new, number}
-use Rattle.qs_nquads.specs.Part.{iri_part, blank_part, behind}
+use Rattle.qs_nquads.specs.Labels.{Numbering, with_label, number}
+use Rattle.qs_nquads.specs.inner.Labels.{add}
+use Rattle.qs_nquads.specs.inner.Labels.{known_or_new}
+use Rattle.qs_nquads.specs.inner.Part.{iri_part, blank_part, behind}
 use Rattle.qs_nquads.specs.inner.PartAt.{part_of, label_part, takes_label}
 use Rattle.qs_nquads.specs.inner.StatementState.{term_of, with_literal, at_start, at_subject, at_predicate, at_object, at_form, at_typed, at_label, at_done, after, may_end}
 use Rattle.qs_nquads.specs.inner.Reading.{Reading, State, Step, at_first, start, goes, ends, stops, step_from, step_over, stepped, read, taken, placed, Comes, here, on}

@@ -11,7 +11,8 @@ use Rattle.std.proofs.lemmas.Slice.Eq.{bytes_eq-Decides}
 use Rattle.std.proofs.lemmas.Fmt.{decimal_is_IsNumeral}
 use Rattle.qs_terms.specs.Bag.{once, with_new}
 use Rattle.qs_terms.proofs.FirstOnes.{once_with, or_left_false, or_right_false, or_second}
-use Rattle.qs_nquads.specs.Labels.{Numbering, with_label, number, known_or_new, from}
+use Rattle.qs_nquads.specs.Labels.{Numbering, with_label, number, from}
+use Rattle.qs_nquads.specs.inner.Labels.{known_or_new}
 use Rattle.qs_nquads.specs.declared.fault.NqFaultKind.TheVariants as fault
 use Rattle.qs_nquads.specs.Written.{label}
 use Rattle.qs_nquads.specs.inner.Renumbered.{before}

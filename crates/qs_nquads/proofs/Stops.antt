@@ -5,8 +5,9 @@ use Rattle.qs_terms.specs.Literal.{Literal}
 use Rattle.qs_terms.specs.Statement.{Statement}
 use Rattle.qs_terms.specs.declared.fault.TermFault.{TermFault}
 use Rattle.qs_nquads.specs.inner.Gap.{behind_gap}
-use Rattle.qs_nquads.specs.Labels.{Numbering, with_label, known_or_new, number}
-use Rattle.qs_nquads.specs.Part.{iri_part, blank_part, behind}
+use Rattle.qs_nquads.specs.Labels.{Numbering, with_label, number}
+use Rattle.qs_nquads.specs.inner.Labels.{known_or_new}
+use Rattle.qs_nquads.specs.inner.Part.{iri_part, blank_part, behind}
 use Rattle.qs_nquads.specs.inner.PartAt.{part_of, label_part, takes_label}
 use Rattle.qs_nquads.specs.inner.StatementState.{after, with_literal, may_end}
 use Rattle.qs_nquads.specs.inner.Reading.{Reading, State, Step, goes, ends, stops, step, step_from, step_over, stepped, read, taken, placed}

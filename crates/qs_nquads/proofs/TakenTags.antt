@@ -8,8 +8,9 @@ use Rattle.qs_lex_regular.specs.Form.{Spells, one, many, maybe, char, ◌⨾◌}
 use Rattle.qs_lex_regular.specs.Longest.{LongestFront}
 use Rattle.qs_terms.specs.Tag.{is_tag}
 use Rattle.qs_lex_escapes.proofs.Tags.{tag_form, lawful_tag}
-use Rattle.qs_nquads.specs.Part.{behind}
-use Rattle.qs_nquads.specs.Table.{table, is_label_start, is_label_inner, is_label_char}
+use Rattle.qs_nquads.specs.inner.Part.{behind}
+use Rattle.qs_nquads.specs.Table.{table, is_label_start, is_label_char}
+use Rattle.qs_nquads.specs.inner.State.{is_label_inner}
 use Rattle.qs_nquads.specs.declared.class.Class.{Class}
 use Rattle.qs_nquads.specs.declared.class.Class.TheVariants as class
 use Rattle.qs_nquads.proofs.TakenEscapes.{this_char, scalars_front}

@@ -8,7 +8,8 @@ use Rattle.std.specs.Prelude.{⊤}
 use Rattle.qs_lex_regular.specs.Character.{is_letter, is_letter_or_digit, is_one_of}
 use Rattle.qs_lex_regular.specs.Form.{Form, Spells, one, many, plus, maybe, char, ◌⨾◌, ◌∣◌}
 use Rattle.qs_lex_regular.specs.Longest.{LongestFront, IsFirst, Table}
-use Rattle.qs_nquads.specs.Table.{table, iri_body, open_iri, string_body, open_string, is_label_start, is_label_inner, is_label_char}
+use Rattle.qs_nquads.specs.Table.{table, iri_body, string_body, is_label_start, is_label_char}
+use Rattle.qs_nquads.specs.inner.State.{is_label_inner}
 use Rattle.qs_nquads.specs.declared.class.Class.{Class}
 use Rattle.qs_nquads.specs.declared.class.Class.TheVariants as class
 
@@ -22,8 +23,8 @@ form_of class.Label = char 95 ⨾ char 58 ⨾ one is_label_start ⨾ maybe (many
 form_of class.Carets = char 94 ⨾ char 94
 form_of class.Dot = char 46
 form_of class.LineEnd = one (is_one_of (10 ∷ 13 ∷ []))
-form_of class.Open = open_iri ∣ open_string
-form_of class.Broken = open_iri ⨾ char 92 ∣ open_string ⨾ char 92
+form_of class.Open = char 60 ⨾ iri_body ∣ char 34 ⨾ string_body
+form_of class.Broken = (char 60 ⨾ iri_body) ⨾ char 92 ∣ (char 34 ⨾ string_body) ⨾ char 92
 
 abbrev HasForms : Table Class → Type 0
 HasForms [] = ⊤

@@ -13,7 +13,8 @@ use Rattle.qs_terms.specs.declared.fault.TermFault.{TermFault}
 use Rattle.qs_nquads.specs.Gap.{skip}
 use Rattle.qs_nquads.specs.inner.Gap.{behind_gap}
 use Rattle.qs_nquads.specs.Labels.{Numbering, number}
-use Rattle.qs_nquads.specs.Part.{said, iri_part, blank_part, behind}
+use Rattle.qs_nquads.specs.Part.{said}
+use Rattle.qs_nquads.specs.inner.Part.{iri_part, blank_part, behind}
 use Rattle.qs_nquads.specs.Table.{table}
 use Rattle.qs_nquads.specs.inner.Next.{Next}
 use Rattle.qs_nquads.specs.inner.Next as next

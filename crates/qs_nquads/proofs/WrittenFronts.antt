@@ -17,7 +17,8 @@ use Rattle.qs_nquads.specs.declared.class.Class.TheVariants as class
 use Rattle.qs_nquads.specs.declared.state.State.{State}
 use Rattle.qs_nquads.specs.declared.state.State.TheVariants as state
 use Rattle.qs_nquads.proofs.Apart as apart
-use Rattle.qs_nquads.specs.Written.{escaped_byte, escaped, label}
+use Rattle.qs_nquads.specs.Written.{escaped_byte, label}
+use Rattle.qs_nquads.specs.inner.Written.{escaped}
 use Rattle.qs_nquads.proofs.Escaped.{escape_cases}
 
 -- of the characters x and what follows, the longest front is x, of the class k

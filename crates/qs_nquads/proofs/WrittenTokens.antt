@@ -21,7 +21,8 @@ use Rattle.qs_terms.specs.Tag.{is_tag, is_tag_rest, is_subtag_char}
 use Rattle.qs_nquads.specs.Gap.{skip, is_blank}
 use Rattle.qs_nquads.specs.inner.Gap.{behind_gap}
 use Rattle.qs_nquads.specs.Labels.{Numbering, number}
-use Rattle.qs_nquads.specs.Part.{inside, behind, iri_part, blank_part}
+use Rattle.qs_nquads.specs.Part.{inside}
+use Rattle.qs_nquads.specs.inner.Part.{behind, iri_part, blank_part}
 use Rattle.qs_nquads.specs.inner.PartAt.{part_of, takes_label, label_part}
 use Rattle.qs_nquads.specs.Table.{table}
 use Rattle.qs_nquads.specs.declared.class.Class.{Class}
@@ -29,7 +30,8 @@ use Rattle.qs_nquads.specs.declared.class.Class.TheVariants as class
 use Rattle.qs_nquads.specs.declared.part.Part.{Part}
 use Rattle.qs_nquads.specs.declared.part.Part.TheVariants as part
 use Rattle.qs_nquads.specs.declared.statement_state.StatementState.{StatementState}
-use Rattle.qs_nquads.specs.Written.{escaped, label, iri_text, quoted}
+use Rattle.qs_nquads.specs.Written.{label, iri_text, quoted}
+use Rattle.qs_nquads.specs.inner.Written.{escaped}
 use Rattle.qs_nquads.proofs.Escaped.{decodes, escaped_chars, scalars-append}
 use Rattle.qs_nquads.proofs.WrittenFronts.{Takes, iri_front, string_front, carets_front, dot_front, end_front, label_front, tag_front, all_below, below, all-append}
 

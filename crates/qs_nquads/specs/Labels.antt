@@ -1,7 +1,8 @@
 -- Numbers of blank nodes, by their labels (RDF 1.1 N-Quads, 2.4): a label is numbered where it
 -- first appears.
 use Rattle.std.specs.Prelude.{ℕ, ◌+◌, ◌^◌, nat_lt, List, [], ◌∷◌, ◌++◌, if◌then◌else◌}
-use Rattle.std.specs.Prelude.{Option, Some, None, Result, Ok, Err}
+use Rattle.std.specs.Prelude.{Result, Ok, Err}
+use Rattle.std.specs.Option.{option_map_or}
 use Rattle.std.specs.Str.{bytes_eq}
 use Rattle.std.specs.Map.{lookup}
 use Rattle.qs_nquads.specs.declared.fault.NqFaultKind.{NqFaultKind}
@@ -21,17 +22,9 @@ from first = record { numbers = []; next = first }
 abbrev pub with_label : Numbering → List ℕ → Numbering
 with_label n label = record { numbers = n.numbers ++ (label, n.next) ∷ []; next = n.next + 1 }
 
--- a new label gets the next number, unless no number would be left after it
-abbrev pub add : Numbering → List ℕ → Result (ℕ × Numbering) NqFaultKind
-add n label =
-    if nat_lt (n.next + 1) (2 ^ 64)
-    then (Ok (n.next, with_label n label))
-    else (Err fault.Full)
-
-abbrev pub known_or_new : Numbering → List ℕ → Option ℕ → Result (ℕ × Numbering) NqFaultKind
-known_or_new n label (Some number) = Ok (number, n)
-known_or_new n label None = add n label
-
--- the number of the label, and the numbering after it
+-- The number of the label, and the numbering after it: a new label gets the next number, unless no
+-- number would be left after it.
 abbrev pub number : Numbering → List ℕ → Result (ℕ × Numbering) NqFaultKind
-number n label = known_or_new n label (lookup (bytes_eq label) n.numbers)
+number n label =
+    option_map_or (λ known. Ok (known, n)) (lookup (bytes_eq label) n.numbers)
+    (if nat_lt (n.next + 1) (2 ^ 64) then Ok (n.next, with_label n label) else Err fault.Full)

@@ -4,9 +4,10 @@
 -- that begins no lawful escape is `escape`, also one cut short by the end of the bytes. A `\`
 -- elsewhere is `token`.
 use Rattle.std.specs.Prelude.{ℕ, Bool, not, ◌||◌, ◌==◌, [], ◌∷◌}
-use Rattle.qs_lex_regular.specs.Character.{is_one_of, is_digit, is_letter, is_letter_or_digit}
-use Rattle.qs_lex_regular.specs.Character.{is_pn_chars_u, is_pn_chars, is_iri_char, is_scalar}
-use Rattle.qs_lex_regular.specs.Form.{Form, one, many, ◌⨾◌, ◌∣◌, maybe, plus, char, echar, uchar}
+use Rattle.qs_lex_regular.specs.Character.{is_one_of, is_digit, is_pn_chars_u, is_pn_chars}
+use Rattle.qs_lex_regular.specs.Character.{is_iri_char, is_scalar}
+use Rattle.qs_lex_regular.specs.Form.{Form, one, many, ◌⨾◌, ◌∣◌, maybe, char, lang_tag, echar}
+use Rattle.qs_lex_regular.specs.Form.{uchar}
 use Rattle.qs_lex_regular.specs.Longest.{Table}
 use Rattle.qs_nquads.specs.declared.class.Class.{Class}
 use Rattle.qs_nquads.specs.declared.class.Class.TheVariants as class
@@ -25,26 +26,20 @@ is_label_start c = is_pn_chars_u c || c == 58 || is_digit c
 unfoldable pub is_label_char : ℕ → Bool
 is_label_char c = is_pn_chars c || c == 58
 
--- the same, or a dot
-abbrev pub is_label_inner : ℕ → Bool
-is_label_inner c = is_label_char c || c == 46
+-- ---- what stands within labels, IRIs and strings
 
--- ---- IRIs and strings without their ends
+-- optionally characters and dots, and no dot at the end
+abbrev pub label_rest : Form
+label_rest = maybe (many (one (λ c. is_label_char c || c == 46)) ⨾ one is_label_char)
 
--- IRIREF ([10]): `<`, then characters of IRIs and UCHAR; whether an escape names a character of
+-- IRIREF ([10]): characters of IRIs and UCHAR; whether an escape names a character of
 -- IRIs is asked later
 abbrev pub iri_body : Form
 iri_body = many (one is_iri_char ∣ uchar is_scalar)
 
-abbrev pub open_iri : Form
-open_iri = char 60 ⨾ iri_body
-
--- STRING_LITERAL_QUOTE ([11]): `"`, then characters of strings, ECHAR and UCHAR
+-- STRING_LITERAL_QUOTE ([11]): characters of strings, ECHAR and UCHAR
 abbrev pub string_body : Form
 string_body = many (one is_string_char ∣ echar ∣ uchar is_scalar)
-
-abbrev pub open_string : Form
-open_string = char 34 ⨾ string_body
 
 -- ---- the table
 
@@ -54,15 +49,10 @@ table =
     (class.Iri, char 60 ⨾ iri_body ⨾ char 62)
     -- STRING_LITERAL_QUOTE ([11])
     ∷ (class.String, char 34 ⨾ string_body ⨾ char 34)
-    -- LANGTAG ([144s]): `@`, letters, then any number of `-` with letters and digits
-    ∷ (class.Tag, char 64 ⨾ plus (one is_letter) ⨾ many (char 45 ⨾ plus (one is_letter_or_digit)))
-    -- BLANK_NODE_LABEL ([141s]): `_:`, a first character, then optionally characters and dots,
-    -- and no dot at the end
-    ∷ (
-      class.Label,
-      char 95 ⨾ char 58 ⨾ one is_label_start
-          ⨾ maybe (many (one is_label_inner) ⨾ one is_label_char),
-    )
+    -- LANGTAG ([144s])
+    ∷ (class.Tag, lang_tag)
+    -- BLANK_NODE_LABEL ([141s]): `_:`, a first character, and a rest
+    ∷ (class.Label, char 95 ⨾ char 58 ⨾ one is_label_start ⨾ label_rest)
     -- `^^` of a literal's datatype ([7])
     ∷ (class.Carets, char 94 ⨾ char 94)
     -- the `.` of a statement ([2])
@@ -70,8 +60,8 @@ table =
     -- a character of EOL ([8]): LF or CR
     ∷ (class.LineEnd, one (is_one_of (10 ∷ 13 ∷ [])))
     -- no token: an IRI or a string without its end
-    ∷ (class.Open, open_iri ∣ open_string)
+    ∷ (class.Open, char 60 ⨾ iri_body ∣ char 34 ⨾ string_body)
     -- no token: the same up to a backslash, which is the longest front only where no escape
     -- begins at that backslash
-    ∷ (class.Broken, open_iri ⨾ char 92 ∣ open_string ⨾ char 92)
+    ∷ (class.Broken, (char 60 ⨾ iri_body) ⨾ char 92 ∣ (char 34 ⨾ string_body) ⨾ char 92)
     ∷ []

@@ -3,6 +3,8 @@
 use Rattle.std.specs.Prelude.{ℕ, ◌==◌, List, [], ◌∷◌, ◌++◌, decimal, Option, Some, None}
 use Rattle.std.specs.Prelude.{if◌then◌else◌}
 use Rattle.std.specs.List.{flat_map}
+use Rattle.std.specs.Map.{lookup}
+use Rattle.std.specs.Option.{option_map_or}
 use Rattle.std.specs.Str.{bytes_eq}
 use Rattle.std.specs.Ordering.{nat_cmp, match_ordering}
 use Rattle.std.specs.Cmp.Lexicographic.{slice_cmp}
@@ -11,16 +13,10 @@ use Rattle.qs_terms.specs.declared.term.Term.{Term}
 use Rattle.qs_terms.specs.declared.term.Term.TheVariants as term
 use Rattle.qs_terms.specs.Literal.{xsd_string}
 
--- `"`, `\`, LF and CR after a backslash; every other byte is itself
+-- `"` and `\` after a backslash, LF and CR as `\n` and `\r`; every other byte is itself
 abbrev pub escaped_byte : ℕ → List ℕ
-escaped_byte c =
-    if c == 34 then (92 ∷ 34 ∷ [])
-    else (if c == 92 then (92 ∷ 92 ∷ [])
-    else (if c == 10 then (92 ∷ 110 ∷ []) else (if c == 13 then (92 ∷ 114 ∷ []) else (c ∷ []))))
-
-abbrev pub escaped : List ℕ → List ℕ
-escaped [] = []
-escaped (c ∷ cs) = escaped_byte c ++ escaped cs
+escaped_byte c = option_map_or (λ letter. 92 ∷ letter ∷ [])
+    (lookup (λ b. c == b) ((34, 34) ∷ (92, 92) ∷ (10, 110) ∷ (13, 114) ∷ [])) (c ∷ [])
 
 -- `<`, the IRI as it is, and `>`
 abbrev pub iri_text : List ℕ → List ℕ
@@ -30,9 +26,9 @@ iri_text i = 60 ∷ (i ++ 62 ∷ [])
 abbrev pub label : ℕ → List ℕ
 label n = 98 ∷ decimal n
 
--- the form between `"`
+-- the form between `"`, each byte of it escaped where it has to be
 abbrev pub quoted : List ℕ → List ℕ
-quoted form = 34 ∷ (escaped form ++ 34 ∷ [])
+quoted form = 34 ∷ (flat_map escaped_byte form ++ 34 ∷ [])
 
 -- the tag, or else the datatype, unless that is xsd:string
 abbrev pub suffix : List ℕ → Option (List ℕ) → List ℕ
@@ -49,13 +45,11 @@ abbrev pub behind_space : Term → List ℕ → List ℕ
 behind_space t rest = 32 ∷ (term_text t ++ rest)
 
 abbrev pub with_graph : Option Term → List ℕ → List ℕ
-with_graph None rest = rest
-with_graph (Some name) rest = behind_space name rest
+with_graph graph rest = option_map_or (λ name. behind_space name rest) graph rest
 
 -- a statement: its terms with one space between, ` .` and LF
 abbrev pub line : Statement → List ℕ
-line q =
-    term_text q.subject ++ behind_space q.predicate
+line q = term_text q.subject ++ behind_space q.predicate
     (behind_space q.object (with_graph q.graph (32 ∷ 46 ∷ 10 ∷ [])))
 
 -- the statement among statements whose lines ascend, unless its line is there

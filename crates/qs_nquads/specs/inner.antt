@@ -1,5 +1,8 @@
 -- For proofs and the layers between: no clause of the headline cites a definition of these files.
 pub mod Run
+pub mod Labels
+pub mod Part
+pub mod Written
 pub mod State
 pub mod Joined
 pub mod Entries

@@ -5,7 +5,8 @@ ghost use Rattle.qs_terms.specs.inner.OrOutOf.{OrOutOf, WithOrOutOfMemory};
 ghost use Rattle.qs_nquads.specs.declared.fault.NqFaultKind.TheVariants.{Memory};
 ghost use Rattle.qs_lex_escapes.specs.Decoded.{decoded as decoded_text};
 ghost use Rattle.qs_lex_escapes.specs.Escape.{uchar};
-ghost use Rattle.qs_nquads.specs.Part.{iri_part};
+ghost use Rattle.qs_nquads.specs.Part as spec;
+ghost use Rattle.qs_nquads.specs.inner.Part.{iri_part};
 ghost use Rattle.qs_nquads.specs.inner.PartAt.{takes_label, label_part, part_of};
 ghost use Rattle.qs_nquads.specs.Labels.{Numbering};
 ghost use Rattle.qs_terms.specs.Iri.{checked_iri};
@@ -40,13 +41,13 @@ pub enum Part {
 }
 
 fn inside(token: &str) -> &str
-    ensures { result.now ≡ Rattle.qs_nquads.specs.Part.inside token.now }
+    ensures { result.now ≡ spec.inside token.now }
 {
     piece(token, 1, token.len().saturating_sub(1))
 }
 
 fn behind(token: &str, front: usize) -> &str
-    ensures { result.now ≡ Rattle.qs_nquads.specs.Part.behind token.now front }
+    ensures { result.now ≡ Rattle.qs_nquads.specs.inner.Part.behind token.now front }
 {
     piece(token, front, token.len())
 }

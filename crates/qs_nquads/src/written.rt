@@ -5,7 +5,8 @@ ghost use Rattle.std.specs.Option.{option_copied};
 ghost use Rattle.std.specs.Str.{bytes_eq};
 ghost use Rattle.qs_terms.specs.declared.term.Term.TheVariants.{Blank};
 ghost use Rattle.qs_terms.specs.Literal.{xsd_string};
-ghost use Rattle.qs_nquads.specs.Written.{escaped_byte, escaped, iri_text, quoted, suffix, term_text, behind_space, with_graph, line};
+ghost use Rattle.qs_nquads.specs.Written.{escaped_byte, iri_text, quoted, suffix, term_text, behind_space, with_graph, line};
+ghost use Rattle.qs_nquads.specs.inner.Written.{escaped};
 
 use qs_terms::{Lit, Quad, Term, datatype};
 use std::alloc::{AllocError, Global};

@@ -9,7 +9,8 @@ use Rattle.qs_algebra_solutions.specs.Operators.{merges, or_alone, excludes}
 use Rattle.qs_expr_meaning.specs.Meaning.{holds}
 use Rattle.qs_expr_meaning.specs.declared.expr.Expr.{Expr}
 use Rattle.qs_algebra_patterns.specs.Basic.{Graph}
-use Rattle.qs_algebra_patterns.specs.Eval.{all_hold, extended, rows_of}
+use Rattle.qs_algebra_patterns.specs.Eval.{all_hold, extended}
+use Rattle.qs_algebra_patterns.specs.inner.Eval.{rows_of}
 use Rattle.qs_algebra_patterns.specs.declared.table.Table.{Table}
 use Rattle.qs_algebra_patterns.specs.declared.pattern.TriplePattern.{TriplePattern}
 use Rattle.qs_algebra_patterns.specs.declared.pattern.PathPattern.{PathPattern}

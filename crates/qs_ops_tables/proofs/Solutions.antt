@@ -3,7 +3,8 @@ use Rattle.std.proofs.Common.{◌≡◌, ℕ, zero, suc, Bool, true, false, ◌&
 use Rattle.std.specs.List.{filter, list_any}
 use Rattle.std.specs.Option.{is_some}
 use Rattle.qs_terms.specs.declared.term.Term.{Term}
-use Rattle.qs_algebra_solutions.specs.Solution.{Solution, compatible, merge, both_bound, share}
+use Rattle.qs_algebra_solutions.specs.Solution.{Solution, compatible, merge, share}
+use Rattle.qs_algebra_solutions.specs.inner.Solution.{both_bound}
 use Rattle.qs_algebra_solutions.specs.Operators.{merges, excludes}
 use Rattle.qs_expr.specs.declared.cell.Cell.{Cell}
 use Rattle.qs_expr.specs.inner.Cell.{Cells, cell_at, denoted, denoted_if, row_solution, FitsRow}

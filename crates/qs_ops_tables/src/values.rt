@@ -3,7 +3,7 @@
 ghost use Rattle.std.specs.Prelude.{◌≡◌, IfOk};
 ghost use Rattle.std.specs.Option.{option_copied};
 ghost use Rattle.qs_algebra_solutions.specs.Solution.{binding};
-ghost use Rattle.qs_algebra_patterns.specs.Eval.{rows_of};
+ghost use Rattle.qs_algebra_patterns.specs.inner.Eval.{rows_of};
 ghost use Rattle.qs_expr.specs.inner.Cell.{FitsIf, FitsRow, denoted_if, row_solution};
 ghost use Rattle.qs_expr.specs.inner.Scratch.{IsTable, Grows};
 ghost use Rattle.qs_ops_tables.specs.inner.Tables.{FitRows, row_solutions};

@@ -1,7 +1,8 @@
 -- What the stage of a graph's name makes of a row.
 use Rattle.std.proofs.Common.{◌≡◌, ℕ, zero, suc, ◌<◌, ◌≤◌, Bool, true, false, List, [], ◌∷◌, length, Option, Some, None, slice_set, if◌then◌else◌, refl, sym, ◌∙◌, ap}
 use Rattle.qs_terms.specs.declared.term.Term.{Term}
-use Rattle.qs_algebra_solutions.specs.Solution.{Solution, term_at, unbound, compatible_terms, first_bound}
+use Rattle.qs_algebra_solutions.specs.Solution.{Solution, term_at, unbound, compatible_terms}
+use Rattle.qs_algebra_solutions.specs.inner.Solution.{first_bound}
 use Rattle.qs_algebra_solutions.specs.Operators.{merges}
 use Rattle.qs_expr.specs.inner.Cell.{Cells, cell_at, denoted, denoted_if, row_solution, FitsRow}
 use Rattle.qs_expr.specs.inner.Scratch.{IsTable, TellsSameTerm}

@@ -6,7 +6,8 @@ use Rattle.qs_terms.specs.Bag.{SameBag}
 use Rattle.qs_terms.specs.declared.term.Term.{Term}
 use Rattle.qs_algebra_solutions.specs.Solution.{Solution}
 use Rattle.qs_algebra_solutions.specs.Operators.{merges, or_alone, excludes}
-use Rattle.qs_algebra_patterns.specs.Eval.{all_hold, rows_of}
+use Rattle.qs_algebra_patterns.specs.Eval.{all_hold}
+use Rattle.qs_algebra_patterns.specs.inner.Eval.{rows_of}
 use Rattle.qs_algebra_patterns.specs.declared.table.Table.{Table}
 use Rattle.qs_expr.specs.inner.Cell.{Cells, row_solution, FitsRow}
 use Rattle.qs_plan_meaning.specs.declared.stage.Stage.{Stage}

@@ -8,7 +8,8 @@ use Rattle.qs_terms.specs.Bag.{SameBag}
 use Rattle.qs_terms.specs.declared.term.Term.{Term}
 use Rattle.qs_algebra_solutions.specs.Solution.{Solution, term_at, unbound}
 use Rattle.qs_algebra_solutions.specs.Operators.{excludes}
-use Rattle.qs_algebra_patterns.specs.Eval.{bound_to, extended}
+use Rattle.qs_algebra_patterns.specs.Eval.{extended}
+use Rattle.qs_algebra_patterns.specs.inner.Eval.{bound_to}
 use Rattle.qs_expr_meaning.specs.Meaning.{holds, meaning}
 use Rattle.qs_expr_meaning.specs.declared.expr.Expr.{Expr}
 use Rattle.qs_expr.specs.inner.Cell.{Cells, cell_at, denoted, denoted_if, row_solution, FitsCell, FitsIf, FitsRow}

@@ -9,17 +9,19 @@ use Rattle.std.proofs.lemmas.List.Elements.{All-get_or}
 use Rattle.std.proofs.lemmas.List.Sorted.{IsPermutation-append, IsPermutation-map, IsPermutation-refl, IsPermutation-sym, IsPermutation-trans, list_any-IsPermutation}
 use Rattle.qs_terms.specs.declared.term.Term.{Term}
 use Rattle.qs_terms.specs.Bag.{SameBag, with_new}
-use Rattle.qs_terms.specs.Dataset.{nodes_of, ends_of}
+use Rattle.qs_terms.specs.Dataset.{nodes_of}
+use Rattle.qs_terms.specs.inner.Dataset.{ends_of}
 use Rattle.qs_terms.specs.Term.{same_term}
 use Rattle.qs_terms.proofs.SameTerm.{same_term-Decides}
 use Rattle.qs_syntax_tree.specs.declared.path.Repetition.{Repetition}
 use Rattle.qs_syntax_tree.specs.declared.path.Repetition.TheVariants.{ZeroOrOne, ZeroOrMore, OneOrMore}
 use Rattle.qs_syntax_ast.specs.declared.path.Path.{Path}
-use Rattle.qs_paths_meaning.specs.Closure.{closure, from_start}
+use Rattle.qs_paths_meaning.specs.Closure.{closure}
+use Rattle.qs_paths_meaning.specs.inner.Steps.{from_start, pair_of}
 use Rattle.qs_paths_meaning.specs.Pair.{Pair}
 use Rattle.qs_paths_meaning.specs.inner.Pair.{same_pair}
 use Rattle.qs_paths_meaning.specs.Pairs.{AtEnds, is_step, pairs}
-use Rattle.qs_paths_meaning.specs.Steps.{Graph, along, is_outside, pair_of}
+use Rattle.qs_paths_meaning.specs.Steps.{Graph, along, is_outside}
 use Rattle.qs_paths_meaning.specs.inner.Found.{with_all}
 use Rattle.qs_paths_meaning.specs.inner.Links.{AreBelow, leads_to, named, same_number, with_numbers}
 use Rattle.qs_paths_meaning.proofs.AlongLinks.{linked_both, linked_on, linked_steps, named_at}

@@ -5,7 +5,8 @@ use Rattle.std.specs.List.{Contains, filter, flat_map, list_any}
 use Rattle.std.specs.Option.{is_some}
 use Rattle.std.proofs.lemmas.List.Sorted.{length_permutation}
 use Rattle.qs_terms.specs.Bag.{SameBag, once}
-use Rattle.qs_terms.specs.Dataset.{Triple, nodes_of, ends_of}
+use Rattle.qs_terms.specs.Dataset.{Triple, nodes_of}
+use Rattle.qs_terms.specs.inner.Dataset.{ends_of}
 use Rattle.qs_terms.specs.Term.{same_term}
 use Rattle.qs_terms.specs.declared.term.Term.{Term}
 use Rattle.qs_terms.proofs.SameTerm.{same_term-Decides}

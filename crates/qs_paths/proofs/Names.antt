@@ -9,7 +9,8 @@ use Rattle.qs_terms.specs.Bag.{Distinct, with_new}
 use Rattle.qs_terms.specs.Term.{same_term}
 use Rattle.qs_terms.proofs.FirstOnes.{filter-append}
 use Rattle.qs_paths_meaning.specs.Pair.{Pair, pair, swapped}
-use Rattle.qs_paths_meaning.specs.Steps.{agrees, from_pair}
+use Rattle.qs_paths_meaning.specs.Steps.{agrees}
+use Rattle.qs_paths_meaning.specs.inner.Steps.{from_pair}
 use Rattle.qs_paths_meaning.specs.inner.Found.{into_pair, lefts, rights, with_all}
 use Rattle.qs_paths_meaning.specs.inner.Links.{named, same_number, with_numbers}
 use Rattle.qs_paths_meaning.proofs.Finds.{map-append}

@@ -10,7 +10,8 @@ use Rattle.qs_syntax_ast.specs.declared.path.Path.{Path}
 use Rattle.qs_paths_meaning.specs.Pair.{Pair, swapped}
 use Rattle.qs_paths_meaning.specs.inner.Pair.{same_pair}
 use Rattle.qs_paths_meaning.specs.Pairs.{is_step, pairs}
-use Rattle.qs_paths_meaning.specs.Steps.{Graph, against, along, is_none, is_of, is_outside, negated}
+use Rattle.qs_paths_meaning.specs.Steps.{Graph, along, is_none, is_of, is_outside, negated}
+use Rattle.qs_paths_meaning.specs.inner.Steps.{against, from_start}
 use Rattle.qs_paths_meaning.specs.inner.Walk.{IsIn}
 use Rattle.qs_paths_meaning.proofs.Arms.{same_as, same_pair-Decides}
 use Rattle.qs_paths_meaning.proofs.Members.{mem_in}
@@ -21,7 +22,7 @@ use Rattle.qs_syntax_tree.specs.declared.path.Repetition.{Repetition}
 use Rattle.qs_syntax_ast.specs.declared.path.Path.TheVariants as path
 use Rattle.qs_store.specs.Content.{Content}
 use Rattle.qs_store.specs.declared.default_graph.DefaultGraph.{DefaultGraph}
-use Rattle.qs_paths_meaning.specs.Closure.{closure, from_start}
+use Rattle.qs_paths_meaning.specs.Closure.{closure}
 use Rattle.qs_paths_meaning.specs.inner.Found.{turned}
 use Rattle.qs_expr.specs.declared.cell.Cell.{Cell}
 use Rattle.qs_expr.specs.inner.Cell.{denoted}

@@ -11,7 +11,8 @@ use Rattle.std.proofs.lemmas.List.Folds.{list_any-append}
 use Rattle.std.proofs.lemmas.List.Sorted.{IsPermutation-refl}
 use Rattle.std.proofs.lemmas.Option.{same_Some, none-some}
 use Rattle.qs_terms.specs.Bag.{Distinct, SameBag}
-use Rattle.qs_terms.specs.Dataset.{Triple, triple_of, same_triple, nodes_of, ends_of}
+use Rattle.qs_terms.specs.Dataset.{Triple, triple_of, same_triple, nodes_of}
+use Rattle.qs_terms.specs.inner.Dataset.{ends_of}
 use Rattle.qs_terms.specs.Statement.{Statement}
 use Rattle.qs_terms.specs.Term.{same_term}
 use Rattle.qs_terms.specs.declared.term.Term.{Term}
@@ -37,7 +38,8 @@ use Rattle.qs_paths.proofs.Lists.{map_has, member_of_map, of_any, same_members}
 use Rattle.qs_paths_meaning.specs.inner.Edges.{has, having}
 use Rattle.qs_paths_meaning.specs.Pair.{Pair}
 use Rattle.qs_syntax_ast.specs.declared.path.NegatedIri.{NegatedIri}
-use Rattle.qs_paths_meaning.specs.Steps.{agrees, along, is_between, is_of, is_outside, pair_of}
+use Rattle.qs_paths_meaning.specs.Steps.{agrees, along, is_between, is_of, is_outside}
+use Rattle.qs_paths_meaning.specs.inner.Steps.{pair_of}
 use Rattle.qs_paths_meaning.proofs.Finds.{along_had, along_all}
 use Rattle.qs_paths_meaning.proofs.Members.{Mem, bool_same, false_from, mem_at, mem_of_filter, mem_of_flat, mem_of_map, mem_of_once, not_both, not_in, or_left}
 use Rattle.qs_paths_meaning.specs.inner.Links.{same_number}

@@ -13,7 +13,8 @@ use Rattle.qs_syntax_tree.specs.declared.path.Repetition.{Repetition}
 use Rattle.qs_syntax_ast.specs.declared.path.NegatedIri.{NegatedIri}
 use Rattle.qs_syntax_ast.specs.declared.path.Path.{Path}
 use Rattle.qs_syntax_ast.specs.declared.path.Path.TheVariants as path
-use Rattle.qs_paths_meaning.specs.Closure.{closure, from_start}
+use Rattle.qs_paths_meaning.specs.Closure.{closure}
+use Rattle.qs_paths_meaning.specs.inner.Steps.{from_start}
 use Rattle.qs_paths_meaning.specs.Pair.{Pair, swapped}
 use Rattle.qs_paths_meaning.specs.Pairs.{AtEnds, is_step, pairs}
 use Rattle.qs_paths_meaning.specs.Steps.{Graph, along, negated}

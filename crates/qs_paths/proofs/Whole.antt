@@ -17,7 +17,8 @@ use Rattle.qs_syntax_ast.specs.declared.path.Path.TheVariants.{Iri, NegatedSet, 
 use Rattle.qs_paths_meaning.specs.Pair.{Pair, swapped}
 use Rattle.qs_paths_meaning.specs.Closure.{closure}
 use Rattle.qs_paths_meaning.specs.Pairs.{AtEnds, in_sequence, is_step, pairs}
-use Rattle.qs_paths_meaning.specs.Steps.{Graph, against, along, composed, is_of, is_outside, negated}
+use Rattle.qs_paths_meaning.specs.Steps.{Graph, along, composed, is_of, is_outside, negated}
+use Rattle.qs_paths_meaning.specs.inner.Steps.{against}
 use Rattle.qs_paths_meaning.specs.inner.Found.{begins, into_pair, rights, right_at, turned, with_all, Holds}
 use Rattle.qs_paths_meaning.specs.inner.Links.{same_number, with_numbers}
 use Rattle.qs_paths_meaning.proofs.Arms.{any_arm, any_more, inverse_arm, iri_arm, negated_arm, no_part_after, part_before, repeated_arm, same_as, sequence_arm}

@@ -21,7 +21,8 @@ use Rattle.qs_syntax_ast.specs.declared.path.Path.{Path}
 use Rattle.qs_syntax_ast.specs.declared.path.Path.TheVariants.{Iri, NegatedSet, Alternative, Sequence, Inverse, Repeated}
 use Rattle.qs_paths_meaning.specs.Pair.{Pair, pair, swapped}
 use Rattle.qs_paths_meaning.specs.inner.Pair.{same_pair}
-use Rattle.qs_paths_meaning.specs.Steps.{Graph, along, negated, composed, from_pair}
+use Rattle.qs_paths_meaning.specs.Steps.{Graph, along, negated, composed}
+use Rattle.qs_paths_meaning.specs.inner.Steps.{from_pair}
 use Rattle.qs_paths_meaning.specs.Closure.{closure}
 use Rattle.qs_paths_meaning.specs.Pairs.{AtEnds, in_sequence, is_step, pairs}
 use Rattle.qs_paths_meaning.proofs.Meaning.{pairs_iri, pairs_negated, pairs_alternative, pairs_sequence, pairs_inverse, pairs_repeated}

@@ -16,7 +16,8 @@ use Rattle.qs_terms.proofs.SameTerm.{same_term-Decides}
 use Rattle.qs_syntax_ast.specs.declared.path.Path.{Path}
 use Rattle.qs_paths_meaning.specs.Pair.{Pair, pair}
 use Rattle.qs_paths_meaning.specs.inner.Pair.{same_pair}
-use Rattle.qs_paths_meaning.specs.Steps.{Graph, composed, from_pair}
+use Rattle.qs_paths_meaning.specs.Steps.{Graph, composed}
+use Rattle.qs_paths_meaning.specs.inner.Steps.{from_pair}
 use Rattle.qs_paths_meaning.specs.inner.Found.{node_or_open, into_pair, right_at}
 use Rattle.qs_paths_meaning.specs.Pairs.{AtEnds, in_sequence, pairs}
 use Rattle.qs_paths_meaning.proofs.Members.{in_mem, bool_same}

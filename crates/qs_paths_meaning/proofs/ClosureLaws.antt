@@ -4,7 +4,8 @@ use Rattle.std.specs.List.{filter, flat_map, list_any}
 use Rattle.qs_terms.specs.declared.term.Term.{Term}
 use Rattle.qs_terms.specs.Bag.{Distinct}
 use Rattle.qs_terms.specs.Term.{same_term}
-use Rattle.qs_terms.specs.Dataset.{nodes_of, ends_of}
+use Rattle.qs_terms.specs.Dataset.{nodes_of}
+use Rattle.qs_terms.specs.inner.Dataset.{ends_of}
 use Rattle.qs_terms.proofs.SameTerm.{same_term-Decides}
 use Rattle.qs_syntax_tree.specs.declared.path.Repetition.{Repetition}
 use Rattle.qs_syntax_ast.specs.declared.path.Path.{Path}
@@ -12,7 +13,8 @@ use Rattle.qs_syntax_ast.specs.declared.path.Path.TheVariants.{Repeated}
 use Rattle.qs_paths_meaning.specs.Pair.{Pair, pair}
 use Rattle.qs_paths_meaning.specs.inner.Pair.{same_pair}
 use Rattle.qs_paths_meaning.specs.Steps.{Graph, agrees}
-use Rattle.qs_paths_meaning.specs.Closure.{candidates, repeats, ends, starts, from_start, closure}
+use Rattle.qs_paths_meaning.specs.Closure.{candidates, repeats, ends, starts, closure}
+use Rattle.qs_paths_meaning.specs.inner.Steps.{from_start}
 use Rattle.qs_paths_meaning.specs.Pairs.{AtEnds, is_step, pairs}
 use Rattle.qs_paths_meaning.specs.inner.Walk.{IsWalk, Leads, IsIn, IsStep, MayBegin, ClosuresAreWalks, ClosuresAreDistinct}
 use Rattle.qs_paths_meaning.proofs.Meaning.{pairs_repeated}

@@ -9,7 +9,8 @@ use Rattle.qs_terms.specs.Term.{same_term}
 use Rattle.qs_terms.specs.Dataset.{Triple}
 use Rattle.qs_paths_meaning.specs.Pair.{Pair}
 use Rattle.qs_paths_meaning.specs.inner.Edges.{has, having}
-use Rattle.qs_paths_meaning.specs.Steps.{Graph, agrees, is_between, pair_of, along}
+use Rattle.qs_paths_meaning.specs.Steps.{Graph, agrees, is_between, along}
+use Rattle.qs_paths_meaning.specs.inner.Steps.{pair_of}
 use Rattle.qs_paths_meaning.specs.inner.Found.{kept}
 use Rattle.qs_paths_meaning.proofs.Arms.{flat_map_same, same_at}
 

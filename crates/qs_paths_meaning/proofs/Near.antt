@@ -4,7 +4,8 @@ use Rattle.std.specs.List.{filter, flat_map, list_any}
 use Rattle.qs_terms.specs.declared.term.Term.{Term}
 use Rattle.qs_terms.specs.declared.term.Term.TheVariants as term
 use Rattle.qs_terms.specs.Term.{same_term}
-use Rattle.qs_terms.specs.Dataset.{Triple, nodes_of, ends_of}
+use Rattle.qs_terms.specs.Dataset.{Triple, nodes_of}
+use Rattle.qs_terms.specs.inner.Dataset.{ends_of}
 use Rattle.qs_terms.proofs.SameTerm.{same_term-Decides}
 use Rattle.qs_syntax_tree.specs.declared.path.Repetition.{Repetition}
 use Rattle.qs_syntax_tree.specs.declared.path.Repetition.TheVariants.{ZeroOrOne, ZeroOrMore, OneOrMore}
@@ -12,8 +13,9 @@ use Rattle.qs_syntax_ast.specs.declared.path.NegatedIri.{NegatedIri}
 use Rattle.qs_syntax_ast.specs.declared.path.Path.{Path, Path-F, map-Path, roll-Path, ind-Path}
 use Rattle.qs_syntax_ast.specs.declared.path.Path.TheVariants.{rolls-Iri, rolls-NegatedSet, rolls-Alternative, rolls-Sequence, rolls-Inverse, rolls-Repeated}
 use Rattle.qs_paths_meaning.specs.Pair.{Pair, pair, swapped}
-use Rattle.qs_paths_meaning.specs.Steps.{Graph, agrees, is_between, pair_of, along, against, negated, is_of, is_none, is_outside, composed, from_pair}
-use Rattle.qs_paths_meaning.specs.Closure.{candidates, leads, repeats, ends, starts, from_start, closure}
+use Rattle.qs_paths_meaning.specs.Steps.{Graph, agrees, is_between, along, negated, is_of, is_none, is_outside, composed}
+use Rattle.qs_paths_meaning.specs.inner.Steps.{pair_of, against, from_pair, from_start}
+use Rattle.qs_paths_meaning.specs.Closure.{candidates, leads, repeats, ends, starts, closure}
 use Rattle.qs_paths_meaning.specs.Pairs.{AtEnds, in_sequence, is_step, pairs}
 use Rattle.qs_paths_meaning.proofs.Meaning.{pairs_iri, pairs_negated, pairs_alternative, pairs_sequence, pairs_inverse, pairs_repeated}
 use Rattle.qs_paths_meaning.proofs.Members.{Mem, mem_at, mem_split, mem_of_filter, mem_of_map, mem_of_flat, mem_flat, mem_once, or_cases}

@@ -5,7 +5,8 @@ use Rattle.std.proofs.lemmas.List.Sorted.{IsPermutation-trans, IsPermutation-ref
 use Rattle.qs_terms.specs.declared.term.Term.{Term}
 use Rattle.qs_terms.specs.Bag.{SameBag}
 use Rattle.qs_terms.specs.Term.{same_term}
-use Rattle.qs_terms.specs.Dataset.{nodes_of, ends_of}
+use Rattle.qs_terms.specs.Dataset.{nodes_of}
+use Rattle.qs_terms.specs.inner.Dataset.{ends_of}
 use Rattle.qs_terms.proofs.SameTerm.{same_term-Decides}
 use Rattle.qs_syntax_tree.specs.declared.path.Repetition.{Repetition}
 use Rattle.qs_syntax_tree.specs.declared.path.Repetition.TheVariants.{OneOrMore}
@@ -13,7 +14,8 @@ use Rattle.qs_syntax_ast.specs.declared.path.Path.{Path}
 use Rattle.qs_paths_meaning.specs.Pair.{Pair, pair}
 use Rattle.qs_paths_meaning.specs.inner.Pair.{same_pair}
 use Rattle.qs_paths_meaning.specs.Steps.{Graph, agrees}
-use Rattle.qs_paths_meaning.specs.Closure.{candidates, leads, repeats, ends, from_start, closure}
+use Rattle.qs_paths_meaning.specs.Closure.{candidates, leads, repeats, ends, closure}
+use Rattle.qs_paths_meaning.specs.inner.Steps.{from_start}
 use Rattle.qs_paths_meaning.specs.Pairs.{AtEnds, is_step, pairs}
 use Rattle.qs_paths_meaning.specs.inner.Walk.{IsWalk}
 use Rattle.qs_paths_meaning.specs.inner.Found.{with_all, lefts}

@@ -6,7 +6,8 @@ use Rattle.qs_terms.specs.declared.term.Term.{Term}
 use Rattle.qs_terms.specs.declared.term.Term.TheVariants as term
 use Rattle.qs_terms.specs.Bag.{SameBag, Distinct}
 use Rattle.qs_terms.specs.Term.{same_term}
-use Rattle.qs_terms.specs.Dataset.{nodes_of, ends_of}
+use Rattle.qs_terms.specs.Dataset.{nodes_of}
+use Rattle.qs_terms.specs.inner.Dataset.{ends_of}
 use Rattle.qs_terms.proofs.FirstOnes.{filter-append}
 use Rattle.qs_terms.proofs.SameTerm.{same_term-Decides}
 use Rattle.qs_syntax_tree.specs.declared.path.Repetition.{Repetition}
@@ -15,8 +16,9 @@ use Rattle.qs_syntax_ast.specs.declared.path.Path.{Path, Path-F, map-Path, roll-
 use Rattle.qs_syntax_ast.specs.declared.path.Path.TheVariants.{rolls-Iri, rolls-NegatedSet, rolls-Alternative, rolls-Sequence, rolls-Inverse, rolls-Repeated}
 use Rattle.qs_paths_meaning.specs.Pair.{Pair, pair, swapped}
 use Rattle.qs_paths_meaning.specs.inner.Pair.{same_pair}
-use Rattle.qs_paths_meaning.specs.Steps.{Graph, agrees, is_between, pair_of, along, against, negated, is_of, is_none, is_outside, composed, from_pair}
-use Rattle.qs_paths_meaning.specs.Closure.{candidates, ends, starts, from_start, closure}
+use Rattle.qs_paths_meaning.specs.Steps.{Graph, agrees, is_between, along, negated, is_of, is_none, is_outside, composed}
+use Rattle.qs_paths_meaning.specs.inner.Steps.{pair_of, against, from_pair, from_start}
+use Rattle.qs_paths_meaning.specs.Closure.{candidates, ends, starts, closure}
 use Rattle.qs_paths_meaning.specs.Pairs.{AtEnds, in_sequence, is_step, pairs}
 use Rattle.qs_paths_meaning.proofs.Meaning.{pairs_iri, pairs_negated, pairs_alternative, pairs_sequence, pairs_inverse, pairs_repeated}
 use Rattle.qs_paths_meaning.proofs.Members.{Mem, mem_at, mem_left, mem_right, mem_split, mem_filter, mem_of_filter, mem_map, mem_of_map, mem_flat, mem_of_flat, in_mem, mem_in, is_out, false_from, same_bag, distinct_once, mem_once, mem_of_once}

@@ -13,7 +13,8 @@ use Rattle.qs_syntax_ast.specs.declared.path.Path.{Path}
 use Rattle.qs_paths_meaning.specs.Pair.{Pair, pair, swapped}
 use Rattle.qs_paths_meaning.specs.inner.Pair.{same_pair}
 use Rattle.qs_paths_meaning.specs.Steps.{Graph, agrees}
-use Rattle.qs_paths_meaning.specs.Closure.{candidates, repeats, ends, starts, from_start, closure}
+use Rattle.qs_paths_meaning.specs.Closure.{candidates, repeats, ends, starts, closure}
+use Rattle.qs_paths_meaning.specs.inner.Steps.{from_start}
 use Rattle.qs_paths_meaning.specs.inner.Found.{turned}
 use Rattle.qs_paths_meaning.specs.Pairs.{AtEnds, is_step, pairs}
 use Rattle.qs_paths_meaning.specs.inner.Walk.{IsWalk, IsCount, Leads}

@@ -11,8 +11,8 @@ use Rattle.qs_terms.specs.Term.{same_term}
 use Rattle.qs_syntax_tree.specs.declared.path.Repetition.{Repetition}
 use Rattle.qs_syntax_tree.specs.declared.path.Repetition.TheVariants.{ZeroOrOne, ZeroOrMore}
 use Rattle.qs_syntax_tree.specs.declared.path.Repetition.TheVariants.{OneOrMore}
-use Rattle.qs_paths_meaning.specs.Pair.{Pair, pair}
-use Rattle.qs_paths_meaning.specs.Steps.{Graph, agrees}
+use Rattle.qs_paths_meaning.specs.Pair.{pair}
+use Rattle.qs_paths_meaning.specs.Steps.{Graph, AtEnds, agrees}
 
 -- the terms that a path can lead to from x
 abbrev pub candidates : Graph → Term → List Term
@@ -41,10 +41,7 @@ starts graph (Some x) right = x ∷ []
 starts graph None (Some y) = candidates graph y
 starts graph None None = nodes_of graph
 
-abbrev pub from_start : Repetition → (Term → Term → Bool) → Graph → Option Term → Term → List Pair
-from_start r step graph right x = map (pair x) (filter (agrees right) (ends r step graph x))
-
-abbrev pub closure : Repetition → (Term → Term → Bool) → Graph → Option Term → Option Term
-    → List Pair
-closure repetition step graph left right =
-    flat_map (from_start repetition step graph right) (starts graph left right)
+abbrev pub closure : Repetition → (Term → Term → Bool) → Graph → AtEnds
+closure r step graph left right =
+    flat_map (λ x. map (pair x) (filter (agrees right) (ends r step graph x)))
+    (starts graph left right)

@@ -1,7 +1,7 @@
 -- The pairs of terms that a path leads between (SPARQL 1.1 Query, 9 and 18.4). An end is a term or
 -- open. `^` swaps the pairs, `|` puts the lists of its parts together, and `/` joins them by the
 -- middle, with each later part evaluated from an open end.
-use Rattle.std.specs.Prelude.{Bool, List, [], ◌∷◌, map, Option, Some, None}
+use Rattle.std.specs.Prelude.{Bool, List, [], ◌∷◌, map, Some, None}
 use Rattle.std.specs.List.{flat_map, list_any}
 use Rattle.qs_terms.specs.declared.term.Term.{Term}
 use Rattle.qs_terms.specs.declared.term.Term.TheVariants as term
@@ -9,13 +9,10 @@ use Rattle.qs_terms.specs.Term.{same_term}
 use Rattle.qs_syntax_ast.specs.declared.path.Path.{Path, fold-Path}
 use Rattle.qs_syntax_ast.specs.declared.path.Path.TheOpen.{Path-F, Iri, NegatedSet, Alternative}
 use Rattle.qs_syntax_ast.specs.declared.path.Path.TheOpen.{Sequence, Inverse, Repeated}
-use Rattle.qs_paths_meaning.specs.Pair.{Pair, swapped}
+use Rattle.qs_paths_meaning.specs.Pair.{swapped}
+pub use Rattle.qs_paths_meaning.specs.Steps.{AtEnds}
 use Rattle.qs_paths_meaning.specs.Steps.{Graph, along, negated, composed}
 use Rattle.qs_paths_meaning.specs.Closure.{closure}
-
--- the pairs at these ends
-abbrev pub AtEnds : Type 0
-AtEnds = Option Term → Option Term → List Pair
 
 abbrev pub in_sequence : List AtEnds → AtEnds
 in_sequence [] left right = []

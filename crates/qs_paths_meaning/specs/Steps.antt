@@ -14,7 +14,10 @@ use Rattle.qs_paths_meaning.specs.Pair.{Pair, pair, swapped}
 abbrev pub Graph : Type 0
 Graph = List Triple
 
--- an end is a term, or open
+-- the pairs at these ends, of which each is a term, or open
+abbrev pub AtEnds : Type 0
+AtEnds = Option Term → Option Term → List Pair
+
 abbrev pub agrees : Option Term → Term → Bool
 agrees None t = true
 agrees (Some e) t = same_term e t
@@ -23,17 +26,10 @@ agrees (Some e) t = same_term e t
 abbrev pub is_between : Option Term → Option Term → Pair → Bool
 is_between left right e = agrees left e.left && agrees right e.right
 
-abbrev pub pair_of : Triple → Pair
-pair_of t = pair t.subject t.object
-
 -- one for each triple whose predicate passes the test and whose ends agree
-abbrev pub along : (Term → Bool) → Graph → Option Term → Option Term → List Pair
-along test graph left right =
-    filter (is_between left right) (map pair_of (filter (λ t. test t.predicate) graph))
-
--- the same against the direction of the triples
-abbrev pub against : (Term → Bool) → Graph → Option Term → Option Term → List Pair
-against test graph left right = map swapped (along test graph right left)
+abbrev pub along : (Term → Bool) → Graph → AtEnds
+along test graph left right = filter (is_between left right)
+    (map (λ t. pair t.subject t.object) (filter (λ t. test t.predicate) graph))
 
 -- the member's direction: against that of the triples, where `^` stands before it
 abbrev pub is_of : Bool → NegatedIri → Bool
@@ -48,18 +44,16 @@ is_none (m ∷ members) = false
 abbrev pub is_outside : Bool → List NegatedIri → Term → Bool
 is_outside inverse ms t = not (list_any (λ m. is_of inverse m && same_term (term.Iri m.iri) t) ms)
 
--- the forward part, where the set names a forward IRI or nothing; and the inverse part, where it
--- names an inverse
-abbrev pub negated : List NegatedIri → Graph → Option Term → Option Term → List Pair
+-- the forward part, where the set names a forward IRI or nothing; and the inverse part, against the
+-- direction of the triples, where it names an inverse
+abbrev pub negated : List NegatedIri → Graph → AtEnds
 negated members graph left right =
     (if list_any (is_of false) members || is_none members
     then along (is_outside false members) graph left right else [])
-    ++ (if list_any (is_of true) members then against (is_outside true members) graph left right
-    else [])
-
-abbrev pub from_pair : List Pair → Pair → List Pair
-from_pair qs e = map (λ f. pair e.left f.right) (filter (λ f. same_term e.right f.left) qs)
+    ++ (if list_any (is_of true) members
+    then map swapped (along (is_outside true members) graph right left) else [])
 
 -- (x, z) for each (x, y) of the first and each (y, z) of the second
 abbrev pub composed : List Pair → List Pair → List Pair
-composed ps qs = flat_map (from_pair qs) ps
+composed ps qs =
+    flat_map (λ e. map (λ f. pair e.left f.right) (filter (λ f. same_term e.right f.left) qs)) ps

@@ -8,14 +8,15 @@ use Rattle.qs_terms.specs.Bag.{SameBag}
 use Rattle.qs_terms.specs.Statement.{Statement}
 use Rattle.qs_terms.specs.declared.term.Term.{Term}
 use Rattle.qs_terms.proofs.SameTerm.{same_term-Decides}
-use Rattle.qs_expr_values.specs.Values.{is_true}
+use Rattle.qs_expr_values.specs.inner.Values.{is_true}
 use Rattle.qs_expr_meaning.specs.declared.expr.Expr.{Expr}
 use Rattle.qs_expr_meaning.specs.declared.expr.Expr.TheVariants.{And}
 use Rattle.qs_expr_meaning.specs.Meaning.{meaning, holds, truth}
 use Rattle.qs_expr_meaning.specs.Truth.{both, every}
 use Rattle.qs_expr_meaning.proofs.Equations.{and_is}
 use Rattle.qs_expr_meaning.proofs.Truths.{truth_of}
-use Rattle.qs_algebra_solutions.specs.Solution.{Solution, term_at, unbound, compatible_terms, compatible, first_bound, merge}
+use Rattle.qs_algebra_solutions.specs.Solution.{Solution, term_at, unbound, compatible_terms, compatible, merge}
+use Rattle.qs_algebra_solutions.specs.inner.Solution.{first_bound}
 use Rattle.qs_algebra_solutions.specs.Operators.{merges, excludes}
 use Rattle.qs_algebra_patterns.specs.Basic.{Graph}
 use Rattle.qs_algebra_patterns.specs.Eval.{all_hold}

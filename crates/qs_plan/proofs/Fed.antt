@@ -9,11 +9,12 @@ use Rattle.qs_terms.specs.Bag.{Distinct, SameBag}
 use Rattle.qs_terms.specs.Dataset.{same_triple}
 use Rattle.qs_terms.specs.Statement.{Statement, same_statement}
 use Rattle.qs_expr_meaning.specs.declared.expr.Expr.{Expr}
-use Rattle.qs_algebra_solutions.specs.Solution.{Solution, term_at, unbound, compatible, first_bound, merge}
+use Rattle.qs_algebra_solutions.specs.Solution.{Solution, term_at, unbound, compatible, merge}
+use Rattle.qs_algebra_solutions.specs.inner.Solution.{first_bound}
 use Rattle.qs_algebra_solutions.specs.Operators.{merges, or_alone}
 use Rattle.qs_algebra_patterns.specs.Basic.{Graph as Triples}
-use Rattle.qs_algebra_patterns.specs.Eval.{eval, all_hold, kept}
-use Rattle.qs_algebra_patterns.specs.inner.Eval.{step}
+use Rattle.qs_algebra_patterns.specs.Eval.{eval, all_hold}
+use Rattle.qs_algebra_patterns.specs.inner.Eval.{kept, step}
 use Rattle.qs_algebra_patterns.specs.declared.pattern.PatternNode.{PatternNode}
 use Rattle.qs_algebra_patterns.specs.declared.pattern.PatternNode.TheVariants as pattern
 use Rattle.qs_algebra_patterns.specs.declared.pattern.Step.{Step}

@@ -7,19 +7,22 @@ use Rattle.qs_terms.specs.Term.{same_term}
 use Rattle.qs_terms.specs.declared.term.Term.{Term}
 use Rattle.qs_terms.specs.declared.term.Term.TheVariants as term
 use Rattle.qs_terms.proofs.SameTerm.{same_term-Decides}
-use Rattle.qs_expr_values.specs.Values.{Worth, integer, boolean, text, other, worth, compare, equal, equal_terms, by_order, is_literal, is_true}
-use Rattle.qs_expr_meaning.specs.Calls.{is_iri, binary}
+use Rattle.qs_expr_values.specs.Values.{Worth, integer, boolean, text, other, worth, compare, equal, equal_terms, is_literal}
+use Rattle.qs_expr_values.specs.inner.Values.{is_true, by_order}
+use Rattle.qs_expr_meaning.specs.Calls.{binary, of_both}
+use Rattle.qs_terms.specs.Statement.{is_iri}
 use Rattle.qs_expr_meaning.specs.Truth.{either}
-use Rattle.qs_expr_meaning.specs.Meaning.{meaning, holds, truth, of_both, compared, among}
+use Rattle.qs_expr_meaning.specs.Meaning.{meaning, holds, truth, compared, among}
 use Rattle.qs_expr_meaning.specs.declared.expr.Expr.{Expr}
 use Rattle.qs_expr_meaning.specs.declared.expr.Expr.TheVariants as expr
-use Rattle.qs_expr_meaning.specs.declared.operator.Comparison.TheVariants.{Equal}
-use Rattle.qs_expr_meaning.specs.declared.operator.BinaryFunction.TheVariants.{SameTerm}
+use Rattle.qs_syntax_tree.specs.declared.expression.Comparison.TheVariants.{Equal}
+use Rattle.qs_syntax_tree.specs.declared.expression.BinaryFunction.TheVariants.{SameTerm}
 use Rattle.qs_expr_meaning.proofs.Equations.{variable_is, term_is, compare_is, binary_is, in_is}
 use Rattle.qs_expr_meaning.proofs.Truths.{truth_of, truth_told}
 use Rattle.qs_algebra_solutions.specs.Solution.{Solution, term_at}
 use Rattle.qs_algebra_solutions.specs.Operators.{merges, or_alone, excludes}
-use Rattle.qs_algebra_patterns.specs.Eval.{eval, all_hold, bound_to}
+use Rattle.qs_algebra_patterns.specs.Eval.{eval, all_hold}
+use Rattle.qs_algebra_patterns.specs.inner.Eval.{bound_to}
 use Rattle.qs_algebra_patterns.specs.declared.pattern.PatternNode.{PatternNode}
 use Rattle.qs_algebra_patterns.specs.declared.pattern.Step.{Step}
 use Rattle.qs_algebra_patterns.specs.declared.pattern.Step.TheVariants as one

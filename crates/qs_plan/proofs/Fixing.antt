@@ -20,8 +20,8 @@ use Rattle.qs_algebra_solutions.specs.Solution.{Solution, term_at, unbound, bind
 use Rattle.qs_algebra_solutions.specs.Operators.{merges}
 use Rattle.qs_algebra_solutions.proofs.Same.{same_solution-Decides}
 use Rattle.qs_algebra_patterns.specs.Basic.{Graph}
-use Rattle.qs_algebra_patterns.specs.Eval.{eval, all_hold, kept, rows_of}
-use Rattle.qs_algebra_patterns.specs.inner.Eval.{step}
+use Rattle.qs_algebra_patterns.specs.Eval.{eval, all_hold}
+use Rattle.qs_algebra_patterns.specs.inner.Eval.{kept, rows_of, step}
 use Rattle.qs_algebra_patterns.specs.declared.table.Table.{Table}
 use Rattle.qs_algebra_patterns.specs.declared.pattern.PatternNode.TheVariants as pattern
 use Rattle.qs_algebra_patterns.specs.declared.pattern.PatternNode.{PatternNode}

@@ -13,7 +13,8 @@ use Rattle.qs_algebra_patterns.specs.declared.pattern.TriplePattern.{TriplePatte
 use Rattle.qs_terms.specs.Bag.{Distinct, SameBag, once}
 use Rattle.qs_terms.proofs.FirstOnes.{any_kept, once_distinct}
 use Rattle.qs_algebra_solutions.specs.Solution.{Solution, term_at, same_solution, unbound}
-use Rattle.qs_algebra_patterns.specs.Basic.{Graph, is_variable, mentions, value, instance, is_in, puts_into, terms_of_triple, terms_of, all_maps, matches}
+use Rattle.qs_algebra_patterns.specs.Basic.{Graph, is_variable, mentions, value, instance, is_in, puts_into, terms_of, all_maps, matches}
+use Rattle.qs_algebra_patterns.specs.inner.Basic.{terms_of_triple}
 use Rattle.qs_plan_meaning.specs.inner.Scans.{found}
 use Rattle.qs_plan.proofs.Below.{AllBelow}
 use Rattle.qs_plan.proofs.AndOr.{and_left, and_right, or_cases, or_first, or_second}

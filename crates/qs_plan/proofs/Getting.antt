@@ -8,10 +8,11 @@ use Rattle.qs_terms.specs.Statement.{Statement}
 use Rattle.qs_terms.specs.Term.{same_term}
 use Rattle.qs_terms.specs.declared.term.Term.{Term}
 use Rattle.qs_paths_meaning.specs.Pair.{Pair}
-use Rattle.qs_algebra_solutions.specs.Solution.{Solution, term_at, unbound, bind_all, binding, compatible, first_bound, merge}
+use Rattle.qs_algebra_solutions.specs.Solution.{Solution, term_at, unbound, bind_all, binding, compatible, merge}
+use Rattle.qs_algebra_solutions.specs.inner.Solution.{first_bound}
 use Rattle.qs_algebra_solutions.specs.Operators.{merges}
 use Rattle.qs_algebra_patterns.specs.Basic.{Graph}
-use Rattle.qs_algebra_patterns.specs.Eval.{rows_of}
+use Rattle.qs_algebra_patterns.specs.inner.Eval.{rows_of}
 use Rattle.qs_algebra_patterns.specs.declared.pattern.Slot.{Slot}
 use Rattle.qs_algebra_patterns.specs.declared.pattern.Slot.TheVariants as slot
 use Rattle.qs_algebra_patterns.specs.declared.table.Table.{Table}

@@ -12,7 +12,8 @@ use Rattle.qs_expr_meaning.specs.Meaning.{holds}
 use Rattle.qs_algebra_solutions.specs.Solution.{Solution, term_at, binding, compatible, merge}
 use Rattle.qs_algebra_solutions.specs.Operators.{merges, or_alone, excludes}
 use Rattle.qs_algebra_patterns.specs.Basic.{Graph}
-use Rattle.qs_algebra_patterns.specs.Eval.{all_hold, rows_of}
+use Rattle.qs_algebra_patterns.specs.Eval.{all_hold}
+use Rattle.qs_algebra_patterns.specs.inner.Eval.{rows_of}
 use Rattle.qs_algebra_patterns.specs.declared.pattern.Slot.{Slot}
 use Rattle.qs_algebra_patterns.specs.declared.pattern.Slot.TheVariants as slot
 use Rattle.qs_algebra_patterns.specs.declared.table.Table.{Table}

@@ -15,7 +15,8 @@ use Rattle.qs_expr_meaning.specs.Meaning.{holds}
 use Rattle.qs_algebra_solutions.specs.Solution.{Solution, term_at, unbound, merge, compatible}
 use Rattle.qs_algebra_solutions.specs.Operators.{merges, join, or_alone, excludes, minus}
 use Rattle.qs_algebra_patterns.specs.Basic.{Graph as Triples}
-use Rattle.qs_algebra_patterns.specs.Eval.{eval, all_hold, kept, extended, rows_of}
+use Rattle.qs_algebra_patterns.specs.Eval.{eval, all_hold, extended}
+use Rattle.qs_algebra_patterns.specs.inner.Eval.{kept, rows_of}
 use Rattle.qs_algebra_patterns.specs.inner.Eval.{step}
 use Rattle.qs_algebra_patterns.specs.declared.table.Table.{Table}
 use Rattle.qs_algebra_patterns.specs.declared.pattern.PatternNode.{PatternNode}

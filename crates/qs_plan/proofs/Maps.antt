@@ -7,7 +7,8 @@ use Rattle.qs_terms.specs.Term.{same_term}
 use Rattle.qs_terms.proofs.SameTerm.{same_term-Decides}
 use Rattle.qs_terms.specs.Bag.{Distinct}
 use Rattle.qs_terms.specs.inner.Bag.{times}
-use Rattle.qs_algebra_solutions.specs.Solution.{Solution, same_cell, same_solution}
+use Rattle.qs_algebra_solutions.specs.Solution.{Solution, same_solution}
+use Rattle.qs_algebra_solutions.specs.inner.Solution.{same_cell}
 use Rattle.qs_algebra_patterns.specs.Basic.{all_maps}
 use Rattle.qs_terms.proofs.Counts.{total, Once, once_like, once_at, once_total, AnyOf, times-flat_map, cond_zero}
 use Rattle.qs_algebra_solutions.proofs.Same.{same_cell-Decides}

@@ -5,9 +5,11 @@ use Rattle.std.specs.List.{AllByRecursion, filter, flat_map, list_any}
 use Rattle.qs_terms.specs.declared.term.Term.{Term}
 use Rattle.qs_expr_meaning.specs.Meaning.{meaning, holds}
 use Rattle.qs_expr_meaning.specs.declared.expr.Expr.{Expr}
-use Rattle.qs_algebra_solutions.specs.Solution.{Solution, term_at, compatible_terms, compatible, first_bound, merge}
+use Rattle.qs_algebra_solutions.specs.Solution.{Solution, term_at, compatible_terms, compatible, merge}
+use Rattle.qs_algebra_solutions.specs.inner.Solution.{first_bound}
 use Rattle.qs_algebra_solutions.specs.Operators.{merges, or_alone}
-use Rattle.qs_algebra_patterns.specs.Eval.{all_hold, kept}
+use Rattle.qs_algebra_patterns.specs.Eval.{all_hold}
+use Rattle.qs_algebra_patterns.specs.inner.Eval.{kept}
 use Rattle.qs_plan.specs.inner.Reads.{Agree, Settles}
 use Rattle.qs_plan.proofs.Commutes.{Commutes, to_compatible, merges_commute, merge_assoc, compatible_assoc}
 use Rattle.qs_plan.proofs.Getting.{same_number}

@@ -9,10 +9,12 @@ use Rattle.qs_terms.specs.declared.term.Term.{Term}
 use Rattle.qs_paths_meaning.specs.Pair.{Pair}
 use Rattle.qs_expr_meaning.specs.declared.expr.Expr.{Expr}
 use Rattle.qs_expr_meaning.specs.Meaning.{meaning, holds}
-use Rattle.qs_algebra_solutions.specs.Solution.{Solution, term_at, binding, compatible, first_bound, merge}
+use Rattle.qs_algebra_solutions.specs.Solution.{Solution, term_at, binding, compatible, merge}
+use Rattle.qs_algebra_solutions.specs.inner.Solution.{first_bound}
 use Rattle.qs_algebra_solutions.specs.Operators.{merges, or_alone, excludes}
 use Rattle.qs_algebra_patterns.specs.Basic.{Graph}
-use Rattle.qs_algebra_patterns.specs.Eval.{all_hold, bound_to, rows_of}
+use Rattle.qs_algebra_patterns.specs.Eval.{all_hold}
+use Rattle.qs_algebra_patterns.specs.inner.Eval.{bound_to, rows_of}
 use Rattle.qs_algebra_patterns.specs.declared.pattern.Slot.{Slot}
 use Rattle.qs_algebra_patterns.specs.declared.pattern.Slot.TheVariants as slot
 use Rattle.qs_algebra_patterns.specs.declared.pattern.PathPattern.{PathPattern}

@@ -16,7 +16,8 @@ use Rattle.qs_syntax_ast.specs.declared.path.Path.{Path}
 use Rattle.qs_syntax_ast.specs.declared.path.Path.TheVariants as path
 use Rattle.qs_paths_meaning.specs.Pair.{Pair, pair, swapped}
 use Rattle.qs_paths_meaning.specs.Pairs.{AtEnds, in_sequence, pairs}
-use Rattle.qs_paths_meaning.specs.Steps.{Graph, agrees, along, composed, from_pair, is_between, pair_of}
+use Rattle.qs_paths_meaning.specs.Steps.{Graph, agrees, along, composed, is_between}
+use Rattle.qs_paths_meaning.specs.inner.Steps.{from_pair, pair_of}
 use Rattle.qs_paths_meaning.proofs.Meaning.{pairs_alternative, pairs_inverse, pairs_iri, pairs_sequence}
 use Rattle.qs_algebra_patterns.specs.declared.pattern.Slot.{Slot}
 use Rattle.qs_algebra_patterns.specs.declared.pattern.Slot.TheVariants as slot

@@ -13,7 +13,8 @@ use Rattle.qs_algebra_solutions.specs.Solution.{Solution, term_at, same_solution
 use Rattle.qs_algebra_patterns.specs.declared.pattern.Slot.{Slot}
 use Rattle.qs_algebra_patterns.specs.declared.pattern.Slot.TheVariants as slot
 use Rattle.qs_algebra_patterns.specs.declared.pattern.TriplePattern.{TriplePattern}
-use Rattle.qs_algebra_patterns.specs.Basic.{Graph, value, triple_from, instance, is_in, puts_into, mentions, terms_of, terms_of_triple, all_maps, matches}
+use Rattle.qs_algebra_patterns.specs.Basic.{Graph, value, triple_from, instance, is_in, puts_into, mentions, terms_of, all_maps, matches}
+use Rattle.qs_algebra_patterns.specs.inner.Basic.{terms_of_triple}
 use Rattle.qs_plan.specs.inner.Below.{slot_below, triple_below, all_below}
 use Rattle.qs_algebra_solutions.proofs.Same.{same_solution-Decides}
 use Rattle.qs_plan.proofs.Maps.{Fits, maps_once}

@@ -7,15 +7,15 @@ use Rattle.qs_terms.specs.declared.term.Term.{Term as RdfTerm}
 use Rattle.qs_algebra_solutions.specs.Solution.{Solution, term_at}
 use Rattle.qs_expr_meaning.specs.Truth.{any, every, denied}
 use Rattle.qs_expr_meaning.specs.Calls.{joined, strings}
-use Rattle.qs_expr_meaning.specs.Meaning.{added, among, boolean_value, first_value, integer_value, meaning, multiplied, number, truth}
-use Rattle.qs_expr_meaning.specs.inner.Meaning.{addend_meaning}
+use Rattle.qs_expr_meaning.specs.Meaning.{added, among, first_value, meaning, multiplied, number, truth}
+use Rattle.qs_expr_meaning.specs.inner.Meaning.{boolean_value, integer_value, addend_meaning}
 use Rattle.qs_expr_meaning.specs.declared.expr.Addend.{Addend}
 use Rattle.qs_expr_meaning.specs.declared.expr.Expr.{Expr}
 use Rattle.qs_expr_meaning.specs.declared.expr.Expr.TheVariants.{Variable, Term, Bound, Not, Signed, Unary, Compare, Binary, If, Or, And, Coalesce, Concat, In, NotIn, Sum, Product}
-use Rattle.qs_expr_meaning.specs.declared.operator.Comparison.{Comparison}
-use Rattle.qs_expr_meaning.specs.declared.operator.Sign.{Sign}
-use Rattle.qs_expr_meaning.specs.declared.operator.UnaryFunction.{UnaryFunction}
-use Rattle.qs_expr_meaning.specs.declared.operator.BinaryFunction.{BinaryFunction}
+use Rattle.qs_syntax_tree.specs.declared.expression.Comparison.{Comparison}
+use Rattle.qs_syntax_tree.specs.declared.expression.Sign.{Sign}
+use Rattle.qs_syntax_tree.specs.declared.expression.UnaryFunction.{UnaryFunction}
+use Rattle.qs_syntax_tree.specs.declared.expression.BinaryFunction.{BinaryFunction}
 use Rattle.qs_expr_meaning.proofs.Equations.{variable_is, term_is, bound_is, not_is, signed_is, unary_is, compare_is, binary_is, or_is, and_is, coalesce_is, concat_is, if_is, in_is, not_in_is, product_is, sum_is, addend_is}
 use Rattle.qs_plan.specs.inner.Reads.{Agree, Settles, SettlesOperand, Grows}
 

@@ -12,7 +12,8 @@ use Rattle.qs_terms.specs.declared.term.Term.{Term}
 use Rattle.qs_terms.proofs.Counts.{total, times-flat_map}
 use Rattle.qs_terms.proofs.SameTerm.{same_term-Decides}
 use Rattle.qs_paths_meaning.specs.Pair.{Pair}
-use Rattle.qs_algebra_solutions.specs.Solution.{Solution, term_at, unbound, compatible_terms, compatible, first_bound, merge, same_solution}
+use Rattle.qs_algebra_solutions.specs.Solution.{Solution, term_at, unbound, compatible_terms, compatible, merge, same_solution}
+use Rattle.qs_algebra_solutions.specs.inner.Solution.{first_bound}
 use Rattle.qs_algebra_solutions.specs.Operators.{merges, join}
 use Rattle.qs_algebra_patterns.specs.Basic.{Graph}
 use Rattle.qs_algebra_patterns.specs.declared.pattern.Slot.{Slot}

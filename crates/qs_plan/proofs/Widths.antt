@@ -10,7 +10,8 @@ use Rattle.qs_paths_meaning.specs.Pair.{Pair}
 use Rattle.qs_paths_meaning.specs.Pairs.{pairs}
 use Rattle.qs_expr_meaning.specs.declared.expr.Expr.{Expr}
 use Rattle.qs_expr_meaning.specs.Meaning.{meaning}
-use Rattle.qs_algebra_solutions.specs.Solution.{Solution, term_at, unbound, binding, bind_all, compatible_terms, compatible, first_bound, merge}
+use Rattle.qs_algebra_solutions.specs.Solution.{Solution, term_at, unbound, binding, bind_all, compatible_terms, compatible, merge}
+use Rattle.qs_algebra_solutions.specs.inner.Solution.{first_bound}
 use Rattle.qs_algebra_solutions.specs.Operators.{merges, join, or_alone, excludes}
 use Rattle.qs_algebra_patterns.specs.declared.pattern.Slot.{Slot}
 use Rattle.qs_algebra_patterns.specs.declared.pattern.Slot.TheVariants as slot
@@ -24,8 +25,8 @@ use Rattle.qs_algebra_patterns.specs.declared.pattern.PatternNode.{PatternNode, 
 use Rattle.qs_algebra_patterns.specs.declared.pattern.PatternNode.TheOpen as level
 use Rattle.qs_algebra_patterns.specs.declared.pattern.PatternNode.TheVariants.{Basic, rolls-Basic, rolls-Group, rolls-Union, rolls-Graph, rolls-EachGraph, rolls-Values}
 use Rattle.qs_algebra_patterns.specs.Basic.{Graph as Triples, mentions, puts_into, terms_of, all_maps, matches, end_of, fits, with_term, ends_bound, path_solutions, with_paths}
-use Rattle.qs_algebra_patterns.specs.Eval.{eval, all_hold, bound_to, extended, in_each, rows_of}
-use Rattle.qs_algebra_patterns.specs.inner.Eval.{step}
+use Rattle.qs_algebra_patterns.specs.Eval.{eval, all_hold, extended, in_each}
+use Rattle.qs_algebra_patterns.specs.inner.Eval.{bound_to, rows_of, step}
 use Rattle.qs_algebra_patterns.proofs.Meaning.{eval_basic, eval_group, eval_union, eval_graph, eval_each_graph, eval_values, step_join, step_left_join, step_minus, step_extend}
 use Rattle.qs_plan.proofs.Commutes.{all_map}
 

@@ -2,7 +2,7 @@
 
 ghost use Rattle.std.specs.Prelude.{◌≡◌, ◌==◌, ◌<◌, ◌≤◌, ◌+◌, ◌⊎◌, true, [], length, take, slice_index_or, None, IsSome, IfOk};
 ghost use Rattle.std.specs.List.{AllByRecursion, list_any};
-ghost use Rattle.qs_algebra_patterns.specs.Eval.{rows_of};
+ghost use Rattle.qs_algebra_patterns.specs.inner.Eval.{rows_of};
 ghost use Rattle.qs_algebra_patterns.specs.declared.pattern.Slot.TheVariants as slots;
 ghost use Rattle.qs_plan.specs.inner.Certain.{Bound, Keeps, Gets, Binds, Steady, Filled, Ends, Holds};
 ghost use Rattle.qs_plan.specs.inner.Reads.{Leaves};

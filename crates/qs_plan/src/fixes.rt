@@ -10,10 +10,11 @@ ghost use Rattle.std.specs.List.{AllByRecursion, list_any};
 ghost use Rattle.qs_terms.specs.Bag.{Distinct, with_new};
 ghost use Rattle.qs_terms.specs.Term.{same_term};
 ghost use Rattle.qs_expr_meaning.specs.Calls as calls;
+ghost use Rattle.qs_terms.specs.Statement as inner_calls;
 ghost use Rattle.qs_expr_meaning.specs.declared.expr.Expr.{Expr as Condition};
 ghost use Rattle.qs_expr_meaning.specs.declared.expr.Expr.TheVariants as exprs;
-ghost use Rattle.qs_expr_meaning.specs.declared.operator.Comparison.TheVariants.{Equal};
-ghost use Rattle.qs_expr_meaning.specs.declared.operator.BinaryFunction.TheVariants.{SameTerm};
+ghost use Rattle.qs_syntax_tree.specs.declared.expression.Comparison.TheVariants.{Equal};
+ghost use Rattle.qs_syntax_tree.specs.declared.expression.BinaryFunction.TheVariants.{SameTerm};
 ghost use Rattle.qs_plan_meaning.specs.declared.stage.Stage.TheVariants as stage;
 ghost use Rattle.qs_plan.specs.inner.Fixes.{Admits, Fixes, HasNew, Instead, IsIri, IsOnly, SettledBy, StepKeeps};
 
@@ -51,7 +52,7 @@ fn variable_of(expr: &Expr) -> Option<usize>
 }
 
 fn is_iri_term(term: &Term) -> bool
-    ensures { result ≡ calls.is_iri term.now }
+    ensures { result ≡ inner_calls.is_iri term.now }
 {
     match term {
         Term::Iri(_) => true,

@@ -19,7 +19,8 @@ use Rattle.qs_algebra_solutions.specs.declared.answer.Answer.{Answer}
 use Rattle.qs_algebra_solutions.proofs.Same.{same_solution-Decides}
 use Rattle.qs_expr_values.specs.Sorting as of
 use Rattle.qs_query_order.proofs.Total.{lists_total}
-use Rattle.qs_query_order.specs.Order.{compare, compare_by, IsOrdered}
+use Rattle.qs_query_order.specs.Order.{compare, IsOrdered}
+use Rattle.qs_query_order.specs.inner.Order.{compare_by}
 use Rattle.qs_query_order.specs.inner.Order.{AreFirstIf}
 use Rattle.qs_query_order.specs.inner.Keys.{compare_keys, keys_of}
 use Rattle.qs_query_order.specs.declared.condition.OrderCondition.{OrderCondition}
@@ -29,7 +30,9 @@ use Rattle.qs_query_template.specs.Instances.{made}
 use Rattle.qs_query_forms.specs.Outcome.{IsBuilt, IsConstructed}
 use Rattle.qs_query_forms.specs.declared.construction.Construction.{Construction}
 use Rattle.qs_query_forms.specs.inner.InOrder.{AreEnough, AreListed, AreRest, ByLimit, IsFront, IsGraphOfRest, IsRows, IsRowsOf, Suffices, bounded, projected_where}
-use Rattle.qs_query_forms.specs.Sequence.{limited, sliced, once_where, listed_rows, count}
+use Rattle.qs_query_forms.specs.Sequence.{sliced, listed_rows, count}
+use Rattle.qs_query_forms.specs.inner.Sequence.{limited}
+use Rattle.qs_query_forms.specs.inner.Sequence.{once_where}
 use Rattle.qs_query_forms.specs.declared.selection.Selection.{Selection}
 use Rattle.qs_query_forms.proofs.Enough.{graph_from_some, part_same, rows_from_some, same_of_all, too_many, unordered, weaker}
 use Rattle.qs_query_forms.proofs.Fronts.{enough_to_select}

@@ -8,7 +8,8 @@ use Rattle.std.specs.Ordering.{ordering_then}
 use Rattle.std.specs.declared.cmp.Ordering.{Ordering}
 use Rattle.std.specs.declared.cmp.Ordering.TheVariants.{Less, Equal, Greater}
 use Rattle.qs_terms.specs.declared.term.Term.{Term}
-use Rattle.qs_algebra_solutions.specs.Solution.{Solution, same_cell, same_solution}
+use Rattle.qs_algebra_solutions.specs.Solution.{Solution, same_solution}
+use Rattle.qs_algebra_solutions.specs.inner.Solution.{same_cell}
 use Rattle.qs_algebra_solutions.proofs.TermOrder.{cmp, tells}
 
 -- the order of lent terms

@@ -16,7 +16,9 @@ use Rattle.qs_algebra_solutions.specs.declared.answer.Answer.{Answer}
 use Rattle.qs_query_template.specs.Instances.{made}
 use Rattle.qs_query_forms.specs.inner.InOrder.{AllowsMore, ByLimit, AreEnough, AreFew, IsFront, Suffices, SufficesToSelect, IsRowsOf, IsRows, IsGraphOf, bounded}
 use Rattle.qs_query_forms.specs.Outcome.{IsBuilt, IsConstructed}
-use Rattle.qs_query_forms.specs.Sequence.{limited, sliced, once_where, listed_rows, has_solution, count}
+use Rattle.qs_query_forms.specs.Sequence.{sliced, listed_rows, has_solution, count}
+use Rattle.qs_query_forms.specs.inner.Sequence.{limited}
+use Rattle.qs_query_forms.specs.inner.Sequence.{once_where}
 use Rattle.qs_query_forms.specs.declared.construction.Construction.{Construction}
 use Rattle.qs_query_forms.specs.declared.modifiers.Slice.{Slice}
 use Rattle.qs_query_forms.specs.declared.selection.Selection.{Selection}

@@ -10,7 +10,9 @@ use Rattle.qs_algebra_solutions.specs.declared.answer.Answer.{Answer}
 use Rattle.qs_query_template.specs.Instances.{made}
 use Rattle.qs_query_forms.specs.inner.InOrder.{IsFront, Suffices, SufficesToSelect, IsRowsOf, IsRows, IsGraphOf}
 use Rattle.qs_query_forms.specs.Outcome.{IsBuilt, IsConstructed}
-use Rattle.qs_query_forms.specs.Sequence.{limited, sliced, once_where, listed_rows}
+use Rattle.qs_query_forms.specs.Sequence.{sliced, listed_rows}
+use Rattle.qs_query_forms.specs.inner.Sequence.{limited}
+use Rattle.qs_query_forms.specs.inner.Sequence.{once_where}
 use Rattle.qs_query_forms.specs.declared.construction.Construction.{Construction}
 use Rattle.qs_query_forms.specs.declared.modifiers.Slice.{Slice}
 use Rattle.qs_query_forms.specs.declared.selection.Selection.{Selection}

@@ -5,7 +5,9 @@ use Rattle.std.proofs.lemmas.List.Sorted.{length_permutation, IsPermutation-map}
 use Rattle.qs_terms.specs.Bag.{SameBag}
 use Rattle.qs_algebra_solutions.specs.Solution.{Solution, projected, same_solution}
 use Rattle.qs_algebra_solutions.proofs.Same.{same_solution-Decides}
-use Rattle.qs_query_forms.specs.Sequence.{limited, sliced, once_where, listed_rows, IsSequence, count}
+use Rattle.qs_query_forms.specs.Sequence.{sliced, listed_rows, IsSequence, count}
+use Rattle.qs_query_forms.specs.inner.Sequence.{limited}
+use Rattle.qs_query_forms.specs.inner.Sequence.{once_where}
 use Rattle.qs_query_forms.specs.declared.selection.Selection.{Selection}
 use Rattle.qs_query_forms.specs.declared.modifiers.Slice.{Slice}
 use Rattle.qs_query_forms.proofs.Once.{same_once}

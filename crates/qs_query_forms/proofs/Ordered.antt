@@ -23,8 +23,9 @@ use Rattle.qs_query_template.specs.Instances.{made}
 use Rattle.qs_query_forms.specs.inner.InOrder.{IsRowsOf, IsRows, IsGraphOf, bounded, AreFew, with_vars}
 use Rattle.qs_query_forms.specs.Outcome.{IsSelected, IsBuilt, IsConstructed, IsAnswered, IsOutcomeOfQuery}
 use Rattle.qs_query_forms.specs.inner.Outcome.{IsAllSolutions}
-use Rattle.qs_query_forms.specs.Request.{request}
-use Rattle.qs_query_forms.specs.Sequence.{whole, limited, sliced, listed_rows, IsInOrder, count, has_solution}
+use Rattle.qs_query_forms.specs.inner.Request.{request}
+use Rattle.qs_query_forms.specs.Sequence.{whole, sliced, listed_rows, IsInOrder, count, has_solution}
+use Rattle.qs_query_forms.specs.inner.Sequence.{limited}
 use Rattle.qs_query_forms.specs.declared.construction.Construction.{Construction}
 use Rattle.qs_query_forms.specs.declared.request.Request.{Request}
 use Rattle.qs_query_forms.specs.declared.request.Request.TheVariants.{Select, Construct}

@@ -5,7 +5,8 @@ use Rattle.std.specs.Ordering.{ordering_then}
 use Rattle.std.proofs.lemmas.List.Sorted.{IsPermutation-trans, IsPermutation-append_right, IsPermutation-append_comm}
 use Rattle.qs_terms.specs.Bag.{SameBag}
 use Rattle.qs_algebra_solutions.specs.Solution.{Solution, projected, term_at}
-use Rattle.qs_query_order.specs.Order.{compare, compare_by, directed, key}
+use Rattle.qs_query_order.specs.Order.{compare, directed, key}
+use Rattle.qs_query_order.specs.inner.Order.{compare_by}
 use Rattle.qs_query_order.specs.declared.condition.OrderCondition.{OrderCondition}
 use Rattle.qs_query_order.specs.inner.Keyed.{AreKeptIf}
 use Rattle.qs_query_forms.specs.inner.Placed.{ArePlaced, IsPlaced}

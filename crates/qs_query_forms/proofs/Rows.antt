@@ -7,7 +7,8 @@ use Rattle.qs_algebra_solutions.specs.Solution.{Solution, projected}
 use Rattle.qs_algebra_patterns.specs.declared.pattern.BasicPattern.{BasicPattern}
 use Rattle.qs_algebra_patterns.specs.declared.pattern.Slot.TheVariants as slot
 use Rattle.qs_algebra_patterns.specs.Basic.{basic}
-use Rattle.qs_query_forms.specs.Sequence.{dataset_of, sliced, once_where, has_solution}
+use Rattle.qs_query_forms.specs.Sequence.{dataset_of, sliced, has_solution}
+use Rattle.qs_query_forms.specs.inner.Sequence.{once_where}
 
 abbrev says : ℕ → ℕ → ℕ → Statement
 says s p o = record { graph = None; subject = Blank s; predicate = Blank p; object = Blank o }

@@ -10,7 +10,7 @@ use Rattle.qs_algebra_solutions.specs.Solution.{Solution}
 use Rattle.qs_algebra_solutions.specs.declared.answer.Answer.{Answer}
 use Rattle.qs_algebra_solutions.specs.declared.answer.Answer.TheVariants.{Solutions, Truth, Graph}
 use Rattle.qs_syntax_ast.specs.declared.query.Query.{Query}
-use Rattle.qs_query_forms.specs.Request.{request}
+use Rattle.qs_query_forms.specs.Request.{form_request}
 use Rattle.qs_query_forms.specs.Sequence.{whole, sliced, IsSequence, IsPart, count, has_solution}
 use Rattle.qs_query_template.specs.Instances.{made}
 use Rattle.qs_query_forms.specs.declared.construction.Construction.{Construction}
@@ -41,18 +41,15 @@ IsConstructed asked next solutions max_rows outcome =
     × (part : List Solution) × IsPart asked.order asked.slice solutions part
     × IsBuilt (made asked.template next part) outcome)
 
--- ASK (16.3): whether there is a solution, however many there are
-abbrev pub IsAsked : List Solution → Outcome Answer → Type 0
-IsAsked solutions outcome = outcome ≡ Ok (Truth (has_solution solutions))
-
--- by the form of the query
+-- by the form of the query; ASK (16.3): whether there is a solution, however many there are
 abbrev pub IsAnswered : Request → Dataset → List Triple → ℕ → Outcome Answer → Type 0
 IsAnswered (Select asked) d graph max_rows outcome =
     IsSelected asked (whole asked.pattern d.quads graph) max_rows outcome
 IsAnswered (Construct asked) d graph max_rows outcome =
     IsConstructed asked d.next (whole asked.pattern d.quads graph) max_rows outcome
-IsAnswered (Ask pattern) d graph max_rows outcome = IsAsked (whole pattern d.quads graph) outcome
+IsAnswered (Ask pattern) d graph max_rows outcome =
+    outcome ≡ Ok (Truth (has_solution (whole pattern d.quads graph)))
 
 -- the outcome of a query over the dataset, where these triples are the active graph
 abbrev pub IsOutcomeOfQuery : Query → Dataset → List Triple → ℕ → Outcome Answer → Type 0
-IsOutcomeOfQuery query d graph most outcome = IsAnswered (request query) d graph most outcome
+IsOutcomeOfQuery q d graph most outcome = IsAnswered (form_request q q.form) d graph most outcome

@@ -1,4 +1,4 @@
--- What a query asks for, by its form (SPARQL 1.1 Query, 16).
+-- What a query asks for (SPARQL 1.1 Query, 16).
 use Rattle.qs_syntax_ast.specs.declared.query.Query.{Query}
 use Rattle.qs_syntax_ast.specs.declared.query.QueryForm.{QueryForm}
 use Rattle.qs_syntax_ast.specs.declared.query.QueryForm.TheVariants as form
@@ -8,12 +8,9 @@ use Rattle.qs_query_forms.specs.Selection.{selection}
 use Rattle.qs_query_forms.specs.declared.request.Request.{Request}
 use Rattle.qs_query_forms.specs.declared.request.Request.TheVariants as asked
 
+-- by its form
 abbrev pub form_request : Query → QueryForm → Request
 form_request query (form.Select select) = asked.Select (selection query select)
 form_request query (form.Construct construct) = asked.Construct (construction query construct)
 -- (16.3: its pattern alone; its modifiers have no effect)
 form_request query (form.Ask ask) = asked.Ask (translated query)
-
--- what the query asks for
-abbrev pub request : Query → Request
-request query = form_request query query.form

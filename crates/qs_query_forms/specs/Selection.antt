@@ -20,26 +20,20 @@ use Rattle.qs_syntax_scope.specs.KeepsScope.{trailing_names}
 use Rattle.qs_syntax_scope.specs.Scope.{in_scope}
 use Rattle.qs_algebra.specs.Translation.{translated}
 use Rattle.qs_query_forms.specs.declared.selection.Selection.{Selection}
-use Rattle.qs_query_forms.specs.Modifiers.{slice_of, order_of}
+use Rattle.qs_query_forms.specs.Modifiers.{slice_of, condition_of}
 
 -- ---- the variables that the answer lists, each once
-
--- those in scope of the pattern or of the trailing VALUES, in the order in which they first appear
--- in the text (16.1 and 10.2)
-abbrev pub all_listed : List Name → Group → Option InlineData → List Name
-all_listed names group values = filter (contains (in_scope group ++ trailing_names values)) names
 
 abbrev pub item_variable : SelectItem → Variable
 item_variable (item.Variable v) = v
 item_variable (item.As value v) = v
 
--- the variables of the items, in their order
-abbrev pub items_listed : List SelectItem → List Name
-items_listed items = names_of (firsts (map item_variable items))
-
+-- of `*` those in scope of the pattern or of the trailing VALUES, in the order in which they first
+-- appear in the text (16.1 and 10.2); else those of the items, in their order
 abbrev pub listed : List Name → Group → Option InlineData → Projection → List Name
-listed names group values projection.All = all_listed names group values
-listed names group values (projection.Items items) = items_listed items
+listed names group values projection.All =
+    filter (contains (in_scope group ++ trailing_names values)) names
+listed names group values (projection.Items items) = names_of (firsts (map item_variable items))
 
 -- ---- the selection
 
@@ -56,7 +50,7 @@ selection query select =
       vars = vars;
       columns = map (place_of names) vars;
       pattern = translated query;
-      order = order_of names select.modifiers;
+      order = map (condition_of names) select.modifiers.order;
       is_distinct = is_distinct select.duplicates;
       slice = slice_of select.modifiers;
     }

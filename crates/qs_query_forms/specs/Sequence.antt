@@ -2,7 +2,8 @@
 -- solutions in an order that the conditions of ORDER BY allow. The other modifiers follow, one
 -- after another: projection, DISTINCT or REDUCED, OFFSET and LIMIT.
 use Rattle.std.specs.Prelude.{◌≡◌, ℕ, Bool, true, false, List, [], ◌∷◌, map, take, drop, length}
-use Rattle.std.specs.Prelude.{Option, Some, None}
+use Rattle.std.specs.Prelude.{if◌then◌else◌}
+use Rattle.std.specs.Option.{option_map_or}
 use Rattle.qs_terms.specs.Bag.{SameBag, once}
 use Rattle.qs_terms.specs.Dataset.{Dataset, Triple}
 use Rattle.qs_terms.specs.Statement.{Statement, same_statement}
@@ -23,24 +24,17 @@ dataset_of quads next = record { quads = once same_statement quads; next = next 
 abbrev pub whole : Pattern → List Statement → List Triple → List Solution
 whole named quads graph = eval (length named.names) quads named.root graph
 
-abbrev pub limited : {X : Type 0} → Option ℕ → List X → List X
-limited None xs = xs
-limited (Some n) xs = take n xs
-
 -- OFFSET, and then LIMIT (Slice)
 abbrev pub sliced : {X : Type 0} → Slice → List X → List X
-sliced slice xs = limited slice.limit (drop slice.offset xs)
+sliced slice xs =
+    let rest = drop slice.offset xs in option_map_or (λ n. take n rest) slice.limit rest
 
--- where duplicates are eliminated, the first occurrences (Distinct); else all (Reduced may leave
--- all, and does)
-abbrev pub once_where : Bool → List Solution → List Solution
-once_where true rows = once same_solution rows
-once_where false rows = rows
-
--- the solutions in this order, projected (Project), and without duplicates where that is asked for
+-- the solutions in this order, projected (Project); where duplicates are eliminated, the first
+-- occurrences (Distinct); else all (Reduced may leave all, and does)
 abbrev pub listed_rows : Selection → List Solution → List Solution
 listed_rows selection solutions =
-    once_where selection.is_distinct (map (projected selection.columns) solutions)
+    let rows = map (projected selection.columns) solutions in
+    if selection.is_distinct then once same_solution rows else rows
 
 -- the same solutions, none before one that the conditions put lower (ToList and OrderBy)
 abbrev pub IsInOrder : List OrderCondition → List Solution → List Solution → Type 0

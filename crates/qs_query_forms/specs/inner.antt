@@ -2,3 +2,6 @@
 pub mod InOrder
 pub mod Placed
 pub mod Outcome
+pub mod Request
+pub mod Selection
+pub mod Sequence

@@ -11,7 +11,8 @@ ghost use Rattle.qs_store.specs.Visible.{visible};
 ghost use Rattle.qs_store.specs.inner.Visible.{visible_quads};
 ghost use Rattle.qs_query_forms.specs.inner.InOrder as in_order;
 ghost use Rattle.qs_query_forms.specs.inner.Placed.{ArePlaced};
-ghost use Rattle.qs_query_forms.specs.Outcome.{IsSelected, IsBuilt, IsConstructed, IsAsked, IsOutcomeOfQuery};
+ghost use Rattle.qs_query_forms.specs.Outcome.{IsSelected, IsBuilt, IsConstructed, IsOutcomeOfQuery};
+ghost use Rattle.qs_query_forms.specs.inner.Outcome.{IsAsked};
 ghost use Rattle.qs_query_forms.specs.inner.Outcome.{IsAllSolutions};
 ghost use Rattle.qs_query_forms.specs.Sequence.{dataset_of, whole};
 

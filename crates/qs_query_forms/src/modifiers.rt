@@ -68,7 +68,8 @@ pub fn order_of<'a>(
     variables: &'a [Variable],
     modifiers: &'a SolutionModifiers,
 ) -> Result<Items<OrderCondition>, AllocError>
-    ensures { IfOk result (λ all. all ≡ spec.order_of (names_of variables.now) modifiers.now) }
+    ensures { IfOk result
+        (λ all. all ≡ map (spec.condition_of (names_of variables.now)) modifiers.now.order) }
 {
     let names = number_names(alloc, variables)?;
     conditions_of(alloc, &names, modifiers.order.as_slice())

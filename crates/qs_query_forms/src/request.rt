@@ -2,7 +2,7 @@
 
 ghost use Rattle.std.specs.Prelude.{◌≡◌, IfOk, IfErr};
 ghost use Rattle.qs_terms.specs.declared.fault.QFault.TheVariants.{Memory};
-ghost use Rattle.qs_query_forms.specs.Request as spec;
+ghost use Rattle.qs_query_forms.specs.inner.Request as spec;
 
 use crate::construction::{Construction, construction_of};
 use crate::selection::{Selection, selection_of};

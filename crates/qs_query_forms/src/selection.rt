@@ -8,6 +8,7 @@ ghost use Rattle.qs_syntax_scope.specs.KeepsScope.{trailing_names};
 ghost use Rattle.qs_syntax_scope.specs.Names.{contains};
 ghost use Rattle.qs_syntax_scope.specs.Places.{place_of};
 ghost use Rattle.qs_query_forms.specs.Selection as spec;
+ghost use Rattle.qs_query_forms.specs.inner.Selection as inner;
 
 use crate::modifiers::{Slice, order_of, slice_of};
 use qs_algebra::{Pattern, translate};
@@ -82,7 +83,7 @@ fn all_listed<'a>(
     group: &'a Group,
     values: &'a Option<InlineData>,
 ) -> Result<Items<Text>, AllocError>
-    ensures { IfOk result (λ vars. vars ≡ spec.all_listed (names_of variables.now) group.now
+    ensures { IfOk result (λ vars. vars ≡ inner.all_listed (names_of variables.now) group.now
         values.now) }
 {
     let mut scope = in_scope(alloc, group)?;
@@ -124,7 +125,7 @@ fn names(alloc: Global, variables: &[Variable]) -> Result<Items<Text>, AllocErro
 }
 
 fn items_listed(alloc: Global, items: &[SelectItem]) -> Result<Items<Text>, AllocError>
-    ensures { IfOk result (λ vars. vars ≡ spec.items_listed items.now) }
+    ensures { IfOk result (λ vars. vars ≡ inner.items_listed items.now) }
 {
     let variables = item_variables(alloc, items)?;
     let variables = first_variables(alloc, variables.as_slice())?;

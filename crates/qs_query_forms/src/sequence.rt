@@ -6,6 +6,7 @@ ghost use Rattle.qs_algebra_solutions.specs.Solution.{projected};
 ghost use Rattle.qs_base.specs.inner.Lent.{lent};
 ghost use Rattle.qs_query_forms.specs.inner.InOrder.{AllowsMore, ByLimit, Suffices};
 ghost use Rattle.qs_query_forms.specs.Sequence as spec;
+ghost use Rattle.qs_query_forms.specs.inner.Sequence as inner;
 
 use crate::distinct::firsts;
 use crate::modifiers::Slice;
@@ -75,7 +76,7 @@ pub fn listed_rows<'a>(
 }
 
 fn limited<'r, 'a>(rows: &'r [&'a Row], limit: Option<u64>) -> &'r [&'a Row]
-    ensures { result.now ≡ spec.limited limit rows.now }
+    ensures { result.now ≡ inner.limited limit rows.now }
 {
     match limit {
         None => rows,

@@ -3,6 +3,7 @@
 ghost use Rattle.std.specs.Prelude.{◌≡◌, drop};
 ghost use Rattle.qs_query_forms.specs.inner.InOrder.{bounded};
 ghost use Rattle.qs_query_forms.specs.Sequence as spec;
+ghost use Rattle.qs_query_forms.specs.inner.Sequence as inner;
 
 use crate::modifiers::Slice;
 use qs_algebra_solutions::Row;
@@ -21,7 +22,7 @@ fn leave_out(rows: &mut Vec<Row>, offset: u64)
 
 /// Drops the rows after so many.
 pub fn limit(rows: &mut Vec<Row>, limit: Option<u64>)
-    ensures { rows.new.items ≡ spec.limited limit rows.old.items }
+    ensures { rows.new.items ≡ inner.limited limit rows.old.items }
 {
     if let Some(limit) = limit {
         let end = limit.min(rows.len() as u64);
@@ -35,7 +36,7 @@ pub fn first_of(
     limit_of: Option<u64>,
     max_rows: u64,
 ) -> Result<Items<Row>, QFault>
-    ensures { result ≡ bounded max_rows (spec.limited limit_of rows.items) }
+    ensures { result ≡ bounded max_rows (inner.limited limit_of rows.items) }
 {
     limit(&mut rows, limit_of);
     if rows.len() as u64 > max_rows {

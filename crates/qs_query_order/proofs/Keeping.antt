@@ -15,7 +15,8 @@ use Rattle.qs_query_order.proofs.Cut as cut
 use Rattle.qs_query_order.proofs.Total.{lists_total}
 use Rattle.qs_query_order.specs.inner.Keyed.{is_below, is_lower, solutions_of, AreInFront, AreInFrontIf, AreKept, AreKeptIf, ArePart, Covers, IsKeyed}
 use Rattle.qs_query_order.specs.inner.Keys.{keys_of, compare_keys}
-use Rattle.qs_query_order.specs.Order.{compare, compare_by, IsOrdered}
+use Rattle.qs_query_order.specs.Order.{compare, IsOrdered}
+use Rattle.qs_query_order.specs.inner.Order.{compare_by}
 use Rattle.qs_query_order.specs.inner.Order.{AreFirst, AreFirstIf}
 use Rattle.qs_query_order.specs.declared.condition.OrderCondition.{OrderCondition}
 use Rattle.qs_query_order.specs.declared.keyed.KeyedRow.{KeyedRow}

@@ -20,13 +20,10 @@ directed Descending x y = compare_keys y x
 abbrev pub key : OrderCondition → Solution → Key
 key c m = key_of (meaning m c.key)
 
-abbrev pub compare_by : OrderCondition → Solution → Solution → Ordering
-compare_by c a b = directed c.direction (key c a) (key c b)
-
 -- by the first condition that tells them apart
 abbrev pub compare : List OrderCondition → Solution → Solution → Ordering
 compare [] a b = Equal
-compare (c ∷ cs) a b = ordering_then (compare_by c a b) (compare cs a b)
+compare (c ∷ cs) a b = ordering_then (directed c.direction (key c a) (key c b)) (compare cs a b)
 
 -- no solution stands before a lower one; ties stand in any order
 abbrev pub IsOrdered : List OrderCondition → List Solution → Type 0

@@ -8,7 +8,8 @@ use Rattle.qs_terms.specs.Bag.{SameBag, once, with_new}
 use Rattle.qs_terms.specs.Term.{same_term}
 use Rattle.qs_terms.specs.declared.term.Term.{Term}
 use Rattle.qs_terms.proofs.FirstOnes.{once_with}
-use Rattle.qs_algebra_solutions.specs.Solution.{Solution, projected, same_cell, same_solution, term_at}
+use Rattle.qs_algebra_solutions.specs.Solution.{Solution, projected, same_solution, term_at}
+use Rattle.qs_algebra_solutions.specs.inner.Solution.{same_cell}
 use Rattle.qs_algebra_solutions.specs.inner.Some.{AreSomeDistinct, is_enough}
 use Rattle.qs_algebra_solutions.proofs.Same.{same_solution-Decides}
 use Rattle.qs_expr.specs.declared.cell.Cell.{Cell}

@@ -17,9 +17,13 @@ use Rattle.qs_syntax_ast.specs.declared.term.VarOrIri.{VarOrIri}
 use Rattle.qs_syntax_ast.specs.declared.term.VarOrIri.TheVariants as name
 use Rattle.qs_syntax_ast.specs.declared.update.QuadBlock.{QuadBlock}
 use Rattle.qs_syntax_scope.specs.Names.{Name}
-use Rattle.qs_query_template.specs.Blanks.{same_blank, number_in, add_new, add_blank, firsts, term_blanks, triple_blanks, triples_blanks, blocks_blanks}
+use Rattle.qs_query_template.specs.Blanks.{same_blank, number_in, add_blank, term_blanks, triple_blanks}
+use Rattle.qs_query_template.specs.inner.Blanks.{firsts, blocks_blanks}
+use Rattle.qs_query_template.specs.inner.Blanks.{triples_blanks}
 use Rattle.qs_query_template.specs.inner.Fresh.{slot_is_numbered, graph_is_numbered, quad_is_numbered, is_numbered}
-use Rattle.qs_query_template.specs.Template.{blank_slot, term_slot, verb_slot, graph_slot, quad_with, triple_quads, block_quads, template_of, template_of_blocks}
+use Rattle.qs_query_template.specs.Template.{term_slot, verb_slot, graph_slot, triple_quads, block_quads, template_of, template_of_blocks}
+use Rattle.qs_query_template.specs.inner.Template.{quad_with}
+use Rattle.qs_query_template.specs.inner.Template.{blank_slot}
 use Rattle.qs_query_template.specs.declared.template.Slot.{Slot}
 use Rattle.qs_query_template.proofs.Numbered.{found_more, absent_more}
 
@@ -46,6 +50,9 @@ has_more xs x b (Some n) e h = ap is_some (found_more x b xs n e)
 
 has_new : (xs : List BlankNode) (x : BlankNode) → number_in xs x ≡ None → has (xs ++ x ∷ []) x ≡ true
 has_new xs x e = ap is_some (absent_more x x xs e ∙ ap (λ (t : Bool). if t then Some (length xs) else None) (same_itself x))
+
+abbrev add_new : List BlankNode → BlankNode → Option ℕ → List BlankNode
+add_new found b o = if is_some o then found else found ++ b ∷ []
 
 kept_at : (xs : List BlankNode) (x b : BlankNode) (o : Option ℕ) → has xs b ≡ true → has (add_new xs x o) b ≡ true
 kept_at xs x b None h = has_more xs x b (number_in xs b) refl h
@@ -130,8 +137,8 @@ module _ (names : List Name) (blanks : List BlankNode) where
       let more = of_blocks bs (right_true (list_all (has blanks) (triples_blanks b.triples)) (list_all (has blanks) (blocks_blanks bs)) both) in
       list_all-append (quad_is_numbered (length blanks)) (block_quads names blanks b) (flat_map (block_quads names blanks) bs) ∙ rw (first, more) refl
 
-pub triples_numbered : (names : List Name) (triples : List Triple) → is_numbered (template_of names triples) ≡ true
-triples_numbered names triples = of_triples names (firsts (triples_blanks triples)) None refl triples (known [] (triples_blanks triples))
-
 pub blocks_numbered : (names : List Name) (blocks : List QuadBlock) → is_numbered (template_of_blocks names blocks) ≡ true
 blocks_numbered names blocks = of_blocks names (firsts (blocks_blanks blocks)) blocks (known [] (blocks_blanks blocks))
+
+pub triples_numbered : (names : List Name) (triples : List Triple) → is_numbered (template_of names triples) ≡ true
+triples_numbered names triples = blocks_numbered names (record { graph = None; triples = triples } ∷ [])

@@ -20,9 +20,12 @@ use Rattle.qs_syntax_ast.specs.declared.term.VarOrIri.{VarOrIri}
 use Rattle.qs_syntax_ast.specs.declared.term.VarOrIri.TheVariants as name
 use Rattle.qs_syntax_ast.specs.declared.update.QuadBlock.{QuadBlock}
 use Rattle.qs_algebra_solutions.specs.Solution.{unbound}
-use Rattle.qs_query_template.specs.Blanks.{number_in, blocks_blanks, firsts}
-use Rattle.qs_query_template.specs.Instances.{fresh, slot_term, graph_term, quad_of, instance, instances, within}
-use Rattle.qs_query_template.specs.Template.{term_slot, verb_slot, graph_slot, quad_with, template_of_blocks}
+use Rattle.qs_query_template.specs.Blanks.{number_in}
+use Rattle.qs_query_template.specs.inner.Blanks.{blocks_blanks, firsts}
+use Rattle.qs_query_template.specs.Instances.{slot_term, graph_term, quad_of, instance, instances}
+use Rattle.qs_query_template.specs.inner.Instances.{fresh, within}
+use Rattle.qs_query_template.specs.Template.{term_slot, verb_slot, graph_slot, template_of_blocks}
+use Rattle.qs_query_template.specs.inner.Template.{quad_with}
 use Rattle.qs_query_template.specs.Template as template
 use Rattle.qs_query_template.specs.inner.DataBlocks.{inserted, deleted, node_term, verb_term, graph_name, triple_quads, block_quads}
 

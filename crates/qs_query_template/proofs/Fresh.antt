@@ -6,13 +6,15 @@ use Rattle.std.proofs.lemmas.Bool.Decides.{Decides-eqb}
 use Rattle.std.proofs.lemmas.List.Folds.{list_any-append}
 use Rattle.std.proofs.Math.Nat.{mul-le-mul_left}
 use borrow.Author.Tests.{ltb-true}
-use Rattle.qs_terms.specs.Dataset.{is_term_below, is_graph_below, is_statement_below, is_above_blanks}
+use Rattle.qs_terms.specs.Dataset.{is_term_below, is_statement_below, is_above_blanks}
+use Rattle.qs_terms.specs.inner.Dataset.{is_graph_below}
 use Rattle.qs_terms.specs.Statement.{Statement, fits_places}
 use Rattle.qs_terms.specs.declared.term.Term.{Term}
 use Rattle.qs_terms.specs.declared.term.Term.TheVariants.{Iri, Blank, Literal}
 use Rattle.qs_algebra_solutions.specs.Solution.{Solution, term_at}
 use Rattle.qs_query_template.specs.inner.Fresh.{is_blank, cell_is_blank, quad_has_blank, binds_blank, slot_is_blank, graph_is_blank, template_quad_has_blank, names_blank, IsOfBlock}
-use Rattle.qs_query_template.specs.Instances.{slot_term, graph_term, quad_of, instance, instances_under, instances, next_after}
+use Rattle.qs_query_template.specs.Instances.{slot_term, graph_term, quad_of, instance, instances, next_after}
+use Rattle.qs_query_template.specs.inner.Instances.{instances_under}
 use Rattle.qs_query_template.specs.declared.template.Slot.{Slot}
 use Rattle.qs_query_template.specs.declared.template.Slot.TheVariants as slot
 use Rattle.qs_query_template.specs.declared.template.QuadTemplate.{QuadTemplate}

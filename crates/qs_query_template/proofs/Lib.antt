@@ -4,3 +4,4 @@ pub mod Fresh
 pub mod Named
 pub mod Counted
 pub mod DataBlocks
+pub mod OneBlock

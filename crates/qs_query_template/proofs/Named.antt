@@ -10,9 +10,10 @@ use Rattle.qs_syntax_ast.specs.declared.term.VarOrIri.{VarOrIri}
 use Rattle.qs_syntax_ast.specs.declared.term.VarOrIri.TheVariants as name
 use Rattle.qs_syntax_ast.specs.declared.update.QuadBlock.{QuadBlock}
 use Rattle.qs_syntax_scope.specs.Names.{Name}
-use Rattle.qs_query_template.specs.Blanks.{triples_blanks, blocks_blanks, firsts}
+use Rattle.qs_query_template.specs.inner.Blanks.{blocks_blanks, firsts}
 use Rattle.qs_query_template.specs.inner.Fresh.{slot_is_blank, graph_is_blank, template_quad_has_blank, names_blank}
-use Rattle.qs_query_template.specs.Template.{term_slot, verb_slot, graph_slot, quad_with, triple_quads, block_quads, template_of, template_of_blocks}
+use Rattle.qs_query_template.specs.Template.{term_slot, verb_slot, graph_slot, triple_quads, block_quads, template_of, template_of_blocks}
+use Rattle.qs_query_template.specs.inner.Template.{quad_with}
 use Rattle.qs_query_template.specs.declared.template.Slot.{Slot}
 
 module _ (n : ℕ) (names : List Name) (blanks : List BlankNode) where
@@ -44,8 +45,8 @@ module _ (n : ℕ) (names : List Name) (blanks : List BlankNode) where
       let first = no_triple (graph_slot names b.graph) (no_graph b.graph) b.triples in
       list_any-append (template_quad_has_blank n) (block_quads names blanks b) (flat_map (block_quads names blanks) bs) ∙ rw (first, no_block bs) refl
 
-pub no_triples : (names : List Name) (triples : List Triple) (n : ℕ) → names_blank n (template_of names triples) ≡ false
-no_triples names triples n = no_triple n names (firsts (triples_blanks triples)) None refl triples
-
 pub no_blocks : (names : List Name) (blocks : List QuadBlock) (n : ℕ) → names_blank n (template_of_blocks names blocks) ≡ false
 no_blocks names blocks n = no_block n names (firsts (blocks_blanks blocks)) blocks
+
+pub no_triples : (names : List Name) (triples : List Triple) (n : ℕ) → names_blank n (template_of names triples) ≡ false
+no_triples names triples n = no_blocks names (record { graph = None; triples = triples } ∷ []) n

@@ -8,7 +8,7 @@ use Rattle.std.specs.Prelude.{ℕ, zero, suc, Bool, false, nat_eq, List, [], ◌
 use Rattle.std.specs.Prelude.{None, if◌then◌else◌}
 use Rattle.std.specs.Cmp.Lexicographic.{pointwise}
 use Rattle.std.specs.List.{fold, flat_map}
-use Rattle.std.specs.Option.{option_map}
+use Rattle.std.specs.Option.{is_some, option_map}
 use Rattle.qs_syntax_ast.specs.declared.pattern.Triple.{Triple}
 use Rattle.qs_syntax_ast.specs.declared.term.BlankNode.{BlankNode}
 use Rattle.qs_syntax_ast.specs.declared.term.BlankNode.TheVariants as blank
@@ -29,25 +29,15 @@ term_blanks _ = []
 abbrev pub triple_blanks : Triple → List BlankNode
 triple_blanks t = term_blanks t.subject ++ term_blanks t.object
 
-abbrev pub triples_blanks : List Triple → List BlankNode
-triples_blanks triples = flat_map triple_blanks triples
-
-abbrev pub blocks_blanks : List QuadBlock → List BlankNode
-blocks_blanks blocks = flat_map (λ (b : QuadBlock). triples_blanks b.triples) blocks
-
 -- how many stand before the first that is the same; none where no one is
 abbrev pub number_in : List BlankNode → BlankNode → Option ℕ
 number_in [] b = None
 number_in (x ∷ xs) b = if same_blank x b then Some zero else option_map suc (number_in xs b)
 
 -- one more, unless it is among them
-abbrev pub add_new : List BlankNode → BlankNode → Option ℕ → List BlankNode
-add_new found b None = found ++ b ∷ []
-add_new found b (Some n) = found
-
 unfoldable pub add_blank : List BlankNode → BlankNode → List BlankNode
-add_blank found b = add_new found b (number_in found b)
+add_blank found b = if is_some (number_in found b) then found else found ++ b ∷ []
 
--- each once, in the order in which they first appear
-abbrev pub firsts : List BlankNode → List BlankNode
-firsts blanks = fold add_blank [] blanks
+-- those of the blocks, each once, in the order in which they first appear
+abbrev pub blanks_of : List QuadBlock → List BlankNode
+blanks_of blocks = fold add_blank [] (flat_map (λ b. flat_map triple_blanks b.triples) blocks)

@@ -16,58 +16,43 @@ use Rattle.qs_query_template.specs.declared.template.Slot.TheVariants as slot
 use Rattle.qs_query_template.specs.declared.template.QuadTemplate.{QuadTemplate}
 use Rattle.qs_query_template.specs.declared.template.Template.{Template}
 
--- the k-th of so many fresh blank nodes, which have the numbers from the first one on; there are no
--- more
-abbrev pub fresh : ℕ → ℕ → ℕ → Option Term
-fresh blanks first k = if nat_lt k blanks then Some (value.Blank (first + k)) else None
-
--- the term of a slot under a solution; none where its variable is unbound
+-- the term of a slot under a solution, whose n fresh blank nodes have the numbers from the first
+-- one on; none where its variable is unbound
 abbrev pub slot_term : ℕ → ℕ → Solution → Slot → Option Term
-slot_term blanks first m (slot.Variable v) = term_at m v
-slot_term blanks first m (slot.Term t) = Some t
-slot_term blanks first m (slot.Blank k) = fresh blanks first k
+slot_term n first m (slot.Variable v) = term_at m v
+slot_term n first m (slot.Term t) = Some t
+slot_term n first m (slot.Blank k) = if nat_lt k n then Some (value.Blank (first + k)) else None
 
 -- the same of a graph's name, where no slot is the default graph
 abbrev pub graph_term : ℕ → ℕ → Solution → Option Slot → Option (Option Term)
-graph_term blanks first m None = Some None
-graph_term blanks first m (Some s) = option_map Some (slot_term blanks first m s)
+graph_term n first m None = Some None
+graph_term n first m (Some s) = option_map Some (slot_term n first m s)
 
--- the quad, where the terms may stand in their places
-abbrev pub lawful : Option Term → Term → Term → Term → List Statement
-lawful graph subject predicate object =
-    if fits_places graph subject predicate
-    then record { graph = graph; subject = subject; predicate = predicate; object = object } ∷ []
-    else []
-
--- the quad, where each place has a term
+-- the quad, where each place has a term that may stand there
 abbrev pub quad_of : Option (Option Term) → Option Term → Option Term → Option Term → List Statement
-quad_of (Some g) (Some s) (Some p) (Some o) = lawful g s p o
+quad_of (Some g) (Some s) (Some p) (Some o) = if fits_places g s p
+    then record { graph = g; subject = s; predicate = p; object = o } ∷ [] else []
 quad_of graph subject predicate object = []
 
 -- the instance of one quad under a solution, or none
 abbrev pub instance : ℕ → ℕ → Solution → QuadTemplate → List Statement
-instance blanks first m q =
-    quad_of (graph_term blanks first m q.graph) (slot_term blanks first m q.subject)
-    (slot_term blanks first m q.predicate) (slot_term blanks first m q.object)
+instance n first m q =
+    quad_of (graph_term n first m q.graph) (slot_term n first m q.subject)
+    (slot_term n first m q.predicate) (slot_term n first m q.object)
 
--- those of the template under a solution, whose fresh blank nodes have the numbers from this one on
-abbrev pub instances_under : Template → ℕ → Solution → List Statement
-instances_under t first m = flat_map (instance t.blanks first m) t.quads
-
--- the same under each solution, of which each takes numbers for all blank nodes of the template,
--- whichever of its quads are left out
+-- those of the template under each solution, whose fresh blank nodes have the numbers from the next
+-- one on; each takes numbers for all blank nodes of the template, whichever of its quads are left
+-- out
 abbrev pub instances : Template → ℕ → List Solution → List Statement
 instances t next [] = []
-instances t next (m ∷ ms) = instances_under t next m ++ instances t (next + t.blanks) ms
+instances t next (m ∷ ms) =
+    flat_map (instance t.blanks next m) t.quads ++ instances t (next + t.blanks) ms
 
 -- the number after those of all fresh blank nodes
 abbrev pub next_after : Template → ℕ → ℕ → ℕ
 next_after t next solutions = next + t.blanks * solutions
 
--- Full where that is past the greatest number of 64 bits
-abbrev pub within : {A : Type 0} → ℕ → A → Outcome A
-within next made = if nat_lt 18446744073709551615 next then Err Full else Ok made
-
--- the instances, or Full where the numbers don't suffice
+-- the instances, or Full where that number is past the greatest one of 64 bits
 abbrev pub made : Template → ℕ → List Solution → Outcome (List Statement)
-made t next rows = within (next_after t next (length rows)) (instances t next rows)
+made t next rows = if nat_lt 18446744073709551615 (next_after t next (length rows)) then Err Full
+    else Ok (instances t next rows)

@@ -3,3 +3,6 @@ pub mod Lent
 pub mod Numbered
 pub mod DataBlocks
 pub mod Fresh
+pub mod Blanks
+pub mod Template
+pub mod Instances

@@ -4,6 +4,7 @@ ghost use Rattle.std.specs.Prelude.{◌≡◌, [], ◌∷◌, ◌++◌, length, 
 ghost use Rattle.std.specs.List.{fold};
 ghost use Rattle.qs_syntax_ast.specs.declared.term.BlankNode.TheVariants.{Label, Anonymous};
 ghost use Rattle.qs_query_template.specs.Blanks as spec;
+ghost use Rattle.qs_query_template.specs.inner.Blanks.{triples_blanks, firsts};
 
 use qs_syntax_ast::pattern::Triple;
 use qs_syntax_ast::term::{BlankNode, TermPattern};
@@ -150,7 +151,7 @@ impl<'a> Blanks<'a> {
 
     fn add_triples(&mut self, triples: &'a [Triple]) -> Result<(), AllocError>
         ensures { OnOk result
-            (self.new ≡ fold spec.add_blank self.old (spec.triples_blanks triples.now)) }
+            (self.new ≡ fold spec.add_blank self.old (triples_blanks triples.now)) }
     {
         for triple in triples {
             self.add_triple(triple)?;
@@ -161,7 +162,7 @@ impl<'a> Blanks<'a> {
 
 /// The blank nodes of the triples.
 pub fn blanks_of<'a>(alloc: Global, triples: &'a [Triple]) -> Result<Blanks<'a>, AllocError>
-    ensures { IfOk result (λ blanks. blanks ≡ spec.firsts (spec.triples_blanks triples.now)) }
+    ensures { IfOk result (λ blanks. blanks ≡ firsts (triples_blanks triples.now)) }
 {
     let mut blanks = Blanks::new(alloc);
     blanks.add_triples(triples)?;
@@ -173,7 +174,7 @@ pub fn blanks_of_blocks<'a>(
     alloc: Global,
     blocks: &'a [QuadBlock],
 ) -> Result<Blanks<'a>, AllocError>
-    ensures { IfOk result (λ blanks. blanks ≡ spec.firsts (spec.blocks_blanks blocks.now)) }
+    ensures { IfOk result (λ blanks. blanks ≡ spec.blanks_of blocks.now) }
 {
     let mut blanks = Blanks::new(alloc);
     for block in blocks {

@@ -7,7 +7,7 @@ ghost use Rattle.std.specs.Prelude.{◌≡◌, ◌+◌, ◌^◌, ◌<◌, ◌++�
 ghost use Rattle.std.specs.List.{flat_map};
 ghost use Rattle.qs_terms.specs.inner.OrOutOf.{WithOrOutOfMemory};
 ghost use Rattle.qs_terms.specs.declared.fault.QFault.TheVariants.{Memory};
-ghost use Rattle.qs_query_template.specs.Instances as instances;
+ghost use Rattle.qs_query_template.specs.inner.Instances as instances;
 ghost use Rattle.qs_query_template.specs.inner.DataBlocks as spec;
 
 use crate::blanks::{Blanks, blanks_of_blocks};

@@ -9,7 +9,8 @@ ghost use Rattle.qs_syntax_ast.specs.declared.pattern.Triple.{Triple};
 ghost use Rattle.qs_syntax_ast.specs.declared.update.QuadBlock.{QuadBlock};
 ghost use Rattle.qs_syntax_scope.specs.Names.{Name};
 ghost use Rattle.qs_query_template.specs.inner.Fresh.{quad_has_blank, binds_blank, names_blank, is_numbered, IsOfBlock};
-ghost use Rattle.qs_query_template.specs.Instances.{instances_under, instances, next_after};
+ghost use Rattle.qs_query_template.specs.Instances.{instances, next_after};
+ghost use Rattle.qs_query_template.specs.inner.Instances.{instances_under};
 ghost use Rattle.qs_query_template.specs.Template as made;
 ghost use Rattle.qs_query_template.specs.declared.template.Template.{Template as TemplateValue};
 

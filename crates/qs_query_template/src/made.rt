@@ -5,6 +5,7 @@ ghost use Rattle.std.specs.Option.{option_copied};
 ghost use Rattle.qs_terms.specs.inner.Outcome.{OrOutOfMemory};
 ghost use Rattle.qs_terms.specs.declared.fault.QFault.TheVariants.{Full};
 ghost use Rattle.qs_query_template.specs.Instances as spec;
+ghost use Rattle.qs_query_template.specs.inner.Instances as inner;
 ghost use Rattle.qs_query_template.specs.inner.Lent.{lent, listed};
 
 use crate::template::{QuadTemplate, Slot, Template};
@@ -14,7 +15,7 @@ use std::alloc::{AllocError, Global};
 
 pub(crate) fn fresh(blanks: usize, first: u64, number: usize) -> Option<Term>
     requires { first + blanks < 2 ^ 64 }
-    ensures { result ≡ spec.fresh blanks first number }
+    ensures { result ≡ inner.fresh blanks first number }
 {
     if number < blanks {
         return Some(Term::Blank(first + number as u64));
@@ -62,7 +63,7 @@ fn graph_term(
 
 // the quad, where the terms may stand in their places
 fn lawful(graph: Option<Term>, subject: Term, predicate: Term, object: Term) -> Option<Quad>
-    ensures { option_to_list result ≡ spec.lawful graph subject predicate object }
+    ensures { option_to_list result ≡ inner.lawful graph subject predicate object }
 {
     if Quad::fits(graph.as_ref(), &subject, &predicate) {
         return Some(Quad::new(graph, subject, predicate, object));
@@ -131,7 +132,7 @@ fn put_instances(
     quads: &mut Vec<Quad>,
 ) -> Result<(), AllocError>
     requires { first + template.now.blanks < 2 ^ 64 }
-    ensures { OnOk result (quads.new.items ≡ quads.old.items ++ spec.instances_under template.now
+    ensures { OnOk result (quads.new.items ≡ quads.old.items ++ inner.instances_under template.now
         first row.now) }
 {
     for quad in template.quads.as_slice() {
@@ -165,7 +166,7 @@ fn all_instances(
 /// `QFault::Full` where it is past the greatest number of 64 bits.
 pub fn next_after(template: &Template, next: u64, solutions: usize) -> Result<u64, QFault>
     ensures { let after = spec.next_after template.now next solutions
-        in result ≡ spec.within after after }
+        in result ≡ inner.within after after }
 {
     let Some(taken) = (template.blanks as u64).checked_mul(solutions as u64) else {
         return Err(QFault::Full);

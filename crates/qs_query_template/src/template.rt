@@ -3,6 +3,7 @@
 ghost use Rattle.std.specs.Prelude.{◌≡◌, ◌++◌, IfOk, OnOk};
 ghost use Rattle.std.specs.List.{flat_map};
 ghost use Rattle.qs_query_template.specs.Template as spec;
+ghost use Rattle.qs_query_template.specs.inner.Template as inner;
 ghost use Rattle.qs_query_template.specs.declared.template.Slot.TheVariants as slot;
 ghost use Rattle.qs_terms.specs.declared.term.Term.TheVariants as value;
 
@@ -73,7 +74,7 @@ fn literal_slot(alloc: Global, literal: &Lit) -> Result<Slot, AllocError>
 }
 
 fn blank_slot<'a>(blanks: &Blanks<'a>, blank: &'a BlankNode) -> Slot
-    ensures { result ≡ spec.blank_slot blanks.now blank.now }
+    ensures { result ≡ inner.blank_slot blanks.now blank.now }
 {
     match blanks.number(blank) {
         Some(number) => Slot::Blank(number),
@@ -244,6 +245,7 @@ fn put_blocks<'a>(
 
 /// The template of a CONSTRUCT, by its triples (SPARQL 1.1 Query, 16.2). The number of a variable is its place among the names. Blank
 /// nodes, with a label or without one, are numbered from 0 by first appearance. A triple whose verb is a path is left out.
+#[tactic(auto, using(crate::proofs::OneBlock::one_block))]
 pub fn template_of<'a>(
     alloc: Global,
     names: &NameList<'a>,

@@ -1,6 +1,7 @@
 //! Templates under WITH (SPARQL 1.1 Update, 3.1.3).
 
 ghost use Rattle.std.specs.Prelude.{◌≡◌, map, IfOk};
+ghost use Rattle.std.specs.Option.{unwrap_or};
 ghost use Rattle.qs_query_template.specs.Template as spec;
 
 use crate::template::{QuadTemplate, Slot, Template, iri_slot};
@@ -9,7 +10,7 @@ use sqlite_items::Items;
 use std::alloc::{AllocError, Global};
 
 fn graph_or(graph: &Option<Slot>, name: &Slot) -> Result<Slot, AllocError>
-    ensures { IfOk result (λ g. g ≡ spec.graph_or name.now graph.now) }
+    ensures { IfOk result (λ g. g ≡ unwrap_or graph.now name.now) }
 {
     match graph {
         None => name.share(),

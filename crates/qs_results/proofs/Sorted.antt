@@ -11,7 +11,8 @@ use Rattle.std.proofs.lemmas.Cmp.{nat_list_cmp_total}
 use Rattle.serde_json.specs.Data.{Data, Members, no_members, member, put}
 use Rattle.qs_terms.specs.declared.term.Term.{Term}
 use Rattle.qs_algebra_solutions.specs.Solution.{Solution, term_at}
-use Rattle.qs_results.specs.Json.{term_data, with_binding, with_bindings}
+use Rattle.qs_results.specs.Json.{term_data, with_bindings}
+use Rattle.qs_results.specs.inner.Json.{with_binding}
 use Rattle.qs_results.specs.inner.Columns.{with_front, members_of}
 
 abbrev Columns : Type 0

@@ -3,6 +3,7 @@
 -- standard leaves the order free, and so each answer has one text.
 use Rattle.std.specs.Prelude.{ℕ, List, [], ◌∷◌, ◌++◌, Option, Some, None, map, codes, decimal}
 use Rattle.std.specs.Prelude.{if◌then◌else◌}
+use Rattle.std.specs.Option.{option_map_or}
 use Rattle.std.specs.Str.{bytes_eq}
 use Rattle.serde_json.specs.Data.{Data, null, boolean, string, array, object, Members, no_members}
 use Rattle.serde_json.specs.Data.{member, put}
@@ -30,47 +31,35 @@ literal_members form type (Some tag) =
     typed_value (codes "literal") form (member (codes "xml:lang") (string tag) no_members)
 literal_members form type None = with_datatype type (typed_value (codes "literal") form no_members)
 
--- `type` and `value`, and a literal's tag or datatype; the label of a blank node is `b` and its
--- number
-abbrev pub term_members : Term → Members
-term_members (term.Iri iri) = typed_value (codes "uri") iri no_members
-term_members (term.Blank n) = typed_value (codes "bnode") (codes "b" ++ decimal n) no_members
-term_members (term.Literal l) = literal_members l.form l.datatype l.tag
-
--- an RDF term (3.2.2)
+-- an RDF term (3.2.2): `type` and `value`, and a literal's tag or datatype; the label of a blank
+-- node is `b` and its number
 abbrev pub term_data : Term → Data
-term_data t = object (term_members t)
-
--- the members with what the variable is bound to, if it is bound
-abbrev pub with_binding : List ℕ → Option Term → Members → Members
-with_binding name None ms = ms
-with_binding name (Some t) ms = put name (term_data t) ms
+term_data (term.Iri iri) = object (typed_value (codes "uri") iri no_members)
+term_data (term.Blank n) = object (typed_value (codes "bnode") (codes "b" ++ decimal n) no_members)
+term_data (term.Literal l) = object (literal_members l.form l.datatype l.tag)
 
 -- the members with the variables that the solution binds, from left to right
 abbrev pub with_bindings : List (List ℕ) → Solution → Members → Members
-with_bindings (name ∷ names) (cell ∷ row) ms = with_bindings names row (with_binding name cell ms)
+with_bindings (name ∷ names) (cell ∷ row) ms =
+    with_bindings names row (option_map_or (λ t. put name (term_data t) ms) cell ms)
 with_bindings _ _ ms = ms
 
 -- a solution: the variables that it binds, and no others (3.2.1)
 abbrev pub binding_data : List (List ℕ) → Solution → Data
 binding_data names row = object (with_bindings names row no_members)
 
--- the names of the variables (3.1.1)
-abbrev pub names_data : List (List ℕ) → Data
-names_data names = array (items_of (map string names))
+-- an object with one member, which is an array
+abbrev pub array_named : List ℕ → List Data → Data
+array_named name items = object (member name (array (items_of items)) no_members)
 
--- the solutions in their order (3.2)
-abbrev pub rows_data : List (List ℕ) → List Solution → Data
-rows_data names rows = array (items_of (map (binding_data names) rows))
-
--- the answer of a SELECT: `head` with the names, and `results` with the solutions (3.1 and 3.2); or
--- of an ASK: `boolean`, and an empty `head` (3.3); a graph has no form
+-- the answer of a SELECT: `head` with the names of the variables (3.1.1), and `results` with the
+-- solutions in their order (3.2); or of an ASK: `boolean`, and an empty `head` (3.3); a graph has
+-- no form
 abbrev pub json_of : Answer → Data
 json_of (Solutions names rows) =
-    object (member (codes "head") (object (member (codes "vars") (names_data names) no_members))
-    (member (codes "results") (object (member (codes "bindings") (rows_data names rows) no_members))
+    object (member (codes "head") (array_named (codes "vars") (map string names))
+    (member (codes "results") (array_named (codes "bindings") (map (binding_data names) rows))
     no_members))
-json_of (Truth b) =
-    object
-    (member (codes "boolean") (boolean b) (member (codes "head") (object no_members) no_members))
+json_of (Truth b) = object (member (codes "boolean") (boolean b)
+    (member (codes "head") (object no_members) no_members))
 json_of (Graph quads) = null

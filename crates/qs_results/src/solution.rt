@@ -10,7 +10,8 @@ ghost use Rattle.serde_json.specs.Data.{object};
 ghost use Rattle.serde_json.specs.View.{view, items_of};
 ghost use Rattle.serde_json.specs.Written.{compact_text, items_text};
 ghost use Rattle.qs_results.specs.inner.Columns.{members_of, AreColumns};
-ghost use Rattle.qs_results.specs.Json.{names_data, binding_data};
+ghost use Rattle.qs_results.specs.Json.{binding_data};
+ghost use Rattle.qs_results.specs.inner.Json.{names_data};
 
 use crate::columns::{bound_columns, columns_of};
 use crate::term::put_cell;

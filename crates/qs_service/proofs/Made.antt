@@ -25,22 +25,22 @@ carries_or l old request (Err e) reply carries is = inr (refl, is)
 
 -- a query's reply
 pub asked_answered : {E : Type 0} (l : Language) (old : Stored) (text : List ℕ) (answer : Answer) (r : Result Message E)
-    → l.answers text old.bounds old.content (Ok answer) → IfOk r (λ reply. reply ≡ answer_reply answer) → IfOk r (Carries l old (Query text) old)
+    → l.answers old.bounds text old.content (Ok answer) → IfOk r (λ reply. reply ≡ answer_reply answer) → IfOk r (Carries l old (Query text) old)
 asked_answered l old text answer (Ok reply) due is = (Ok answer, due, refl, is)
 asked_answered l old text answer (Err e) due is = is
 
 pub asked_refused : {E : Type 0} (l : Language) (old : Stored) (text : List ℕ) (f : QFault) (r : Result Message E)
-    → l.answers text old.bounds old.content (Err f) → IfOk r (λ reply. reply ≡ fault_reply f) → IfOk r (Carries l old (Query text) old)
+    → l.answers old.bounds text old.content (Err f) → IfOk r (λ reply. reply ≡ fault_reply f) → IfOk r (Carries l old (Query text) old)
 asked_refused l old text f (Ok reply) due is = (Err f, due, refl, is)
 asked_refused l old text f (Err e) due is = is
 
 -- an update's reply
 pub changed_stored : (l : Language) (old new : Stored) (text : List ℕ) (c : Content) (reply : Message)
-    → l.changes text old.bounds old.content (Ok c) → IsSameContent new.content c → new.bounds ≡ old.bounds → reply ≡ fixed_message NoContent → CarriesOrMemory (Carries l) old (Update text) new reply
+    → l.changes old.bounds text old.content (Ok c) → IsSameContent new.content c → new.bounds ≡ old.bounds → reply ≡ fixed_message NoContent → CarriesOrMemory (Carries l) old (Update text) new reply
 changed_stored l old new text c reply due same bounds is = inl (Ok c, due, (same, bounds, is))
 
 pub changed_refused : {E : Type 0} (l : Language) (old new : Stored) (text : List ℕ) (f : QFault) (made : Result Message E) (reply : Message)
-    → l.changes text old.bounds old.content (Err f) → new ≡ old → IfOk made (λ r. r ≡ fault_reply f) → MadeOf made reply → CarriesOrMemory (Carries l) old (Update text) new reply
+    → l.changes old.bounds text old.content (Err f) → new ≡ old → IfOk made (λ r. r ≡ fault_reply f) → MadeOf made reply → CarriesOrMemory (Carries l) old (Update text) new reply
 changed_refused l old new text f (Ok r) reply due same is made = inl (Err f, due, (same, made ∙ is))
 changed_refused l old new text f (Err e) reply due same is made = inr (same, made)
 

@@ -18,14 +18,14 @@ use Rattle.qs_service.specs.Language.{sparql}
 
 -- what a text is answered with over the quads of a store is an answer over what is stored
 pub answered : (held : Held) (text : List ℕ) (rows : ℕ) (r : Outcome Answer) → SameSet held.base.quads held.base.quads
-    → OneOrOutOfMemory (query.IsOutcomeOfText text (dataset_of (visible held.default_graph held.base.quads) held.base.next) rows) r → OneOrOutOfMemory (sparql.answers text (bounds_of rows held) held.base) r
+    → OneOrOutOfMemory (query.IsOutcomeOfText text (dataset_of (visible held.default_graph held.base.quads) held.base.next) rows) r → OneOrOutOfMemory (sparql.answers (bounds_of rows held) text held.base) r
 unfolding sparql
 answered held text rows (Ok answer) same due = (held.base.quads, same, due)
 answered held text rows (Err f) same due = λ other. (held.base.quads, same, due other)
 
 -- an update's text
 pub changes : (bounds : Bounds) (text : List ℕ) (old new : Content) (r : Outcome (Unit {0})) → OnOk r (inner.IsAccepted bounds text old new) → OnErr r (new ≡ old)
-    → IfErr r (λ f. f ≢ Memory → update.IsOutcomeOfText bounds text old (Err f)) → Changes (sparql.changes text bounds old) old r new
+    → IfErr r (λ f. f ≢ Memory → update.IsOutcomeOfText bounds text old (Err f)) → Changes (sparql.changes bounds text old) old r new
 unfolding sparql
 changes bounds text old new (Ok done) accepted refused fault = accepted
 changes bounds text old new (Err f) accepted refused fault = (fault, refused)

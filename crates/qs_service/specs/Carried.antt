@@ -44,10 +44,10 @@ IsUpdated old (Err f) new reply = (new ≡ old) × (reply ≡ fault_reply f)
 -- what is stored
 abbrev pub Carries : Language → Stored → Request → Stored → Message → Type 0
 Carries l old (Query text) new reply =
-    (outcome : Outcome Answer) × l.answers text old.bounds old.content outcome × (new ≡ old)
+    (outcome : Outcome Answer) × l.answers old.bounds text old.content outcome × (new ≡ old)
     × (reply ≡ query_reply outcome)
 Carries l old (Update text) new reply =
-    (outcome : Outcome Content) × l.changes text old.bounds old.content outcome
+    (outcome : Outcome Content) × l.changes old.bounds text old.content outcome
     × IsUpdated old outcome new reply
 Carries l old Dump new reply = (bytes : List ℕ) × l.writes old.content bytes × (new ≡ old)
     × (reply ≡ message 200 NQuads bytes)

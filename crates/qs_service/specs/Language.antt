@@ -15,26 +15,22 @@ use Rattle.qs_update.specs.Request.{Bounds}
 
 -- the outcomes of a query's text and of an update's over what is stored, and its written form
 pub record Language : Type 1 where
-  pub answers : List ℕ → Bounds → Content → Outcome Answer → Type 0
-  pub changes : List ℕ → Bounds → Content → Outcome Content → Type 0
+  pub answers : Bounds → List ℕ → Content → Outcome Answer → Type 0
+  pub changes : Bounds → List ℕ → Content → Outcome Content → Type 0
   pub writes : Content → List ℕ → Type 0
 
 -- a query's text over the stored quads, whose order means nothing, as they are seen with the
 -- default graph (SPARQL 1.1 Query, 13.1)
-abbrev pub IsAnswer : List ℕ → Bounds → Content → Outcome Answer → Type 0
-IsAnswer text bounds c outcome =
+abbrev pub IsAnswer : Bounds → List ℕ → Content → Outcome Answer → Type 0
+IsAnswer bounds text c outcome =
     (quads : List Statement) × SameSet quads c.quads
     × query.IsOutcomeOfText text (dataset_of (visible bounds.default_graph quads) c.next)
     bounds.rows outcome
-
--- an update's text over what is stored (SPARQL 1.1 Update, 3)
-abbrev pub IsChange : List ℕ → Bounds → Content → Outcome Content → Type 0
-IsChange text bounds c outcome = update.IsOutcomeOfText bounds text c outcome
 
 -- the stored quads as N-Quads, whose lines ascend, so that the order of the quads means nothing
 abbrev pub IsWritten : Content → List ℕ → Type 0
 IsWritten c bytes = (quads : List Statement) × SameSet quads c.quads × (bytes ≡ nquads_of quads)
 
--- what SPARQL and N-Quads say
+-- what SPARQL and N-Quads say; an update's text has the outcomes of SPARQL 1.1 Update, 3
 unfoldable pub sparql : Language
-sparql = record { answers = IsAnswer; changes = IsChange; writes = IsWritten }
+sparql = record { answers = IsAnswer; changes = update.IsOutcomeOfText; writes = IsWritten }

@@ -26,7 +26,7 @@ pub fn answer_over(
     max_rows: u64,
 ) -> Result<Answer, QFault>
     ensures { OneOrOutOfMemory
-        (sparql.answers text.now (bounds_of max_rows store.now) store.now.base) result }
+        (sparql.answers (bounds_of max_rows store.now) text.now store.now.base) result }
 {
     same_set_is_an_equivalence();
     answer(alloc, text, store, max_rows)
@@ -43,7 +43,7 @@ pub fn update_over(
     max_rows: u64,
 ) -> Result<(), QFault>
     ensures changes { Changes
-        (sparql.changes text.now (bounds_of max_rows store.old) store.old.base) store.old.base
+        (sparql.changes (bounds_of max_rows store.old) text.now store.old.base) store.old.base
         result store.new.base }
     ensures limit { store.new.limit ≡ store.old.limit }
     ensures default_graph { store.new.default_graph ≡ store.old.default_graph }

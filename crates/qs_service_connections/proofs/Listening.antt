@@ -39,5 +39,5 @@ consumes_none None = tt
 consumes_none (Some a) = refl
 
 pub nothing_yet : IsRequestOf [] More
-unfolding head_end heads.end_of_head
-nothing_yet = record { reading = None; reads = refl; is = refl }
+unfolding IsRequestOf head_end heads.end_of_head
+nothing_yet = refl

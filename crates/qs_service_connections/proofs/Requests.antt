@@ -1,5 +1,5 @@
 -- A request that is ready stands.
-use Rattle.std.proofs.Common.{◌≡◌, Option, None, Some}
+use Rattle.std.proofs.Common.{◌≡◌, None, Some}
 use Rattle.qs_http.specs.inner.Feeding.{Seen, Reading, Done}
 use Rattle.qs_http.specs.Outcome.{More, Ready, Refused}
 use Rattle.qs_http.specs.inner.Stage.{progress_of, request_in}

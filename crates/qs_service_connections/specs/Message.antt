@@ -15,4 +15,4 @@ message status media body = record { status = status; bytes = reply_of status me
 
 -- a reply that is the same each time
 abbrev pub fixed_message : Fixed → Message
-fixed_message fixed = record { status = status_of fixed; bytes = fixed_of fixed }
+fixed_message fixed = record { status = (status_of fixed).0; bytes = fixed_of fixed }

@@ -13,26 +13,22 @@ use Rattle.qs_service_connections.specs.declared.served.Served.TheVariants as se
 use Rattle.qs_service_connections.specs.declared.served.ServeFault.{ServeFault}
 use Rattle.qs_service_connections.specs.declared.served.ServeFault.TheVariants as fault
 
--- the bytes read resulted in this request or refusal, or in out of memory: its step was made, and
--- this is its reply
-abbrev pub IsAnsweredWith : {S : Type 0} → RequestMeaning S → S → List ℕ → S → Message → Type 0
-IsAnsweredWith carries old read new r = Receives carries old (Reading []) read new (Answered r 0)
-
--- what became of the bytes read: nothing is carried out unless a reply is made; `before` and
--- `after` are the bytes that the stream had taken, where they are known. Answered: it took the
--- whole reply, whose status is told. Silent: more are wanted of all the bytes that it gave. After a
--- fault of writing it took a front of the reply, not all of it, whose length is told
+-- what became of the bytes read: nothing is carried out unless a reply is made, by the step that
+-- they bring. `before` and `after` are the bytes that the stream had taken, where they are known.
+-- Answered: it took the whole reply, whose status is told. Silent: more are wanted of all the bytes
+-- that it gave. After a fault of writing it took a front of the reply, not all of it, whose length
+-- is told
 abbrev pub BecomesOf : {S : Type 0} → RequestMeaning S → S → List ℕ → Result Served ServeFault → S
     → Option (List ℕ) → Option (List ℕ) → Option (List ℕ) → Type 0
 BecomesOf carries old read (Ok (served.Answered status)) new left before after =
-    (reply : Message) × IsAnsweredWith carries old read new reply × (status ≡ reply.status)
-    × Appends before after reply.bytes
+    (reply : Message) × Receives carries old (Reading []) read new (Answered reply 0)
+    × (status ≡ reply.status) × Appends before after reply.bytes
 BecomesOf carries old read (Ok served.Silent) new left before after =
     IsRequestOf read More × IsAtEnd left × (new ≡ old) × Keeps before after
 BecomesOf carries old read (Err fault.Read) new left before after = (new ≡ old) × Keeps before after
 BecomesOf carries old read (Err (fault.Write written)) new left before after =
-    (reply : Message) × IsAnsweredWith carries old read new reply × (written < length reply.bytes)
-    × Appends before after (take written reply.bytes)
+    (reply : Message) × Receives carries old (Reading []) read new (Answered reply 0)
+    × (written < length reply.bytes) × Appends before after (take written reply.bytes)
 
 -- some bytes are read from the front of those that the stream gives, and this becomes of them
 abbrev pub Serves : {S : Type 0} → RequestMeaning S → S → Option (List ℕ) → Option (List ℕ)

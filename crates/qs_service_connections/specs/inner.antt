@@ -4,3 +4,4 @@ pub mod Receive
 pub mod Serve
 pub mod Table
 pub mod Meaning
+pub mod State

@@ -2,20 +2,23 @@
 use Rattle.std.proofs.Common.{◌≡◌, ◌≢◌, ◌∙◌, ◌==◌, ap, sym, refl, ℕ, Bool, true, false, List, [], ◌∷◌, ◌++◌, Option, None, Some, Result, Ok, Err, inl, inr, cond}
 use Rattle.std.proofs.lemmas.Bool.Decides.{eqb_tells}
 use Rattle.std.proofs.lemmas.Option.{none-some}
-use Rattle.std.specs.Option.{option_map}
+use Rattle.std.specs.Option.{option_map, is_none}
+use Rattle.std.specs.List.{find}
 use Rattle.std.specs.Result.{result_err, is_ok}
 use Rattle.qs_service_connections.specs.Meaning.{RequestMeaning}
 use Rattle.qs_service_connections.specs.Message.{Message}
-use Rattle.qs_service_connections.specs.State.{Exchange, Reading, Answered, Joined, State, exchange_of, put_exchange, without_id, reply_in, reply_at}
+use Rattle.qs_service_connections.specs.State.{Exchange, Reading, Answered, Joined, State, exchange_of, without_id, reply_in, reply_at}
+use Rattle.qs_service_connections.specs.inner.State.{put_exchange}
 use Rattle.qs_service_connections.specs.Step.{Receives, Step, Join, Piece, End}
 use Rattle.qs_service_connections.specs.declared.fault.ServiceFault.{ServiceFault}
 use Rattle.qs_service_connections.specs.declared.fault.ServiceFault.TheVariants.{Busy, KnownId, UnknownId}
-use Rattle.qs_service_reactor.specs.Run.{KeepsReplies, KeepsOthers}
-use Rattle.qs_service_endpoint.specs.Endpoint.{is_done, reply_bytes}
+use Rattle.qs_service_reactor.specs.inner.Keeps.{KeepsReplies, KeepsOthers}
+use Rattle.qs_service_endpoint.specs.Endpoint.{reply_bytes}
 
 -- the reply of an id in a table, by whether the first connection has it
 at_first : (k : ℕ) (c : Joined) (xs : List Joined) (b : Bool) → (c.id == k) ≡ b → reply_at k (c ∷ xs) ≡ reply_in (cond b (Some c.exchange) (exchange_of k xs))
-at_first k c xs b is = ap (λ (t : Bool). reply_in (cond t (Some c.exchange) (exchange_of k xs))) is
+at_first k c xs true is = ap (λ (t : Bool). reply_in (option_map (λ (x : Joined). x.exchange) (cond t (Some c) (find (λ (x : Joined). x.id == k) xs)))) is
+at_first k c xs false is = ap (λ (t : Bool). reply_in (option_map (λ (x : Joined). x.exchange) (cond t (Some c) (find (λ (x : Joined). x.id == k) xs)))) is
 
 pub standing_append : (k : ℕ) (xs ys : List Joined) (r : Message) → reply_at k xs ≡ Some r → reply_at k (xs ++ ys) ≡ Some r
 standing_append k [] ys r h = absurd (none-some r h)
@@ -111,6 +114,6 @@ module _ {S : Type 0} (carries : RequestMeaning S) where
   end_keeps old new id o h = record { kept = λ k other. standing_bytes (reply_at k old.joined) (reply_at k new.joined) (λ r. ended old new id o h k r other) }
 
 -- an event is done where its result is no fault
-pub done_is : (r : Result (Unit {0}) ServiceFault) → is_ok r ≡ is_done (result_err r)
+pub done_is : (r : Result (Unit {0}) ServiceFault) → is_ok r ≡ is_none (result_err r)
 done_is (Ok t) = refl
 done_is (Err f) = refl

@@ -1,6 +1,6 @@
 -- Connections as the endpoint of an event loop.
-use Rattle.std.specs.Prelude.{◌≡◌, ℕ, Bool, true, false, List, Option, None, Some}
-use Rattle.std.specs.Option.{option_map}
+use Rattle.std.specs.Prelude.{◌≡◌, ℕ, Bool, List, Option, option_map}
+use Rattle.std.specs.Option.{is_none}
 use Rattle.qs_service_connections.specs.Meaning.{RequestMeaning}
 use Rattle.qs_service_connections.specs.Message.{Message}
 use Rattle.qs_service_connections.specs.State.{State, reply_at}
@@ -14,16 +14,11 @@ event_of (loop.Join id) = Join id
 event_of (loop.Piece id bytes) = Piece id bytes
 event_of (loop.End id) = End id
 
--- whether an event is taken up: where nothing refuses it
-abbrev pub is_done : Option ServiceFault → Bool
-is_done None = true
-is_done (Some fault) = false
-
--- one step of the connections, which takes the event up or refuses it
+-- one step of the connections, which takes the event up where nothing refuses it
 abbrev pub Steps : {S : Type 0} → RequestMeaning S → State S → loop.Event → Bool → State S → Type 0
 Steps carries old event done new =
     (outcome : Option ServiceFault) × Step carries old (event_of event) outcome new
-    × (done ≡ is_done outcome)
+    × (done ≡ is_none outcome)
 
 -- the bytes of the reply that stands for that id
 abbrev pub reply_bytes : {S : Type 0} → State S → ℕ → Option (List ℕ)

@@ -1,13 +1,14 @@
 -- Acts, one after another.
-use Rattle.std.proofs.Common.{◌≡◌, ◌∙◌, ◌+◌, ℕ, Bool, List, [], ◌∷◌, ◌++◌, Option, None, Some, refl, sym, subst, arith, ap, append_assoc}
+use Rattle.std.proofs.Common.{◌≡◌, ◌∙◌, ◌+◌, ℕ, Bool, List, [], ◌∷◌, ◌++◌, Option, None, Some, refl, sym, subst, arith, ap, append_assoc, length, filter, length-append}
 use Rattle.std.proofs.lemmas.List.{append-nil}
+use Rattle.std.proofs.lemmas.List.Elements.{filter-append}
 use Rattle.qs_service_reactor.specs.Log.{Io, Logs}
-use Rattle.qs_service_reactor.specs.Run.{Event, Act, out_after, ios, ios_of, joins, joins_of, Next, Run}
+use Rattle.qs_service_reactor.specs.Run.{Event, Act, out_after, ios_of, is_join, Next, Run}
+use Rattle.qs_service_reactor.specs.inner.Acts.{ios, joins, joins_of}
 use Rattle.qs_service_reactor.specs.inner.Turn.{Goes}
 
 pub joins-append : (xs ys : List Act) → joins (xs ++ ys) ≡ joins xs + joins ys
-joins-append [] ys = omega arith
-joins-append (x ∷ xs) ys = let e = joins-append xs ys in omega arith
+joins-append xs ys = ap length (filter-append is_join xs ys) ∙ length-append (filter is_join xs) (filter is_join ys)
 
 pub ios-append : (xs ys : List Act) → ios (xs ++ ys) ≡ ios xs ++ ios ys
 ios-append [] ys = refl

@@ -4,7 +4,9 @@ use Rattle.std.proofs.lemmas.Bool.Decides.{eqb_tells}
 use Rattle.std.proofs.lemmas.List.{take-append-drop}
 use Rattle.std.specs.Option.{is_some}
 use Rattle.qs_service_reactor.specs.Log.{Io, Got, Put, Fin, Logs}
-use Rattle.qs_service_reactor.specs.Run.{Event, Join, Piece, End, Did, Wrote, Dropped, Finished, KeepsReplies, KeepsOthers, out_after, joins, Serves}
+use Rattle.qs_service_reactor.specs.Run.{Event, Join, Piece, End, Did, Wrote, Dropped, Finished, out_after, Serves}
+use Rattle.qs_service_reactor.specs.inner.Acts.{joins}
+use Rattle.qs_service_reactor.specs.inner.Keeps.{KeepsReplies, KeepsOthers}
 use Rattle.qs_service_reactor.specs.inner.Turn.{IsSent, AgreesAt, AgreesPlace, Agrees, AllFree, Turns, Moves}
 use Rattle.qs_service_reactor.specs.declared.connection.Connection.{Connection}
 use Rattle.qs_service_reactor.specs.declared.connection.Stage.{Stage}
@@ -106,7 +108,7 @@ module _ {A : Type 0} {steps : A → Event → Bool → A → Type 0} {reply_of 
         let same : out' p ≡ option_map (λ (sent : List ℕ). sent ++ take i next) (out p) = at_same p (option_map (λ (sent : List ℕ). sent ++ take i next) (out p)) (out p) in
         let f : IsSent (reply_of a p) (out' p) m = wrote (reply_of a p) (out p) (out' p) next n i m h e le sum same in (
           out',
-          goes_one a a out (Wrote p (take i next)) 0 l o (refl, record { sent = h.sent; rest = drop i next; joined = h.joined; stands = wrote_stands (reply_of a p) (out p) next n i h e }) (omega arith) k,
+          goes_one a a out (Wrote p (take i next)) 0 l o (refl, h.sent, drop i next, h.joined, wrote_stands (reply_of a p) (out p) next n i h e) (omega arith) k,
           subst (λ (x : Stage). AgreesAt (reply_of a p) (out' p) x) (sym now) f,
           λ j ne. at_other j p (option_map (λ (sent : List ℕ). sent ++ take i next) (out j)) (out j) ne,
         );

@@ -1,7 +1,8 @@
 -- What a reactor does, one act after another.
-use Rattle.std.specs.Prelude.{◌≡◌, ◌≢◌, ◌≤◌, ◌+◌, ◌==◌, ℕ, Bool, true, false, List, [], ◌∷◌, ◌++◌}
-use Rattle.std.specs.Prelude.{Option, None, Some, Result, IsSome, IfSome, OnOk, option_map}
-use Rattle.std.specs.Prelude.{if◌then◌else◌}
+use Rattle.std.specs.Prelude.{◌≡◌, ◌≤◌, ◌==◌, ◌&&◌, ℕ, Bool, true, false, List, [], ◌∷◌, ◌++◌}
+use Rattle.std.specs.Prelude.{Option, None, Some, Result, IsSome, IfSome, OnOk, option_map, filter}
+use Rattle.std.specs.Prelude.{if◌then◌else◌, length}
+use Rattle.std.specs.List.{flat_map}
 use Rattle.qs_service_reactor.specs.Log.{Io, Got, Put, Fin, Logs}
 
 -- a connection joins, a piece of bytes arrives on one, or one ends
@@ -21,8 +22,7 @@ pub data Act : Type 0 where
 -- the bytes that went out to each joined connection since it joined, after this act; none where
 -- none is joined
 abbrev pub out_after : (ℕ → Option (List ℕ)) → Act → ℕ → Option (List ℕ)
-out_after out (Did (Join id) true) k = if k == id then Some [] else out k
-out_after out (Did (Join id) false) k = out k
+out_after out (Did (Join id) done) k = if done && k == id then Some [] else out k
 out_after out (Did (Piece id bs) done) k = out k
 out_after out (Did (End id) done) k = if k == id then None else out k
 out_after out (Wrote id bs) k = if k == id then option_map (λ sent. sent ++ bs) (out k) else out k
@@ -37,47 +37,20 @@ ios_of (Dropped id bytes) = Got id bytes ∷ []
 ios_of (Finished id) = Fin id ∷ []
 ios_of (Did _ done) = []
 
-abbrev pub ios : List Act → List Io
-ios [] = []
-ios (act ∷ acts) = ios_of act ++ ios acts
-
--- how many connections join, whether the endpoint takes them up or not
-abbrev pub joins_of : Act → ℕ
-joins_of (Did (Join id) done) = 1
-joins_of (Did (Piece id bytes) done) = 0
-joins_of (Did (End id) done) = 0
-joins_of (Wrote id bytes) = 0
-joins_of (Dropped id bytes) = 0
-joins_of (Finished id) = 0
-
-abbrev pub joins : List Act → ℕ
-joins [] = 0
-joins (act ∷ acts) = joins_of act + joins acts
-
--- the connection is joined and its reply stands, which begins with what went out to it and then
--- these bytes
-pub record GoesOn (reply out : Option (List ℕ)) (bytes : List ℕ) : Type 0 where
-  pub sent : List ℕ
-  pub rest : List ℕ
-  pub joined : out ≡ Some sent
-  pub stands : reply ≡ Some (sent ++ bytes ++ rest)
-
--- each reply that stands stays
-pub record KeepsReplies (old new : ℕ → Option (List ℕ)) : Type 0 where
-  pub kept : (k : ℕ) → (reply : List ℕ) → old k ≡ Some reply → new k ≡ Some reply
-
--- each reply that stands for another id stays
-pub record KeepsOthers (id : ℕ) (old new : ℕ → Option (List ℕ)) : Type 0 where
-  pub kept : (k : ℕ) → k ≢ id → (reply : List ℕ) → old k ≡ Some reply → new k ≡ Some reply
+-- whether a connection joins, be it that the endpoint takes it up or not
+abbrev pub is_join : Act → Bool
+is_join (Did (Join id) done) = true
+is_join _ = false
 
 module _ {A : Type 0} (steps : A → Event → Bool → A → Type 0)
     (reply_of : A → ℕ → Option (List ℕ)) where
   -- One act: the endpoint makes a step, or stays. With the bytes that go out, all that went out
-  -- since the join are a front of the one reply; the peer is told of the end once they are all of
-  -- it; and bytes are dropped only once the reply stands.
+  -- since the join are a front of the one reply that stands; the peer is told of the end once they
+  -- are all of it; and bytes are dropped only once the reply stands.
   abbrev pub Next : A → (ℕ → Option (List ℕ)) → Act → A → Type 0
   Next old out (Did event done) new = steps old event done new
-  Next old out (Wrote id bytes) new = (new ≡ old) × GoesOn (reply_of old id) (out id) bytes
+  Next old out (Wrote id bytes) new = (new ≡ old) × (sent rest : List ℕ) × (out id ≡ Some sent)
+      × (reply_of old id ≡ Some (sent ++ bytes ++ rest))
   Next old out (Dropped id bytes) new = (new ≡ old) × IsSome (out id) × IsSome (reply_of old id)
   Next old out (Finished id) new = (new ≡ old) × IsSome (out id) × (reply_of old id ≡ out id)
 
@@ -95,7 +68,7 @@ module _ {A : Type 0} (steps : A → Event → Bool → A → Type 0)
     pub acts : List Act
     pub out : ℕ → Option (List ℕ)
     pub run : Run old (λ _. None) acts new out
-    pub few : IfSome connections (λ n. joins acts ≤ n)
-    pub all : OnOk result (IfSome connections (λ n. joins acts ≡ n))
-    pub logged : Logs log log' (ios acts)
+    pub few : IfSome connections (λ n. length (filter is_join acts) ≤ n)
+    pub all : OnOk result (IfSome connections (λ n. length (filter is_join acts) ≡ n))
+    pub logged : Logs log log' (flat_map ios_of acts)
     pub ended : OnOk result ((id : ℕ) → out id ≡ None)

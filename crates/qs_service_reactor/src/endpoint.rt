@@ -2,7 +2,8 @@
 
 ghost use Rattle.std.specs.Prelude.{◌≡◌, ◌<◌, ◌+◌, ◌^◌, ℕ, Bool, List, Option, IfSome, length, drop};
 ghost use Rattle.std.specs.Option.{option_copied, option_map};
-ghost use Rattle.qs_service_reactor.specs.Run.{Event, Join, Piece, End, KeepsReplies, KeepsOthers};
+ghost use Rattle.qs_service_reactor.specs.Run.{Event, Join, Piece, End};
+ghost use Rattle.qs_service_reactor.specs.inner.Keeps.{KeepsReplies, KeepsOthers};
 
 /// Takes the events of connections, and has a reply for a connection once its request is whole. A reply that stands doesn't change until its
 /// connection ends.

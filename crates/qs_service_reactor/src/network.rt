@@ -2,7 +2,8 @@
 
 ghost use Rattle.std.specs.Prelude.{[], List, Option};
 ghost use Rattle.std.specs.Io.{ReadsAtMost, WritesAtMost};
-ghost use Rattle.qs_service_reactor.specs.Log.{Io, Logs, LogsGot, LogsPut, LogsFin};
+ghost use Rattle.qs_service_reactor.specs.Log.{Io, Logs};
+ghost use Rattle.qs_service_reactor.specs.inner.Log.{LogsGot, LogsPut, LogsFin};
 
 use std::io;
 use std::time::Duration;

@@ -8,7 +8,8 @@ use Rattle.std.proofs.lemmas.List.Elements.{All-head, All-tail}
 use Rattle.std.proofs.lemmas.Str.{IsUtf8-from_ascii}
 use Rattle.std.proofs.lemmas.Str.Parse.{digit_at}
 use Rattle.hex.specs.Hex.{decode_of}
-use Rattle.qs_service_replay.specs.Script.{IsId, TellsEvent}
+use Rattle.qs_service_replay.specs.Script.{IsId}
+use Rattle.qs_service_replay.specs.inner.Script.{TellsEvent}
 use Rattle.qs_service_connections.specs.Step.{Join, Piece, End}
 use Rattle.qs_service_replay.specs.inner.Told.{IsPiece}
 

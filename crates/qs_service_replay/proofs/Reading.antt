@@ -5,7 +5,8 @@ use Rattle.std.proofs.lemmas.Bool.Decides.{eqb_tells}
 use Rattle.std.proofs.lemmas.List.{append-nil, map-append, length-map}
 use Rattle.std.proofs.lemmas.List.Elements.{All-nil, All-cons}
 use Rattle.qs_service_replay.specs.inner.ScriptEvents.{event_of}
-use Rattle.qs_service_replay.specs.Script.{IsFirstLine, AreLines, IsLine, TellsEvent, IsScript, IsOtherLine}
+use Rattle.qs_service_replay.specs.Script.{IsFirstLine, AreLines, IsLine, IsScript, IsOtherLine}
+use Rattle.qs_service_replay.specs.inner.Script.{TellsEvent}
 use Rattle.qs_service_replay.specs.inner.Script.{IsScriptFault}
 use Rattle.qs_service_connections.specs.Step.{Event}
 use Rattle.qs_service_replay.specs.inner.Told.{IsReadTo, IsToldAt}

@@ -5,7 +5,8 @@ use Rattle.std.specs.Str.Parse.{digits_value}
 use Rattle.std.proofs.lemmas.List.{append_cancel_left}
 use Rattle.hex.specs.Hex.{decode_of}
 use Rattle.qs_service_connections.specs.Step.{Event, Join, Piece, End}
-use Rattle.qs_service_replay.specs.Script.{IsFirstLine, AreLines, IsId, IsLine, TellsEvent, IsScript, IsOtherLine}
+use Rattle.qs_service_replay.specs.Script.{IsFirstLine, AreLines, IsId, IsLine, IsScript, IsOtherLine}
+use Rattle.qs_service_replay.specs.inner.Script.{TellsEvent}
 use Rattle.qs_service_replay.proofs.Lines.{no_space, parted_once, unparted, other_first}
 
 -- the first line is one

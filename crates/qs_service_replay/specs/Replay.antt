@@ -5,7 +5,7 @@ use Rattle.hex.specs.Hex.{encode_lower}
 use Rattle.qs_service_connections.specs.Meaning.{RequestMeaning}
 use Rattle.qs_service_connections.specs.Message.{Message}
 use Rattle.qs_service_connections.specs.State.{State, reply_at}
-use Rattle.qs_service_connections.specs.Step.{Event, Join, Piece, End, Step}
+use Rattle.qs_service_connections.specs.Step.{Event, Piece, Step}
 use Rattle.qs_service_connections.specs.declared.fault.ServiceFault.{ServiceFault}
 use Rattle.qs_service_connections.specs.declared.fault.ServiceFault.TheVariants.{Busy, KnownId}
 use Rattle.qs_service_connections.specs.declared.fault.ServiceFault.TheVariants.{UnknownId}

@@ -32,9 +32,6 @@ IsLine line (Piece id bytes) = (digits hex : List ℕ) × IsId digits id × (dec
     × (line ≡ codes "piece " ++ (digits ++ 32 ∷ hex))
 IsLine line (End id) = (digits : List ℕ) × IsId digits id × (line ≡ codes "end " ++ digits)
 
-abbrev pub TellsEvent : List ℕ → Type 0
-TellsEvent line = (event : Event) × IsLine line event
-
 -- the text is a script of these events, in their order
 abbrev pub IsScript : List ℕ → List Event → Type 0
 IsScript text events = (lines : List (List ℕ)) × AreLines text lines × AllZip IsLine lines events
@@ -43,5 +40,5 @@ IsScript text events = (lines : List (List ℕ)) × AreLines text lines × AllZi
 abbrev pub IsOtherLine : List ℕ → ℕ → Type 0
 IsOtherLine text n =
     (front behind : List (List ℕ)) × (line : List ℕ) × (events : List Event)
-    × AreLines text (front ++ line ∷ behind)
-    × AllZip IsLine front events × (¬ TellsEvent line) × (n ≡ length front + 1)
+    × AreLines text (front ++ line ∷ behind) × AllZip IsLine front events
+    × (¬ ((event : Event) × IsLine line event)) × (n ≡ length front + 1)

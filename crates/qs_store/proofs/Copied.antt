@@ -11,7 +11,8 @@ use Rattle.std.proofs.lemmas.List.Sorted.{Contains-permutation, IsPermutation-sy
 use Rattle.std.proofs.lemmas.Option.{same_Some, none-some}
 use Rattle.qs_terms.specs.Bag.{Distinct}
 use Rattle.qs_terms.specs.Term.{same_term}
-use Rattle.qs_terms.specs.Statement.{Statement, is_graph}
+use Rattle.qs_terms.specs.Statement.{Statement}
+use Rattle.qs_terms.specs.inner.Dataset.{is_graph}
 use Rattle.qs_terms.specs.declared.term.Term.{Term}
 use Rattle.qs_terms.proofs.SameStatement.{same_graph-Decides}
 use Rattle.qs_dict.specs.inner.Dict.{term_at}

@@ -4,12 +4,14 @@ use Rattle.std.specs.List.{Contains, flat_map, cons_option, list_any}
 use Rattle.std.proofs.lemmas.Bool.{false≢true}
 use Rattle.std.proofs.lemmas.List.Elements.{Contains-append_left, Contains-append_right}
 use Rattle.qs_terms.specs.Bag.{with_new}
-use Rattle.qs_terms.specs.Dataset.{is_above_blanks, is_graph_below, is_statement_below, is_term_below}
+use Rattle.qs_terms.specs.Dataset.{is_above_blanks, is_statement_below, is_term_below}
+use Rattle.qs_terms.specs.inner.Dataset.{is_graph_below}
 use Rattle.qs_terms.specs.Term.{same_term}
 use Rattle.qs_terms.specs.Statement.{Statement}
 use Rattle.qs_terms.specs.declared.term.Term.{Term}
 use Rattle.qs_terms.proofs.SameTerm.{same_term-Decides}
-use Rattle.qs_store.specs.Change.{terms_of, with_terms, with_terms_of}
+use Rattle.qs_store.specs.Change.{terms_of, with_terms_of}
+use Rattle.qs_store.specs.inner.Change.{with_terms}
 use Rattle.qs_store.specs.inner.Content.{HasKnownTerms}
 use Rattle.qs_store.specs.inner.Entries.{said, AreEntries}
 use Rattle.qs_store.specs.WholeGraphs.{is_in, in_graph, put_into, copies}

@@ -10,7 +10,8 @@ use Rattle.qs_terms.specs.Dataset.{is_above_blanks}
 use Rattle.qs_terms.specs.Statement.{Statement, fits_places}
 use Rattle.qs_terms.specs.Term.{same_term}
 use Rattle.qs_terms.specs.declared.term.Term.{Term}
-use Rattle.qs_store.specs.Change.{IsChanged, terms_of, with_terms, with_terms_of}
+use Rattle.qs_store.specs.Change.{IsChanged, terms_of, with_terms_of}
+use Rattle.qs_store.specs.inner.Change.{with_terms}
 use Rattle.qs_store.specs.inner.Change.{IsFullAt}
 use Rattle.qs_store.specs.inner.Entries.{AreEntries, IsEntryOf, IsSaidBehind, said, statement_of, entry_of}
 use Rattle.qs_store.specs.inner.Layers.{drafted}

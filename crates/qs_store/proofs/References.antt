@@ -8,7 +8,8 @@ use Rattle.qs_terms.specs.Term.{same_term}
 use Rattle.qs_terms.specs.declared.term.Term.{Term}
 use Rattle.qs_dict.specs.inner.Dict.{number_of, IsInUse}
 use Rattle.qs_dict.proofs.Numbers.{exact_number, with_known}
-use Rattle.qs_store.specs.Change.{IsChanged, terms_of, with_terms}
+use Rattle.qs_store.specs.Change.{IsChanged, terms_of}
+use Rattle.qs_store.specs.inner.Change.{with_terms}
 use Rattle.qs_store.specs.inner.Change.{IsFullAt}
 use Rattle.qs_store.specs.inner.Entries.{term_or, entry_of, statement_of, said, AreEntries, IsEntryOf}
 use Rattle.qs_store.specs.inner.Store.{IsFront}

@@ -12,7 +12,8 @@ use Rattle.std.proofs.lemmas.Bool.Decides.{nat_tests}
 use Rattle.std.proofs.lemmas.List.{length-take-le}
 use Rattle.std.proofs.lemmas.List.Sorted.{IsPermutation-refl}
 use Rattle.qs_terms.specs.Bag.{Distinct, SameBag}
-use Rattle.qs_terms.specs.Dataset.{is_above_blanks, is_statement_below, is_term_below, is_graph_below}
+use Rattle.qs_terms.specs.Dataset.{is_above_blanks, is_statement_below, is_term_below}
+use Rattle.qs_terms.specs.inner.Dataset.{is_graph_below}
 use Rattle.qs_terms.specs.Term.{same_term}
 use Rattle.qs_terms.specs.Statement.{Statement, same_statement, fits_places}
 use Rattle.qs_terms.specs.declared.term.Term.{Term}

@@ -21,7 +21,8 @@ use Rattle.qs_dict.specs.declared.fault.DictFault.{DictFault}
 use Rattle.qs_dict.specs.declared.fault.DictFault.TheVariants as dict_fault
 use Rattle.qs_dict.specs.declared.fault.DictFault.TheVariants.{Full, Memory}
 use Rattle.qs_store.specs.inner.Fault.{store_fault_of}
-use Rattle.qs_store.specs.Change.{terms_of, with_terms, with_terms_of}
+use Rattle.qs_store.specs.Change.{terms_of, with_terms_of}
+use Rattle.qs_store.specs.inner.Change.{with_terms}
 use Rattle.qs_store.specs.inner.Change.{IsFullAt}
 use Rattle.qs_store.proofs.Entries.{four_some, number_in_use, Distinct-front}
 use Rattle.qs_store.specs.inner.Entries.{entry_of, graph_number}

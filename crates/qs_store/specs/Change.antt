@@ -1,6 +1,6 @@
 -- A change: quads are removed, and then others are added (SPARQL 1.1 Update, 4.3.1).
 use Rattle.std.specs.Prelude.{◌≡◌, ◌⊎◌, ◌↔◌, List, [], ◌∷◌, length, take}
-use Rattle.std.specs.List.{Contains, cons_option, flat_map}
+use Rattle.std.specs.List.{Contains, cons_option, flat_map, fold}
 use Rattle.qs_terms.specs.Bag.{SameBag, with_new}
 use Rattle.qs_terms.specs.Term.{same_term}
 use Rattle.qs_terms.specs.Statement.{Statement}
@@ -16,14 +16,9 @@ IsChanged {X} old removed added new =
 abbrev pub terms_of : Statement → List Term
 terms_of q = cons_option q.graph (q.subject ∷ q.predicate ∷ q.object ∷ [])
 
--- the terms with these after them, each once
-abbrev pub with_terms : List Term → List Term → List Term
-with_terms known [] = known
-with_terms known (term ∷ terms) = with_terms (with_new same_term known term) terms
-
 -- the known terms and the other terms of the quads, each once
 abbrev pub with_terms_of : List Term → List Statement → List Term
-with_terms_of known quads = with_terms known (flat_map terms_of quads)
+with_terms_of known quads = fold (with_new same_term) known (flat_map terms_of quads)
 
 -- the known terms, followed in some order by the other terms of the quads, each once
 pub record KnowsTermsOf (old : List Term) (quads : List Statement) (new : List Term) : Type 0 where

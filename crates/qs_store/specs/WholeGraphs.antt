@@ -26,8 +26,7 @@ exists (Some name) quads = list_any (is_in (Some name)) quads
 
 -- the same triple in this graph
 abbrev pub put_into : Option Term → Statement → Statement
-put_into name q =
-    record { graph = name; subject = q.subject; predicate = q.predicate; object = q.object }
+put_into name q = record q { graph = name }
 
 -- the quads of one graph, put into another
 abbrev pub copies : Option Term → Option Term → List Statement → List Statement

@@ -3,7 +3,7 @@
 ghost use Rattle.std.specs.Prelude.{◌≡◌, [], Some, length, IsTrue, IfOk, IfErr, IfSome, IfNone, OnOk, OnErr};
 ghost use Rattle.std.specs.List.{filter};
 ghost use Rattle.std.specs.Option.{option_copied};
-ghost use Rattle.qs_terms.specs.Statement.{is_graph};
+ghost use Rattle.qs_terms.specs.inner.Dataset.{is_graph};
 ghost use Rattle.qs_dict.specs.inner.Dict.{IsDictionary};
 ghost use Rattle.qs_store.specs.Change.{IsChanged, with_terms_of};
 ghost use Rattle.qs_store.specs.inner.Change.{IsFullAt};

@@ -14,7 +14,8 @@ use Rattle.qs_lex.specs.inner.Parts as parts
 use Rattle.qs_lex.specs.inner.Parts.{StandsIn, IsSound, IsMadeOf, begins_with}
 use Rattle.qs_lex.specs.declared.token.Class.{Class}
 use Rattle.qs_lex.specs.declared.token.Class.TheVariants as class
-use Rattle.qs_syntax_resolve.specs.Names.{is_colon, marks}
+use Rattle.qs_syntax_resolve.specs.Names.{marks}
+use Rattle.qs_syntax_resolve.specs.inner.Names.{is_colon}
 use Rattle.qs_terms.specs.Iri.{is_excluded}
 use Rattle.qs_terms.specs.Tag.{is_tag}
 use Rattle.qs_syntax_tree.specs.Words.{word_kind, mark_kind, find_kind, keywords}

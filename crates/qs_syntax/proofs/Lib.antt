@@ -8,3 +8,4 @@ pub mod SettledListed
 pub mod Places
 pub mod Nothing
 pub mod Within
+pub mod Named

@@ -11,22 +11,25 @@ use Rattle.qs_syntax.specs.inner.Outcome.{no_operation}
 use Rattle.qs_syntax_ast.specs.declared.update.Update.{Update}
 use Rattle.qs_terms.specs.declared.fault.QFault.TheVariants as fault
 use Rattle.qs_syntax_tree.specs.declared.token.Token.{Token}
-use Rattle.qs_syntax_tree.specs.Rules.{prologue, query_form, select, construct, ask, select_clause, prefix_declaration, query, values}
 use Rattle.qs_syntax_tree.specs.Rules as rules
+use Rattle.qs_syntax_tree.specs.inner.Procedures.{prologue, query_form, select, construct, ask, select_clause, prefix_declaration, query, values}
+use Rattle.qs_syntax_tree.specs.inner.Procedures as procedures
+use Rattle.qs_syntax_tree.specs.inner.Table.{guided}
 use Rattle.qs_syntax_tree.specs.Sparql.{sparql}
 use Rattle.qs_syntax_tree.specs.Table.{grammar}
+use Rattle.qs_syntax_tree.proofs.SameRules.{grammar_same, query_same, update_same}
 use Rattle.qs_syntax_tree.proofs.Sure.{lawful, passes_each, examples, query_starts, update_starts}
 use Rattle.qs_syntax.specs.Text.{AreTokensOf, IsBlamed}
 
-nothing_read : whole (read grammar 0 query []) ≡ Err (reading.Syntax 0)
+nothing_read : whole (read guided 0 query []) ≡ Err (reading.Syntax 0)
 unfolding query prologue query_form select construct ask select_clause prefix_declaration values
 nothing_read = refl
 
-blamed : (end : ℕ) → IsBlamed query end [] end
-blamed end = (
-  none_spelt sparql lawful grammar passes_each 2 examples _ query query_starts 0 [] (reading.Syntax 0) (omega arith) nothing_read,
+blamed : (end : ℕ) → IsBlamed rules.query end [] end
+blamed end = rw (grammar_same, query_same) (
+  none_spelt sparql lawful guided passes_each 2 examples _ query query_starts 0 [] (reading.Syntax 0) (omega arith) nothing_read,
   0,
-  is_due sparql lawful grammar passes_each 2 examples _ query query_starts 0 [] 0 0 nothing_read refl,
+  is_due sparql lawful guided passes_each 2 examples _ query query_starts 0 [] 0 0 nothing_read refl,
   refl,
 )
 
@@ -42,12 +45,12 @@ without_tokens text tokens a z =
 
 -- ---- as an update
 
-operations_none : whole (read grammar 0 rules.update []) ≡ Ok no_operation
-unfolding rules.update prologue prefix_declaration rules.operations_rule rules.operation rules.insert rules.delete rules.with_graph rules.graph_operation
+operations_none : whole (read guided 0 procedures.update []) ≡ Ok no_operation
+unfolding procedures.update prologue prefix_declaration procedures.operations_rule procedures.operation procedures.insert procedures.delete procedures.with_graph procedures.graph_operation
 operations_none = refl
 
 spelt : Spells grammar rules.update [] no_operation
-spelt = found_spelt sparql lawful grammar passes_each 2 examples _ rules.update update_starts 0 [] no_operation operations_none
+spelt = rw (grammar_same, update_same) (found_spelt sparql lawful guided passes_each 2 examples _ procedures.update update_starts 0 [] no_operation operations_none)
 
 pub update_without_tokens : (text : List ℕ) (tokens : List Token) (update : Update) → AreTokensOf text tokens → length tokens ≡ 0
     → update_outcome text [] no_operation ≡ Ok update → IsUpdateOutcome text (Ok update)

@@ -1,8 +1,7 @@
 -- Reading by itself wants no memory.
 use Rattle.std.proofs.Common.{◌≡◌, ℕ, zero, suc, Bool, true, false, cond, List, [], ◌∷◌, length, Ok, Err}
 use Rattle.qs_syntax_grammar.specs.declared.fault.Fault.TheVariants.{Memory, Deep, Syntax}
-use Rattle.qs_syntax_grammar.specs.Grammar.{Grammar}
-use Rattle.qs_syntax_grammar.specs.inner.Grammar.{read_at, read, whole}
+use Rattle.qs_syntax_grammar.specs.inner.Grammar.{Guided, read_at, read, whole}
 use Rattle.qs_syntax_grammar.specs.inner.Reading.{Outcome, Reader, and_then, has, starts, first, loop, reading}
 use Rattle.qs_syntax_grammar.specs.Rule.{Language, Rule, token, empty, both, either, many, made, placed, ref}
 
@@ -39,7 +38,7 @@ module _ (L : Language) where
     remembers (placed p) ts = behind (reading fs env p ts) _ (remembers p ts) (λ x s. tt)
     remembers (ref n) ts = named n ts
 
-  module _ (G : Grammar L) where
+  module _ (G : Guided L) where
     named : (d : ℕ) (n : L.Name) (ts : List L.Token) → Remembers (read_at G d n ts)
     named zero n ts = tt
     named (suc d) n ts = remembers G.firsts (read_at G d) (named d) (G.rule n) ts

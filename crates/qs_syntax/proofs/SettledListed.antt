@@ -9,8 +9,10 @@ use Rattle.qs_syntax_scope.specs.Firsts.{names_of}
 use Rattle.qs_syntax_scope.specs.KeepsScope.{query_keeps_scope, update_keeps_scope}
 use Rattle.qs_syntax_scope.specs.inner.Laws.{AreListed}
 use Rattle.qs_syntax_scope.specs.Names.{Name, contains}
-use Rattle.qs_syntax_scope.specs.VariablesIn.{in_query, in_update, query_variables, update_variables}
-use Rattle.qs_syntax.specs.Outcome.{by_place, in_scope, variables_of, listed_query, listed_update, query_outcome, update_outcome}
+use Rattle.qs_syntax_scope.specs.VariablesIn.{query_variables, update_variables}
+use Rattle.qs_syntax_scope.specs.inner.VariablesIn.{in_query, in_update}
+use Rattle.qs_syntax.specs.Outcome.{by_place, in_scope, variables_of, query_outcome, update_outcome}
+use Rattle.qs_syntax.specs.inner.Outcome.{listed_query, listed_update}
 use Rattle.qs_terms.specs.Outcome.{Outcome, and_then}
 use Rattle.qs_syntax_tree.specs.declared.query.Query.{Query as WrittenQuery}
 use Rattle.qs_syntax_tree.specs.declared.token.Token.{Token}

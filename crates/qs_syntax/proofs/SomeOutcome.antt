@@ -11,35 +11,37 @@ use Rattle.qs_terms.specs.declared.fault.QFault.TheVariants as fault
 use Rattle.qs_syntax_tree.specs.declared.token.Token.{Token}
 use Rattle.qs_syntax_tree.specs.Sparql.{Rule, sparql}
 use Rattle.qs_syntax_tree.specs.Table.{grammar}
+use Rattle.qs_syntax_tree.specs.inner.Table.{guided}
+use Rattle.qs_syntax_tree.proofs.SameRules.{grammar_same}
 use Rattle.qs_syntax_tree.proofs.Sure.{lawful, passes_each, examples}
 use Rattle.qs_syntax.specs.Outcome.{screened, AfterScreen, IsParsed}
 use Rattle.qs_syntax.specs.Kinds.{token_of}
 use Rattle.qs_syntax.specs.Text.{IsBlamed, place_of_number}
 use Rattle.qs_syntax.proofs.Remembers.{wants_none}
 
-module _ {A : Type 0} (start : Rule A) (begin : is_start grammar start ≡ true) where
+module _ {A : Type 0} (start : Rule A) (begin : is_start guided start ≡ true) where
   -- a tree that the tokens spell, or the number of the token that is to blame
   abbrev Tree : ℕ → List Token → Type 0
   Tree end tokens = ((tree : A) × Spells grammar start tokens tree) ⊎ ((place : ℕ) × IsBlamed start end tokens place)
 
-  by_reading : (end : ℕ) (tokens : List Token) (o : Result A Fault) → whole (read grammar (length tokens) start tokens) ≡ o → Tree end tokens
-  by_reading end tokens (Ok tree) e = inl (tree, found_spelt sparql lawful grammar passes_each 2 examples A start begin (length tokens) tokens tree e)
+  by_reading : (end : ℕ) (tokens : List Token) (o : Result A Fault) → whole (read guided (length tokens) start tokens) ≡ o → Tree end tokens
+  by_reading end tokens (Ok tree) e = rw grammar_same (inl (tree, found_spelt sparql lawful guided passes_each 2 examples A start begin (length tokens) tokens tree e))
   by_reading end tokens (Err (reading.Syntax left)) e =
       let n : ℕ = length tokens - left in
-      inr (
+      rw grammar_same (inr (
         place_of_number end n tokens,
         (
-          none_spelt sparql lawful grammar passes_each 2 examples A start begin (length tokens) tokens (reading.Syntax left) (omega arith) e,
+          none_spelt sparql lawful guided passes_each 2 examples A start begin (length tokens) tokens (reading.Syntax left) (omega arith) e,
           n,
-          is_due sparql lawful grammar passes_each 2 examples A start begin (length tokens) tokens left n e refl,
+          is_due sparql lawful guided passes_each 2 examples A start begin (length tokens) tokens left n e refl,
           refl,
         ),
-      )
-  by_reading end tokens (Err reading.Deep) e = absurd (not_deep sparql lawful grammar passes_each 2 examples A start begin (length tokens) tokens (omega arith) e)
-  by_reading end tokens (Err reading.Memory) e = absurd (wants_none sparql grammar start (length tokens) tokens e)
+      ))
+  by_reading end tokens (Err reading.Deep) e = absurd (not_deep sparql lawful guided passes_each 2 examples A start begin (length tokens) tokens (omega arith) e)
+  by_reading end tokens (Err reading.Memory) e = absurd (wants_none sparql guided start (length tokens) tokens e)
 
   pub tree_or_place : (end : ℕ) (tokens : List Token) → Tree end tokens
-  tree_or_place end tokens = by_reading end tokens (whole (read grammar (length tokens) start tokens)) refl
+  tree_or_place end tokens = by_reading end tokens (whole (read guided (length tokens) start tokens)) refl
 
   module _ {B : Type 0} (text : List ℕ) (tokens : List Token) (settle : A → Outcome B) where
     after_tree : Tree (length text) tokens → (outcome : Outcome B) × AfterScreen start settle text tokens (Ok tt) outcome

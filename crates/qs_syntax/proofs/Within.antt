@@ -4,9 +4,12 @@ use Rattle.qs_syntax_ast.specs.declared.query.Query.{Query}
 use Rattle.qs_syntax_ast.specs.declared.term.Variable.{Variable}
 use Rattle.qs_syntax_ast.specs.declared.update.Update.{Update}
 use Rattle.qs_syntax_resolve.specs.Names.{nothing_declared}
-use Rattle.qs_syntax_resolve.specs.Query.{query, prologue, form_of, trailing}
-use Rattle.qs_syntax_resolve.specs.Resolved.{resolved_query, resolved_update, start}
-use Rattle.qs_syntax_resolve.specs.Update.{update, steps}
+use Rattle.qs_syntax_resolve.specs.Query.{query, prologue, form_of}
+use Rattle.qs_syntax_resolve.specs.inner.Query.{trailing}
+use Rattle.qs_syntax_resolve.specs.Resolved.{resolved_query, resolved_update}
+use Rattle.qs_syntax_resolve.specs.inner.Resolved.{start}
+use Rattle.qs_syntax_resolve.specs.Update.{update}
+use Rattle.qs_syntax_resolve.specs.inner.Update.{steps}
 use Rattle.qs_syntax_resolve.specs.declared.resolver.Resolver.{Resolver}
 use Rattle.qs_syntax.specs.Outcome.{by_place, earlier}
 use Rattle.qs_syntax.proofs.Places.{placed}

@@ -5,7 +5,6 @@ use Rattle.qs_lex.specs.declared.token.Class.TheVariants as class
 use Rattle.qs_lex.specs.Lexes.{Lexeme}
 use Rattle.qs_syntax_tree.specs.declared.kind.Kind.{Kind}
 use Rattle.qs_syntax_tree.specs.declared.kind.Kind.TheVariants as k
-use Rattle.qs_syntax_tree.specs.declared.token.Span.{Span}
 use Rattle.qs_syntax_tree.specs.declared.token.Token.{Token}
 use Rattle.qs_syntax_tree.specs.Words.{word_kind, mark_kind}
 
@@ -25,10 +24,9 @@ kind_of class.LangTag text = k.LangTag
 kind_of class.Word text = word_kind text
 kind_of class.Mark text = mark_kind text
 
--- where it stands in the text
-abbrev pub span_of : Lexeme → Span
-span_of t = record { start = t.place; end = t.place + length t.text }
-
--- its kind, with where it stands
+-- its kind, with where it stands in the text
 abbrev pub token_of : Lexeme → Token
-token_of t = record { kind = kind_of t.class t.text; span = span_of t }
+token_of t = record {
+  kind = kind_of t.class t.text;
+  span = record { start = t.place; end = t.place + length t.text };
+}

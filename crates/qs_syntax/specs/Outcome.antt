@@ -9,9 +9,9 @@
 -- A text has one outcome at most (`laws::one_outcome`); in UTF-8, as all texts of the program are,
 -- it has one (`laws::some_outcome`). The first step takes the steps after it as a parameter, since
 -- a definition can't be used above its place.
-use Rattle.std.specs.Prelude.{◌≡◌, ◌⊎◌, ℕ, Bool, true, false, nat_lt, List, [], ◌∷◌, ◌++◌, length}
-use Rattle.std.specs.Prelude.{Option, Some, None, Ok, Err, if◌then◌else◌}
-use Rattle.std.specs.List.{fold}
+use Rattle.std.specs.Prelude.{◌≡◌, ◌⊎◌, ℕ, Bool, true, false, nat_lt, List, length, map}
+use Rattle.std.specs.Prelude.{Option, Some, None, ok_or, Ok, Err, if◌then◌else◌}
+use Rattle.std.specs.List.{filter}
 use Rattle.qs_syntax_grammar.specs.Grammar.{Spells}
 use Rattle.qs_lex.specs.Lexes.{StopsAt}
 use Rattle.qs_terms.specs.Outcome.{Outcome, and_then}
@@ -31,7 +31,7 @@ use Rattle.qs_syntax_ast.specs.declared.update.Update.{Update}
 use Rattle.qs_syntax_limits.specs.Brackets.{brackets}
 use Rattle.qs_syntax_limits.specs.Large as large
 use Rattle.qs_syntax_limits.specs.LeftOut.{left_out}
-use Rattle.qs_syntax_resolve.specs.Names.{Names, variable, nothing_declared}
+use Rattle.qs_syntax_resolve.specs.Names.{variable, nothing_declared}
 use Rattle.qs_syntax_resolve.specs.Resolved.{resolved_query, resolved_update}
 use Rattle.qs_syntax_scope.specs.KeepsScope.{query_keeps_scope, update_keeps_scope}
 use Rattle.qs_syntax_scope.specs.VariablesIn.{query_variables, update_variables}
@@ -46,16 +46,13 @@ ByTokens Decide text outcome =
 
 -- ---- 2. the first word that is left out, and then the first bracket that is too much
 
-abbrev pub bracketed : Option ℕ → Outcome (Unit {0})
-bracketed None = Ok tt
-bracketed (Some place) = Err (fault.TooLarge place)
-
-abbrev pub unless_left_out : Option (List ℕ) → Option ℕ → Outcome (Unit {0})
-unless_left_out None place = bracketed place
-unless_left_out (Some word) place = Err (fault.LeftOut word)
+abbrev pub first_fault : Option (List ℕ) → Option ℕ → Outcome (Unit {0})
+first_fault (Some word) place = Err (fault.LeftOut word)
+first_fault None (Some place) = Err (fault.TooLarge place)
+first_fault None None = Ok tt
 
 unfoldable pub screened : List ℕ → List Token → Outcome (Unit {0})
-screened text tokens = unless_left_out (left_out text tokens) (brackets tokens)
+screened text tokens = first_fault (left_out text tokens) (brackets tokens)
 
 -- ---- 3. the tree that is spelt decides; where none is spelt, Syntax at the place that is blamed
 
@@ -78,17 +75,10 @@ earlier (fault.Prefix at) large = nearer (fault.Prefix at) at large
 earlier (fault.RelativeIri at) large = nearer (fault.RelativeIri at) at large
 earlier other large = other
 
--- (5: where there is neither, a literal that isn't lawful is a fault of scope)
-abbrev pub lawful : {A : Type 0} → Option A → Outcome A
-lawful None = Err fault.Scope
-lawful (Some a) = Ok a
-
-abbrev pub within : {A : Type 0} → Option A → Option ℕ → Outcome A
-within found None = lawful found
-within found (Some place) = Err (fault.TooLarge place)
-
+-- where there is neither, a literal that isn't lawful is a fault of scope (5)
 abbrev pub by_place : {A : Type 0} → Outcome (Option A) → Option ℕ → Outcome A
-by_place (Ok found) place = within found place
+by_place (Ok found) None = ok_or found fault.Scope
+by_place (Ok found) (Some place) = Err (fault.TooLarge place)
 by_place (Err f) place = Err (earlier f place)
 
 -- ---- 5. and last the rules of scope
@@ -102,46 +92,30 @@ abbrev pub is_variable : Kind → Bool
 is_variable kind.Var = true
 is_variable other = false
 
-unfoldable pub with_variable : Names → List Variable → Token → List Variable
-with_variable names found t =
-    if is_variable t.kind then found ++ record { name = variable names t.span } ∷ [] else found
-
-abbrev pub named : Names → List Token → List Variable
-named names tokens = fold (with_variable names) [] tokens
-
 abbrev pub variables_of : List ℕ → List Token → List Variable
-variables_of text tokens = named (nothing_declared text) tokens
+variables_of text tokens = map (λ t. record { name = variable (nothing_declared text) t.span })
+    (filter (λ t. is_variable t.kind) tokens)
 
 -- ---- 4 and 5 of a tree: last, those variables and then those of the tree are listed, each once
-
-abbrev pub listed_query : Query → Query
-listed_query query = record query { variables = query_variables query }
 
 unfoldable pub query_outcome : List ℕ → List Token → WrittenQuery → Outcome Query
 query_outcome text tokens q =
     and_then (and_then (by_place (resolved_query text (variables_of text tokens) q) (large.query q))
-    (in_scope query_keeps_scope)) (λ kept. Ok (listed_query kept))
-
-abbrev pub listed_update : Update → Update
-listed_update update = record update { variables = update_variables update }
+    (in_scope query_keeps_scope))
+    (λ kept. Ok (record kept { variables = query_variables kept }))
 
 unfoldable pub update_outcome : List ℕ → List Token → WrittenUpdate → Outcome Update
-update_outcome text tokens u =
-    and_then
+update_outcome text tokens u = and_then
     (and_then (by_place (resolved_update text (variables_of text tokens) u) (large.update u))
-    (in_scope update_keeps_scope)) (λ kept. Ok (listed_update kept))
+    (in_scope update_keeps_scope))
+    (λ kept. Ok (record kept { variables = update_variables kept }))
 
 -- ---- the whole
 
-abbrev pub IsOutcomeOfTokens : {A B : Type 0} → Rule A → (A → Outcome B) → List ℕ → List Token
-    → Outcome B → Type 0
-IsOutcomeOfTokens start settle text tokens outcome =
-    AfterScreen start settle text tokens (screened text tokens) outcome
-
 abbrev pub IsParsed : {A B : Type 0} → Rule A → (List Token → A → Outcome B) → List ℕ → Outcome B
     → Type 0
-IsParsed start settle text outcome =
-    ByTokens (λ tokens. IsOutcomeOfTokens start (settle tokens) text tokens) text outcome
+IsParsed start settle text outcome = ByTokens
+    (λ tokens. AfterScreen start (settle tokens) text tokens (screened text tokens)) text outcome
 
 abbrev pub IsQueryOutcome : List ℕ → Outcome Query → Type 0
 IsQueryOutcome text outcome = IsParsed rules.query (query_outcome text) text outcome

@@ -1,5 +1,5 @@
 -- The tokens of a text, and the places of their faults (SPARQL 1.1 Query, 19.8).
-use Rattle.std.specs.Prelude.{◌≡◌, ℕ, List, map, Option, Some, None, slice_get}
+use Rattle.std.specs.Prelude.{◌≡◌, ℕ, List, map, slice_get, unwrap_or, option_map}
 use Rattle.qs_syntax_grammar.specs.Grammar.{Spells, IsDue}
 use Rattle.qs_lex.specs.Lexes.{Lexeme, Lexes}
 use Rattle.qs_syntax_tree.specs.declared.token.Token.{Token}
@@ -11,14 +11,9 @@ use Rattle.qs_syntax.specs.Kinds.{token_of}
 abbrev pub AreTokensOf : List ℕ → List Token → Type 0
 AreTokensOf text tokens = (ts : List Lexeme) × Lexes text ts × (tokens ≡ map token_of ts)
 
--- the place of a token, or the end where there is none
-abbrev pub place_or_end : ℕ → Option Token → ℕ
-place_or_end end None = end
-place_or_end end (Some t) = t.span.start
-
--- the place of the token of that number, or the end
+-- the place of the token of that number, or the end where there is none
 abbrev pub place_of_number : ℕ → ℕ → List Token → ℕ
-place_of_number end n tokens = place_or_end end (slice_get tokens n)
+place_of_number end n tokens = unwrap_or (option_map (λ t. t.span.start) (slice_get tokens n)) end
 
 -- The tokens spell no tree, and this is the place of the first token such that no tokens that spell
 -- one begin with those up to it and with it, or the end.

@@ -6,7 +6,7 @@ ghost use Rattle.std.specs.Str.{IsUtf8};
 ghost use Rattle.qs_syntax_ast.specs.declared.query.Query.{Query};
 ghost use Rattle.qs_syntax_ast.specs.declared.update.Update.{Update};
 ghost use Rattle.qs_syntax_scope.specs.inner.Laws.{AreListed};
-ghost use Rattle.qs_syntax_scope.specs.VariablesIn.{in_query, in_update};
+ghost use Rattle.qs_syntax_scope.specs.inner.VariablesIn.{in_query, in_update};
 ghost use Rattle.qs_lex_escapes.specs.Piece.{piece};
 ghost use Rattle.qs_lex.specs.inner.Fault.{HasToken};
 ghost use Rattle.qs_lex.specs.Lexes.{Lexeme, Lexes};

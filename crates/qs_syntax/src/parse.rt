@@ -10,7 +10,8 @@ ghost use Rattle.qs_syntax_tree.specs.Rules as rules;
 ghost use Rattle.qs_syntax_tree.specs.Table.{grammar};
 ghost use Rattle.qs_terms.specs.Outcome.{OneOrOutOfMemory};
 ghost use Rattle.qs_terms.specs.declared.fault.QFault.TheVariants.{Memory};
-ghost use Rattle.qs_syntax.specs.Outcome.{query_outcome, update_outcome, IsOutcomeOfTokens, IsQueryOutcome, IsUpdateOutcome};
+ghost use Rattle.qs_syntax.specs.Outcome.{query_outcome, update_outcome, IsQueryOutcome, IsUpdateOutcome};
+ghost use Rattle.qs_syntax.specs.inner.Outcome.{IsOutcomeOfTokens};
 
 use crate::resolve_and_check::{resolve_and_check_query, resolve_and_check_update, settle_nothing};
 use crate::token::tokens;

@@ -71,13 +71,13 @@ fn is_variable(kind: Kind) -> bool
     }
 }
 
-#[tactic(auto, unfolding(crate::specs::Outcome::with_variable))]
+#[tactic(auto, unfolding(crate::specs::inner::Outcome::with_variable))]
 fn keep_variable(
     names: &mut Names<'_>,
     found: &mut Items<Variable>,
     token: &Token,
 ) -> Result<(), AllocError>
-    ensures found { OnOk result (found.new ≡ spec.with_variable names.old found.old token.now) }
+    ensures found { OnOk result (found.new ≡ inner.with_variable names.old found.old token.now) }
     ensures names { names.new ≡ names.old }
 {
     if !is_variable(token.kind) {
@@ -92,7 +92,7 @@ fn named(
     names: &mut Names<'_>,
     tokens: &[Token],
 ) -> Result<Items<Variable>, AllocError>
-    ensures { IfOk result (λ v. v ≡ spec.named names.old tokens.now) }
+    ensures { IfOk result (λ v. v ≡ inner.named names.old tokens.now) }
 {
     let mut found = Items::new(alloc);
     for token in tokens {
@@ -101,6 +101,7 @@ fn named(
     Ok(found)
 }
 
+#[tactic(auto, using(crate::proofs::Named::named_is))]
 fn variables(alloc: Global, text: &str, tokens: &[Token]) -> Result<Items<Variable>, AllocError>
     ensures { IfOk result (λ v. v ≡ spec.variables_of text.now tokens.now) }
 {
@@ -150,7 +151,7 @@ fn scoped_update(alloc: Global, update: Update) -> Result<Update, QFault>
 }
 
 fn listed_query(alloc: Global, query: Query) -> Result<Query, AllocError>
-    ensures { IfOk result (λ q. q ≡ spec.listed_query query) }
+    ensures { IfOk result (λ q. q ≡ inner.listed_query query) }
 {
     let variables = query_variables(alloc, &query);
     let (query, variables) = keep_beside(query, variables)?;
@@ -167,7 +168,7 @@ fn listed_query(alloc: Global, query: Query) -> Result<Query, AllocError>
 }
 
 fn listed_update(alloc: Global, update: Update) -> Result<Update, AllocError>
-    ensures { IfOk result (λ u. u ≡ spec.listed_update update) }
+    ensures { IfOk result (λ u. u ≡ inner.listed_update update) }
 {
     let variables = update_variables(alloc, &update);
     let (update, variables) = keep_beside(update, variables)?;

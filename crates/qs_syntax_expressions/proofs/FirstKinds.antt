@@ -2,8 +2,9 @@
 use Rattle.std.proofs.Common.{◌≡◌, false, [], ◌∷◌, refl}
 use Rattle.qs_syntax_grammar.specs.inner.Reading.{first, nullable}
 use Rattle.qs_syntax_tree.specs.declared.kind.Kind.TheVariants as k
-use Rattle.qs_syntax_tree.specs.Table.{firsts}
-use Rattle.qs_syntax_tree.specs.Rules.{binary_function, call, comparison, parenthesized, relation, unary_function}
+use Rattle.qs_syntax_tree.specs.inner.Table.{firsts}
+use Rattle.qs_syntax_tree.specs.Rules.{binary_function, comparison, parenthesized, unary_function}
+use Rattle.qs_syntax_tree.specs.inner.Procedures.{call, relation}
 
 pub first_parenthesized : first firsts parenthesized ≡ k.LeftParen ∷ []
 unfolding parenthesized

@@ -10,8 +10,9 @@ ghost use Rattle.qs_syntax_grammar.specs.inner.Reading.{Reads};
 ghost use Rattle.qs_syntax_grammar.specs.Rule.{ref};
 ghost use Rattle.qs_syntax_expressions.specs.inner.Nests.{Nests};
 ghost use Rattle.qs_syntax_tree.specs.Rules as rules;
+ghost use Rattle.qs_syntax_tree.specs.inner.Procedures as procedures;
 ghost use Rattle.qs_syntax_tree.specs.Sparql as name;
-ghost use Rattle.qs_syntax_tree.specs.Table.{grammar};
+ghost use Rattle.qs_syntax_tree.specs.inner.Table.{guided};
 
 use qs_base::keep_beside;
 use qs_syntax_grammar::fault::Fault;
@@ -36,7 +37,7 @@ pub struct Operators<F> {
 impl<F: Fn(Parser, &mut Tokens<'_>) -> Result<Expression, Fault>> Operators<F> {
     fn expression(&self, tokens: &mut Tokens<'_>) -> Result<Expression, Fault>
         requires { Nests self.now.parser (F.pre self.now.expression) (F.post self.now.expression) }
-        ensures { Reads (read grammar self.now.parser.depth (ref name.expression) tokens.old) result
+        ensures { Reads (read guided self.now.parser.depth (ref name.expression) tokens.old) result
             tokens.new }
     {
         (self.expression)(self.parser, tokens)
@@ -45,7 +46,7 @@ impl<F: Fn(Parser, &mut Tokens<'_>) -> Result<Expression, Fault>> Operators<F> {
     #[tactic(auto, unfolding(qs_syntax_tree::specs::Rules::parenthesized))]
     pub fn parenthesized_expression(&self, tokens: &mut Tokens<'_>) -> Result<Expression, Fault>
         requires { Nests self.now.parser (F.pre self.now.expression) (F.post self.now.expression) }
-        ensures { Reads (read grammar self.now.parser.depth rules.parenthesized tokens.old) result
+        ensures { Reads (read guided self.now.parser.depth rules.parenthesized tokens.old) result
             tokens.new }
     {
         tokens.expect(Kind::LeftParen)?;
@@ -53,58 +54,58 @@ impl<F: Fn(Parser, &mut Tokens<'_>) -> Result<Expression, Fault>> Operators<F> {
         tokens.closing(inner, Kind::RightParen)
     }
 
-    #[tactic(auto, unfolding(qs_syntax_tree::specs::Rules::next_argument))]
+    #[tactic(auto, unfolding(qs_syntax_tree::specs::inner::Procedures::next_argument))]
     fn next_argument(&self, tokens: &mut Tokens<'_>) -> Result<Expression, Fault>
         requires { Nests self.now.parser (F.pre self.now.expression) (F.post self.now.expression) }
-        ensures { Reads (read grammar self.now.parser.depth rules.next_argument tokens.old) result
-            tokens.new }
+        ensures { Reads (read guided self.now.parser.depth procedures.next_argument tokens.old)
+            result tokens.new }
     {
         tokens.expect(Kind::Comma)?;
         self.expression(tokens)
     }
 
-    #[tactic(auto, unfolding(qs_syntax_tree::specs::Rules::two_expressions))]
+    #[tactic(auto, unfolding(qs_syntax_tree::specs::inner::Procedures::two_expressions))]
     fn two_expressions(&self, tokens: &mut Tokens<'_>) -> Result<(Expression, Expression), Fault>
         requires { Nests self.now.parser (F.pre self.now.expression) (F.post self.now.expression) }
-        ensures { Reads (read grammar self.now.parser.depth rules.two_expressions tokens.old) result
-            tokens.new }
+        ensures { Reads (read guided self.now.parser.depth procedures.two_expressions tokens.old)
+            result tokens.new }
     {
         let first = self.expression(tokens)?;
         keep_beside(first, self.next_argument(tokens))
     }
 
-    #[tactic(auto, unfolding(qs_syntax_tree::specs::Rules::three_expressions))]
+    #[tactic(auto, unfolding(qs_syntax_tree::specs::inner::Procedures::three_expressions))]
     fn three_expressions(
         &self,
         tokens: &mut Tokens<'_>,
     ) -> Result<((Expression, Expression), Expression), Fault>
         requires { Nests self.now.parser (F.pre self.now.expression) (F.post self.now.expression) }
-        ensures { Reads (read grammar self.now.parser.depth rules.three_expressions tokens.old)
+        ensures { Reads (read guided self.now.parser.depth procedures.three_expressions tokens.old)
             result tokens.new }
     {
         let two = self.two_expressions(tokens)?;
         keep_beside(two, self.next_argument(tokens))
     }
 
-    #[tactic(auto, unfolding(qs_syntax_tree::specs::Rules::two_arguments))]
+    #[tactic(auto, unfolding(qs_syntax_tree::specs::inner::Procedures::two_arguments))]
     fn two_arguments(&self, tokens: &mut Tokens<'_>) -> Result<(Expression, Expression), Fault>
         requires { Nests self.now.parser (F.pre self.now.expression) (F.post self.now.expression) }
-        ensures { Reads (read grammar self.now.parser.depth rules.two_arguments tokens.old) result
-            tokens.new }
+        ensures { Reads (read guided self.now.parser.depth procedures.two_arguments tokens.old)
+            result tokens.new }
     {
         tokens.expect(Kind::LeftParen)?;
         let two = self.two_expressions(tokens)?;
         tokens.closing(two, Kind::RightParen)
     }
 
-    #[tactic(auto, unfolding(qs_syntax_tree::specs::Rules::three_arguments))]
+    #[tactic(auto, unfolding(qs_syntax_tree::specs::inner::Procedures::three_arguments))]
     fn three_arguments(
         &self,
         tokens: &mut Tokens<'_>,
     ) -> Result<((Expression, Expression), Expression), Fault>
         requires { Nests self.now.parser (F.pre self.now.expression) (F.post self.now.expression) }
-        ensures { Reads (read grammar self.now.parser.depth rules.three_arguments tokens.old) result
-            tokens.new }
+        ensures { Reads (read guided self.now.parser.depth procedures.three_arguments tokens.old)
+            result tokens.new }
     {
         tokens.expect(Kind::LeftParen)?;
         let three = self.three_expressions(tokens)?;
@@ -113,7 +114,7 @@ impl<F: Fn(Parser, &mut Tokens<'_>) -> Result<Expression, Fault>> Operators<F> {
 
     fn more_expressions(&self, tokens: &mut Tokens<'_>) -> Result<Items<Expression>, Fault>
         requires { Nests self.now.parser (F.pre self.now.expression) (F.post self.now.expression) }
-        ensures { Reads (read grammar self.now.parser.depth rules.more_expressions tokens.old)
+        ensures { Reads (read guided self.now.parser.depth procedures.more_expressions tokens.old)
             result tokens.new }
     {
         let mut found = Items::new(self.parser.alloc);
@@ -127,10 +128,10 @@ impl<F: Fn(Parser, &mut Tokens<'_>) -> Result<Expression, Fault>> Operators<F> {
         Err(Fault::Deep)
     }
 
-    #[tactic(auto, unfolding(qs_syntax_tree::specs::Rules::list))]
+    #[tactic(auto, unfolding(qs_syntax_tree::specs::inner::Procedures::list))]
     fn list(&self, tokens: &mut Tokens<'_>) -> Result<Items<Expression>, Fault>
         requires { Nests self.now.parser (F.pre self.now.expression) (F.post self.now.expression) }
-        ensures { Reads (read grammar self.now.parser.depth rules.list tokens.old) result
+        ensures { Reads (read guided self.now.parser.depth procedures.list tokens.old) result
             tokens.new }
     {
         tokens.expect(Kind::LeftParen)?;
@@ -143,10 +144,10 @@ impl<F: Fn(Parser, &mut Tokens<'_>) -> Result<Expression, Fault>> Operators<F> {
         tokens.closing(found, Kind::RightParen)
     }
 
-    #[tactic(auto, using(crate::proofs::FirstKinds::first_unary_function, crate::proofs::FirstKinds::nullable_unary_function), unfolding(qs_syntax_tree::specs::Rules::call))]
+    #[tactic(auto, using(crate::proofs::FirstKinds::first_unary_function, crate::proofs::FirstKinds::nullable_unary_function), unfolding(qs_syntax_tree::specs::inner::Procedures::call))]
     pub fn call(&self, tokens: &mut Tokens<'_>) -> Result<Call, Fault>
         requires { Nests self.now.parser (F.pre self.now.expression) (F.post self.now.expression) }
-        ensures { Reads (read grammar self.now.parser.depth rules.call tokens.old) result
+        ensures { Reads (read guided self.now.parser.depth procedures.call tokens.old) result
             tokens.new }
     {
         if tokens.peek_is(&[Kind::Bound]) {
@@ -176,10 +177,10 @@ impl<F: Fn(Parser, &mut Tokens<'_>) -> Result<Expression, Fault>> Operators<F> {
         Ok(binary_call(self.parser.alloc, function, arguments)?)
     }
 
-    #[tactic(auto, using(crate::proofs::FirstKinds::first_parenthesized, crate::proofs::FirstKinds::first_call), unfolding(qs_syntax_tree::specs::Rules::atom))]
+    #[tactic(auto, using(crate::proofs::FirstKinds::first_parenthesized, crate::proofs::FirstKinds::first_call), unfolding(qs_syntax_tree::specs::inner::Procedures::atom))]
     fn atom(&self, tokens: &mut Tokens<'_>) -> Result<Expression, Fault>
         requires { Nests self.now.parser (F.pre self.now.expression) (F.post self.now.expression) }
-        ensures { Reads (read grammar self.now.parser.depth rules.atom tokens.old) result
+        ensures { Reads (read guided self.now.parser.depth procedures.atom tokens.old) result
             tokens.new }
     {
         if tokens.peek_is(&[Kind::LeftParen]) {
@@ -191,10 +192,10 @@ impl<F: Fn(Parser, &mut Tokens<'_>) -> Result<Expression, Fault>> Operators<F> {
         self.parser.operand_term(tokens)
     }
 
-    #[tactic(auto, unfolding(qs_syntax_tree::specs::Rules::unary))]
+    #[tactic(auto, unfolding(qs_syntax_tree::specs::inner::Procedures::unary))]
     fn unary(&self, tokens: &mut Tokens<'_>) -> Result<Expression, Fault>
         requires { Nests self.now.parser (F.pre self.now.expression) (F.post self.now.expression) }
-        ensures { Reads (read grammar self.now.parser.depth rules.unary tokens.old) result
+        ensures { Reads (read guided self.now.parser.depth procedures.unary tokens.old) result
             tokens.new }
     {
         if tokens.peek_is(&[Kind::Bang]) {
@@ -217,8 +218,8 @@ impl<F: Fn(Parser, &mut Tokens<'_>) -> Result<Expression, Fault>> Operators<F> {
 
     fn more_factors(&self, tokens: &mut Tokens<'_>) -> Result<Items<Operand>, Fault>
         requires { Nests self.now.parser (F.pre self.now.expression) (F.post self.now.expression) }
-        ensures { Reads (read grammar self.now.parser.depth rules.more_factors tokens.old) result
-            tokens.new }
+        ensures { Reads (read guided self.now.parser.depth procedures.more_factors tokens.old)
+            result tokens.new }
     {
         let mut found = Items::new(self.parser.alloc);
         for _turn in 0..tokens.turns() {
@@ -233,10 +234,10 @@ impl<F: Fn(Parser, &mut Tokens<'_>) -> Result<Expression, Fault>> Operators<F> {
         Err(Fault::Deep)
     }
 
-    #[tactic(auto, unfolding(qs_syntax_tree::specs::Rules::product))]
+    #[tactic(auto, unfolding(qs_syntax_tree::specs::inner::Procedures::product))]
     fn product(&self, tokens: &mut Tokens<'_>) -> Result<Expression, Fault>
         requires { Nests self.now.parser (F.pre self.now.expression) (F.post self.now.expression) }
-        ensures { Reads (read grammar self.now.parser.depth rules.product tokens.old) result
+        ensures { Reads (read guided self.now.parser.depth procedures.product tokens.old) result
             tokens.new }
     {
         let place = tokens.place();
@@ -245,11 +246,11 @@ impl<F: Fn(Parser, &mut Tokens<'_>) -> Result<Expression, Fault>> Operators<F> {
         Ok(product(self.parser.alloc, Operand { place, expression }, others)?)
     }
 
-    #[tactic(auto, unfolding(qs_syntax_tree::specs::Rules::signed_product))]
+    #[tactic(auto, unfolding(qs_syntax_tree::specs::inner::Procedures::signed_product))]
     fn signed_product(&self, tokens: &mut Tokens<'_>) -> Result<Expression, Fault>
         requires { Nests self.now.parser (F.pre self.now.expression) (F.post self.now.expression) }
-        ensures { Reads (read grammar self.now.parser.depth rules.signed_product tokens.old) result
-            tokens.new }
+        ensures { Reads (read guided self.now.parser.depth procedures.signed_product tokens.old)
+            result tokens.new }
     {
         let place = tokens.place();
         let signed = tokens.expect(Kind::Signed)?.span;
@@ -258,10 +259,10 @@ impl<F: Fn(Parser, &mut Tokens<'_>) -> Result<Expression, Fault>> Operators<F> {
         Ok(product(self.parser.alloc, Operand { place, expression }, factors)?)
     }
 
-    #[tactic(auto, unfolding(qs_syntax_tree::specs::Rules::addend))]
+    #[tactic(auto, unfolding(qs_syntax_tree::specs::inner::Procedures::addend))]
     fn addend(&self, tokens: &mut Tokens<'_>) -> Result<Addend, Fault>
         requires { Nests self.now.parser (F.pre self.now.expression) (F.post self.now.expression) }
-        ensures { Reads (read grammar self.now.parser.depth rules.addend tokens.old) result
+        ensures { Reads (read guided self.now.parser.depth procedures.addend tokens.old) result
             tokens.new }
     {
         if tokens.peek_is(&[Kind::Plus]) {
@@ -292,7 +293,7 @@ impl<F: Fn(Parser, &mut Tokens<'_>) -> Result<Expression, Fault>> Operators<F> {
 
     fn addends(&self, tokens: &mut Tokens<'_>) -> Result<Items<Addend>, Fault>
         requires { Nests self.now.parser (F.pre self.now.expression) (F.post self.now.expression) }
-        ensures { Reads (read grammar self.now.parser.depth rules.addends tokens.old) result
+        ensures { Reads (read guided self.now.parser.depth procedures.addends tokens.old) result
             tokens.new }
     {
         let mut found = Items::new(self.parser.alloc);
@@ -306,10 +307,10 @@ impl<F: Fn(Parser, &mut Tokens<'_>) -> Result<Expression, Fault>> Operators<F> {
         Err(Fault::Deep)
     }
 
-    #[tactic(auto, unfolding(qs_syntax_tree::specs::Rules::additive))]
+    #[tactic(auto, unfolding(qs_syntax_tree::specs::inner::Procedures::additive))]
     fn additive(&self, tokens: &mut Tokens<'_>) -> Result<Expression, Fault>
         requires { Nests self.now.parser (F.pre self.now.expression) (F.post self.now.expression) }
-        ensures { Reads (read grammar self.now.parser.depth rules.additive tokens.old) result
+        ensures { Reads (read guided self.now.parser.depth procedures.additive tokens.old) result
             tokens.new }
     {
         let place = tokens.place();
@@ -318,10 +319,10 @@ impl<F: Fn(Parser, &mut Tokens<'_>) -> Result<Expression, Fault>> Operators<F> {
         Ok(sum(self.parser.alloc, Operand { place, expression }, addends)?)
     }
 
-    #[tactic(auto, using(crate::proofs::FirstKinds::first_comparison, crate::proofs::FirstKinds::nullable_comparison), unfolding(qs_syntax_tree::specs::Rules::relation))]
+    #[tactic(auto, using(crate::proofs::FirstKinds::first_comparison, crate::proofs::FirstKinds::nullable_comparison), unfolding(qs_syntax_tree::specs::inner::Procedures::relation))]
     fn relation(&self, tokens: &mut Tokens<'_>) -> Result<Relation, Fault>
         requires { Nests self.now.parser (F.pre self.now.expression) (F.post self.now.expression) }
-        ensures { Reads (read grammar self.now.parser.depth rules.relation tokens.old) result
+        ensures { Reads (read guided self.now.parser.depth procedures.relation tokens.old) result
             tokens.new }
     {
         if tokens.peek_is(&COMPARISONS) {
@@ -340,8 +341,8 @@ impl<F: Fn(Parser, &mut Tokens<'_>) -> Result<Expression, Fault>> Operators<F> {
     #[tactic(auto, using(crate::proofs::FirstKinds::first_relation))]
     fn relation_after(&self, tokens: &mut Tokens<'_>) -> Result<Option<Relation>, Fault>
         requires { Nests self.now.parser (F.pre self.now.expression) (F.post self.now.expression) }
-        ensures { Reads (read grammar self.now.parser.depth (opt rules.relation) tokens.old) result
-            tokens.new }
+        ensures { Reads (read guided self.now.parser.depth (opt procedures.relation) tokens.old)
+            result tokens.new }
     {
         if !tokens.peek_is(&RELATIONS) {
             return Ok(None);
@@ -349,10 +350,10 @@ impl<F: Fn(Parser, &mut Tokens<'_>) -> Result<Expression, Fault>> Operators<F> {
         Ok(Some(self.relation(tokens)?))
     }
 
-    #[tactic(auto, unfolding(qs_syntax_tree::specs::Rules::relational))]
+    #[tactic(auto, unfolding(qs_syntax_tree::specs::inner::Procedures::relational))]
     fn relational(&self, tokens: &mut Tokens<'_>) -> Result<Expression, Fault>
         requires { Nests self.now.parser (F.pre self.now.expression) (F.post self.now.expression) }
-        ensures { Reads (read grammar self.now.parser.depth rules.relational tokens.old) result
+        ensures { Reads (read guided self.now.parser.depth procedures.relational tokens.old) result
             tokens.new }
     {
         let first = self.additive(tokens)?;
@@ -362,7 +363,7 @@ impl<F: Fn(Parser, &mut Tokens<'_>) -> Result<Expression, Fault>> Operators<F> {
 
     fn more_relationals(&self, tokens: &mut Tokens<'_>) -> Result<Items<Operand>, Fault>
         requires { Nests self.now.parser (F.pre self.now.expression) (F.post self.now.expression) }
-        ensures { Reads (read grammar self.now.parser.depth rules.more_relationals tokens.old)
+        ensures { Reads (read guided self.now.parser.depth procedures.more_relationals tokens.old)
             result tokens.new }
     {
         let mut found = Items::new(self.parser.alloc);
@@ -378,10 +379,10 @@ impl<F: Fn(Parser, &mut Tokens<'_>) -> Result<Expression, Fault>> Operators<F> {
         Err(Fault::Deep)
     }
 
-    #[tactic(auto, unfolding(qs_syntax_tree::specs::Rules::conjunction))]
+    #[tactic(auto, unfolding(qs_syntax_tree::specs::inner::Procedures::conjunction))]
     fn conjunction(&self, tokens: &mut Tokens<'_>) -> Result<Expression, Fault>
         requires { Nests self.now.parser (F.pre self.now.expression) (F.post self.now.expression) }
-        ensures { Reads (read grammar self.now.parser.depth rules.conjunction tokens.old) result
+        ensures { Reads (read guided self.now.parser.depth procedures.conjunction tokens.old) result
             tokens.new }
     {
         let place = tokens.place();
@@ -392,7 +393,7 @@ impl<F: Fn(Parser, &mut Tokens<'_>) -> Result<Expression, Fault>> Operators<F> {
 
     fn more_conjunctions(&self, tokens: &mut Tokens<'_>) -> Result<Items<Operand>, Fault>
         requires { Nests self.now.parser (F.pre self.now.expression) (F.post self.now.expression) }
-        ensures { Reads (read grammar self.now.parser.depth rules.more_conjunctions tokens.old)
+        ensures { Reads (read guided self.now.parser.depth procedures.more_conjunctions tokens.old)
             result tokens.new }
     {
         let mut found = Items::new(self.parser.alloc);
@@ -408,11 +409,11 @@ impl<F: Fn(Parser, &mut Tokens<'_>) -> Result<Expression, Fault>> Operators<F> {
         Err(Fault::Deep)
     }
 
-    #[tactic(auto, unfolding(qs_syntax_tree::specs::Rules::expression_rule))]
+    #[tactic(auto, unfolding(qs_syntax_tree::specs::inner::Procedures::expression_rule))]
     pub fn disjunction(&self, tokens: &mut Tokens<'_>) -> Result<Expression, Fault>
         requires { Nests self.now.parser (F.pre self.now.expression) (F.post self.now.expression) }
-        ensures { Reads (read grammar self.now.parser.depth rules.expression_rule tokens.old) result
-            tokens.new }
+        ensures { Reads (read guided self.now.parser.depth procedures.expression_rule tokens.old)
+            result tokens.new }
     {
         let place = tokens.place();
         let expression = self.conjunction(tokens)?;

@@ -4,10 +4,10 @@ use Rattle.qs_syntax_grammar.specs.declared.fault.Fault.{Fault}
 use Rattle.qs_syntax_grammar.specs.declared.fault.Fault.TheVariants.{Deep}
 use Rattle.qs_syntax_grammar.specs.Rule.{Language, Rule, token}
 use Rattle.qs_syntax_grammar.specs.inner.Reading.{Reader, Outcome, and_then, starts, loop, first, take_kind}
-use Rattle.qs_syntax_grammar.specs.Grammar.{Grammar}
-use Rattle.qs_syntax_grammar.specs.inner.Grammar.{read}
+use Rattle.qs_syntax_grammar.specs.inner.Grammar.{Guided, read}
 use Rattle.qs_syntax_grammar.specs.inner.Repeated.{into, push, keep}
-use Rattle.qs_syntax_grammar.specs.Notation.{cons, kept, joined, opt, ◌>>◌}
+use Rattle.qs_syntax_grammar.specs.Notation.{cons, opt, ◌>>◌}
+use Rattle.qs_syntax_grammar.specs.inner.Repeated.{kept, joined}
 
 fold-push : {A : Type 0} (found xs : List A) → fold push found xs ≡ found ++ xs
 fold-push found [] = sym (append-nil found)
@@ -61,7 +61,7 @@ pub deeper : {X : Type 0} (f : ℕ → X) (n : ℕ) → 0 < n → f n ≡ f (suc
 deeper f n some = let e : n ≡ suc (n - 1) = omega arith in ap f e
 
 -- what stands at most once, after a token
-module _ {L : Language} (G : Grammar L) (k : L.Kind) {A : Type 0} (p : Rule L A) (d : ℕ) (ts : List L.Token) (t : L.Token) (s : List L.Token) (taken : take_kind L k ts ≡ Ok (t, s)) where
+module _ {L : Language} (G : Guided L) (k : L.Kind) {A : Type 0} (p : Rule L A) (d : ℕ) (ts : List L.Token) (t : L.Token) (s : List L.Token) (taken : take_kind L k ts ≡ Ok (t, s)) where
   pub after_none : starts L (first G.firsts p) s ≡ false → read G d (token k >> opt p) ts ≡ Ok (None, s)
   after_none b = rw (taken, b) refl
 

@@ -5,8 +5,8 @@ use Rattle.qs_syntax_grammar.specs.declared.fault.Fault.{Fault}
 use Rattle.qs_syntax_grammar.specs.declared.fault.Fault.TheVariants.{Memory, Deep, Syntax}
 use Rattle.qs_syntax_grammar.specs.Rule.{Language, Rule, Spelt}
 use Rattle.qs_syntax_grammar.specs.inner.Reading.{Outcome, is_sure, opens}
-use Rattle.qs_syntax_grammar.specs.Grammar.{Grammar, spelt_at, Spells, IsDue}
-use Rattle.qs_syntax_grammar.specs.inner.Grammar.{read_at, read, whole, passes, is_start}
+use Rattle.qs_syntax_grammar.specs.Grammar.{spelt_at, Spells, IsDue}
+use Rattle.qs_syntax_grammar.specs.inner.Grammar.{Guided, read_at, read, whole, passes, is_start}
 use Rattle.qs_syntax_grammar.proofs.Laws.{Lawful}
 use Rattle.qs_syntax_grammar.proofs.First.{is_viable}
 use Rattle.qs_syntax_grammar.proofs.Viable.{Example}
@@ -20,8 +20,8 @@ use Rattle.qs_syntax_grammar.proofs.Knot.{start_sure, start_closed, starts_named
 pub ok_same : {A : Type 0} (o : Result A Fault) (x y : A) → o ≡ Ok x → o ≡ Ok y → x ≡ y
 ok_same o x y e g = cc
 
-module _ (L : Language) (laws : Lawful L) (G : Grammar L) (pass : (n : L.Name) → passes G n ≡ true)
-    (height : ℕ) (examples : (n : L.Name) → Example (spelt_at G height n)) (A : Type 0) (start : Rule L A) (begin : is_start G start ≡ true) where
+module _ (L : Language) (laws : Lawful L) (G : Guided L) (pass : (n : L.Name) → passes G n ≡ true)
+    (height : ℕ) (examples : (n : L.Name) → Example (spelt_at G.rule height n)) (A : Type 0) (start : Rule L A) (begin : is_start G start ≡ true) where
   sure : is_sure G.firsts G.mores start ≡ true
   sure = start_sure G start begin
 
@@ -45,21 +45,21 @@ module _ (L : Language) (laws : Lawful L) (G : Grammar L) (pass : (n : L.Name) �
   either_way d e ts = elim (ordered d e) [ inl l ↦ inl (extends_read d e l ts) | inr l ↦ inr (extends_read e d l ts) ]
 
   is_shallow : (d : ℕ) (ts : List L.Token) → length ts ≤ d → IsShallow (read G d start ts)
-  is_shallow d ts l = shallow L laws G.firsts G.mores (read_at G d) (spelt_at G d) (starts_named L laws G pass d) (found_named L laws G pass d) d (shallow_named L laws G pass d) start sure ts l (λ o. absurd (both_ways (opens start) closed o))
+  is_shallow d ts l = shallow L laws G.firsts G.mores (read_at G d) (spelt_at G.rule d) (starts_named L laws G pass d) (found_named L laws G pass d) d (shallow_named L laws G pass d) start sure ts l (λ o. absurd (both_ways (opens start) closed o))
 
-  read_all : (e : ℕ) (ts : List L.Token) (x : A) → Spelt (spelt_at G e) start ts x → read G e start ts ≡ Ok (x, [])
-  read_all e ts x h = subst (λ z. read G e start z ≡ Ok (x, [])) (append-nil ts) (complete L laws G.firsts G.mores (read_at G e) (spelt_at G e) (starts_named L laws G pass e) (done_named L laws G pass e) start sure ts x [] h refl)
+  read_all : (e : ℕ) (ts : List L.Token) (x : A) → Spelt (spelt_at G.rule e) start ts x → read G e start ts ≡ Ok (x, [])
+  read_all e ts x h = subst (λ z. read G e start z ≡ Ok (x, [])) (append-nil ts) (complete L laws G.firsts G.mores (read_at G e) (spelt_at G.rule e) (starts_named L laws G pass e) (done_named L laws G pass e) start sure ts x [] h refl)
 
   shallow_if : (o : Outcome L.Token A) (x : A) (s : List L.Token) → o ≡ Ok (x, s) → IsShallow o
   shallow_if o x s e = rw e tt
 
   -- what is read at a depth that is enough is what is spelt
-  at_depth : (d : ℕ) (ts : List L.Token) (x : A) → IsShallow (read G d start ts) → Spells G start ts x → read G d start ts ≡ Ok (x, [])
+  at_depth : (d : ℕ) (ts : List L.Token) (x : A) → IsShallow (read G d start ts) → Spells G.rule start ts x → read G d start ts ≡ Ok (x, [])
   at_depth d ts x h k =
       let e = read_all k.0 ts x k.1 in
       same_at (read G d start ts) (read G k.0 start ts) h (shallow_if (read G k.0 start ts) x [] e) (either_way d k.0 ts) ∙ e
 
-  pub only_spelt : (d : ℕ) (ts : List L.Token) (x : A) → length ts ≤ d → Spells G start ts x → whole (read G d start ts) ≡ Ok x
+  pub only_spelt : (d : ℕ) (ts : List L.Token) (x : A) → length ts ≤ d → Spells G.rule start ts x → whole (read G d start ts) ≡ Ok x
   only_spelt d ts x l h = rw (at_depth d ts x (is_shallow d ts l) h) refl
 
   whole_ok : (o : Outcome L.Token A) (x : A) → whole o ≡ Ok x → o ≡ Ok (x, [])
@@ -67,12 +67,12 @@ module _ (L : Language) (laws : Lawful L) (G : Grammar L) (pass : (n : L.Name) �
   whole_ok (Ok (y, t ∷ ts)) x e = cc
   whole_ok (Err i) x e = cc
 
-  spelt_if : (d : ℕ) (ts : List L.Token) (x : A) (o : Outcome L.Token A) → o ≡ Ok (x, []) → IfRead o (λ y rest. Takes (Spelt (spelt_at G d) start) ts y rest) → Takes (Spelt (spelt_at G d) start) ts x []
-  spelt_if d ts x o e h = let P : Outcome L.Token A → Type 0 = λ v. IfRead v (λ y rest. Takes (Spelt (spelt_at G d) start) ts y rest) in subst P e h
+  spelt_if : (d : ℕ) (ts : List L.Token) (x : A) (o : Outcome L.Token A) → o ≡ Ok (x, []) → IfRead o (λ y rest. Takes (Spelt (spelt_at G.rule d) start) ts y rest) → Takes (Spelt (spelt_at G.rule d) start) ts x []
+  spelt_if d ts x o e h = let P : Outcome L.Token A → Type 0 = λ v. IfRead v (λ y rest. Takes (Spelt (spelt_at G.rule d) start) ts y rest) in subst P e h
 
-  pub found_spelt : (d : ℕ) (ts : List L.Token) (x : A) → whole (read G d start ts) ≡ Ok x → Spells G start ts x
+  pub found_spelt : (d : ℕ) (ts : List L.Token) (x : A) → whole (read G d start ts) ≡ Ok x → Spells G.rule start ts x
   found_spelt d ts x e =
-      let a = spelt_if d ts x (read G d start ts) (whole_ok (read G d start ts) x e) (sound L laws G.firsts G.mores (read_at G d) (spelt_at G d) (starts_named L laws G pass d) (found_named L laws G pass d) start sure ts) in
+      let a = spelt_if d ts x (read G d start ts) (whole_ok (read G d start ts) x e) (sound L laws G.firsts G.mores (read_at G d) (spelt_at G.rule d) (starts_named L laws G pass d) (found_named L laws G pass d) start sure ts) in
       (d, rw (a.is, append-nil a.part) a.spelt)
 
   pub not_deep : (d : ℕ) (ts : List L.Token) → length ts ≤ d → whole (read G d start ts) ≡ Err Deep → ⊥
@@ -125,7 +125,7 @@ module _ (L : Language) (laws : Lawful L) (G : Grammar L) (pass : (n : L.Name) �
   left_at_most (Err Deep) m n h e = cc
   left_at_most (Err Memory) m n h e = cc
 
-  pub is_due : (d : ℕ) (ts : List L.Token) (left place : ℕ) → whole (read G d start ts) ≡ Err (Syntax left) → place ≡ length ts - left → IsDue G start ts place
+  pub is_due : (d : ℕ) (ts : List L.Token) (left place : ℕ) → whole (read G d start ts) ≡ Err (Syntax left) → place ≡ length ts - left → IsDue G.rule start ts place
   is_due d ts left place e p =
       let b : left ≤ length ts = left_at_most (read G d start ts) (length ts) left (leaves L laws G.firsts (read_at G d) (leaves_named L laws G pass d) start ts) e in (
         omega arith,
@@ -135,17 +135,17 @@ module _ (L : Language) (laws : Lawful L) (G : Grammar L) (pass : (n : L.Name) �
             let tree = v.1 in
             let s = split_at place ts l in
             let ts' = take (suc place) ts ++ others in
-            let h' : Spells G start ts' tree = rw add-one at v.2 in
+            let h' : Spells G.rule start ts' tree = rw add-one at v.2 in
             stays s.0 s.1 others (read G d start ts) (read G d start ts') left e (omega (arith, s.2))
-            (alike L laws s.0 s.1 others G.firsts G.mores (read_at G d) (spelt_at G d) (starts_named L laws G pass d) (found_named L laws G pass d) (leaves_named L laws G pass d) (alike_named L laws G pass s.0 s.1 others d) start sure ts ts' (s.3 others))
+            (alike L laws s.0 s.1 others G.firsts G.mores (read_at G d) (spelt_at G.rule d) (starts_named L laws G pass d) (found_named L laws G pass d) (leaves_named L laws G pass d) (alike_named L laws G pass s.0 s.1 others d) start sure ts ts' (s.3 others))
             tree (λ k. at_depth d ts' tree k h'),
       )
 
   pub at_most : (d : ℕ) (ts : List L.Token) (left : ℕ) → whole (read G d start ts) ≡ Err (Syntax left) → left ≤ length ts
   at_most d ts left e = left_at_most (read G d start ts) (length ts) left (leaves L laws G.firsts (read_at G d) (leaves_named L laws G pass d) start ts) e
 
-  pub none_spelt : (d : ℕ) (ts : List L.Token) (e : Fault) → length ts ≤ d → whole (read G d start ts) ≡ Err e → (x : A) → Spells G start ts x → ⊥
+  pub none_spelt : (d : ℕ) (ts : List L.Token) (e : Fault) → length ts ≤ d → whole (read G d start ts) ≡ Err e → (x : A) → Spells G.rule start ts x → ⊥
   none_spelt d ts e l h x s = let g : whole (read G d start ts) ≡ Ok x = only_spelt d ts x l s in cc
 
-  pub one_tree : (d : ℕ) (ts : List L.Token) (x y : A) → length ts ≤ d → whole (read G d start ts) ≡ Ok x → Spells G start ts y → x ≡ y
+  pub one_tree : (d : ℕ) (ts : List L.Token) (x y : A) → length ts ≤ d → whole (read G d start ts) ≡ Ok x → Spells G.rule start ts y → x ≡ y
   one_tree d ts x y l h s = ok_same (whole (read G d start ts)) x y h (only_spelt d ts y l s)

@@ -1,16 +1,13 @@
--- What a grammar spells, how it is read, and the test that it must pass.
+-- What a grammar spells.
 -- A law over all grammars is a statement over types, which no contract of a call can make. So laws
 -- of grammars are lemmas that proofs above cite, as they cite std's; for SPARQL's grammar they are
 -- clauses of public calls.
 use Rattle.std.specs.Prelude.{◌<◌, ◌≤◌, ◌+◌, ℕ, zero, suc, List, ◌++◌, length, take}
 use Rattle.qs_syntax_grammar.specs.Rule.{Language, Rule, Spelt}
 
--- The named rules. The tables say for each what it begins with, and what may go on with it: any
--- that pass the test are right.
-pub record Grammar (L : Language) : Type 1 where
-  pub rule : (n : L.Name) → Rule L (L.Tree n)
-  pub firsts : L.Name → List L.Kind
-  pub mores : L.Name → List L.Kind
+-- the rule of each name
+abbrev pub Grammar : Language → Type 1
+Grammar L = (n : L.Name) → Rule L (L.Tree n)
 
 -- ---- what is spelt
 
@@ -18,7 +15,7 @@ pub record Grammar (L : Language) : Type 1 where
 abbrev pub spelt_at : {L : Language} → Grammar L → ℕ → (n : L.Name) → List L.Token → L.Tree n
     → Type 0
 spelt_at G zero n ts x = ⊥
-spelt_at G (suc d) n ts x = Spelt (spelt_at G d) (G.rule n) ts x
+spelt_at G (suc d) n ts x = Spelt (spelt_at G d) (G n) ts x
 
 -- the tokens spell the tree: the least relation by which named rules spell what their rules do
 abbrev pub Spells : {L : Language} → Grammar L → {A : Type 0} → Rule L A → List L.Token → A → Type 0

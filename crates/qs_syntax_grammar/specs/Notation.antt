@@ -1,5 +1,5 @@
 -- Ways to write rules.
-use Rattle.std.specs.Prelude.{List, [], ◌∷◌, ◌++◌, Option, Some, None}
+use Rattle.std.specs.Prelude.{List, ◌∷◌, Option, Some, None}
 use Rattle.qs_syntax_grammar.specs.Rule.{Language, Rule, empty, both, either, made}
 
 infixr 11 ◌<$>◌
@@ -32,15 +32,3 @@ opt p = or None (made Some p)
 
 abbrev pub cons : {A : Type 0} → A × List A → List A
 cons x = x.0 ∷ x.1
-
--- ---- lists of parts
-
--- those that are there
-abbrev pub kept : {A : Type 0} → List (Option A) → List A
-kept [] = []
-kept (None ∷ xs) = kept xs
-kept (Some x ∷ xs) = x ∷ kept xs
-
-abbrev pub joined : {A : Type 0} → List (List A) → List A
-joined [] = []
-joined (x ∷ xs) = x ++ joined xs

@@ -4,6 +4,7 @@ use Rattle.qs_syntax_ast.specs.declared.expression.Addend.{roll-Addend}
 use Rattle.qs_syntax_ast.specs.declared.expression.Expression as resolved
 use Rattle.qs_syntax_ast.specs.declared.expression.Expression.TheVariants as expression
 use Rattle.qs_syntax_tree.specs.Rules as rule
+use Rattle.qs_syntax_tree.specs.inner.Procedures as procedures
 use Rattle.qs_syntax_tree.specs.Sparql.{Name, Tree, Rule}
 use Rattle.qs_syntax_tree.specs.Trees.{chain, sum, related, addend_of as made_addend}
 use Rattle.qs_syntax_tree.specs.declared.expression.Addend.{Addend, the_lemmas as addend_lemmas}
@@ -160,34 +161,34 @@ module _ {refs : (n : Name) → List Token → Tree n → Type 0} (expression_me
   unfolding rule.parenthesized
   parenthesized_meets = behind_mute refl (before_mute refl expression_meets)
 
-  next_meets : Resolves refs rule.next_argument expression_of
-  unfolding rule.next_argument
+  next_meets : Resolves refs procedures.next_argument expression_of
+  unfolding procedures.next_argument
   next_meets = behind_mute refl expression_meets
 
-  two_meet : Resolves refs rule.two_expressions two
-  unfolding rule.two_expressions
+  two_meet : Resolves refs procedures.two_expressions two
+  unfolding procedures.two_expressions
   two_meet = by_both {p = expression_of} expression_meets (λ x a. by_mapped (λ _ b. (a, b)) next_meets)
 
-  list_meets : Resolves refs rule.list list
-  unfolding rule.list rule.more_expressions
+  list_meets : Resolves refs procedures.list list
+  unfolding procedures.list procedures.more_expressions
   list_meets = behind_mute refl (before_mute refl (by_or (by_made (by_both {p = expression_of} expression_meets (λ x a. by_many next_meets))) (λ s. (refl, refl))))
 
-  if_meets : Resolves refs rule.three_arguments (λ x. call_of (written_call.If x.0.0 x.0.1 x.1))
-  unfolding rule.three_arguments rule.three_expressions
+  if_meets : Resolves refs procedures.three_arguments (λ x. call_of (written_call.If x.0.0 x.0.1 x.1))
+  unfolding procedures.three_arguments procedures.three_expressions
   if_meets =
       behind_mute refl (before_mute refl
       (by_other (λ x. expression_of x.0.0 >>= (λ a. expression_of x.0.1 >>= (λ b. expression_of x.1 >>= (λ c. pure (expression.If a b c))))) (λ x. if_is x.0.0 x.0.1 x.1)
       (by_same (λ x. two x.0 >>= (λ ab. expression_of x.1 >>= (λ c. pure (expression.If ab.0 ab.1 c)))) (λ x s. paired (expression_of x.0.0) (expression_of x.0.1) (λ ab. expression_of x.1 >>= (λ c. pure (expression.If ab.0 ab.1 c))) s)
       (by_both {p = two} two_meet (λ x ab. by_mapped (λ _ c. expression.If ab.0 ab.1 c) next_meets)))))
 
-  binary_meets : (f : BinaryFunction) → Resolves refs rule.two_arguments (λ x. call_of (written_call.Binary f x.0 x.1))
-  unfolding rule.two_arguments rule.two_expressions
+  binary_meets : (f : BinaryFunction) → Resolves refs procedures.two_arguments (λ x. call_of (written_call.Binary f x.0 x.1))
+  unfolding procedures.two_arguments procedures.two_expressions
   binary_meets f =
       behind_mute refl (before_mute refl (by_other (λ x. expression_of x.0 >>= (λ a. expression_of x.1 >>= (λ b. pure (expression.Binary f a b)))) (λ x. binary_is f x.0 x.1)
       (by_both {p = expression_of} expression_meets (λ x a. by_mapped (λ _ b. expression.Binary f a b) next_meets))))
 
-  call_meets : Resolves refs rule.call call_of
-  unfolding rule.call rule.bound_var rule.unary_function rule.binary_function
+  call_meets : Resolves refs procedures.call call_of
+  unfolding procedures.call procedures.bound_var rule.unary_function rule.binary_function
   call_meets =
       by_either (by_made (by_other (λ v. expression.Bound <$> variable v) bound_is (by_mute refl (λ v s. (refl, refl)))))
       (by_either (by_made (behind_mute refl if_meets))
@@ -197,29 +198,29 @@ module _ {refs : (n : Name) → List Token → Tree n → Type 0} (expression_me
       (by_made (by_second refl (λ f. by_other (λ a. expression_of a >>= (λ x. pure (expression.Unary f x))) (unary_is f) (by_mapped (λ _ x. expression.Unary f x) parenthesized_meets))))
       (by_made (by_second refl (λ f. binary_meets f)))))))
 
-  called_meets : Resolves refs rule.call (λ c. expression_of (written.Call c))
+  called_meets : Resolves refs procedures.call (λ c. expression_of (written.Call c))
   called_meets = by_other call_of call_is call_meets
 
-  pub constraint_meets : Resolves refs rule.constraint expression_of
-  unfolding rule.constraint
+  pub constraint_meets : Resolves refs procedures.constraint expression_of
+  unfolding procedures.constraint
   constraint_meets = by_either parenthesized_meets (by_made called_meets)
 
-  operand_term_meets : Resolves refs rule.operand_term expression_of
-  unfolding rule.operand_term
+  operand_term_meets : Resolves refs procedures.operand_term expression_of
+  unfolding procedures.operand_term
   operand_term_meets =
       by_either (by_made (by_other (λ i. expression.Iri <$> iri i) iri_is (by_mapped (λ _ x. expression.Iri x) iri_meets)))
       (by_either (by_made (by_other (λ l. expression.Literal <$> literal l) literal_is (by_mapped (λ _ x. expression.Literal x) literal_meets)))
       (by_made (by_other (λ v. expression.Variable <$> variable v) variable_is (by_mute refl (λ v s. (refl, refl))))))
 
-  atom_meets : Resolves refs rule.atom expression_of
-  unfolding rule.atom
+  atom_meets : Resolves refs procedures.atom expression_of
+  unfolding procedures.atom
   atom_meets = by_either parenthesized_meets (by_either (by_made called_meets) operand_term_meets)
 
-  signed_meets : (s : Sign) → Resolves refs rule.atom (λ e. expression_of (written.Signed s e))
+  signed_meets : (s : Sign) → Resolves refs procedures.atom (λ e. expression_of (written.Signed s e))
   signed_meets s = by_other (λ e. expression_of e >>= (λ x. pure (expression.Signed s x))) (signed_is s) (by_mapped (λ _ x. expression.Signed s x) atom_meets)
 
-  unary_meets : Resolves refs rule.unary expression_of
-  unfolding rule.unary
+  unary_meets : Resolves refs procedures.unary expression_of
+  unfolding procedures.unary
   unary_meets =
       by_either (by_made (by_other (λ e. expression.Not <$> expression_of e) not_is (by_mapped (λ _ x. expression.Not x) (behind_mute refl atom_meets))))
       (by_either (by_made (behind_mute refl (signed_meets _))) (by_either (by_made (behind_mute refl (signed_meets _))) atom_meets))
@@ -234,16 +235,16 @@ module _ {refs : (n : Name) → List Token → Tree n → Type 0} (expression_me
         → Resolves refs (first & others) (λ x. expression_of (chain f x))
     chain_of f g e = by_weaker {p = λ x. operands (x.0 ∷ x.1)} (λ ts x l. chain_meets ts f g e x.0 x.1 l) (by_both {p = of_operand} h (λ o a. k (a ∷ [])))
 
-  more_factors_meet : (found : List resolved.Expression) → Resolves refs rule.more_factors (λ os. all_behind found (map of_operand os))
-  unfolding rule.more_factors
+  more_factors_meet : (found : List resolved.Expression) → Resolves refs procedures.more_factors (λ os. all_behind found (map of_operand os))
+  unfolding procedures.more_factors
   more_factors_meet found = by_many (behind_mute refl (operand_meets unary_meets))
 
-  product_meets : Resolves refs rule.product expression_of
-  unfolding rule.product
+  product_meets : Resolves refs procedures.product expression_of
+  unfolding procedures.product
   product_meets = by_made (chain_of (operand_meets unary_meets) more_factors_meet written.Product expression.Product product_is)
 
-  signed_product_meets : Resolves refs rule.signed_product expression_of
-  unfolding rule.signed_product
+  signed_product_meets : Resolves refs procedures.signed_product expression_of
+  unfolding procedures.signed_product
   signed_product_meets =
       by_made (chain_of (operand_meets (by_made (by_made (by_other (λ span. expression.Literal <$> literal (literal_tree.Integer span)) (λ span. literal_is (literal_tree.Integer span))
       (by_mapped (λ _ x. expression.Literal x) number_meets))))) more_factors_meet written.Product expression.Product product_is)
@@ -253,42 +254,42 @@ module _ {refs : (n : Name) → List Token → Tree n → Type 0} (expression_me
       by_other (λ o. of_operand o >>= (λ x. pure (roll-Addend (record { sign = s; operand = x })))) (addend_is s)
       (by_mapped {p = of_operand} (λ _ x. roll-Addend (record { sign = s; operand = x })) (operand_meets h))
 
-  addend_meets : Resolves refs rule.addend addend_of
-  unfolding rule.addend
+  addend_meets : Resolves refs procedures.addend addend_of
+  unfolding procedures.addend
   addend_meets =
       by_either (by_made (behind_mute refl (signed_addend_meets _ product_meets)))
       (by_either (by_made (behind_mute refl (signed_addend_meets _ product_meets))) (by_made (signed_addend_meets _ signed_product_meets)))
 
-  additive_meets : Resolves refs rule.additive expression_of
-  unfolding rule.additive rule.addends
+  additive_meets : Resolves refs procedures.additive expression_of
+  unfolding procedures.additive procedures.addends
   additive_meets =
       by_made (by_weaker {p = λ x. of_operand x.0 >>= (λ a. addends x.1 >>= (λ bs. pure (expression.Sum a bs)))} (λ ts x h. sum_meets ts x.0 x.1 h)
       (by_both {p = of_operand} (operand_meets product_meets) (λ o a. by_mapped (λ _ bs. expression.Sum a bs) (by_many addend_meets))))
 
-  relation_meets : (a : resolved.Expression) → Resolves refs rule.relation (λ r. relate a (Some r))
-  unfolding rule.relation rule.comparison
+  relation_meets : (a : resolved.Expression) → Resolves refs procedures.relation (λ r. relate a (Some r))
+  unfolding procedures.relation rule.comparison
   relation_meets a =
       by_either (by_made (by_second refl (λ c. by_mapped (λ _ b. expression.Compare c a b) additive_meets)))
       (by_either (by_made (behind_mute refl (by_mapped (λ _ bs. expression.NotIn a bs) list_meets))) (by_made (behind_mute refl (by_mapped (λ _ bs. expression.In a bs) list_meets))))
 
-  relational_meets : Resolves refs rule.relational expression_of
-  unfolding rule.relational
+  relational_meets : Resolves refs procedures.relational expression_of
+  unfolding procedures.relational
   relational_meets =
       by_made (by_weaker {p = λ x. expression_of x.0 >>= (λ a. relate a x.1)} (λ ts x h. related_meets ts x.0 x.1 h)
       (by_both {p = expression_of} {f = λ x a r. relate a r} additive_meets (λ x a. by_opt (relation_meets a) (λ s. (refl, refl)))))
 
-  more_relationals_meet : (found : List resolved.Expression) → Resolves refs rule.more_relationals (λ os. all_behind found (map of_operand os))
-  unfolding rule.more_relationals
+  more_relationals_meet : (found : List resolved.Expression) → Resolves refs procedures.more_relationals (λ os. all_behind found (map of_operand os))
+  unfolding procedures.more_relationals
   more_relationals_meet found = by_many (behind_mute refl (operand_meets relational_meets))
 
-  conjunction_meets : Resolves refs rule.conjunction expression_of
-  unfolding rule.conjunction
+  conjunction_meets : Resolves refs procedures.conjunction expression_of
+  unfolding procedures.conjunction
   conjunction_meets = by_made (chain_of (operand_meets relational_meets) more_relationals_meet written.And expression.And and_is)
 
-  more_conjunctions_meet : (found : List resolved.Expression) → Resolves refs rule.more_conjunctions (λ os. all_behind found (map of_operand os))
-  unfolding rule.more_conjunctions
+  more_conjunctions_meet : (found : List resolved.Expression) → Resolves refs procedures.more_conjunctions (λ os. all_behind found (map of_operand os))
+  unfolding procedures.more_conjunctions
   more_conjunctions_meet found = by_many (behind_mute refl (operand_meets conjunction_meets))
 
-  pub expression_rule_meets : Resolves refs rule.expression_rule expression_of
-  unfolding rule.expression_rule
+  pub expression_rule_meets : Resolves refs procedures.expression_rule expression_of
+  unfolding procedures.expression_rule
   expression_rule_meets = by_made (chain_of (operand_meets conjunction_meets) more_conjunctions_meet written.Or expression.Or or_is)

@@ -10,7 +10,8 @@ use Rattle.qs_terms.specs.Outcome.{Outcome, and_then}
 use Rattle.qs_terms.specs.declared.fault.QFault.{QFault}
 use Rattle.qs_terms.specs.declared.fault.QFault.TheVariants as fault
 use Rattle.qs_terms.specs.declared.fault.TermFault.{TermFault}
-use Rattle.qs_syntax_resolve.specs.Names.{Names, absolute, joined, is_colon, full, prefixed, declare, with_prefix}
+use Rattle.qs_syntax_resolve.specs.Names.{Names, full, prefixed, declare}
+use Rattle.qs_syntax_resolve.specs.inner.Names.{absolute, joined, is_colon, with_prefix}
 use Rattle.qs_syntax_resolve.specs.declared.resolver.Resolver.{Resolver}
 use Rattle.qs_syntax.specs.Outcome.{by_place, earlier, nearer, in_scope}
 use Rattle.qs_syntax_tree.specs.declared.token.Span.{Span}

@@ -4,11 +4,13 @@ use Rattle.qs_syntax_ast.specs.declared.pattern.GraphPattern.TheVariants as patt
 use Rattle.qs_syntax_ast.specs.declared.pattern.Triple.{Triple}
 use Rattle.qs_syntax_ast.specs.declared.term.Variable.{Variable}
 use Rattle.qs_syntax_grammar.specs.Rule.{placed}
-use Rattle.qs_syntax_grammar.specs.Notation.{joined}
+use Rattle.qs_syntax_grammar.specs.inner.Repeated.{joined}
 use Rattle.qs_terms.specs.Outcome.{Outcome, and_then}
 use Rattle.qs_syntax_tree.specs.Rules as rule
+use Rattle.qs_syntax_tree.specs.inner.Procedures as procedures
 use Rattle.qs_syntax_tree.specs.Sparql.{Name, Tree, Rule}
-use Rattle.qs_syntax_tree.specs.Trees.{element_of as made_element, group_of as made_group, singles}
+use Rattle.qs_syntax_tree.specs.Trees.{element_of as made_element, group_of as made_group}
+use Rattle.qs_syntax_tree.specs.inner.Trees.{singles}
 use Rattle.qs_syntax_tree.specs.declared.expression.Expression.{Expression}
 use Rattle.qs_syntax_tree.specs.declared.pattern.DataValue.{DataValue}
 use Rattle.qs_syntax_tree.specs.declared.pattern.Element.{Element, the_lemmas as element_lemmas}
@@ -22,10 +24,12 @@ use Rattle.qs_syntax_tree.specs.declared.token.Token.{Token}
 use Rattle.qs_syntax_tree.specs.declared.triples.Form.{Form}
 use Rattle.qs_syntax_tree.specs.declared.triples.Form.TheVariants as form
 use Rattle.qs_syntax_tree.specs.declared.triples.TriplesSameSubject.{TriplesSameSubject}
-use Rattle.qs_syntax_resolve.specs.Data.{row_of, rows_of, variables_of, inline_data}
+use Rattle.qs_syntax_resolve.specs.Data.{row_of, inline_data}
+use Rattle.qs_syntax_resolve.specs.inner.Data.{rows_of, variables_of}
 use Rattle.qs_syntax_resolve.specs.Expression.{expression_of}
 use Rattle.qs_syntax_resolve.specs.Leaves.{variable, var_or_iri}
-use Rattle.qs_syntax_resolve.specs.Pattern.{Put, group_of, put, put_filter, put_triples, empty_group, finished}
+use Rattle.qs_syntax_resolve.specs.Pattern.{Put, group_of, put, finished}
+use Rattle.qs_syntax_resolve.specs.inner.Pattern.{put_filter, put_triples, empty_group}
 use Rattle.qs_syntax_resolve.specs.inner.Pattern.{pattern_of, element_of, groups, elements, triples_pattern, filter_pattern, bind_pattern, values_pattern}
 use Rattle.qs_syntax_resolve.specs.Resolving.{Resolving, ◌>>=◌, pure, all, all_behind}
 use Rattle.qs_syntax_resolve.specs.Triples.{triples_behind}
@@ -85,47 +89,47 @@ each_single [] = refl
 each_single (v ∷ vs) = ap (λ more. row_of (v ∷ []) ∷ more) (each_single vs)
 
 module _ {refs : (n : Name) → List Token → Tree n → Type 0} where
-  variables_meet : (found : List Variable) → Resolves refs rule.variables (λ vs. all_behind found (map variable vs))
-  unfolding rule.variables
+  variables_meet : (found : List Variable) → Resolves refs procedures.variables (λ vs. all_behind found (map variable vs))
+  unfolding procedures.variables
   variables_meet found = by_many (by_mute refl (λ v s. (refl, refl)))
 
-  row_meets : Resolves refs rule.data_values row_of
-  unfolding rule.data_values row_of
+  row_meets : Resolves refs procedures.data_values row_of
+  unfolding procedures.data_values row_of
   row_meets = by_many value_meets
 
-  rows_meet : Resolves refs rule.data_rows rows_of
-  unfolding rule.data_rows rule.data_row
+  rows_meet : Resolves refs procedures.data_rows rows_of
+  unfolding procedures.data_rows procedures.data_row
   rows_meet = by_many (behind_mute refl (before_mute refl row_meets))
 
   single_meets : Resolves refs rule.data_value (λ v. row_of (v ∷ []))
   unfolding row_of
   single_meets = by_mapped (λ _ x. x ∷ []) value_meets
 
-  singles_meet : Resolves refs rule.data_values (λ vs. rows_of (singles vs))
-  unfolding rule.data_values
+  singles_meet : Resolves refs procedures.data_values (λ vs. rows_of (singles vs))
+  unfolding procedures.data_values
   singles_meet = by_other (λ vs. all (map (λ v. row_of (v ∷ [])) vs)) (λ vs. ap all (each_single vs)) (by_many single_meets)
 
-  column_meets : Resolves refs rule.column inline_data
-  unfolding rule.column rule.value_block inline_data
+  column_meets : Resolves refs procedures.column inline_data
+  unfolding procedures.column procedures.value_block inline_data
   column_meets =
       by_made (by_second refl (λ v. behind_still (variables_of (v ∷ [])) (λ vs ds. rows_of (singles ds) >>= (λ rows. pure (record { variables = vs; rows = rows }))) (λ s. (refl, refl))
       (λ vs. by_mapped (λ _ rows. record { variables = vs; rows = rows }) (behind_mute refl (before_mute refl singles_meet)))))
 
-  table_meets : Resolves refs rule.table inline_data
-  unfolding rule.table rule.variable_list rule.row_block inline_data
+  table_meets : Resolves refs procedures.table inline_data
+  unfolding procedures.table procedures.variable_list procedures.row_block inline_data
   table_meets =
       by_made (by_both {p = variables_of} (behind_mute refl (before_mute refl (variables_meet [])))
       (λ _ vs. by_mapped (λ _ rows. record { variables = vs; rows = rows }) (behind_mute refl (before_mute refl rows_meet))))
 
-  pub values_meet : Resolves refs rule.values inline_data
-  unfolding rule.values
+  pub values_meet : Resolves refs procedures.values inline_data
+  unfolding procedures.values
   values_meet = behind_mute refl (by_either column_meets table_meets)
 
 -- ---- groups
 
 module _ {refs : (n : Name) → List Token → Tree n → Type 0} where
-  pub named_meets : {B : Type 0} (p : Expression → Span → Resolving B) → ((v : Span) → Resolves refs rule.expression (λ e. p e v)) → Resolves refs rule.named_expression (λ x. p x.0 x.1)
-  unfolding rule.named_expression rule.expression_as_var
+  pub named_meets : {B : Type 0} (p : Expression → Span → Resolving B) → ((v : Span) → Resolves refs rule.expression (λ e. p e v)) → Resolves refs procedures.named_expression (λ x. p x.0 x.1)
+  unfolding procedures.named_expression procedures.expression_as_var
   named_meets p h = behind_mute refl (before_mute refl (by_first refl (λ v. before_mute refl (h v))))
 
 one_behind : (es more : List Element) (o : Outcome (OpenGroup × Resolver)) → ((g : OpenGroup) (s : Resolver) → elements g (es ++ more) s ≡ (elements g es >>= (λ h. elements h more)) s)
@@ -139,8 +143,8 @@ elements_behind (e ∷ es) more g s = one_behind es more (element_of e g s) (ele
 
 module _ {refs : (n : Name) → List Token → Tree n → Type 0} (expression_meets : Resolves refs rule.expression expression_of) (group_meets : Resolves refs rule.group group_of)
     (triples_meet : (f : Form) (found : List Triple) → Resolves refs (rule.triples f) (triples_behind found)) where
-  groups_meet : Resolves refs rule.groups groups
-  unfolding rule.groups rule.more_groups
+  groups_meet : Resolves refs procedures.groups groups
+  unfolding procedures.groups procedures.more_groups
   groups_meet = by_made (by_both {p = group_of} group_meets (λ _ x. by_many (behind_mute refl group_meets)))
 
   module _ (g : OpenGroup) where
@@ -148,8 +152,8 @@ module _ {refs : (n : Name) → List Token → Tree n → Type 0} (expression_me
     by_put : {A : Type 0} {r : Rule A} (f : A → GraphPattern) (q : A → Put) → ((x : A) → pattern_of (f x) ≡ q x) → Resolves refs r (λ x. q x g) → Resolves refs r (λ x. pattern_of (f x) g)
     by_put f q e h = by_other (λ x. q x g) (λ x. ap (λ (p : Put). p g) (e x)) h
 
-    element_meets : Resolves refs rule.element (λ p. pattern_of p g)
-    unfolding rule.element
+    element_meets : Resolves refs procedures.element (λ p. pattern_of p g)
+    unfolding procedures.element
     element_meets =
         by_either (by_made (by_put written.Union (λ gs g. groups gs >>= (λ xs. pure (put (pattern.Union xs) g))) union_is (by_mapped (λ _ xs. put (pattern.Union xs) g) groups_meet)))
         (by_either (by_made (by_put written.Optional (λ inner g. group_of inner >>= (λ x. pure (put (pattern.Optional x) g))) optional_is (by_mapped (λ _ x. put (pattern.Optional x) g) (behind_mute refl group_meets))))
@@ -175,20 +179,20 @@ module _ {refs : (n : Name) → List Token → Tree n → Type 0} (expression_me
         by_or (by_made (by_mapped (λ _ h. h) (placed_meets (by_made (by_put written.Triples triples_pattern triples_is (by_mapped (λ _ more. put_triples more g) (triples_meet form.Pattern g.triples)))))))
         (nothing g)
 
-    dotted_meets : Resolves refs rule.dotted_element (λ e. element_of e g)
-    unfolding rule.dotted_element
+    dotted_meets : Resolves refs procedures.dotted_element (λ e. element_of e g)
+    unfolding procedures.dotted_element
     dotted_meets = by_made (before_mute refl (placed_meets element_meets))
 
-  step_meets : (g : OpenGroup) → Resolves refs rule.group_step (λ es. elements g es)
-  unfolding rule.group_step
+  step_meets : (g : OpenGroup) → Resolves refs procedures.group_step (λ es. elements g es)
+  unfolding procedures.group_step
   step_meets g = by_made (by_both {p = λ e. element_of e g} (dotted_meets g) (λ _ h. block_meets h))
 
-  steps_meet : (g : OpenGroup) → Resolves refs rule.group_steps (λ es. elements g es)
-  unfolding rule.group_steps
+  steps_meet : (g : OpenGroup) → Resolves refs procedures.group_steps (λ es. elements g es)
+  unfolding procedures.group_steps
   steps_meet g = by_made (in_turn (λ h xs. elements h (joined xs)) (λ h es. elements h es) (λ h. refl) (λ h es xs s. elements_behind es (joined xs) h s) step_meets g)
 
-  pub group_rule_meets : Resolves refs rule.group_rule group_of
-  unfolding rule.group_rule rule.elements
+  pub group_rule_meets : Resolves refs procedures.group_rule group_of
+  unfolding procedures.group_rule procedures.elements
   group_rule_meets =
       by_made (by_placed (λ place. by_other (λ es. elements empty_group es >>= (λ h. pure (finished h))) (λ es. group_is place es)
       (by_mapped {p = λ es. elements empty_group es} (λ _ h. finished h) (behind_mute refl (before_mute refl

@@ -7,8 +7,11 @@ use Rattle.qs_syntax_ast.specs.declared.update.Operation.{Operation as ResolvedO
 use Rattle.qs_syntax_grammar.specs.Grammar.{Spells, spelt_at}
 use Rattle.qs_syntax_grammar.specs.Rule.{Spelt}
 use Rattle.qs_syntax_tree.specs.Rules as rules
+use Rattle.qs_syntax_tree.specs.inner.Procedures as procedures
 use Rattle.qs_syntax_tree.specs.Sparql.{Name, Tree, group, triples, properties, path, expression, operations}
-use Rattle.qs_syntax_tree.specs.Table.{rule, grammar}
+use Rattle.qs_syntax_tree.specs.Table.{grammar}
+use Rattle.qs_syntax_tree.specs.inner.Table.{rule}
+use Rattle.qs_syntax_tree.proofs.SameRules.{grammar_same, query_same, update_same}
 use Rattle.qs_syntax_tree.specs.declared.query.Query.{Query}
 use Rattle.qs_syntax_tree.specs.declared.token.Token.{Token}
 use Rattle.qs_syntax_tree.specs.declared.triples.Form.{Form}
@@ -71,18 +74,22 @@ module _ {refs : (n : Name) → List Token → Tree n → Type 0} (known : (n : 
   by_rule expression ts x h = (expression_rule_meets expression_known).meets ts x h
   by_rule operations ts x h = λ found. (operations_rule_meet expression_known group_known triples_known operations_known found).meets ts x h
 
-  whole_query : (variables : List Variable) → Resolves refs rules.query (query variables)
+  whole_query : (variables : List Variable) → Resolves refs procedures.query (query variables)
   whole_query variables = query_meets expression_known group_known triples_known variables
 
-  whole_update : (variables : List Variable) → Resolves refs rules.update (update variables)
+  whole_update : (variables : List Variable) → Resolves refs procedures.update (update variables)
   whole_update variables = update_meets expression_known group_known triples_known operations_known variables
 
-each_holds : (d : ℕ) (n : Name) (ts : List Token) (x : Tree n) → spelt_at grammar d n ts x → Holds n ts x
+each_holds : (d : ℕ) (n : Name) (ts : List Token) (x : Tree n) → spelt_at rule d n ts x → Holds n ts x
 each_holds zero n ts x h = absurd h
 each_holds (suc d) n ts x h = by_rule (each_holds d) n ts x h
 
 pub query_is_met : (variables : List Variable) (tokens : List Token) (tree : Query) → Spells grammar rules.query tokens tree → Meets (query variables tree) tokens
-query_is_met variables tokens tree h = (whole_query (each_holds h.0) variables).meets tokens tree h.1
+query_is_met variables tokens tree h =
+    let by_parts : Spells rule procedures.query tokens tree = rw (grammar_same, query_same) at h in
+    (whole_query (each_holds by_parts.0) variables).meets tokens tree by_parts.1
 
 pub update_is_met : (variables : List Variable) (tokens : List Token) (tree : Update) → Spells grammar rules.update tokens tree → Meets (update variables tree) tokens
-update_is_met variables tokens tree h = (whole_update (each_holds h.0) variables).meets tokens tree h.1
+update_is_met variables tokens tree h =
+    let by_parts : Spells rule procedures.update tokens tree = rw (grammar_same, update_same) at h in
+    (whole_update (each_holds by_parts.0) variables).meets tokens tree by_parts.1

@@ -7,7 +7,8 @@ use Rattle.std.specs.Str.{encode_utf8_all}
 use Rattle.qs_lex_regular.specs.Character.{is_one_of}
 use Rattle.qs_lex_regular.specs.Form.{Spells, one, char, literal, ◌⨾◌, ◌∣◌}
 use Rattle.qs_lex_regular.specs.Longest.{Table, IsFirst}
-use Rattle.qs_lex.specs.Table.{table, IsToken}
+use Rattle.qs_lex.specs.Table.{table}
+use Rattle.qs_lex.specs.inner.Table.{IsToken}
 use Rattle.qs_lex.specs.declared.token.Class.{Class}
 use Rattle.qs_lex.specs.declared.token.Class.TheVariants as class
 use Rattle.qs_syntax_tree.specs.Words.{mark_kind}

@@ -1,11 +1,12 @@
 -- Property paths.
-use Rattle.std.proofs.Common.{◌≡◌, rules, Bool, true, false, List, [], ◌∷◌, map, Option, Some, None, refl, sym, ap, subst}
+use Rattle.std.proofs.Common.{◌≡◌, rules, Bool, true, false, List, [], ◌∷◌, map, Option, Some, None, is_some, refl, sym, ap, subst}
 use Rattle.qs_syntax_ast.specs.declared.path.NegatedIri.{NegatedIri}
 use Rattle.qs_syntax_ast.specs.declared.path.Path as resolved
 use Rattle.qs_syntax_ast.specs.declared.path.Path.TheVariants as path
 use Rattle.qs_syntax_tree.specs.Rules as rule
+use Rattle.qs_syntax_tree.specs.inner.Procedures as procedures
 use Rattle.qs_syntax_tree.specs.Sparql.{Name, Tree}
-use Rattle.qs_syntax_tree.specs.Trees.{path_chain, repeated, inverted, is_there}
+use Rattle.qs_syntax_tree.specs.Trees.{path_chain, repeated, inverted}
 use Rattle.qs_syntax_tree.specs.declared.path.NegatedPredicate.{NegatedPredicate}
 use Rattle.qs_syntax_tree.specs.declared.path.Path.{Path, the_lemmas}
 use Rattle.qs_syntax_tree.specs.declared.path.Path.TheVariants as written
@@ -72,50 +73,50 @@ chain_of f g e ts x h = chain_meets ts f g e x.0 x.1 h
 module _ {refs : (n : Name) → List Token → Tree n → Type 0} where
   negated_one_meets : Resolves refs rule.negated_one negated
   unfolding rule.negated_one
-  negated_one_meets = by_made (by_placed (λ place. by_second refl (λ caret. by_mapped (λ p i. record { inverse = is_there caret; iri = i }) predicate_meets)))
+  negated_one_meets = by_made (by_placed (λ place. by_second refl (λ caret. by_mapped (λ p i. record { inverse = is_some caret; iri = i }) predicate_meets)))
 
-  more_negated_meets : (found : List NegatedIri) → Resolves refs rule.more_negated (λ ps. all_behind found (map negated ps))
-  unfolding rule.more_negated
+  more_negated_meets : (found : List NegatedIri) → Resolves refs procedures.more_negated (λ ps. all_behind found (map negated ps))
+  unfolding procedures.more_negated
   more_negated_meets found = by_many (behind_mute refl negated_one_meets)
 
-  negated_meets : Resolves refs rule.negated (λ ps. all (map negated ps))
-  unfolding rule.negated rule.negated_all
+  negated_meets : Resolves refs procedures.negated (λ ps. all (map negated ps))
+  unfolding procedures.negated procedures.negated_all
   negated_meets =
       by_either (by_made (by_mapped (λ p i. i ∷ []) negated_one_meets))
       (behind_mute refl (before_mute refl (by_or (by_made (by_both negated_one_meets (λ p i. more_negated_meets (i ∷ [])))) (λ s. (refl, refl)))))
 
   module _ (path_meets : Resolves refs rule.path path_of) where
-    path_primary_meets : Resolves refs rule.path_primary path_of
-    unfolding rule.path_primary
+    path_primary_meets : Resolves refs procedures.path_primary path_of
+    unfolding procedures.path_primary
     path_primary_meets =
         by_either (by_made (by_other (λ p. path.Iri <$> predicate p) predicate_is (by_mapped (λ p i. path.Iri i) predicate_meets)))
         (by_either (by_made (by_other (λ ps. path.NegatedSet <$> all (map negated ps)) set_is (by_mapped (λ p is. path.NegatedSet is) (behind_mute refl negated_meets))))
         (behind_mute refl (before_mute refl path_meets)))
 
-    path_element_meets : Resolves refs rule.path_element path_of
-    unfolding rule.path_element rule.repetition
+    path_element_meets : Resolves refs procedures.path_element path_of
+    unfolding procedures.path_element rule.repetition
     path_element_meets = by_made (by_first refl (λ r. by_second refl (λ caret. record {
-      meets = λ ts p h. inverted_meets ts (is_there caret) (repeated p r) (repeated_meets ts p r (path_primary_meets.meets ts p h));
+      meets = λ ts p h. inverted_meets ts (is_some caret) (repeated p r) (repeated_meets ts p r (path_primary_meets.meets ts p h));
     })))
 
-    more_elements_meets : (found : List resolved.Path) → Resolves refs rule.more_elements (λ os. all_behind found (map (λ (o : PathOperand). path_of o.path) os))
-    unfolding rule.more_elements
+    more_elements_meets : (found : List resolved.Path) → Resolves refs procedures.more_elements (λ os. all_behind found (map (λ (o : PathOperand). path_of o.path) os))
+    unfolding procedures.more_elements
     more_elements_meets found = by_many (behind_mute refl (by_made (by_placed (λ place. path_element_meets))))
 
-    path_sequence_meets : Resolves refs rule.path_sequence path_of
-    unfolding rule.path_sequence
+    path_sequence_meets : Resolves refs procedures.path_sequence path_of
+    unfolding procedures.path_sequence
     path_sequence_meets = by_made (by_weaker (chain_of written.Sequence path.Sequence sequence_is) (by_both {p = λ (o : PathOperand). path_of o.path} (by_made (by_placed (λ place. path_element_meets))) (λ o x. more_elements_meets (x ∷ []))))
 
-    more_sequences_meets : (found : List resolved.Path) → Resolves refs rule.more_sequences (λ os. all_behind found (map (λ (o : PathOperand). path_of o.path) os))
-    unfolding rule.more_sequences
+    more_sequences_meets : (found : List resolved.Path) → Resolves refs procedures.more_sequences (λ os. all_behind found (map (λ (o : PathOperand). path_of o.path) os))
+    unfolding procedures.more_sequences
     more_sequences_meets found = by_many (behind_mute refl (by_made (by_placed (λ place. path_sequence_meets))))
 
-    pub path_rule_meets : Resolves refs rule.path_rule path_of
-    unfolding rule.path_rule
+    pub path_rule_meets : Resolves refs procedures.path_rule path_of
+    unfolding procedures.path_rule
     path_rule_meets = by_made (by_weaker (chain_of written.Alternative path.Alternative alternative_is) (by_both {p = λ (o : PathOperand). path_of o.path} (by_made (by_placed (λ place. path_sequence_meets))) (λ o x. more_sequences_meets (x ∷ []))))
 
-    pub verb_meets : (f : Form) → Resolves refs (rule.verb f) verb_of
-    unfolding rule.verb
+    pub verb_meets : (f : Form) → Resolves refs (procedures.verb f) verb_of
+    unfolding procedures.verb
     verb_meets form.Pattern = by_either (by_made (by_mute refl (λ v s. (refl, refl)))) (by_made (by_mapped (λ p x. simplified x) path_rule_meets))
     verb_meets form.Template =
         by_either (by_made (by_mute refl (λ v s. (refl, refl))))

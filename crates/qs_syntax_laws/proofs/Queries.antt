@@ -10,6 +10,7 @@ use Rattle.qs_syntax_ast.specs.declared.term.Variable.{Variable}
 use Rattle.qs_terms.specs.Outcome.{Outcome, and_then}
 use Rattle.qs_syntax_grammar.specs.Notation.{opt}
 use Rattle.qs_syntax_tree.specs.Rules as rule
+use Rattle.qs_syntax_tree.specs.inner.Procedures as procedures
 use Rattle.qs_syntax_tree.specs.Sparql.{Name, Tree, Rule}
 use Rattle.qs_syntax_tree.specs.declared.kind.Kind.TheVariants as k
 use Rattle.qs_syntax_tree.specs.declared.expression.Expression.TheVariants as written_expression
@@ -30,7 +31,8 @@ use Rattle.qs_syntax_resolve.specs.Names.{Names}
 use Rattle.qs_syntax_resolve.specs.Expression.{expression_of}
 use Rattle.qs_syntax_resolve.specs.Leaves.{variable}
 use Rattle.qs_syntax_resolve.specs.Pattern.{group_of}
-use Rattle.qs_syntax_resolve.specs.Query.{declaration, prologue, order_of, orders, count_of, modifiers, item_of, items, projection_of, select, pattern_of, construct, ask, form_of, trailing, query}
+use Rattle.qs_syntax_resolve.specs.Query.{declaration, prologue, order_of, modifiers, item_of, projection_of, select, construct, ask, form_of, query}
+use Rattle.qs_syntax_resolve.specs.inner.Query.{orders, count_of, items, pattern_of, trailing}
 use Rattle.qs_syntax_resolve.specs.Resolving.{Resolving, ◌>>=◌, ◌<$>◌, pure}
 use Rattle.qs_syntax_resolve.specs.Triples.{triples_behind}
 use Rattle.qs_syntax_resolve.specs.declared.resolver.Resolver.{Resolver}
@@ -47,8 +49,8 @@ one_declared a p i s (Ok names) e f g h = (rw (e, f, g, h) refl, rw (e, f, g, h)
 one_declared a p i s (Err fault) e f g h = ([], rw (e, f, g, h) refl)
 
 module _ {refs : (n : Name) → List Token → Tree n → Type 0} where
-  declaration_meets : Resolves refs rule.prefix_declaration declaration
-  unfolding rule.prefix_declaration
+  declaration_meets : Resolves refs procedures.prefix_declaration declaration
+  unfolding procedures.prefix_declaration
   declaration_meets = record {
     meets = λ ts d h s.
         let word = h.1.3 in
@@ -61,16 +63,15 @@ module _ {refs : (n : Name) → List Token → Tree n → Type 0} where
         (one_declared word.0.0 name.0 iri.0 s (of.declare s.names (record { prefix = name.0.span; iri = iri.0.span })) word.1.3.1 name.1.1 iri.1.1 refl));
   }
 
-  pub prologue_meets : Resolves refs rule.prologue prologue
-  unfolding rule.prologue
+  pub prologue_meets : Resolves refs procedures.prologue prologue
+  unfolding procedures.prologue
   prologue_meets = in_turn (λ _ ds. prologue ds) (λ _ d. declaration d) (λ _. refl) (λ _ d ds s. refl) (λ _. declaration_meets) tt
 
   limit_meets : Resolves refs rule.limit (λ v. count_of (Some v))
   unfolding rule.limit
   limit_meets = by_mute refl (λ v s. (refl, refl))
 
-  pub trailing_meets : Resolves refs (opt rule.values) trailing
-  unfolding trailing
+  pub trailing_meets : Resolves refs (opt procedures.values) trailing
   trailing_meets = by_opt (by_mapped (λ _ x. Some x) values_meet) (λ s. (refl, refl))
 
   module _ (expression_meets : Resolves refs rule.expression expression_of) (group_meets : Resolves refs rule.group group_of)
@@ -83,14 +84,14 @@ module _ {refs : (n : Name) → List Token → Tree n → Type 0} where
     variable_key : Resolves refs rule.var (λ v. expression_of (written_expression.Var v))
     variable_key = by_other (λ v. expression.Variable <$> variable v) variable_is (by_mute refl (λ v s. (refl, refl)))
 
-    order_meets : Resolves refs rule.order order_of
-    unfolding rule.order
+    order_meets : Resolves refs procedures.order order_of
+    unfolding procedures.order
     order_meets =
         by_either (by_made (behind_mute refl (ordered _ (parenthesized_meets expression_meets))))
         (by_either (by_made (behind_mute refl (ordered _ (parenthesized_meets expression_meets)))) (by_made (ordered _ (by_either (constraint_meets expression_meets) (by_made variable_key)))))
 
-    orders_meet : Resolves refs rule.order_clause orders
-    unfolding rule.order_clause rule.order_list rule.orders
+    orders_meet : Resolves refs procedures.order_clause orders
+    unfolding procedures.order_clause procedures.order_list procedures.orders
     orders_meet = by_or (behind_mute refl (by_made (by_both {p = order_of} order_meets (λ _ x. by_many order_meets)))) (λ s. (refl, refl))
 
     counts : (l o : Option Span) (f : Option ℕ → Option ℕ → Resolving SolutionModifiers) → ((a b : Option ℕ) → Meets (f a b) []) → Meets (count_of l >>= (λ a. count_of o >>= (λ b. f a b))) []
@@ -99,22 +100,22 @@ module _ {refs : (n : Name) → List Token → Tree n → Type 0} where
     counts (Some l) None f h s = h (Some (of.count s.names l)) None s
     counts (Some l) (Some o) f h s = h (Some (of.count s.names l)) (Some (of.count s.names o)) s
 
-    modifiers_meet : Resolves refs rule.modifiers modifiers
-    unfolding rule.modifiers rule.slice rule.limit rule.offset modifiers
+    modifiers_meet : Resolves refs procedures.modifiers modifiers
+    unfolding procedures.modifiers rule.slice rule.limit rule.offset modifiers
     modifiers_meet =
         by_made (by_both {p = orders} orders_meet (λ _ o. by_mute refl (λ x. counts x.0 x.1 (λ l k. pure (record { order = o; limit = l; offset = k })) (λ l k s. (refl, refl)))))
 
     -- ---- forms
 
-    item_meets : Resolves refs rule.item item_of
-    unfolding rule.item
+    item_meets : Resolves refs procedures.item item_of
+    unfolding procedures.item
     item_meets = by_either (by_made (by_mute refl (λ v s. (refl, refl)))) (by_made (named_meets (λ e v. item_of (written_item.As e v)) as_meets))
       where
         as_meets : (v : Span) → Resolves refs rule.expression (λ e. item_of (written_item.As e v))
         as_meets v = record { meets = λ ts e h. still_behind ts (expression_of e) (λ x. variable v >>= (λ y. pure (item.As x y))) (expression_meets.meets ts e h) (λ x s. (refl, refl)) }
 
-    projection_meets : Resolves refs rule.projection projection_of
-    unfolding rule.projection rule.items projection_of
+    projection_meets : Resolves refs procedures.projection projection_of
+    unfolding procedures.projection procedures.items projection_of
     projection_meets =
         by_either (by_made (by_mapped (λ _ x. projection.Items x) (by_made {p = items} (by_both {p = item_of} item_meets (λ _ x. by_many item_meets))))) (by_made (by_mute refl (λ t s. (refl, refl))))
 
@@ -122,8 +123,8 @@ module _ {refs : (n : Name) → List Token → Tree n → Type 0} where
     unfolding rule.where_clause
     where_meets = behind_mute refl group_meets
 
-    select_meets : Resolves refs rule.select select
-    unfolding rule.select rule.select_clause rule.duplicates rule.where_modifiers select
+    select_meets : Resolves refs procedures.select select
+    unfolding procedures.select procedures.select_clause procedures.duplicates procedures.where_modifiers select
     select_meets =
         by_made (by_both {p = λ (x : Duplicates × Projection). projection_of x.1} (by_second refl (λ d. projection_meets))
         (λ x p. by_both {p = group_of} where_meets (λ _ g. by_mapped (λ _ m. record { duplicates = x.0; projection = p; pattern = g; modifiers = m }) modifiers_meet)))
@@ -132,26 +133,26 @@ module _ {refs : (n : Name) → List Token → Tree n → Type 0} where
     unfolding rule.template_braces
     template_meets found = behind_mute refl (before_mute refl (by_or (triples_meet tree_form.Template found) (nothing found)))
 
-    long_meets : Resolves refs rule.long_construct construct
-    unfolding rule.long_construct rule.where_modifiers construct
+    long_meets : Resolves refs procedures.long_construct construct
+    unfolding procedures.long_construct procedures.where_modifiers construct
     long_meets =
         by_made (by_both {p = triples_behind []} (template_meets []) (λ x t.
         by_both {p = λ g. pattern_of (Some g)} (by_mapped (λ _ g. Some g) where_meets) (λ _ g. by_mapped (λ _ m. record { template = t; pattern = g; modifiers = m }) modifiers_meet)))
 
-    short_meets : Resolves refs rule.short_construct construct
-    unfolding rule.short_construct construct
+    short_meets : Resolves refs procedures.short_construct construct
+    unfolding procedures.short_construct construct
     short_meets = by_made (by_both {p = triples_behind []} (behind_mute refl (template_meets [])) (λ x t. by_mapped (λ _ m. record { template = t; pattern = None; modifiers = m }) modifiers_meet))
 
-    construct_meets : Resolves refs rule.construct construct
-    unfolding rule.construct
+    construct_meets : Resolves refs procedures.construct construct
+    unfolding procedures.construct
     construct_meets = behind_mute refl (by_either long_meets short_meets)
 
-    ask_meets : Resolves refs rule.ask ask
-    unfolding rule.ask rule.where_modifiers ask
+    ask_meets : Resolves refs procedures.ask ask
+    unfolding procedures.ask procedures.where_modifiers ask
     ask_meets = by_made (behind_mute refl (by_both {p = group_of} where_meets (λ _ g. by_mapped (λ _ m. record { pattern = g; modifiers = m }) modifiers_meet)))
 
-    form_meets : Resolves refs rule.query_form form_of
-    unfolding rule.query_form form_of
+    form_meets : Resolves refs procedures.query_form form_of
+    unfolding procedures.query_form form_of
     form_meets =
         by_either (by_made (by_mapped (λ _ x. form.Select x) select_meets))
         (by_either (by_made (by_mapped (λ _ x. form.Construct x) construct_meets)) (by_made (by_mapped (λ _ x. form.Ask x) ask_meets)))
@@ -159,8 +160,8 @@ module _ {refs : (n : Name) → List Token → Tree n → Type 0} where
     abbrev prologue_and_form : List PrefixDeclaration × QueryForm → Resolving ResolvedForm
     prologue_and_form x = prologue x.0 >>= (λ _. form_of x.1)
 
-    pub query_meets : (variables : List Variable) → Resolves refs rule.query (query variables)
-    unfolding rule.query query
+    pub query_meets : (variables : List Variable) → Resolves refs procedures.query (query variables)
+    unfolding procedures.query query
     query_meets variables =
         by_made (by_same (λ x. prologue_and_form x.0 >>= (λ f. trailing x.1 >>= (λ v. pure (record { form = f; values = v; variables = variables }))))
         (λ x s. associative (prologue x.0.0) (λ _. form_of x.0.1) (λ f. trailing x.1 >>= (λ v. pure (record { form = f; values = v; variables = variables }))) s)

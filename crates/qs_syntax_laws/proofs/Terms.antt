@@ -18,6 +18,7 @@ use Rattle.qs_terms.specs.declared.term.Term.TheVariants as value
 use Rattle.qs_lex_escapes.specs.Piece.{piece}
 use Rattle.qs_syntax_ast.specs.declared.term.VarOrIri.TheVariants as var_or_iri_ast
 use Rattle.qs_syntax_resolve.specs.Names as of
+use Rattle.qs_syntax_resolve.specs.inner.Names as inner_of
 use Rattle.qs_syntax_resolve.specs.Names.{Names}
 use Rattle.qs_syntax_resolve.specs.Data.{value_of}
 use Rattle.qs_syntax_resolve.specs.Leaves.{iri, var_or_iri, literal, term_of, settled}
@@ -38,7 +39,7 @@ settled_at : (ts : List Token) (o : Option lit.Literal) (s : Resolver) → (faul
 settled_at ts (Some l) s h = h
 settled_at ts None s h = h
 
-typed_at : (ts : List Token) (form : List ℕ) (s : Resolver) (o : Outcome (List ℕ)) → Comes s.names ts (and_then o (λ text. Ok (text, s))) → Comes s.names ts (and_then (of.typed form o) (λ found. settled found s))
+typed_at : (ts : List Token) (form : List ℕ) (s : Resolver) (o : Outcome (List ℕ)) → Comes s.names ts (and_then o (λ text. Ok (text, s))) → Comes s.names ts (and_then (inner_of.typed form o) (λ found. settled found s))
 typed_at ts form s (Ok d) h = settled_at ts (result_ok (lit.checked_typed form d)) s h
 typed_at ts form s (Err f) h = h
 

@@ -7,11 +7,13 @@ use Rattle.qs_syntax_ast.specs.declared.update.GraphTarget.TheVariants as target
 use Rattle.qs_syntax_ast.specs.declared.update.Operation.{Operation as ResolvedOperation}
 use Rattle.qs_syntax_ast.specs.declared.update.Operation.TheVariants as operation
 use Rattle.qs_syntax_ast.specs.declared.update.QuadBlock.{QuadBlock}
-use Rattle.qs_syntax_grammar.specs.Notation.{◌&◌, opt, joined}
+use Rattle.qs_syntax_grammar.specs.Notation.{◌&◌, opt}
+use Rattle.qs_syntax_grammar.specs.inner.Repeated.{joined}
 use Rattle.qs_syntax_ast.specs.declared.update.Modify.{Modify}
 use Rattle.qs_syntax_tree.specs.declared.pattern.Group.{Group as WrittenGroup}
 use Rattle.qs_terms.specs.Outcome.{Outcome, and_then}
 use Rattle.qs_syntax_tree.specs.Rules as rule
+use Rattle.qs_syntax_tree.specs.inner.Procedures as procedures
 use Rattle.qs_syntax_tree.specs.Sparql.{Name, Tree, Rule}
 use Rattle.qs_syntax_tree.specs.Trees.{steps_of}
 use Rattle.qs_syntax_tree.specs.declared.query.PrefixDeclaration.{PrefixDeclaration}
@@ -32,7 +34,8 @@ use Rattle.qs_syntax_resolve.specs.Pattern.{group_of}
 use Rattle.qs_syntax_resolve.specs.Query.{prologue}
 use Rattle.qs_syntax_resolve.specs.Resolving.{Resolving, ◌>>=◌, pure, all_behind}
 use Rattle.qs_syntax_resolve.specs.Triples.{triples_behind}
-use Rattle.qs_syntax_resolve.specs.Update.{block_of, quads, template, target_of, end_of, transfer, with_graph, modify, operation_of, operation_behind, step, steps, update}
+use Rattle.qs_syntax_resolve.specs.Update.{quads, template, target_of, end_of, transfer, modify, operation_of, operation_behind, step, update}
+use Rattle.qs_syntax_resolve.specs.inner.Update.{block_of, with_graph, steps}
 use Rattle.qs_syntax_resolve.specs.declared.resolver.Resolver.{Resolver}
 use Rattle.qs_syntax_laws.proofs.Queries.{prologue_meets, template_meets}
 use Rattle.qs_syntax_laws.proofs.Terms.{iri_meets, var_or_iri_meets}
@@ -72,7 +75,7 @@ steps_are found p (Some x) s = sym (associative (prologue p) (λ _. operation_be
 
 module _ {refs : (n : Name) → List Token → Tree n → Type 0} where
   steps_meet : {r : Rule (Operation × List UpdateStep)} → ((found : List ResolvedOperation) → Resolves refs r (operations found)) → (found : List ResolvedOperation)
-      → Resolves refs (rule.prologue & opt r) (λ x. steps found (steps_of x))
+      → Resolves refs (procedures.prologue & opt r) (λ x. steps found (steps_of x))
   steps_meet h found =
       by_same (λ x. prologue x.0 >>= (λ _. others found x.1)) (λ x s. steps_are found x.0 x.1 s) (by_both {p = prologue} {f = λ _ _ o. others found o} prologue_meets (λ _ _. by_opt (h found) (nothing found)))
 
@@ -94,8 +97,8 @@ module _ {refs : (n : Name) → List Token → Tree n → Type 0} where
       by_made (by_both {p = λ (x : OnMissing × GraphOrDefault). end_of x.1} (before_mute refl (by_second refl (λ silent. end_meets)))
       (λ x a. by_mapped (λ _ b. record { on_missing = x.0; from = a; to = b }) end_meets))
 
-  graphs_meet : Resolves refs rule.graph_operation operation_of
-  unfolding rule.graph_operation rule.clear rule.drop_graph rule.create rule.from_graph_to_graph rule.silent operation_of
+  graphs_meet : Resolves refs procedures.graph_operation operation_of
+  unfolding procedures.graph_operation procedures.clear procedures.drop_graph procedures.create procedures.from_graph_to_graph rule.silent operation_of
   graphs_meet =
       by_either (by_made (by_second refl (λ silent. by_mapped (λ _ x. operation.Clear silent x) target_meets)))
       (by_either (by_made (by_second refl (λ silent. by_mapped (λ _ x. operation.Drop silent x) target_meets)))
@@ -110,44 +113,44 @@ module _ {refs : (n : Name) → List Token → Tree n → Type 0} where
     abbrev blocks : List QuadBlock → List QuadElement → Resolving (List QuadBlock)
     blocks found es = all_behind found (map block_of es)
 
-    block_meets : (found : List QuadBlock) → Resolves refs rule.quads_block (blocks found)
-    unfolding rule.quads_block
+    block_meets : (found : List QuadBlock) → Resolves refs procedures.quads_block (blocks found)
+    unfolding procedures.quads_block
     block_meets found =
         by_or (by_made (by_mapped {p = λ (x : ℕ × Quads). block_of (record { place = x.0; quads = x.1 })} (λ _ b. found ++ b ∷ [])
         (by_placed (λ place. by_made (by_mapped (λ _ ts. record { graph = None; triples = ts }) (triples_meet tree_form.Template [])))))) (nothing found)
 
-    graph_meets : Resolves refs rule.dotted_graph block_of
-    unfolding rule.dotted_graph rule.quads_graph
+    graph_meets : Resolves refs procedures.dotted_graph block_of
+    unfolding procedures.dotted_graph procedures.quads_graph
     graph_meets =
         before_mute refl (by_made (by_placed (λ place. by_made (by_both {p = var_or_iri} (behind_mute refl var_or_iri_meets)
         (λ _ n. by_mapped (λ _ ts. record { graph = Some n; triples = ts }) (template_meets expression_meets group_meets triples_meet []))))))
 
-    quads_step_meets : (found : List QuadBlock) → Resolves refs rule.quads_step (blocks found)
-    unfolding rule.quads_step
+    quads_step_meets : (found : List QuadBlock) → Resolves refs procedures.quads_step (blocks found)
+    unfolding procedures.quads_step
     quads_step_meets found = by_made (by_both {p = block_of} graph_meets (λ _ b. block_meets (found ++ b ∷ [])))
 
-    quads_steps_meet : (found : List QuadBlock) → Resolves refs rule.quads_steps (blocks found)
-    unfolding rule.quads_steps
+    quads_steps_meet : (found : List QuadBlock) → Resolves refs procedures.quads_steps (blocks found)
+    unfolding procedures.quads_steps
     quads_steps_meet found = by_made (in_turn (λ b xs. blocks b (joined xs)) blocks (λ b. refl) (λ b es xs s. in_two_parts block_of es (joined xs) b s) quads_step_meets found)
 
-    quads_meet : Resolves refs rule.quads (λ q. quads q.elements)
-    unfolding rule.quads rule.quads_elements
+    quads_meet : Resolves refs procedures.quads (λ q. quads q.elements)
+    unfolding procedures.quads procedures.quads_elements
     quads_meet =
         by_made (behind_mute refl (before_mute refl (by_made (by_same (λ x. blocks [] x.0 >>= (λ b. blocks b x.1)) (λ x s. in_two_parts block_of x.0 x.1 [] s)
         (by_both {p = blocks []} (block_meets []) (λ _ b. quads_steps_meet b))))))
 
     -- ---- operations
 
-    where_meets : Resolves refs rule.where_group group_of
-    unfolding rule.where_group
+    where_meets : Resolves refs procedures.where_group group_of
+    unfolding procedures.where_group
     where_meets = behind_mute refl group_meets
 
-    insert_clause_meets : Resolves refs rule.insert_clause template
-    unfolding rule.insert_clause
+    insert_clause_meets : Resolves refs procedures.insert_clause template
+    unfolding procedures.insert_clause
     insert_clause_meets = by_opt (behind_mute refl quads_meet) (λ s. (refl, refl))
 
-    insert_meets : Resolves refs rule.insert operation_of
-    unfolding rule.insert operation_of modify
+    insert_meets : Resolves refs procedures.insert operation_of
+    unfolding procedures.insert operation_of modify
     insert_meets =
         behind_mute refl (by_either (by_made (by_mapped (λ _ x. operation.InsertData x) (behind_mute refl quads_meet)))
         (by_made (by_mapped (λ _ m. operation.Modify m) (by_both {p = λ (q : QuadPattern). quads q.elements} quads_meet (λ _ i. by_mapped (λ _ g. record { with = None; delete = []; insert = i; pattern = g }) where_meets)))))
@@ -155,11 +158,11 @@ module _ {refs : (n : Name) → List Token → Tree n → Type 0} where
     abbrev templates : Option QuadPattern × Option QuadPattern → Resolving (List QuadBlock × List QuadBlock)
     templates x = template x.0 >>= (λ d. template x.1 >>= (λ i. pure (d, i)))
 
-    delete_and_insert : Resolves refs (rule.quads & rule.insert_clause) (λ x. templates (Some x.0, x.1))
+    delete_and_insert : Resolves refs (procedures.quads & procedures.insert_clause) (λ x. templates (Some x.0, x.1))
     delete_and_insert = by_both {p = λ (q : QuadPattern). quads q.elements} quads_meet (λ _ d. by_mapped (λ _ i. (d, i)) insert_clause_meets)
 
-    delete_meets : Resolves refs rule.delete operation_of
-    unfolding rule.delete operation_of modify
+    delete_meets : Resolves refs procedures.delete operation_of
+    unfolding procedures.delete operation_of modify
     delete_meets =
         behind_mute refl (by_either (by_made (by_mapped (λ _ x. operation.DeleteData x) (behind_mute refl quads_meet)))
         (by_either (by_made (by_mapped (λ _ x. operation.DeleteWhere x) (behind_mute refl quads_meet)))
@@ -168,8 +171,8 @@ module _ {refs : (n : Name) → List Token → Tree n → Type 0} where
         (λ x s. paired (template (Some x.0.0)) (template x.0.1) (λ c. group_of x.1 >>= (λ g. pure (record { with = None; delete = c.0; insert = c.1; pattern = g }))) s)
         (by_both {p = λ x. templates (Some x.0, x.1)} delete_and_insert (λ _ c. by_mapped (λ _ g. record { with = None; delete = c.0; insert = c.1; pattern = g }) where_meets)))))))
 
-    changes_meet : Resolves refs rule.changes templates
-    unfolding rule.changes
+    changes_meet : Resolves refs procedures.changes templates
+    unfolding procedures.changes
     changes_meet =
         by_either (by_made (by_both {p = λ (q : QuadPattern). quads q.elements} (behind_mute refl quads_meet) (λ _ d. by_mapped (λ _ i. (d, i)) insert_clause_meets)))
         (by_made (by_mapped (λ _ i. ([], i)) (behind_mute refl quads_meet)))
@@ -180,8 +183,8 @@ module _ {refs : (n : Name) → List Token → Tree n → Type 0} where
     made : WrittenGroup → Option (List ℕ) × (List QuadBlock × List QuadBlock) → Resolving Modify
     made p c = group_of p >>= (λ g. pure (record { with = c.0; delete = c.1.0; insert = c.1.1; pattern = g }))
 
-    with_meets : Resolves refs rule.with_graph operation_of
-    unfolding rule.with_graph rule.with_clause operation_of modify made
+    with_meets : Resolves refs procedures.with_graph operation_of
+    unfolding procedures.with_graph procedures.with_clause operation_of modify made
     with_meets =
         by_made (by_mapped {p = λ x. modify (record { with = Some x.0.0; delete = x.0.1.0; insert = x.0.1.1; pattern = x.1 })} (λ _ m. operation.Modify m)
         (by_same (λ x. graph_and_changes x.0 >>= made x.1)
@@ -190,17 +193,17 @@ module _ {refs : (n : Name) → List Token → Tree n → Type 0} where
         (by_both {p = graph_and_changes} (by_both {p = λ i. with_graph (Some i)} (by_mapped (λ _ i. Some i) (behind_mute refl iri_meets)) (λ _ w. by_mapped (λ _ c. (w, c)) changes_meet))
         (λ _ c. by_mapped (λ _ g. record { with = c.0; delete = c.1.0; insert = c.1.1; pattern = g }) where_meets))))
 
-    operation_meets : Resolves refs rule.operation operation_of
-    unfolding rule.operation
+    operation_meets : Resolves refs procedures.operation operation_of
+    unfolding procedures.operation
     operation_meets = by_either insert_meets (by_either delete_meets (by_either with_meets graphs_meet))
 
     module _ (operations_meet : (found : List ResolvedOperation) → Resolves refs rule.operations (operations found)) where
-      pub operations_rule_meet : (found : List ResolvedOperation) → Resolves refs rule.operations_rule (operations found)
-      unfolding rule.operations_rule
+      pub operations_rule_meet : (found : List ResolvedOperation) → Resolves refs procedures.operations_rule (operations found)
+      unfolding procedures.operations_rule
       operations_rule_meet found =
           by_both {p = λ o. operation_behind found (Some o)} (by_mapped (λ _ x. found ++ x ∷ []) operation_meets)
           (λ _ more. by_or (behind_mute refl (by_made (steps_meet operations_meet more))) (nothing more))
 
-      pub update_meets : (variables : List Variable) → Resolves refs rule.update (update variables)
-      unfolding rule.update update
+      pub update_meets : (variables : List Variable) → Resolves refs procedures.update (update variables)
+      unfolding procedures.update update
       update_meets variables = by_made (by_mapped {p = λ x. steps [] (steps_of x)} (λ _ found. record { operations = found; variables = variables }) (steps_meet operations_rule_meet []))

@@ -4,7 +4,7 @@
 ghost use Rattle.std.specs.Prelude.{◌≡◌, List, ℕ, Some, true, not, codes};
 ghost use Rattle.std.specs.Option.{is_some};
 ghost use Rattle.std.specs.Str.{encode_utf8_all, str_eq_ignore_ascii_case};
-ghost use Rattle.qs_lex.specs.Table.{IsToken};
+ghost use Rattle.qs_lex.specs.inner.Table.{IsToken};
 ghost use Rattle.qs_lex.specs.declared.token.Class.{Class};
 ghost use Rattle.qs_lex.specs.declared.token.Class.TheVariants as class;
 ghost use Rattle.qs_lex_escapes.specs.Escape.{echar_of};

@@ -1,9 +1,9 @@
 -- The least place of rows, gathered part by part.
-use Rattle.std.proofs.Common.{◌≡◌, ◌≤◌, ℕ, List, [], ◌∷◌, ◌++◌, Option, Some, None, map, fold, slice_get, length, take, refl, sym, ap, ◌∙◌, arith}
+use Rattle.std.proofs.Common.{◌≡◌, ◌≤◌, ℕ, List, [], ◌∷◌, ◌++◌, Option, Some, None, map, min, fold, slice_get, length, take, refl, sym, ap, ◌∙◌, arith}
 use Rattle.std.proofs.lemmas.List.{take_all}
-use Rattle.std.specs.List.{flat_map}
-use Rattle.qs_syntax_limits.specs.Large.{Rows, Part, limit, first, excess, side_by_side}
-use Rattle.qs_syntax_limits.specs.inner.Parts.{further}
+use Rattle.std.specs.List.{flat_map, filter_map, cons_option, reduce}
+use Rattle.qs_syntax_limits.specs.Large.{Rows, Part, limit, excess, side_by_side}
+use Rattle.qs_syntax_limits.specs.inner.Parts.{first, further}
 
 pub excess_none : excess [] ≡ None
 unfolding excess
@@ -25,14 +25,27 @@ first_assoc (Some a) None c = refl
 first_assoc (Some a) (Some b) None = refl
 first_assoc (Some a) (Some b) (Some c) = ap Some (grind arith)
 
-pub excess_append : (a b : Rows) → excess (a ++ b) ≡ first (excess a) (excess b)
-unfolding excess
-excess_append [] b = sym (none_first (excess b))
-excess_append (row ∷ rows) b = ap (first (slice_get row limit)) (excess_append rows b) ∙ sym (first_assoc (slice_get row limit) (excess rows) (excess b))
+lesser_first : (a b : ℕ) (bs : List ℕ) → fold min (min a b) bs ≡ min a (fold min b bs)
+lesser_first a b [] = refl
+lesser_first a b (c ∷ cs) = let same : min (min a b) c ≡ min a (min b c) = grind arith in ap (λ z. fold min z cs) same ∙ lesser_first a (min b c) cs
+
+least_behind : (o : Option ℕ) (places : List ℕ) → reduce min (cons_option o places) ≡ first o (reduce min places)
+unfolding first
+least_behind None places = refl
+least_behind (Some a) [] = refl
+least_behind (Some a) (b ∷ bs) = ap Some (lesser_first a b bs)
 
 pub excess_more : (row : List ℕ) (rows : Rows) → excess (row ∷ rows) ≡ first (slice_get row limit) (excess rows)
 unfolding excess
-excess_more row rows = refl
+excess_more row rows = least_behind (slice_get row limit) (filter_map (λ (r : List ℕ). slice_get r limit) rows)
+
+pub excess_append : (a b : Rows) → excess (a ++ b) ≡ first (excess a) (excess b)
+excess_append [] b = sym (ap (λ z. first z (excess b)) excess_none ∙ none_first (excess b))
+excess_append (row ∷ rows) b =
+    excess_more row (rows ++ b)
+    ∙ ap (first (slice_get row limit)) (excess_append rows b)
+    ∙ sym (first_assoc (slice_get row limit) (excess rows) (excess b))
+    ∙ ap (λ z. first z (excess b)) (sym (excess_more row rows))
 
 pub gathered : {A : Type 0} (rows_of : A → Rows) (found : Option ℕ) (xs : List A) → fold (further rows_of) found xs ≡ first found (excess (flat_map rows_of xs))
 gathered rows_of found [] = sym (ap (first found) excess_none ∙ first_none found)

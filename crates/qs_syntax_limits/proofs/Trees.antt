@@ -1,7 +1,8 @@
 -- The rows of trees, variant by variant.
 use Rattle.std.proofs.Common.{◌≡◌, List, [], ◌∷◌, ◌++◌, map, rules, refl, sym, ap, ◌∙◌}
 use Rattle.std.specs.List.{flat_map}
-use Rattle.qs_syntax_limits.specs.Large.{Rows, Part, path, expression, graph_node, side_by_side, call_level, expression_level, operand_level, addend_level}
+use Rattle.qs_syntax_limits.specs.Large.{Rows, Part, path, expression, graph_node, side_by_side, call_level, expression_level}
+use Rattle.qs_syntax_limits.specs.inner.Parts.{operand_level, addend_level}
 use Rattle.qs_syntax_limits.specs.inner.Parts.{operand, addend, call, graph_pattern}
 use Rattle.qs_syntax_tree.specs.declared.expression.Addend.{Addend, fold-Addend, the_lemmas as addend_lemmas}
 use Rattle.qs_syntax_tree.specs.declared.expression.BinaryFunction.{BinaryFunction}

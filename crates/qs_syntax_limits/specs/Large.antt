@@ -2,19 +2,18 @@
 -- has none. A group, and the braces of DELETE WHERE, have at most 256 elements, and a chain at most
 -- 256 operands. All rows of a tree are collected, with those of each tree within it, and the limit
 -- is asked of each. Data, templates and the short form of CONSTRUCT have no limit of elements.
-use Rattle.std.specs.Prelude.{ℕ, List, [], ◌∷◌, ◌++◌, Option, Some, None, map, min, slice_get}
-use Rattle.std.specs.List.{flat_map}
+use Rattle.std.specs.Prelude.{ℕ, List, [], ◌∷◌, ◌++◌, Option, map, min, slice_get}
+use Rattle.std.specs.List.{flat_map, filter_map, reduce}
+use Rattle.std.specs.Option.{option_map_or}
 use Rattle.qs_syntax_tree.specs.declared.expression.Expression.{Expression, fold-Expression}
-use Rattle.qs_syntax_tree.specs.declared.expression.Call.TheOpen.{Expression-F, Operand-F, Addend-F}
-use Rattle.qs_syntax_tree.specs.declared.expression.Call.TheOpen.{Call-F}
+use Rattle.qs_syntax_tree.specs.declared.expression.Call.TheOpen.{Expression-F, Call-F}
 use Rattle.qs_syntax_tree.specs.declared.expression.Call.TheOpen as e
 use Rattle.qs_syntax_tree.specs.declared.path.Path.{Path, fold-Path}
-use Rattle.qs_syntax_tree.specs.declared.path.Path.TheOpen.{Path-F, PathOperand-F}
+use Rattle.qs_syntax_tree.specs.declared.path.Path.TheOpen.{Path-F}
 use Rattle.qs_syntax_tree.specs.declared.path.Path.TheOpen as p
 use Rattle.qs_syntax_tree.specs.declared.path.Verb.{Verb}
 use Rattle.qs_syntax_tree.specs.declared.path.Verb.TheVariants as v
-use Rattle.qs_syntax_tree.specs.declared.pattern.GraphPattern.TheOpen.{GraphPattern-F, Element-F}
-use Rattle.qs_syntax_tree.specs.declared.pattern.GraphPattern.TheOpen.{Group-F}
+use Rattle.qs_syntax_tree.specs.declared.pattern.GraphPattern.TheOpen.{GraphPattern-F}
 use Rattle.qs_syntax_tree.specs.declared.pattern.GraphPattern.TheOpen as g
 use Rattle.qs_syntax_tree.specs.declared.pattern.Group.{Group, fold-Group}
 use Rattle.qs_syntax_tree.specs.declared.query.Projection.{Projection}
@@ -45,16 +44,9 @@ limit = 256
 abbrev pub Rows : Type 0
 Rows = List (List ℕ)
 
--- the lesser of two places, where None is no place
-unfoldable pub first : Option ℕ → Option ℕ → Option ℕ
-first None b = b
-first (Some a) None = Some a
-first (Some a) (Some b) = Some (min a b)
-
 -- the least place at which a row has a part past the limit
 unfoldable pub excess : Rows → Option ℕ
-excess [] = None
-excess (row ∷ rows) = first (slice_get row limit) (excess rows)
+excess rows = reduce min (filter_map (λ row. slice_get row limit) rows)
 
 -- an element or an operand: where it begins, and the rows within it
 pub record Part : Type 0 where
@@ -76,11 +68,8 @@ path_level (p.Sequence operands) = side_by_side operands
 path_level (p.Inverse path) = path
 path_level (p.Repeated path repetition) = path
 
-abbrev pub path_operand_level : PathOperand-F Rows Part → Part
-path_operand_level operand = record { place = operand.place; rows = operand.path }
-
 abbrev pub path : Path → Rows
-path = fold-Path Rows Part path_level path_operand_level
+path = fold-Path Rows Part path_level (λ o. record { place = o.place; rows = o.path })
 
 -- ---- of an expression (19.8, [110] to [121]): `||`, `&&`, `+` with `-`, and `*` are chains
 
@@ -93,6 +82,9 @@ call_level (e.Unary function a) = a
 call_level (e.Binary function a b) = a ++ b
 
 abbrev pub expression_level : Expression-F Rows Rows Part Part → Rows
+expression_level (e.Var name) = []
+expression_level (e.Iri name) = []
+expression_level (e.Literal value) = []
 expression_level (e.Call call) = call
 expression_level (e.Or operands) = side_by_side operands
 expression_level (e.And operands) = side_by_side operands
@@ -103,17 +95,11 @@ expression_level (e.Sum operand addends) = side_by_side (operand ∷ addends)
 expression_level (e.Product operands) = side_by_side operands
 expression_level (e.Not a) = a
 expression_level (e.Signed sign a) = a
-expression_level _ = []
-
-abbrev pub operand_level : Operand-F Rows Rows Part Part → Part
-operand_level operand = record { place = operand.place; rows = operand.expression }
-
-abbrev pub addend_level : Addend-F Rows Rows Part Part → Part
-addend_level addend = addend.operand
 
 abbrev pub expression : Expression → Rows
 expression =
-    fold-Expression Rows Rows Part Part call_level expression_level addend_level operand_level
+    fold-Expression Rows Rows Part Part call_level expression_level (λ addend. addend.operand)
+    (λ o. record { place = o.place; rows = o.expression })
 
 -- ---- of triples (19.8, [75] to [87], [98] to [107]): of the paths in their verbs, in brackets too
 
@@ -150,19 +136,10 @@ graph_pattern_level (g.Filter e) = expression e
 graph_pattern_level (g.Bind e variable) = expression e
 graph_pattern_level (g.Values table) = []
 
-abbrev pub element_level : Element-F Rows Part Part → Part
-element_level e = record { place = e.place; rows = e.pattern }
-
-abbrev pub group_level : Group-F Rows Part Part → Part
-group_level g = record { place = g.place; rows = side_by_side g.elements }
-
 abbrev pub group : Group → Rows
-group g = (fold-Group Rows Part Part graph_pattern_level element_level group_level g).rows
-
--- of a tree, where one is given
-abbrev pub given : {A : Type 0} → (A → Rows) → Option A → Rows
-given rows_of None = []
-given rows_of (Some a) = rows_of a
+group g = (fold-Group Rows Part Part graph_pattern_level
+    (λ element. record { place = element.place; rows = element.pattern })
+    (λ inner. record { place = inner.place; rows = side_by_side inner.elements }) g).rows
 
 -- ---- of a query (19.8, [2] to [24]); the braces of CONSTRUCT's short form are no group
 
@@ -179,7 +156,8 @@ modifiers m = flat_map (λ condition. expression condition.key) m.order
 
 abbrev pub query_form : QueryForm → Rows
 query_form (form.Select s) = projection s.projection ++ group s.pattern ++ modifiers s.modifiers
-query_form (form.Construct c) = triples c.template ++ given group c.pattern ++ modifiers c.modifiers
+query_form (form.Construct c) =
+    triples c.template ++ option_map_or group c.pattern [] ++ modifiers c.modifiers
 query_form (form.Ask a) = group a.pattern ++ modifiers a.modifiers
 
 unfoldable pub query : Query → Option ℕ
@@ -201,8 +179,14 @@ abbrev pub operation : Operation → Rows
 operation (op.InsertData q) = braces q
 operation (op.DeleteData q) = braces q
 operation (op.DeleteWhere q) = map (λ e. e.place) q.elements ∷ braces q
-operation (op.Modify m) = given braces m.delete ++ given braces m.insert ++ group m.pattern
-operation others = []
+operation (op.Modify m) =
+    option_map_or braces m.delete [] ++ option_map_or braces m.insert [] ++ group m.pattern
+operation (op.Clear _ target) = []
+operation (op.Drop _ target) = []
+operation (op.Create _ graph) = []
+operation (op.Add transfer) = []
+operation (op.Move transfer) = []
+operation (op.Copy transfer) = []
 
 unfoldable pub update : Update → Option ℕ
-update u = excess (flat_map (λ s. given operation s.operation) u.steps)
+update u = excess (flat_map (λ s. option_map_or operation s.operation []) u.steps)

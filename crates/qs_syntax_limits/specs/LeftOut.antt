@@ -35,10 +35,7 @@ is_left_out_kind Double written = true
 is_left_out_kind Word written = is_left_out_word written
 is_left_out_kind other written = false
 
-abbrev pub is_left_out : List ℕ → Token → Bool
-is_left_out text token = is_left_out_kind token.kind (piece text token.span.start token.span.end)
-
 -- as it is written in the text
 abbrev pub left_out : List ℕ → List Token → Option (List ℕ)
 left_out text tokens = option_map (λ token. piece text token.span.start token.span.end)
-    (find (is_left_out text) tokens)
+    (find (λ t. is_left_out_kind t.kind (piece text t.span.start t.span.end)) tokens)

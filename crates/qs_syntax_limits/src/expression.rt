@@ -76,8 +76,8 @@ fn in_operands(all: &[Operand]) -> Option<usize>
 #[cycle(expression)]
 #[tactic(auto, using(crate::proofs::Rows::gathered))]
 fn in_sum(start: usize, within: Option<usize>, rest: &[Addend]) -> Option<usize>
-    ensures { result ≡ spec.first
-        (spec.first (slice_get (start ∷ map (λ x. (part.addend x).place) rest.now) spec.limit)
+    ensures { result ≡ part.first
+        (part.first (slice_get (start ∷ map (λ x. (part.addend x).place) rest.now) spec.limit)
         within) (spec.excess (flat_map (λ x. (part.addend x).rows) rest.now)) }
 {
     let mut found = first(excess_behind(rest), within);

@@ -3,6 +3,7 @@
 ghost use Rattle.std.specs.Prelude.{◌≡◌};
 ghost use Rattle.std.specs.Option.{option_copied};
 ghost use Rattle.qs_syntax_limits.specs.LeftOut as spec;
+ghost use Rattle.qs_syntax_limits.specs.inner.LeftOut as inner;
 
 use crate::words::is_left_out_word;
 use qs_lex_escapes::piece::piece;
@@ -10,7 +11,7 @@ use qs_syntax_tree::kind::Kind;
 use qs_syntax_tree::token::Token;
 
 fn is_left_out(text: &str, token: &Token) -> bool
-    ensures { result ≡ spec.is_left_out text.now token.now }
+    ensures { result ≡ inner.is_left_out text.now token.now }
 {
     match token.kind {
         Kind::Decimal | Kind::Double => true,

@@ -78,9 +78,9 @@ impl Placed for QuadElement {
 }
 
 /// The lesser of two places, where None is no place.
-#[tactic(auto, unfolding(crate::specs::Large::first))]
+#[tactic(auto, unfolding(crate::specs::inner::Parts::first))]
 pub fn first(a: Option<usize>, b: Option<usize>) -> Option<usize>
-    ensures { result ≡ spec.first a b }
+    ensures { result ≡ rows.first a b }
 {
     match (a, b) {
         (None, b) => b,

@@ -3,6 +3,7 @@
 ghost use Rattle.std.specs.Prelude.{◌≡◌};
 ghost use Rattle.std.specs.List.{flat_map};
 ghost use Rattle.qs_syntax_limits.specs.Large as spec;
+ghost use Rattle.qs_syntax_limits.specs.inner.Parts as inner;
 ghost use Rattle.qs_syntax_tree.specs.declared.query.QueryForm.TheVariants as form;
 
 use crate::expression::in_expression;
@@ -58,7 +59,7 @@ fn in_order(all: &[OrderCondition]) -> Option<usize>
 
 #[tactic(auto, using(crate::proofs::Rows::excess_none))]
 fn in_pattern(pattern: &Option<Group>) -> Option<usize>
-    ensures { result ≡ spec.excess (spec.given spec.group pattern.now) }
+    ensures { result ≡ spec.excess (inner.given spec.group pattern.now) }
 {
     match pattern {
         None => None,

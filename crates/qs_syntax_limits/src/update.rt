@@ -3,6 +3,7 @@
 ghost use Rattle.std.specs.Prelude.{◌≡◌, ◌∷◌, map};
 ghost use Rattle.std.specs.List.{flat_map};
 ghost use Rattle.qs_syntax_limits.specs.Large as spec;
+ghost use Rattle.qs_syntax_limits.specs.inner.Parts as inner;
 ghost use Rattle.qs_syntax_tree.specs.declared.update.Operation.TheVariants as operation;
 
 use crate::pattern::in_group;
@@ -23,7 +24,8 @@ fn in_quads(quads: &Quads) -> Option<usize>
 // What was found before, or is within an element.
 #[tactic(auto, using(crate::proofs::Rows::gathered))]
 fn in_elements(mut found: Option<usize>, all: &[QuadElement]) -> Option<usize>
-    ensures { result ≡ spec.first found (spec.excess (flat_map (λ e. spec.quads e.quads) all.now)) }
+    ensures { result ≡ inner.first found
+        (spec.excess (flat_map (λ e. spec.quads e.quads) all.now)) }
 {
     for element in all {
         found = first(found, in_quads(&element.quads));
@@ -48,7 +50,7 @@ fn in_quad_group(pattern: &QuadPattern) -> Option<usize>
 
 #[tactic(auto, using(crate::proofs::Rows::excess_none))]
 fn in_template(template: &Option<QuadPattern>) -> Option<usize>
-    ensures { result ≡ spec.excess (spec.given spec.braces template.now) }
+    ensures { result ≡ spec.excess (inner.given spec.braces template.now) }
 {
     match template {
         None => None,
@@ -82,7 +84,7 @@ fn in_operation(operation: &Operation) -> Option<usize>
 
 #[tactic(auto, using(crate::proofs::Rows::excess_none))]
 fn in_step(step: &UpdateStep) -> Option<usize>
-    ensures { result ≡ spec.excess (spec.given spec.operation step.now.operation) }
+    ensures { result ≡ spec.excess (inner.given spec.operation step.now.operation) }
 {
     match &step.operation {
         None => None,
@@ -92,7 +94,8 @@ fn in_step(step: &UpdateStep) -> Option<usize>
 
 #[tactic(auto, using(crate::proofs::Rows::from_none))]
 fn in_steps(all: &[UpdateStep]) -> Option<usize>
-    ensures { result ≡ spec.excess (flat_map (λ s. spec.given spec.operation s.operation) all.now) }
+    ensures { result ≡ spec.excess (flat_map (λ s. inner.given spec.operation s.operation)
+        all.now) }
 {
     let mut found = None;
     for step in all {

@@ -2,8 +2,9 @@
 use Rattle.std.proofs.Common.{◌≡◌, false, [], ◌∷◌, refl}
 use Rattle.qs_syntax_grammar.specs.inner.Reading.{first, nullable}
 use Rattle.qs_syntax_tree.specs.declared.kind.Kind.TheVariants as k
-use Rattle.qs_syntax_tree.specs.Table.{firsts}
-use Rattle.qs_syntax_tree.specs.Rules.{clear, construct, create, delete, drop_graph, from_graph_to_graph, graph_operation, insert, item, long_construct, named_expression, operation, operations_rule, select, select_clause, template_braces, values, with_clause, with_graph}
+use Rattle.qs_syntax_tree.specs.inner.Table.{firsts}
+use Rattle.qs_syntax_tree.specs.Rules.{template_braces}
+use Rattle.qs_syntax_tree.specs.inner.Procedures.{clear, construct, create, delete, drop_graph, from_graph_to_graph, graph_operation, insert, item, long_construct, named_expression, operation, operations_rule, select, select_clause, values, with_clause, with_graph}
 
 pub first_item : first firsts item ≡ k.Var ∷ k.LeftParen ∷ []
 unfolding item named_expression

@@ -5,6 +5,8 @@ ghost use Rattle.qs_syntax_grammar.specs.inner.Contract.{ReadsAll, IsOnlyTree, I
 ghost use Rattle.qs_syntax_grammar.specs.Grammar.{Spells};
 ghost use Rattle.qs_syntax_tree.specs.Rules as rules;
 ghost use Rattle.qs_syntax_tree.specs.Table.{grammar};
+ghost use Rattle.qs_syntax_tree.specs.inner.Procedures as procedures;
+ghost use Rattle.qs_syntax_tree.specs.inner.Table.{guided};
 
 use crate::{queries, updates};
 use qs_syntax_grammar::fault::{Fault, ParseFault};
@@ -16,7 +18,7 @@ use qs_syntax_tree::update::Update;
 use std::alloc::Global;
 
 fn read_query(alloc: Global, tokens: &[Token]) -> Result<Query, Fault>
-    ensures { ReadsAll grammar rules.query tokens.now result }
+    ensures { ReadsAll guided procedures.query tokens.now result }
 {
     let depth = tokens.len();
     let mut left = Tokens::new(tokens);
@@ -28,7 +30,7 @@ fn read_query(alloc: Global, tokens: &[Token]) -> Result<Query, Fault>
 }
 
 fn read_update(alloc: Global, tokens: &[Token]) -> Result<Update, Fault>
-    ensures { ReadsAll grammar rules.update tokens.now result }
+    ensures { ReadsAll guided procedures.update tokens.now result }
 {
     let depth = tokens.len();
     let mut left = Tokens::new(tokens);

@@ -3,7 +3,8 @@
 ghost use Rattle.qs_syntax_grammar.specs.inner.Grammar.{read};
 ghost use Rattle.qs_syntax_grammar.specs.inner.Reading.{Reads};
 ghost use Rattle.qs_syntax_tree.specs.Rules as rules;
-ghost use Rattle.qs_syntax_tree.specs.Table.{grammar};
+ghost use Rattle.qs_syntax_tree.specs.inner.Procedures as procedures;
+ghost use Rattle.qs_syntax_tree.specs.inner.Table.{guided};
 
 use qs_base::keep_beside;
 use qs_syntax_grammar::fault::Fault;
@@ -22,9 +23,9 @@ use qs_syntax_triples::data;
 use qs_syntax_triples::triples::template_braces;
 use sqlite_items::Items;
 
-#[tactic(auto, unfolding(qs_syntax_tree::specs::Rules::prefix_declaration))]
+#[tactic(auto, unfolding(qs_syntax_tree::specs::inner::Procedures::prefix_declaration))]
 fn prefix_declaration(parser: Parser, tokens: &mut Tokens<'_>) -> Result<PrefixDeclaration, Fault>
-    ensures { Reads (read grammar parser.depth rules.prefix_declaration tokens.old) result
+    ensures { Reads (read guided parser.depth procedures.prefix_declaration tokens.old) result
         tokens.new }
 {
     tokens.expect(Kind::Prefix)?;
@@ -35,7 +36,7 @@ fn prefix_declaration(parser: Parser, tokens: &mut Tokens<'_>) -> Result<PrefixD
 
 /// The declarations of prefixes ([4]).
 pub fn prologue(parser: Parser, tokens: &mut Tokens<'_>) -> Result<Items<PrefixDeclaration>, Fault>
-    ensures { Reads (read grammar parser.depth rules.prologue tokens.old) result tokens.new }
+    ensures { Reads (read guided parser.depth procedures.prologue tokens.old) result tokens.new }
 {
     let mut found = Items::new(parser.alloc);
     for _turn in 0..tokens.turns() {
@@ -50,7 +51,7 @@ pub fn prologue(parser: Parser, tokens: &mut Tokens<'_>) -> Result<Items<PrefixD
 
 #[tactic(auto, unfolding(qs_syntax_tree::specs::Rules::where_clause))]
 fn where_clause(parser: Parser, tokens: &mut Tokens<'_>) -> Result<Group, Fault>
-    ensures { Reads (read grammar parser.depth rules.where_clause tokens.old) result tokens.new }
+    ensures { Reads (read guided parser.depth rules.where_clause tokens.old) result tokens.new }
 {
     if tokens.peek_is(&[Kind::Where]) {
         tokens.expect(Kind::Where)?;
@@ -58,9 +59,9 @@ fn where_clause(parser: Parser, tokens: &mut Tokens<'_>) -> Result<Group, Fault>
     group(parser, tokens)
 }
 
-#[tactic(auto, unfolding(qs_syntax_tree::specs::Rules::duplicates))]
+#[tactic(auto, unfolding(qs_syntax_tree::specs::inner::Procedures::duplicates))]
 fn duplicates(parser: Parser, tokens: &mut Tokens<'_>) -> Result<Duplicates, Fault>
-    ensures { Reads (read grammar parser.depth rules.duplicates tokens.old) result tokens.new }
+    ensures { Reads (read guided parser.depth procedures.duplicates tokens.old) result tokens.new }
 {
     if tokens.peek_is(&[Kind::Distinct]) {
         tokens.expect(Kind::Distinct)?;
@@ -73,9 +74,9 @@ fn duplicates(parser: Parser, tokens: &mut Tokens<'_>) -> Result<Duplicates, Fau
     Ok(Duplicates::Kept)
 }
 
-#[tactic(auto, unfolding(qs_syntax_tree::specs::Rules::item))]
+#[tactic(auto, unfolding(qs_syntax_tree::specs::inner::Procedures::item))]
 fn item(parser: Parser, tokens: &mut Tokens<'_>) -> Result<SelectItem, Fault>
-    ensures { Reads (read grammar parser.depth rules.item tokens.old) result tokens.new }
+    ensures { Reads (read guided parser.depth procedures.item tokens.old) result tokens.new }
 {
     if tokens.peek_is(&[Kind::Var]) {
         return Ok(SelectItem::Var(parser.var(tokens)?));
@@ -85,7 +86,7 @@ fn item(parser: Parser, tokens: &mut Tokens<'_>) -> Result<SelectItem, Fault>
 }
 
 fn items(parser: Parser, tokens: &mut Tokens<'_>) -> Result<Items<SelectItem>, Fault>
-    ensures { Reads (read grammar parser.depth rules.items tokens.old) result tokens.new }
+    ensures { Reads (read guided parser.depth procedures.items tokens.old) result tokens.new }
 {
     let mut found = Items::new(parser.alloc);
     for _turn in 0..tokens.turns() {
@@ -98,9 +99,9 @@ fn items(parser: Parser, tokens: &mut Tokens<'_>) -> Result<Items<SelectItem>, F
     Err(Fault::Deep)
 }
 
-#[tactic(auto, using(crate::proofs::FirstKinds::first_item, crate::proofs::FirstKinds::nullable_item), unfolding(qs_syntax_tree::specs::Rules::projection))]
+#[tactic(auto, using(crate::proofs::FirstKinds::first_item, crate::proofs::FirstKinds::nullable_item), unfolding(qs_syntax_tree::specs::inner::Procedures::projection))]
 fn projection(parser: Parser, tokens: &mut Tokens<'_>) -> Result<Projection, Fault>
-    ensures { Reads (read grammar parser.depth rules.projection tokens.old) result tokens.new }
+    ensures { Reads (read guided parser.depth procedures.projection tokens.old) result tokens.new }
 {
     if tokens.peek_is(&[Kind::Var, Kind::LeftParen]) {
         let first = item(parser, tokens)?;
@@ -111,29 +112,31 @@ fn projection(parser: Parser, tokens: &mut Tokens<'_>) -> Result<Projection, Fau
     Ok(Projection::All)
 }
 
-#[tactic(auto, unfolding(qs_syntax_tree::specs::Rules::select_clause))]
+#[tactic(auto, unfolding(qs_syntax_tree::specs::inner::Procedures::select_clause))]
 fn select_clause(parser: Parser, tokens: &mut Tokens<'_>) -> Result<(Duplicates, Projection), Fault>
-    ensures { Reads (read grammar parser.depth rules.select_clause tokens.old) result tokens.new }
+    ensures { Reads (read guided parser.depth procedures.select_clause tokens.old) result
+        tokens.new }
 {
     tokens.expect(Kind::Select)?;
     let duplicates = duplicates(parser, tokens)?;
     Ok((duplicates, projection(parser, tokens)?))
 }
 
-#[tactic(auto, unfolding(qs_syntax_tree::specs::Rules::where_modifiers))]
+#[tactic(auto, unfolding(qs_syntax_tree::specs::inner::Procedures::where_modifiers))]
 fn where_modifiers(
     parser: Parser,
     tokens: &mut Tokens<'_>,
 ) -> Result<(Group, SolutionModifiers), Fault>
-    ensures { Reads (read grammar parser.depth rules.where_modifiers tokens.old) result tokens.new }
+    ensures { Reads (read guided parser.depth procedures.where_modifiers tokens.old) result
+        tokens.new }
 {
     let pattern = where_clause(parser, tokens)?;
     keep_beside(pattern, modifiers(parser, tokens))
 }
 
-#[tactic(auto, unfolding(qs_syntax_tree::specs::Rules::select))]
+#[tactic(auto, unfolding(qs_syntax_tree::specs::inner::Procedures::select))]
 fn select(parser: Parser, tokens: &mut Tokens<'_>) -> Result<Select, Fault>
-    ensures { Reads (read grammar parser.depth rules.select tokens.old) result tokens.new }
+    ensures { Reads (read guided parser.depth procedures.select tokens.old) result tokens.new }
 {
     let clause = select_clause(parser, tokens)?;
     let ((duplicates, projection), (pattern, modifiers)) = keep_beside(
@@ -148,9 +151,10 @@ fn select(parser: Parser, tokens: &mut Tokens<'_>) -> Result<Select, Fault>
     })
 }
 
-#[tactic(auto, unfolding(qs_syntax_tree::specs::Rules::long_construct))]
+#[tactic(auto, unfolding(qs_syntax_tree::specs::inner::Procedures::long_construct))]
 fn long_construct(parser: Parser, tokens: &mut Tokens<'_>) -> Result<Construct, Fault>
-    ensures { Reads (read grammar parser.depth rules.long_construct tokens.old) result tokens.new }
+    ensures { Reads (read guided parser.depth procedures.long_construct tokens.old) result
+        tokens.new }
 {
     let template = template_braces(parser, tokens)?;
     let (template, (pattern, modifiers)) = keep_beside(template, where_modifiers(parser, tokens))?;
@@ -161,9 +165,10 @@ fn long_construct(parser: Parser, tokens: &mut Tokens<'_>) -> Result<Construct, 
     })
 }
 
-#[tactic(auto, unfolding(qs_syntax_tree::specs::Rules::short_construct))]
+#[tactic(auto, unfolding(qs_syntax_tree::specs::inner::Procedures::short_construct))]
 fn short_construct(parser: Parser, tokens: &mut Tokens<'_>) -> Result<Construct, Fault>
-    ensures { Reads (read grammar parser.depth rules.short_construct tokens.old) result tokens.new }
+    ensures { Reads (read guided parser.depth procedures.short_construct tokens.old) result
+        tokens.new }
 {
     tokens.expect(Kind::Where)?;
     let template = template_braces(parser, tokens)?;
@@ -175,9 +180,9 @@ fn short_construct(parser: Parser, tokens: &mut Tokens<'_>) -> Result<Construct,
     })
 }
 
-#[tactic(auto, using(crate::proofs::FirstKinds::first_long_construct), unfolding(qs_syntax_tree::specs::Rules::construct))]
+#[tactic(auto, using(crate::proofs::FirstKinds::first_long_construct), unfolding(qs_syntax_tree::specs::inner::Procedures::construct))]
 fn construct(parser: Parser, tokens: &mut Tokens<'_>) -> Result<Construct, Fault>
-    ensures { Reads (read grammar parser.depth rules.construct tokens.old) result tokens.new }
+    ensures { Reads (read guided parser.depth procedures.construct tokens.old) result tokens.new }
 {
     tokens.expect(Kind::Construct)?;
     if tokens.peek_is(&[Kind::LeftBrace]) {
@@ -186,18 +191,18 @@ fn construct(parser: Parser, tokens: &mut Tokens<'_>) -> Result<Construct, Fault
     short_construct(parser, tokens)
 }
 
-#[tactic(auto, unfolding(qs_syntax_tree::specs::Rules::ask))]
+#[tactic(auto, unfolding(qs_syntax_tree::specs::inner::Procedures::ask))]
 fn ask(parser: Parser, tokens: &mut Tokens<'_>) -> Result<Ask, Fault>
-    ensures { Reads (read grammar parser.depth rules.ask tokens.old) result tokens.new }
+    ensures { Reads (read guided parser.depth procedures.ask tokens.old) result tokens.new }
 {
     tokens.expect(Kind::Ask)?;
     let (pattern, modifiers) = where_modifiers(parser, tokens)?;
     Ok(Ask { pattern, modifiers })
 }
 
-#[tactic(auto, using(crate::proofs::FirstKinds::first_select, crate::proofs::FirstKinds::first_construct), unfolding(qs_syntax_tree::specs::Rules::query_form))]
+#[tactic(auto, using(crate::proofs::FirstKinds::first_select, crate::proofs::FirstKinds::first_construct), unfolding(qs_syntax_tree::specs::inner::Procedures::query_form))]
 fn query_form(parser: Parser, tokens: &mut Tokens<'_>) -> Result<QueryForm, Fault>
-    ensures { Reads (read grammar parser.depth rules.query_form tokens.old) result tokens.new }
+    ensures { Reads (read guided parser.depth procedures.query_form tokens.old) result tokens.new }
 {
     if tokens.peek_is(&[Kind::Select]) {
         return Ok(QueryForm::Select(select(parser, tokens)?));
@@ -209,9 +214,9 @@ fn query_form(parser: Parser, tokens: &mut Tokens<'_>) -> Result<QueryForm, Faul
 }
 
 /// A query ([2]).
-#[tactic(auto, using(crate::proofs::FirstKinds::first_values), unfolding(qs_syntax_tree::specs::Rules::query))]
+#[tactic(auto, using(crate::proofs::FirstKinds::first_values), unfolding(qs_syntax_tree::specs::inner::Procedures::query))]
 pub fn query(parser: Parser, tokens: &mut Tokens<'_>) -> Result<Query, Fault>
-    ensures { Reads (read grammar parser.depth rules.query tokens.old) result tokens.new }
+    ensures { Reads (read guided parser.depth procedures.query tokens.old) result tokens.new }
 {
     let prologue = prologue(parser, tokens)?;
     let head = keep_beside(prologue, query_form(parser, tokens))?;

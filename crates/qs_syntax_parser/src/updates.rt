@@ -6,7 +6,8 @@ ghost use Rattle.qs_syntax_tree.specs.Trees.{steps_of};
 ghost use Rattle.qs_syntax_grammar.specs.inner.Grammar.{read};
 ghost use Rattle.qs_syntax_grammar.specs.inner.Reading.{Reads};
 ghost use Rattle.qs_syntax_tree.specs.Rules as rules;
-ghost use Rattle.qs_syntax_tree.specs.Table.{grammar};
+ghost use Rattle.qs_syntax_tree.specs.inner.Procedures as procedures;
+ghost use Rattle.qs_syntax_tree.specs.inner.Table.{guided};
 
 use crate::queries;
 use qs_base::keep_beside;
@@ -26,17 +27,18 @@ use qs_syntax_tree::update::{
 use qs_syntax_triples::quads::quads;
 use sqlite_items::Items;
 
-#[tactic(auto, unfolding(qs_syntax_tree::specs::Rules::where_group))]
+#[tactic(auto, unfolding(qs_syntax_tree::specs::inner::Procedures::where_group))]
 fn where_group(parser: Parser, tokens: &mut Tokens<'_>) -> Result<Group, Fault>
-    ensures { Reads (read grammar parser.depth rules.where_group tokens.old) result tokens.new }
+    ensures { Reads (read guided parser.depth procedures.where_group tokens.old) result tokens.new }
 {
     tokens.expect(Kind::Where)?;
     group(parser, tokens)
 }
 
-#[tactic(auto, unfolding(qs_syntax_tree::specs::Rules::insert_clause))]
+#[tactic(auto, unfolding(qs_syntax_tree::specs::inner::Procedures::insert_clause))]
 fn insert_clause(parser: Parser, tokens: &mut Tokens<'_>) -> Result<Option<QuadPattern>, Fault>
-    ensures { Reads (read grammar parser.depth rules.insert_clause tokens.old) result tokens.new }
+    ensures { Reads (read guided parser.depth procedures.insert_clause tokens.old) result
+        tokens.new }
 {
     if tokens.peek_is(&[Kind::Insert]) {
         tokens.expect(Kind::Insert)?;
@@ -45,9 +47,9 @@ fn insert_clause(parser: Parser, tokens: &mut Tokens<'_>) -> Result<Option<QuadP
     Ok(None)
 }
 
-#[tactic(auto, unfolding(qs_syntax_tree::specs::Rules::insert))]
+#[tactic(auto, unfolding(qs_syntax_tree::specs::inner::Procedures::insert))]
 fn insert(parser: Parser, tokens: &mut Tokens<'_>) -> Result<Operation, Fault>
-    ensures { Reads (read grammar parser.depth rules.insert tokens.old) result tokens.new }
+    ensures { Reads (read guided parser.depth procedures.insert tokens.old) result tokens.new }
 {
     tokens.expect(Kind::Insert)?;
     if tokens.peek_is(&[Kind::Data]) {
@@ -64,9 +66,9 @@ fn insert(parser: Parser, tokens: &mut Tokens<'_>) -> Result<Operation, Fault>
     }))
 }
 
-#[tactic(auto, unfolding(qs_syntax_tree::specs::Rules::delete))]
+#[tactic(auto, unfolding(qs_syntax_tree::specs::inner::Procedures::delete))]
 fn delete(parser: Parser, tokens: &mut Tokens<'_>) -> Result<Operation, Fault>
-    ensures { Reads (read grammar parser.depth rules.delete tokens.old) result tokens.new }
+    ensures { Reads (read guided parser.depth procedures.delete tokens.old) result tokens.new }
 {
     tokens.expect(Kind::Delete)?;
     if tokens.peek_is(&[Kind::Data]) {
@@ -88,12 +90,12 @@ fn delete(parser: Parser, tokens: &mut Tokens<'_>) -> Result<Operation, Fault>
     }))
 }
 
-#[tactic(auto, unfolding(qs_syntax_tree::specs::Rules::changes))]
+#[tactic(auto, unfolding(qs_syntax_tree::specs::inner::Procedures::changes))]
 fn changes(
     parser: Parser,
     tokens: &mut Tokens<'_>,
 ) -> Result<(Option<QuadPattern>, Option<QuadPattern>), Fault>
-    ensures { Reads (read grammar parser.depth rules.changes tokens.old) result tokens.new }
+    ensures { Reads (read guided parser.depth procedures.changes tokens.old) result tokens.new }
 {
     if tokens.peek_is(&[Kind::Delete]) {
         tokens.expect(Kind::Delete)?;
@@ -105,17 +107,17 @@ fn changes(
     Ok((None, Some(quads(parser, tokens)?)))
 }
 
-#[tactic(auto, unfolding(qs_syntax_tree::specs::Rules::with_clause))]
+#[tactic(auto, unfolding(qs_syntax_tree::specs::inner::Procedures::with_clause))]
 fn with_clause(parser: Parser, tokens: &mut Tokens<'_>) -> Result<Iri, Fault>
-    ensures { Reads (read grammar parser.depth rules.with_clause tokens.old) result tokens.new }
+    ensures { Reads (read guided parser.depth procedures.with_clause tokens.old) result tokens.new }
 {
     tokens.expect(Kind::With)?;
     parser.iri(tokens)
 }
 
-#[tactic(auto, unfolding(qs_syntax_tree::specs::Rules::with_graph))]
+#[tactic(auto, unfolding(qs_syntax_tree::specs::inner::Procedures::with_graph))]
 fn with_graph(parser: Parser, tokens: &mut Tokens<'_>) -> Result<Operation, Fault>
-    ensures { Reads (read grammar parser.depth rules.with_graph tokens.old) result tokens.new }
+    ensures { Reads (read guided parser.depth procedures.with_graph tokens.old) result tokens.new }
 {
     let with = with_clause(parser, tokens)?;
     let changes = changes(parser, tokens)?;
@@ -130,7 +132,7 @@ fn with_graph(parser: Parser, tokens: &mut Tokens<'_>) -> Result<Operation, Faul
 
 #[tactic(auto, unfolding(qs_syntax_tree::specs::Rules::silent))]
 fn silent(parser: Parser, tokens: &mut Tokens<'_>) -> Result<OnMissing, Fault>
-    ensures { Reads (read grammar parser.depth rules.silent tokens.old) result tokens.new }
+    ensures { Reads (read guided parser.depth rules.silent tokens.old) result tokens.new }
 {
     if tokens.peek_is(&[Kind::Silent]) {
         tokens.expect(Kind::Silent)?;
@@ -141,7 +143,7 @@ fn silent(parser: Parser, tokens: &mut Tokens<'_>) -> Result<OnMissing, Fault>
 
 #[tactic(auto, unfolding(qs_syntax_tree::specs::Rules::target))]
 fn target(parser: Parser, tokens: &mut Tokens<'_>) -> Result<GraphTarget, Fault>
-    ensures { Reads (read grammar parser.depth rules.target tokens.old) result tokens.new }
+    ensures { Reads (read guided parser.depth rules.target tokens.old) result tokens.new }
 {
     if tokens.peek_is(&[Kind::Graph]) {
         tokens.expect(Kind::Graph)?;
@@ -161,7 +163,7 @@ fn target(parser: Parser, tokens: &mut Tokens<'_>) -> Result<GraphTarget, Fault>
 
 #[tactic(auto, unfolding(qs_syntax_tree::specs::Rules::graph_or_default))]
 fn graph_or_default(parser: Parser, tokens: &mut Tokens<'_>) -> Result<GraphOrDefault, Fault>
-    ensures { Reads (read grammar parser.depth rules.graph_or_default tokens.old) result
+    ensures { Reads (read guided parser.depth rules.graph_or_default tokens.old) result
         tokens.new }
 {
     if tokens.peek_is(&[Kind::Default]) {
@@ -176,7 +178,7 @@ fn graph_or_default(parser: Parser, tokens: &mut Tokens<'_>) -> Result<GraphOrDe
 
 #[tactic(auto, unfolding(qs_syntax_tree::specs::Rules::transfer))]
 fn transfer(parser: Parser, tokens: &mut Tokens<'_>) -> Result<Transfer, Fault>
-    ensures { Reads (read grammar parser.depth rules.transfer tokens.old) result tokens.new }
+    ensures { Reads (read guided parser.depth rules.transfer tokens.old) result tokens.new }
 {
     let on_missing = silent(parser, tokens)?;
     let from = graph_or_default(parser, tokens)?;
@@ -189,9 +191,9 @@ fn transfer(parser: Parser, tokens: &mut Tokens<'_>) -> Result<Transfer, Fault>
     })
 }
 
-#[tactic(auto, unfolding(qs_syntax_tree::specs::Rules::clear))]
+#[tactic(auto, unfolding(qs_syntax_tree::specs::inner::Procedures::clear))]
 fn clear(parser: Parser, tokens: &mut Tokens<'_>) -> Result<Operation, Fault>
-    ensures { Reads (read grammar parser.depth rules.clear tokens.old) result tokens.new }
+    ensures { Reads (read guided parser.depth procedures.clear tokens.old) result tokens.new }
 {
     tokens.expect(Kind::Clear)?;
     let silent = silent(parser, tokens)?;
@@ -199,9 +201,9 @@ fn clear(parser: Parser, tokens: &mut Tokens<'_>) -> Result<Operation, Fault>
     Ok(Operation::Clear(silent, target))
 }
 
-#[tactic(auto, unfolding(qs_syntax_tree::specs::Rules::drop_graph))]
+#[tactic(auto, unfolding(qs_syntax_tree::specs::inner::Procedures::drop_graph))]
 fn drop_graph(parser: Parser, tokens: &mut Tokens<'_>) -> Result<Operation, Fault>
-    ensures { Reads (read grammar parser.depth rules.drop_graph tokens.old) result tokens.new }
+    ensures { Reads (read guided parser.depth procedures.drop_graph tokens.old) result tokens.new }
 {
     tokens.expect(Kind::Drop)?;
     let silent = silent(parser, tokens)?;
@@ -209,9 +211,9 @@ fn drop_graph(parser: Parser, tokens: &mut Tokens<'_>) -> Result<Operation, Faul
     Ok(Operation::Drop(silent, target))
 }
 
-#[tactic(auto, unfolding(qs_syntax_tree::specs::Rules::create))]
+#[tactic(auto, unfolding(qs_syntax_tree::specs::inner::Procedures::create))]
 fn create(parser: Parser, tokens: &mut Tokens<'_>) -> Result<Operation, Fault>
-    ensures { Reads (read grammar parser.depth rules.create tokens.old) result tokens.new }
+    ensures { Reads (read guided parser.depth procedures.create tokens.old) result tokens.new }
 {
     tokens.expect(Kind::Create)?;
     let silent = silent(parser, tokens)?;
@@ -220,9 +222,9 @@ fn create(parser: Parser, tokens: &mut Tokens<'_>) -> Result<Operation, Fault>
     Ok(Operation::Create(silent, graph))
 }
 
-#[tactic(auto, unfolding(qs_syntax_tree::specs::Rules::from_graph_to_graph))]
+#[tactic(auto, unfolding(qs_syntax_tree::specs::inner::Procedures::from_graph_to_graph))]
 fn from_graph_to_graph(parser: Parser, tokens: &mut Tokens<'_>) -> Result<Operation, Fault>
-    ensures { Reads (read grammar parser.depth rules.from_graph_to_graph tokens.old) result
+    ensures { Reads (read guided parser.depth procedures.from_graph_to_graph tokens.old) result
         tokens.new }
 {
     if tokens.peek_is(&[Kind::Add]) {
@@ -240,9 +242,10 @@ fn from_graph_to_graph(parser: Parser, tokens: &mut Tokens<'_>) -> Result<Operat
     Ok(Operation::Copy(transfer))
 }
 
-#[tactic(auto, using(crate::proofs::FirstKinds::first_clear, crate::proofs::FirstKinds::first_drop_graph, crate::proofs::FirstKinds::first_create), unfolding(qs_syntax_tree::specs::Rules::graph_operation))]
+#[tactic(auto, using(crate::proofs::FirstKinds::first_clear, crate::proofs::FirstKinds::first_drop_graph, crate::proofs::FirstKinds::first_create), unfolding(qs_syntax_tree::specs::inner::Procedures::graph_operation))]
 fn graph_operation(parser: Parser, tokens: &mut Tokens<'_>) -> Result<Operation, Fault>
-    ensures { Reads (read grammar parser.depth rules.graph_operation tokens.old) result tokens.new }
+    ensures { Reads (read guided parser.depth procedures.graph_operation tokens.old) result
+        tokens.new }
 {
     if tokens.peek_is(&[Kind::Clear]) {
         return clear(parser, tokens);
@@ -256,9 +259,9 @@ fn graph_operation(parser: Parser, tokens: &mut Tokens<'_>) -> Result<Operation,
     from_graph_to_graph(parser, tokens)
 }
 
-#[tactic(auto, using(crate::proofs::FirstKinds::first_insert, crate::proofs::FirstKinds::first_delete, crate::proofs::FirstKinds::first_with_graph), unfolding(qs_syntax_tree::specs::Rules::operation))]
+#[tactic(auto, using(crate::proofs::FirstKinds::first_insert, crate::proofs::FirstKinds::first_delete, crate::proofs::FirstKinds::first_with_graph), unfolding(qs_syntax_tree::specs::inner::Procedures::operation))]
 fn operation(parser: Parser, tokens: &mut Tokens<'_>) -> Result<Operation, Fault>
-    ensures { Reads (read grammar parser.depth rules.operation tokens.old) result tokens.new }
+    ensures { Reads (read guided parser.depth procedures.operation tokens.old) result tokens.new }
 {
     if tokens.peek_is(&[Kind::Insert]) {
         return insert(parser, tokens);
@@ -278,7 +281,7 @@ fn steps_from(
     prologue: Items<PrefixDeclaration>,
     tokens: &mut Tokens<'_>,
 ) -> Result<Items<UpdateStep>, Fault>
-    ensures { Reads (and_then (read grammar parser.depth rules.operations_rule tokens.old)
+    ensures { Reads (and_then (read guided parser.depth procedures.operations_rule tokens.old)
         (λ x s. Ok (steps_of (prologue, Some x), s))) result tokens.new }
 {
     let mut found = Items::new(parser.alloc);
@@ -310,9 +313,9 @@ fn steps_from(
 }
 
 /// An update ([29]).
-#[tactic(auto, using(crate::proofs::FirstKinds::first_operations_rule), unfolding(qs_syntax_tree::specs::Rules::update))]
+#[tactic(auto, using(crate::proofs::FirstKinds::first_operations_rule), unfolding(qs_syntax_tree::specs::inner::Procedures::update))]
 pub fn update(parser: Parser, tokens: &mut Tokens<'_>) -> Result<Update, Fault>
-    ensures { Reads (read grammar parser.depth rules.update tokens.old) result tokens.new }
+    ensures { Reads (read guided parser.depth procedures.update tokens.old) result tokens.new }
 {
     let prologue = queries::prologue(parser, tokens)?;
     let mut steps = Items::new(parser.alloc);

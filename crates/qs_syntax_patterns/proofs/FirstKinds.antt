@@ -2,8 +2,9 @@
 use Rattle.std.proofs.Common.{◌≡◌, false, [], ◌∷◌, refl}
 use Rattle.qs_syntax_grammar.specs.inner.Reading.{first, nullable}
 use Rattle.qs_syntax_tree.specs.declared.kind.Kind.TheVariants as k
-use Rattle.qs_syntax_tree.specs.Table.{firsts}
-use Rattle.qs_syntax_tree.specs.Rules.{binary_function, call, constraint, groups, limit, offset, parenthesized, unary_function}
+use Rattle.qs_syntax_tree.specs.inner.Table.{firsts}
+use Rattle.qs_syntax_tree.specs.Rules.{binary_function, limit, offset, parenthesized, unary_function}
+use Rattle.qs_syntax_tree.specs.inner.Procedures.{call, constraint, groups}
 
 pub first_groups : first firsts groups ≡ k.LeftBrace ∷ []
 unfolding groups

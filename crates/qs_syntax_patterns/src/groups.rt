@@ -4,8 +4,9 @@ ghost use Rattle.qs_syntax_grammar.specs.inner.Grammar.{read};
 ghost use Rattle.qs_syntax_grammar.specs.inner.Reading.{Reads};
 ghost use Rattle.qs_syntax_grammar.specs.Rule.{ref};
 ghost use Rattle.qs_syntax_tree.specs.Rules as rules;
+ghost use Rattle.qs_syntax_tree.specs.inner.Procedures as procedures;
 ghost use Rattle.qs_syntax_tree.specs.Sparql as name;
-ghost use Rattle.qs_syntax_tree.specs.Table.{grammar};
+ghost use Rattle.qs_syntax_tree.specs.inner.Table.{guided};
 
 use qs_base::keep_beside;
 use qs_syntax_expressions::expressions::{call, expression, parenthesized_expression};
@@ -24,9 +25,9 @@ use qs_syntax_triples::triples::triples;
 use sqlite_items::Items;
 
 /// A constraint: an expression in parentheses, or a call ([69]).
-#[tactic(auto, using(qs_syntax_expressions::proofs::FirstKinds::first_parenthesized), unfolding(qs_syntax_tree::specs::Rules::constraint))]
+#[tactic(auto, using(qs_syntax_expressions::proofs::FirstKinds::first_parenthesized), unfolding(qs_syntax_tree::specs::inner::Procedures::constraint))]
 pub fn constraint(parser: Parser, tokens: &mut Tokens<'_>) -> Result<Expression, Fault>
-    ensures { Reads (read grammar parser.depth rules.constraint tokens.old) result tokens.new }
+    ensures { Reads (read guided parser.depth procedures.constraint tokens.old) result tokens.new }
 {
     if tokens.peek_is(&[Kind::LeftParen]) {
         return parenthesized_expression(parser, tokens);
@@ -34,9 +35,9 @@ pub fn constraint(parser: Parser, tokens: &mut Tokens<'_>) -> Result<Expression,
     Ok(Expression::Call(call(parser, tokens)?))
 }
 
-#[tactic(auto, unfolding(qs_syntax_tree::specs::Rules::expression_as_var))]
+#[tactic(auto, unfolding(qs_syntax_tree::specs::inner::Procedures::expression_as_var))]
 fn expression_as_var(parser: Parser, tokens: &mut Tokens<'_>) -> Result<(Expression, Span), Fault>
-    ensures { Reads (read grammar parser.depth rules.expression_as_var tokens.old) result
+    ensures { Reads (read guided parser.depth procedures.expression_as_var tokens.old) result
         tokens.new }
 {
     let expression = expression(parser, tokens)?;
@@ -45,12 +46,12 @@ fn expression_as_var(parser: Parser, tokens: &mut Tokens<'_>) -> Result<(Express
 }
 
 /// `(e AS ?v)` ([9], [60]).
-#[tactic(auto, unfolding(qs_syntax_tree::specs::Rules::named_expression))]
+#[tactic(auto, unfolding(qs_syntax_tree::specs::inner::Procedures::named_expression))]
 pub fn named_expression(
     parser: Parser,
     tokens: &mut Tokens<'_>,
 ) -> Result<(Expression, Span), Fault>
-    ensures { Reads (read grammar parser.depth rules.named_expression tokens.old) result
+    ensures { Reads (read guided parser.depth procedures.named_expression tokens.old) result
         tokens.new }
 {
     tokens.expect(Kind::LeftParen)?;
@@ -60,7 +61,7 @@ pub fn named_expression(
 
 #[tactic(auto, unfolding(qs_syntax_tree::specs::Rules::block))]
 fn block(parser: Parser, tokens: &mut Tokens<'_>) -> Result<Items<Element>, Fault>
-    ensures { Reads (read grammar parser.depth rules.block tokens.old) result tokens.new }
+    ensures { Reads (read guided parser.depth rules.block tokens.old) result tokens.new }
 {
     let mut found = Items::new(parser.alloc);
     if !tokens.peek_is(&NODES) {
@@ -77,7 +78,7 @@ fn block(parser: Parser, tokens: &mut Tokens<'_>) -> Result<Items<Element>, Faul
 
 #[cycle(group)]
 fn more_groups(parser: Parser, tokens: &mut Tokens<'_>) -> Result<Items<Group>, Fault>
-    ensures { Reads (read grammar parser.depth rules.more_groups tokens.old) result tokens.new }
+    ensures { Reads (read guided parser.depth procedures.more_groups tokens.old) result tokens.new }
 {
     let mut found = Items::new(parser.alloc);
     for _turn in 0..tokens.turns() {
@@ -92,9 +93,9 @@ fn more_groups(parser: Parser, tokens: &mut Tokens<'_>) -> Result<Items<Group>, 
 }
 
 #[cycle(group)]
-#[tactic(auto, unfolding(qs_syntax_tree::specs::Rules::groups))]
+#[tactic(auto, unfolding(qs_syntax_tree::specs::inner::Procedures::groups))]
 fn groups(parser: Parser, tokens: &mut Tokens<'_>) -> Result<Items<Group>, Fault>
-    ensures { Reads (read grammar parser.depth rules.groups tokens.old) result tokens.new }
+    ensures { Reads (read guided parser.depth procedures.groups tokens.old) result tokens.new }
 {
     let first = group(parser, tokens)?;
     let (first, others) = keep_beside(first, more_groups(parser, tokens))?;
@@ -102,9 +103,9 @@ fn groups(parser: Parser, tokens: &mut Tokens<'_>) -> Result<Items<Group>, Fault
 }
 
 #[cycle(group)]
-#[tactic(auto, using(crate::proofs::FirstKinds::first_groups), unfolding(qs_syntax_tree::specs::Rules::element))]
+#[tactic(auto, using(crate::proofs::FirstKinds::first_groups), unfolding(qs_syntax_tree::specs::inner::Procedures::element))]
 fn element(parser: Parser, tokens: &mut Tokens<'_>) -> Result<GraphPattern, Fault>
-    ensures { Reads (read grammar parser.depth rules.element tokens.old) result tokens.new }
+    ensures { Reads (read guided parser.depth procedures.element tokens.old) result tokens.new }
 {
     if tokens.peek_is(&[Kind::LeftBrace]) {
         return Ok(GraphPattern::Union(groups(parser, tokens)?));
@@ -135,9 +136,10 @@ fn element(parser: Parser, tokens: &mut Tokens<'_>) -> Result<GraphPattern, Faul
 }
 
 #[cycle(group)]
-#[tactic(auto, unfolding(qs_syntax_tree::specs::Rules::dotted_element))]
+#[tactic(auto, unfolding(qs_syntax_tree::specs::inner::Procedures::dotted_element))]
 fn dotted_element(parser: Parser, tokens: &mut Tokens<'_>) -> Result<Element, Fault>
-    ensures { Reads (read grammar parser.depth rules.dotted_element tokens.old) result tokens.new }
+    ensures { Reads (read guided parser.depth procedures.dotted_element tokens.old) result
+        tokens.new }
 {
     let place = tokens.place();
     let mut pattern = element(parser, tokens)?;
@@ -148,9 +150,9 @@ fn dotted_element(parser: Parser, tokens: &mut Tokens<'_>) -> Result<Element, Fa
 }
 
 #[cycle(group)]
-#[tactic(auto, unfolding(qs_syntax_tree::specs::Rules::group_step))]
+#[tactic(auto, unfolding(qs_syntax_tree::specs::inner::Procedures::group_step))]
 fn group_step(parser: Parser, tokens: &mut Tokens<'_>) -> Result<Items<Element>, Fault>
-    ensures { Reads (read grammar parser.depth rules.group_step tokens.old) result tokens.new }
+    ensures { Reads (read guided parser.depth procedures.group_step tokens.old) result tokens.new }
 {
     let first = dotted_element(parser, tokens)?;
     let (first, block) = keep_beside(first, block(parser, tokens))?;
@@ -159,7 +161,7 @@ fn group_step(parser: Parser, tokens: &mut Tokens<'_>) -> Result<Items<Element>,
 
 #[cycle(group)]
 fn group_steps(parser: Parser, tokens: &mut Tokens<'_>) -> Result<Items<Element>, Fault>
-    ensures { Reads (read grammar parser.depth rules.group_steps tokens.old) result tokens.new }
+    ensures { Reads (read guided parser.depth procedures.group_steps tokens.old) result tokens.new }
 {
     let mut found = Items::new(parser.alloc);
     for _turn in 0..tokens.turns() {
@@ -173,9 +175,9 @@ fn group_steps(parser: Parser, tokens: &mut Tokens<'_>) -> Result<Items<Element>
 }
 
 #[cycle(group)]
-#[tactic(auto, unfolding(qs_syntax_tree::specs::Rules::elements))]
+#[tactic(auto, unfolding(qs_syntax_tree::specs::inner::Procedures::elements))]
 fn elements(parser: Parser, tokens: &mut Tokens<'_>) -> Result<Items<Element>, Fault>
-    ensures { Reads (read grammar parser.depth rules.elements tokens.old) result tokens.new }
+    ensures { Reads (read guided parser.depth procedures.elements tokens.old) result tokens.new }
 {
     let first = block(parser, tokens)?;
     let (mut found, others) = keep_beside(first, group_steps(parser, tokens))?;
@@ -184,9 +186,9 @@ fn elements(parser: Parser, tokens: &mut Tokens<'_>) -> Result<Items<Element>, F
 }
 
 #[cycle(group)]
-#[tactic(auto, unfolding(qs_syntax_tree::specs::Rules::group_rule))]
+#[tactic(auto, unfolding(qs_syntax_tree::specs::inner::Procedures::group_rule))]
 fn braced_group(parser: Parser, tokens: &mut Tokens<'_>) -> Result<Group, Fault>
-    ensures { Reads (read grammar parser.depth rules.group_rule tokens.old) result tokens.new }
+    ensures { Reads (read guided parser.depth procedures.group_rule tokens.old) result tokens.new }
 {
     let place = tokens.place();
     tokens.expect(Kind::LeftBrace)?;
@@ -197,9 +199,9 @@ fn braced_group(parser: Parser, tokens: &mut Tokens<'_>) -> Result<Group, Fault>
 
 /// A group graph pattern ([53]).
 #[cycle(group)]
-#[tactic(auto, unfolding(qs_syntax_tree::specs::Table::rule))]
+#[tactic(auto, unfolding(qs_syntax_tree::specs::inner::Table::rule))]
 pub fn group(parser: Parser, tokens: &mut Tokens<'_>) -> Result<Group, Fault>
-    ensures { Reads (read grammar parser.depth (ref name.group) tokens.old) result tokens.new }
+    ensures { Reads (read guided parser.depth (ref name.group) tokens.old) result tokens.new }
 {
     if parser.depth == 0 {
         return Err(Fault::Deep);

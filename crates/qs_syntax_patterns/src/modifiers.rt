@@ -3,7 +3,8 @@
 ghost use Rattle.qs_syntax_grammar.specs.inner.Grammar.{read};
 ghost use Rattle.qs_syntax_grammar.specs.inner.Reading.{Reads};
 ghost use Rattle.qs_syntax_tree.specs.Rules as rules;
-ghost use Rattle.qs_syntax_tree.specs.Table.{grammar};
+ghost use Rattle.qs_syntax_tree.specs.inner.Procedures as procedures;
+ghost use Rattle.qs_syntax_tree.specs.inner.Table.{guided};
 
 use crate::groups::constraint;
 use qs_base::keep_beside;
@@ -19,9 +20,9 @@ use qs_syntax_tree::query::{Direction, OrderCondition, SolutionModifiers};
 use qs_syntax_tree::token::Span;
 use sqlite_items::Items;
 
-#[tactic(auto, using(crate::proofs::FirstKinds::first_constraint), unfolding(qs_syntax_tree::specs::Rules::order))]
+#[tactic(auto, using(crate::proofs::FirstKinds::first_constraint), unfolding(qs_syntax_tree::specs::inner::Procedures::order))]
 fn order(parser: Parser, tokens: &mut Tokens<'_>) -> Result<OrderCondition, Fault>
-    ensures { Reads (read grammar parser.depth rules.order tokens.old) result tokens.new }
+    ensures { Reads (read guided parser.depth procedures.order tokens.old) result tokens.new }
 {
     if tokens.peek_is(&[Kind::Asc]) {
         tokens.expect(Kind::Asc)?;
@@ -54,7 +55,7 @@ fn order(parser: Parser, tokens: &mut Tokens<'_>) -> Result<OrderCondition, Faul
 }
 
 fn orders(parser: Parser, tokens: &mut Tokens<'_>) -> Result<Items<OrderCondition>, Fault>
-    ensures { Reads (read grammar parser.depth rules.orders tokens.old) result tokens.new }
+    ensures { Reads (read guided parser.depth procedures.orders tokens.old) result tokens.new }
 {
     let mut found = Items::new(parser.alloc);
     for _turn in 0..tokens.turns() {
@@ -67,18 +68,19 @@ fn orders(parser: Parser, tokens: &mut Tokens<'_>) -> Result<Items<OrderConditio
     Err(Fault::Deep)
 }
 
-#[tactic(auto, unfolding(qs_syntax_tree::specs::Rules::order_list))]
+#[tactic(auto, unfolding(qs_syntax_tree::specs::inner::Procedures::order_list))]
 fn order_list(parser: Parser, tokens: &mut Tokens<'_>) -> Result<Items<OrderCondition>, Fault>
-    ensures { Reads (read grammar parser.depth rules.order_list tokens.old) result tokens.new }
+    ensures { Reads (read guided parser.depth procedures.order_list tokens.old) result tokens.new }
 {
     let first = order(parser, tokens)?;
     let (first, others) = keep_beside(first, orders(parser, tokens))?;
     Ok(all_of(parser.alloc, first, others)?)
 }
 
-#[tactic(auto, unfolding(qs_syntax_tree::specs::Rules::order_clause))]
+#[tactic(auto, unfolding(qs_syntax_tree::specs::inner::Procedures::order_clause))]
 fn order_clause(parser: Parser, tokens: &mut Tokens<'_>) -> Result<Items<OrderCondition>, Fault>
-    ensures { Reads (read grammar parser.depth rules.order_clause tokens.old) result tokens.new }
+    ensures { Reads (read guided parser.depth procedures.order_clause tokens.old) result
+        tokens.new }
 {
     if !tokens.peek_is(&[Kind::Order]) {
         return Ok(Items::new(parser.alloc));
@@ -90,7 +92,7 @@ fn order_clause(parser: Parser, tokens: &mut Tokens<'_>) -> Result<Items<OrderCo
 
 #[tactic(auto, unfolding(qs_syntax_tree::specs::Rules::limit))]
 fn limit(parser: Parser, tokens: &mut Tokens<'_>) -> Result<Span, Fault>
-    ensures { Reads (read grammar parser.depth rules.limit tokens.old) result tokens.new }
+    ensures { Reads (read guided parser.depth rules.limit tokens.old) result tokens.new }
 {
     tokens.expect(Kind::Limit)?;
     Ok(tokens.expect(Kind::Integer)?.span)
@@ -98,7 +100,7 @@ fn limit(parser: Parser, tokens: &mut Tokens<'_>) -> Result<Span, Fault>
 
 #[tactic(auto, unfolding(qs_syntax_tree::specs::Rules::offset))]
 fn offset(parser: Parser, tokens: &mut Tokens<'_>) -> Result<Span, Fault>
-    ensures { Reads (read grammar parser.depth rules.offset tokens.old) result tokens.new }
+    ensures { Reads (read guided parser.depth rules.offset tokens.old) result tokens.new }
 {
     tokens.expect(Kind::Offset)?;
     Ok(tokens.expect(Kind::Integer)?.span)
@@ -106,7 +108,7 @@ fn offset(parser: Parser, tokens: &mut Tokens<'_>) -> Result<Span, Fault>
 
 #[tactic(auto, using(crate::proofs::FirstKinds::first_limit, crate::proofs::FirstKinds::first_offset, crate::proofs::FirstKinds::nullable_limit, crate::proofs::FirstKinds::nullable_offset), unfolding(qs_syntax_tree::specs::Rules::slice))]
 fn slice(parser: Parser, tokens: &mut Tokens<'_>) -> Result<(Option<Span>, Option<Span>), Fault>
-    ensures { Reads (read grammar parser.depth rules.slice tokens.old) result tokens.new }
+    ensures { Reads (read guided parser.depth rules.slice tokens.old) result tokens.new }
 {
     if tokens.peek_is(&[Kind::Limit]) {
         let limit = limit(parser, tokens)?;
@@ -126,9 +128,9 @@ fn slice(parser: Parser, tokens: &mut Tokens<'_>) -> Result<(Option<Span>, Optio
 }
 
 /// The solution modifiers after a pattern, each of which may be absent ([18]).
-#[tactic(auto, unfolding(qs_syntax_tree::specs::Rules::modifiers))]
+#[tactic(auto, unfolding(qs_syntax_tree::specs::inner::Procedures::modifiers))]
 pub fn modifiers(parser: Parser, tokens: &mut Tokens<'_>) -> Result<SolutionModifiers, Fault>
-    ensures { Reads (read grammar parser.depth rules.modifiers tokens.old) result tokens.new }
+    ensures { Reads (read guided parser.depth procedures.modifiers tokens.old) result tokens.new }
 {
     let order = order_clause(parser, tokens)?;
     let (order, (limit, offset)) = keep_beside(order, slice(parser, tokens))?;

@@ -8,7 +8,7 @@ use Rattle.qs_terms.specs.Iri.{has_scheme, is_excluded, checked_iri}
 use Rattle.qs_terms.specs.inner.Iri.{is_iri_text}
 use Rattle.qs_lex_escapes.specs.Escape.{uchar}
 use Rattle.qs_lex_escapes.specs.Decoded.{decoded, decoded_behind, unescaped}
-use Rattle.qs_syntax_resolve.specs.Names.{absolute, joined}
+use Rattle.qs_syntax_resolve.specs.inner.Names.{absolute, joined}
 
 or-parts : (a b : Bool) → (a || b) ≡ false → (a ≡ false) × (b ≡ false)
 or-parts true b e = absurd (true≢false e)

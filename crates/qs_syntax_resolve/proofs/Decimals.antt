@@ -4,7 +4,7 @@ use Rattle.std.proofs.Math.Nat.{min-eq_left, min-eq_right}
 use Rattle.std.proofs.lemmas.List.{drop_all}
 use Rattle.std.proofs.Math.Seq.{drop-cons}
 use Rattle.qs_syntax_resolve.proofs.Either.{either}
-use Rattle.qs_syntax_resolve.specs.Names.{decimal}
+use Rattle.qs_syntax_resolve.specs.inner.Names.{decimal}
 
 grows : (value : ℕ) (cs : List ℕ) → value ≤ decimal value cs
 grows value [] = omega arith

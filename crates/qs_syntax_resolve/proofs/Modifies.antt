@@ -2,7 +2,8 @@
 use Rattle.std.proofs.Common.{◌≡◌, Ok, Err, refl}
 use Rattle.qs_syntax_tree.specs.declared.update.Modify.{Modify as WrittenModify}
 use Rattle.qs_syntax_resolve.specs.Pattern.{group_of}
-use Rattle.qs_syntax_resolve.specs.Update.{modify, template, with_graph}
+use Rattle.qs_syntax_resolve.specs.Update.{modify, template}
+use Rattle.qs_syntax_resolve.specs.inner.Update.{with_graph}
 use Rattle.qs_syntax_resolve.specs.inner.Templates.{templates}
 use Rattle.qs_syntax_resolve.specs.declared.resolver.Resolver.{Resolver}
 use Rattle.qs_terms.specs.Outcome.{Outcome, and_then}

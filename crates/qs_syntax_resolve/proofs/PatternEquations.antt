@@ -14,7 +14,8 @@ use Rattle.qs_syntax_ast.specs.declared.pattern.GraphPattern.TheVariants as patt
 use Rattle.qs_syntax_resolve.specs.declared.open_group.OpenGroup.{OpenGroup}
 use Rattle.qs_syntax_resolve.specs.declared.resolver.Resolver.{Resolver}
 use Rattle.qs_syntax_resolve.specs.Leaves.{var_or_iri}
-use Rattle.qs_syntax_resolve.specs.Pattern.{Put, group_of, put, empty_group, finished}
+use Rattle.qs_syntax_resolve.specs.Pattern.{Put, group_of, put, finished}
+use Rattle.qs_syntax_resolve.specs.inner.Pattern.{empty_group}
 use Rattle.qs_syntax_resolve.specs.inner.Pattern.{pattern_of, element_of, groups, elements, triples_pattern, filter_pattern, bind_pattern, values_pattern}
 use Rattle.qs_terms.specs.Outcome.{and_then}
 use Rattle.qs_syntax_resolve.specs.Resolving.{Resolving, ◌>>=◌, pure}

@@ -5,9 +5,7 @@ use Rattle.qs_terms.specs.declared.term.Term.TheVariants as term
 use Rattle.qs_syntax_tree.specs.declared.pattern.DataValue.{DataValue}
 use Rattle.qs_syntax_tree.specs.declared.pattern.DataValue.TheVariants as written
 use Rattle.qs_syntax_tree.specs.declared.pattern.InlineData.{InlineData as WrittenData}
-use Rattle.qs_syntax_tree.specs.declared.token.Span.{Span}
 use Rattle.qs_syntax_ast.specs.declared.pattern.InlineData.{InlineData}
-use Rattle.qs_syntax_ast.specs.declared.term.Variable.{Variable}
 use Rattle.qs_syntax_resolve.specs.Leaves.{variable, iri, literal}
 use Rattle.qs_syntax_resolve.specs.Resolving.{Resolving, ◌>>=◌, ◌<$>◌, pure, all}
 
@@ -19,13 +17,7 @@ value_of written.Undefined = pure None
 unfoldable pub row_of : List DataValue → Resolving (List (Option Term))
 row_of vs = all (map value_of vs)
 
-abbrev pub rows_of : List (List DataValue) → Resolving (List (List (Option Term)))
-rows_of rows = all (map row_of rows)
-
-abbrev pub variables_of : List Span → Resolving (List Variable)
-variables_of vs = all (map variable vs)
-
 unfoldable pub inline_data : WrittenData → Resolving InlineData
 inline_data d =
-    variables_of d.variables
-    >>= (λ vs. rows_of d.rows >>= (λ rows. pure (record { variables = vs; rows = rows })))
+    all (map variable d.variables) >>= (λ vs. all (map row_of d.rows) >>= (λ rows.
+    pure (record { variables = vs; rows = rows })))

@@ -1,7 +1,7 @@
 -- Terms with their names resolved (SPARQL 1.1 Query, 4.1).
 -- Codepoint escapes are decoded in IRIs and strings, after the tokens, where the token table has
 -- them. So an escaped quotation mark ends no string.
-use Rattle.std.specs.Prelude.{ℕ, ◌+◌, false, List, [], Option, Some, None, codes, Ok}
+use Rattle.std.specs.Prelude.{ℕ, ◌+◌, false, List, [], Option, Some, None, Ok}
 use Rattle.qs_syntax_tree.specs.declared.token.Span.{Span}
 use Rattle.qs_syntax_tree.specs.declared.term.Iri.{Iri}
 use Rattle.qs_syntax_tree.specs.declared.term.Literal.{Literal as WrittenLiteral}
@@ -17,6 +17,7 @@ use Rattle.qs_syntax_ast.specs.declared.term.TermPattern.TheVariants as term
 use Rattle.qs_syntax_ast.specs.declared.term.VarOrIri.{VarOrIri}
 use Rattle.qs_syntax_ast.specs.declared.term.VarOrIri.TheVariants as name
 use Rattle.qs_terms.specs.Literal.{Literal, typed, xsd_string}
+use Rattle.qs_lex_escapes.specs.Piece.{piece}
 use Rattle.qs_syntax_resolve.specs.Names as of
 use Rattle.qs_syntax_resolve.specs.declared.resolver.Resolver.{Resolver}
 use Rattle.qs_terms.specs.Outcome.{Outcome, and_then}
@@ -32,13 +33,10 @@ abbrev pub var_or_iri : WrittenVarOrIri → Resolving VarOrIri
 var_or_iri (written_name.Var v) = name.Variable <$> variable v
 var_or_iri (written_name.Iri i) = name.Iri <$> iri i
 
--- what stands where a literal isn't lawful: the request is refused then
-abbrev pub empty_string : Literal
-empty_string = typed [] xsd_string
-
+-- Where a literal isn't lawful, an empty string stands for it: the request is refused then.
 abbrev pub settled : Option Literal → Resolver → Outcome (Literal × Resolver)
 settled (Some l) s = Ok (l, s)
-settled None s = Ok (empty_string, record s { lawful = false })
+settled None s = Ok (typed [] xsd_string, record s { lawful = false })
 
 unfoldable pub literal : WrittenLiteral → Resolving Literal
 literal l = λ s. and_then (of.literal s.names l) (λ found. settled found s)
@@ -47,8 +45,9 @@ literal l = λ s. and_then (of.literal s.names l) (λ found. settled found s)
 unfoldable pub anonymous : Resolving BlankNode
 anonymous = λ s. Ok (Anonymous s.anonymous, record s { anonymous = s.anonymous + 1 })
 
+-- the label of a blank node, without the `_:`
 abbrev pub label : Span → Resolving BlankNode
-label span = λ s. Ok (Label (of.label s.names span), s)
+label span = λ s. Ok (Label (piece s.names.text (span.start + 2) span.end), s)
 
 unfoldable pub term_of : Term → Resolving TermPattern
 term_of (written.Var v) = term.Variable <$> variable v

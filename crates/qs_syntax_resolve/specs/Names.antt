@@ -4,11 +4,12 @@
 -- Each backslash of a local name is dropped: no token has one that denotes itself. Names are in the
 -- crate that resolves trees, the outcomes of tokens and trees in that of texts. Crates of their own
 -- would cost clauses and win no time.
-use Rattle.std.specs.Prelude.{ℕ, Bool, true, false, ◌+◌, ◌-◌, ◌*◌, ◌^◌, ◌||◌, ◌==◌, nat_eq, min}
-use Rattle.std.specs.Prelude.{List, [], ◌∷◌, ◌++◌, codes, Option, Some, None, Result, Ok, Err}
+use Rattle.std.specs.Prelude.{ℕ, ◌+◌, ◌-◌, ◌*◌, ◌^◌, ◌||◌, ◌==◌, nat_eq, min, List, [], ◌++◌, codes}
+use Rattle.std.specs.Prelude.{Option, Some, None, Ok, Err}
 use Rattle.std.specs.Prelude.{if◌then◌else◌}
-use Rattle.std.specs.List.{starts_with, before_first, after_first}
-use Rattle.std.specs.Result.{result_ok}
+use Rattle.std.specs.List.{starts_with, before_first, after_first, fold}
+use Rattle.std.specs.Option.{option_map_or}
+use Rattle.std.specs.Result.{result_ok, result_map_both}
 use Rattle.std.specs.Str.{bytes_eq}
 use Rattle.std.specs.Ordering.{nat_cmp}
 use Rattle.std.specs.Cmp.Lexicographic.{slice_cmp}
@@ -17,8 +18,7 @@ use Rattle.std.specs.BTreeMap.{insert_entry}
 use Rattle.qs_terms.specs.Iri.{checked_iri}
 use Rattle.qs_terms.specs.Literal as lit
 use Rattle.qs_terms.specs.Literal.{xsd_string, xsd_integer, xsd_boolean}
-use Rattle.qs_terms.specs.declared.fault.TermFault.{TermFault}
-use Rattle.qs_terms.specs.declared.fault.QFault.{QFault}
+use Rattle.qs_terms.specs.Outcome.{Outcome, and_then}
 use Rattle.qs_terms.specs.declared.fault.QFault.TheVariants as fault
 use Rattle.qs_syntax_tree.specs.declared.token.Span.{Span}
 use Rattle.qs_syntax_tree.specs.declared.term.Iri.{Iri}
@@ -43,47 +43,30 @@ pub record Names : Type 0 where
 abbrev pub nothing_declared : List ℕ → Names
 nothing_declared text = record { text = text; prefixes = [] }
 
--- ---- names that denote themselves
-
--- without the `?` or `$`
+-- the name of a variable, without the `?` or `$`
 unfoldable pub variable : Names → Span → List ℕ
 variable names span = piece names.text (span.start + 1) span.end
 
--- without the `_:`
-unfoldable pub label : Names → Span → List ℕ
-label names span = piece names.text (span.start + 2) span.end
-
 -- ---- IRIs (SPARQL 1.1 Query, 4.1.1)
 
--- the IRI, unless the text is none
-abbrev pub absolute : ℕ → Result (List ℕ) TermFault → Result (List ℕ) QFault
-absolute place (Ok i) = Ok i
-absolute place (Err f) = Err (fault.RelativeIri place)
+-- the IRI that is this text, unless it is none; it stands at this place
+abbrev pub iri_at : ℕ → List ℕ → Outcome (List ℕ)
+iri_at place text = result_map_both (λ i. i) (λ f. fault.RelativeIri place) (checked_iri text)
 
 -- `<..>`, with its codepoint escapes decoded
-unfoldable pub full : List ℕ → Span → Result (List ℕ) QFault
-full text span =
-    absolute span.start (checked_iri (decoded uchar (piece text (span.start + 1) (span.end - 1))))
+unfoldable pub full : List ℕ → Span → Outcome (List ℕ)
+full text span = iri_at span.start (decoded uchar (piece text (span.start + 1) (span.end - 1)))
 
--- the IRI that the prefix denotes, and the local name after it
-abbrev pub joined : ℕ → Option (List ℕ) → List ℕ → Result (List ℕ) QFault
-joined place None local = Err (fault.Prefix place)
-joined place (Some i) local = absolute place (checked_iri (i ++ unescaped local))
+-- `prefix:local`: the IRI that the prefix denotes, and the local name behind it. The first colon
+-- stands between the two.
+unfoldable pub prefixed : Names → Span → Outcome (List ℕ)
+prefixed names span =
+    let name = piece names.text span.start span.end in
+    option_map_or (λ i. iri_at span.start (i ++ unescaped (after_first (λ c. c == 58) name)))
+    (lookup (bytes_eq (before_first (λ c. c == 58) name)) names.prefixes)
+    (Err (fault.Prefix span.start))
 
-abbrev pub is_colon : ℕ → Bool
-is_colon c = c == 58
-
--- the parts before and after the first colon
-abbrev pub expanded : List (List ℕ × List ℕ) → ℕ → List ℕ → Result (List ℕ) QFault
-expanded prefixes place name =
-    joined place (lookup (bytes_eq (before_first is_colon name)) prefixes)
-    (after_first is_colon name)
-
--- `prefix:local`
-unfoldable pub prefixed : Names → Span → Result (List ℕ) QFault
-prefixed names span = expanded names.prefixes span.start (piece names.text span.start span.end)
-
-abbrev pub iri : Names → Iri → Result (List ℕ) QFault
+abbrev pub iri : Names → Iri → Outcome (List ℕ)
 iri names (Full span) = full names.text span
 iri names (Prefixed span) = prefixed names span
 
@@ -91,7 +74,7 @@ unfoldable pub rdf_type : List ℕ
 rdf_type = codes "http://www.w3.org/1999/02/22-rdf-syntax-ns#type"
 
 -- `a` is rdf:type (SPARQL 1.1 Query, 4.2.4)
-abbrev pub predicate : Names → Predicate → Result (List ℕ) QFault
+abbrev pub predicate : Names → Predicate → Outcome (List ℕ)
 predicate names (written.Iri i) = iri names i
 predicate names written.RdfType = Ok rdf_type
 
@@ -108,44 +91,31 @@ string text span = let n = marks (piece text span.start span.end)
     in decoded string_escape (piece text (span.start + n) (span.end - n))
 
 -- the literal, if the parts make one: without a tag there is no rdf:langString
-abbrev pub typed : List ℕ → Result (List ℕ) QFault → Result (Option lit.Literal) QFault
-typed form (Ok datatype) = Ok (result_ok (lit.checked_typed form datatype))
-typed form (Err e) = Err e
-
-abbrev pub annotated : Names → List ℕ → Option Annotation → Result (Option lit.Literal) QFault
+abbrev pub annotated : Names → List ℕ → Option Annotation → Outcome (Option lit.Literal)
 annotated names form None = Ok (Some (lit.typed form xsd_string))
 annotated names form (Some (Tag span)) =
     Ok (result_ok (lit.checked_tagged form (piece names.text (span.start + 1) span.end)))
-annotated names form (Some (Datatype i)) = typed form (iri names i)
+annotated names form (Some (Datatype i)) =
+    and_then (iri names i) (λ datatype. Ok (result_ok (lit.checked_typed form datatype)))
 
-abbrev pub boolean : Bool → List ℕ
-boolean true = codes "true"
-boolean false = codes "false"
-
-abbrev pub literal : Names → Literal → Result (Option lit.Literal) QFault
+abbrev pub literal : Names → Literal → Outcome (Option lit.Literal)
 literal names (String s annotation) = annotated names (string names.text s) annotation
 literal names (Integer s) = Ok (Some (lit.typed (piece names.text s.start s.end) xsd_integer))
-literal names (Boolean b) = Ok (Some (lit.typed (boolean b) xsd_boolean))
+literal names (Boolean b) =
+    Ok (Some (lit.typed (if b then codes "true" else codes "false") xsd_boolean))
 
 -- ---- declarations (SPARQL 1.1 Query, 4.1.1)
 
-abbrev pub with_prefix : Names → List ℕ → Result (List ℕ) QFault → Result Names QFault
-with_prefix names prefix (Ok i) =
-    Ok (record names { prefixes = insert_entry (slice_cmp nat_cmp) names.prefixes prefix i })
-with_prefix names prefix (Err e) = Err e
-
 -- the prefix, without its `:`, denotes the IRI from here on
-unfoldable pub declare : Names → PrefixDeclaration → Result Names QFault
-declare names d = with_prefix names (piece names.text d.prefix.start (d.prefix.end - 1))
-    (full names.text d.iri)
+unfoldable pub declare : Names → PrefixDeclaration → Outcome Names
+declare names d =
+    let prefix = piece names.text d.prefix.start (d.prefix.end - 1) in
+    and_then (full names.text d.iri)
+    (λ i. Ok (record names { prefixes = insert_entry (slice_cmp nat_cmp) names.prefixes prefix i }))
 
 -- ---- numbers (SPARQL 1.1 Query, 15.4 and 15.5)
 
--- decimal digits after digits of this value: the value of them all
-abbrev pub decimal : ℕ → List ℕ → ℕ
-decimal value [] = value
-decimal value (c ∷ cs) = decimal (value * 10 + (c - 48)) cs
-
--- the number, or the greatest of 64 bits where it is greater
+-- the number that the decimal digits write, or the greatest of 64 bits where it is greater
 unfoldable pub count : Names → Span → ℕ
-count names span = min (decimal 0 (piece names.text span.start span.end)) (2 ^ 64 - 1)
+count names span = let digits = piece names.text span.start span.end in
+    min (fold (λ value c. value * 10 + (c - 48)) 0 digits) (2 ^ 64 - 1)

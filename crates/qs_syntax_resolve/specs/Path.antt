@@ -5,7 +5,7 @@ use Rattle.qs_syntax_tree.specs.declared.path.NegatedPredicate.{NegatedPredicate
 use Rattle.qs_syntax_tree.specs.declared.path.Predicate.{Predicate}
 use Rattle.qs_syntax_tree.specs.declared.path.Path.TheOpen.{Path-F, Predicate as Single, NegatedSet}
 use Rattle.qs_syntax_tree.specs.declared.path.Path.TheOpen.{Alternative, Sequence, Inverse}
-use Rattle.qs_syntax_tree.specs.declared.path.Path.TheOpen.{Repeated, PathOperand-F}
+use Rattle.qs_syntax_tree.specs.declared.path.Path.TheOpen.{Repeated}
 use Rattle.qs_syntax_ast.specs.declared.path.Path.{Path}
 use Rattle.qs_syntax_ast.specs.declared.path.Path.TheVariants as path
 use Rattle.qs_syntax_ast.specs.declared.path.NegatedIri.{NegatedIri}
@@ -25,10 +25,7 @@ path_level (NegatedSet ps) = path.NegatedSet <$> all (map negated ps)
 path_level (Alternative os) = path.Alternative <$> all os
 path_level (Sequence os) = path.Sequence <$> all os
 path_level (Inverse p) = path.Inverse <$> p
-path_level (Repeated p r) = p >>= (λ x. pure (path.Repeated x r))
-
-abbrev pub operand_level : PathOperand-F (Resolving Path) (Resolving Path) → Resolving Path
-operand_level o = o.path
+path_level (Repeated p r) = (λ x. path.Repeated x r) <$> p
 
 unfoldable pub path_of : WrittenPath → Resolving Path
-path_of = fold-Path (Resolving Path) (Resolving Path) path_level operand_level
+path_of = fold-Path (Resolving Path) (Resolving Path) path_level (λ o. o.path)

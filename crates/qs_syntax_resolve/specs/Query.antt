@@ -1,7 +1,5 @@
 -- Queries with their names resolved (SPARQL 1.1 Query, 15 and 16).
-use Rattle.std.specs.Prelude.{ℕ, List, [], ◌∷◌, Option, Some, None, map, Ok}
-use Rattle.qs_syntax_tree.specs.declared.pattern.Group.{Group as WrittenGroup}
-use Rattle.qs_syntax_tree.specs.declared.pattern.InlineData.{InlineData as WrittenData}
+use Rattle.std.specs.Prelude.{ℕ, List, [], ◌∷◌, map, Ok}
 use Rattle.qs_syntax_tree.specs.declared.query.PrefixDeclaration.{PrefixDeclaration}
 use Rattle.qs_syntax_tree.specs.declared.query.Ask.{Ask as WrittenAsk}
 use Rattle.qs_syntax_tree.specs.declared.query.Construct.{Construct as WrittenConstruct}
@@ -16,8 +14,6 @@ use Rattle.qs_syntax_tree.specs.declared.query.SelectItem.{SelectItem as Written
 use Rattle.qs_syntax_tree.specs.declared.query.SelectItem.TheVariants as written_item
 use Rattle.qs_syntax_tree.specs.declared.query.SolutionModifiers as written
 use Rattle.qs_syntax_tree.specs.declared.token.Span.{Span}
-use Rattle.qs_syntax_ast.specs.declared.pattern.Group.{Group}
-use Rattle.qs_syntax_ast.specs.declared.pattern.InlineData.{InlineData}
 use Rattle.qs_syntax_ast.specs.declared.query.Ask.{Ask}
 use Rattle.qs_syntax_ast.specs.declared.query.Construct.{Construct}
 use Rattle.qs_syntax_ast.specs.declared.query.OrderCondition.{OrderCondition}
@@ -37,7 +33,7 @@ use Rattle.qs_syntax_resolve.specs.Expression.{expression_of}
 use Rattle.qs_syntax_resolve.specs.Leaves.{variable}
 use Rattle.qs_syntax_resolve.specs.Pattern.{group_of}
 use Rattle.qs_terms.specs.Outcome.{and_then}
-use Rattle.qs_syntax_resolve.specs.Resolving.{Resolving, ◌>>=◌, ◌>>◌, ◌<$>◌, pure, all}
+use Rattle.qs_syntax_resolve.specs.Resolving.{Resolving, ◌>>=◌, ◌<$>◌, pure, all, optional}
 use Rattle.qs_syntax_resolve.specs.Triples.{triples_behind}
 
 -- ---- prefixes
@@ -48,25 +44,20 @@ declaration d = λ s. and_then (of.declare s.names d) (λ names. Ok (tt, record 
 
 abbrev pub prologue : List PrefixDeclaration → Resolving (Unit {0})
 prologue [] = pure tt
-prologue (d ∷ ds) = declaration d >> prologue ds
+prologue (d ∷ ds) = declaration d >>= (λ _. prologue ds)
 
 -- ---- modifiers
 
 abbrev pub order_of : WrittenOrder → Resolving OrderCondition
 order_of o = expression_of o.key >>= (λ key. pure (record { direction = o.direction; key = key }))
 
-abbrev pub orders : List WrittenOrder → Resolving (List OrderCondition)
-orders os = all (map order_of os)
-
-abbrev pub count_of : Option Span → Resolving (Option ℕ)
-count_of None = pure None
-count_of (Some span) = λ s. Ok (Some (of.count s.names span), s)
+abbrev pub count : Span → Resolving ℕ
+count span = λ s. Ok (of.count s.names span, s)
 
 unfoldable pub modifiers : written.SolutionModifiers → Resolving SolutionModifiers
 modifiers m =
-    orders m.order
-    >>= (λ o. count_of m.limit
-    >>= (λ l. count_of m.offset >>= (λ k. pure (record { order = o; limit = l; offset = k }))))
+    all (map order_of m.order) >>= (λ o. optional count m.limit >>= (λ l. optional count m.offset
+    >>= (λ k. pure (record { order = o; limit = l; offset = k }))))
 
 -- ---- forms
 
@@ -74,12 +65,9 @@ abbrev pub item_of : WrittenItem → Resolving SelectItem
 item_of (written_item.Var v) = item.Variable <$> variable v
 item_of (written_item.As e v) = expression_of e >>= (λ x. variable v >>= (λ y. pure (item.As x y)))
 
-abbrev pub items : List WrittenItem → Resolving (List SelectItem)
-items is = all (map item_of is)
-
 unfoldable pub projection_of : WrittenProjection → Resolving Projection
 projection_of written_projection.All = pure projection.All
-projection_of (written_projection.Items is) = projection.Items <$> items is
+projection_of (written_projection.Items is) = projection.Items <$> all (map item_of is)
 
 unfoldable pub select : WrittenSelect → Resolving Select
 select q =
@@ -87,33 +75,23 @@ select q =
     >>= (λ p. group_of q.pattern >>= (λ g. modifiers q.modifiers >>= (λ m.
     pure (record { duplicates = q.duplicates; projection = p; pattern = g; modifiers = m }))))
 
-abbrev pub pattern_of : Option WrittenGroup → Resolving (Option Group)
-pattern_of None = pure None
-pattern_of (Some g) = Some <$> group_of g
-
 unfoldable pub construct : WrittenConstruct → Resolving Construct
 construct q =
-    triples_behind [] q.template
-    >>= (λ t. pattern_of q.pattern >>= (λ g. modifiers q.modifiers >>= (λ m.
-    pure (record { template = t; pattern = g; modifiers = m }))))
+    triples_behind [] q.template >>= (λ t. optional group_of q.pattern >>= (λ g.
+    modifiers q.modifiers >>= (λ m. pure (record { template = t; pattern = g; modifiers = m }))))
 
 unfoldable pub ask : WrittenAsk → Resolving Ask
 ask q =
-    group_of q.pattern
-    >>= (λ g. modifiers q.modifiers >>= (λ m. pure (record { pattern = g; modifiers = m })))
+    group_of q.pattern >>= (λ g. modifiers q.modifiers >>= (λ m.
+    pure (record { pattern = g; modifiers = m })))
 
 unfoldable pub form_of : WrittenForm → Resolving QueryForm
 form_of (written_form.Select q) = form.Select <$> select q
 form_of (written_form.Construct q) = form.Construct <$> construct q
 form_of (written_form.Ask q) = form.Ask <$> ask q
 
-unfoldable pub trailing : Option WrittenData → Resolving (Option InlineData)
-trailing None = pure None
-trailing (Some d) = Some <$> inline_data d
-
 -- the query, with the variables of its text
 unfoldable pub query : List Variable → WrittenQuery → Resolving Query
 query variables q =
-    prologue q.prologue >> (form_of q.form
-    >>= (λ f. trailing q.values
+    prologue q.prologue >>= (λ _. form_of q.form >>= (λ f. optional inline_data q.values
     >>= (λ v. pure (record { form = f; values = v; variables = variables }))))

@@ -1,6 +1,6 @@
 -- Steps that read a tree from left to right: each gives a value and goes on, or stops at the first
 -- fault. All that is resolved is defined by such steps, by recursion on the tree.
-use Rattle.std.specs.Prelude.{List, [], ◌∷◌, ◌++◌, Ok}
+use Rattle.std.specs.Prelude.{List, [], ◌∷◌, ◌++◌, Option, Some, None, Ok}
 use Rattle.qs_terms.specs.Outcome.{Outcome, and_then}
 use Rattle.qs_syntax_resolve.specs.declared.resolver.Resolver.{Resolver}
 
@@ -12,10 +12,6 @@ Resolving A = Resolver → Outcome (A × Resolver)
 infixl 10 ◌>>=◌
 abbrev pub ◌>>=◌ : {A B : Type 0} → Resolving A → (A → Resolving B) → Resolving B
 p >>= f = λ s. and_then (p s) (λ r. f r.0 r.1)
-
-infixl 10 ◌>>◌
-abbrev pub ◌>>◌ : {A B : Type 0} → Resolving A → Resolving B → Resolving B
-p >> q = p >>= (λ _. q)
 
 abbrev pub pure : {A : Type 0} → A → Resolving A
 pure a = λ s. Ok (a, s)
@@ -31,3 +27,13 @@ all_behind found (p ∷ ps) = p >>= (λ x. all_behind (found ++ x ∷ []) ps)
 
 abbrev pub all : {A : Type 0} → List (Resolving A) → Resolving (List A)
 all ps = all_behind [] ps
+
+-- one step after another, each from what those before it gave
+abbrev pub in_turn : {A B : Type 0} → (A → B → Resolving A) → A → List B → Resolving A
+in_turn step found [] = pure found
+in_turn step found (b ∷ bs) = step found b >>= (λ more. in_turn step more bs)
+
+-- nothing where there is none
+abbrev pub optional : {A B : Type 0} → (A → Resolving B) → Option A → Resolving (Option B)
+optional step None = pure None
+optional step (Some a) = Some <$> step a

@@ -16,7 +16,7 @@ use Rattle.qs_syntax_ast.specs.declared.term.TermPattern.{TermPattern}
 use Rattle.qs_syntax_ast.specs.declared.term.TermPattern.TheVariants.{Blank}
 use Rattle.qs_syntax_resolve.specs.Leaves.{variable, term_of, anonymous}
 use Rattle.qs_syntax_resolve.specs.Path.{path_of}
-use Rattle.qs_syntax_resolve.specs.Resolving.{Resolving, ◌>>=◌, ◌<$>◌, pure}
+use Rattle.qs_syntax_resolve.specs.Resolving.{Resolving, ◌>>=◌, ◌<$>◌, pure, in_turn}
 
 -- a path of one IRI is that IRI
 abbrev pub simplified : Path → Verb
@@ -35,33 +35,26 @@ OfSubject = TermPattern → List Triple → Resolving (List Triple)
 abbrev pub OfObject : Type 0
 OfObject = TermPattern → Verb → List Triple → Resolving (List Triple)
 
-abbrev pub each_object : TermPattern → Verb → List Triple → List OfObject → Resolving (List Triple)
-each_object subject v found [] = pure found
-each_object subject v found (o ∷ os) = o subject v found >>= (λ more. each_object subject v more os)
-
-abbrev pub each_property : TermPattern → List Triple → List OfSubject → Resolving (List Triple)
-each_property subject found [] = pure found
-each_property subject found (p ∷ ps) = p subject found >>= (λ more. each_property subject more ps)
-
 abbrev pub triple : TermPattern → Verb → TermPattern → Triple
 triple s v o = record { subject = s; verb = v; object = o }
 
 abbrev pub property_level : Property-F OfObject OfSubject → OfSubject
-property_level p = λ subject found. verb_of p.verb >>= (λ v. each_object subject v found p.objects)
+property_level p = λ subject found.
+    verb_of p.verb >>= (λ v. in_turn (λ more o. o subject v more) found p.objects)
 
 -- `[ .. ]` is a fresh blank node: its triple stands before those of its own properties
 abbrev pub node_level : GraphNode-F OfObject OfSubject → OfObject
 node_level (GraphNode-F.Term t) =
     λ subject v found. term_of t >>= (λ o. pure (found ++ triple subject v o ∷ []))
 node_level (GraphNode-F.BlankNodePropertyList ps) =
-    λ subject v found. anonymous
-    >>= (λ b. each_property (Blank b) (found ++ triple subject v (Blank b) ∷ []) ps)
+    λ subject v found. anonymous >>= (λ b.
+    in_turn (λ more p. p (Blank b) more) (found ++ triple subject v (Blank b) ∷ []) ps)
 
 unfoldable pub property_of : Property → OfSubject
 property_of = fold-Property OfObject OfSubject node_level property_level
 
 abbrev pub properties : TermPattern → List Triple → List Property → Resolving (List Triple)
-properties subject found ps = each_property subject found (map property_of ps)
+properties subject found ps = in_turn (λ more p. p subject more) found (map property_of ps)
 
 abbrev pub subject_level : List Triple → List Property → GraphNode-F GraphNode Property
     → Resolving (List Triple)
@@ -74,5 +67,4 @@ same_subject found t = subject_level found t.properties (out-GraphNode t.subject
 
 -- the triples of a block, after those that are found already
 abbrev pub triples_behind : List Triple → List TriplesSameSubject → Resolving (List Triple)
-triples_behind found [] = pure found
-triples_behind found (t ∷ ts) = same_subject found t >>= (λ more. triples_behind more ts)
+triples_behind found ts = in_turn same_subject found ts

@@ -1,6 +1,6 @@
 -- Updates with their names resolved (SPARQL 1.1 Update, 3).
-use Rattle.std.specs.Prelude.{ℕ, List, [], ◌∷◌, ◌++◌, Option, Some, None, map}
-use Rattle.qs_syntax_tree.specs.declared.term.Iri.{Iri}
+use Rattle.std.specs.Prelude.{List, [], ◌∷◌, ◌++◌, Option, Some, None, map}
+use Rattle.std.specs.Option.{option_map_or}
 use Rattle.qs_syntax_tree.specs.declared.update.GraphOrDefault.{GraphOrDefault as WrittenEnd}
 use Rattle.qs_syntax_tree.specs.declared.update.GraphOrDefault.TheVariants as written_end
 use Rattle.qs_syntax_tree.specs.declared.update.GraphTarget.{GraphTarget as WrittenTarget}
@@ -29,7 +29,8 @@ use Rattle.qs_syntax_ast.specs.declared.update.Update.{Update}
 use Rattle.qs_syntax_resolve.specs.Leaves.{iri, var_or_iri}
 use Rattle.qs_syntax_resolve.specs.Pattern.{group_of}
 use Rattle.qs_syntax_resolve.specs.Query.{prologue}
-use Rattle.qs_syntax_resolve.specs.Resolving.{Resolving, ◌>>=◌, ◌>>◌, ◌<$>◌, pure, all}
+use Rattle.qs_syntax_resolve.specs.Resolving.{Resolving, ◌>>=◌, ◌<$>◌, pure, all}
+use Rattle.qs_syntax_resolve.specs.Resolving.{in_turn, optional}
 use Rattle.qs_syntax_resolve.specs.Triples.{triples_behind}
 
 -- ---- quads
@@ -38,20 +39,15 @@ abbrev pub block : Quads → Resolving QuadBlock
 block (written_quads.Triples ts) =
     triples_behind [] ts >>= (λ triples. pure (record { graph = None; triples = triples }))
 block (written_quads.Graph n ts) =
-    var_or_iri n
-    >>= (λ x. triples_behind [] ts
-    >>= (λ triples. pure (record { graph = Some x; triples = triples })))
-
-abbrev pub block_of : QuadElement → Resolving QuadBlock
-block_of e = block e.quads
+    var_or_iri n >>= (λ x. triples_behind [] ts >>= (λ triples.
+    pure (record { graph = Some x; triples = triples })))
 
 abbrev pub quads : List QuadElement → Resolving (List QuadBlock)
-quads es = all (map block_of es)
+quads es = all (map (λ e. block e.quads) es)
 
 -- a template that isn't there has no quads
 abbrev pub template : Option QuadPattern → Resolving (List QuadBlock)
-template None = pure []
-template (Some q) = quads q.elements
+template written = option_map_or (λ q. quads q.elements) written (pure [])
 
 -- ---- graphs
 
@@ -67,29 +63,24 @@ end_of (written_end.Graph i) = end.Graph <$> iri i
 
 unfoldable pub transfer : WrittenTransfer → Resolving Transfer
 transfer t =
-    end_of t.from
-    >>= (λ x. end_of t.to >>= (λ y. pure (record { on_missing = t.on_missing; from = x; to = y })))
+    end_of t.from >>= (λ x. end_of t.to >>= (λ y.
+    pure (record { on_missing = t.on_missing; from = x; to = y })))
 
 -- ---- operations
 
-abbrev pub with_graph : Option Iri → Resolving (Option (List ℕ))
-with_graph None = pure None
-with_graph (Some i) = Some <$> iri i
-
 unfoldable pub modify : WrittenModify → Resolving Modify
 modify m =
-    with_graph m.with
-    >>= (λ w. template m.delete >>= (λ d. template m.insert >>= (λ i. group_of m.pattern >>= (λ g.
-    pure (record { with = w; delete = d; insert = i; pattern = g })))))
+    optional iri m.with >>= (λ w. template m.delete >>= (λ d. template m.insert >>= (λ i.
+    group_of m.pattern >>= (λ g. pure (record { with = w; delete = d; insert = i; pattern = g })))))
 
 unfoldable pub operation_of : WrittenOperation → Resolving Operation
 operation_of (written.InsertData q) = operation.InsertData <$> quads q.elements
 operation_of (written.DeleteData q) = operation.DeleteData <$> quads q.elements
 operation_of (written.DeleteWhere q) = operation.DeleteWhere <$> quads q.elements
 operation_of (written.Modify m) = operation.Modify <$> modify m
-operation_of (written.Clear silent t) = target_of t >>= (λ x. pure (operation.Clear silent x))
-operation_of (written.Drop silent t) = target_of t >>= (λ x. pure (operation.Drop silent x))
-operation_of (written.Create silent i) = iri i >>= (λ x. pure (operation.Create silent x))
+operation_of (written.Clear silent t) = operation.Clear silent <$> target_of t
+operation_of (written.Drop silent t) = operation.Drop silent <$> target_of t
+operation_of (written.Create silent i) = operation.Create silent <$> iri i
 operation_of (written.Add t) = operation.Add <$> transfer t
 operation_of (written.Move t) = operation.Move <$> transfer t
 operation_of (written.Copy t) = operation.Copy <$> transfer t
@@ -100,14 +91,10 @@ operation_behind found None = pure found
 operation_behind found (Some o) = operation_of o >>= (λ x. pure (found ++ x ∷ []))
 
 unfoldable pub step : List Operation → UpdateStep → Resolving (List Operation)
-step found u = prologue u.prologue >> operation_behind found u.operation
+step found u = prologue u.prologue >>= (λ _. operation_behind found u.operation)
 
--- prefixes of a later prologue are added to the earlier ones
-abbrev pub steps : List Operation → List UpdateStep → Resolving (List Operation)
-steps found [] = pure found
-steps found (u ∷ us) = step found u >>= (λ more. steps more us)
-
--- the update, with the variables of its text
+-- The update, with the variables of its text. Prefixes of a later prologue are added to the earlier
+-- ones.
 unfoldable pub update : List Variable → WrittenUpdate → Resolving Update
 update variables u =
-    steps [] u.steps >>= (λ found. pure (record { operations = found; variables = variables }))
+    (λ found. record { operations = found; variables = variables }) <$> in_turn step [] u.steps

@@ -7,3 +7,8 @@ pub mod Path
 pub mod Pattern
 pub mod Resolving
 pub mod Triples
+pub mod Data
+pub mod Leaves
+pub mod Query
+pub mod Resolved
+pub mod Update

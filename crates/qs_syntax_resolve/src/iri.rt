@@ -6,7 +6,9 @@ ghost use Rattle.qs_terms.specs.Iri.{checked_iri};
 ghost use Rattle.qs_terms.specs.inner.Outcome.{OrOutOfMemory};
 ghost use Rattle.qs_lex_escapes.specs.Decoded.{decoded as decoded_text};
 ghost use Rattle.qs_lex_escapes.specs.Escape.{uchar};
-ghost use Rattle.qs_syntax_resolve.specs.Names.{full, is_colon};
+ghost use Rattle.qs_syntax_resolve.specs.Names.{full};
+ghost use Rattle.qs_syntax_resolve.specs.inner.Names as inner;
+ghost use Rattle.qs_syntax_resolve.specs.inner.Names.{is_colon};
 
 use crate::piece::inside;
 use qs_lex_escapes::Escapes;
@@ -19,7 +21,7 @@ const RDF_TYPE: &str = "http://www.w3.org/1999/02/22-rdf-syntax-ns#type";
 
 /// The IRI of the text.
 pub(crate) fn absolute(alloc: Global, place: usize, text: Text) -> Result<Iri, QFault>
-    ensures { OrOutOfMemory (Rattle.qs_syntax_resolve.specs.Names.absolute place (checked_iri text))
+    ensures { OrOutOfMemory (inner.absolute place (checked_iri text))
         result }
 {
     match Iri::new(alloc, text) {
@@ -31,7 +33,7 @@ pub(crate) fn absolute(alloc: Global, place: usize, text: Text) -> Result<Iri, Q
 
 // The IRI of a text that begins with an IRI, or a fault at that place.
 fn absolute_behind(alloc: Global, place: usize, front: &Iri, text: Text) -> Result<Iri, QFault>
-    ensures { OrOutOfMemory (Rattle.qs_syntax_resolve.specs.Names.absolute place (checked_iri text))
+    ensures { OrOutOfMemory (inner.absolute place (checked_iri text))
         result }
 {
     match Iri::behind(alloc, front, text) {
@@ -48,7 +50,7 @@ fn new_full_iri(
     place: usize,
     written: &str,
 ) -> Result<Iri, QFault>
-    ensures { OrOutOfMemory (Rattle.qs_syntax_resolve.specs.Names.absolute place
+    ensures { OrOutOfMemory (inner.absolute place
         (checked_iri (decoded_text uchar written.now))) result }
 {
     let text = decode(alloc, written, Escapes::Codepoints)?;
@@ -82,7 +84,7 @@ fn new_expanded(
     start: &Iri,
     local: &str,
 ) -> Result<Iri, QFault>
-    ensures { OrOutOfMemory (Rattle.qs_syntax_resolve.specs.Names.joined place (Some start.now)
+    ensures { OrOutOfMemory (inner.joined place (Some start.now)
         local.now) result }
 {
     let text = join(alloc, start.text(), local)?;
@@ -100,7 +102,7 @@ pub(crate) fn expanded(
     start: &Iri,
     local: &str,
 ) -> Result<Iri, QFault>
-    ensures { OrOutOfMemory (Rattle.qs_syntax_resolve.specs.Names.joined place (Some start.now)
+    ensures { OrOutOfMemory (inner.joined place (Some start.now)
         local.now) result }
 {
     match recent.iri(start.text(), local)? {

@@ -3,6 +3,7 @@
 ghost use Rattle.std.specs.Prelude.{Ok};
 ghost use Rattle.qs_terms.specs.inner.Outcome.{OrOutOfMemory};
 ghost use Rattle.qs_syntax_resolve.specs.Leaves as spec;
+ghost use Rattle.qs_syntax_resolve.specs.inner.Leaves as inner;
 ghost use Rattle.qs_syntax_resolve.specs.inner.Resolving.{Resolves};
 
 use crate::resolver::Resolver;
@@ -15,7 +16,7 @@ use qs_terms::{Iri, Lit, QFault, Text};
 use std::alloc::Global;
 
 fn empty_string(alloc: Global) -> Result<Lit, QFault>
-    ensures { OrOutOfMemory (Ok spec.empty_string) result }
+    ensures { OrOutOfMemory (Ok inner.empty_string) result }
 {
     Ok(Lit::string(alloc, Text::new(alloc, "")?)?)
 }

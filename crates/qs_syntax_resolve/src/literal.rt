@@ -9,6 +9,7 @@ ghost use Rattle.qs_terms.specs.Literal.{xsd_string, xsd_integer, xsd_boolean, t
 ghost use Rattle.qs_terms.specs.inner.Outcome.{OrOutOfMemory};
 ghost use Rattle.qs_syntax_resolve.specs.inner.Refused.{unless_refused};
 ghost use Rattle.qs_syntax_resolve.specs.Names.{marks};
+ghost use Rattle.qs_syntax_resolve.specs.inner.Names as inner;
 
 use crate::piece::{inside, whole};
 use qs_lex_escapes::Escapes;
@@ -63,7 +64,7 @@ pub(crate) fn integer(alloc: Global, form: &str) -> Result<Option<Lit>, QFault>
 }
 
 fn boolean_form(value: bool) -> &'static str
-    ensures { result.now ≡ Rattle.qs_syntax_resolve.specs.Names.boolean value }
+    ensures { result.now ≡ inner.boolean value }
 {
     if value { "true" } else { "false" }
 }
@@ -71,7 +72,7 @@ fn boolean_form(value: bool) -> &'static str
 /// The boolean.
 pub(crate) fn boolean(alloc: Global, value: bool) -> Result<Option<Lit>, QFault>
     ensures { OrOutOfMemory
-        (Ok (Some (typed (Rattle.qs_syntax_resolve.specs.Names.boolean value) xsd_boolean)))
+        (Ok (Some (typed (inner.boolean value) xsd_boolean)))
         result }
 {
     let form = Text::new(alloc, boolean_form(value))?;

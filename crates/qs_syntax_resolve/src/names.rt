@@ -10,7 +10,7 @@ ghost use Rattle.std.specs.Str.{bytes_eq};
 ghost use Rattle.qs_terms.specs.inner.OrOutOf.{BecomesOrOutOfMemory};
 ghost use Rattle.qs_terms.specs.inner.Outcome.{OrOutOfMemory};
 ghost use Rattle.qs_terms.specs.declared.fault.QFault.TheVariants.{Memory};
-ghost use Rattle.qs_syntax_resolve.specs.Names.{expanded as expanded_name};
+ghost use Rattle.qs_syntax_resolve.specs.inner.Names.{expanded as expanded_name};
 ghost use Rattle.qs_syntax_resolve.specs.inner.Names.{declared as declared_in};
 
 use crate::iri::{expanded, full_iri, parted, rdf_type};
@@ -75,7 +75,8 @@ fn with_prefix(
 }
 
 impl<'a> Names<'a> {
-    ghost use Rattle.qs_syntax_resolve.specs.Names.{variable, label, full, iri, prefixed, predicate, literal, annotated, declare, count, nothing_declared};
+    ghost use Rattle.qs_syntax_resolve.specs.Names.{variable, full, iri, prefixed, predicate, literal, annotated, declare, count, nothing_declared};
+    ghost use Rattle.qs_syntax_resolve.specs.inner.Names.{label};
 
     /// The names of a text in which no prefix is declared yet. Takes no memory.
     pub fn new(alloc: Global, text: &'a str) -> Names<'a>
@@ -118,7 +119,6 @@ impl<'a> Names<'a> {
     }
 
     /// The label of a blank node, without the `_:`.
-    #[tactic(auto, unfolding(crate::specs::Names::label))]
     pub fn label(&mut self, span: Span) -> Result<Shared<Text>, AllocError>
         ensures answer { IfOk result (λ t. t ≡ label self.old span) }
         ensures names { self.new ≡ self.old }

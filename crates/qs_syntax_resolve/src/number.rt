@@ -3,7 +3,7 @@
 //! A LIMIT or OFFSET beyond 64 bits is the greatest number of 64 bits, as no answer has so many rows.
 
 ghost use Rattle.std.specs.Prelude.{◌≡◌, ◌^◌, ◌-◌, min};
-ghost use Rattle.qs_syntax_resolve.specs.Names.{decimal};
+ghost use Rattle.qs_syntax_resolve.specs.inner.Names.{decimal};
 
 /// The decimal number, or the greatest of 64 bits where it is greater.
 #[tactic(auto, using(crate::proofs::Decimals::step, crate::proofs::Decimals::last))]

@@ -5,6 +5,7 @@
 
 ghost use Rattle.std.specs.Prelude.{◌≡◌, IfOk, OnOk};
 ghost use Rattle.qs_syntax_resolve.specs.Pattern as spec;
+ghost use Rattle.qs_syntax_resolve.specs.inner.Pattern as inner;
 
 use qs_base::push_after;
 use qs_syntax_ast::expression::Expression;
@@ -24,7 +25,7 @@ pub struct OpenGroup {
 
 impl OpenGroup {
     pub fn new(alloc: Global) -> OpenGroup
-        ensures { result ≡ spec.empty_group }
+        ensures { result ≡ inner.empty_group }
     {
         OpenGroup {
             patterns: Items::new(alloc),
@@ -43,7 +44,7 @@ impl OpenGroup {
     }
 
     pub fn put_filter(&mut self, filter: Expression) -> Result<(), AllocError>
-        ensures { OnOk result (self.new ≡ spec.put_filter filter self.old) }
+        ensures { OnOk result (self.new ≡ inner.put_filter filter self.old) }
     {
         self.filters.push(filter)
     }

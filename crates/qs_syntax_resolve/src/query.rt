@@ -5,6 +5,7 @@
 
 ghost use Rattle.std.specs.Prelude.{[]};
 ghost use Rattle.qs_syntax_resolve.specs.Query as spec;
+ghost use Rattle.qs_syntax_resolve.specs.inner.Query as inner;
 ghost use Rattle.qs_syntax_resolve.specs.inner.Resolving.{Resolves};
 ghost use Rattle.qs_syntax_resolve.specs.Triples.{triples_behind};
 
@@ -60,7 +61,7 @@ impl<'a> Resolver<'a> {
         alloc: Global,
         all: &[WrittenOrder],
     ) -> Result<Items<OrderCondition>, QFault>
-        ensures { Resolves (spec.orders all.now self.old) result self.new }
+        ensures { Resolves (inner.orders all.now self.old) result self.new }
     {
         let mut found = Items::new(alloc);
         for order in all {
@@ -71,7 +72,7 @@ impl<'a> Resolver<'a> {
     }
 
     fn count(&mut self, span: Option<Span>) -> Result<Option<u64>, QFault>
-        ensures { Resolves (spec.count_of span self.old) result self.new }
+        ensures { Resolves (inner.count_of span self.old) result self.new }
     {
         match span {
             None => Ok(None),
@@ -111,7 +112,7 @@ impl<'a> Resolver<'a> {
     }
 
     fn items(&mut self, alloc: Global, all: &[WrittenItem]) -> Result<Items<SelectItem>, QFault>
-        ensures { Resolves (spec.items all.now self.old) result self.new }
+        ensures { Resolves (inner.items all.now self.old) result self.new }
     {
         let mut found = Items::new(alloc);
         for item in all {
@@ -173,7 +174,7 @@ impl<'a> Resolver<'a> {
         alloc: Global,
         pattern: &Option<WrittenGroup>,
     ) -> Result<Option<Group>, QFault>
-        ensures { Resolves (spec.pattern_of pattern.now self.old) result self.new }
+        ensures { Resolves (inner.pattern_of pattern.now self.old) result self.new }
     {
         match pattern {
             None => Ok(None),
@@ -227,13 +228,12 @@ impl<'a> Resolver<'a> {
         }
     }
 
-    #[tactic(auto, unfolding(crate::specs::Query::trailing))]
     fn trailing(
         &mut self,
         alloc: Global,
         values: &Option<WrittenData>,
     ) -> Result<Option<InlineData>, QFault>
-        ensures { Resolves (spec.trailing values.now self.old) result self.new }
+        ensures { Resolves (inner.trailing values.now self.old) result self.new }
     {
         match values {
             None => Ok(None),

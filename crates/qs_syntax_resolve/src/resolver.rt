@@ -3,7 +3,7 @@
 //! Anonymous blank nodes are numbered by where they begin, over the whole text. A count past 64 bits would be out of memory.
 
 ghost use Rattle.std.specs.Prelude.{◌≡◌};
-ghost use Rattle.qs_syntax_resolve.specs.Resolved.{start};
+ghost use Rattle.qs_syntax_resolve.specs.inner.Resolved.{start};
 
 use crate::names::Names;
 

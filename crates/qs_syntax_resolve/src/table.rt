@@ -1,6 +1,7 @@
 //! The tables of VALUES.
 
 ghost use Rattle.qs_syntax_resolve.specs.Data as spec;
+ghost use Rattle.qs_syntax_resolve.specs.inner.Data as inner;
 ghost use Rattle.qs_syntax_resolve.specs.inner.Resolving.{Resolves};
 
 use crate::resolver::Resolver;
@@ -40,7 +41,7 @@ impl<'a> Resolver<'a> {
         alloc: Global,
         rows: &[Items<DataValue>],
     ) -> Result<Items<Items<Option<Term>>>, QFault>
-        ensures { Resolves (spec.rows_of rows.now self.old) result self.new }
+        ensures { Resolves (inner.rows_of rows.now self.old) result self.new }
     {
         let mut found = Items::new(alloc);
         for row in rows {
@@ -51,7 +52,7 @@ impl<'a> Resolver<'a> {
     }
 
     pub fn variables(&mut self, alloc: Global, spans: &[Span]) -> Result<Items<Variable>, QFault>
-        ensures { Resolves (spec.variables_of spans.now self.old) result self.new }
+        ensures { Resolves (inner.variables_of spans.now self.old) result self.new }
     {
         let mut found = Items::new(alloc);
         for span in spans {

@@ -3,6 +3,7 @@
 ghost use Rattle.qs_syntax_resolve.specs.Pattern.{group_of};
 ghost use Rattle.qs_syntax_resolve.specs.inner.Resolving.{Resolves, Collects};
 ghost use Rattle.qs_syntax_resolve.specs.Update as spec;
+ghost use Rattle.qs_syntax_resolve.specs.inner.Update as inner;
 ghost use Rattle.qs_syntax_resolve.specs.inner.Templates.{templates};
 
 use crate::resolver::Resolver;
@@ -106,7 +107,7 @@ impl<'a> Resolver<'a> {
     }
 
     fn with_graph(&mut self, iri: Option<WrittenIri>) -> Result<Option<Iri>, QFault>
-        ensures { Resolves (spec.with_graph iri self.old) result self.new }
+        ensures { Resolves (inner.with_graph iri self.old) result self.new }
     {
         match iri {
             None => Ok(None),
@@ -250,7 +251,7 @@ impl<'a> Resolver<'a> {
         found: &mut Items<Operation>,
         all: Items<UpdateStep>,
     ) -> Result<(), QFault>
-        ensures { Collects (spec.steps found.old all self.old) result found.new self.new }
+        ensures { Collects (inner.steps found.old all self.old) result found.new self.new }
     {
         let mut rest = reversed(alloc, all)?;
         while let Some(step) = rest.pop() {

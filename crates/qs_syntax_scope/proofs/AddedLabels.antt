@@ -3,8 +3,7 @@ use Rattle.std.proofs.Common.{◌≡◌, ℕ, ◌≤◌, Bool, true, false, ◌&
 use Rattle.std.proofs.lemmas.List.{take-append-le, append-nil}
 use Rattle.std.specs.List.{list_any, fold}
 use Rattle.qs_syntax_scope.specs.Names.{Name, contains}
-use Rattle.qs_syntax_scope.specs.Met.{add_run}
-use Rattle.qs_syntax_scope.specs.inner.Met.{add_label}
+use Rattle.qs_syntax_scope.specs.inner.Met.{add_run, add_label}
 use Rattle.qs_syntax_scope.specs.declared.met.Met.{Met}
 
 and_true : (k : Bool) → k ≡ (k && true)

@@ -1,7 +1,6 @@
 -- What each kind of pattern brings into scope.
-use Rattle.std.proofs.Common.{◌≡◌, List, [], ◌∷◌, ◌++◌, map, sym, ap, ◌∙◌, append_assoc}
-use Rattle.std.proofs.lemmas.List.{append-nil}
-use Rattle.std.specs.List.{fold, flat_map}
+use Rattle.std.proofs.Common.{◌≡◌, List, [], ◌∷◌, ◌++◌, map, refl, sym, ap, ◌∙◌}
+use Rattle.std.specs.List.{flat_map}
 use Rattle.qs_syntax_ast.specs.declared.expression.Expression.{Expression}
 use Rattle.qs_syntax_ast.specs.declared.term.Variable.{Variable}
 use Rattle.qs_syntax_ast.specs.declared.term.VarOrIri.{VarOrIri}
@@ -11,35 +10,34 @@ use Rattle.qs_syntax_ast.specs.declared.pattern.Group.{Group}
 use Rattle.qs_syntax_ast.specs.declared.pattern.GraphPattern.{fold-roll-GraphPattern}
 use Rattle.qs_syntax_ast.specs.declared.pattern.GraphPattern.TheOpen as level
 use Rattle.qs_syntax_ast.specs.declared.pattern.GraphPattern.TheVariants.{Triples, Union, Optional, Minus, Graph, Bind, Values, rolls-Triples, rolls-Union, rolls-Optional, rolls-Minus, rolls-Graph, rolls-Bind, rolls-Values}
-use Rattle.qs_syntax_scope.specs.declared.met.Met.{Met}
-use Rattle.qs_syntax_scope.specs.Met.{after}
-use Rattle.qs_syntax_scope.specs.Scope.{Part, scope, in_scope, part, add_operand, pattern_part, group_parts}
+use Rattle.qs_syntax_scope.specs.Scope.{Scope, scope, in_scope, pattern_scope, group_scope}
+use Rattle.qs_syntax_scope.specs.inner.Scope.{scope_of_pattern}
 use Rattle.qs_syntax_scope.specs.Variables.{triple_variables, graph_variables, column_names}
 
-pub triples : (all : List Triple) → (part (Triples all)).names ≡ flat_map triple_variables all
-triples all = ap (λ p. (part p).names) (sym (rolls-Triples all)) ∙ ap (λ (r : Part). r.names) (fold-roll-GraphPattern Part Met pattern_part group_parts (level.Triples all))
+pub triples : (all : List Triple) → (scope_of_pattern (Triples all)).names ≡ flat_map triple_variables all
+triples all = ap (λ p. (scope_of_pattern p).names) (sym (rolls-Triples all)) ∙ ap (λ (r : Scope). r.names) (fold-roll-GraphPattern Scope Scope pattern_scope group_scope (level.Triples all))
 
-operands_names : (m : Met) (groups : List Group) → (fold add_operand m (map (λ g. scope g) groups)).names ≡ m.names ++ flat_map in_scope groups
-operands_names m [] = sym (append-nil m.names)
-operands_names m (g ∷ groups) = operands_names (add_operand m (scope g)) groups ∙ append_assoc m.names (in_scope g) (flat_map in_scope groups)
+operands_names : (groups : List Group) → flat_map (λ (s : Scope). s.names) (map scope groups) ≡ flat_map in_scope groups
+operands_names [] = refl
+operands_names (g ∷ groups) = ap (λ l. in_scope g ++ l) (operands_names groups)
 
-pub union : (groups : List Group) → (part (Union groups)).names ≡ flat_map in_scope groups
+pub union : (groups : List Group) → (scope_of_pattern (Union groups)).names ≡ flat_map in_scope groups
 union groups =
-    ap (λ p. (part p).names) (sym (rolls-Union groups))
-    ∙ ap (λ (r : Part). r.names) (fold-roll-GraphPattern Part Met pattern_part group_parts (level.Union groups))
-    ∙ operands_names (after []) groups
+    ap (λ p. (scope_of_pattern p).names) (sym (rolls-Union groups))
+    ∙ ap (λ (r : Scope). r.names) (fold-roll-GraphPattern Scope Scope pattern_scope group_scope (level.Union groups))
+    ∙ operands_names groups
 
-pub optional : (group : Group) → (part (Optional group)).names ≡ in_scope group
-optional group = ap (λ p. (part p).names) (sym (rolls-Optional group)) ∙ ap (λ (r : Part). r.names) (fold-roll-GraphPattern Part Met pattern_part group_parts (level.Optional group))
+pub optional : (group : Group) → (scope_of_pattern (Optional group)).names ≡ in_scope group
+optional group = ap (λ p. (scope_of_pattern p).names) (sym (rolls-Optional group)) ∙ ap (λ (r : Scope). r.names) (fold-roll-GraphPattern Scope Scope pattern_scope group_scope (level.Optional group))
 
-pub minus : (group : Group) → (part (Minus group)).names ≡ []
-minus group = ap (λ p. (part p).names) (sym (rolls-Minus group)) ∙ ap (λ (r : Part). r.names) (fold-roll-GraphPattern Part Met pattern_part group_parts (level.Minus group))
+pub minus : (group : Group) → (scope_of_pattern (Minus group)).names ≡ []
+minus group = ap (λ p. (scope_of_pattern p).names) (sym (rolls-Minus group)) ∙ ap (λ (r : Scope). r.names) (fold-roll-GraphPattern Scope Scope pattern_scope group_scope (level.Minus group))
 
-pub graph : (name : VarOrIri) (group : Group) → (part (Graph name group)).names ≡ graph_variables name ++ in_scope group
-graph name group = ap (λ p. (part p).names) (sym (rolls-Graph name group)) ∙ ap (λ (r : Part). r.names) (fold-roll-GraphPattern Part Met pattern_part group_parts (level.Graph name group))
+pub graph : (name : VarOrIri) (group : Group) → (scope_of_pattern (Graph name group)).names ≡ graph_variables name ++ in_scope group
+graph name group = ap (λ p. (scope_of_pattern p).names) (sym (rolls-Graph name group)) ∙ ap (λ (r : Scope). r.names) (fold-roll-GraphPattern Scope Scope pattern_scope group_scope (level.Graph name group))
 
-pub bind : (value : Expression) (variable : Variable) → (part (Bind value variable)).names ≡ variable.name ∷ []
-bind value variable = ap (λ p. (part p).names) (sym (rolls-Bind value variable)) ∙ ap (λ (r : Part). r.names) (fold-roll-GraphPattern Part Met pattern_part group_parts (level.Bind value variable))
+pub bind : (value : Expression) (variable : Variable) → (scope_of_pattern (Bind value variable)).names ≡ variable.name ∷ []
+bind value variable = ap (λ p. (scope_of_pattern p).names) (sym (rolls-Bind value variable)) ∙ ap (λ (r : Scope). r.names) (fold-roll-GraphPattern Scope Scope pattern_scope group_scope (level.Bind value variable))
 
-pub values : (table : InlineData) → (part (Values table)).names ≡ column_names table
-values table = ap (λ p. (part p).names) (sym (rolls-Values table)) ∙ ap (λ (r : Part). r.names) (fold-roll-GraphPattern Part Met pattern_part group_parts (level.Values table))
+pub values : (table : InlineData) → (scope_of_pattern (Values table)).names ≡ column_names table
+values table = ap (λ p. (scope_of_pattern p).names) (sym (rolls-Values table)) ∙ ap (λ (r : Scope). r.names) (fold-roll-GraphPattern Scope Scope pattern_scope group_scope (level.Values table))

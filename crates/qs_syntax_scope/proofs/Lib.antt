@@ -1,4 +1,7 @@
 pub mod AddedLabels
+pub mod Plain
+pub mod Kept
+pub mod NoVariable
 pub mod Brought
 pub mod Reading
 pub mod PlacesKept

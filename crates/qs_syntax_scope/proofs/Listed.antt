@@ -1,5 +1,5 @@
 -- What the list of all variables has.
-use Rattle.std.proofs.Common.{◌≡◌, Bool, true, false, ◌||◌, not, if◌then◌else◌, nat_eq, List, [], ◌∷◌, ◌++◌, sym, ap, ◌∙◌, refl, append_assoc}
+use Rattle.std.proofs.Common.{◌≡◌, subst, Bool, true, false, ◌||◌, not, if◌then◌else◌, nat_eq, List, [], ◌∷◌, ◌++◌, sym, ap, ◌∙◌, refl, append_assoc}
 use Rattle.std.proofs.lemmas.Bool.{and_from, not_from_false}
 use Rattle.std.proofs.lemmas.List.{map-append, append-nil}
 use Rattle.std.proofs.lemmas.List.Folds.{list_any-append}
@@ -10,14 +10,17 @@ use Rattle.std.specs.List.{fold}
 use Rattle.qs_syntax_ast.specs.declared.query.Query.{Query}
 use Rattle.qs_syntax_ast.specs.declared.term.Variable.{Variable}
 use Rattle.qs_syntax_ast.specs.declared.update.Update.{Update}
-use Rattle.qs_syntax_scope.proofs.FirstsKept.{contains_firsts, names_of_with, names_with}
+use Rattle.qs_syntax_scope.proofs.FirstsKept.{contains_firsts, firsts_are, names_of_with, names_with}
+use Rattle.qs_syntax_scope.proofs.Plain.{distinct_kept}
 use Rattle.qs_syntax_scope.proofs.Reading.{distinct}
 use Rattle.qs_syntax_scope.specs.declared.met.Met.{Met}
-use Rattle.qs_syntax_scope.specs.Firsts.{names_of, with_names, add_first, firsts}
+use Rattle.qs_syntax_scope.specs.Firsts.{names_of, with_names, firsts}
+use Rattle.qs_syntax_scope.specs.inner.Firsts.{add_first, firsts_of}
 use Rattle.qs_syntax_scope.specs.inner.Laws.{EachStandsOnce}
-use Rattle.qs_syntax_scope.specs.Met.{after, add_new, are_distinct}
+use Rattle.qs_syntax_scope.specs.inner.Met.{after, add_new}
 use Rattle.qs_syntax_scope.specs.Names.{Name, contains}
-use Rattle.qs_syntax_scope.specs.VariablesIn.{in_query, in_update, query_variables, update_variables}
+use Rattle.qs_syntax_scope.specs.VariablesIn.{query_variables, update_variables}
+use Rattle.qs_syntax_scope.specs.inner.VariablesIn.{in_query, in_update}
 
 -- ---- variables, and names after them
 
@@ -41,23 +44,29 @@ met_names : (m : Met) (names : List Name) → (fold add_new m names).names ≡ m
 met_names m [] = sym (append-nil m.names)
 met_names m (x ∷ xs) = met_names (add_new m x) xs ∙ append_assoc m.names (x ∷ []) xs
 
-distinct_with : (names : List Name) (name : Name) → IsTrue (are_distinct names) → contains names name ≡ false → IsTrue (are_distinct (names ++ name ∷ []))
+-- they stood once, one after another
+abbrev stand : List Name → Bool
+stand names = (fold add_new (after []) names).keeps
+
+distinct_with : (names : List Name) (name : Name) → IsTrue (stand names) → contains names name ≡ false → IsTrue (stand (names ++ name ∷ []))
 distinct_with names name once new =
     ap (λ (m : Met). m.keeps) (fold-append add_new (after []) names (name ∷ []))
-    ∙ and_from (are_distinct names) (not (contains (fold add_new (after []) names).names name)) once
+    ∙ and_from (stand names) (not (contains (fold add_new (after []) names).names name)) once
     (not_from_false (contains (fold add_new (after []) names).names name) (ap (λ all. contains all name) (met_names (after []) names) ∙ new))
 
-add_once : (found : List Variable) (v : Variable) → IsTrue (are_distinct (names_of found)) → IsTrue (are_distinct (names_of (add_first found v)))
+add_once : (found : List Variable) (v : Variable) → IsTrue (stand (names_of found)) → IsTrue (stand (names_of (add_first found v)))
 unfolding add_first
 add_once found v once = by (contains (names_of found) v.name) refl
   where
-    by : (b : Bool) → contains (names_of found) v.name ≡ b → IsTrue (are_distinct (names_of (if b then found else found ++ v ∷ [])))
+    by : (b : Bool) → contains (names_of found) v.name ≡ b → IsTrue (stand (names_of (if b then found else found ++ v ∷ [])))
     by true e = once
-    by false e = ap are_distinct (names_with found v) ∙ distinct_with (names_of found) v.name once e
+    by false e = ap stand (names_with found v) ∙ distinct_with (names_of found) v.name once e
 
-all_once : (found variables : List Variable) → IsTrue (are_distinct (names_of found)) → IsTrue (are_distinct (names_of (fold add_first found variables)))
+all_once : (found variables : List Variable) → IsTrue (stand (names_of found)) → IsTrue (stand (names_of (fold add_first found variables)))
 all_once found [] once = once
 all_once found (v ∷ vs) once = all_once (add_first found v) vs (add_once found v once)
 
 pub stand_once : (variables : List Variable) → EachStandsOnce (names_of (firsts variables))
-stand_once variables = (distinct (names_of (firsts variables))).0 (all_once [] variables refl)
+stand_once variables =
+    subst (λ (l : List Variable). EachStandsOnce (names_of l)) (firsts_are variables)
+    ((distinct (names_of (firsts_of variables))).0 (sym (distinct_kept (names_of (firsts_of variables))) ∙ all_once [] variables refl))

@@ -1,11 +1,12 @@
 -- What the rules say, in words that ask for no order.
-use Rattle.std.proofs.Common.{◌≡◌, ◌↔◌, ℕ, zero, suc, Bool, true, false, ◌&&◌, ◌||◌, not, List, [], ◌∷◌, ◌++◌, take, map, Some, slice_get, nat_eq, refl, sym, ap, subst, ◌∙◌, ⊎_elim}
+use Rattle.std.proofs.Common.{◌≡◌, ◌↔◌, ℕ, zero, suc, Bool, true, false, ◌&&◌, not, List, [], ◌∷◌, ◌++◌, take, map, Some, slice_get, nat_eq, refl, sym, ap, subst, ◌∙◌, ⊎_elim, append_assoc}
 use Rattle.std.proofs.lemmas.Bool.{true≢false, and_parts, and_from, or_parts, or_from, or_left, or_right, or_cases, not-true, not_from_false, both_ways}
 use Rattle.std.proofs.lemmas.List.Folds.{list_any-append}
 use Rattle.std.proofs.lemmas.Option.{none-some, same_Some}
 use Rattle.std.specs.Cmp.Lexicographic.{pointwise, bytes_decides, nat_list_eq_equiv}
 use Rattle.std.specs.Bool.{IsTrue}
-use Rattle.std.specs.List.{list_any, fold}
+use Rattle.std.specs.List.{list_any, fold, flat_map}
+use Rattle.std.proofs.lemmas.List.{append-nil}
 use Rattle.qs_syntax_ast.specs.declared.expression.Expression.{Expression}
 use Rattle.qs_syntax_ast.specs.declared.term.Variable.{Variable}
 use Rattle.qs_syntax_ast.specs.declared.pattern.Group.{Group, out-Group, fold_out-Group}
@@ -13,10 +14,11 @@ use Rattle.qs_syntax_ast.specs.declared.pattern.GraphPattern.{GraphPattern, fold
 use Rattle.qs_syntax_ast.specs.declared.pattern.GraphPattern.TheOpen as level
 use Rattle.qs_syntax_ast.specs.declared.pattern.GraphPattern.TheVariants.{Bind, rolls-Bind}
 use Rattle.qs_syntax_scope.specs.declared.met.Met.{Met}
-use Rattle.qs_syntax_scope.specs.Names.{Name, contains}
-use Rattle.qs_syntax_scope.specs.Met.{after, add_new, add_run, are_distinct, are_apart}
-use Rattle.qs_syntax_scope.specs.Scope.{Part, scope, part, fits, add_part, pattern_part, group_parts}
-use Rattle.qs_syntax_scope.specs.inner.Scope.{parts}
+use Rattle.qs_syntax_scope.specs.Names.{Name, contains, are_distinct, are_apart}
+use Rattle.qs_syntax_scope.specs.inner.Met.{after, add_new, add_run}
+use Rattle.qs_syntax_scope.proofs.Plain.{and_true, and_assoc, apart_kept, distinct_kept}
+use Rattle.qs_syntax_scope.specs.Scope.{Scope, group_keeps, all_keep, pattern_scope, group_scope}
+use Rattle.qs_syntax_scope.specs.inner.Scope.{scope_of_pattern}
 use Rattle.qs_syntax_scope.specs.inner.Laws.{EachStandsOnce, EachStandsInOne, EachFits}
 
 -- ---- what is among names
@@ -47,14 +49,6 @@ all_none : (before run : List Name) → ((name : Name) → contains run name ≡
 all_none before [] h = refl
 all_none before (x ∷ xs) h =
     or_from (contains before x) (list_any (contains before) xs) (h x (itself x xs)) (all_none before xs (λ name m. h name (later x xs name m)))
-
-and_assoc : (a b c : Bool) → ((a && b) && c) ≡ (a && (b && c))
-and_assoc true b c = refl
-and_assoc false b c = refl
-
-and_true : (a : Bool) → a ≡ (a && true)
-and_true true = refl
-and_true false = refl
 
 -- ---- runs
 
@@ -110,8 +104,8 @@ apart-from before (run ∷ runs) fresh one =
 
 pub apart : (runs : List (List Name)) → IsTrue (are_apart runs) ↔ EachStandsInOne runs
 apart runs = (
-  λ h. (apart-to [] runs (sym (apart_is (after []) runs) ∙ h)).1,
-  λ h. apart_is (after []) runs ∙ apart-from [] runs (λ i run name e m. refl) h,
+  λ h. (apart-to [] runs (sym (apart_is (after []) runs) ∙ apart_kept runs ∙ h)).1,
+  λ h. sym (apart_kept runs) ∙ apart_is (after []) runs ∙ apart-from [] runs (λ i run name e m. refl) h,
 )
 
 -- ---- names
@@ -171,46 +165,45 @@ distinct-from before (first ∷ names) new once =
 
 pub distinct : (names : List Name) → IsTrue (are_distinct names) ↔ EachStandsOnce names
 distinct names = (
-  λ h. (distinct-to [] names (sym (distinct_is (after []) names) ∙ h)).1,
-  λ h. distinct_is (after []) names ∙ distinct-from [] names (λ i name e. refl) h,
+  λ h. (distinct-to [] names (sym (distinct_is (after []) names) ∙ distinct_kept names ∙ h)).1,
+  λ h. sym (distinct_kept names) ∙ distinct_is (after []) names ∙ distinct-from [] names (λ i name e. refl) h,
 )
 
 -- ---- patterns of a group
 
--- each pattern fits after what was met and the patterns before it
-abbrev FitsBehind : Met → List GraphPattern → Type 0
-FitsBehind m patterns = (i : ℕ) (p : GraphPattern) → slice_get patterns i ≡ Some p → fits (fold add_part m (map (λ q. part q) (take i patterns))).names (part p) ≡ true
+abbrev names_of_all : List GraphPattern → List Name
+names_of_all patterns = flat_map (λ p. (scope_of_pattern p).names) patterns
 
-fits-to : (m : Met) (patterns : List GraphPattern) → (fold add_part m (map (λ q. part q) patterns)).keeps ≡ true → (m.keeps ≡ true) × FitsBehind m patterns
-fits-to m [] h = (h, λ i p e. absurd (none-some p e))
-fits-to m (first ∷ patterns) h =
-    let rest = fits-to (add_part m (part first)) patterns h in
-    let here = and_parts m.keeps (fits m.names (part first)) rest.0 in
-    (here.0, each here.1 rest.1)
-  where
-    each : fits m.names (part first) ≡ true → FitsBehind (add_part m (part first)) patterns → FitsBehind m (first ∷ patterns)
-    each here rest zero p e = subst (λ q. fits m.names (part q) ≡ true) (same_Some first p e) here
-    each here rest (suc i) p e = rest i p e
+-- each pattern keeps the rules after these names and the patterns before it
+abbrev KeepsBehind : List Name → List GraphPattern → Type 0
+KeepsBehind before patterns = (i : ℕ) (p : GraphPattern) → slice_get patterns i ≡ Some p → (scope_of_pattern p).keeps (before ++ names_of_all (take i patterns)) ≡ true
 
-fits-from : (m : Met) (patterns : List GraphPattern) → m.keeps ≡ true → FitsBehind m patterns → (fold add_part m (map (λ q. part q) patterns)).keeps ≡ true
-fits-from m [] h each = h
-fits-from m (first ∷ patterns) h each =
-    fits-from (add_part m (part first)) patterns (and_from m.keeps (fits m.names (part first)) h (each 0 first refl)) (λ i p e. each (suc i) p e)
+fits-to : (before : List Name) (patterns : List GraphPattern) → all_keep before (map scope_of_pattern patterns) ≡ true → KeepsBehind before patterns
+fits-to before [] h i p e = absurd (none-some p e)
+fits-to before (first ∷ patterns) h zero p e =
+    let here = and_parts ((scope_of_pattern first).keeps before) (all_keep (before ++ (scope_of_pattern first).names) (map scope_of_pattern patterns)) h in
+    ap (scope_of_pattern p).keeps (append-nil before) ∙ subst (λ q. (scope_of_pattern q).keeps before ≡ true) (same_Some first p e) here.0
+fits-to before (first ∷ patterns) h (suc i) p e =
+    let here = and_parts ((scope_of_pattern first).keeps before) (all_keep (before ++ (scope_of_pattern first).names) (map scope_of_pattern patterns)) h in
+    ap (scope_of_pattern p).keeps (sym (append_assoc before (scope_of_pattern first).names (names_of_all (take i patterns))))
+    ∙ fits-to (before ++ (scope_of_pattern first).names) patterns here.1 i p e
 
-pub fit : (patterns : List GraphPattern) → IsTrue (parts patterns).keeps ↔ EachFits patterns
-fit patterns = (λ h. (fits-to (after []) patterns h).1, λ h. fits-from (after []) patterns refl h)
+fits-from : (before : List Name) (patterns : List GraphPattern) → KeepsBehind before patterns → all_keep before (map scope_of_pattern patterns) ≡ true
+fits-from before [] each = refl
+fits-from before (first ∷ patterns) each =
+    and_from ((scope_of_pattern first).keeps before) (all_keep (before ++ (scope_of_pattern first).names) (map scope_of_pattern patterns))
+    (ap (scope_of_pattern first).keeps (sym (append-nil before)) ∙ each 0 first refl)
+    (fits-from (before ++ (scope_of_pattern first).names) patterns
+    (λ i p e. ap (scope_of_pattern p).keeps (append_assoc before (scope_of_pattern first).names (names_of_all (take i patterns))) ∙ each (suc i) p e))
 
-pub of_group : (group : Group) → scope group ≡ parts (out-Group group).patterns
-of_group = fold_out-Group Part Met pattern_part group_parts
+pub fit : (patterns : List GraphPattern) → IsTrue (all_keep [] (map scope_of_pattern patterns)) ↔ EachFits patterns
+fit patterns = (λ h. fits-to [] patterns h, λ h. fits-from [] patterns h)
 
-bind_part : (value : Expression) (variable : Variable) → part (Bind value variable) ≡ record { names = variable.name ∷ []; bound = variable.name ∷ []; keeps = true }
-bind_part value variable = ap part (sym (rolls-Bind value variable)) ∙ fold-roll-GraphPattern Part Met pattern_part group_parts (level.Bind value variable)
+pub of_group : (group : Group) → group_keeps group ≡ all_keep [] (map scope_of_pattern (out-Group group).patterns)
+of_group group = ap (λ (s : Scope). s.keeps []) (fold_out-Group Scope Scope pattern_scope group_scope group)
 
-not_or_false : (b : Bool) → not (b || false) ≡ not b
-not_or_false true = refl
-not_or_false false = refl
-
-pub bind_fits : (before : List Name) (value : Expression) (variable : Variable) → IsTrue (fits before (part (Bind value variable))) ↔ (contains before variable.name ≡ false)
+pub bind_fits : (before : List Name) (value : Expression) (variable : Variable) → IsTrue ((scope_of_pattern (Bind value variable)).keeps before) ↔ (contains before variable.name ≡ false)
 bind_fits before value variable =
-    let is = ap (fits before) (bind_part value variable) ∙ not_or_false (contains before variable.name) in
+    let is : (scope_of_pattern (Bind value variable)).keeps before ≡ not (contains before variable.name) =
+    ap (λ p. (scope_of_pattern p).keeps before) (sym (rolls-Bind value variable)) ∙ ap (λ (s : Scope). s.keeps before) (fold-roll-GraphPattern Scope Scope pattern_scope group_scope (level.Bind value variable)) in
     (λ h. not-true (contains before variable.name) (sym is ∙ h), λ h. is ∙ not_from_false (contains before variable.name) h)

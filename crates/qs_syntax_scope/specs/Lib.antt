@@ -1,6 +1,5 @@
 pub mod Names
 pub mod Places
-pub mod Met
 pub mod Variables
 pub mod Labels
 pub mod Scope

@@ -1,7 +1,7 @@
 -- The variables of triple patterns (SPARQL 1.1 Query, 4.2 and 9). A path has none, and a blank node
 -- is none.
-use Rattle.std.specs.Prelude.{Bool, true, false, ◌||◌, List, [], ◌∷◌, ◌++◌, map, Option, Some, None}
-use Rattle.std.specs.List.{list_any}
+use Rattle.std.specs.Prelude.{List, [], ◌∷◌, ◌++◌, map, unwrap_or, option_map}
+use Rattle.std.specs.List.{flat_map}
 use Rattle.qs_syntax_scope.specs.Names.{Name}
 use Rattle.qs_syntax_ast.specs.declared.term.Variable.{Variable}
 use Rattle.qs_syntax_ast.specs.declared.term.TermPattern.{TermPattern}
@@ -34,24 +34,7 @@ triple_variables t = term_variables t.subject ++ verb_variables t.verb ++ term_v
 abbrev pub column_names : InlineData → List Name
 column_names table = map (λ (v : Variable). v.name) table.variables
 
--- ---- where no variable may stand
-
-abbrev pub term_is_variable : TermPattern → Bool
-term_is_variable (term.Variable v) = true
-term_is_variable _ = false
-
-abbrev pub verb_is_variable : Verb → Bool
-verb_is_variable (verb.Variable v) = true
-verb_is_variable _ = false
-
-abbrev pub graph_is_variable : Option VarOrIri → Bool
-graph_is_variable (Some (graph.Variable v)) = true
-graph_is_variable _ = false
-
-abbrev pub triple_has_variable : Triple → Bool
-triple_has_variable t =
-    term_is_variable t.subject || verb_is_variable t.verb || term_is_variable t.object
-
--- the name of the graph included
-abbrev pub block_has_variable : QuadBlock → Bool
-block_has_variable b = graph_is_variable b.graph || list_any triple_has_variable b.triples
+-- of a block of quads, the name of its graph included
+abbrev pub block_variables : QuadBlock → List Name
+block_variables b =
+    unwrap_or (option_map graph_variables b.graph) [] ++ flat_map triple_variables b.triples

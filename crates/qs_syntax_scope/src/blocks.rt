@@ -1,9 +1,10 @@
 //! Variables and blank nodes where none may stand.
 
-ghost use Rattle.std.specs.Prelude.{◌≡◌};
+ghost use Rattle.std.specs.Prelude.{◌≡◌, not};
 ghost use Rattle.std.specs.List.{list_any};
-ghost use Rattle.qs_syntax_scope.specs.Variables as variables;
-ghost use Rattle.qs_syntax_scope.specs.Labels as labels;
+ghost use Rattle.qs_syntax_scope.specs.KeepsScope as spec;
+ghost use Rattle.qs_syntax_scope.specs.inner.Variables as variables;
+ghost use Rattle.qs_syntax_scope.specs.inner.Labels as labels;
 
 use qs_syntax_ast::pattern::{Triple, Verb};
 use qs_syntax_ast::term::{TermPattern, VarOrIri};
@@ -35,11 +36,18 @@ fn block_has_variable(block: &QuadBlock) -> bool
     graph_is_variable(&block.graph) || triples_have_variable(block.triples.as_slice())
 }
 
-/// Whether a variable stands in the blocks, as the name of a graph too.
-pub fn have_variable(blocks: &[QuadBlock]) -> bool
+fn have_variable(blocks: &[QuadBlock]) -> bool
     ensures { result ≡ list_any variables.block_has_variable blocks.now }
 {
     blocks.iter().any(block_has_variable)
+}
+
+/// Whether no variable stands in the blocks, also as the name of a graph.
+#[tactic(auto, using(crate::proofs::NoVariable::none_stands))]
+pub fn have_no_variable(blocks: &[QuadBlock]) -> bool
+    ensures { result ≡ spec.have_no_variable blocks.now }
+{
+    !have_variable(blocks)
 }
 
 fn triple_has_blank(triple: &Triple) -> bool
@@ -55,9 +63,15 @@ fn block_has_blank(block: &QuadBlock) -> bool
     block.triples.as_slice().iter().any(triple_has_blank)
 }
 
-/// Whether a blank node stands in the blocks.
-pub fn have_blank(blocks: &[QuadBlock]) -> bool
+fn have_blank(blocks: &[QuadBlock]) -> bool
     ensures { result ≡ list_any labels.block_has_blank blocks.now }
 {
     blocks.iter().any(block_has_blank)
+}
+
+/// Whether no blank node stands in the blocks.
+pub fn have_no_blank(blocks: &[QuadBlock]) -> bool
+    ensures { result ≡ spec.have_no_blank blocks.now }
+{
+    !have_blank(blocks)
 }

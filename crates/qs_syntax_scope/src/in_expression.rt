@@ -57,7 +57,7 @@ pub fn push_expressions<'a>(
     names: &mut NameList<'a>,
     all: &'a [Expression],
 ) -> Result<(), AllocError>
-    ensures { OnOk result (names.new ≡ names.old ++ spec.in_expressions all.now) }
+    ensures { OnOk result (names.new ≡ names.old ++ inner.in_expressions all.now) }
 {
     for one in all {
         push_expression(names, one)?;

@@ -3,6 +3,7 @@
 ghost use Rattle.std.specs.Prelude.{◌≡◌, ◌++◌, OnOk, IfOk};
 ghost use Rattle.std.specs.List.{flat_map};
 ghost use Rattle.qs_syntax_scope.specs.VariablesIn as spec;
+ghost use Rattle.qs_syntax_scope.specs.inner.VariablesIn as inner;
 
 use crate::first::{first_of_names, number_names};
 use crate::in_expression::push_expression;
@@ -55,7 +56,7 @@ fn push_modifiers<'a>(
     names: &mut NameList<'a>,
     modifiers: &'a SolutionModifiers,
 ) -> Result<(), AllocError>
-    ensures { OnOk result (names.new ≡ names.old ++ spec.in_modifiers modifiers.now) }
+    ensures { OnOk result (names.new ≡ names.old ++ spec.in_keys modifiers.now) }
 {
     for condition in modifiers.order.as_slice() {
         push_expression(names, &condition.key)?;
@@ -64,7 +65,7 @@ fn push_modifiers<'a>(
 }
 
 fn push_select<'a>(names: &mut NameList<'a>, select: &'a Select) -> Result<(), AllocError>
-    ensures { OnOk result (names.new ≡ names.old ++ spec.in_select select.now) }
+    ensures { OnOk result (names.new ≡ names.old ++ inner.in_select select.now) }
 {
     push_projection(names, &select.projection)?;
     push_group(names, &select.pattern)?;
@@ -72,7 +73,7 @@ fn push_select<'a>(names: &mut NameList<'a>, select: &'a Select) -> Result<(), A
 }
 
 fn push_where<'a>(names: &mut NameList<'a>, pattern: &'a Option<Group>) -> Result<(), AllocError>
-    ensures { OnOk result (names.new ≡ names.old ++ spec.in_where pattern.now) }
+    ensures { OnOk result (names.new ≡ names.old ++ inner.in_where pattern.now) }
 {
     match pattern {
         Some(group) => push_group(names, group),
@@ -81,7 +82,7 @@ fn push_where<'a>(names: &mut NameList<'a>, pattern: &'a Option<Group>) -> Resul
 }
 
 fn push_construct<'a>(names: &mut NameList<'a>, construct: &'a Construct) -> Result<(), AllocError>
-    ensures { OnOk result (names.new ≡ names.old ++ spec.in_construct construct.now) }
+    ensures { OnOk result (names.new ≡ names.old ++ inner.in_construct construct.now) }
 {
     push_triples(names, construct.template.as_slice())?;
     push_where(names, &construct.pattern)?;
@@ -89,7 +90,7 @@ fn push_construct<'a>(names: &mut NameList<'a>, construct: &'a Construct) -> Res
 }
 
 fn push_ask<'a>(names: &mut NameList<'a>, ask: &'a Ask) -> Result<(), AllocError>
-    ensures { OnOk result (names.new ≡ names.old ++ spec.in_ask ask.now) }
+    ensures { OnOk result (names.new ≡ names.old ++ inner.in_ask ask.now) }
 {
     push_group(names, &ask.pattern)?;
     push_modifiers(names, &ask.modifiers)
@@ -106,7 +107,7 @@ fn push_form<'a>(names: &mut NameList<'a>, form: &'a QueryForm) -> Result<(), Al
 }
 
 fn push_query<'a>(names: &mut NameList<'a>, query: &'a Query) -> Result<(), AllocError>
-    ensures { OnOk result (names.new ≡ names.old ++ spec.in_query query.now) }
+    ensures { OnOk result (names.new ≡ names.old ++ inner.in_query query.now) }
 {
     push_form(names, &query.form)?;
     push_trailing(names, &query.values)

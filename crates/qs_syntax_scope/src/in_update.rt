@@ -2,6 +2,8 @@
 
 ghost use Rattle.std.specs.Prelude.{◌≡◌, ◌++◌, OnOk, IfOk};
 ghost use Rattle.qs_syntax_scope.specs.VariablesIn as spec;
+ghost use Rattle.qs_syntax_scope.specs.Variables.{block_variables};
+ghost use Rattle.qs_syntax_scope.specs.inner.VariablesIn as inner;
 
 use crate::first::{first_of_names, number_names};
 use crate::in_group::push_group;
@@ -13,7 +15,7 @@ use sqlite_items::Items;
 use std::alloc::{AllocError, Global};
 
 fn push_name<'a>(names: &mut NameList<'a>, name: &'a Option<VarOrIri>) -> Result<(), AllocError>
-    ensures { OnOk result (names.new ≡ names.old ++ spec.in_name name.now) }
+    ensures { OnOk result (names.new ≡ names.old ++ inner.in_name name.now) }
 {
     match name {
         Some(graph) => push_graph(names, graph),
@@ -22,14 +24,14 @@ fn push_name<'a>(names: &mut NameList<'a>, name: &'a Option<VarOrIri>) -> Result
 }
 
 fn push_block<'a>(names: &mut NameList<'a>, block: &'a QuadBlock) -> Result<(), AllocError>
-    ensures { OnOk result (names.new ≡ names.old ++ spec.in_block block.now) }
+    ensures { OnOk result (names.new ≡ names.old ++ block_variables block.now) }
 {
     push_name(names, &block.graph)?;
     push_triples(names, block.triples.as_slice())
 }
 
 fn push_blocks<'a>(names: &mut NameList<'a>, blocks: &'a [QuadBlock]) -> Result<(), AllocError>
-    ensures { OnOk result (names.new ≡ names.old ++ spec.in_blocks blocks.now) }
+    ensures { OnOk result (names.new ≡ names.old ++ inner.in_blocks blocks.now) }
 {
     for block in blocks {
         push_block(names, block)?;
@@ -38,7 +40,7 @@ fn push_blocks<'a>(names: &mut NameList<'a>, blocks: &'a [QuadBlock]) -> Result<
 }
 
 fn push_modify<'a>(names: &mut NameList<'a>, modify: &'a Modify) -> Result<(), AllocError>
-    ensures { OnOk result (names.new ≡ names.old ++ spec.in_modify modify.now) }
+    ensures { OnOk result (names.new ≡ names.old ++ inner.in_modify modify.now) }
 {
     push_blocks(names, modify.delete.as_slice())?;
     push_blocks(names, modify.insert.as_slice())?;
@@ -74,7 +76,7 @@ pub fn operation_variables(
 }
 
 fn push_update<'a>(names: &mut NameList<'a>, update: &'a Update) -> Result<(), AllocError>
-    ensures { OnOk result (names.new ≡ names.old ++ spec.in_update update.now) }
+    ensures { OnOk result (names.new ≡ names.old ++ inner.in_update update.now) }
 {
     for operation in update.operations.as_slice() {
         push_operation(names, operation)?;

@@ -3,8 +3,8 @@
 ghost use Rattle.std.specs.Prelude.{◌≡◌, OnOk};
 ghost use Rattle.std.specs.List.{fold, flat_map};
 ghost use Rattle.qs_syntax_scope.specs.Labels as spec;
-ghost use Rattle.qs_syntax_scope.specs.Met.{add_run};
-ghost use Rattle.qs_syntax_scope.specs.inner.Met.{add_label};
+ghost use Rattle.qs_syntax_scope.specs.inner.Labels.{block_labels};
+ghost use Rattle.qs_syntax_scope.specs.inner.Met.{add_run, add_label};
 
 use crate::met::Met;
 use qs_syntax_ast::pattern::Triple;
@@ -50,7 +50,7 @@ pub fn add_run<'a>(met: &mut Met<'a>, triples: &'a [Triple]) -> Result<(), Alloc
 }
 
 fn add_block<'a>(met: &mut Met<'a>, start: usize, block: &'a QuadBlock) -> Result<(), AllocError>
-    ensures { OnOk result (met.new ≡ fold (add_label start) met.old (spec.block_labels block.now)) }
+    ensures { OnOk result (met.new ≡ fold (add_label start) met.old (block_labels block.now)) }
 {
     add_triples(met, start, block.triples.as_slice())
 }
@@ -61,7 +61,7 @@ fn add_each_block<'a>(
     blocks: &'a [QuadBlock],
 ) -> Result<(), AllocError>
     ensures { OnOk result
-        (met.new ≡ fold (add_label start) met.old (flat_map spec.block_labels blocks.now)) }
+        (met.new ≡ fold (add_label start) met.old (flat_map block_labels blocks.now)) }
 {
     for block in blocks {
         add_block(met, start, block)?;
@@ -72,7 +72,7 @@ fn add_each_block<'a>(
 /// The labels of an INSERT DATA, of which none may stand in one before it.
 #[tactic(auto, using(crate::proofs::AddedLabels::labels_are_run))]
 pub fn add_blocks<'a>(met: &mut Met<'a>, blocks: &'a [QuadBlock]) -> Result<(), AllocError>
-    ensures { OnOk result (met.new ≡ add_run met.old (flat_map spec.block_labels blocks.now)) }
+    ensures { OnOk result (met.new ≡ add_run met.old (flat_map block_labels blocks.now)) }
 {
     let start = met.names.len();
     add_each_block(met, start, blocks)

@@ -3,16 +3,16 @@
 //! The listed variables are those of the tokens, then those of the resolved tree. The second part adds none, but that would be a
 //! theorem over the whole grammar and all of name resolution. Without it the number of a variable could be that of a hidden one.
 
-ghost use Rattle.std.specs.Prelude.{◌↔◌, ◌≡◌, ◌<◌, List, [], ◌∷◌, ◌++◌, ◌||◌, length, slice_get, Some, IsTrue, false};
+ghost use Rattle.std.specs.Prelude.{◌↔◌, ◌≡◌, ◌<◌, List, [], ◌∷◌, ◌++◌, ◌||◌, length, map, slice_get, Some, IsTrue, false};
 ghost use Rattle.std.specs.List.{flat_map};
-ghost use Rattle.qs_syntax_scope.specs.Names.{Name, contains};
+ghost use Rattle.qs_syntax_scope.specs.Names.{Name, contains, are_distinct, are_apart};
 ghost use Rattle.qs_syntax_scope.specs.Firsts.{names_of, firsts};
-ghost use Rattle.qs_syntax_scope.specs.Met.{are_distinct, are_apart};
 ghost use Rattle.qs_syntax_scope.specs.Places.{place_of};
-ghost use Rattle.qs_syntax_scope.specs.Scope.{scope, in_scope, part, fits};
-ghost use Rattle.qs_syntax_scope.specs.inner.Scope.{parts};
+ghost use Rattle.qs_syntax_scope.specs.Scope.{in_scope, group_keeps, all_keep};
+ghost use Rattle.qs_syntax_scope.specs.inner.Scope.{scope_of_pattern};
 ghost use Rattle.qs_syntax_scope.specs.Variables.{triple_variables, graph_variables, column_names};
-ghost use Rattle.qs_syntax_scope.specs.VariablesIn.{in_query, in_update, query_variables, update_variables};
+ghost use Rattle.qs_syntax_scope.specs.VariablesIn.{query_variables, update_variables};
+ghost use Rattle.qs_syntax_scope.specs.inner.VariablesIn.{in_query, in_update};
 ghost use Rattle.qs_syntax_scope.specs.inner.Laws.{EachStandsOnce, EachStandsInOne, EachFits};
 ghost use Rattle.qs_syntax_ast.specs.declared.pattern.Group.{Group, out-Group};
 ghost use Rattle.qs_syntax_ast.specs.declared.pattern.GraphPattern.{GraphPattern};
@@ -54,27 +54,32 @@ pub fn labels_of_runs_apart_stand_in_one()
     ensures { (runs : List (List Name)) → IsTrue (are_apart runs) ↔ EachStandsInOne runs }
 {}
 
-/// The patterns of a group keep the rule of BIND exactly where each fits after those before it, and a BIND fits exactly where its
-/// variable is not in their scope.
+/// The patterns of a group keep the rules of BIND and VALUES exactly where each does after those before it, and a BIND does exactly where
+/// its variable is not in their scope.
 pub fn patterns_fit_one_by_one()
-    ensures group { (group : Group) → scope group ≡ parts (out-Group group).patterns }
-    ensures patterns { (patterns : List GraphPattern) → IsTrue (parts patterns).keeps
+    ensures group { (group : Group) → group_keeps group ≡ all_keep []
+        (map scope_of_pattern (out-Group group).patterns) }
+    ensures patterns { (patterns : List GraphPattern) → IsTrue
+        (all_keep [] (map scope_of_pattern patterns))
         ↔ EachFits patterns }
     ensures bind { (before : List Name) (value : Expression) (variable : Variable)
-        → IsTrue (fits before (part (Bind value variable)))
+        → IsTrue ((scope_of_pattern (Bind value variable)).keeps before)
         ↔ (contains before variable.name ≡ false) }
 {}
 
 /// The variables that each kind of pattern brings into scope (SPARQL 1.1 Query, 18.2.1).
 pub fn patterns_bring_into_scope()
-    ensures triples { (all : List Triple) → (part (Triples all)).names ≡ flat_map triple_variables
-        all }
-    ensures union { (groups : List Group) → (part (Union groups)).names ≡ flat_map in_scope groups }
-    ensures optional { (group : Group) → (part (Optional group)).names ≡ in_scope group }
-    ensures minus { (group : Group) → (part (Minus group)).names ≡ [] }
-    ensures graph { (name : VarOrIri) (group : Group) → (part (Graph name group)).names
+    ensures triples { (all : List Triple) → (scope_of_pattern (Triples all)).names ≡ flat_map
+        triple_variables all }
+    ensures union { (groups : List Group) → (scope_of_pattern (Union groups)).names ≡ flat_map
+        in_scope groups }
+    ensures optional { (group : Group) → (scope_of_pattern (Optional group)).names
+        ≡ in_scope group }
+    ensures minus { (group : Group) → (scope_of_pattern (Minus group)).names ≡ [] }
+    ensures graph { (name : VarOrIri) (group : Group) → (scope_of_pattern (Graph name group)).names
         ≡ graph_variables name ++ in_scope group }
-    ensures bind { (value : Expression) (variable : Variable) → (part (Bind value variable)).names
-        ≡ variable.name ∷ [] }
-    ensures values { (table : InlineData) → (part (Values table)).names ≡ column_names table }
+    ensures bind { (value : Expression) (variable : Variable)
+        → (scope_of_pattern (Bind value variable)).names ≡ variable.name ∷ [] }
+    ensures values { (table : InlineData) → (scope_of_pattern (Values table)).names
+        ≡ column_names table }
 {}

@@ -1,8 +1,7 @@
 //! Names that come one after another, of which some must be new.
 
 ghost use Rattle.std.specs.Prelude.{◌≡◌, ◌∷◌, [], ◌++◌, OnOk};
-ghost use Rattle.qs_syntax_scope.specs.Met as spec;
-ghost use Rattle.qs_syntax_scope.specs.inner.Met as inner;
+ghost use Rattle.qs_syntax_scope.specs.inner.Met as spec;
 
 use crate::name_list::NameList;
 use qs_syntax_ast::shared::Shared;
@@ -47,7 +46,7 @@ impl<'a> Met<'a> {
 
     /// One more label of the run that began at the place.
     pub fn add_label(&mut self, start: usize, label: &'a Shared<Text>) -> Result<(), AllocError>
-        ensures { OnOk result (self.new ≡ inner.add_label start self.old label.now) }
+        ensures { OnOk result (self.new ≡ spec.add_label start self.old label.now) }
     {
         if self.names.is_before(start, label.get().as_str()) {
             self.keeps = false;

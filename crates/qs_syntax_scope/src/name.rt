@@ -1,7 +1,7 @@
 //! Names of variables and labels of blank nodes, borrowed from a tree.
 
 ghost use Rattle.std.specs.Prelude.{◌≡◌, IfOk};
-ghost use Rattle.qs_syntax_scope.specs.Firsts.{with_name};
+ghost use Rattle.qs_syntax_scope.specs.inner.Firsts.{with_name};
 
 use qs_syntax_ast::shared::Shared;
 use qs_syntax_ast::term::Variable;

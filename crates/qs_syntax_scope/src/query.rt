@@ -1,10 +1,10 @@
 //! The rules of queries.
 
-ghost use Rattle.std.specs.Prelude.{◌≡◌, ◌++◌, ◌&&◌, IfOk, OnOk};
-ghost use Rattle.qs_syntax_scope.specs.Met.{are_apart};
+ghost use Rattle.std.specs.Prelude.{◌≡◌, ◌++◌, ◌&&◌, true, unwrap_or, option_map, IfOk, OnOk};
+ghost use Rattle.qs_syntax_scope.specs.Names.{are_apart};
 ghost use Rattle.qs_syntax_scope.specs.Runs.{runs as runs_of};
-ghost use Rattle.qs_syntax_scope.specs.Scope.{binds_are_new, in_scope};
-ghost use Rattle.qs_syntax_scope.specs.Tables.{values_are_tables};
+ghost use Rattle.qs_syntax_scope.specs.Scope.{group_keeps, in_scope};
+ghost use Rattle.qs_syntax_scope.specs.Tables.{is_table};
 ghost use Rattle.qs_syntax_scope.specs.Selected.{selected_are_new as are_new};
 ghost use Rattle.qs_syntax_scope.specs.KeepsScope as spec;
 
@@ -16,6 +16,7 @@ use qs_syntax_ast::pattern::{Group, InlineData};
 use qs_syntax_ast::query::{Query, QueryForm, Select};
 use std::alloc::{AllocError, Global};
 
+#[tactic(auto, using(crate::proofs::Plain::apart_kept))]
 fn labels_are_apart(alloc: Global, group: &Group) -> Result<bool, AllocError>
     ensures { IfOk result (λ b. b ≡ are_apart (runs_of group.now)) }
 {
@@ -24,27 +25,18 @@ fn labels_are_apart(alloc: Global, group: &Group) -> Result<bool, AllocError>
     Ok(met.keeps)
 }
 
-// The tables and the labels of a WHERE.
-fn rest_keeps(alloc: Global, group: &Group) -> Result<bool, AllocError>
-    ensures { IfOk result
-        (λ b. b ≡ (values_are_tables group.now && are_apart (runs_of group.now))) }
-{
-    let tables = tables::group(alloc, group)?;
-    let labels = labels_are_apart(alloc, group)?;
-    Ok(tables && labels)
-}
-
 fn pattern_keeps(alloc: Global, group: &Group) -> Result<bool, AllocError>
     ensures { IfOk result (λ b. b ≡ spec.pattern_keeps group.now) }
 {
-    let binds = binds_are_new(alloc, group)?;
-    let rest = rest_keeps(alloc, group)?;
-    Ok(binds && rest)
+    let keeps = group_keeps(alloc, group)?;
+    let labels = labels_are_apart(alloc, group)?;
+    Ok(keeps && labels)
 }
 
-/// Whether every BIND in the group keeps the rule.
-pub fn binds_are_new(alloc: Global, group: &Group) -> Result<bool, AllocError>
-    ensures { IfOk result (λ b. b ≡ binds_are_new group.now) }
+/// Whether every BIND and every VALUES in the group keeps its rule.
+#[tactic(auto, using(crate::proofs::Kept::group_kept))]
+pub fn group_keeps(alloc: Global, group: &Group) -> Result<bool, AllocError>
+    ensures { IfOk result (λ b. b ≡ group_keeps group.now) }
 {
     let mut names = NameList::new(alloc);
     scope::group(alloc, &mut names, group)
@@ -64,7 +56,7 @@ pub fn push_trailing<'a>(
 }
 
 fn trailing_is_table(alloc: Global, values: &Option<InlineData>) -> Result<bool, AllocError>
-    ensures { IfOk result (λ b. b ≡ spec.trailing_is_table values.now) }
+    ensures { IfOk result (λ b. b ≡ unwrap_or (option_map is_table values.now) true) }
 {
     match values {
         Some(table) => tables::is_table(alloc, table),
@@ -72,22 +64,23 @@ fn trailing_is_table(alloc: Global, values: &Option<InlineData>) -> Result<bool,
     }
 }
 
-// BIND and the items of a SELECT.
+// BIND, VALUES and the items of a SELECT.
+#[tactic(auto, using(crate::proofs::Kept::group_kept, crate::proofs::Kept::names_in_scope))]
 fn names_keep(
     alloc: Global,
     select: &Select,
     values: &Option<InlineData>,
 ) -> Result<bool, AllocError>
     ensures { IfOk result
-        (λ b. b ≡ (binds_are_new select.now.pattern
+        (λ b. b ≡ (group_keeps select.now.pattern
         && are_new (in_scope select.now.pattern ++ spec.trailing_names values.now)
         select.now.projection)) }
 {
     let mut names = NameList::new(alloc);
-    let binds = scope::group(alloc, &mut names, &select.pattern)?;
+    let keeps = scope::group(alloc, &mut names, &select.pattern)?;
     push_trailing(&mut names, values)?;
     let items = selected_are_new(names, &select.projection)?;
-    Ok(binds && items)
+    Ok(keeps && items)
 }
 
 fn select_keeps(
@@ -101,12 +94,12 @@ fn select_keeps(
         select.now.projection)) }
 {
     let names = names_keep(alloc, select, values)?;
-    let rest = rest_keeps(alloc, &select.pattern)?;
-    Ok(names && rest)
+    let labels = labels_are_apart(alloc, &select.pattern)?;
+    Ok(names && labels)
 }
 
 fn construct_keeps(alloc: Global, pattern: &Option<Group>) -> Result<bool, AllocError>
-    ensures { IfOk result (λ b. b ≡ spec.construct_keeps pattern.now) }
+    ensures { IfOk result (λ b. b ≡ unwrap_or (option_map spec.pattern_keeps pattern.now) true) }
 {
     match pattern {
         Some(group) => pattern_keeps(alloc, group),

@@ -2,7 +2,7 @@
 
 ghost use Rattle.std.specs.Prelude.{◌≡◌, OnOk};
 ghost use Rattle.std.specs.List.{fold, flat_map};
-ghost use Rattle.qs_syntax_scope.specs.Met.{add_run};
+ghost use Rattle.qs_syntax_scope.specs.inner.Met.{add_run};
 ghost use Rattle.qs_syntax_scope.specs.Runs as spec;
 ghost use Rattle.qs_syntax_scope.specs.inner.Runs as inner_spec;
 

@@ -1,13 +1,14 @@
-//! The variables in scope of a group, and the rule that BIND keeps.
+//! The variables in scope of a group, and the rules that BIND and VALUES keep.
 
 ghost use Rattle.std.specs.Prelude.{◌≡◌, ◌++◌, [], ◌∷◌, drop, OnOk, IfOk};
 ghost use Rattle.std.specs.List.{fold, flat_map};
-ghost use Rattle.qs_syntax_scope.specs.Met.{after};
+ghost use Rattle.qs_syntax_scope.specs.inner.Met.{after};
 ghost use Rattle.qs_syntax_scope.specs.Scope as spec;
 ghost use Rattle.qs_syntax_scope.specs.inner.Scope as inner_spec;
 ghost use Rattle.qs_syntax_scope.specs.Variables as variables;
 
 use crate::name_list::NameList;
+use crate::tables::is_table;
 use qs_syntax_ast::pattern::{GraphPattern, Group, InlineData, Triple, Verb};
 use qs_syntax_ast::term::{TermPattern, VarOrIri, Variable};
 use std::alloc::{AllocError, Global};
@@ -76,6 +77,7 @@ pub fn push_columns<'a>(names: &mut NameList<'a>, table: &'a InlineData) -> Resu
 }
 
 /// The variables in scope of the group (SPARQL 1.1 Query, 18.2.1). One that several of its patterns bring stands several times.
+#[tactic(auto, using(crate::proofs::Kept::names_in_scope))]
 pub fn in_scope<'a>(alloc: Global, group: &'a Group) -> Result<NameList<'a>, AllocError>
     ensures { IfOk result (λ names. names ≡ spec.in_scope group.now) }
 {
@@ -84,15 +86,15 @@ pub fn in_scope<'a>(alloc: Global, group: &'a Group) -> Result<NameList<'a>, All
     Ok(names)
 }
 
-/// Adds the variables in scope of the group, and says whether every BIND in it keeps the rule.
+/// Adds the variables in scope of the group, and says whether every BIND and every VALUES in it keeps its rule.
 #[cycle(scope)]
 pub fn group<'a>(
     alloc: Global,
     names: &mut NameList<'a>,
     group: &'a Group,
 ) -> Result<bool, AllocError>
-    ensures names { OnOk result (names.new ≡ names.old ++ spec.in_scope group.now) }
-    ensures keeps { IfOk result (λ b. b ≡ spec.binds_are_new group.now) }
+    ensures names { OnOk result (names.new ≡ names.old ++ (inner_spec.scope_of group.now).names) }
+    ensures keeps { IfOk result (λ b. b ≡ (inner_spec.scope_of group.now).keeps) }
 {
     patterns(alloc, names, group.patterns.as_slice())
 }
@@ -123,9 +125,9 @@ fn pattern<'a>(
     start: usize,
     pattern: &'a GraphPattern,
 ) -> Result<bool, AllocError>
-    ensures names { OnOk result (names.new ≡ names.old ++ (spec.part pattern.now).names) }
+    ensures names { OnOk result (names.new ≡ names.old ++ (inner_spec.part pattern.now).names) }
     ensures keeps { IfOk result
-        (λ b. b ≡ spec.fits (drop start names.old) (spec.part pattern.now)) }
+        (λ b. b ≡ inner_spec.fits (drop start names.old) (inner_spec.part pattern.now)) }
 {
     match pattern {
         GraphPattern::Triples(triples) => {
@@ -146,7 +148,7 @@ fn pattern<'a>(
         }
         GraphPattern::Values(table) => {
             push_columns(names, table)?;
-            Ok(true)
+            is_table(alloc, table)
         }
     }
 }

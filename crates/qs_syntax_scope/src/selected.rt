@@ -3,6 +3,7 @@
 ghost use Rattle.std.specs.Prelude.{◌≡◌, OnOk, IfOk};
 ghost use Rattle.std.specs.List.{fold};
 ghost use Rattle.qs_syntax_scope.specs.Selected as spec;
+ghost use Rattle.qs_syntax_scope.specs.inner.Selected.{add_item};
 
 use crate::met::Met;
 use crate::name_list::NameList;
@@ -10,7 +11,7 @@ use qs_syntax_ast::query::{Projection, SelectItem};
 use std::alloc::AllocError;
 
 fn add_item<'a>(met: &mut Met<'a>, item: &'a SelectItem) -> Result<(), AllocError>
-    ensures { OnOk result (met.new ≡ spec.add_item met.old item.now) }
+    ensures { OnOk result (met.new ≡ add_item met.old item.now) }
 {
     match item {
         SelectItem::Variable(variable) => met.push(&variable.name),
@@ -19,7 +20,7 @@ fn add_item<'a>(met: &mut Met<'a>, item: &'a SelectItem) -> Result<(), AllocErro
 }
 
 fn add_items<'a>(met: &mut Met<'a>, items: &'a [SelectItem]) -> Result<(), AllocError>
-    ensures { OnOk result (met.new ≡ fold spec.add_item met.old items.now) }
+    ensures { OnOk result (met.new ≡ fold add_item met.old items.now) }
 {
     for item in items {
         add_item(met, item)?;
@@ -28,6 +29,7 @@ fn add_items<'a>(met: &mut Met<'a>, items: &'a [SelectItem]) -> Result<(), Alloc
 }
 
 /// Whether no variable after AS is among the given ones, or that of an earlier item.
+#[tactic(auto, using(crate::proofs::Plain::items_kept))]
 pub fn selected_are_new<'a>(
     taken: NameList<'a>,
     projection: &'a Projection,

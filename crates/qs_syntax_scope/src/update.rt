@@ -1,60 +1,43 @@
 //! The rules of updates.
 
-ghost use Rattle.std.specs.Prelude.{◌≡◌, IfOk, OnOk, map};
+ghost use Rattle.std.specs.Prelude.{◌≡◌, ◌&&◌, [], IfOk, OnOk, map};
 ghost use Rattle.std.specs.List.{fold, flat_map, list_all};
-ghost use Rattle.qs_syntax_scope.specs.Met.{add_run, are_apart};
+ghost use Rattle.qs_syntax_scope.specs.Scope.{group_keeps};
+ghost use Rattle.qs_syntax_scope.specs.inner.Met.{after, add_run};
 ghost use Rattle.qs_syntax_scope.specs.KeepsScope as spec;
 
-use crate::blocks::{have_blank, have_variable};
+use crate::blocks::{have_no_blank, have_no_variable};
 use crate::met::Met;
-use crate::query::binds_are_new;
-use crate::{labels, runs, tables};
-use qs_syntax_ast::update::{Operation, Update};
+use crate::query::group_keeps;
+use crate::{labels, runs};
+use qs_syntax_ast::update::{Modify, Operation, QuadBlock, Update};
 use std::alloc::{AllocError, Global};
 
-fn data_names_no_variable(operation: &Operation) -> bool
-    ensures { result ≡ spec.data_names_no_variable operation.now }
+fn data_can_be_removed(blocks: &[QuadBlock]) -> bool
+    ensures { result ≡ (spec.have_no_variable blocks.now && spec.have_no_blank blocks.now) }
 {
-    match operation {
-        Operation::InsertData(blocks) | Operation::DeleteData(blocks) => !have_variable(
-            blocks.as_slice(),
-        ),
-        _ => true,
-    }
+    have_no_variable(blocks) && have_no_blank(blocks)
 }
 
-fn deletes_no_blank(operation: &Operation) -> bool
-    ensures { result ≡ spec.deletes_no_blank operation.now }
+fn modify_keeps(alloc: Global, modify: &Modify) -> Result<bool, AllocError>
+    ensures { IfOk result
+        (λ b. b ≡ (spec.have_no_blank modify.now.delete && group_keeps modify.now.pattern)) }
 {
-    match operation {
-        Operation::DeleteData(blocks) | Operation::DeleteWhere(blocks) => !have_blank(
-            blocks.as_slice(),
-        ),
-        Operation::Modify(modify) => !have_blank(modify.delete.as_slice()),
-        _ => true,
-    }
-}
-
-fn where_keeps(alloc: Global, operation: &Operation) -> Result<bool, AllocError>
-    ensures { IfOk result (λ b. b ≡ spec.where_keeps operation.now) }
-{
-    match operation {
-        Operation::Modify(modify) => {
-            let binds = binds_are_new(alloc, &modify.pattern)?;
-            let tables = tables::group(alloc, &modify.pattern)?;
-            Ok(binds && tables)
-        }
-        _ => Ok(true),
-    }
+    let blanks = have_no_blank(modify.delete.as_slice());
+    let pattern = group_keeps(alloc, &modify.pattern)?;
+    Ok(blanks && pattern)
 }
 
 fn operation_keeps(alloc: Global, operation: &Operation) -> Result<bool, AllocError>
     ensures { IfOk result (λ b. b ≡ spec.operation_keeps operation.now) }
 {
-    let variables = data_names_no_variable(operation);
-    let blanks = deletes_no_blank(operation);
-    let pattern = where_keeps(alloc, operation)?;
-    Ok(variables && blanks && pattern)
+    match operation {
+        Operation::InsertData(blocks) => Ok(have_no_variable(blocks.as_slice())),
+        Operation::DeleteData(blocks) => Ok(data_can_be_removed(blocks.as_slice())),
+        Operation::DeleteWhere(blocks) => Ok(have_no_blank(blocks.as_slice())),
+        Operation::Modify(modify) => modify_keeps(alloc, modify),
+        _ => Ok(true),
+    }
 }
 
 fn operations_keep(alloc: Global, operations: &[Operation]) -> Result<bool, AllocError>
@@ -79,7 +62,8 @@ fn add_runs<'a>(met: &mut Met<'a>, operation: &'a Operation) -> Result<(), Alloc
 
 // Whether no label stands in two runs of the operations' WHERE.
 fn runs_are_apart(alloc: Global, operations: &[Operation]) -> Result<bool, AllocError>
-    ensures { IfOk result (λ b. b ≡ are_apart (flat_map spec.operation_runs operations.now)) }
+    ensures { IfOk result
+        (λ b. b ≡ (fold add_run (after []) (flat_map spec.operation_runs operations.now)).keeps) }
 {
     let mut met = Met::new(alloc);
     for operation in operations {
@@ -99,7 +83,8 @@ fn add_inserted<'a>(met: &mut Met<'a>, operation: &'a Operation) -> Result<(), A
 
 // Whether no label stands in two INSERT DATA.
 fn inserted_are_apart(alloc: Global, operations: &[Operation]) -> Result<bool, AllocError>
-    ensures { IfOk result (λ b. b ≡ are_apart (map spec.inserted_labels operations.now)) }
+    ensures { IfOk result
+        (λ b. b ≡ (fold add_run (after []) (map spec.inserted_labels operations.now)).keeps) }
 {
     let mut met = Met::new(alloc);
     for operation in operations {
@@ -111,7 +96,7 @@ fn inserted_are_apart(alloc: Global, operations: &[Operation]) -> Result<bool, A
 /// Whether the update keeps the rules of scope beyond the grammar (SPARQL 1.1 Query, the notes on the grammar in 19.8): those of
 /// queries in its WHERE clauses, no variable in data, no blank node in what it deletes, and labels of blank nodes in one run and in
 /// one INSERT DATA. The only error is running out of memory.
-#[tactic(auto, unfolding(crate::specs::KeepsScope::update_keeps_scope))]
+#[tactic(auto, using(crate::proofs::Plain::apart_kept), unfolding(crate::specs::KeepsScope::update_keeps_scope))]
 pub fn update_keeps_scope(alloc: Global, update: &Update) -> Result<bool, AllocError>
     ensures { IfOk result (λ b. b ≡ spec.update_keeps_scope update.now) }
 {

@@ -3,7 +3,7 @@
 ghost use Rattle.qs_syntax_grammar.specs.inner.Grammar.{read};
 ghost use Rattle.qs_syntax_tokens.specs.inner.Exactly.{ReadsExactly};
 ghost use Rattle.qs_syntax_tree.specs.Rules as rules;
-ghost use Rattle.qs_syntax_tree.specs.Table.{grammar};
+ghost use Rattle.qs_syntax_tree.specs.inner.Table.{guided};
 
 use crate::parser::Parser;
 use crate::tokens::Tokens;
@@ -15,7 +15,7 @@ impl Parser {
     /// The word of a function of one argument ([121]).
     #[tactic(auto, unfolding(qs_syntax_tree::specs::Rules::unary_function))]
     pub fn unary_function(&self, tokens: &mut Tokens<'_>) -> Result<UnaryFunction, Fault>
-        ensures { ReadsExactly (read grammar self.now.depth rules.unary_function tokens.old) result
+        ensures { ReadsExactly (read guided self.now.depth rules.unary_function tokens.old) result
             tokens.new }
     {
         if tokens.peek_is(&[Kind::IsIri]) {
@@ -57,7 +57,7 @@ impl Parser {
     /// The word of a function of two arguments ([121]).
     #[tactic(auto, unfolding(qs_syntax_tree::specs::Rules::binary_function))]
     pub fn binary_function(&self, tokens: &mut Tokens<'_>) -> Result<BinaryFunction, Fault>
-        ensures { ReadsExactly (read grammar self.now.depth rules.binary_function tokens.old) result
+        ensures { ReadsExactly (read guided self.now.depth rules.binary_function tokens.old) result
             tokens.new }
     {
         if tokens.peek_is(&[Kind::SameTerm]) {
@@ -83,7 +83,7 @@ impl Parser {
     /// The mark of a comparison ([114]).
     #[tactic(auto, unfolding(qs_syntax_tree::specs::Rules::comparison))]
     pub fn comparison(&self, tokens: &mut Tokens<'_>) -> Result<Comparison, Fault>
-        ensures { ReadsExactly (read grammar self.now.depth rules.comparison tokens.old) result
+        ensures { ReadsExactly (read guided self.now.depth rules.comparison tokens.old) result
             tokens.new }
     {
         if tokens.peek_is(&[Kind::Equal]) {

@@ -1,7 +1,7 @@
 //! What some rules begin with (SPARQL 1.1 Query, 19.8).
 
 ghost use Rattle.std.specs.Prelude.{◌≡◌};
-ghost use Rattle.qs_syntax_tree.specs.Table as table;
+ghost use Rattle.qs_syntax_tree.specs.inner.Table as table;
 
 use qs_syntax_tree::kind::Kind;
 use qs_syntax_tree::triples::Form;

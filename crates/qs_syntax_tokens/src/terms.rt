@@ -3,7 +3,8 @@
 ghost use Rattle.qs_syntax_grammar.specs.inner.Grammar.{read};
 ghost use Rattle.qs_syntax_tokens.specs.inner.Exactly.{ReadsExactly};
 ghost use Rattle.qs_syntax_tree.specs.Rules as rules;
-ghost use Rattle.qs_syntax_tree.specs.Table.{grammar};
+ghost use Rattle.qs_syntax_tree.specs.inner.Procedures as procedures;
+ghost use Rattle.qs_syntax_tree.specs.inner.Table.{guided};
 
 use crate::parser::Parser;
 use crate::tokens::Tokens;
@@ -16,16 +17,16 @@ use qs_syntax_tree::token::Span;
 impl Parser {
     /// A variable ([108]).
     pub fn var(&self, tokens: &mut Tokens<'_>) -> Result<Span, Fault>
-        ensures { ReadsExactly (read grammar self.now.depth rules.var tokens.old) result
+        ensures { ReadsExactly (read guided self.now.depth rules.var tokens.old) result
             tokens.new }
     {
         Ok(tokens.expect(Kind::Var)?.span)
     }
 
     /// `(?v)`, the argument of BOUND ([121]).
-    #[tactic(auto, unfolding(qs_syntax_tree::specs::Rules::bound_var))]
+    #[tactic(auto, unfolding(qs_syntax_tree::specs::inner::Procedures::bound_var))]
     pub fn bound_var(&self, tokens: &mut Tokens<'_>) -> Result<Span, Fault>
-        ensures { ReadsExactly (read grammar self.now.depth rules.bound_var tokens.old) result
+        ensures { ReadsExactly (read guided self.now.depth procedures.bound_var tokens.old) result
             tokens.new }
     {
         tokens.expect(Kind::LeftParen)?;
@@ -37,7 +38,7 @@ impl Parser {
     /// An IRI, full or prefixed ([136]).
     #[tactic(auto, unfolding(qs_syntax_tree::specs::Rules::iri))]
     pub fn iri(&self, tokens: &mut Tokens<'_>) -> Result<Iri, Fault>
-        ensures { ReadsExactly (read grammar self.now.depth rules.iri tokens.old) result
+        ensures { ReadsExactly (read guided self.now.depth rules.iri tokens.old) result
             tokens.new }
     {
         if tokens.peek_is(&[Kind::IriRef]) {
@@ -52,7 +53,7 @@ impl Parser {
     /// A variable or an IRI ([107]).
     #[tactic(auto, unfolding(qs_syntax_tree::specs::Rules::var_or_iri))]
     pub fn var_or_iri(&self, tokens: &mut Tokens<'_>) -> Result<VarOrIri, Fault>
-        ensures { ReadsExactly (read grammar self.now.depth rules.var_or_iri tokens.old) result
+        ensures { ReadsExactly (read guided self.now.depth rules.var_or_iri tokens.old) result
             tokens.new }
     {
         if tokens.peek_is(&[Kind::Var]) {
@@ -63,7 +64,7 @@ impl Parser {
 
     #[tactic(auto, unfolding(qs_syntax_tree::specs::Rules::annotation))]
     fn annotation(&self, tokens: &mut Tokens<'_>) -> Result<Option<Annotation>, Fault>
-        ensures { ReadsExactly (read grammar self.now.depth rules.annotation tokens.old) result
+        ensures { ReadsExactly (read guided self.now.depth rules.annotation tokens.old) result
             tokens.new }
     {
         if tokens.peek_is(&[Kind::LangTag]) {
@@ -79,7 +80,7 @@ impl Parser {
     /// A literal ([129], [130], [134]).
     #[tactic(auto, unfolding(qs_syntax_tree::specs::Rules::literal))]
     pub fn literal(&self, tokens: &mut Tokens<'_>) -> Result<Literal, Fault>
-        ensures { ReadsExactly (read grammar self.now.depth rules.literal tokens.old) result
+        ensures { ReadsExactly (read guided self.now.depth rules.literal tokens.old) result
             tokens.new }
     {
         if tokens.peek_is(&[Kind::String]) {
@@ -103,7 +104,7 @@ impl Parser {
     /// A variable, an IRI, a literal or a blank node that has a label ([106]).
     #[tactic(auto, using(crate::proofs::FirstKinds::first_iri, crate::proofs::FirstKinds::first_literal), unfolding(qs_syntax_tree::specs::Rules::term))]
     pub fn term(&self, tokens: &mut Tokens<'_>) -> Result<Term, Fault>
-        ensures { ReadsExactly (read grammar self.now.depth rules.term tokens.old) result
+        ensures { ReadsExactly (read guided self.now.depth rules.term tokens.old) result
             tokens.new }
     {
         if tokens.peek_is(&[Kind::Var]) {
@@ -125,10 +126,10 @@ impl Parser {
     }
 
     /// A variable, an IRI or a literal as an operand ([119]).
-    #[tactic(auto, using(crate::proofs::FirstKinds::first_iri, crate::proofs::FirstKinds::first_literal), unfolding(qs_syntax_tree::specs::Rules::operand_term))]
+    #[tactic(auto, using(crate::proofs::FirstKinds::first_iri, crate::proofs::FirstKinds::first_literal), unfolding(qs_syntax_tree::specs::inner::Procedures::operand_term))]
     pub fn operand_term(&self, tokens: &mut Tokens<'_>) -> Result<Expression, Fault>
-        ensures { ReadsExactly (read grammar self.now.depth rules.operand_term tokens.old) result
-            tokens.new }
+        ensures { ReadsExactly (read guided self.now.depth procedures.operand_term tokens.old)
+            result tokens.new }
     {
         if tokens.peek_is(&[Kind::IriRef, Kind::PnameLn, Kind::PnameNs]) {
             return Ok(Expression::Iri(self.iri(tokens)?));

@@ -6,7 +6,7 @@ ghost use Rattle.qs_syntax_tokens.specs.inner.Exactly.{ReadsExactly};
 ghost use Rattle.qs_syntax_grammar.specs.inner.Grammar.{read};
 ghost use Rattle.qs_syntax_grammar.specs.Notation.{◌<<◌};
 ghost use Rattle.qs_syntax_grammar.specs.Rule.{empty, place_of, token};
-ghost use Rattle.qs_syntax_tree.specs.Table.{grammar};
+ghost use Rattle.qs_syntax_tree.specs.inner.Table.{guided};
 ghost use Rattle.qs_syntax_tree.specs.Sparql.{sparql};
 ghost use Rattle.qs_syntax_tree.specs.Sparql as spec;
 ghost use Rattle.qs_syntax_grammar.specs.declared.fault.Fault.TheVariants as Fault;
@@ -111,7 +111,7 @@ impl<'a> Tokens<'a> {
 
     /// The value, after which the next token must be of the kind. A procedure that ends so drops no tree by itself.
     pub fn closing<T: Drop>(&mut self, value: T, kind: Kind) -> Result<T, Fault>
-        ensures { ReadsExactly (read grammar 0 (empty value << token kind) self.old) result
+        ensures { ReadsExactly (read guided 0 (empty value << token kind) self.old) result
             self.new }
     {
         self.expect(kind)?;

@@ -2,7 +2,8 @@
 
 ghost use Rattle.std.specs.Prelude.{◌≡◌, [], ◌∷◌, IfOk, OnOk};
 ghost use Rattle.qs_syntax_grammar.specs.inner.Repeated.{keep};
-ghost use Rattle.qs_syntax_tree.specs.Trees.{path_chain, chain, sum, repeated, inverted, singles, related};
+ghost use Rattle.qs_syntax_tree.specs.Trees.{path_chain, chain, sum, repeated, inverted, related};
+ghost use Rattle.qs_syntax_tree.specs.inner.Trees.{singles};
 
 use qs_base::{box_pair, box_three};
 use qs_syntax_tree::expression::{

@@ -1,3 +1,4 @@
+pub mod SameRules
 pub mod Sure
 pub mod Unambiguous
 pub mod WordRows

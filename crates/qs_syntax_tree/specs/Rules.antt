@@ -2,10 +2,9 @@
 -- text begins at `query` or `update`. A definition can't name one below it, so the standard's
 -- productions are an index at the head, with their numbers. Rules are left-factored at `[` in
 -- subjects and objects, at INSERT and DELETE, and at NOT; they spell the same texts.
-use Rattle.std.specs.Prelude.{true, false, List, [], ◌∷◌, ◌++◌, Option, Some, None}
+use Rattle.std.specs.Prelude.{true, false, List, [], ◌∷◌, ◌++◌, Option, Some, None, map, is_some}
+use Rattle.std.specs.List.{filter_map, flat_map}
 use Rattle.qs_syntax_grammar.specs.Rule.{token, many, made, placed, ref}
-use Rattle.qs_syntax_grammar.specs.Notation.{◌<$>◌, ◌>>◌, ◌<<◌, ◌&◌, ◌<|>◌, or, opt, cons, kept}
-use Rattle.qs_syntax_grammar.specs.Notation.{joined}
 use Rattle.qs_syntax_tree.specs.declared.kind.Kind.{Kind}
 use Rattle.qs_syntax_tree.specs.declared.kind.Kind.TheVariants as k
 use Rattle.qs_syntax_tree.specs.declared.token.Token.{Token}
@@ -27,7 +26,6 @@ use Rattle.qs_syntax_tree.specs.declared.path.Repetition.{Repetition}
 use Rattle.qs_syntax_tree.specs.declared.path.Repetition.TheVariants as repetition_tree
 use Rattle.qs_syntax_tree.specs.declared.path.Path.{Path}
 use Rattle.qs_syntax_tree.specs.declared.path.Path.TheVariants as path_tree
-use Rattle.qs_syntax_tree.specs.declared.path.PathOperand.{PathOperand}
 use Rattle.qs_syntax_tree.specs.declared.path.Verb.{Verb}
 use Rattle.qs_syntax_tree.specs.declared.path.Verb.TheVariants as verb_tree
 use Rattle.qs_syntax_tree.specs.declared.triples.GraphNode.{GraphNode}
@@ -45,10 +43,8 @@ use Rattle.qs_syntax_tree.specs.declared.expression.Call.{Call}
 use Rattle.qs_syntax_tree.specs.declared.expression.Call.TheVariants as call_tree
 use Rattle.qs_syntax_tree.specs.declared.expression.Expression.{Expression}
 use Rattle.qs_syntax_tree.specs.declared.expression.Expression.TheVariants as expression_tree
-use Rattle.qs_syntax_tree.specs.declared.expression.Relation.{Relation}
 use Rattle.qs_syntax_tree.specs.declared.expression.Relation.TheVariants as relation_tree
 use Rattle.qs_syntax_tree.specs.declared.expression.Operand.{Operand}
-use Rattle.qs_syntax_tree.specs.declared.expression.Addend.{Addend}
 use Rattle.qs_syntax_tree.specs.declared.pattern.Group.{Group}
 use Rattle.qs_syntax_tree.specs.declared.pattern.Element.{Element}
 use Rattle.qs_syntax_tree.specs.declared.pattern.GraphPattern.{GraphPattern}
@@ -58,12 +54,9 @@ use Rattle.qs_syntax_tree.specs.declared.pattern.DataValue.{DataValue}
 use Rattle.qs_syntax_tree.specs.declared.pattern.DataValue.TheVariants as datum
 use Rattle.qs_syntax_tree.specs.declared.query.PrefixDeclaration.{PrefixDeclaration}
 use Rattle.qs_syntax_tree.specs.declared.query.Query.{Query}
-use Rattle.qs_syntax_tree.specs.declared.query.QueryForm.{QueryForm}
 use Rattle.qs_syntax_tree.specs.declared.query.QueryForm.TheVariants as form_tree
 use Rattle.qs_syntax_tree.specs.declared.query.Select.{Select}
-use Rattle.qs_syntax_tree.specs.declared.query.Duplicates.{Duplicates}
 use Rattle.qs_syntax_tree.specs.declared.query.Duplicates.TheVariants as duplicates_tree
-use Rattle.qs_syntax_tree.specs.declared.query.Projection.{Projection}
 use Rattle.qs_syntax_tree.specs.declared.query.Projection.TheVariants as projection_tree
 use Rattle.qs_syntax_tree.specs.declared.query.SelectItem.{SelectItem}
 use Rattle.qs_syntax_tree.specs.declared.query.SelectItem.TheVariants as item_tree
@@ -88,11 +81,13 @@ use Rattle.qs_syntax_tree.specs.declared.update.QuadElement.{QuadElement}
 use Rattle.qs_syntax_tree.specs.declared.update.Quads.TheVariants as quads_tree
 use Rattle.qs_syntax_tree.specs.declared.triples.Form.{Form}
 use Rattle.qs_syntax_tree.specs.declared.triples.Form.TheVariants as form
-use Rattle.qs_syntax_tree.specs.Sparql.{Name, Rule}
+use Rattle.qs_syntax_tree.specs.Sparql.{Rule}
 use Rattle.qs_syntax_tree.specs.Sparql as name
-use Rattle.qs_syntax_tree.specs.Trees.{singles, is_there, path_operand, path_chain, repeated}
-use Rattle.qs_syntax_tree.specs.Trees.{inverted, property_of, operand_of, chain, addend_of, sum}
-use Rattle.qs_syntax_tree.specs.Trees.{related, element_of, group_of, steps_of}
+use Rattle.qs_syntax_grammar.specs.Notation.{◌<$>◌, ◌>>◌, ◌<<◌, ◌&◌, ◌<|>◌, or, opt, cons}
+use Rattle.qs_syntax_tree.specs.Trees.{path_operand, path_chain, repeated}
+use Rattle.qs_syntax_tree.specs.Trees.{inverted, property_of, subject_of, operand_of, chain}
+use Rattle.qs_syntax_tree.specs.Trees.{addend_of, sum, related, element_of, group_of, order_by}
+use Rattle.qs_syntax_tree.specs.Trees.{quads_of, modify, steps_of}
 
 -- ==== the standard's productions (SPARQL 1.1 Query, 19.8): number, definition, what it spells
 
@@ -103,8 +98,9 @@ use Rattle.qs_syntax_tree.specs.Trees.{related, element_of, group_of, steps_of}
 -- [10] construct: Construct = "CONSTRUCT" ("{" Tmpl? "}" Where Mods | "WHERE" "{" Tmpl? "}" Mods)
 -- [12] ask: Ask = "ASK" Where Mods
 -- [17] where_clause: Where = "WHERE"? Group
--- [18, 25] modifiers: Mods = ("ORDER" "BY" Order+)? (Limit Offset? | Offset Limit?)?
+-- [18] modifiers: Mods = ("ORDER" "BY" Order+)? Slice
 -- [24] order: Order = ("ASC" | "DESC") "(" Expr ")" | Constraint | VAR
+-- [25] slice: Slice = (Limit Offset? | Offset Limit?)?
 -- [26] limit: Limit = "LIMIT" INTEGER
 -- [27] offset: Offset = "OFFSET" INTEGER
 -- [29] update: Update = Prologue (Op (";" Update)?)?
@@ -151,7 +147,7 @@ use Rattle.qs_syntax_tree.specs.Trees.{related, element_of, group_of, steps_of}
 -- [129-135] literal: Literal = STRING (LANGTAG | "^^" Iri)? | INTEGER | SIGNED | "true" | "false"
 -- [136, 137] iri: Iri = IRIREF | PNAME_LN | PNAME_NS
 
--- ==== what the procedures read, in the order in which one needs another
+-- ==== the productions, in the order in which one needs another
 
 -- ---- tokens
 
@@ -176,6 +172,20 @@ parens p = the k.LeftParen >> (p << the k.RightParen)
 
 abbrev pub var : Rule Span
 var = leaf k.Var
+
+-- ---- repetitions
+
+-- p+
+abbrev pub plus : {A : Type 0} → Rule A → Rule (List A)
+plus p = cons <$> p & many p
+
+-- p (k p)*
+abbrev pub separated : {A : Type 0} → Kind → Rule A → Rule (A × List A)
+separated k p = p & many (the k >> p)
+
+-- b (p b)*
+abbrev pub between : {A : Type 0} → Rule (List A) → Rule A → Rule (List A)
+between b p = (λ x. x.0 ++ x.1) <$> b & (flat_map (λ y. y) <$> many (cons <$> p & b))
 
 -- ---- the rules that can hold themselves
 
@@ -209,16 +219,14 @@ var_or_iri = var_or_iri_tree.Var <$> var <|> var_or_iri_tree.Iri <$> iri
 
 -- (LANGTAG | "^^" Iri)?
 unfoldable pub annotation : Rule (Option Annotation)
-annotation =
-    opt (annotation_tree.Tag <$> leaf k.LangTag <|> annotation_tree.Datatype <$> the k.CaretCaret >>
-    iri)
+annotation = opt (annotation_tree.Tag <$> leaf k.LangTag
+    <|> annotation_tree.Datatype <$> the k.CaretCaret >> iri)
 
 -- Literal = STRING (LANGTAG | "^^" Iri)? | INTEGER | SIGNED | "true" | "false"
 unfoldable pub literal : Rule Literal
 literal = (λ x. literal_tree.String x.0 x.1) <$> leaf k.String & annotation
     <|> literal_tree.Integer <$> (leaf k.Integer <|> leaf k.Signed)
-    <|> k.True ⇒ literal_tree.Boolean true
-    <|> k.False ⇒ literal_tree.Boolean false
+    <|> k.True ⇒ literal_tree.Boolean true <|> k.False ⇒ literal_tree.Boolean false
 
 -- Node = VAR | Iri | Literal | BLANK | "[" "]", here without the last
 unfoldable pub term : Rule Term
@@ -233,20 +241,12 @@ predicate = predicate_tree.Iri <$> iri <|> k.A ⇒ predicate_tree.RdfType
 
 -- One = "^"? (Iri | "a")
 unfoldable pub negated_one : Rule NegatedPredicate
-negated_one = (λ x. record { place = x.0; inverse = is_there x.1.0; predicate = x.1.1 }) <$> placed
+negated_one = (λ x. record { place = x.0; inverse = is_some x.1.0; predicate = x.1.1 }) <$> placed
     (opt (the k.Caret) & predicate)
-
--- ("|" One)*
-unfoldable pub more_negated : Rule (List NegatedPredicate)
-more_negated = many (the k.Bar >> negated_one)
-
--- One ("|" One)*
-unfoldable pub negated_all : Rule (List NegatedPredicate)
-negated_all = cons <$> negated_one & more_negated
 
 -- Neg = One | "(" (One ("|" One)*)? ")"
 unfoldable pub negated : Rule (List NegatedPredicate)
-negated = (λ x. x ∷ []) <$> negated_one <|> parens (or [] negated_all)
+negated = (λ x. x ∷ []) <$> negated_one <|> parens (or [] (cons <$> separated k.Bar negated_one))
 
 -- Prim = Iri | "a" | "!" Neg | "(" Path ")"
 unfoldable pub path_primary : Rule Path
@@ -260,26 +260,18 @@ repetition = k.Question ⇒ repetition_tree.ZeroOrOne <|> k.Star ⇒ repetition_
 
 -- Elt = "^"? Prim ("?" | "*" | "+")?
 unfoldable pub path_element : Rule Path
-path_element = (λ x. inverted (is_there x.0.0) (repeated x.0.1 x.1)) <$> opt (the k.Caret)
+path_element = (λ x. inverted (is_some x.0.0) (repeated x.0.1 x.1)) <$> opt (the k.Caret)
     & path_primary & opt repetition
-
--- ("/" Elt)*
-unfoldable pub more_elements : Rule (List PathOperand)
-more_elements = many (the k.Slash >> (path_operand <$> placed path_element))
 
 -- Seq = Elt ("/" Elt)*
 unfoldable pub path_sequence : Rule Path
 path_sequence =
-    path_chain path_tree.Sequence <$> (path_operand <$> placed path_element) & more_elements
-
--- ("|" Seq)*
-unfoldable pub more_sequences : Rule (List PathOperand)
-more_sequences = many (the k.Bar >> (path_operand <$> placed path_sequence))
+    path_chain path_tree.Sequence <$> separated k.Slash (path_operand <$> placed path_element)
 
 -- Path = Seq ("|" Seq)*
 unfoldable pub path_rule : Rule Path
-path_rule = path_chain path_tree.Alternative <$> (path_operand <$> placed path_sequence)
-    & more_sequences
+path_rule =
+    path_chain path_tree.Alternative <$> separated k.Bar (path_operand <$> placed path_sequence)
 
 -- ---- triples
 
@@ -294,49 +286,26 @@ object f = node_tree.Term <$> term
     <|> the k.LeftBracket >> (k.RightBracket ⇒ node_tree.Term term_tree.Anonymous
     <|> node_tree.BlankNodePropertyList <$> properties f << the k.RightBracket)
 
--- ("," Object)*
-unfoldable pub more_objects : Form → Rule (List GraphNode)
-more_objects f = many (the k.Comma >> object f)
-
 -- Objects = Object ("," Object)*
 unfoldable pub objects : Form → Rule (List GraphNode)
-objects f = cons <$> object f & more_objects f
+objects f = cons <$> separated k.Comma (object f)
 
 -- Verb Objects
 unfoldable pub property : Form → Rule Property
 property f = property_of <$> verb f & objects f
 
--- ";" (Verb Objects)?
-unfoldable pub next_property : Form → Rule (Option Property)
-next_property f = the k.Semicolon >> opt (property f)
-
--- (";" (Verb Objects)?)*
-unfoldable pub more_properties : Form → Rule (List Property)
-more_properties f = kept <$> many (next_property f)
-
 -- Props = Verb Objects (";" (Verb Objects)?)*
 unfoldable pub properties_rule : Form → Rule (List Property)
-properties_rule f = cons <$> property f & more_properties f
+properties_rule f =
+    cons <$> property f & (filter_map (λ x. x) <$> many (the k.Semicolon >> opt (property f)))
 
--- "[" "]" Props, from its "]" on
-unfoldable pub anonymous_subject : Form → Rule TriplesSameSubject
-anonymous_subject f = (λ x. record { subject = node_tree.Term term_tree.Anonymous; properties = x })
-    <$> the k.RightBracket >> properties f
-
--- "[" Props "]" Props?, after its "["
-unfoldable pub property_subject : Form → Rule TriplesSameSubject
-property_subject f =
-    (λ x. record { subject = node_tree.BlankNodePropertyList x.0; properties = x.1 })
-    <$> properties f << the k.RightBracket & or [] (properties f)
-
--- "[" "]" Props | "[" Props "]" Props?, left-factored at "["
-unfoldable pub bracketed_subject : Form → Rule TriplesSameSubject
-bracketed_subject f = the k.LeftBracket >> (anonymous_subject f <|> property_subject f)
-
--- Same = Node Props | "[" Props "]" Props?
+-- Same = Node Props | "[" Props "]" Props?, left-factored at "["
 unfoldable pub same_subject : Form → Rule TriplesSameSubject
-same_subject f = (λ x. record { subject = node_tree.Term x.0; properties = x.1 }) <$> term
-    & properties f <|> bracketed_subject f
+same_subject f = (λ x. subject_of (node_tree.Term x.0) x.1) <$> term & properties f
+    <|> the k.LeftBracket
+    >> (subject_of (node_tree.Term term_tree.Anonymous) <$> the k.RightBracket >> properties f
+    <|> (λ x. subject_of (node_tree.BlankNodePropertyList x.0) x.1)
+    <$> properties f << the k.RightBracket & or [] (properties f))
 
 -- Triples = Same ("." Triples?)?
 -- Tmpl = Triples with Verb = VAR | Iri | "a"
@@ -349,74 +318,37 @@ triples_rule f = cons <$> same_subject f & or [] (the k.Dot >> or [] (triples f)
 unfoldable pub parenthesized : Rule Expression
 parenthesized = parens expression
 
--- "," Expr
-unfoldable pub next_argument : Rule Expression
-next_argument = the k.Comma >> expression
-
--- Expr "," Expr
-unfoldable pub two_expressions : Rule (Expression × Expression)
-two_expressions = expression & next_argument
-
--- Expr "," Expr "," Expr
-unfoldable pub three_expressions : Rule ((Expression × Expression) × Expression)
-three_expressions = two_expressions & next_argument
-
--- "(" VAR ")"
-unfoldable pub bound_var : Rule Span
-bound_var = parens var
-
--- "(" Expr "," Expr ")"
-unfoldable pub two_arguments : Rule (Expression × Expression)
-two_arguments = parens two_expressions
-
--- "(" Expr "," Expr "," Expr ")"
-unfoldable pub three_arguments : Rule ((Expression × Expression) × Expression)
-three_arguments = parens three_expressions
-
--- ("," Expr)*
-unfoldable pub more_expressions : Rule (List Expression)
-more_expressions = many next_argument
-
 -- List = "(" (Expr ("," Expr)*)? ")"
 unfoldable pub list : Rule (List Expression)
-list = parens (or [] (cons <$> expression & more_expressions))
+list = parens (or [] (cons <$> separated k.Comma expression))
 
 unfoldable pub unary_function : Rule UnaryFunction
-unary_function = k.IsIri ⇒ unary_tree.IsIri
-    <|> k.IsUri ⇒ unary_tree.IsIri
-    <|> k.IsBlank ⇒ unary_tree.IsBlank
-    <|> k.IsLiteral ⇒ unary_tree.IsLiteral
-    <|> k.IsNumeric ⇒ unary_tree.IsNumeric
-    <|> k.Str ⇒ unary_tree.Str
-    <|> k.Lang ⇒ unary_tree.Lang
-    <|> k.Datatype ⇒ unary_tree.Datatype
-    <|> k.StrLen ⇒ unary_tree.StrLen
+unary_function = k.IsIri ⇒ unary_tree.IsIri <|> k.IsUri ⇒ unary_tree.IsIri
+    <|> k.IsBlank ⇒ unary_tree.IsBlank <|> k.IsLiteral ⇒ unary_tree.IsLiteral
+    <|> k.IsNumeric ⇒ unary_tree.IsNumeric <|> k.Str ⇒ unary_tree.Str <|> k.Lang ⇒ unary_tree.Lang
+    <|> k.Datatype ⇒ unary_tree.Datatype <|> k.StrLen ⇒ unary_tree.StrLen
 
 unfoldable pub binary_function : Rule BinaryFunction
-binary_function = k.SameTerm ⇒ binary_tree.SameTerm
-    <|> k.LangMatches ⇒ binary_tree.LangMatches
-    <|> k.Contains ⇒ binary_tree.Contains
-    <|> k.StrStarts ⇒ binary_tree.StrStarts
+binary_function = k.SameTerm ⇒ binary_tree.SameTerm <|> k.LangMatches ⇒ binary_tree.LangMatches
+    <|> k.Contains ⇒ binary_tree.Contains <|> k.StrStarts ⇒ binary_tree.StrStarts
     <|> k.StrEnds ⇒ binary_tree.StrEnds
 
 -- Call = "BOUND" "(" VAR ")" | "IF" "(" Expr "," Expr "," Expr ")" | ("COALESCE" | "CONCAT") List
 --      | ("ISIRI" | ..) "(" Expr ")" | ("SAMETERM" | ..) "(" Expr "," Expr ")"
 unfoldable pub call : Rule Call
-call = call_tree.Bound <$> the k.Bound >> bound_var
-    <|> (λ x. call_tree.If x.0.0 x.0.1 x.1) <$> the k.If >> three_arguments
+call = call_tree.Bound <$> the k.Bound >> parens var
+    <|> (λ x. call_tree.If x.0.0 x.0.1 x.1)
+    <$> the k.If >> parens (expression & (the k.Comma >> expression) & (the k.Comma >> expression))
     <|> call_tree.Coalesce <$> the k.Coalesce >> list
     <|> call_tree.Concat <$> the k.Concat >> list
     <|> (λ x. call_tree.Unary x.0 x.1) <$> unary_function & parenthesized
-    <|> (λ x. call_tree.Binary x.0 x.1.0 x.1.1) <$> binary_function & two_arguments
-
--- Iri | Literal | VAR
-unfoldable pub operand_term : Rule Expression
-operand_term = expression_tree.Iri <$> iri <|> expression_tree.Literal <$> literal
-    <|> expression_tree.Var <$> var
+    <|> (λ x. call_tree.Binary x.0 x.1.0 x.1.1)
+    <$> binary_function & parens (expression & (the k.Comma >> expression))
 
 -- Atom = "(" Expr ")" | Call | Iri | Literal | VAR
 unfoldable pub atom : Rule Expression
-atom = parenthesized <|> expression_tree.Call <$> call <|> operand_term
+atom = parenthesized <|> expression_tree.Call <$> call <|> expression_tree.Iri <$> iri
+    <|> expression_tree.Literal <$> literal <|> expression_tree.Var <$> var
 
 -- Unary = ("!" | "+" | "-")? Atom
 unfoldable pub unary : Rule Expression
@@ -429,68 +361,41 @@ unary = expression_tree.Not <$> the k.Bang >> atom
 abbrev pub operand : Rule Expression → Rule Operand
 operand p = operand_of <$> placed p
 
--- ("*" Unary)*
-unfoldable pub more_factors : Rule (List Operand)
-more_factors = many (the k.Star >> operand unary)
-
 -- Mul = Unary ("*" Unary)*
 unfoldable pub product : Rule Expression
-product = chain expression_tree.Product <$> operand unary & more_factors
-
--- SIGNED ("*" Unary)*
-unfoldable pub signed_product : Rule Expression
-signed_product =
-    chain expression_tree.Product <$> operand (expression_tree.Literal <$> literal_tree.Integer
-    <$> leaf k.Signed) & more_factors
-
--- "+" Mul | "-" Mul | SIGNED ("*" Unary)*
-unfoldable pub addend : Rule Addend
-addend = addend_of sign_tree.Plus <$> the k.Plus >> operand product
-    <|> addend_of sign_tree.Minus <$> the k.Hyphen >> operand product
-    <|> addend_of sign_tree.Plus <$> operand signed_product
-
--- ("+" Mul | "-" Mul | SIGNED ("*" Unary)*)*
-unfoldable pub addends : Rule (List Addend)
-addends = many addend
+product = chain expression_tree.Product <$> separated k.Star (operand unary)
 
 -- Add = Mul ("+" Mul | "-" Mul | SIGNED ("*" Unary)*)*
 unfoldable pub additive : Rule Expression
-additive = sum <$> operand product & addends
+additive = sum <$> operand product & many
+    (addend_of sign_tree.Plus <$> the k.Plus >> operand product
+    <|> addend_of sign_tree.Minus <$> the k.Hyphen >> operand product
+    <|> addend_of sign_tree.Plus <$> operand (chain expression_tree.Product
+    <$> operand (expression_tree.Literal <$> literal_tree.Integer <$> leaf k.Signed)
+    & many (the k.Star >> operand unary)))
 
 -- "=" | "!=" | "<" | ">" | "<=" | ">="
 unfoldable pub comparison : Rule Comparison
-comparison = k.Equal ⇒ comparison_tree.Equal
-    <|> k.BangEqual ⇒ comparison_tree.NotEqual
-    <|> k.Less ⇒ comparison_tree.Less
-    <|> k.Greater ⇒ comparison_tree.Greater
+comparison = k.Equal ⇒ comparison_tree.Equal <|> k.BangEqual ⇒ comparison_tree.NotEqual
+    <|> k.Less ⇒ comparison_tree.Less <|> k.Greater ⇒ comparison_tree.Greater
     <|> k.LessOrEqual ⇒ comparison_tree.LessOrEqual
     <|> k.GreaterOrEqual ⇒ comparison_tree.GreaterOrEqual
 
--- ("=" | "!=" | "<" | ">" | "<=" | ">=") Add | "NOT"? "IN" List, left-factored at "NOT"
-unfoldable pub relation : Rule Relation
-relation = (λ x. relation_tree.Compared x.0 x.1) <$> comparison & additive
-    <|> relation_tree.NotAmong <$> the k.Not >> the k.In >> list
-    <|> relation_tree.Among <$> the k.In >> list
-
--- Rel = Add (("=" | "!=" | "<" | ">" | "<=" | ">=") Add | "NOT"? "IN" List)?
+-- Rel = Add (("=" | "!=" | "<" | ">" | "<=" | ">=") Add | "NOT"? "IN" List)?, left-factored at
+-- "NOT"
 unfoldable pub relational : Rule Expression
-relational = (λ x. related x.0 x.1) <$> additive & opt relation
-
--- ("&&" Rel)*
-unfoldable pub more_relationals : Rule (List Operand)
-more_relationals = many (the k.AndAnd >> operand relational)
+relational = (λ x. related x.0 x.1) <$> additive
+    & opt ((λ x. relation_tree.Compared x.0 x.1) <$> comparison & additive
+    <|> relation_tree.NotAmong <$> the k.Not >> the k.In >> list
+    <|> relation_tree.Among <$> the k.In >> list)
 
 -- And = Rel ("&&" Rel)*
 unfoldable pub conjunction : Rule Expression
-conjunction = chain expression_tree.And <$> operand relational & more_relationals
-
--- ("||" And)*
-unfoldable pub more_conjunctions : Rule (List Operand)
-more_conjunctions = many (the k.OrOr >> operand conjunction)
+conjunction = chain expression_tree.And <$> separated k.AndAnd (operand relational)
 
 -- Expr = And ("||" And)*
 unfoldable pub expression_rule : Rule Expression
-expression_rule = chain expression_tree.Or <$> operand conjunction & more_conjunctions
+expression_rule = chain expression_tree.Or <$> separated k.OrOr (operand conjunction)
 
 -- Constraint = "(" Expr ")" | Call
 unfoldable pub constraint : Rule Expression
@@ -502,67 +407,22 @@ constraint = parenthesized <|> expression_tree.Call <$> call
 unfoldable pub data_value : Rule DataValue
 data_value = datum.Iri <$> iri <|> datum.Literal <$> literal <|> k.Undef ⇒ datum.Undefined
 
--- VAR*
-unfoldable pub variables : Rule (List Span)
-variables = many var
-
--- Value*
-unfoldable pub data_values : Rule (List DataValue)
-data_values = many data_value
-
--- "(" Value* ")"
-unfoldable pub data_row : Rule (List DataValue)
-data_row = parens data_values
-
--- ("(" Value* ")")*
-unfoldable pub data_rows : Rule (List (List DataValue))
-data_rows = many data_row
-
--- "(" VAR* ")"
-unfoldable pub variable_list : Rule (List Span)
-variable_list = parens variables
-
--- "{" Value* "}"
-unfoldable pub value_block : Rule (List DataValue)
-value_block = braces data_values
-
--- "{" ("(" Value* ")")* "}"
-unfoldable pub row_block : Rule (List (List DataValue))
-row_block = braces data_rows
-
--- VAR "{" Value* "}"
-unfoldable pub column : Rule InlineData
-column = (λ x. record { variables = x.0 ∷ []; rows = singles x.1 }) <$> var & value_block
-
--- "(" VAR* ")" "{" ("(" Value* ")")* "}"
-unfoldable pub table : Rule InlineData
-table = (λ x. record { variables = x.0; rows = x.1 }) <$> variable_list & row_block
-
 -- Values = "VALUES" (VAR "{" Value* "}" | "(" VAR* ")" "{" ("(" Value* ")")* "}")
 unfoldable pub values : Rule InlineData
-values = the k.Values >> (column <|> table)
-
--- ("UNION" Group)*
-unfoldable pub more_groups : Rule (List Group)
-more_groups = many (the k.Union >> group)
-
--- Group ("UNION" Group)*
-unfoldable pub groups : Rule (List Group)
-groups = cons <$> group & more_groups
-
--- Expr "AS" VAR
-unfoldable pub expression_as_var : Rule (Expression × Span)
-expression_as_var = expression << the k.As & var
+values = the k.Values >> ((λ x. record { variables = x.0 ∷ []; rows = map (λ y. y ∷ []) x.1 })
+    <$> var & braces (many data_value)
+    <|> (λ x. record { variables = x.0; rows = x.1 })
+    <$> parens (many var) & braces (many (parens (many data_value))))
 
 -- "(" Expr "AS" VAR ")"
 unfoldable pub named_expression : Rule (Expression × Span)
-named_expression = parens expression_as_var
+named_expression = parens (expression << the k.As & var)
 
 -- Element = Group ("UNION" Group)* | "OPTIONAL" Group | "MINUS" Group
 --         | "GRAPH" (VAR | Iri) Group | "FILTER" Constraint
 --         | "BIND" "(" Expr "AS" VAR ")" | Values
 unfoldable pub element : Rule GraphPattern
-element = pattern_tree.Union <$> groups
+element = pattern_tree.Union <$> cons <$> separated k.Union group
     <|> pattern_tree.Optional <$> the k.Optional >> group
     <|> pattern_tree.Minus <$> the k.Minus >> group
     <|> (λ x. pattern_tree.Graph x.0 x.1) <$> the k.Graph >> var_or_iri & group
@@ -574,36 +434,17 @@ element = pattern_tree.Union <$> groups
 unfoldable pub block : Rule (List Element)
 block = or [] ((λ x. element_of x ∷ []) <$> placed (pattern_tree.Triples <$> triples form.Pattern))
 
--- Element "."?
-unfoldable pub dotted_element : Rule Element
-dotted_element = element_of <$> placed element << opt (the k.Dot)
-
--- Element "."? Triples?
-unfoldable pub group_step : Rule (List Element)
-group_step = cons <$> dotted_element & block
-
--- (Element "."? Triples?)*
-unfoldable pub group_steps : Rule (List Element)
-group_steps = joined <$> many group_step
-
--- Triples? (Element "."? Triples?)*
-unfoldable pub elements : Rule (List Element)
-elements = (λ x. x.0 ++ x.1) <$> block & group_steps
-
 -- Group = "{" Triples? (Element "."? Triples?)* "}"
 unfoldable pub group_rule : Rule Group
-group_rule = group_of <$> placed (braces elements)
+group_rule = group_of
+    <$> placed (braces (between block (element_of <$> placed element << opt (the k.Dot))))
 
 -- ---- queries
 
--- "PREFIX" PNAME_NS IRIREF
-unfoldable pub prefix_declaration : Rule PrefixDeclaration
-prefix_declaration =
-    (λ x. record { prefix = x.0; iri = x.1 }) <$> the k.Prefix >> leaf k.PnameNs & leaf k.IriRef
-
 -- Prologue = ("PREFIX" PNAME_NS IRIREF)*
 unfoldable pub prologue : Rule (List PrefixDeclaration)
-prologue = many prefix_declaration
+prologue = many ((λ x. record { prefix = x.0; iri = x.1 })
+    <$> the k.Prefix >> leaf k.PnameNs & leaf k.IriRef)
 
 -- Where = "WHERE"? Group
 unfoldable pub where_clause : Rule Group
@@ -611,12 +452,9 @@ where_clause = opt (the k.Where) >> group
 
 -- Order = ("ASC" | "DESC") "(" Expr ")" | Constraint | VAR
 unfoldable pub order : Rule OrderCondition
-order = (λ x. record { direction = direction_tree.Ascending; key = x })
-    <$> the k.Asc >> parenthesized
-    <|> (λ x. record { direction = direction_tree.Descending; key = x })
-    <$> the k.Desc >> parenthesized
-    <|> (λ x. record { direction = direction_tree.Ascending; key = x })
-    <$> (constraint <|> expression_tree.Var <$> var)
+order = order_by direction_tree.Ascending <$> the k.Asc >> parenthesized
+    <|> order_by direction_tree.Descending <$> the k.Desc >> parenthesized
+    <|> order_by direction_tree.Ascending <$> (constraint <|> expression_tree.Var <$> var)
 
 -- Limit = "LIMIT" INTEGER
 unfoldable pub limit : Rule Span
@@ -626,166 +464,68 @@ limit = the k.Limit >> leaf k.Integer
 unfoldable pub offset : Rule Span
 offset = the k.Offset >> leaf k.Integer
 
--- (Limit Offset? | Offset Limit?)?
+-- Slice = (Limit Offset? | Offset Limit?)?
 unfoldable pub slice : Rule (Option Span × Option Span)
-slice =
-    or (None, None) ((λ x. (Some x.0, x.1)) <$> limit & opt offset <|> (λ x. (x.1, Some x.0))
-    <$> offset & opt limit)
+slice = or (None, None) ((λ x. (Some x.0, x.1)) <$> limit & opt offset
+    <|> (λ x. (x.1, Some x.0)) <$> offset & opt limit)
 
--- Order*
-unfoldable pub orders : Rule (List OrderCondition)
-orders = many order
-
--- Order+
-unfoldable pub order_list : Rule (List OrderCondition)
-order_list = cons <$> order & orders
-
--- ("ORDER" "BY" Order+)?
-unfoldable pub order_clause : Rule (List OrderCondition)
-order_clause = or [] (the k.Order >> the k.By >> order_list)
-
--- Mods = ("ORDER" "BY" Order+)? (Limit Offset? | Offset Limit?)?
+-- Mods = ("ORDER" "BY" Order+)? Slice
 unfoldable pub modifiers : Rule SolutionModifiers
-modifiers = (λ x. record { order = x.0; limit = x.1.0; offset = x.1.1 }) <$> order_clause & slice
+modifiers = (λ x. record { order = x.0; limit = x.1.0; offset = x.1.1 })
+    <$> or [] (the k.Order >> the k.By >> plus order) & slice
 
 -- Item = VAR | "(" Expr "AS" VAR ")"
 unfoldable pub item : Rule SelectItem
 item = item_tree.Var <$> var <|> (λ x. item_tree.As x.0 x.1) <$> named_expression
 
--- Item*
-unfoldable pub items : Rule (List SelectItem)
-items = many item
-
--- ("DISTINCT" | "REDUCED")?
-unfoldable pub duplicates : Rule Duplicates
-duplicates =
-    or duplicates_tree.Kept (k.Distinct ⇒ duplicates_tree.Distinct
-    <|> k.Reduced ⇒ duplicates_tree.Reduced)
-
--- Item+ | "*"
-unfoldable pub projection : Rule Projection
-projection = projection_tree.Items <$> (cons <$> item & items) <|> k.Star ⇒ projection_tree.All
-
--- "SELECT" ("DISTINCT" | "REDUCED")? (Item+ | "*")
-unfoldable pub select_clause : Rule (Duplicates × Projection)
-select_clause = the k.Select >> duplicates & projection
-
--- Where Mods
-unfoldable pub where_modifiers : Rule (Group × SolutionModifiers)
-where_modifiers = where_clause & modifiers
-
 -- Select = "SELECT" ("DISTINCT" | "REDUCED")? (Item+ | "*") Where Mods
 unfoldable pub select : Rule Select
 select =
     (λ x. record { duplicates = x.0.0; projection = x.0.1; pattern = x.1.0; modifiers = x.1.1 })
-    <$> select_clause & where_modifiers
+    <$> (the k.Select >> or duplicates_tree.Kept (k.Distinct ⇒ duplicates_tree.Distinct
+    <|> k.Reduced ⇒ duplicates_tree.Reduced)
+    & (projection_tree.Items <$> plus item <|> k.Star ⇒ projection_tree.All))
+    & (where_clause & modifiers)
 
 -- "{" Tmpl? "}"
 unfoldable pub template_braces : Rule (List TriplesSameSubject)
 template_braces = braces (or [] (triples form.Template))
 
--- "{" Tmpl? "}" Where Mods
-unfoldable pub long_construct : Rule Construct
-long_construct = (λ x. record { template = x.0; pattern = Some x.1.0; modifiers = x.1.1 })
-    <$> template_braces & where_modifiers
-
--- "WHERE" "{" Tmpl? "}" Mods
-unfoldable pub short_construct : Rule Construct
-short_construct = (λ x. record { template = x.0; pattern = None; modifiers = x.1 })
-    <$> the k.Where >> template_braces & modifiers
-
 -- Construct = "CONSTRUCT" ("{" Tmpl? "}" Where Mods | "WHERE" "{" Tmpl? "}" Mods)
 unfoldable pub construct : Rule Construct
-construct = the k.Construct >> (long_construct <|> short_construct)
+construct = the k.Construct
+    >> ((λ x. record { template = x.0; pattern = Some x.1.0; modifiers = x.1.1 })
+    <$> template_braces & (where_clause & modifiers)
+    <|> (λ x. record { template = x.0; pattern = None; modifiers = x.1 })
+    <$> the k.Where >> template_braces & modifiers)
 
 -- Ask = "ASK" Where Mods
 unfoldable pub ask : Rule Ask
-ask = (λ x. record { pattern = x.0; modifiers = x.1 }) <$> the k.Ask >> where_modifiers
-
--- Select | Construct | Ask
-unfoldable pub query_form : Rule QueryForm
-query_form =
-    form_tree.Select <$> select <|> form_tree.Construct <$> construct <|> form_tree.Ask <$> ask
+ask = (λ x. record { pattern = x.0; modifiers = x.1 }) <$> the k.Ask >> (where_clause & modifiers)
 
 -- Query = Prologue (Select | Construct | Ask) Values?
 unfoldable pub query : Rule Query
-query = (λ x. record { prologue = x.0.0; form = x.0.1; values = x.1 })
-    <$> prologue & query_form & opt values
+query = (λ x. record { prologue = x.0.0; form = x.0.1; values = x.1 }) <$> prologue
+    & (form_tree.Select <$> select <|> form_tree.Construct <$> construct <|> form_tree.Ask <$> ask)
+    & opt values
 
 -- ---- updates
 
 -- Tmpl?
 unfoldable pub quads_block : Rule (List QuadElement)
-quads_block =
-    or [] ((λ x. record { place = x.0; quads = x.1 } ∷ []) <$> placed
-    (quads_tree.Triples <$> triples form.Template))
-
--- "GRAPH" (VAR | Iri) "{" Tmpl? "}"
-unfoldable pub quads_graph : Rule QuadElement
-quads_graph =
-    (λ x. record { place = x.0; quads = x.1 }) <$> placed
-    ((λ x. quads_tree.Graph x.0 x.1) <$> the k.Graph >> var_or_iri & template_braces)
-
--- "GRAPH" (VAR | Iri) "{" Tmpl? "}" "."?
-unfoldable pub dotted_graph : Rule QuadElement
-dotted_graph = quads_graph << opt (the k.Dot)
-
--- "GRAPH" (VAR | Iri) "{" Tmpl? "}" "."? Tmpl?
-unfoldable pub quads_step : Rule (List QuadElement)
-quads_step = cons <$> dotted_graph & quads_block
-
--- ("GRAPH" (VAR | Iri) "{" Tmpl? "}" "."? Tmpl?)*
-unfoldable pub quads_steps : Rule (List QuadElement)
-quads_steps = joined <$> many quads_step
-
--- Tmpl? ("GRAPH" (VAR | Iri) "{" Tmpl? "}" "."? Tmpl?)*
-unfoldable pub quads_elements : Rule (List QuadElement)
-quads_elements = (λ x. x.0 ++ x.1) <$> quads_block & quads_steps
+quads_block = or [] ((λ x. quads_of x ∷ [])
+    <$> placed (quads_tree.Triples <$> triples form.Template))
 
 -- Quads = "{" Tmpl? ("GRAPH" (VAR | Iri) "{" Tmpl? "}" "."? Tmpl?)* "}"
 unfoldable pub quads : Rule QuadPattern
-quads = (λ x. record { elements = x }) <$> braces quads_elements
-
--- "WHERE" Group
-unfoldable pub where_group : Rule Group
-where_group = the k.Where >> group
-
--- ("INSERT" Quads)?
-unfoldable pub insert_clause : Rule (Option QuadPattern)
-insert_clause = opt (the k.Insert >> quads)
-
--- "INSERT" "DATA" Quads | "INSERT" Quads "WHERE" Group
-unfoldable pub insert : Rule Operation
-insert = the k.Insert
-    >> (operation_tree.InsertData <$> the k.Data >> quads
-    <|> (λ x. operation_tree.Modify
-    (record { with = None; delete = None; insert = Some x.0; pattern = x.1 })) <$> quads
-    & where_group)
-
--- "DELETE" "DATA" Quads | "DELETE" "WHERE" Quads | "DELETE" Quads ("INSERT" Quads)? "WHERE" Group
-unfoldable pub delete : Rule Operation
-delete = the k.Delete
-    >> (operation_tree.DeleteData <$> the k.Data >> quads
-    <|> operation_tree.DeleteWhere <$> the k.Where >> quads
-    <|> (λ x. operation_tree.Modify
-    (record { with = None; delete = Some x.0.0; insert = x.0.1; pattern = x.1 })) <$> quads
-    & insert_clause & where_group)
+quads = (λ x. record { elements = x }) <$> braces (between quads_block
+    ((quads_of <$> placed ((λ x. quads_tree.Graph x.0 x.1)
+    <$> the k.Graph >> var_or_iri & template_braces)) << opt (the k.Dot)))
 
 -- "DELETE" Quads ("INSERT" Quads)? | "INSERT" Quads
 unfoldable pub changes : Rule (Option QuadPattern × Option QuadPattern)
-changes = (λ x. (Some x.0, x.1)) <$> the k.Delete >> quads & insert_clause <|> (λ x. (None, Some x))
-    <$> the k.Insert >> quads
-
--- "WITH" Iri
-unfoldable pub with_clause : Rule Iri
-with_clause = the k.With >> iri
-
--- "WITH" Iri ("DELETE" Quads ("INSERT" Quads)? | "INSERT" Quads) "WHERE" Group
-unfoldable pub with_graph : Rule Operation
-with_graph =
-    (λ x. operation_tree.Modify
-    (record { with = Some x.0.0; delete = x.0.1.0; insert = x.0.1.1; pattern = x.1 }))
-    <$> with_clause & changes & where_group
+changes = (λ x. (Some x.0, x.1)) <$> the k.Delete >> quads & opt (the k.Insert >> quads)
+    <|> (λ x. (None, Some x)) <$> the k.Insert >> quads
 
 -- "SILENT"?
 unfoldable pub silent : Rule OnMissing
@@ -805,35 +545,26 @@ unfoldable pub transfer : Rule Transfer
 transfer = (λ x. record { on_missing = x.0.0; from = x.0.1; to = x.1 }) <$> silent
     & graph_or_default << the k.To & graph_or_default
 
--- "CLEAR" "SILENT"? ("GRAPH" Iri | "DEFAULT" | "NAMED" | "ALL")
-unfoldable pub clear : Rule Operation
-clear = (λ x. operation_tree.Clear x.0 x.1) <$> the k.Clear >> silent & target
-
--- "DROP" "SILENT"? ("GRAPH" Iri | "DEFAULT" | "NAMED" | "ALL")
-unfoldable pub drop_graph : Rule Operation
-drop_graph = (λ x. operation_tree.Drop x.0 x.1) <$> the k.Drop >> silent & target
-
--- "CREATE" "SILENT"? "GRAPH" Iri
-unfoldable pub create : Rule Operation
-create = (λ x. operation_tree.Create x.0 x.1) <$> the k.Create >> silent << the k.Graph & iri
-
--- ("ADD" | "MOVE" | "COPY") "SILENT"? End "TO" End
-unfoldable pub from_graph_to_graph : Rule Operation
-from_graph_to_graph = operation_tree.Add <$> the k.Add >> transfer
-    <|> operation_tree.Move <$> the k.Move >> transfer
-    <|> operation_tree.Copy <$> the k.Copy >> transfer
-
--- what concerns whole graphs
-unfoldable pub graph_operation : Rule Operation
-graph_operation = clear <|> drop_graph <|> create <|> from_graph_to_graph
-
 -- Op = "INSERT" "DATA" Quads | "DELETE" "DATA" Quads | "DELETE" "WHERE" Quads
 --    | ("WITH" Iri)? ("DELETE" Quads ("INSERT" Quads)? | "INSERT" Quads) "WHERE" Group
 --    | ("CLEAR" | "DROP") "SILENT"? ("GRAPH" Iri | "DEFAULT" | "NAMED" | "ALL")
 --    | "CREATE" "SILENT"? "GRAPH" Iri
 --    | ("ADD" | "MOVE" | "COPY") "SILENT"? End "TO" End, left-factored at "INSERT" and "DELETE"
 unfoldable pub operation : Rule Operation
-operation = insert <|> delete <|> with_graph <|> graph_operation
+operation = the k.Insert >> (operation_tree.InsertData <$> the k.Data >> quads
+    <|> (λ x. modify None None (Some x.0) x.1) <$> quads & (the k.Where >> group))
+    <|> the k.Delete >> (operation_tree.DeleteData <$> the k.Data >> quads
+    <|> operation_tree.DeleteWhere <$> the k.Where >> quads
+    <|> (λ x. modify None (Some x.0.0) x.0.1 x.1)
+    <$> quads & opt (the k.Insert >> quads) & (the k.Where >> group))
+    <|> (λ x. modify (Some x.0.0) x.0.1.0 x.0.1.1 x.1) <$> (the k.With >> iri)
+    & changes & (the k.Where >> group)
+    <|> (λ x. operation_tree.Clear x.0 x.1) <$> the k.Clear >> silent & target
+    <|> (λ x. operation_tree.Drop x.0 x.1) <$> the k.Drop >> silent & target
+    <|> (λ x. operation_tree.Create x.0 x.1) <$> the k.Create >> silent << the k.Graph & iri
+    <|> operation_tree.Add <$> the k.Add >> transfer
+    <|> operation_tree.Move <$> the k.Move >> transfer
+    <|> operation_tree.Copy <$> the k.Copy >> transfer
 
 -- Op (";" Update)?
 unfoldable pub operations_rule : Rule (Operation × List UpdateStep)

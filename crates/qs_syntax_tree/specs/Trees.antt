@@ -9,6 +9,7 @@ use Rattle.qs_syntax_tree.specs.declared.path.PathOperand.{PathOperand, roll-Pat
 use Rattle.qs_syntax_tree.specs.declared.path.Verb.{Verb}
 use Rattle.qs_syntax_tree.specs.declared.triples.Property.{Property, roll-Property}
 use Rattle.qs_syntax_tree.specs.declared.triples.GraphNode.{GraphNode}
+use Rattle.qs_syntax_tree.specs.declared.triples.TriplesSameSubject.{TriplesSameSubject}
 use Rattle.qs_syntax_tree.specs.declared.expression.Expression.{Expression}
 use Rattle.qs_syntax_tree.specs.declared.expression.Expression.TheVariants as expression
 use Rattle.qs_syntax_tree.specs.declared.expression.Relation.{Relation}
@@ -20,18 +21,15 @@ use Rattle.qs_syntax_tree.specs.declared.pattern.Group.{Group, roll-Group}
 use Rattle.qs_syntax_tree.specs.declared.pattern.Element.{Element, roll-Element}
 use Rattle.qs_syntax_tree.specs.declared.pattern.GraphPattern.{GraphPattern}
 use Rattle.qs_syntax_tree.specs.declared.query.PrefixDeclaration.{PrefixDeclaration}
+use Rattle.qs_syntax_tree.specs.declared.query.Direction.{Direction}
+use Rattle.qs_syntax_tree.specs.declared.query.OrderCondition.{OrderCondition}
+use Rattle.qs_syntax_tree.specs.declared.term.Iri.{Iri}
+use Rattle.qs_syntax_tree.specs.declared.update.Quads.{Quads}
+use Rattle.qs_syntax_tree.specs.declared.update.QuadElement.{QuadElement}
+use Rattle.qs_syntax_tree.specs.declared.update.QuadPattern.{QuadPattern}
 use Rattle.qs_syntax_tree.specs.declared.update.Operation.{Operation}
+use Rattle.qs_syntax_tree.specs.declared.update.Operation.TheVariants as operation
 use Rattle.qs_syntax_tree.specs.declared.update.UpdateStep.{UpdateStep}
-
--- ---- lists
-
-abbrev pub singles : {A : Type 0} → List A → List (List A)
-singles [] = []
-singles (x ∷ xs) = (x ∷ []) ∷ singles xs
-
-abbrev pub is_there : {A : Type 0} → Option A → Bool
-is_there None = false
-is_there (Some x) = true
 
 -- ---- terms, paths and triples
 
@@ -54,6 +52,9 @@ inverted true p = path.Inverse p
 
 abbrev pub property_of : Verb × List GraphNode → Property
 property_of x = roll-Property (record { verb = x.0; objects = x.1 })
+
+abbrev pub subject_of : GraphNode → List Property → TriplesSameSubject
+subject_of s ps = record { subject = s; properties = ps }
 
 -- ---- expressions
 
@@ -85,7 +86,18 @@ element_of x = roll-Element (record { place = x.0; pattern = x.1 })
 abbrev pub group_of : ℕ × List Element → Group
 group_of x = roll-Group (record { place = x.0; elements = x.1 })
 
+-- ---- queries
+
+abbrev pub order_by : Direction → Expression → OrderCondition
+order_by d e = record { direction = d; key = e }
+
 -- ---- updates
+
+abbrev pub quads_of : ℕ × Quads → QuadElement
+quads_of x = record { place = x.0; quads = x.1 }
+
+abbrev pub modify : Option Iri → Option QuadPattern → Option QuadPattern → Group → Operation
+modify w d i g = operation.Modify (record { with = w; delete = d; insert = i; pattern = g })
 
 abbrev pub steps_of : List PrefixDeclaration × Option (Operation × List UpdateStep)
     → List UpdateStep

@@ -1,2 +1,4 @@
 -- For proofs and the layers between: no clause of the headline cites a definition of these files.
+pub mod Trees
+pub mod Procedures
 pub mod Table

@@ -4,8 +4,9 @@ use Rattle.qs_syntax_grammar.specs.inner.Reading.{first, nullable}
 use Rattle.qs_syntax_tree.specs.declared.kind.Kind.TheVariants as k
 use Rattle.qs_syntax_tree.specs.declared.triples.Form.{Form}
 use Rattle.qs_syntax_tree.specs.declared.triples.Form.TheVariants as form
-use Rattle.qs_syntax_tree.specs.Table.{firsts, verbs}
-use Rattle.qs_syntax_tree.specs.Rules.{column, iri, literal, negated_all, negated_one, path_element, path_primary, path_rule, path_sequence, predicate, property, term, verb}
+use Rattle.qs_syntax_tree.specs.inner.Table.{firsts, verbs}
+use Rattle.qs_syntax_tree.specs.Rules.{iri, literal, negated_one, predicate, term}
+use Rattle.qs_syntax_tree.specs.inner.Procedures.{column, negated_all, path_element, path_primary, path_rule, path_sequence, property, verb}
 
 pub first_predicate : first firsts predicate ≡ k.IriRef ∷ k.PnameLn ∷ k.PnameNs ∷ k.A ∷ []
 unfolding predicate iri

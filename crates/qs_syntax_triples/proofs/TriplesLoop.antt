@@ -8,8 +8,8 @@ use Rattle.qs_syntax_tree.specs.declared.token.Token.{Token}
 use Rattle.qs_syntax_tree.specs.declared.triples.Form.{Form}
 use Rattle.qs_syntax_tree.specs.declared.triples.TriplesSameSubject.{TriplesSameSubject}
 use Rattle.qs_syntax_tree.specs.Sparql.{sparql, triples}
-use Rattle.qs_syntax_tree.specs.Rules.{triples_rule, same_subject}
-use Rattle.qs_syntax_tree.specs.Table.{grammar, rule, firsts}
+use Rattle.qs_syntax_tree.specs.inner.Procedures.{triples_rule, same_subject}
+use Rattle.qs_syntax_tree.specs.inner.Table.{guided, rule, firsts}
 
 again : (o : Outcome Token (List TriplesSameSubject)) (found : List TriplesSameSubject) (x : TriplesSameSubject) (t : Token)
     → and_then (and_then {A = TriplesSameSubject × List TriplesSameSubject} (and_then (and_then {A = Token × List TriplesSameSubject} (and_then o (λ y s. Ok ((t, y), s))) (λ z s. Ok (z.1, s))) (λ y s. Ok ((x, y), s))) (λ z s. Ok (z.0 ∷ z.1, s))) (λ xs s. Ok (found ++ xs, s))
@@ -18,15 +18,15 @@ again (Ok p) found x t = ap (λ xs. Ok (xs, p.1)) (sym (append_assoc found (x �
 again (Err e) found x t = refl
 
 module _ (form : Form) (whole : Outcome Token (List TriplesSameSubject)) (n d : ℕ) (found : List TriplesSameSubject) (ts : List Token) (some : 0 < n) (down : d ≡ n - 1)
-    (so_far : whole ≡ and_then (read_at grammar n (triples form) ts) (λ xs s. Ok (found ++ xs, s))) where
-  opened : whole ≡ and_then (read_at grammar (suc d) (triples form) ts) (λ xs s. Ok (found ++ xs, s))
-  opened = so_far ∙ ap (λ m. and_then (read_at grammar m (triples form) ts) (λ xs s. Ok (found ++ xs, s))) (let e : n ≡ suc d = omega arith in e)
+    (so_far : whole ≡ and_then (read_at guided n (triples form) ts) (λ xs s. Ok (found ++ xs, s))) where
+  opened : whole ≡ and_then (read_at guided (suc d) (triples form) ts) (λ xs s. Ok (found ++ xs, s))
+  opened = so_far ∙ ap (λ m. and_then (read_at guided m (triples form) ts) (λ xs s. Ok (found ++ xs, s))) (let e : n ≡ suc d = omega arith in e)
 
-  pub fault : (e : Fault) → read grammar d (same_subject form) ts ≡ Err e → whole ≡ Err e
+  pub fault : (e : Fault) → read guided d (same_subject form) ts ≡ Err e → whole ≡ Err e
   unfolding rule triples_rule
   fault e h = opened ∙ rw h refl
 
-  module _ (x : TriplesSameSubject) (s : List Token) (read_one : read grammar d (same_subject form) ts ≡ Ok (x, s)) where
+  module _ (x : TriplesSameSubject) (s : List Token) (read_one : read guided d (same_subject form) ts ≡ Ok (x, s)) where
     pub no_dot : starts sparql (k.Dot ∷ []) s ≡ false → whole ≡ Ok (found ++ x ∷ [], s)
     unfolding rule triples_rule
     no_dot b = opened ∙ rw (read_one, b) refl
@@ -36,6 +36,6 @@ module _ (form : Form) (whole : Outcome Token (List TriplesSameSubject)) (n d : 
       unfolding rule triples_rule
       last_dot c = opened ∙ rw (read_one, taken, b, c) refl
 
-      pub goes_on : starts sparql (firsts (triples form)) i ≡ true → (now : List TriplesSameSubject) → now ≡ found ++ x ∷ [] → whole ≡ and_then (read_at grammar d (triples form) i) (λ xs j. Ok (now ++ xs, j))
+      pub goes_on : starts sparql (firsts (triples form)) i ≡ true → (now : List TriplesSameSubject) → now ≡ found ++ x ∷ [] → whole ≡ and_then (read_at guided d (triples form) i) (λ xs j. Ok (now ++ xs, j))
       unfolding rule triples_rule
-      goes_on c now e = opened ∙ rw (read_one, taken, b, c, e) (again (read_at grammar d (triples form) i) found x t)
+      goes_on c now e = opened ∙ rw (read_one, taken, b, c, e) (again (read_at guided d (triples form) i) found x t)

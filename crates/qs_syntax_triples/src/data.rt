@@ -3,7 +3,8 @@
 ghost use Rattle.qs_syntax_grammar.specs.inner.Grammar.{read};
 ghost use Rattle.qs_syntax_grammar.specs.inner.Reading.{Reads};
 ghost use Rattle.qs_syntax_tree.specs.Rules as rules;
-ghost use Rattle.qs_syntax_tree.specs.Table.{grammar};
+ghost use Rattle.qs_syntax_tree.specs.inner.Procedures as procedures;
+ghost use Rattle.qs_syntax_tree.specs.inner.Table.{guided};
 
 use qs_base::keep_beside;
 use qs_syntax_grammar::fault::Fault;
@@ -18,7 +19,7 @@ use sqlite_items::Items;
 
 #[tactic(auto, using(qs_syntax_tokens::proofs::FirstKinds::first_iri, qs_syntax_tokens::proofs::FirstKinds::first_literal), unfolding(qs_syntax_tree::specs::Rules::data_value))]
 fn data_value(parser: Parser, tokens: &mut Tokens<'_>) -> Result<DataValue, Fault>
-    ensures { Reads (read grammar parser.depth rules.data_value tokens.old) result tokens.new }
+    ensures { Reads (read guided parser.depth rules.data_value tokens.old) result tokens.new }
 {
     if tokens.peek_is(&[Kind::IriRef, Kind::PnameLn, Kind::PnameNs]) {
         return Ok(DataValue::Iri(parser.iri(tokens)?));
@@ -37,7 +38,7 @@ fn data_value(parser: Parser, tokens: &mut Tokens<'_>) -> Result<DataValue, Faul
 }
 
 fn variables(parser: Parser, tokens: &mut Tokens<'_>) -> Result<Items<Span>, Fault>
-    ensures { Reads (read grammar parser.depth rules.variables tokens.old) result tokens.new }
+    ensures { Reads (read guided parser.depth procedures.variables tokens.old) result tokens.new }
 {
     let mut found = Items::new(parser.alloc);
     for _turn in 0..tokens.turns() {
@@ -51,7 +52,7 @@ fn variables(parser: Parser, tokens: &mut Tokens<'_>) -> Result<Items<Span>, Fau
 }
 
 fn data_values(parser: Parser, tokens: &mut Tokens<'_>) -> Result<Items<DataValue>, Fault>
-    ensures { Reads (read grammar parser.depth rules.data_values tokens.old) result tokens.new }
+    ensures { Reads (read guided parser.depth procedures.data_values tokens.old) result tokens.new }
 {
     let mut found = Items::new(parser.alloc);
     for _turn in 0..tokens.turns() {
@@ -64,9 +65,9 @@ fn data_values(parser: Parser, tokens: &mut Tokens<'_>) -> Result<Items<DataValu
     Err(Fault::Deep)
 }
 
-#[tactic(auto, unfolding(qs_syntax_tree::specs::Rules::data_row))]
+#[tactic(auto, unfolding(qs_syntax_tree::specs::inner::Procedures::data_row))]
 fn data_row(parser: Parser, tokens: &mut Tokens<'_>) -> Result<Items<DataValue>, Fault>
-    ensures { Reads (read grammar parser.depth rules.data_row tokens.old) result tokens.new }
+    ensures { Reads (read guided parser.depth procedures.data_row tokens.old) result tokens.new }
 {
     tokens.expect(Kind::LeftParen)?;
     let row = data_values(parser, tokens)?;
@@ -74,7 +75,7 @@ fn data_row(parser: Parser, tokens: &mut Tokens<'_>) -> Result<Items<DataValue>,
 }
 
 fn data_rows(parser: Parser, tokens: &mut Tokens<'_>) -> Result<Items<Items<DataValue>>, Fault>
-    ensures { Reads (read grammar parser.depth rules.data_rows tokens.old) result tokens.new }
+    ensures { Reads (read guided parser.depth procedures.data_rows tokens.old) result tokens.new }
 {
     let mut found = Items::new(parser.alloc);
     for _turn in 0..tokens.turns() {
@@ -87,45 +88,46 @@ fn data_rows(parser: Parser, tokens: &mut Tokens<'_>) -> Result<Items<Items<Data
     Err(Fault::Deep)
 }
 
-#[tactic(auto, unfolding(qs_syntax_tree::specs::Rules::variable_list))]
+#[tactic(auto, unfolding(qs_syntax_tree::specs::inner::Procedures::variable_list))]
 fn variable_list(parser: Parser, tokens: &mut Tokens<'_>) -> Result<Items<Span>, Fault>
-    ensures { Reads (read grammar parser.depth rules.variable_list tokens.old) result tokens.new }
+    ensures { Reads (read guided parser.depth procedures.variable_list tokens.old) result
+        tokens.new }
 {
     tokens.expect(Kind::LeftParen)?;
     let variables = variables(parser, tokens)?;
     tokens.closing(variables, Kind::RightParen)
 }
 
-#[tactic(auto, unfolding(qs_syntax_tree::specs::Rules::value_block))]
+#[tactic(auto, unfolding(qs_syntax_tree::specs::inner::Procedures::value_block))]
 fn value_block(parser: Parser, tokens: &mut Tokens<'_>) -> Result<Items<DataValue>, Fault>
-    ensures { Reads (read grammar parser.depth rules.value_block tokens.old) result tokens.new }
+    ensures { Reads (read guided parser.depth procedures.value_block tokens.old) result tokens.new }
 {
     tokens.expect(Kind::LeftBrace)?;
     let values = data_values(parser, tokens)?;
     tokens.closing(values, Kind::RightBrace)
 }
 
-#[tactic(auto, unfolding(qs_syntax_tree::specs::Rules::row_block))]
+#[tactic(auto, unfolding(qs_syntax_tree::specs::inner::Procedures::row_block))]
 fn row_block(parser: Parser, tokens: &mut Tokens<'_>) -> Result<Items<Items<DataValue>>, Fault>
-    ensures { Reads (read grammar parser.depth rules.row_block tokens.old) result tokens.new }
+    ensures { Reads (read guided parser.depth procedures.row_block tokens.old) result tokens.new }
 {
     tokens.expect(Kind::LeftBrace)?;
     let rows = data_rows(parser, tokens)?;
     tokens.closing(rows, Kind::RightBrace)
 }
 
-#[tactic(auto, unfolding(qs_syntax_tree::specs::Rules::column))]
+#[tactic(auto, unfolding(qs_syntax_tree::specs::inner::Procedures::column))]
 fn column(parser: Parser, tokens: &mut Tokens<'_>) -> Result<InlineData, Fault>
-    ensures { Reads (read grammar parser.depth rules.column tokens.old) result tokens.new }
+    ensures { Reads (read guided parser.depth procedures.column tokens.old) result tokens.new }
 {
     let var = parser.var(tokens)?;
     let values = value_block(parser, tokens)?;
     Ok(trees::column(parser.alloc, var, values)?)
 }
 
-#[tactic(auto, unfolding(qs_syntax_tree::specs::Rules::table))]
+#[tactic(auto, unfolding(qs_syntax_tree::specs::inner::Procedures::table))]
 fn table(parser: Parser, tokens: &mut Tokens<'_>) -> Result<InlineData, Fault>
-    ensures { Reads (read grammar parser.depth rules.table tokens.old) result tokens.new }
+    ensures { Reads (read guided parser.depth procedures.table tokens.old) result tokens.new }
 {
     let variables = variable_list(parser, tokens)?;
     let (variables, rows) = keep_beside(variables, row_block(parser, tokens))?;
@@ -133,9 +135,9 @@ fn table(parser: Parser, tokens: &mut Tokens<'_>) -> Result<InlineData, Fault>
 }
 
 /// VALUES and its table ([61], [62]).
-#[tactic(auto, using(crate::proofs::FirstKinds::first_column), unfolding(qs_syntax_tree::specs::Rules::values))]
+#[tactic(auto, using(crate::proofs::FirstKinds::first_column), unfolding(qs_syntax_tree::specs::inner::Procedures::values))]
 pub fn values(parser: Parser, tokens: &mut Tokens<'_>) -> Result<InlineData, Fault>
-    ensures { Reads (read grammar parser.depth rules.values tokens.old) result tokens.new }
+    ensures { Reads (read guided parser.depth procedures.values tokens.old) result tokens.new }
 {
     tokens.expect(Kind::Values)?;
     if tokens.peek_is(&[Kind::Var]) {

@@ -5,8 +5,9 @@ ghost use Rattle.qs_syntax_grammar.specs.Notation.{opt};
 ghost use Rattle.qs_syntax_grammar.specs.inner.Reading.{Reads};
 ghost use Rattle.qs_syntax_grammar.specs.Rule.{ref};
 ghost use Rattle.qs_syntax_tree.specs.Rules as rules;
+ghost use Rattle.qs_syntax_tree.specs.inner.Procedures as procedures;
 ghost use Rattle.qs_syntax_tree.specs.Sparql as name;
-ghost use Rattle.qs_syntax_tree.specs.Table.{grammar};
+ghost use Rattle.qs_syntax_tree.specs.inner.Table.{guided};
 
 use qs_base::keep_beside;
 use qs_syntax_grammar::fault::Fault;
@@ -20,7 +21,7 @@ use sqlite_items::Items;
 /// An IRI or `a` as a predicate ([94], [96]).
 #[tactic(auto, using(qs_syntax_tokens::proofs::FirstKinds::first_iri), unfolding(qs_syntax_tree::specs::Rules::predicate))]
 pub fn predicate(parser: Parser, tokens: &mut Tokens<'_>) -> Result<Predicate, Fault>
-    ensures { Reads (read grammar parser.depth rules.predicate tokens.old) result tokens.new }
+    ensures { Reads (read guided parser.depth rules.predicate tokens.old) result tokens.new }
 {
     if tokens.peek_is(&[Kind::IriRef, Kind::PnameLn, Kind::PnameNs]) {
         return Ok(Predicate::Iri(parser.iri(tokens)?));
@@ -31,7 +32,7 @@ pub fn predicate(parser: Parser, tokens: &mut Tokens<'_>) -> Result<Predicate, F
 
 #[tactic(auto, unfolding(qs_syntax_tree::specs::Rules::negated_one))]
 fn negated_one(parser: Parser, tokens: &mut Tokens<'_>) -> Result<NegatedPredicate, Fault>
-    ensures { Reads (read grammar parser.depth rules.negated_one tokens.old) result tokens.new }
+    ensures { Reads (read guided parser.depth rules.negated_one tokens.old) result tokens.new }
 {
     let place = tokens.place();
     let inverse = tokens.peek_is(&[Kind::Caret]);
@@ -47,7 +48,8 @@ fn negated_one(parser: Parser, tokens: &mut Tokens<'_>) -> Result<NegatedPredica
 }
 
 fn more_negated(parser: Parser, tokens: &mut Tokens<'_>) -> Result<Items<NegatedPredicate>, Fault>
-    ensures { Reads (read grammar parser.depth rules.more_negated tokens.old) result tokens.new }
+    ensures { Reads (read guided parser.depth procedures.more_negated tokens.old) result
+        tokens.new }
 {
     let mut found = Items::new(parser.alloc);
     for _turn in 0..tokens.turns() {
@@ -61,18 +63,18 @@ fn more_negated(parser: Parser, tokens: &mut Tokens<'_>) -> Result<Items<Negated
     Err(Fault::Deep)
 }
 
-#[tactic(auto, unfolding(qs_syntax_tree::specs::Rules::negated_all))]
+#[tactic(auto, unfolding(qs_syntax_tree::specs::inner::Procedures::negated_all))]
 fn negated_all(parser: Parser, tokens: &mut Tokens<'_>) -> Result<Items<NegatedPredicate>, Fault>
-    ensures { Reads (read grammar parser.depth rules.negated_all tokens.old) result tokens.new }
+    ensures { Reads (read guided parser.depth procedures.negated_all tokens.old) result tokens.new }
 {
     let first = negated_one(parser, tokens)?;
     let others = more_negated(parser, tokens)?;
     Ok(all_of(parser.alloc, first, others)?)
 }
 
-#[tactic(auto, using(crate::proofs::FirstKinds::first_negated_one, crate::proofs::FirstKinds::first_negated_all), unfolding(qs_syntax_tree::specs::Rules::negated))]
+#[tactic(auto, using(crate::proofs::FirstKinds::first_negated_one, crate::proofs::FirstKinds::first_negated_all), unfolding(qs_syntax_tree::specs::inner::Procedures::negated))]
 fn negated(parser: Parser, tokens: &mut Tokens<'_>) -> Result<Items<NegatedPredicate>, Fault>
-    ensures { Reads (read grammar parser.depth rules.negated tokens.old) result tokens.new }
+    ensures { Reads (read guided parser.depth procedures.negated tokens.old) result tokens.new }
 {
     let mut found = Items::new(parser.alloc);
     if tokens.peek_is(&[
@@ -102,7 +104,7 @@ fn negated(parser: Parser, tokens: &mut Tokens<'_>) -> Result<Items<NegatedPredi
 
 #[tactic(auto, unfolding(qs_syntax_tree::specs::Rules::repetition))]
 fn repetition(parser: Parser, tokens: &mut Tokens<'_>) -> Result<Option<Repetition>, Fault>
-    ensures { Reads (read grammar parser.depth (opt rules.repetition) tokens.old) result
+    ensures { Reads (read guided parser.depth (opt rules.repetition) tokens.old) result
         tokens.new }
 {
     if tokens.peek_is(&[Kind::Question]) {
@@ -121,9 +123,10 @@ fn repetition(parser: Parser, tokens: &mut Tokens<'_>) -> Result<Option<Repetiti
 }
 
 #[cycle(path)]
-#[tactic(auto, using(crate::proofs::FirstKinds::first_predicate), unfolding(qs_syntax_tree::specs::Rules::path_primary))]
+#[tactic(auto, using(crate::proofs::FirstKinds::first_predicate), unfolding(qs_syntax_tree::specs::inner::Procedures::path_primary))]
 fn path_primary(parser: Parser, tokens: &mut Tokens<'_>) -> Result<Path, Fault>
-    ensures { Reads (read grammar parser.depth rules.path_primary tokens.old) result tokens.new }
+    ensures { Reads (read guided parser.depth procedures.path_primary tokens.old) result
+        tokens.new }
 {
     if tokens.peek_is(&[Kind::IriRef, Kind::PnameLn, Kind::PnameNs, Kind::A]) {
         return Ok(Path::Predicate(predicate(parser, tokens)?));
@@ -139,9 +142,10 @@ fn path_primary(parser: Parser, tokens: &mut Tokens<'_>) -> Result<Path, Fault>
 
 // `^p*` is the inverse of `p*`
 #[cycle(path)]
-#[tactic(auto, unfolding(qs_syntax_tree::specs::Rules::path_element))]
+#[tactic(auto, unfolding(qs_syntax_tree::specs::inner::Procedures::path_element))]
 fn path_element(parser: Parser, tokens: &mut Tokens<'_>) -> Result<Path, Fault>
-    ensures { Reads (read grammar parser.depth rules.path_element tokens.old) result tokens.new }
+    ensures { Reads (read guided parser.depth procedures.path_element tokens.old) result
+        tokens.new }
 {
     let inverse = tokens.peek_is(&[Kind::Caret]);
     if inverse {
@@ -155,7 +159,8 @@ fn path_element(parser: Parser, tokens: &mut Tokens<'_>) -> Result<Path, Fault>
 
 #[cycle(path)]
 fn more_elements(parser: Parser, tokens: &mut Tokens<'_>) -> Result<Items<PathOperand>, Fault>
-    ensures { Reads (read grammar parser.depth rules.more_elements tokens.old) result tokens.new }
+    ensures { Reads (read guided parser.depth procedures.more_elements tokens.old) result
+        tokens.new }
 {
     let mut found = Items::new(parser.alloc);
     for _turn in 0..tokens.turns() {
@@ -171,9 +176,10 @@ fn more_elements(parser: Parser, tokens: &mut Tokens<'_>) -> Result<Items<PathOp
 }
 
 #[cycle(path)]
-#[tactic(auto, unfolding(qs_syntax_tree::specs::Rules::path_sequence))]
+#[tactic(auto, unfolding(qs_syntax_tree::specs::inner::Procedures::path_sequence))]
 fn path_sequence(parser: Parser, tokens: &mut Tokens<'_>) -> Result<Path, Fault>
-    ensures { Reads (read grammar parser.depth rules.path_sequence tokens.old) result tokens.new }
+    ensures { Reads (read guided parser.depth procedures.path_sequence tokens.old) result
+        tokens.new }
 {
     let place = tokens.place();
     let path = path_element(parser, tokens)?;
@@ -183,7 +189,8 @@ fn path_sequence(parser: Parser, tokens: &mut Tokens<'_>) -> Result<Path, Fault>
 
 #[cycle(path)]
 fn more_sequences(parser: Parser, tokens: &mut Tokens<'_>) -> Result<Items<PathOperand>, Fault>
-    ensures { Reads (read grammar parser.depth rules.more_sequences tokens.old) result tokens.new }
+    ensures { Reads (read guided parser.depth procedures.more_sequences tokens.old) result
+        tokens.new }
 {
     let mut found = Items::new(parser.alloc);
     for _turn in 0..tokens.turns() {
@@ -200,9 +207,9 @@ fn more_sequences(parser: Parser, tokens: &mut Tokens<'_>) -> Result<Items<PathO
 
 /// A path: sequences with `|` between them ([88], [89]).
 #[cycle(path)]
-#[tactic(auto, unfolding(qs_syntax_tree::specs::Rules::path_rule))]
+#[tactic(auto, unfolding(qs_syntax_tree::specs::inner::Procedures::path_rule))]
 pub fn alternatives(parser: Parser, tokens: &mut Tokens<'_>) -> Result<Path, Fault>
-    ensures { Reads (read grammar parser.depth rules.path_rule tokens.old) result tokens.new }
+    ensures { Reads (read guided parser.depth procedures.path_rule tokens.old) result tokens.new }
 {
     let place = tokens.place();
     let path = path_sequence(parser, tokens)?;
@@ -211,9 +218,9 @@ pub fn alternatives(parser: Parser, tokens: &mut Tokens<'_>) -> Result<Path, Fau
 }
 
 #[cycle(path)]
-#[tactic(auto, unfolding(qs_syntax_tree::specs::Table::rule))]
+#[tactic(auto, unfolding(qs_syntax_tree::specs::inner::Table::rule))]
 fn path(parser: Parser, tokens: &mut Tokens<'_>) -> Result<Path, Fault>
-    ensures { Reads (read grammar parser.depth (ref name.path) tokens.old) result tokens.new }
+    ensures { Reads (read guided parser.depth (ref name.path) tokens.old) result tokens.new }
 {
     if parser.depth == 0 {
         return Err(Fault::Deep);

@@ -2,8 +2,8 @@
 
 ghost use Rattle.qs_syntax_grammar.specs.inner.Grammar.{read};
 ghost use Rattle.qs_syntax_grammar.specs.inner.Reading.{Reads};
-ghost use Rattle.qs_syntax_tree.specs.Rules as rules;
-ghost use Rattle.qs_syntax_tree.specs.Table.{grammar};
+ghost use Rattle.qs_syntax_tree.specs.inner.Procedures as procedures;
+ghost use Rattle.qs_syntax_tree.specs.inner.Table.{guided};
 
 use crate::triples::{template_braces, triples};
 use qs_base::keep_beside;
@@ -17,9 +17,9 @@ use qs_syntax_tree::triples::Form;
 use qs_syntax_tree::update::{QuadElement, QuadPattern, Quads};
 use sqlite_items::Items;
 
-#[tactic(auto, unfolding(qs_syntax_tree::specs::Rules::quads_block))]
+#[tactic(auto, unfolding(qs_syntax_tree::specs::inner::Procedures::quads_block))]
 fn quads_block(parser: Parser, tokens: &mut Tokens<'_>) -> Result<Items<QuadElement>, Fault>
-    ensures { Reads (read grammar parser.depth rules.quads_block tokens.old) result tokens.new }
+    ensures { Reads (read guided parser.depth procedures.quads_block tokens.old) result tokens.new }
 {
     if !tokens.peek_is(&NODES) {
         return Ok(Items::new(parser.alloc));
@@ -34,9 +34,9 @@ fn quads_block(parser: Parser, tokens: &mut Tokens<'_>) -> Result<Items<QuadElem
     Ok(found)
 }
 
-#[tactic(auto, unfolding(qs_syntax_tree::specs::Rules::quads_graph))]
+#[tactic(auto, unfolding(qs_syntax_tree::specs::inner::Procedures::quads_graph))]
 fn quads_graph(parser: Parser, tokens: &mut Tokens<'_>) -> Result<QuadElement, Fault>
-    ensures { Reads (read grammar parser.depth rules.quads_graph tokens.old) result tokens.new }
+    ensures { Reads (read guided parser.depth procedures.quads_graph tokens.old) result tokens.new }
 {
     let place = tokens.place();
     tokens.expect(Kind::Graph)?;
@@ -48,9 +48,10 @@ fn quads_graph(parser: Parser, tokens: &mut Tokens<'_>) -> Result<QuadElement, F
     })
 }
 
-#[tactic(auto, unfolding(qs_syntax_tree::specs::Rules::dotted_graph))]
+#[tactic(auto, unfolding(qs_syntax_tree::specs::inner::Procedures::dotted_graph))]
 fn dotted_graph(parser: Parser, tokens: &mut Tokens<'_>) -> Result<QuadElement, Fault>
-    ensures { Reads (read grammar parser.depth rules.dotted_graph tokens.old) result tokens.new }
+    ensures { Reads (read guided parser.depth procedures.dotted_graph tokens.old) result
+        tokens.new }
 {
     let element = quads_graph(parser, tokens)?;
     if tokens.peek_is(&[Kind::Dot]) {
@@ -59,9 +60,9 @@ fn dotted_graph(parser: Parser, tokens: &mut Tokens<'_>) -> Result<QuadElement, 
     Ok(element)
 }
 
-#[tactic(auto, unfolding(qs_syntax_tree::specs::Rules::quads_step))]
+#[tactic(auto, unfolding(qs_syntax_tree::specs::inner::Procedures::quads_step))]
 fn quads_step(parser: Parser, tokens: &mut Tokens<'_>) -> Result<Items<QuadElement>, Fault>
-    ensures { Reads (read grammar parser.depth rules.quads_step tokens.old) result tokens.new }
+    ensures { Reads (read guided parser.depth procedures.quads_step tokens.old) result tokens.new }
 {
     let first = dotted_graph(parser, tokens)?;
     let (first, block) = keep_beside(first, quads_block(parser, tokens))?;
@@ -69,7 +70,7 @@ fn quads_step(parser: Parser, tokens: &mut Tokens<'_>) -> Result<Items<QuadEleme
 }
 
 fn quads_steps(parser: Parser, tokens: &mut Tokens<'_>) -> Result<Items<QuadElement>, Fault>
-    ensures { Reads (read grammar parser.depth rules.quads_steps tokens.old) result tokens.new }
+    ensures { Reads (read guided parser.depth procedures.quads_steps tokens.old) result tokens.new }
 {
     let mut found = Items::new(parser.alloc);
     for _turn in 0..tokens.turns() {
@@ -82,9 +83,10 @@ fn quads_steps(parser: Parser, tokens: &mut Tokens<'_>) -> Result<Items<QuadElem
     Err(Fault::Deep)
 }
 
-#[tactic(auto, unfolding(qs_syntax_tree::specs::Rules::quads_elements))]
+#[tactic(auto, unfolding(qs_syntax_tree::specs::inner::Procedures::quads_elements))]
 fn quads_elements(parser: Parser, tokens: &mut Tokens<'_>) -> Result<Items<QuadElement>, Fault>
-    ensures { Reads (read grammar parser.depth rules.quads_elements tokens.old) result tokens.new }
+    ensures { Reads (read guided parser.depth procedures.quads_elements tokens.old) result
+        tokens.new }
 {
     let block = quads_block(parser, tokens)?;
     let (mut found, others) = keep_beside(block, quads_steps(parser, tokens))?;
@@ -93,9 +95,9 @@ fn quads_elements(parser: Parser, tokens: &mut Tokens<'_>) -> Result<Items<QuadE
 }
 
 /// Quads in braces ([48] to [50]).
-#[tactic(auto, unfolding(qs_syntax_tree::specs::Rules::quads))]
+#[tactic(auto, unfolding(qs_syntax_tree::specs::inner::Procedures::quads))]
 pub fn quads(parser: Parser, tokens: &mut Tokens<'_>) -> Result<QuadPattern, Fault>
-    ensures { Reads (read grammar parser.depth rules.quads tokens.old) result tokens.new }
+    ensures { Reads (read guided parser.depth procedures.quads tokens.old) result tokens.new }
 {
     tokens.expect(Kind::LeftBrace)?;
     let elements = quads_elements(parser, tokens)?;

@@ -4,8 +4,9 @@ ghost use Rattle.qs_syntax_grammar.specs.inner.Grammar.{read};
 ghost use Rattle.qs_syntax_grammar.specs.inner.Reading.{Reads};
 ghost use Rattle.qs_syntax_grammar.specs.Rule.{ref};
 ghost use Rattle.qs_syntax_tree.specs.Rules as rules;
+ghost use Rattle.qs_syntax_tree.specs.inner.Procedures as procedures;
 ghost use Rattle.qs_syntax_tree.specs.Sparql as name;
-ghost use Rattle.qs_syntax_tree.specs.Table.{grammar};
+ghost use Rattle.qs_syntax_tree.specs.inner.Table.{guided};
 
 use crate::paths::{alternatives, predicate};
 use qs_base::keep_beside;
@@ -20,9 +21,9 @@ use qs_syntax_tree::term::Term;
 use qs_syntax_tree::triples::{Form, GraphNode, Property, TriplesSameSubject};
 use sqlite_items::Items;
 
-#[tactic(auto, unfolding(qs_syntax_tree::specs::Rules::verb))]
+#[tactic(auto, unfolding(qs_syntax_tree::specs::inner::Procedures::verb))]
 fn pattern_verb(parser: Parser, tokens: &mut Tokens<'_>) -> Result<Verb, Fault>
-    ensures { Reads (read grammar parser.depth (rules.verb Form.Pattern) tokens.old) result
+    ensures { Reads (read guided parser.depth (procedures.verb Form.Pattern) tokens.old) result
         tokens.new }
 {
     if tokens.peek_is(&[Kind::Var]) {
@@ -31,9 +32,9 @@ fn pattern_verb(parser: Parser, tokens: &mut Tokens<'_>) -> Result<Verb, Fault>
     Ok(Verb::Path(alternatives(parser, tokens)?))
 }
 
-#[tactic(auto, unfolding(qs_syntax_tree::specs::Rules::verb))]
+#[tactic(auto, unfolding(qs_syntax_tree::specs::inner::Procedures::verb))]
 fn template_verb(parser: Parser, tokens: &mut Tokens<'_>) -> Result<Verb, Fault>
-    ensures { Reads (read grammar parser.depth (rules.verb Form.Template) tokens.old) result
+    ensures { Reads (read guided parser.depth (procedures.verb Form.Template) tokens.old) result
         tokens.new }
 {
     if tokens.peek_is(&[Kind::Var]) {
@@ -43,7 +44,7 @@ fn template_verb(parser: Parser, tokens: &mut Tokens<'_>) -> Result<Verb, Fault>
 }
 
 fn verb(parser: Parser, form: Form, tokens: &mut Tokens<'_>) -> Result<Verb, Fault>
-    ensures { Reads (read grammar parser.depth (rules.verb form) tokens.old) result tokens.new }
+    ensures { Reads (read guided parser.depth (procedures.verb form) tokens.old) result tokens.new }
 {
     match form {
         Form::Pattern => pattern_verb(parser, tokens),
@@ -54,7 +55,7 @@ fn verb(parser: Parser, form: Form, tokens: &mut Tokens<'_>) -> Result<Verb, Fau
 #[cycle(properties)]
 #[tactic(auto, using(crate::proofs::FirstKinds::first_term), unfolding(qs_syntax_tree::specs::Rules::object))]
 fn object(parser: Parser, form: Form, tokens: &mut Tokens<'_>) -> Result<GraphNode, Fault>
-    ensures { Reads (read grammar parser.depth (rules.object form) tokens.old) result tokens.new }
+    ensures { Reads (read guided parser.depth (rules.object form) tokens.old) result tokens.new }
 {
     if tokens.peek_is(&TERMS) {
         return Ok(GraphNode::Term(parser.term(tokens)?));
@@ -75,7 +76,7 @@ fn more_objects(
     form: Form,
     tokens: &mut Tokens<'_>,
 ) -> Result<Items<GraphNode>, Fault>
-    ensures { Reads (read grammar parser.depth (rules.more_objects form) tokens.old) result
+    ensures { Reads (read guided parser.depth (procedures.more_objects form) tokens.old) result
         tokens.new }
 {
     let mut found = Items::new(parser.alloc);
@@ -91,9 +92,10 @@ fn more_objects(
 }
 
 #[cycle(properties)]
-#[tactic(auto, unfolding(qs_syntax_tree::specs::Rules::objects))]
+#[tactic(auto, unfolding(qs_syntax_tree::specs::inner::Procedures::objects))]
 fn objects(parser: Parser, form: Form, tokens: &mut Tokens<'_>) -> Result<Items<GraphNode>, Fault>
-    ensures { Reads (read grammar parser.depth (rules.objects form) tokens.old) result tokens.new }
+    ensures { Reads (read guided parser.depth (procedures.objects form) tokens.old) result
+        tokens.new }
 {
     let first = object(parser, form, tokens)?;
     let (first, others) = keep_beside(first, more_objects(parser, form, tokens))?;
@@ -101,9 +103,10 @@ fn objects(parser: Parser, form: Form, tokens: &mut Tokens<'_>) -> Result<Items<
 }
 
 #[cycle(properties)]
-#[tactic(auto, unfolding(qs_syntax_tree::specs::Rules::property))]
+#[tactic(auto, unfolding(qs_syntax_tree::specs::inner::Procedures::property))]
 fn property(parser: Parser, form: Form, tokens: &mut Tokens<'_>) -> Result<Property, Fault>
-    ensures { Reads (read grammar parser.depth (rules.property form) tokens.old) result tokens.new }
+    ensures { Reads (read guided parser.depth (procedures.property form) tokens.old) result
+        tokens.new }
 {
     let verb = verb(parser, form, tokens)?;
     let (verb, objects) = keep_beside(verb, objects(parser, form, tokens))?;
@@ -111,13 +114,13 @@ fn property(parser: Parser, form: Form, tokens: &mut Tokens<'_>) -> Result<Prope
 }
 
 #[cycle(properties)]
-#[tactic(auto, using(crate::proofs::FirstKinds::first_property), unfolding(qs_syntax_tree::specs::Rules::next_property))]
+#[tactic(auto, using(crate::proofs::FirstKinds::first_property), unfolding(qs_syntax_tree::specs::inner::Procedures::next_property))]
 fn next_property(
     parser: Parser,
     form: Form,
     tokens: &mut Tokens<'_>,
 ) -> Result<Option<Property>, Fault>
-    ensures { Reads (read grammar parser.depth (rules.next_property form) tokens.old) result
+    ensures { Reads (read guided parser.depth (procedures.next_property form) tokens.old) result
         tokens.new }
 {
     tokens.expect(Kind::Semicolon)?;
@@ -133,7 +136,7 @@ fn more_properties(
     form: Form,
     tokens: &mut Tokens<'_>,
 ) -> Result<Items<Property>, Fault>
-    ensures { Reads (read grammar parser.depth (rules.more_properties form) tokens.old) result
+    ensures { Reads (read guided parser.depth (procedures.more_properties form) tokens.old) result
         tokens.new }
 {
     let mut found = Items::new(parser.alloc);
@@ -148,13 +151,13 @@ fn more_properties(
 }
 
 #[cycle(properties)]
-#[tactic(auto, unfolding(qs_syntax_tree::specs::Rules::properties_rule))]
+#[tactic(auto, unfolding(qs_syntax_tree::specs::inner::Procedures::properties_rule))]
 fn property_list(
     parser: Parser,
     form: Form,
     tokens: &mut Tokens<'_>,
 ) -> Result<Items<Property>, Fault>
-    ensures { Reads (read grammar parser.depth (rules.properties_rule form) tokens.old) result
+    ensures { Reads (read guided parser.depth (procedures.properties_rule form) tokens.old) result
         tokens.new }
 {
     let first = property(parser, form, tokens)?;
@@ -163,9 +166,9 @@ fn property_list(
 }
 
 #[cycle(properties)]
-#[tactic(auto, unfolding(qs_syntax_tree::specs::Table::rule))]
+#[tactic(auto, unfolding(qs_syntax_tree::specs::inner::Table::rule))]
 fn properties(parser: Parser, form: Form, tokens: &mut Tokens<'_>) -> Result<Items<Property>, Fault>
-    ensures { Reads (read grammar parser.depth (ref (name.properties form)) tokens.old) result
+    ensures { Reads (read guided parser.depth (ref (name.properties form)) tokens.old) result
         tokens.new }
 {
     if parser.depth == 0 {
@@ -174,13 +177,13 @@ fn properties(parser: Parser, form: Form, tokens: &mut Tokens<'_>) -> Result<Ite
     property_list(parser.deeper(), form, tokens)
 }
 
-#[tactic(auto, unfolding(qs_syntax_tree::specs::Rules::anonymous_subject))]
+#[tactic(auto, unfolding(qs_syntax_tree::specs::inner::Procedures::anonymous_subject))]
 fn anonymous_subject(
     parser: Parser,
     form: Form,
     tokens: &mut Tokens<'_>,
 ) -> Result<TriplesSameSubject, Fault>
-    ensures { Reads (read grammar parser.depth (rules.anonymous_subject form) tokens.old) result
+    ensures { Reads (read guided parser.depth (procedures.anonymous_subject form) tokens.old) result
         tokens.new }
 {
     tokens.expect(Kind::RightBracket)?;
@@ -191,13 +194,13 @@ fn anonymous_subject(
     })
 }
 
-#[tactic(auto, unfolding(qs_syntax_tree::specs::Rules::property_subject))]
+#[tactic(auto, unfolding(qs_syntax_tree::specs::inner::Procedures::property_subject))]
 fn property_subject(
     parser: Parser,
     form: Form,
     tokens: &mut Tokens<'_>,
 ) -> Result<TriplesSameSubject, Fault>
-    ensures { Reads (read grammar parser.depth (rules.property_subject form) tokens.old) result
+    ensures { Reads (read guided parser.depth (procedures.property_subject form) tokens.old) result
         tokens.new }
 {
     let own = properties(parser, form, tokens)?;
@@ -213,13 +216,13 @@ fn property_subject(
     })
 }
 
-#[tactic(auto, unfolding(qs_syntax_tree::specs::Rules::bracketed_subject, qs_syntax_tree::specs::Rules::anonymous_subject))]
+#[tactic(auto, unfolding(qs_syntax_tree::specs::inner::Procedures::bracketed_subject, qs_syntax_tree::specs::inner::Procedures::anonymous_subject))]
 fn bracketed_subject(
     parser: Parser,
     form: Form,
     tokens: &mut Tokens<'_>,
 ) -> Result<TriplesSameSubject, Fault>
-    ensures { Reads (read grammar parser.depth (rules.bracketed_subject form) tokens.old) result
+    ensures { Reads (read guided parser.depth (procedures.bracketed_subject form) tokens.old) result
         tokens.new }
 {
     tokens.expect(Kind::LeftBracket)?;
@@ -229,13 +232,13 @@ fn bracketed_subject(
     property_subject(parser, form, tokens)
 }
 
-#[tactic(auto, using(crate::proofs::FirstKinds::first_term, crate::proofs::FirstKinds::nullable_term), unfolding(qs_syntax_tree::specs::Rules::same_subject))]
+#[tactic(auto, using(crate::proofs::FirstKinds::first_term, crate::proofs::FirstKinds::nullable_term), unfolding(qs_syntax_tree::specs::inner::Procedures::same_subject))]
 fn same_subject(
     parser: Parser,
     form: Form,
     tokens: &mut Tokens<'_>,
 ) -> Result<TriplesSameSubject, Fault>
-    ensures { Reads (read grammar parser.depth (rules.same_subject form) tokens.old) result
+    ensures { Reads (read guided parser.depth (procedures.same_subject form) tokens.old) result
         tokens.new }
 {
     if tokens.peek_is(&TERMS) {
@@ -255,7 +258,7 @@ pub fn triples(
     form: Form,
     tokens: &mut Tokens<'_>,
 ) -> Result<Items<TriplesSameSubject>, Fault>
-    ensures { Reads (read grammar parser.depth (ref (name.triples form)) tokens.old) result
+    ensures { Reads (read guided parser.depth (ref (name.triples form)) tokens.old) result
         tokens.new }
 {
     let mut found = Items::from_vec(Vec::with_capacity(parser.alloc, 1)?);
@@ -281,7 +284,7 @@ pub fn template_braces(
     parser: Parser,
     tokens: &mut Tokens<'_>,
 ) -> Result<Items<TriplesSameSubject>, Fault>
-    ensures { Reads (read grammar parser.depth rules.template_braces tokens.old) result tokens.new }
+    ensures { Reads (read guided parser.depth rules.template_braces tokens.old) result tokens.new }
 {
     tokens.expect(Kind::LeftBrace)?;
     let mut found = Items::new(parser.alloc);

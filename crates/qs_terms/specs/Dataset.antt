@@ -1,26 +1,15 @@
 -- Datasets (RDF 1.1 Concepts, 4; SPARQL 1.1 Query, 13): quads read as a set, and a blank node
 -- number above theirs.
-use Rattle.std.specs.Prelude.{ℕ, Bool, true, ◌&&◌, nat_lt, List, [], ◌∷◌, map, Option, Some, None}
+use Rattle.std.specs.Prelude.{ℕ, Bool, true, ◌&&◌, nat_lt, List, [], ◌∷◌, map, Option}
 use Rattle.std.specs.Bool.{IsTrue}
 use Rattle.std.specs.List.{filter, filter_map, flat_map, list_all}
 use Rattle.qs_terms.specs.Bag.{Distinct, once}
 use Rattle.qs_terms.specs.Term.{same_term}
 use Rattle.qs_terms.specs.Statement.{Statement, same_graph, same_statement}
+pub use Rattle.qs_terms.specs.Statement.{Triple, triple_of, same_triple}
+use Rattle.std.specs.Option.{option_map_or}
 use Rattle.qs_terms.specs.declared.term.Term.{Term}
-use Rattle.qs_terms.specs.declared.term.Term.TheVariants.{Iri, Blank, Literal}
-
--- a triple of a graph (RDF 1.1 Concepts, 3.1)
-pub record Triple : Type 0 where
-  pub subject : Term
-  pub predicate : Term
-  pub object : Term
-
-abbrev pub triple_of : Statement → Triple
-triple_of q = record { subject = q.subject; predicate = q.predicate; object = q.object }
-
-abbrev pub same_triple : Triple → Triple → Bool
-same_triple a b = same_term a.subject b.subject
-    && (same_term a.predicate b.predicate && same_term a.object b.object)
+use Rattle.qs_terms.specs.declared.term.Term.TheVariants.{Blank}
 
 -- the quads, of which each stands once and whose order means nothing, and the next blank node's
 -- number
@@ -32,14 +21,10 @@ abbrev pub is_term_below : ℕ → Term → Bool
 is_term_below next (Blank n) = nat_lt n next
 is_term_below next _ = true
 
-abbrev pub is_graph_below : ℕ → Option Term → Bool
-is_graph_below next None = true
-is_graph_below next (Some name) = is_term_below next name
-
 -- a predicate is no blank node
 abbrev pub is_statement_below : ℕ → Statement → Bool
-is_statement_below next q =
-    is_graph_below next q.graph && (is_term_below next q.subject && is_term_below next q.object)
+is_statement_below next q = option_map_or (is_term_below next) q.graph true
+    && (is_term_below next q.subject && is_term_below next q.object)
 
 -- the number is above those of all blank nodes of the quads
 abbrev pub is_above_blanks : ℕ → List Statement → Bool
@@ -58,11 +43,7 @@ graph_of quads name = map triple_of (filter (λ q. same_graph q.graph name) quad
 abbrev pub names_of : List Statement → List Term
 names_of quads = once same_term (filter_map (λ q. q.graph) quads)
 
--- the ends of a triple
-abbrev pub ends_of : Triple → List Term
-ends_of t = t.subject ∷ t.object ∷ []
-
 -- the nodes of a graph: the terms that stand as subject or object, each once (RDF 1.1 Concepts,
 -- 3.1)
 abbrev pub nodes_of : List Triple → List Term
-nodes_of graph = once same_term (flat_map ends_of graph)
+nodes_of graph = once same_term (flat_map (λ t. t.subject ∷ t.object ∷ []) graph)

@@ -1,7 +1,7 @@
 -- Lawful IRIs (RFC 3987, 2.2; RDF 1.1 Concepts, 3.2): absolute, so with a scheme and a colon at the
 -- front, and without a character that IRIs exclude. No more of the grammar of RFC 3987 is asked.
 use Rattle.std.specs.Prelude.{ℕ, Bool, true, false, ◌&&◌, ◌||◌, ◌==◌, List, [], ◌∷◌, Result, Ok}
-use Rattle.std.specs.Prelude.{Err, if◌then◌else◌}
+use Rattle.std.specs.Prelude.{Err, codes, if◌then◌else◌}
 use Rattle.std.specs.List.{list_any}
 use Rattle.std.specs.Char.{is_ascii_alphabetic, is_ascii_alphanumeric}
 use Rattle.std.specs.Int.{is_in_range}
@@ -24,12 +24,7 @@ has_scheme (c ∷ cs) = is_ascii_alphabetic c && reaches_colon cs
 
 -- up to U+0020, and `"` `<` `>` `\` `^` `` ` `` `{` `|` `}` (SPARQL 1.1 Query, 19.8, IRIREF)
 abbrev pub is_excluded : ℕ → Bool
-is_excluded c =
-    is_in_range 0 32 c
-    || (c == 34
-    || (c == 60
-    || (c == 62
-    || (c == 92 || (c == 94 || (c == 96 || (c == 123 || (c == 124 || c == 125))))))))
+is_excluded c = is_in_range 0 32 c || list_any (λ x. c == x) (codes "\"<>\\^`{|}")
 
 -- the IRI of the bytes, or what is wrong with them: a missing scheme is told before an excluded
 -- character

@@ -1,7 +1,6 @@
 pub mod Iri
 pub mod Tag
 pub mod Literal
-pub mod OrOutOf
 pub mod Outcome
 pub mod Term
 pub mod Statement

@@ -3,7 +3,8 @@
 ghost use Rattle.std.specs.Prelude.{◌≡◌, ◌↔◌, List};
 ghost use Rattle.qs_terms.specs.Bag.{SameBag};
 ghost use Rattle.qs_terms.specs.inner.Bag.{times};
-ghost use Rattle.qs_terms.specs.Dataset.{is_term_below, is_graph_below, is_statement_below, is_above_blanks};
+ghost use Rattle.qs_terms.specs.Dataset.{is_term_below, is_statement_below, is_above_blanks};
+ghost use Rattle.qs_terms.specs.inner.Dataset.{is_graph_below};
 ghost use Rattle.qs_terms.specs.Statement.{Statement, same_statement};
 
 use crate::quad::Quad;

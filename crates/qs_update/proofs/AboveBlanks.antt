@@ -4,7 +4,8 @@ use Rattle.std.specs.List.{filter}
 use Rattle.std.proofs.lemmas.List.Elements.{All-from_recursion}
 use Rattle.std.proofs.lemmas.List.Sorted.{All-permutation, IsPermutation-sym}
 use Rattle.qs_terms.specs.Bag.{once}
-use Rattle.qs_terms.specs.Dataset.{is_term_below, is_graph_below, is_statement_below, is_above_blanks, graph_of}
+use Rattle.qs_terms.specs.Dataset.{is_term_below, is_statement_below, is_above_blanks, graph_of}
+use Rattle.qs_terms.specs.inner.Dataset.{is_graph_below}
 use Rattle.qs_terms.specs.Outcome.{Outcome, and_then}
 use Rattle.qs_terms.specs.Statement.{Statement, same_graph, same_statement, is_iri}
 use Rattle.qs_terms.specs.declared.fault.QFault.{QFault}
@@ -37,7 +38,8 @@ use Rattle.qs_update_laws.specs.inner.NoBlank.{has_no_blank}
 use Rattle.qs_update_laws.specs.inner.Written.{values_have_no_blank, operation_values_have_no_blank}
 use Rattle.qs_store.specs.declared.default_graph.DefaultGraph.{DefaultGraph}
 use Rattle.qs_store.specs.declared.default_graph.DefaultGraph.TheVariants.{Stored, Union}
-use Rattle.qs_update.specs.Effect.{nothing, deletion, modified, of_data, solutions, IsModified, cleared, fault_or_nothing, created, put_over, removed_by, transferred, IsEffect}
+use Rattle.qs_update.specs.Effect.{nothing, modified, of_data, solutions, IsModified, cleared, fault_or_nothing, created, put_over, removed_by, transferred, IsEffect}
+use Rattle.qs_update.specs.inner.Effect.{deletion}
 use Rattle.qs_update.specs.Graphs.{is_in, is_named, in_graph, exists, put_into, copies, graph_name, visible}
 use Rattle.qs_update.specs.inner.Lawful.{IsLawful}
 use Rattle.qs_update.specs.declared.effect.Effect.{Effect}

@@ -16,7 +16,8 @@ use Rattle.qs_store.specs.Content.{Content, Held}
 use Rattle.qs_store.specs.Same.{SameSet}
 use Rattle.qs_store.specs.declared.removal.Removal.{Removal}
 use Rattle.qs_update.specs.inner.Carried.{BecomesOne}
-use Rattle.qs_update.specs.Effect.{put_over, removed_by, transferred, IsDeletedWhere, IsModifiedWhere, IsEffect}
+use Rattle.qs_update.specs.Effect.{put_over, removed_by, transferred, IsEffect}
+use Rattle.qs_update.specs.inner.Effect.{IsDeletedWhere, IsModifiedWhere}
 use Rattle.qs_update.specs.Graphs.{copies, exists, graph_name}
 use Rattle.qs_update.specs.Request.{bounds_of, IsCarriedOut, IsOperation}
 use Rattle.qs_update.specs.declared.effect.Effect.{Effect}

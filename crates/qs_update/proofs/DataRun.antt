@@ -23,12 +23,14 @@ use Rattle.qs_algebra_solutions.specs.Solution.{unbound}
 use Rattle.qs_query_template.specs.Instances.{instances, next_after}
 use Rattle.qs_query_template.specs.Template.{template_of_blocks}
 use Rattle.qs_query_template.specs.inner.DataBlocks.{inserted, deleted}
-use Rattle.qs_store.specs.Change.{IsChanged, KnowsTermsOf, terms_of, with_terms, with_terms_of}
+use Rattle.qs_store.specs.Change.{IsChanged, KnowsTermsOf, terms_of, with_terms_of}
+use Rattle.qs_store.specs.inner.Change.{with_terms}
 use Rattle.qs_store.specs.Content.{Content}
 use Rattle.qs_store.specs.Same.{SameSet}
 use Rattle.qs_store.specs.declared.default_graph.DefaultGraph.{DefaultGraph}
 use Rattle.qs_store.proofs.Members.{nothing as no_member, head_or_tail, member_of_filter, filter_has}
-use Rattle.qs_update.specs.Effect.{nothing, deletion, of_data, IsEffect}
+use Rattle.qs_update.specs.Effect.{nothing, of_data, IsEffect}
+use Rattle.qs_update.specs.inner.Effect.{deletion}
 use Rattle.qs_update.specs.Request.{Bounds, IsApplied, IsCarriedOut, IsOperation, AreOperations}
 use Rattle.qs_update.specs.inner.DataRun.{with_insertion, with_deletion, IsWith, IsCarriedInTurn, IsEffectOf, AreRefused, IsRun}
 use Rattle.qs_update.specs.inner.Lawful.{IsLawful}

@@ -1,7 +1,8 @@
 -- Predicates of quads, and the quads of graphs that CLEAR and DROP name.
 use Rattle.std.proofs.Common.{◌≡◌, ◌↔◌, ℕ, Bool, true, false, ◌&&◌, List, [], ◌∷◌, Some, None, refl, sym, ap, ◌∙◌, IsTrue}
 use Rattle.std.specs.List.{filter, Contains}
-use Rattle.qs_terms.specs.Statement.{Statement, is_graph, is_node, is_iri}
+use Rattle.qs_terms.specs.Statement.{Statement, is_node, is_iri}
+use Rattle.qs_terms.specs.inner.Dataset.{is_graph}
 use Rattle.qs_terms.specs.declared.term.Term.{Term}
 use Rattle.qs_terms.specs.declared.term.Term.TheVariants as value
 use Rattle.qs_syntax_ast.specs.declared.update.GraphTarget.{GraphTarget}

@@ -3,7 +3,7 @@ use Rattle.std.proofs.Common.{◌≡◌, ◌≤◌, ℕ, List, [], ◌∷◌, �
 use Rattle.std.proofs.lemmas.List.{take-append-drop}
 use Rattle.std.specs.List.{flat_map}
 use Rattle.std.proofs.lemmas.List.Sorted.{IsPermutation-refl}
-use Rattle.qs_terms.specs.Outcome.{Outcome}
+use Rattle.qs_terms.specs.Outcome.{Outcome, IsDueAfter}
 use Rattle.qs_terms.specs.Statement.{Statement}
 use Rattle.qs_terms.specs.declared.fault.QFault.{QFault}
 use Rattle.qs_terms.specs.declared.term.Term.{Term}
@@ -15,7 +15,7 @@ use Rattle.qs_store.specs.declared.default_graph.DefaultGraph.{DefaultGraph}
 use Rattle.qs_store.proofs.Terms.{front_take, front_terms}
 use Rattle.qs_update.specs.inner.Carried.{Remaining}
 use Rattle.qs_update.specs.Outcome.{IsSameContent}
-use Rattle.qs_update.specs.Request.{Bounds, bounds_of, IsApplied, IsOperation, AreOperations, IsBehind}
+use Rattle.qs_update.specs.Request.{Bounds, bounds_of, IsApplied, IsOperation, AreOperations}
 use Rattle.qs_update.specs.declared.effect.Effect.{Effect}
 
 -- ---- one operation
@@ -44,7 +44,7 @@ module _ (bounds : Bounds) where
   abbrev Are : List Operation → Content → Outcome Content → Type 0
   Are operations old outcome = AreOperations bounds operations old outcome
 
-  ended : (outcome : Outcome Content) → IsBehind (Are []) outcome outcome
+  ended : (outcome : Outcome Content) → IsDueAfter (Are []) outcome outcome
   ended (Ok c) = refl
   ended (Err f) = refl
 
@@ -52,7 +52,7 @@ module _ (bounds : Bounds) where
   alone o old outcome k = (outcome, k, ended outcome)
 
   then_more : (operations more : List Operation) (c : Content) (outcome first : Outcome Content)
-      → ((d : Content) → Are operations d (Ok c) → Are (operations ++ more) d outcome) → IsBehind (Are operations) first (Ok c) → IsBehind (Are (operations ++ more)) first outcome
+      → ((d : Content) → Are operations d (Ok c) → Are (operations ++ more) d outcome) → IsDueAfter (Are operations) first (Ok c) → IsDueAfter (Are (operations ++ more)) first outcome
   then_more operations more c outcome (Ok d) others h = others d h
   then_more operations more c outcome (Err f) others h = absurd (let e : Ok c ≡ Err f = h in cc)
 
@@ -62,7 +62,7 @@ module _ (bounds : Bounds) where
   in_turn (p ∷ operations) more old c outcome h k = (h.0, h.1, then_more operations more c outcome h.0 (λ d l. in_turn operations more d c outcome l k) h.2)
 
   before_first : (operations more : List Operation) (f : QFault) (first : Outcome Content)
-      → ((d : Content) → Are operations d (Err f) → Are (operations ++ more) d (Err f)) → IsBehind (Are operations) first (Err f) → IsBehind (Are (operations ++ more)) first (Err f)
+      → ((d : Content) → Are operations d (Err f) → Are (operations ++ more) d (Err f)) → IsDueAfter (Are operations) first (Err f) → IsDueAfter (Are (operations ++ more)) first (Err f)
   before_first operations more f (Ok d) others h = others d h
   before_first operations more f (Err g) others h = h
 

@@ -12,11 +12,13 @@ use Rattle.qs_algebra_patterns.specs.declared.named_pattern.Pattern.{Pattern}
 use Rattle.qs_expr.specs.inner.Cell.{row_solution}
 use Rattle.qs_query_solutions.specs.declared.cell_rows.CellRows.{CellRows}
 use Rattle.qs_query_solutions.specs.inner.CellRows.{AreAllCells}
-use Rattle.qs_query_template.specs.Instances.{instances, next_after, within}
+use Rattle.qs_query_template.specs.Instances.{instances, next_after}
+use Rattle.qs_query_template.specs.inner.Instances.{within}
 use Rattle.qs_query_template.specs.declared.template.Template.{Template}
 use Rattle.qs_store.specs.Content.{Content}
 use Rattle.qs_store.specs.declared.default_graph.DefaultGraph.{DefaultGraph}
-use Rattle.qs_update.specs.Effect.{solutions, deletion, modified, IsModified}
+use Rattle.qs_update.specs.Effect.{solutions, modified, IsModified}
+use Rattle.qs_update.specs.inner.Effect.{deletion}
 use Rattle.qs_update.specs.Request.{IsCarriedOut}
 use Rattle.qs_update.specs.inner.Carried.{BecomesOne}
 use Rattle.qs_update.specs.inner.Lawful.{IsLawful}

@@ -17,9 +17,7 @@ use Rattle.qs_terms.specs.declared.term.Term.{Term}
 use Rattle.qs_terms.specs.declared.term.Term.TheVariants as value
 use Rattle.qs_syntax_tree.specs.declared.update.OnMissing.{OnMissing}
 use Rattle.qs_syntax_tree.specs.declared.update.OnMissing.TheVariants as on_missing
-use Rattle.qs_syntax_ast.specs.declared.term.Variable.{Variable}
 use Rattle.qs_syntax_ast.specs.declared.update.GraphTarget.{GraphTarget}
-use Rattle.qs_syntax_ast.specs.declared.update.Modify.{Modify}
 use Rattle.qs_syntax_ast.specs.declared.update.Operation.{Operation}
 use Rattle.qs_syntax_ast.specs.declared.update.Operation.TheVariants as op
 use Rattle.qs_syntax_ast.specs.declared.update.QuadBlock.{QuadBlock}
@@ -45,20 +43,15 @@ nothing next = record { removed = []; added = []; next = next }
 
 -- ---- templates and solutions (3.1.1 to 3.1.3, 4.3.1 and 4.3.2)
 
--- a template of quads to remove takes no fresh blank nodes: none stands in it
-abbrev pub deletion : Template → Template
-deletion t = record { quads = t.quads; blanks = 0 }
-
--- the instances of one template under these solutions are removed, and then those of the other are
--- added, whose fresh blank nodes have the numbers from the next one on; or the fault that these
--- don't suffice
+-- the instances of one template under these solutions are removed, which takes no fresh blank
+-- nodes: none stands in it. Then those of the other are added, whose fresh blank nodes have the
+-- numbers from the next one on; or the fault that these don't suffice
 abbrev pub modified : Template → Template → ℕ → List Solution → Outcome Effect
 modified delete insert next rows =
     and_then (made insert next rows) (λ added. Ok (record {
-      removed = instances (deletion delete) next rows;
+      removed = instances (record delete { blanks = 0 }) next rows;
       added = added;
-      next = next_after
-          insert next (length rows);
+      next = next_after insert next (length rows);
     }))
 
 -- INSERT DATA and DELETE DATA: under the one solution, which binds nothing
@@ -79,24 +72,6 @@ IsModified max_rows delete insert next all outcome =
     ((max_rows < length all) × (outcome ≡ Err fault.TooManyRows))
     ⊎ ((length all ≤ max_rows) × (rows : List Solution) × SameBag rows all
     × (outcome ≡ modified delete insert next rows))
-
--- DELETE WHERE (3.1.3.3): its quads are pattern and template, and these are its variables
-abbrev pub IsDeletedWhere : ℕ → List Variable → DefaultGraph → List QuadBlock → List Statement → ℕ
-    → Outcome Effect → Type 0
-IsDeletedWhere max_rows variables default blocks quads next outcome =
-    IsModified max_rows (template_of_blocks (names_of variables) blocks)
-    (template_of_blocks (names_of variables) []) next
-    (solutions (translated_blocks variables blocks) default None quads) outcome
-
--- DELETE and INSERT with a WHERE (3.1.3), and these variables: WITH names the default graph of the
--- WHERE and of both templates
-abbrev pub IsModifiedWhere : ℕ → List Variable → DefaultGraph → Modify → List Statement → ℕ
-    → Outcome Effect → Type 0
-IsModifiedWhere max_rows variables default m quads next outcome =
-    IsModified max_rows (template_in m.with (template_of_blocks (names_of variables) m.delete))
-    (template_in m.with (template_of_blocks (names_of variables) m.insert)) next
-    (solutions (translated_where variables m.pattern) default (option_map value.Iri m.with) quads)
-    outcome
 
 -- ---- graphs (3.1.5 and 3.2)
 
@@ -121,22 +96,30 @@ put_over removed from to quads next = if same_graph from to then nothing next
 
 -- the same where there is such a graph
 abbrev pub transferred : Removal → Transfer → List Statement → ℕ → Outcome Effect
-transferred removal t quads next =
-    if exists (graph_name t.from) quads
-    then Ok (put_over (removed_by removal (graph_name t.from) (graph_name t.to) quads)
-    (graph_name t.from) (graph_name t.to) quads next)
+transferred removal t quads next = let from = graph_name t.from in let to = graph_name t.to in
+    if exists from quads then Ok (put_over (removed_by removal from to quads) from to quads next)
     else fault_or_nothing t.on_missing fault.NoGraph next
 
 -- ---- operations
 
--- what the operation does over these quads, where this is the next blank node's number
+-- what the operation does over these quads, where this is the next blank node's number. Of a
+-- DELETE WHERE the quads are pattern and template (3.1.3.3). WITH names the default graph of a
+-- WHERE and of both templates (3.1.3)
 abbrev pub IsEffect : ℕ → DefaultGraph → Operation → List Statement → ℕ → Outcome Effect → Type 0
 IsEffect rows default (op.InsertData blocks) quads next out = out ≡ of_data [] blocks next
 IsEffect rows default (op.DeleteData blocks) quads next out = out ≡ of_data blocks [] next
 IsEffect rows default (op.DeleteWhere blocks) quads next out =
-    IsDeletedWhere rows (operation_variables (op.DeleteWhere blocks)) default blocks quads next out
+    let variables = operation_variables (op.DeleteWhere blocks) in
+    let names = names_of variables in
+    IsModified rows (template_of_blocks names blocks) (template_of_blocks names []) next
+    (solutions (translated_blocks variables blocks) default None quads) out
 IsEffect rows default (op.Modify m) quads next out =
-    IsModifiedWhere rows (operation_variables (op.Modify m)) default m quads next out
+    let variables = operation_variables (op.Modify m) in
+    let names = names_of variables in
+    IsModified rows (template_in m.with (template_of_blocks names m.delete))
+    (template_in m.with (template_of_blocks names m.insert)) next
+    (solutions (translated_where variables m.pattern) default (option_map value.Iri m.with) quads)
+    out
 IsEffect rows default (op.Clear _ target) quads next out = out ≡ Ok (cleared target quads next)
 IsEffect rows default (op.Drop _ target) quads next out = out ≡ Ok (cleared target quads next)
 IsEffect rows default (op.Create on name) quads next out = out ≡ created on name quads next

@@ -1,7 +1,7 @@
 -- What the text of an update makes of what a store holds: the fault that is due, or what its
 -- operations make of it.
-use Rattle.std.specs.Prelude.{◌≡◌, ℕ, List, Ok, Err}
-use Rattle.qs_terms.specs.Outcome.{Outcome}
+use Rattle.std.specs.Prelude.{◌≡◌, ℕ, List}
+use Rattle.qs_terms.specs.Outcome.{Outcome, IsDueAfter}
 use Rattle.qs_syntax_ast.specs.declared.update.Update.{Update}
 use Rattle.qs_store.specs.Content.{Content}
 use Rattle.qs_store.specs.Same.{SameSet}
@@ -9,13 +9,9 @@ use Rattle.qs_syntax.specs.Outcome.{IsUpdateOutcome}
 use Rattle.qs_update.specs.Request.{Bounds, AreOperations}
 
 -- a text without fault makes what its operations make
-abbrev pub IsOutcomeOfParsed : Bounds → Outcome Update → Content → Outcome Content → Type 0
-IsOutcomeOfParsed bounds (Ok u) old outcome = AreOperations bounds u.operations old outcome
-IsOutcomeOfParsed bounds (Err f) old outcome = outcome ≡ Err f
-
 abbrev pub IsOutcomeOfText : Bounds → List ℕ → Content → Outcome Content → Type 0
 IsOutcomeOfText bounds text old outcome = (parsed : Outcome Update) × IsUpdateOutcome text parsed
-    × IsOutcomeOfParsed bounds parsed old outcome
+    × IsDueAfter (λ (u : Update). AreOperations bounds u.operations old) parsed outcome
 
 -- the same quads, next number and known terms
 pub record IsSameContent (a b : Content) : Type 0 where

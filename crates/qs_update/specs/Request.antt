@@ -1,6 +1,6 @@
 -- Requests: operations that take effect in turn, all or none (SPARQL 1.1 Update, 3 and 4.3).
 use Rattle.std.specs.Prelude.{◌≡◌, ◌<◌, ◌≤◌, ℕ, List, [], ◌∷◌, length, Ok, Err}
-use Rattle.qs_terms.specs.Outcome.{Outcome}
+use Rattle.qs_terms.specs.Outcome.{Outcome, IsDueAfter}
 use Rattle.qs_terms.specs.Statement.{Statement}
 use Rattle.qs_terms.specs.declared.fault.QFault.TheVariants.{Full}
 use Rattle.qs_syntax_ast.specs.declared.update.Operation.{Operation}
@@ -46,16 +46,10 @@ IsOperation bounds operation old outcome =
     × ((effect : Outcome Effect) × IsEffect bounds.rows bounds.default_graph operation quads
     old.next effect × IsCarriedOut bounds.terms old effect outcome)
 
--- what is done with the content that stands, or the fault that was due before
-abbrev pub IsBehind : (Content → Outcome Content → Type 0) → Outcome Content → Outcome Content
-    → Type 0
-IsBehind Rest (Ok c) outcome = Rest c outcome
-IsBehind Rest (Err f) outcome = outcome ≡ Err f
-
 -- the operations one after another, each over what those before it left; the first fault is that of
 -- all
 abbrev pub AreOperations : Bounds → List Operation → Content → Outcome Content → Type 0
 AreOperations bounds [] old outcome = outcome ≡ Ok old
 AreOperations bounds (operation ∷ operations) old outcome =
     (first : Outcome Content) × IsOperation bounds operation old first
-    × IsBehind (AreOperations bounds operations) first outcome
+    × IsDueAfter (AreOperations bounds operations) first outcome

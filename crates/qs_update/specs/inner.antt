@@ -3,3 +3,4 @@ pub mod Lawful
 pub mod Carried
 pub mod DataRun
 pub mod Outcome
+pub mod Effect

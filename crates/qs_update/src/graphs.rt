@@ -2,7 +2,8 @@
 
 ghost use Rattle.std.specs.Prelude.{◌≡◌, IsTrue, IfOk};
 ghost use Rattle.std.specs.Option.{option_copied};
-ghost use Rattle.qs_terms.specs.Statement.{is_graph, same_graph};
+ghost use Rattle.qs_terms.specs.Statement.{same_graph};
+ghost use Rattle.qs_terms.specs.inner.Dataset.{is_graph};
 ghost use Rattle.qs_terms.specs.declared.term.Term.TheVariants as value;
 ghost use Rattle.qs_update.specs.Graphs as spec;
 

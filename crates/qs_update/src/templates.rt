@@ -2,7 +2,7 @@
 
 ghost use Rattle.std.specs.Prelude.{◌≡◌, IfOk};
 ghost use Rattle.qs_query_template.specs.Template as made;
-ghost use Rattle.qs_update.specs.Effect as spec;
+ghost use Rattle.qs_update.specs.inner.Effect as spec;
 
 use qs_query_template::{Template, template_in, template_of_blocks};
 use qs_syntax_ast::update::QuadBlock;

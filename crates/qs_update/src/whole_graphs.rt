@@ -4,9 +4,9 @@
 ghost use Rattle.std.specs.Prelude.{◌≡◌, ◌≤◌, [], false, length, Ok, IsTrue, IfOk, IfErr, OnOk};
 ghost use Rattle.std.specs.List.{filter};
 ghost use Rattle.std.specs.Option.{option_copied};
-ghost use Rattle.qs_terms.specs.Dataset.{is_graph_below};
+ghost use Rattle.qs_terms.specs.inner.Dataset.{is_graph_below, is_graph};
 ghost use Rattle.qs_terms.specs.inner.Outcome.{OrOutOfMemory};
-ghost use Rattle.qs_terms.specs.Statement.{is_graph, same_graph};
+ghost use Rattle.qs_terms.specs.Statement.{same_graph};
 ghost use Rattle.qs_store.specs.Change.{IsChanged};
 ghost use Rattle.qs_store.specs.declared.fault.StoreFault.TheVariants.{Memory};
 ghost use Rattle.qs_update.specs.inner.Carried.{BecomesOne};

@@ -6,12 +6,14 @@ use Rattle.std.proofs.lemmas.List.{length-map, map-append, take-append-drop, tak
 use Rattle.qs_terms.specs.Statement.{Statement}
 use Rattle.qs_terms.specs.declared.term.Term.{Term}
 use Rattle.qs_algebra_solutions.specs.Solution.{Solution}
-use Rattle.qs_store.specs.Change.{with_terms, with_terms_of, terms_of}
+use Rattle.qs_store.specs.Change.{with_terms_of, terms_of}
+use Rattle.qs_store.specs.inner.Change.{with_terms}
 use Rattle.qs_store.specs.inner.Change.{IsFullAt}
 use Rattle.qs_store.specs.declared.fault.StoreFault.{StoreFault}
 use Rattle.qs_store.proofs.Faults.{full_later}
 use Rattle.qs_store.proofs.Terms.{longer, with_terms_more}
-use Rattle.qs_query_template.specs.Instances.{instances, instances_under, next_after}
+use Rattle.qs_query_template.specs.Instances.{instances, next_after}
+use Rattle.qs_query_template.specs.inner.Instances.{instances_under}
 use Rattle.qs_query_template.specs.declared.template.Template.{Template}
 
 -- more quads have no fewer terms

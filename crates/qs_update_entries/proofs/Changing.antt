@@ -7,7 +7,8 @@ use Rattle.qs_terms.specs.Statement.{Statement, fits_places}
 use Rattle.qs_terms.specs.Term.{same_term}
 use Rattle.qs_terms.specs.declared.term.Term.{Term}
 use Rattle.qs_algebra_solutions.specs.Solution.{Solution}
-use Rattle.qs_query_template.specs.Instances.{quad_of, instance, instances, instances_under, slot_term, graph_term}
+use Rattle.qs_query_template.specs.Instances.{quad_of, instance, instances, slot_term, graph_term}
+use Rattle.qs_query_template.specs.inner.Instances.{instances_under}
 use Rattle.qs_query_template.specs.declared.template.QuadTemplate.{QuadTemplate}
 use Rattle.qs_query_template.specs.declared.template.Template.{Template}
 use Rattle.qs_store.specs.inner.Content.{AreLawful}

@@ -9,7 +9,8 @@ use Rattle.qs_terms.specs.Statement.{Statement}
 use Rattle.qs_terms.specs.Term.{same_term}
 use Rattle.qs_terms.specs.declared.term.Term.{Term}
 use Rattle.qs_algebra_solutions.specs.Solution.{Solution}
-use Rattle.qs_query_template.specs.Instances.{fresh, slot_term, graph_term, instance, instances, instances_under}
+use Rattle.qs_query_template.specs.Instances.{slot_term, graph_term, instance, instances}
+use Rattle.qs_query_template.specs.inner.Instances.{fresh, instances_under}
 use Rattle.qs_query_template.specs.declared.template.QuadTemplate.{QuadTemplate}
 use Rattle.qs_query_template.specs.declared.template.Slot.{Slot}
 use Rattle.qs_query_template.specs.declared.template.Slot.TheVariants as slot

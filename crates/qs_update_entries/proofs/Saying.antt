@@ -54,3 +54,7 @@ front_of_one old new q known = subst (IsFront old) (sym (known old [] refl)) (fr
 pub on_ok : {A E : Type 0} → (r : Result A E) → (P : Type 0) → P → OnOk r P
 on_ok (Ok a) P p = p
 on_ok (Err e) P p = tt
+
+pub ok_then : {A E : Type 0} → (r : Result A E) → (P Q : Type 0) → OnOk r P → (P → Q) → OnOk r Q
+ok_then (Ok a) P Q h f = f h
+ok_then (Err e) P Q h f = tt

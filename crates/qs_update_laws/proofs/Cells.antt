@@ -1,10 +1,12 @@
 -- Terms, solutions and lists of solutions whose blank nodes have numbers below one, through the operators of the algebra and all maps.
 use Rattle.std.proofs.Common.{◌≡◌, ℕ, zero, suc, ◌+◌, Bool, true, false, if◌then◌else◌, not, List, [], ◌∷◌, map, take, slice_set, Option, Some, None, refl}
 use Rattle.std.specs.List.{AllByRecursion, filter, flat_map, list_any}
-use Rattle.qs_terms.specs.Dataset.{is_term_below, is_graph_below as is_cell_below}
+use Rattle.qs_terms.specs.Dataset.{is_term_below}
+use Rattle.qs_terms.specs.inner.Dataset.{is_graph_below as is_cell_below}
 use Rattle.qs_terms.specs.declared.term.Term.{Term}
 use Rattle.qs_terms.specs.declared.term.Term.TheVariants as term
-use Rattle.qs_algebra_solutions.specs.Solution.{Solution, term_at, unbound, bind_all, compatible, first_bound, merge}
+use Rattle.qs_algebra_solutions.specs.Solution.{Solution, term_at, unbound, bind_all, compatible, merge}
+use Rattle.qs_algebra_solutions.specs.inner.Solution.{first_bound}
 use Rattle.qs_algebra_solutions.specs.Operators.{merges, join, or_alone, left_join, excludes, minus}
 use Rattle.qs_algebra_patterns.specs.Basic.{all_maps}
 use Rattle.qs_update_laws.specs.inner.NoBlank.{is_no_blank, row_has_no_blank}

@@ -5,13 +5,14 @@ use Rattle.qs_terms.specs.declared.term.Term.{Term}
 use Rattle.qs_terms.specs.declared.term.Term.TheVariants as term
 use Rattle.qs_expr_values.specs.Values.{worth, boolean_term, integer_term, strung}
 use Rattle.qs_algebra_solutions.specs.Solution.{Solution}
-use Rattle.qs_expr_meaning.specs.Calls.{Value, unary, binary, length_of, string_of, of_texts, text_of_worth, both_forms, strings, forms, common_tag, joined}
-use Rattle.qs_expr_meaning.specs.Meaning.{truth, boolean_value, of_both, integer_value, SignedValue, choice, first_value, level, addend_level as addend_value_level, meaning}
-use Rattle.qs_expr_meaning.specs.inner.Meaning.{addend_meaning}
-use Rattle.qs_expr_meaning.specs.declared.operator.UnaryFunction.{UnaryFunction}
-use Rattle.qs_expr_meaning.specs.declared.operator.UnaryFunction.TheVariants.{IsIri, IsBlank, IsLiteral, IsNumeric, Str, Lang, Datatype, StrLen}
-use Rattle.qs_expr_meaning.specs.declared.operator.BinaryFunction.{BinaryFunction}
-use Rattle.qs_expr_meaning.specs.declared.operator.BinaryFunction.TheVariants.{SameTerm, LangMatches, Contains, StrStarts, StrEnds}
+use Rattle.qs_expr_meaning.specs.Calls.{Value, unary, binary, string_of, text_of_worth, both_forms, strings, common_tag, joined, of_both}
+use Rattle.qs_expr_meaning.specs.inner.Calls.{length_of, of_texts, forms}
+use Rattle.qs_expr_meaning.specs.Meaning.{truth, SignedValue, choice, first_value, level, addend_level as addend_value_level, meaning}
+use Rattle.qs_expr_meaning.specs.inner.Meaning.{boolean_value, integer_value, addend_meaning}
+use Rattle.qs_syntax_tree.specs.declared.expression.UnaryFunction.{UnaryFunction}
+use Rattle.qs_syntax_tree.specs.declared.expression.UnaryFunction.TheVariants.{IsIri, IsBlank, IsLiteral, IsNumeric, Str, Lang, Datatype, StrLen}
+use Rattle.qs_syntax_tree.specs.declared.expression.BinaryFunction.{BinaryFunction}
+use Rattle.qs_syntax_tree.specs.declared.expression.BinaryFunction.TheVariants.{SameTerm, LangMatches, Contains, StrStarts, StrEnds}
 use Rattle.qs_expr_meaning.specs.declared.expr.Addend.{Addend}
 use Rattle.qs_expr_meaning.specs.declared.expr.Expr.{Expr, map-Expr, roll-Expr, fold-roll-Expr, ind-Expr}
 use Rattle.qs_expr_meaning.specs.declared.expr.Expr.TheOpen.{Expr-F}
@@ -67,7 +68,8 @@ module _ (next : ℕ) where
 
   texts_below : (test : List ℕ → List ℕ → Bool) (a b : Option (List ℕ)) → CellBelow next (of_texts test a b)
   texts_below test None b = refl
-  texts_below test (Some x) b = mapped_below (λ y. boolean_term (test x y)) (λ y. refl) b
+  texts_below test (Some x) None = refl
+  texts_below test (Some x) (Some y) = refl
 
   binary_below : (f : BinaryFunction) (a b : Term) → CellBelow next (binary f a b)
   binary_below SameTerm a b = refl

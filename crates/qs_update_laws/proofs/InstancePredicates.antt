@@ -2,10 +2,12 @@
 use Rattle.std.proofs.Common.{◌≡◌, ℕ, ◌+◌, Bool, true, false, ◌&&◌, if◌then◌else◌, List, [], ◌∷◌, ◌++◌, Option, Some, None, refl, ◌∙◌}
 use Rattle.std.specs.List.{flat_map}
 use Rattle.std.proofs.lemmas.List.Folds.{list_all-append}
-use Rattle.qs_terms.specs.Statement.{Statement, is_iri, is_node, is_graph, fits_places}
+use Rattle.qs_terms.specs.Statement.{Statement, is_iri, is_node, fits_places}
+use Rattle.qs_terms.specs.inner.Dataset.{is_graph}
 use Rattle.qs_terms.specs.declared.term.Term.{Term}
 use Rattle.qs_algebra_solutions.specs.Solution.{Solution}
-use Rattle.qs_query_template.specs.Instances.{slot_term, graph_term, lawful, quad_of, instance, instances_under, instances}
+use Rattle.qs_query_template.specs.Instances.{slot_term, graph_term, quad_of, instance, instances}
+use Rattle.qs_query_template.specs.inner.Instances.{lawful, instances_under}
 use Rattle.qs_query_template.specs.declared.template.QuadTemplate.{QuadTemplate}
 use Rattle.qs_query_template.specs.declared.template.Template.{Template}
 use Rattle.qs_update_laws.specs.inner.Below.{have_iri_predicates}

@@ -4,7 +4,8 @@ use Rattle.std.specs.List.{All, AllByRecursion, list_any}
 use Rattle.std.proofs.lemmas.Bool.{ltb-true, ltb-false}
 use Rattle.std.proofs.lemmas.Bool.Decides.{Decides-eqb}
 use Rattle.std.proofs.lemmas.List.Elements.{recursion_from_All}
-use Rattle.qs_terms.specs.Dataset.{is_term_below, is_graph_below as is_cell_below, is_statement_below, is_above_blanks}
+use Rattle.qs_terms.specs.Dataset.{is_term_below, is_statement_below, is_above_blanks}
+use Rattle.qs_terms.specs.inner.Dataset.{is_graph_below as is_cell_below}
 use Rattle.qs_terms.specs.Statement.{Statement}
 use Rattle.qs_terms.specs.declared.term.Term.{Term}
 use Rattle.qs_terms.specs.declared.term.Term.TheVariants.{Iri, Blank, Literal}

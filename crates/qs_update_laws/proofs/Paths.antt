@@ -1,7 +1,8 @@
 -- The pairs of a path, and the solutions of a basic graph pattern: each term of theirs stands in the graph, or was given at an end.
 use Rattle.std.proofs.Common.{◌≡◌, ℕ, ◌+◌, Bool, true, false, ◌||◌, if◌then◌else◌, List, [], ◌∷◌, map, take, Option, Some, None, refl, sym, subst}
 use Rattle.std.specs.List.{AllByRecursion, filter, flat_map, list_any, list_all}
-use Rattle.qs_terms.specs.Dataset.{Triple, nodes_of, ends_of}
+use Rattle.qs_terms.specs.Dataset.{Triple, nodes_of}
+use Rattle.qs_terms.specs.inner.Dataset.{ends_of}
 use Rattle.qs_terms.specs.Term.{same_term}
 use Rattle.qs_terms.specs.declared.term.Term.{Term}
 use Rattle.qs_terms.specs.declared.term.Term.TheVariants as term
@@ -9,8 +10,9 @@ use Rattle.qs_syntax_tree.specs.declared.path.Repetition.{Repetition}
 use Rattle.qs_syntax_ast.specs.declared.path.NegatedIri.{NegatedIri}
 use Rattle.qs_syntax_ast.specs.declared.path.Path.{Path, Path-F, map-Path, roll-Path, fold-roll-Path, ind-Path}
 use Rattle.qs_paths_meaning.specs.Pair.{Pair, pair, swapped}
-use Rattle.qs_paths_meaning.specs.Steps.{Graph, agrees, is_between, pair_of, along, against, negated, is_of, is_none, is_outside, composed, from_pair}
-use Rattle.qs_paths_meaning.specs.Closure.{candidates, repeats, ends, starts, from_start, closure}
+use Rattle.qs_paths_meaning.specs.Steps.{Graph, agrees, is_between, along, negated, is_of, is_none, is_outside, composed}
+use Rattle.qs_paths_meaning.specs.inner.Steps.{pair_of, against, from_pair, from_start}
+use Rattle.qs_paths_meaning.specs.Closure.{candidates, repeats, ends, starts, closure}
 use Rattle.qs_paths_meaning.specs.Pairs.{AtEnds, in_sequence, is_step, pairs, pairs_level}
 use Rattle.qs_algebra_solutions.specs.Solution.{Solution, unbound}
 use Rattle.qs_algebra_solutions.specs.Operators.{join}
@@ -18,7 +20,8 @@ use Rattle.qs_algebra_patterns.specs.declared.pattern.Slot.{Slot}
 use Rattle.qs_algebra_patterns.specs.declared.pattern.Slot.TheVariants as slot
 use Rattle.qs_algebra_patterns.specs.declared.pattern.PathPattern.{PathPattern}
 use Rattle.qs_algebra_patterns.specs.declared.pattern.BasicPattern.{BasicPattern}
-use Rattle.qs_algebra_patterns.specs.Basic.{terms_of_triple, terms_of, mentions, puts_into, all_maps, matches, end_of, fits, with_term, ends_bound, path_solutions, with_paths, basic}
+use Rattle.qs_algebra_patterns.specs.Basic.{terms_of, mentions, puts_into, all_maps, matches, end_of, fits, with_term, ends_bound, path_solutions, with_paths, basic}
+use Rattle.qs_algebra_patterns.specs.inner.Basic.{terms_of_triple}
 use Rattle.qs_update_laws.specs.inner.NoBlank.{slot_has_no_blank, triple_has_no_blank, path_has_no_blank, basic_has_no_blank}
 use Rattle.qs_update_laws.proofs.Lists.{both_hold, each_append, each_filter, each_once, each_where, each_map, each_flat_map}
 use Rattle.qs_update_laws.proofs.Cells.{TermBelow, CellBelow, RowBelow, RowsBelow, no_blank_below, unbound_below, set_below, take_below, join_below, maps_below}

@@ -23,10 +23,12 @@ use Rattle.qs_syntax_ast.specs.declared.pattern.Triple.{Triple}
 use Rattle.qs_syntax_ast.specs.declared.term.VarOrIri.{VarOrIri}
 use Rattle.qs_syntax_ast.specs.declared.term.Variable.{Variable}
 use Rattle.qs_syntax_resolve.specs.declared.open_group.OpenGroup.{OpenGroup}
-use Rattle.qs_syntax_resolve.specs.Data.{value_of, row_of, rows_of, variables_of, inline_data}
+use Rattle.qs_syntax_resolve.specs.Data.{value_of, row_of, inline_data}
+use Rattle.qs_syntax_resolve.specs.inner.Data.{rows_of, variables_of}
 use Rattle.qs_syntax_resolve.specs.Expression.{expression_of}
 use Rattle.qs_syntax_resolve.specs.Leaves.{iri, literal, variable, var_or_iri}
-use Rattle.qs_syntax_resolve.specs.Pattern.{closed, put, put_filter, put_triples, empty_group, finished, Put, each_element, pattern_level, element_level, group_level, group_of}
+use Rattle.qs_syntax_resolve.specs.Pattern.{closed, put, finished, Put, pattern_level, group_level, group_of}
+use Rattle.qs_syntax_resolve.specs.inner.Pattern.{put_filter, put_triples, empty_group, each_element, element_level}
 use Rattle.qs_syntax_resolve.specs.Resolving.{Resolving, ◌>>=◌, pure, all}
 use Rattle.qs_syntax_resolve.specs.Triples.{triples_behind}
 use Rattle.qs_update_laws.specs.inner.NoBlank.{all as all_hold, cell_has_no_blank, row_has_no_blank}

@@ -21,11 +21,14 @@ use Rattle.qs_syntax_resolve.specs.declared.resolver.Resolver.{Resolver}
 use Rattle.qs_syntax_resolve.specs.Leaves.{iri}
 use Rattle.qs_syntax_resolve.specs.Pattern.{group_of}
 use Rattle.qs_syntax_resolve.specs.Query.{prologue}
-use Rattle.qs_syntax_resolve.specs.Resolved.{start, if_lawful, resolved_update}
+use Rattle.qs_syntax_resolve.specs.Resolved.{resolved_update}
+use Rattle.qs_syntax_resolve.specs.inner.Resolved.{start, if_lawful}
 use Rattle.qs_syntax_resolve.specs.Resolving.{Resolving, ◌>>=◌, pure}
-use Rattle.qs_syntax_resolve.specs.Update.{quads, template, target_of, transfer, with_graph, modify, operation_of, operation_behind, step, steps, update}
+use Rattle.qs_syntax_resolve.specs.Update.{quads, template, target_of, transfer, modify, operation_of, operation_behind, step, update}
+use Rattle.qs_syntax_resolve.specs.inner.Update.{with_graph, steps}
 use Rattle.qs_syntax_scope.specs.KeepsScope.{update_keeps_scope}
-use Rattle.qs_syntax.specs.Outcome.{screened, by_place, in_scope, variables_of, listed_update, update_outcome}
+use Rattle.qs_syntax.specs.Outcome.{screened, by_place, in_scope, variables_of, update_outcome}
+use Rattle.qs_syntax.specs.inner.Outcome.{listed_update}
 use Rattle.qs_syntax.specs.Outcome.{AfterScreen, IsUpdateOutcome}
 use Rattle.qs_update_laws.specs.inner.Written.{operation_values_have_no_blank, update_values_have_no_blank}
 use Rattle.qs_update_laws.proofs.Lists.{each_append, all_pass}

@@ -2,7 +2,8 @@
 use Rattle.std.proofs.Common.{◌≡◌, ℕ, Bool, true, false, ◌&&◌, List, [], ◌∷◌, map, Option, Some, None, refl, sym, subst, ◌∙◌}
 use Rattle.std.specs.List.{All, AllByRecursion, filter, filter_map, cons_option, flat_map, fold, list_any}
 use Rattle.std.proofs.lemmas.List.Elements.{All-from_recursion}
-use Rattle.qs_terms.specs.Dataset.{Triple, triple_of, graph_of, names_of, is_term_below, is_graph_below as is_cell_below, is_statement_below, is_above_blanks}
+use Rattle.qs_terms.specs.Dataset.{Triple, triple_of, graph_of, names_of, is_term_below, is_statement_below, is_above_blanks}
+use Rattle.qs_terms.specs.inner.Dataset.{is_graph_below as is_cell_below}
 use Rattle.qs_terms.specs.Statement.{Statement, is_iri, same_graph}
 use Rattle.qs_terms.specs.Term.{same_term}
 use Rattle.qs_terms.specs.declared.term.Term.{Term}
@@ -15,8 +16,8 @@ use Rattle.qs_algebra_patterns.specs.declared.pattern.Step.{Step, map-Step, roll
 use Rattle.qs_algebra_patterns.specs.declared.pattern.PatternNode.{PatternNode, map-PatternNode, roll-PatternNode, fold-roll-PatternNode, ind-PatternNode}
 use Rattle.qs_algebra_patterns.specs.declared.pattern.PatternNode.TheOpen.{PatternNode-F, Step-F, Basic, Group, Union, Graph, EachGraph, Values, Join, LeftJoin, Minus, Extend}
 use Rattle.qs_algebra_patterns.specs.Basic.{Graph as Triples}
-use Rattle.qs_algebra_patterns.specs.Eval.{Found, Stepped, eval, eval_level, step_level as stepped_level, all_hold, all_steps, bound_to, extended, in_each, rows_of}
-use Rattle.qs_algebra_patterns.specs.inner.Eval.{step}
+use Rattle.qs_algebra_patterns.specs.Eval.{Found, Stepped, eval, eval_level, step_level as stepped_level, all_hold, all_steps, extended, in_each}
+use Rattle.qs_algebra_patterns.specs.inner.Eval.{bound_to, rows_of, step}
 use Rattle.qs_update_laws.specs.inner.Below.{is_solution_below, is_triple_below, are_triples_below, have_iri_predicates}
 use Rattle.qs_update_laws.specs.inner.NoBlank.{is_no_blank, all, all_have_no_blank, row_has_no_blank, table_has_no_blank, pattern_level, step_level, has_no_blank, step_has_no_blank}
 use Rattle.qs_update_laws.proofs.Lists.{both_hold, each_append, each_filter, each_once, each_where, each_map, each_flat_map, each_passes, all_pass}

@@ -1,9 +1,10 @@
 -- WITH brings no blank node into a template: it names an IRI.
 use Rattle.std.proofs.Common.{◌≡◌, ℕ, false, ◌||◌, List, [], ◌∷◌, map, Option, Some, None, refl, ap₂, ◌∙◌}
 use Rattle.std.specs.List.{list_any}
+use Rattle.std.specs.Option.{unwrap_or}
 use Rattle.qs_terms.specs.declared.term.Term.TheVariants as value
 use Rattle.qs_query_template.specs.inner.Fresh.{slot_is_blank, graph_is_blank, template_quad_has_blank, names_blank}
-use Rattle.qs_query_template.specs.Template.{graph_or, quad_in, template_in}
+use Rattle.qs_query_template.specs.Template.{quad_in, template_in}
 use Rattle.qs_query_template.specs.declared.template.Slot.{Slot}
 use Rattle.qs_query_template.specs.declared.template.Slot.TheVariants as slot
 use Rattle.qs_query_template.specs.declared.template.QuadTemplate.{QuadTemplate}
@@ -13,7 +14,7 @@ module _ (n : ℕ) (iri : List ℕ) where
   abbrev name : Slot
   name = slot.Term (value.Iri iri)
 
-  same_graph : (g : Option Slot) → graph_is_blank n (Some (graph_or name g)) ≡ graph_is_blank n g
+  same_graph : (g : Option Slot) → graph_is_blank n (Some (unwrap_or g name)) ≡ graph_is_blank n g
   same_graph None = refl
   same_graph (Some s) = refl
 

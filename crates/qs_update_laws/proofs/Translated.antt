@@ -27,9 +27,11 @@ use Rattle.qs_algebra_patterns.specs.declared.pattern.PatternNode.TheOpen.{Patte
 use Rattle.qs_algebra_patterns.specs.declared.pattern.PatternNode.TheVariants as pattern
 use Rattle.qs_algebra_patterns.specs.declared.pattern.PatternNode.TheVariants.{rolls-Basic, rolls-Group, rolls-Union, rolls-Graph, rolls-EachGraph, rolls-Values}
 use Rattle.qs_algebra.specs.Numbers.{hidden_of}
-use Rattle.qs_algebra.specs.Basic.{term_slot, verb_slot, path_of, triple_between, path_between, triple_pattern, path_pattern, basic_of, basic_pattern}
+use Rattle.qs_algebra.specs.Basic.{term_slot, verb_slot, path_of, triple_pattern, path_pattern, basic_pattern}
+use Rattle.qs_algebra.specs.inner.Basic.{triple_between, path_between, basic_of}
 use Rattle.qs_algebra.specs.Expressions.{expr_of}
-use Rattle.qs_algebra.specs.Translation.{one_or_union, in_graph, number_of, table_of, alone, unfiltered, filtered, closed, step_level as translated_level, group_level as translated_group, group_parts, translated_where, in_block, block_step, translated_blocks}
+use Rattle.qs_algebra.specs.Translation.{one_or_union, in_graph, table_of, alone, unfiltered, filtered, closed, step_level as translated_level, group_level as translated_group, group_parts, translated_where, block_step, translated_blocks}
+use Rattle.qs_algebra.specs.inner.Translation.{number_of}
 use Rattle.qs_algebra.specs.inner.Translation.{step_of}
 use Rattle.qs_algebra.specs.declared.hidden.Hidden.{Hidden}
 use Rattle.qs_algebra.specs.declared.parts.GroupParts.{GroupParts}
@@ -143,7 +145,7 @@ module _ (names : List Name) where
       let k = both_hold (values_have_no_blank e.0) (all (map values_have_no_blank (map (λ e. e.0) es))) h in
       and_both (has_no_blank (closed (group_parts names e.0))) (all (map has_no_blank (map closed (map (group_parts names) (map (λ e. e.0) es))))) (closed_free e k.0) (parts_free es k.1)
 
-  in_graph_free : (n : VarOrIri) (p : PatternNode) → NoBlank p → NoBlank (in_graph names n p)
+  in_graph_free : (n : VarOrIri) (p : PatternNode) → NoBlank p → NoBlank (in_graph names (Some n) p)
   in_graph_free (name.Variable v) p h = subst NoBlank (rolls-EachGraph (place_of names v.name) p) (made (EachGraph (place_of names v.name) p) h)
   in_graph_free (name.Iri i) p h = subst NoBlank (rolls-Graph (value.Iri i) p) (made (Graph (value.Iri i) p) h)
 
@@ -158,7 +160,7 @@ module _ (names : List Name) where
       subst NoBlankStep (rolls-LeftJoin (unfiltered steps) conditions)
       (made_step (LeftJoin (unfiltered steps) conditions) (and_both (has_no_blank (unfiltered steps)) (all_have_no_blank conditions) (unfiltered_free steps k.0) k.1))
   level_free (written.Minus e) h = subst NoBlankStep (rolls-Minus (closed (group_parts names e.0))) (made_step (Minus (closed (group_parts names e.0))) (closed_free e h))
-  level_free (written.Graph n e) h = join_free (in_graph names n (closed (group_parts names e.0))) (in_graph_free n (closed (group_parts names e.0)) (closed_free e h))
+  level_free (written.Graph n e) h = join_free (in_graph names (Some n) (closed (group_parts names e.0))) (in_graph_free n (closed (group_parts names e.0)) (closed_free e h))
   level_free (written.Bind value v) h = subst NoBlankStep (rolls-Extend (number_of names v) (expr_of names value)) (made_step (Extend (number_of names v) (expr_of names value)) (expr_free names value))
   level_free (written.Values table) h = join_free (pattern.Values (table_of names table)) (subst NoBlank (rolls-Values (table_of names table)) (made (Values (table_of names table)) h))
 
@@ -193,14 +195,14 @@ where_free variables group h = closed_free (names_of variables) (group, each_gro
 -- ---- blocks of quads
 
 module _ (names : List Name) where
-  in_block_free : (graph : Option VarOrIri) (p : PatternNode) → NoBlank p → NoBlank (in_block names graph p)
+  in_block_free : (graph : Option VarOrIri) (p : PatternNode) → NoBlank p → NoBlank (in_graph names graph p)
   in_block_free None p h = h
   in_block_free (Some n) p h = in_graph_free names n p h
 
   block_free : (b : QuadBlock) → NoBlankStep (block_step names b)
   block_free b =
       let triples = pattern.Basic (basic_pattern names b.triples) in
-      join_free (in_block names b.graph triples)
+      join_free (in_graph names b.graph triples)
       (in_block_free b.graph triples (subst NoBlank (rolls-Basic (basic_pattern names b.triples)) (made (Basic (basic_pattern names b.triples)) (basic_free names (hidden_of b.triples) b.triples))))
 
   block_steps_free : (bs : List QuadBlock) → all (map step_has_no_blank (map (block_step names) bs)) ≡ true

@@ -10,7 +10,7 @@ use Rattle.qs_syntax_ast.specs.declared.expression.Addend.{Addend as WrittenAdde
 use Rattle.qs_syntax_ast.specs.declared.expression.Expression.TheOpen.{Expression-F, Addend-F}
 use Rattle.qs_syntax_scope.specs.Names.{Name}
 use Rattle.qs_syntax_scope.specs.Places.{place_of}
-use Rattle.qs_algebra.specs.Expressions.{comparison, sign, unary_function, binary_function, product, expr_level as translated_level, addend_level as translated_addend, expr_of}
+use Rattle.qs_algebra.specs.Expressions.{product, expr_level as translated_level, addend_level as translated_addend, expr_of}
 use Rattle.qs_algebra.specs.inner.Expressions.{addend_of}
 use Rattle.qs_update_laws.specs.inner.NoBlank.{all, expr_level, addend_level, expr_has_no_blank, addend_has_no_blank}
 use Rattle.qs_update_laws.proofs.Lists.{and_both}
@@ -71,7 +71,7 @@ module _ (names : List Name) where
   level_free (Expression-F.Literal l) = subst NoBlank (rolls-Term (term.Literal l)) (made (Expr-F.Term (term.Literal l)) refl)
   level_free (Expression-F.Or es) = subst NoBlank (rolls-Or (written es)) (made (Expr-F.Or (written es)) (all_free es))
   level_free (Expression-F.And es) = subst NoBlank (rolls-And (written es)) (made (Expr-F.And (written es)) (all_free es))
-  level_free (Expression-F.Compare c a b) = subst NoBlank (rolls-Compare (comparison c) (expr_of names a.0) (expr_of names b.0)) (made (Expr-F.Compare (comparison c) (expr_of names a.0) (expr_of names b.0)) (two_free a b))
+  level_free (Expression-F.Compare c a b) = subst NoBlank (rolls-Compare c (expr_of names a.0) (expr_of names b.0)) (made (Expr-F.Compare c (expr_of names a.0) (expr_of names b.0)) (two_free a b))
   level_free (Expression-F.In a es) = subst NoBlank (rolls-In (expr_of names a.0) (written es)) (made (Expr-F.In (expr_of names a.0) (written es)) (one_and_all a es))
   level_free (Expression-F.NotIn a es) = subst NoBlank (rolls-NotIn (expr_of names a.0) (written es)) (made (Expr-F.NotIn (expr_of names a.0) (written es)) (one_and_all a es))
   level_free (Expression-F.Sum a es) =
@@ -79,15 +79,15 @@ module _ (names : List Name) where
       (made (Expr-F.Sum (expr_of names a.0) (written_addends es)) (and_both (expr_has_no_blank (expr_of names a.0)) (all (map addend_has_no_blank (written_addends es))) a.1 (addends_free es)))
   level_free (Expression-F.Product es) = product_free es
   level_free (Expression-F.Not a) = subst NoBlank (rolls-Not (expr_of names a.0)) (made (Expr-F.Not (expr_of names a.0)) a.1)
-  level_free (Expression-F.Signed s a) = subst NoBlank (rolls-Signed (sign s) (expr_of names a.0)) (made (Expr-F.Signed (sign s) (expr_of names a.0)) a.1)
+  level_free (Expression-F.Signed s a) = subst NoBlank (rolls-Signed s (expr_of names a.0)) (made (Expr-F.Signed s (expr_of names a.0)) a.1)
   level_free (Expression-F.Bound v) = subst NoBlank (rolls-Bound (place_of names v.name)) (made (Expr-F.Bound (place_of names v.name)) refl)
   level_free (Expression-F.If c a b) =
       subst NoBlank (rolls-If (expr_of names c.0) (expr_of names a.0) (expr_of names b.0))
       (made (Expr-F.If (expr_of names c.0) (expr_of names a.0) (expr_of names b.0)) (and_both (expr_has_no_blank (expr_of names c.0)) (expr_has_no_blank (expr_of names a.0) && expr_has_no_blank (expr_of names b.0)) c.1 (two_free a b)))
   level_free (Expression-F.Coalesce es) = subst NoBlank (rolls-Coalesce (written es)) (made (Expr-F.Coalesce (written es)) (all_free es))
   level_free (Expression-F.Concat es) = subst NoBlank (rolls-Concat (written es)) (made (Expr-F.Concat (written es)) (all_free es))
-  level_free (Expression-F.Unary f a) = subst NoBlank (rolls-Unary (unary_function f) (expr_of names a.0)) (made (Expr-F.Unary (unary_function f) (expr_of names a.0)) a.1)
-  level_free (Expression-F.Binary f a b) = subst NoBlank (rolls-Binary (binary_function f) (expr_of names a.0) (expr_of names b.0)) (made (Expr-F.Binary (binary_function f) (expr_of names a.0) (expr_of names b.0)) (two_free a b))
+  level_free (Expression-F.Unary f a) = subst NoBlank (rolls-Unary f (expr_of names a.0)) (made (Expr-F.Unary f (expr_of names a.0)) a.1)
+  level_free (Expression-F.Binary f a b) = subst NoBlank (rolls-Binary f (expr_of names a.0) (expr_of names b.0)) (made (Expr-F.Binary f (expr_of names a.0) (expr_of names b.0)) (two_free a b))
 
   rolled_free : (y : Expression-F Known KnownAddend) → IsFree (roll-Expression (inner y))
   rolled_free y = subst NoBlank (sym (fold-roll-Expression Expr Addend (translated_level names) translated_addend (inner y))) (level_free y)
@@ -98,7 +98,7 @@ module _ (names : List Name) where
   rolled_addend_free : (y : Addend-F Known KnownAddend) → IsFreeAddend (roll-Addend (inner_addend y))
   rolled_addend_free y =
       subst (λ (a : Addend). addend_has_no_blank a ≡ true) (sym (fold-roll-Addend Expr Addend (translated_level names) translated_addend (inner_addend y)))
-      (addend_is (record { sign = sign y.sign; operand = expr_of names y.operand.0 }) ∙ y.operand.1)
+      (addend_is (record { sign = y.sign; operand = expr_of names y.operand.0 }) ∙ y.operand.1)
 
   pub expr_free : (e : Expression) → IsFree e
   expr_free = ind-Expression IsFree IsFreeAddend (λ x y is. subst (λ z. IsFree (roll-Expression z)) is (rolled_free y)) (λ x y is. subst (λ z. IsFreeAddend (roll-Addend z)) is (rolled_addend_free y))

@@ -1,6 +1,6 @@
 -- The refusals of explanations are those of queries and of updates.
 use Rattle.std.proofs.Common.{◌≡◌, ℕ, List, Ok, Err, refl, ap}
-use Rattle.qs_terms.specs.Outcome.{Outcome}
+use Rattle.qs_terms.specs.Outcome.{Outcome, IsDueAfter}
 use Rattle.qs_terms.specs.Statement.{Statement}
 use Rattle.qs_terms.specs.declared.fault.QFault.{QFault}
 use Rattle.qs_syntax.specs.Outcome as syntax
@@ -9,7 +9,7 @@ use Rattle.qs_service.specs.Language.{sparql}
 use Rattle.qs_store.specs.Content.{Content}
 use Rattle.qs_store.specs.Same.{SameSet}
 use Rattle.qs_store.specs.declared.default_graph.DefaultGraph.{DefaultGraph}
-use Rattle.quads.specs.Due.{IsOver, IsQueryOutcome, IsQueryOfData, IsUpdateOutcome, IsUpdateOfData, IsExplanationOutcome, IsExplanationOfData}
+use Rattle.quads.specs.inner.Outcomes.{IsQueryOutcome, IsQueryOfData, IsUpdateOutcome, IsUpdateOfData, IsExplanationOutcome, IsExplanationOfData}
 use Rattle.quads.specs.declared.job.TextKind.TheVariants as kind
 
 -- the fault of an explanation as that of another outcome
@@ -19,7 +19,7 @@ told f (Err g) = Err g
 
 module _ (choice : DefaultGraph) (file bytes : List ℕ) (f : QFault) where
   module _ (same : (a : List Statement) → SameSet a a) (alike : (text : List ℕ) → IsExplainedQuery text (Err f) → syntax.IsQueryOutcome text (Err f)) where
-    of_query : (first : Outcome Content) → IsOver (IsExplanationOutcome kind.Query bytes) first (Err f) → IsOver (IsQueryOutcome choice bytes) first (Err f)
+    of_query : (first : Outcome Content) → IsDueAfter (IsExplanationOutcome kind.Query bytes) first (Err f) → IsDueAfter (IsQueryOutcome choice bytes) first (Err f)
     unfolding sparql told
     of_query (Ok c) (Ok text, is, due) = (Ok text, is, (c.quads, same c.quads, (Err f, alike text due, refl)))
     of_query (Ok c) (Err g, is, due) = (Err g, is, ap (told f) due)
@@ -29,7 +29,7 @@ module _ (choice : DefaultGraph) (file bytes : List ℕ) (f : QFault) where
     query_refused_too (first, is, over) = (first, is, of_query first over)
 
   module _ (alike : (text : List ℕ) → IsExplainedUpdate text (Err f) → syntax.IsUpdateOutcome text (Err f)) where
-    of_update : (first : Outcome Content) → IsOver (IsExplanationOutcome kind.Update bytes) first (Err f) → IsOver (IsUpdateOutcome choice bytes) first (Err f)
+    of_update : (first : Outcome Content) → IsDueAfter (IsExplanationOutcome kind.Update bytes) first (Err f) → IsDueAfter (IsUpdateOutcome choice bytes) first (Err f)
     unfolding sparql told
     of_update (Ok c) (Ok text, is, due) = (Ok text, is, (Err f, alike text due, refl))
     of_update (Ok c) (Err g, is, due) = (Err g, is, ap (told f) due)

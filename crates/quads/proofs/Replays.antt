@@ -18,7 +18,8 @@ use Rattle.qs_service_replay.specs.inner.Replayed.{IsReplayed}
 use Rattle.qs_service_replay.specs.Script.{IsScript, IsOtherLine}
 use Rattle.qs_service_replay.specs.declared.run.ReplayEnd.{ReplayEnd}
 use Rattle.qs_service_replay.specs.declared.run.ReplayEnd.TheVariants.{SinkFailed, OutOfMemory}
-use Rattle.quads.specs.Due.{line, script_line, service_over, IsLoaded, IsDueOfEvents, IsDueOfScript}
+use Rattle.quads.specs.Due.{line, service_over, IsLoaded, IsDueOfEvents, IsDueOfScript}
+use Rattle.quads.specs.inner.Outcomes.{script_line}
 use Rattle.quads.specs.inner.Refusal.{refusal_text}
 use Rattle.quads.specs.inner.Replay.{IsBegunOfEvents, IsScriptDue, IsScriptBegun, IsReplayDue, IsReplayBegun}
 use Rattle.quads.specs.inner.Run.{Prints, Runs}

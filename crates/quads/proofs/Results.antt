@@ -12,7 +12,8 @@ use Rattle.qs_service.specs.Language.{sparql}
 use Rattle.qs_store.specs.Content.{Held, Content}
 use Rattle.qs_store.specs.Same.{SameSet}
 use Rattle.qs_store.specs.declared.default_graph.DefaultGraph.{DefaultGraph}
-use Rattle.quads.specs.Due.{max_rows, IsTextOf, IsQueryOutcome, IsQueryOfData, IsUpdateOutcome, IsUpdateOfData, IsExplained, IsExplanationOutcome, IsExplanationOfData}
+use Rattle.quads.specs.Due.{IsTextOf, IsExplained}
+use Rattle.quads.specs.inner.Outcomes.{max_rows, IsQueryOutcome, IsQueryOfData, IsUpdateOutcome, IsUpdateOfData, IsExplanationOutcome, IsExplanationOfData}
 use Rattle.quads.specs.declared.job.TextKind.{TextKind}
 use Rattle.quads.specs.inner.JobResult.{IsQueryResult, IsUpdateResult, IsExplanationResult, load_refusal}
 use Rattle.quads.specs.inner.Load.{BecomesStored}

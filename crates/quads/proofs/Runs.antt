@@ -25,22 +25,22 @@ due_of (Check file) (Quads quads) is = inl (quads.items, is.0, is.1, is.2, refl,
 due_of (Check file) (Explained explanation) is = absurd is
 due_of (Check file) (DataRefused f) is = inr (inr (f, is, refl, refl))
 due_of (Check file) (Refused f) is = absurd is
-due_of (Query file text choice) (Answered answer) is = inl (Ok answer, is, refl, refl)
+due_of (Query file text choice) (Answered answer) is = inl (Ok answer, is, (refl, refl))
 due_of (Query file text choice) (Quads quads) is = absurd is
 due_of (Query file text choice) (Explained explanation) is = absurd is
 due_of (Query file text choice) (DataRefused f) is = inr (f, is, refl, refl)
-due_of (Query file text choice) (Refused f) is = inl (Err f, is, refl, refl)
+due_of (Query file text choice) (Refused f) is = inl (Err f, is, (refl, refl))
 due_of (Update file text choice) (Answered answer) is = absurd is
-due_of (Update file text choice) (Quads quads) is = inl (Ok is.0, is.1, (quads.items, is.2, refl), refl)
+due_of (Update file text choice) (Quads quads) is = inl (Ok is.0, is.1, ((quads.items, is.2, refl), refl))
 due_of (Update file text choice) (Explained explanation) is = absurd is
 due_of (Update file text choice) (DataRefused f) is = inr (f, is, refl, refl)
-due_of (Update file text choice) (Refused f) is = inl (Err f, is, refl, refl)
+due_of (Update file text choice) (Refused f) is = inl (Err f, is, (refl, refl))
 due_of (Replay file script choice) end is = absurd is
 due_of (Explain file text kind choice) (Answered answer) is = absurd is
 due_of (Explain file text kind choice) (Quads quads) is = absurd is
-due_of (Explain file text kind choice) (Explained explanation) is = inl (Ok explanation, is, refl, refl)
+due_of (Explain file text kind choice) (Explained explanation) is = inl (Ok explanation, is, (refl, refl))
 due_of (Explain file text kind choice) (DataRefused f) is = inr (f, is, refl, refl)
-due_of (Explain file text kind choice) (Refused f) is = inl (Err f, is, refl, refl)
+due_of (Explain file text kind choice) (Refused f) is = inl (Err f, is, (refl, refl))
 
 begun : (job : Job) (bytes : List ℕ) (s : ℕ) → IsDue job bytes s → IsBegun job bytes
 begun (Check file) bytes s due = (s, due)
@@ -52,10 +52,10 @@ begun (Explain file text kind choice) bytes s due = (s, due)
 -- out of memory is due of each job
 memory : (job : Job) → IsDue job (line (fault_line fault.Memory)) 1
 memory (Check file) = inr (inl (refl, refl))
-memory (Query file text choice) = inl (Err fault.Memory, (λ other. absurd (other refl)), refl, refl)
-memory (Update file text choice) = inl (Err fault.Memory, (λ other. absurd (other refl)), refl, refl)
+memory (Query file text choice) = inl (Err fault.Memory, (λ other. absurd (other refl)), (refl, refl))
+memory (Update file text choice) = inl (Err fault.Memory, (λ other. absurd (other refl)), (refl, refl))
 memory (Replay file script choice) = inr (inl (refl, refl))
-memory (Explain file text kind choice) = inl (Err fault.Memory, (λ other. absurd (other refl)), refl, refl)
+memory (Explain file text kind choice) = inl (Err fault.Memory, (λ other. absurd (other refl)), (refl, refl))
 
 whole : (n : ℕ) (bytes : List ℕ) → n ≡ length bytes → take n bytes ≡ bytes
 whole n bytes is = take_all n bytes (omega (arith, is))

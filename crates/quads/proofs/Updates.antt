@@ -11,7 +11,8 @@ use Rattle.qs_store.specs.declared.default_graph.DefaultGraph.{DefaultGraph}
 use Rattle.qs_update.specs.Outcome as update
 use Rattle.qs_update.specs.inner.Outcome as inner
 use Rattle.qs_update.specs.Request.{Bounds, bounds_of}
-use Rattle.quads.specs.Due.{max_rows, max_terms, bounds, IsTextOf, IsUpdateOutcome}
+use Rattle.quads.specs.Due.{max_terms, bounds, IsTextOf}
+use Rattle.quads.specs.inner.Outcomes.{max_rows, IsUpdateOutcome}
 use Rattle.quads.specs.inner.Update.{BecomesUpdated, AreQuadsAfter}
 
 same_bounds : (held : Held) → held.limit ≡ max_terms → bounds_of max_rows held ≡ bounds held.default_graph

@@ -6,28 +6,28 @@
 -- that of the text or the script. What a job prints is two relations: what is due whole, and what
 -- may have been begun. A job that prints as it goes, and whose sink fails, has more of the second.
 use Rattle.std.specs.Prelude.{◌≡◌, ◌⊎◌, ◌∷◌, ◌++◌, [], ℕ, List, Ok, Err, codes, decimal}
+use Rattle.std.specs.Prelude.{MatchResult}
 use Rattle.std.specs.Str.{IsUtf8, IsValidUpTo}
 use Rattle.serde_json.specs.Written.{compact_text}
 use Rattle.qs_terms.specs.Dataset.{IsDataset}
-use Rattle.qs_terms.specs.Outcome.{Outcome, OneOrOutOfMemory}
+use Rattle.qs_terms.specs.Outcome.{Outcome, IsDueAfter, OneOrOutOfMemory}
 use Rattle.qs_terms.specs.Statement.{Statement}
+use Rattle.qs_terms.specs.declared.fault.QFault.{QFault}
 use Rattle.qs_terms.specs.declared.fault.QFault.TheVariants as fault
 use Rattle.qs_nquads.specs.Nquads.{IsNquads, IsFault}
 use Rattle.qs_nquads.specs.declared.fault.NqFault.{NqFault}
 use Rattle.qs_store.specs.Content.{Content}
-use Rattle.qs_store.specs.Same.{SameSet}
 use Rattle.qs_store.specs.declared.default_graph.DefaultGraph.{DefaultGraph}
 use Rattle.qs_algebra_solutions.specs.declared.answer.Answer.{Answer}
 use Rattle.qs_algebra_solutions.specs.declared.answer.Answer.TheVariants.{Solutions, Truth, Graph}
 use Rattle.qs_nquads.specs.Written.{nquads_of}
 use Rattle.qs_query_forms.specs.Sequence.{dataset_of}
 use Rattle.qs_update.specs.Request.{Bounds, IsCarriedOut}
-use Rattle.qs_update.specs.declared.effect.Effect.{Effect}
 use Rattle.qs_results.specs.Json.{json_of}
 use Rattle.qs_results.specs.Lines.{fault_line, data_fault_line}
 use Rattle.qs_results.specs.Triples.{ntriples_of}
 use Rattle.qs_service.specs.Carried.{Carries}
-use Rattle.qs_service.specs.Language.{sparql}
+use Rattle.qs_service.specs.Language.{sparql, IsWritten}
 use Rattle.qs_service.specs.State.{State}
 use Rattle.qs_service_connections.specs.Step.{Event}
 use Rattle.qs_service_replay.specs.Replay.{Replays}
@@ -45,36 +45,24 @@ use Rattle.quads.specs.declared.job.TextKind.TheVariants as kind
 abbrev pub max_terms : ℕ
 max_terms = 4294967295
 
--- the most solutions of a query, after OFFSET and LIMIT, and of a WHERE of an update
-abbrev pub max_rows : ℕ
-max_rows = 1000000
-
--- those of a store with this default graph
+-- those of a store with this default graph; a query, after OFFSET and LIMIT, and a WHERE of an
+-- update have at most 1,000,000 solutions
 abbrev pub bounds : DefaultGraph → Bounds
-bounds choice = record { terms = max_terms; rows = max_rows; default_graph = choice }
+bounds choice = record { terms = max_terms; rows = 1000000; default_graph = choice }
 
 -- what a new store holds
 abbrev pub empty : Content
 empty = record { quads = []; next = 0; known = [] }
 
--- quads that are put into it
-abbrev pub addition : List Statement → ℕ → Effect
-addition quads next = record { removed = []; added = quads; next = next }
-
 -- what a new store holds once the quads are put into it that N-Quads are, whose blank nodes are
 -- numbered from 0; or the fault that this finds no room for their terms
 abbrev pub IsLoaded : List ℕ → Outcome Content → Type 0
 IsLoaded file first = (quads : List Statement) × (next : ℕ) × IsNquads file 0 quads next
-    × IsCarriedOut max_terms empty (Ok (addition quads next)) first
-
--- what is due over what came before, or the fault that was due there
-abbrev pub IsOver : {A B : Type 0} → (B → Outcome A → Type 0) → Outcome B → Outcome A → Type 0
-IsOver Due (Ok before) outcome = Due before outcome
-IsOver Due (Err f) outcome = outcome ≡ Err f
+    × IsCarriedOut max_terms empty (Ok (record { removed = []; added = quads; next = next })) first
 
 -- what is due over the data, which are put into a new store before
 abbrev pub IsOverData : {A : Type 0} → (Content → Outcome A → Type 0) → List ℕ → Outcome A → Type 0
-IsOverData Due file out = (first : Outcome Content) × IsLoaded file first × IsOver Due first out
+IsOverData Due file out = (first : Outcome Content) × IsLoaded file first × IsDueAfter Due first out
 
 -- the bytes are a text; where they aren't UTF-8, the fault is at the first bad byte
 abbrev pub IsTextOf : List ℕ → Outcome (List ℕ) → Type 0
@@ -84,46 +72,14 @@ IsTextOf bytes (Err f) =
 
 -- what is due of the text that the bytes of a file are, or the fault that they are none
 abbrev pub IsOfText : {A : Type 0} → (List ℕ → Outcome A → Type 0) → List ℕ → Outcome A → Type 0
-IsOfText Due bytes out = (text : Outcome (List ℕ)) × IsTextOf bytes text × IsOver Due text out
+IsOfText Due bytes out = (text : Outcome (List ℕ)) × IsTextOf bytes text × IsDueAfter Due text out
 
--- ---- what a query results in
-
--- what the bytes of a query's file result in over what a store with this default graph holds
-abbrev pub IsQueryOutcome : DefaultGraph → List ℕ → Content → Outcome Answer → Type 0
-IsQueryOutcome choice bytes c outcome =
-    IsOfText (λ text. sparql.answers text (bounds choice) c) bytes outcome
-
--- the same over the data
-abbrev pub IsQueryOfData : DefaultGraph → List ℕ → List ℕ → Outcome Answer → Type 0
-IsQueryOfData choice file text outcome = IsOverData (IsQueryOutcome choice text) file outcome
-
--- ---- what an update results in
-
--- what the bytes of an update's file result in over what a store with this default graph holds
-abbrev pub IsUpdateOutcome : DefaultGraph → List ℕ → Content → Outcome Content → Type 0
-IsUpdateOutcome choice bytes old outcome =
-    IsOfText (λ text. sparql.changes text (bounds choice) old) bytes outcome
-
--- the same over the data
-abbrev pub IsUpdateOfData : DefaultGraph → List ℕ → List ℕ → Outcome Content → Type 0
-IsUpdateOfData choice file text outcome = IsOverData (IsUpdateOutcome choice text) file outcome
-
--- ---- what an explanation results in
+-- ---- what is printed of a text
 
 -- the explanation of a text that is a query's, or an update's
 abbrev pub IsExplained : TextKind → List ℕ → Outcome (List ℕ) → Type 0
 IsExplained kind.Query text outcome = IsExplainedQuery text outcome
 IsExplained kind.Update text outcome = IsExplainedUpdate text outcome
-
--- what the bytes of such a file result in, whatever a store holds
-abbrev pub IsExplanationOutcome : TextKind → List ℕ → Content → Outcome (List ℕ) → Type 0
-IsExplanationOutcome k bytes c outcome = IsOfText (IsExplained k) bytes outcome
-
--- the same over the data
-abbrev pub IsExplanationOfData : TextKind → List ℕ → List ℕ → Outcome (List ℕ) → Type 0
-IsExplanationOfData k file text outcome = IsOverData (IsExplanationOutcome k text) file outcome
-
--- ---- what is printed of it
 
 -- the text with LF
 abbrev pub line : List ℕ → List ℕ
@@ -135,72 +91,34 @@ answer_text (Solutions vars rows) = line (compact_text (json_of (Solutions vars 
 answer_text (Truth b) = line (compact_text (json_of (Truth b)))
 answer_text (Graph quads) = ntriples_of (Graph quads)
 
--- an answer, or the line of the fault
-abbrev pub outcome_line : Outcome Answer → List ℕ
-outcome_line (Ok answer) = answer_text answer
-outcome_line (Err f) = line (fault_line f)
+-- the line of the fault, with status 1
+abbrev pub IsRefusal : QFault → List ℕ → ℕ → Type 0
+IsRefusal f bytes status = (bytes ≡ line (fault_line f)) × (status ≡ 1)
 
--- the exit status
-abbrev pub status_of : {A : Type 0} → Outcome A → ℕ
-status_of (Ok answer) = 0
-status_of (Err f) = 1
+-- this is told of a value, with status 0, or the fault is told
+abbrev pub IsTold : {A : Type 0} → (A → List ℕ → Type 0) → Outcome A → List ℕ → ℕ → Type 0
+IsTold Tells (Ok value) bytes status = Tells value bytes × (status ≡ 0)
+IsTold Tells (Err f) bytes status = IsRefusal f bytes status
 
--- the quads of a store, whose order means nothing, since lines of N-Quads ascend; or the line of
--- the fault
-abbrev pub IsContentText : Outcome Content → List ℕ → Type 0
-IsContentText (Ok c) bytes = (qs : List Statement) × SameSet qs c.quads × (bytes ≡ nquads_of qs)
-IsContentText (Err f) bytes = bytes ≡ line (fault_line f)
-
--- the data are quads, and this is printed of what the query results in over them, or of running out
--- of memory
-abbrev pub IsDueOfQuery : DefaultGraph → List ℕ → List ℕ → List ℕ → ℕ → Type 0
-IsDueOfQuery choice file text bytes status =
-    (outcome : Outcome Answer) × OneOrOutOfMemory (IsQueryOfData choice file text) outcome
-    × (bytes ≡ outcome_line outcome) × (status ≡ status_of outcome)
-
--- the data are quads, and this is printed of what the update makes of them, or of running out of
--- memory
-abbrev pub IsDueOfUpdate : DefaultGraph → List ℕ → List ℕ → List ℕ → ℕ → Type 0
-IsDueOfUpdate choice file text bytes status =
-    (outcome : Outcome Content) × OneOrOutOfMemory (IsUpdateOfData choice file text) outcome
-    × IsContentText outcome bytes × (status ≡ status_of outcome)
-
--- an explanation, or the line of the fault
-abbrev pub explanation_line : Outcome (List ℕ) → List ℕ
-explanation_line (Ok text) = text
-explanation_line (Err f) = line (fault_line f)
-
--- the data are quads, and this is printed of the explanation of the text over them, or of running
--- out of memory
-abbrev pub IsDueOfExplanation : TextKind → List ℕ → List ℕ → List ℕ → ℕ → Type 0
-IsDueOfExplanation k file text bytes status =
-    (outcome : Outcome (List ℕ)) × OneOrOutOfMemory (IsExplanationOfData k file text) outcome
-    × (bytes ≡ explanation_line outcome) × (status ≡ status_of outcome)
+-- the data are quads, and this is told of what the text, that the bytes of a file are, results in
+-- over them, or of running out of memory
+abbrev pub IsDueOfText : {A : Type 0} → (List ℕ → Content → Outcome A → Type 0)
+    → (A → List ℕ → Type 0) → List ℕ → List ℕ → List ℕ → ℕ → Type 0
+IsDueOfText {A} Results Tells file text bytes status =
+    (outcome : Outcome A)
+    × OneOrOutOfMemory (IsOverData (λ c. IsOfText (λ t. Results t c) text) file) outcome
+    × IsTold Tells outcome bytes status
 
 -- the data are none, and this is the line of their fault
 abbrev pub IsDueOfData : List ℕ → List ℕ → ℕ → Type 0
 IsDueOfData file bytes status = (f : NqFault) × IsFault file 0 f.kind f.line
     × (bytes ≡ line (data_fault_line f)) × (status ≡ 1)
 
--- the data are a dataset, and this is its text
-abbrev pub IsDueOfDataset : List ℕ → List ℕ → ℕ → Type 0
-IsDueOfDataset file bytes status =
-    (quads : List Statement) × (next : ℕ) × IsNquads file 0 quads next
-    × IsDataset (dataset_of quads next) × (bytes ≡ nquads_of quads) × (status ≡ 0)
-
--- memory ran out, and this is the line of that fault
-abbrev pub IsDueOfMemory : List ℕ → ℕ → Type 0
-IsDueOfMemory bytes status = (bytes ≡ line (fault_line fault.Memory)) × (status ≡ 1)
-
 -- ---- what a replay results in
 
 -- a service over what a store with this default graph holds, with no connection
 abbrev pub service_over : DefaultGraph → Content → State
 service_over d c = record { stored = record { content = c; bounds = bounds d }; joined = [] }
-
--- the line of a text that is no script
-abbrev pub script_line : ℕ → List ℕ
-script_line n = codes "script line " ++ decimal n
 
 -- what is printed of events that are carried out: all that a run of them writes; or what those
 -- before some event write, and the line of running out of memory, where memory ran out for what
@@ -216,44 +134,44 @@ IsDueOfEvents old events bytes status =
 abbrev pub IsDueOfScript : State → List ℕ → List ℕ → ℕ → Type 0
 IsDueOfScript old script bytes status =
     ((events : List Event) × IsScript script events × IsDueOfEvents old events bytes status)
-    ⊎ ((n : ℕ) × IsOtherLine script n × (bytes ≡ line (script_line n)) × (status ≡ 1))
-
-abbrev pub IsDueOver : DefaultGraph → List ℕ → Outcome Content → List ℕ → ℕ → Type 0
-IsDueOver d script (Ok c) bytes status = IsDueOfScript (service_over d c) script bytes status
-IsDueOver d script (Err f) bytes status = (bytes ≡ line (fault_line f)) × (status ≡ 1)
+    ⊎ ((n : ℕ) × IsOtherLine script n × (bytes ≡ line (codes "script line " ++ decimal n))
+    × (status ≡ 1))
 
 -- the data are quads, and this is printed of the script over a store that they are put into
 abbrev pub IsDueOfReplay : DefaultGraph → List ℕ → List ℕ → List ℕ → ℕ → Type 0
 IsDueOfReplay choice file script bytes status =
-    (first : Outcome Content) × IsLoaded file first × IsDueOver choice script first bytes status
-
--- some events of the script, from the front, were carried out, and these bytes are what they write
-abbrev pub IsBegunOfReplay : DefaultGraph → List ℕ → List ℕ → List ℕ → Type 0
-IsBegunOfReplay choice file script bytes =
-    (c : Content) × (events : List Event) × (new : State) × (text rest : List ℕ)
-    × IsLoaded file (Ok c) × IsScript script events
-    × StopsAt (Carries sparql) (service_over choice c) events new text rest × (bytes ≡ text ++ rest)
+    (first : Outcome Content) × IsLoaded file first × MatchResult first
+    (λ c. IsDueOfScript (service_over choice c) script bytes status) (λ f. IsRefusal f bytes status)
 
 -- ---- what is due of a job
 
--- these bytes, whole, and this status are due of the job
+-- these bytes, whole, and this status are due of the job: of a check, the data that are a dataset,
+-- as N-Quads; of an update, the quads of the store after it, as N-Quads. The order of quads means
+-- nothing, since lines of N-Quads ascend
 abbrev pub IsDue : Job → List ℕ → ℕ → Type 0
-IsDue (Check file) bytes status = IsDueOfDataset file.items bytes status
-    ⊎ (IsDueOfMemory bytes status ⊎ IsDueOfData file.items bytes status)
+IsDue (Check file) bytes status =
+    ((quads : List Statement) × (next : ℕ) × IsNquads file.items 0 quads next
+    × IsDataset (dataset_of quads next) × (bytes ≡ nquads_of quads) × (status ≡ 0))
+    ⊎ (IsRefusal fault.Memory bytes status ⊎ IsDueOfData file.items bytes status)
 IsDue (Query file text choice) bytes status =
-    IsDueOfQuery choice file.items text.items bytes status ⊎ IsDueOfData file.items bytes status
+    IsDueOfText (sparql.answers (bounds choice)) (λ answer told. told ≡ answer_text answer)
+    file.items text.items bytes status ⊎ IsDueOfData file.items bytes status
 IsDue (Update file text choice) bytes status =
-    IsDueOfUpdate choice file.items text.items bytes status ⊎ IsDueOfData file.items bytes status
+    IsDueOfText (sparql.changes (bounds choice)) IsWritten file.items text.items bytes status
+    ⊎ IsDueOfData file.items bytes status
 IsDue (Replay file script choice) bytes status =
     IsDueOfReplay choice file.items script.items bytes status
-    ⊎ (IsDueOfMemory bytes status ⊎ IsDueOfData file.items bytes status)
+    ⊎ (IsRefusal fault.Memory bytes status ⊎ IsDueOfData file.items bytes status)
 IsDue (Explain file text k choice) bytes status =
-    IsDueOfExplanation k file.items text.items bytes status ⊎ IsDueOfData file.items bytes status
+    IsDueOfText (λ t c. IsExplained k t) (λ explanation told. told ≡ explanation)
+    file.items text.items bytes status ⊎ IsDueOfData file.items bytes status
 
--- the job may have begun to print these bytes: those that are due; of a replay, what some of its
--- events write
+-- the job may have begun to print these bytes: those that are due; of a replay, what some of the
+-- events write, from the front, that were carried out
 abbrev pub IsBegun : Job → List ℕ → Type 0
 IsBegun (Replay file script choice) bytes =
     ((status : ℕ) × IsDue (Replay file script choice) bytes status)
-    ⊎ IsBegunOfReplay choice file.items script.items bytes
+    ⊎ ((c : Content) × (events : List Event) × (new : State) × (text end : List ℕ)
+    × IsLoaded file.items (Ok c) × IsScript script.items events
+    × StopsAt (Carries sparql) (service_over choice c) events new text end × (bytes ≡ text ++ end))
 IsBegun job bytes = (status : ℕ) × IsDue job bytes status

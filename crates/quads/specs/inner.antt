@@ -6,3 +6,4 @@ pub mod Update
 pub mod Refusal
 pub mod Service
 pub mod Run
+pub mod Outcomes

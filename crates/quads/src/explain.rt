@@ -1,7 +1,8 @@
 //! The result of an explanation over the data of a file.
 
 ghost use Rattle.qs_terms.specs.Outcome.{OneOrOutOfMemory};
-ghost use Rattle.quads.specs.Due.{IsExplained, IsExplanationOutcome};
+ghost use Rattle.quads.specs.Due.{IsExplained};
+ghost use Rattle.quads.specs.inner.Outcomes.{IsExplanationOutcome};
 ghost use Rattle.quads.specs.inner.JobResult.{IsExplanationResultOver};
 
 use crate::job::TextKind;

@@ -3,7 +3,7 @@
 ghost use Rattle.std.specs.Prelude.{ℕ, List, Err};
 ghost use Rattle.qs_terms.specs.declared.fault.QFault.{QFault};
 ghost use Rattle.qs_store.specs.declared.default_graph.DefaultGraph.{DefaultGraph};
-ghost use Rattle.quads.specs.Due.{IsQueryOfData, IsUpdateOfData, IsExplanationOfData};
+ghost use Rattle.quads.specs.inner.Outcomes.{IsQueryOfData, IsUpdateOfData, IsExplanationOfData};
 ghost use Rattle.quads.specs.declared.job.TextKind.TheVariants as kind;
 
 use qs_explain::laws::explanations_are_refused_alike;

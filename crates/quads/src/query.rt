@@ -1,7 +1,7 @@
 //! The result of a query over the data of a file.
 
 ghost use Rattle.qs_terms.specs.Outcome.{OneOrOutOfMemory};
-ghost use Rattle.quads.specs.Due.{IsQueryOutcome};
+ghost use Rattle.quads.specs.inner.Outcomes.{IsQueryOutcome};
 ghost use Rattle.quads.specs.inner.JobResult.{IsQueryResultOver};
 
 use crate::result::{JobResult, MAX_ROWS, load_refusal, text_of};

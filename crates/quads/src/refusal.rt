@@ -3,7 +3,8 @@
 ghost use Rattle.std.specs.Prelude.{◌≡◌, ◌⊎◌, IfOk, string_bytes};
 ghost use Rattle.qs_terms.specs.declared.fault.QFault.TheVariants.{Memory};
 ghost use Rattle.qs_results.specs.Lines.{fault_line};
-ghost use Rattle.quads.specs.Due.{line, script_line};
+ghost use Rattle.quads.specs.Due.{line};
+ghost use Rattle.quads.specs.inner.Outcomes.{script_line};
 ghost use Rattle.quads.specs.inner.Refusal as spec;
 ghost use Rattle.quads.specs.inner.Run.{Prints};
 

@@ -3,7 +3,8 @@
 ghost use Rattle.std.specs.Prelude.{◌≡◌, ◌≢◌, Err, IfOk, IfErr};
 ghost use Rattle.qs_terms.specs.declared.fault.QFault.TheVariants.{Memory};
 ghost use Rattle.qs_store.specs.Same.{SameSet};
-ghost use Rattle.quads.specs.Due.{max_terms, IsUpdateOutcome};
+ghost use Rattle.quads.specs.Due.{max_terms};
+ghost use Rattle.quads.specs.inner.Outcomes.{IsUpdateOutcome};
 ghost use Rattle.quads.specs.inner.JobResult.{IsUpdateResultOver};
 ghost use Rattle.quads.specs.inner.Update.{BecomesUpdated, AreQuadsAfter};
 

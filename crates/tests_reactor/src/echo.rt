@@ -21,7 +21,7 @@ pub struct Echo {
 }
 
 impl Echo {
-    ghost use Rattle.qs_service_reactor.specs.Run.{KeepsReplies};
+    ghost use Rattle.qs_service_reactor.specs.inner.Keeps.{KeepsReplies};
     ghost use Rattle.tests_reactor.specs.Echo.{reply_at};
 
     /// No connections.

@@ -7,10 +7,10 @@ use Rattle.qs_terms.specs.declared.term.Term.{Term}
 use Rattle.qs_expr_values.specs.Values.{Worth, compare}
 use Rattle.qs_expr_meaning.specs.declared.expr.Expr.{Expr}
 use Rattle.qs_expr_meaning.specs.declared.expr.Expr.TheVariants as expr
-use Rattle.qs_expr_meaning.specs.declared.operator.Comparison.{Comparison}
-use Rattle.qs_expr_meaning.specs.declared.operator.Comparison.TheVariants.{Equal, NotEqual, Less}
-use Rattle.qs_expr_meaning.specs.declared.operator.Comparison.TheVariants.{Greater, LessOrEqual}
-use Rattle.qs_expr_meaning.specs.declared.operator.Comparison.TheVariants.{GreaterOrEqual}
+use Rattle.qs_syntax_tree.specs.declared.expression.Comparison.{Comparison}
+use Rattle.qs_syntax_tree.specs.declared.expression.Comparison.TheVariants.{Equal, NotEqual, Less}
+use Rattle.qs_syntax_tree.specs.declared.expression.Comparison.TheVariants.{Greater, LessOrEqual}
+use Rattle.qs_syntax_tree.specs.declared.expression.Comparison.TheVariants.{GreaterOrEqual}
 
 -- whether the variable's term is this one, or, where it is to be apart, another one; an unbound
 -- variable has none

@@ -8,7 +8,8 @@ use Rattle.qs_terms.specs.Term.{same_tag}
 use Rattle.qs_terms.specs.declared.term.Term.{Term}
 use Rattle.qs_terms.specs.declared.term.Term.TheVariants as term
 use Rattle.qs_expr_values.specs.Values.{strung}
-use Rattle.qs_expr_meaning.specs.Calls.{Value, Parts, string_parts}
+use Rattle.qs_expr_meaning.specs.Calls.{Value}
+use Rattle.qs_expr_meaning.specs.inner.Calls.{Parts, string_parts}
 use Rattle.qs_expr_meaning.specs.inner.Comes.{Errs}
 use Rattle.qs_expr_meaning.specs.declared.fault.ExprFault.{ExprFault}
 

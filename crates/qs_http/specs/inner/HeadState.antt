@@ -3,7 +3,7 @@ use Rattle.std.specs.Prelude.{ℕ, Bool, false, ◌==◌, if◌then◌else◌, L
 use Rattle.std.specs.Prelude.{Some}
 use Rattle.qs_http.specs.declared.head_end.HeadState.{HeadState}
 use Rattle.qs_http.specs.declared.head_end.HeadState.TheVariants.{Leading, Line, Feed, FeedReturn}
-use Rattle.qs_http.specs.HeadEnd.{is_line_break, later}
+use Rattle.qs_http.specs.inner.HeadEnd.{is_line_break, later}
 
 -- where the byte leads to
 abbrev pub place_after : HeadState → ℕ → HeadState

@@ -1,5 +1,7 @@
 -- A parsed head, as the code holds it: the bytes, and the places in them.
-use Rattle.std.specs.Prelude.{◌≡◌, ◌≤◌, ℕ, List, length, map, take, All, Option, None, Some}
+use Rattle.std.specs.Prelude.{◌≡◌, ◌≤◌, ℕ, List, length, map, filter, take, All, Option, None}
+use Rattle.std.specs.Prelude.{Some}
+use Rattle.std.specs.Str.{str_eq_ignore_ascii_case}
 use Rattle.httparse.specs.declared.spans.HeaderSpan.{HeaderSpan}
 use Rattle.httparse.specs.declared.spans.RequestSpans.{RequestSpans}
 use Rattle.httparse.specs.Spans.{span_bytes, header_bytes, IsWithin, IsHeaderWithin}
@@ -42,3 +44,7 @@ head_at bytes spans fields = record {
 abbrev pub ReadsAs : List ℕ → List HeaderSpan → Option RequestSpans → Type 0
 ReadsAs bytes fields None = IsReading bytes None
 ReadsAs bytes fields (Some spans) = IsReading bytes (Some (head_at bytes spans fields))
+
+-- the values of those of the fields that have that name, ASCII case aside
+unfoldable pub values_in : List ℕ → List (List ℕ × List ℕ) → List (List ℕ)
+values_in name fields = map (λ f. f.1) (filter (λ f. str_eq_ignore_ascii_case name f.0) fields)

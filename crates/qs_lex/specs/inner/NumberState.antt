@@ -1,7 +1,8 @@
 -- What is left of the table in each state of the scanner within numbers.
 use Rattle.std.specs.Prelude.{[], ◌∷◌}
 use Rattle.qs_lex_regular.specs.Form.{nothing, many, ◌⨾◌, ◌∣◌, maybe, plus}
-use Rattle.qs_lex.specs.Table.{digit, sign, dot, exponent}
+use Rattle.qs_lex.specs.Table.{digit, sign, exponent}
+use Rattle.qs_lex.specs.inner.Table.{dot}
 use Rattle.qs_lex.specs.inner.Table.{Left}
 use Rattle.qs_lex.specs.declared.token.Class.TheVariants as class
 use Rattle.qs_lex.specs.declared.number_state.NumberState.{NumberState}

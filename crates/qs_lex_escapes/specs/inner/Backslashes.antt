@@ -2,7 +2,7 @@
 use Rattle.std.specs.Prelude.{ℕ, zero, suc, Bool, true, ◌&&◌, ◌==◌, List, [], ◌∷◌, Option}
 use Rattle.std.specs.Prelude.{if◌then◌else◌}
 use Rattle.std.specs.Option.{is_some}
-use Rattle.qs_lex_escapes.specs.Decoded.{length_of}
+use Rattle.qs_lex_escapes.specs.inner.Decoded.{length_of}
 use Rattle.qs_lex_escapes.specs.declared.escape.Escape.{Escape}
 
 -- the same after the first n bytes, which an escape took

@@ -5,7 +5,8 @@ use Rattle.qs_lex_escapes.specs.Decoded.{decoded}
 use Rattle.qs_lex_escapes.specs.Escape.{uchar, string_escape}
 use Rattle.qs_terms.specs.Iri.{checked_iri}
 use Rattle.qs_nquads.specs.Labels.{Numbering, number}
-use Rattle.qs_nquads.specs.Part.{behind, inside, iri_part, blank_part}
+use Rattle.qs_nquads.specs.Part.{inside}
+use Rattle.qs_nquads.specs.inner.Part.{behind, iri_part, blank_part}
 use Rattle.qs_nquads.specs.declared.class.Class.{Class}
 use Rattle.qs_nquads.specs.declared.class.Class.TheVariants as class
 use Rattle.qs_nquads.specs.declared.fault.NqFaultKind.{NqFaultKind}

@@ -1,15 +1,19 @@
 -- What is left of the table in each state of the scanner.
-use Rattle.std.specs.Prelude.{ℕ, suc, [], ◌∷◌}
+use Rattle.std.specs.Prelude.{ℕ, suc, [], ◌∷◌, Bool, ◌||◌, ◌==◌}
 use Rattle.qs_lex_regular.specs.Form.{Form, nothing, one, hexes, many, ◌⨾◌, ◌∣◌, maybe, plus, char}
 use Rattle.qs_lex_regular.specs.Character.{is_escaped, is_letter, is_letter_or_digit, is_scalar}
 use Rattle.qs_lex_regular.specs.Longest.{Table}
 use Rattle.qs_lex_regular.specs.inner.Best.{advance}
 use Rattle.qs_nquads.specs.Table.{table, iri_body, string_body}
-use Rattle.qs_nquads.specs.Table.{is_label_start, is_label_char, is_label_inner}
+use Rattle.qs_nquads.specs.Table.{is_label_start, is_label_char}
 use Rattle.qs_nquads.specs.declared.class.Class.{Class}
 use Rattle.qs_nquads.specs.declared.class.Class.TheVariants as class
 use Rattle.qs_nquads.specs.declared.state.State.{State}
 use Rattle.qs_nquads.specs.declared.state.State.TheVariants as state
+
+-- what a label holds but ends with, or a dot
+abbrev pub is_label_inner : ℕ → Bool
+is_label_inner c = is_label_char c || c == 46
 
 -- what is left of the table after some characters
 abbrev pub Left : Type 0

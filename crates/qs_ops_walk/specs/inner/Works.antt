@@ -7,7 +7,7 @@ use Rattle.qs_terms.specs.Dataset.{names_of}
 use Rattle.qs_terms.specs.Term.{same_term}
 use Rattle.qs_terms.specs.declared.term.Term.{Term}
 use Rattle.qs_algebra_solutions.specs.Solution.{Solution, unbound}
-use Rattle.qs_algebra_patterns.specs.Eval.{rows_of}
+use Rattle.qs_algebra_patterns.specs.inner.Eval.{rows_of}
 use Rattle.qs_algebra_patterns.specs.declared.table.Table.{Table}
 use Rattle.qs_algebra_patterns.specs.declared.pattern.TriplePattern.{TriplePattern}
 use Rattle.qs_algebra_patterns.specs.declared.pattern.PathPattern.{PathPattern}

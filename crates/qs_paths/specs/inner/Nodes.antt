@@ -10,10 +10,12 @@ use Rattle.qs_dict.specs.inner.Dict.{term_at}
 use Rattle.qs_syntax_tree.specs.declared.path.Repetition.{Repetition}
 use Rattle.qs_syntax_ast.specs.declared.path.NegatedIri.{NegatedIri}
 use Rattle.qs_syntax_ast.specs.declared.path.Path.{Path}
-use Rattle.qs_paths_meaning.specs.Closure.{ends, from_start}
+use Rattle.qs_paths_meaning.specs.Closure.{ends}
+use Rattle.qs_paths_meaning.specs.inner.Steps.{from_start}
 use Rattle.qs_paths_meaning.specs.Pair.{Pair, pair}
 use Rattle.qs_paths_meaning.specs.Pairs.{AtEnds, is_step, pairs}
-use Rattle.qs_paths_meaning.specs.Steps.{Graph, against, along, composed, is_none, is_of}
+use Rattle.qs_paths_meaning.specs.Steps.{Graph, along, composed, is_none, is_of}
+use Rattle.qs_paths_meaning.specs.inner.Steps.{against}
 use Rattle.qs_paths_meaning.specs.Steps.{is_outside}
 use Rattle.qs_paths_meaning.specs.inner.Found.{Holds, begins}
 use Rattle.qs_paths_meaning.specs.inner.Links as starting

@@ -8,10 +8,12 @@ use Rattle.qs_terms.specs.Term.{same_term}
 use Rattle.qs_syntax_tree.specs.declared.path.Repetition.{Repetition}
 use Rattle.qs_syntax_tree.specs.declared.path.Repetition.TheVariants.{ZeroOrOne}
 use Rattle.qs_syntax_ast.specs.declared.path.Path.{Path}
-use Rattle.qs_paths_meaning.specs.Closure.{ends, from_start}
+use Rattle.qs_paths_meaning.specs.Closure.{ends}
+use Rattle.qs_paths_meaning.specs.inner.Steps.{from_start}
 use Rattle.qs_paths_meaning.specs.Pair.{Pair, pair, swapped}
 use Rattle.qs_paths_meaning.specs.Pairs.{AtEnds, is_step, pairs}
-use Rattle.qs_paths_meaning.specs.Steps.{Graph, against, agrees, is_outside}
+use Rattle.qs_paths_meaning.specs.Steps.{Graph, agrees, is_outside}
+use Rattle.qs_paths_meaning.specs.inner.Steps.{against}
 use Rattle.qs_paths_meaning.specs.inner.Found.{turned}
 use Rattle.qs_paths_meaning.proofs.Near.{tied}
 use Rattle.qs_paths_meaning.proofs.Search.{Searching}

@@ -7,7 +7,8 @@ use Rattle.qs_terms.specs.Bag.{SameBag, with_new}
 use Rattle.qs_terms.specs.Dataset.{nodes_of}
 use Rattle.qs_terms.specs.Term.{same_term}
 use Rattle.qs_syntax_tree.specs.declared.path.Repetition.{Repetition}
-use Rattle.qs_paths_meaning.specs.Closure.{from_start, closure}
+use Rattle.qs_paths_meaning.specs.Closure.{closure}
+use Rattle.qs_paths_meaning.specs.inner.Steps.{from_start}
 use Rattle.qs_paths_meaning.specs.Pair.{Pair}
 use Rattle.qs_paths_meaning.specs.Pairs.{AtEnds, is_step}
 use Rattle.qs_paths_meaning.specs.Steps.{Graph}

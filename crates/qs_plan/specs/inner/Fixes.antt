@@ -4,19 +4,19 @@ use Rattle.std.specs.Prelude.{◌≡◌, ℕ, ◌≤◌, ◌<◌, Bool, true, fa
 use Rattle.std.specs.Prelude.{Option, Some, None}
 use Rattle.std.specs.List.{AllByRecursion, flat_map, list_any}
 use Rattle.qs_terms.specs.Bag.{Distinct}
-use Rattle.qs_terms.specs.Statement.{Statement}
+use Rattle.qs_terms.specs.Statement.{Statement, is_iri}
 use Rattle.qs_terms.specs.Term.{same_term}
 use Rattle.qs_terms.specs.declared.term.Term.{Term}
-use Rattle.qs_expr_values.specs.Values.{equal, is_true}
-use Rattle.qs_expr_meaning.specs.Calls.{is_iri}
-use Rattle.qs_expr_meaning.specs.Meaning.{meaning, holds, of_both}
+use Rattle.qs_expr_values.specs.Values.{equal}
+use Rattle.qs_expr_values.specs.inner.Values.{is_true}
+use Rattle.qs_expr_meaning.specs.Meaning.{meaning, holds}
+use Rattle.qs_expr_meaning.specs.Calls.{of_both}
 use Rattle.qs_expr_meaning.specs.declared.expr.Expr.{Expr}
 use Rattle.qs_expr_meaning.specs.declared.expr.Expr.TheVariants as expr
 use Rattle.qs_algebra_solutions.specs.Solution.{Solution, term_at}
 use Rattle.qs_algebra_solutions.specs.Operators.{merges}
 use Rattle.qs_algebra_patterns.specs.Basic.{Graph}
-use Rattle.qs_algebra_patterns.specs.Eval.{kept}
-use Rattle.qs_algebra_patterns.specs.inner.Eval.{step}
+use Rattle.qs_algebra_patterns.specs.inner.Eval.{kept, step}
 use Rattle.qs_algebra_patterns.specs.declared.pattern.Step.{Step}
 use Rattle.qs_plan.specs.declared.certain.Size.{Size}
 use Rattle.qs_plan_meaning.specs.declared.stage.Look.{Look}

@@ -9,8 +9,8 @@ use Rattle.qs_algebra_solutions.specs.Solution.{Solution, term_at, unbound}
 use Rattle.qs_algebra_solutions.specs.Operators.{merges}
 use Rattle.qs_expr_meaning.specs.declared.expr.Expr.{Expr}
 use Rattle.qs_algebra_patterns.specs.Basic.{Graph}
-use Rattle.qs_algebra_patterns.specs.Eval.{eval, kept}
-use Rattle.qs_algebra_patterns.specs.inner.Eval.{step}
+use Rattle.qs_algebra_patterns.specs.Eval.{eval}
+use Rattle.qs_algebra_patterns.specs.inner.Eval.{kept, step}
 use Rattle.qs_algebra_patterns.specs.declared.pattern.PatternNode.{PatternNode}
 use Rattle.qs_algebra_patterns.specs.declared.pattern.Step.{Step}
 use Rattle.qs_algebra_patterns.specs.declared.pattern.Step.TheVariants.{Join}

@@ -14,7 +14,8 @@ use Rattle.qs_algebra_solutions.specs.Solution.{Solution, term_at, unbound, bind
 use Rattle.qs_algebra_solutions.specs.Operators.{merges, or_alone, excludes}
 use Rattle.qs_expr_meaning.specs.Meaning.{holds}
 use Rattle.qs_algebra_patterns.specs.Basic.{Graph}
-use Rattle.qs_algebra_patterns.specs.Eval.{all_hold, extended, rows_of}
+use Rattle.qs_algebra_patterns.specs.Eval.{all_hold, extended}
+use Rattle.qs_algebra_patterns.specs.inner.Eval.{rows_of}
 use Rattle.qs_plan_meaning.specs.declared.stage.Look.{Look}
 use Rattle.qs_plan_meaning.specs.declared.stage.Look.TheVariants as look
 use Rattle.qs_plan_meaning.specs.declared.stage.Stage.{Stage, fold-Stage}

@@ -12,7 +12,8 @@ use Rattle.qs_query_order.specs.declared.condition.OrderCondition.{OrderConditio
 use Rattle.qs_syntax_scope.specs.Names.{Name}
 use Rattle.qs_query_template.specs.Instances.{made}
 use Rattle.qs_query_forms.specs.Outcome.{IsBuilt}
-use Rattle.qs_query_forms.specs.Sequence.{limited, sliced, listed_rows, count, IsInOrder}
+use Rattle.qs_query_forms.specs.Sequence.{sliced, listed_rows, count, IsInOrder}
+use Rattle.qs_query_forms.specs.inner.Sequence.{limited}
 use Rattle.qs_query_forms.specs.declared.construction.Construction.{Construction}
 use Rattle.qs_query_forms.specs.declared.modifiers.Slice.{Slice}
 use Rattle.qs_query_forms.specs.declared.selection.Selection.{Selection}

@@ -5,8 +5,13 @@ use Rattle.qs_terms.specs.Bag.{SameBag}
 use Rattle.qs_terms.specs.Outcome.{Outcome}
 use Rattle.qs_algebra_solutions.specs.Solution.{Solution}
 use Rattle.qs_algebra_solutions.specs.declared.answer.Answer.{Answer}
-use Rattle.qs_algebra_solutions.specs.declared.answer.Answer.TheVariants.{Solutions}
+use Rattle.qs_algebra_solutions.specs.declared.answer.Answer.TheVariants.{Solutions, Truth}
 use Rattle.qs_algebra_patterns.specs.declared.named_pattern.Pattern.{Pattern}
+use Rattle.qs_query_forms.specs.Sequence.{has_solution}
+
+-- ASK (SPARQL 1.1 Query, 16.3): whether there is a solution, however many there are
+abbrev pub IsAsked : List Solution → Outcome Answer → Type 0
+IsAsked solutions outcome = outcome ≡ Ok (Truth (has_solution solutions))
 
 -- all solutions of a pattern with its variables, as an update's WHERE has them, or the fault that
 -- there are more than max_rows

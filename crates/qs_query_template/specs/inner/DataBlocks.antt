@@ -19,7 +19,8 @@ use Rattle.qs_syntax_ast.specs.declared.term.VarOrIri.TheVariants as name
 use Rattle.qs_syntax_ast.specs.declared.update.QuadBlock.{QuadBlock}
 use Rattle.qs_algebra_solutions.specs.Solution.{unbound}
 use Rattle.qs_query_template.specs.Blanks.{number_in}
-use Rattle.qs_query_template.specs.Instances.{fresh, quad_of, instances, next_after, within}
+use Rattle.qs_query_template.specs.Instances.{quad_of, instances, next_after}
+use Rattle.qs_query_template.specs.inner.Instances.{fresh, within}
 use Rattle.qs_query_template.specs.Template.{template_of_blocks}
 
 -- the number after those of the fresh blank nodes, and these quads with the new ones after them; or

@@ -1,13 +1,20 @@
 -- The parts of serving a connection: its bytes are read, and its reply is written.
-use Rattle.std.specs.Prelude.{◌≡◌, ◌<◌, ℕ, List, length, take, Option, None, Some, Result, Ok, Err}
+use Rattle.std.specs.Prelude.{◌≡◌, ◌<◌, ℕ, List, [], length, take, Option, None, Some, Result, Ok}
+use Rattle.std.specs.Prelude.{Err}
 use Rattle.std.specs.Io.KnownBytes.{Appends, Consumes, IsAtEnd}
 use Rattle.qs_http.specs.Outcome.{More}
 use Rattle.qs_http.specs.RequestOf.{IsRequestOf}
 use Rattle.qs_service_connections.specs.Meaning.{RequestMeaning}
 use Rattle.qs_service_connections.specs.Message.{Message}
-use Rattle.qs_service_connections.specs.Serve.{IsAnsweredWith}
+use Rattle.qs_service_connections.specs.State.{Reading, Answered}
+use Rattle.qs_service_connections.specs.Step.{Receives}
 use Rattle.qs_service_connections.specs.declared.served.ServeFault.{ServeFault}
 use Rattle.qs_service_connections.specs.declared.served.ServeFault.TheVariants as fault
+
+-- the bytes read resulted in this request or refusal, or in out of memory: its step was made, and
+-- this is its reply
+abbrev pub IsAnsweredWith : {S : Type 0} → RequestMeaning S → S → List ℕ → S → Message → Type 0
+IsAnsweredWith carries old read new r = Receives carries old (Reading []) read new (Answered r 0)
 
 -- what the bytes read resulted in
 abbrev pub ListensTo : {S : Type 0} → RequestMeaning S → S → List ℕ

@@ -3,7 +3,8 @@ use Rattle.std.specs.Prelude.{◌≡◌, ◌<◌, ◌≤◌, ◌==◌, Bool, ℕ
 use Rattle.std.specs.Prelude.{slice_set, slice_index_or, Some, None}
 use Rattle.std.specs.List.{remove}
 use Rattle.std.specs.declared.alloc.Global.{Global}
-use Rattle.qs_service_connections.specs.State.{Joined, exchange_of, put_exchange, without_id}
+use Rattle.qs_service_connections.specs.State.{Joined, exchange_of, without_id}
+use Rattle.qs_service_connections.specs.inner.State.{put_exchange}
 
 abbrev pub has_id : ℕ → Joined → Bool
 has_id id c = c.id == id

@@ -2,7 +2,9 @@
 use Rattle.std.specs.Prelude.{◌≡◌, ◌≢◌, ◌++◌, ℕ, Bool, true, false, List, [], length, slice_get}
 use Rattle.std.specs.Prelude.{Option, None, Some, IsSome}
 use Rattle.qs_service_reactor.specs.Log.{Io, Logs}
-use Rattle.qs_service_reactor.specs.Run.{Event, Act, ios, joins, KeepsOthers, Run}
+use Rattle.qs_service_reactor.specs.Run.{Event, Act, Run}
+use Rattle.qs_service_reactor.specs.inner.Acts.{ios, joins}
+use Rattle.qs_service_reactor.specs.inner.Keeps.{KeepsOthers}
 use Rattle.qs_service_reactor.specs.declared.connection.Connection.{Connection}
 use Rattle.qs_service_reactor.specs.declared.connection.Stage.{Stage}
 use Rattle.qs_service_reactor.specs.declared.connection.Stage.TheVariants.{Free, Reading, Writing}

@@ -4,7 +4,8 @@ use Rattle.std.specs.Prelude.{false}
 use Rattle.std.specs.List.{AllZip}
 use Rattle.std.specs.Option.{is_some}
 use Rattle.hex.specs.Hex.{decode_of}
-use Rattle.qs_service_replay.specs.Script.{IsId, IsLine, AreLines, TellsEvent}
+use Rattle.qs_service_replay.specs.Script.{IsId, IsLine, AreLines}
+use Rattle.qs_service_replay.specs.inner.Script.{TellsEvent}
 use Rattle.qs_service_connections.specs.State.{State, reply_at}
 use Rattle.qs_service_connections.specs.Step.{Event, Join, Piece, End}
 use Rattle.qs_service_replay.specs.inner.ScriptEvents.{event_of}

@@ -1,7 +1,15 @@
 -- Definitions over those of `Change`, for proofs and the layers between.
-use Rattle.std.specs.Prelude.{ℕ, ◌<◌, ◌≤◌, Result, Ok, Err}
+use Rattle.std.specs.Prelude.{ℕ, ◌<◌, ◌≤◌, List, Result, Ok, Err}
+use Rattle.std.specs.List.{fold}
+use Rattle.qs_terms.specs.Bag.{with_new}
+use Rattle.qs_terms.specs.Term.{same_term}
+use Rattle.qs_terms.specs.declared.term.Term.{Term}
 use Rattle.qs_store.specs.declared.fault.StoreFault.{StoreFault}
 use Rattle.qs_store.specs.declared.fault.StoreFault.TheVariants.{Full, Memory}
+
+-- the terms with these after them, each once
+abbrev pub with_terms : List Term → List Term → List Term
+with_terms known terms = fold (with_new same_term) known terms
 
 -- a change that needs so many terms is done only where they are no more than the limit, and refused
 -- as full only where they are more; running out of memory may come in place of either

@@ -6,7 +6,8 @@ use Rattle.qs_lex_escapes.specs.Decoded.{decoded, unescaped}
 use Rattle.qs_lex_escapes.specs.Escape.{uchar, string_escape}
 use Rattle.qs_lex_escapes.specs.Piece.{piece}
 use Rattle.qs_lex_escapes.specs.inner.Backslashes.{escapes_begin}
-use Rattle.qs_syntax_resolve.specs.Names.{is_colon, marks}
+use Rattle.qs_syntax_resolve.specs.Names.{marks}
+use Rattle.qs_syntax_resolve.specs.inner.Names.{is_colon}
 use Rattle.qs_terms.specs.Iri.{is_excluded}
 use Rattle.qs_terms.specs.Tag.{is_tag}
 use Rattle.qs_syntax_tree.specs.declared.kind.Kind.{Kind}

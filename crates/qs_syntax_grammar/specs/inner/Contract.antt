@@ -6,10 +6,10 @@ use Rattle.qs_syntax_grammar.specs.declared.fault.ParseFault.{ParseFault}
 use Rattle.qs_syntax_grammar.specs.declared.fault.ParseFault.TheVariants.{Memory, Syntax}
 use Rattle.qs_syntax_grammar.specs.Rule.{Language, Rule}
 use Rattle.qs_syntax_grammar.specs.Grammar.{Grammar, Spells, IsDue}
-use Rattle.qs_syntax_grammar.specs.inner.Grammar.{read, whole}
+use Rattle.qs_syntax_grammar.specs.inner.Grammar.{Guided, read, whole}
 
 -- the outcome over all tokens, unless memory fails
-abbrev pub ReadsAll : {L : Language} → Grammar L → {A : Type 0} → Rule L A → List L.Token
+abbrev pub ReadsAll : {L : Language} → Guided L → {A : Type 0} → Rule L A → List L.Token
     → Result A Fault → Type 0
 ReadsAll G start tokens (Ok tree) = whole (read G (length tokens) start tokens) ≡ Ok tree
 ReadsAll G start tokens (Err e) =

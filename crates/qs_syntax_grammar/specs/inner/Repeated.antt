@@ -1,5 +1,6 @@
 -- Outcomes whose items are taken up one by one into what was made before.
 use Rattle.std.specs.Prelude.{List, [], ◌∷◌, ◌++◌, fold, Option, Some, None, Ok}
+use Rattle.std.specs.List.{filter_map, flat_map}
 use Rattle.qs_syntax_grammar.specs.inner.Reading.{Outcome, and_then}
 
 -- the items taken up into what was made before
@@ -14,3 +15,10 @@ push found x = found ++ x ∷ []
 abbrev pub keep : {A : Type 0} → List A → Option A → List A
 keep found None = found
 keep found (Some x) = found ++ x ∷ []
+
+-- those that are there
+abbrev pub kept : {A : Type 0} → List (Option A) → List A
+kept xs = filter_map (λ x. x) xs
+
+abbrev pub joined : {A : Type 0} → List (List A) → List A
+joined xs = flat_map (λ x. x) xs

@@ -4,11 +4,15 @@ use Rattle.qs_syntax_tree.specs.declared.expression.Expression.{Expression as Wr
 use Rattle.qs_syntax_tree.specs.declared.expression.Call.{Call as WrittenCall, fold-Call}
 use Rattle.qs_syntax_tree.specs.declared.expression.Operand.{Operand, fold-Operand}
 use Rattle.qs_syntax_tree.specs.declared.expression.Addend.{Addend as WrittenAddend, fold-Addend}
+use Rattle.qs_syntax_tree.specs.declared.expression.Call.TheOpen.{Operand-F}
 use Rattle.qs_syntax_ast.specs.declared.expression.Expression.{Expression}
 use Rattle.qs_syntax_ast.specs.declared.expression.Addend.{Addend}
 use Rattle.qs_syntax_resolve.specs.Resolving.{Resolving, all}
-use Rattle.qs_syntax_resolve.specs.Expression.{call_level, expression_level, addend_level}
-use Rattle.qs_syntax_resolve.specs.Expression.{operand_level, expression_of}
+use Rattle.qs_syntax_resolve.specs.Expression.{call_level, expression_level, addend_level, Steps}
+use Rattle.qs_syntax_resolve.specs.Expression.{expression_of}
+
+abbrev pub operand_level : Operand-F Steps Steps (Resolving Addend) Steps → Steps
+operand_level o = o.expression
 
 unfoldable pub call_of : WrittenCall → Resolving Expression
 call_of = fold-Call (Resolving Expression) (Resolving Expression) (Resolving Addend)

@@ -9,9 +9,15 @@ use Rattle.qs_syntax_ast.specs.declared.term.BlankNode.{BlankNode}
 use Rattle.qs_syntax_ast.specs.declared.term.TermPattern.{TermPattern}
 use Rattle.qs_syntax_ast.specs.declared.term.TermPattern.TheVariants.{Blank}
 use Rattle.qs_syntax_resolve.specs.Leaves.{term_of, anonymous}
-use Rattle.qs_syntax_resolve.specs.Resolving.{Resolving, ◌>>=◌, ◌<$>◌, pure}
-use Rattle.qs_syntax_resolve.specs.Triples.{OfSubject, OfObject, each_object, triple}
+use Rattle.qs_syntax_resolve.specs.Resolving.{Resolving, ◌>>=◌, ◌<$>◌, pure, in_turn}
+use Rattle.qs_syntax_resolve.specs.Triples.{OfSubject, OfObject, triple}
 use Rattle.qs_syntax_resolve.specs.Triples.{property_level, node_level, properties}
+
+abbrev pub each_object : TermPattern → Verb → List Triple → List OfObject → Resolving (List Triple)
+each_object subject v found os = in_turn (λ more o. o subject v more) found os
+
+abbrev pub each_property : TermPattern → List Triple → List OfSubject → Resolving (List Triple)
+each_property subject found ps = in_turn (λ more p. p subject more) found ps
 
 unfoldable pub object_of : GraphNode → OfObject
 object_of = fold-GraphNode OfObject OfSubject node_level property_level

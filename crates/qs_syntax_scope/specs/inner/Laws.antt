@@ -1,9 +1,9 @@
 -- What the tests of names say, in words that ask for no order.
 use Rattle.std.specs.Prelude.{◌≡◌, ℕ, List, Some, IsTrue, slice_get, take}
+use Rattle.std.specs.List.{flat_map}
 use Rattle.qs_syntax_scope.specs.Names.{Name, contains}
 use Rattle.qs_syntax_scope.specs.Firsts.{names_of}
-use Rattle.qs_syntax_scope.specs.Scope.{part, fits}
-use Rattle.qs_syntax_scope.specs.inner.Scope.{parts}
+use Rattle.qs_syntax_scope.specs.inner.Scope.{scope_of_pattern}
 use Rattle.qs_syntax_ast.specs.declared.term.Variable.{Variable}
 use Rattle.qs_syntax_ast.specs.declared.pattern.GraphPattern.{GraphPattern}
 
@@ -23,7 +23,8 @@ abbrev pub AreListed : List Variable → List Name → Type 0
 AreListed variables names =
     (name : Name) → IsTrue (contains names name) → IsTrue (contains (names_of variables) name)
 
--- each pattern of a group fits after those before it
+-- each pattern of a group keeps the rules after those before it
 abbrev pub EachFits : List GraphPattern → Type 0
 EachFits patterns = (i : ℕ) (pattern : GraphPattern) → slice_get patterns i ≡ Some pattern
-    → IsTrue (fits (parts (take i patterns)).names (part pattern))
+    → IsTrue ((scope_of_pattern pattern).keeps
+    (flat_map (λ p. (scope_of_pattern p).names) (take i patterns)))

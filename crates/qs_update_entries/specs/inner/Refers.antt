@@ -6,7 +6,7 @@ use Rattle.qs_store.specs.inner.References.{referred, referred_graph, referred_q
 use Rattle.qs_store.specs.inner.References.{IsReferredGraph, IsReferredQuad}
 use Rattle.qs_store.specs.declared.reference.TermRef.{TermRef}
 use Rattle.qs_store.specs.declared.reference.QuadRef.{QuadRef}
-use Rattle.qs_query_template.specs.Instances.{fresh, lawful}
+use Rattle.qs_query_template.specs.inner.Instances.{fresh, lawful}
 
 -- the reference means the term, where there is one
 abbrev pub Refers : List Term → Option Term → Option TermRef → Type 0

@@ -1,7 +1,8 @@
 -- Blank nodes whose numbers are below one, in solutions and in graphs.
 use Rattle.std.specs.Prelude.{ℕ, Bool, ◌&&◌, List}
 use Rattle.std.specs.List.{list_all}
-use Rattle.qs_terms.specs.Dataset.{Triple, is_term_below, is_graph_below as is_cell_below}
+use Rattle.qs_terms.specs.Dataset.{Triple, is_term_below}
+use Rattle.qs_terms.specs.inner.Dataset.{is_graph_below as is_cell_below}
 use Rattle.qs_terms.specs.Statement.{Statement, is_iri}
 use Rattle.qs_algebra_solutions.specs.Solution.{Solution}
 use Rattle.qs_algebra_patterns.specs.Basic.{Graph}

@@ -13,8 +13,9 @@ use Rattle.qs_store_load.specs.declared.fault.LoadFault.TheVariants.{Text, Store
 use Rattle.qs_nquads.specs.Nquads.{IsNquads, IsFault}
 use Rattle.qs_nquads.specs.Written.{nquads_of}
 use Rattle.qs_results.specs.Lines.{data_fault_line}
-use Rattle.quads.specs.Due.{IsQueryOfData, IsUpdateOfData, IsExplanationOfData, line, outcome_line}
-use Rattle.quads.specs.Due.{explanation_line}
+use Rattle.quads.specs.Due.{line}
+use Rattle.quads.specs.inner.Outcomes.{IsQueryOfData, IsUpdateOfData, IsExplanationOfData}
+use Rattle.quads.specs.inner.Outcomes.{outcome_line, explanation_line}
 use Rattle.quads.specs.inner.Refusal.{fault_of}
 use Rattle.quads.specs.inner.Load.{BecomesStored}
 use Rattle.quads.specs.declared.result.JobResult.{JobResult}

@@ -7,7 +7,8 @@ use Rattle.qs_store.specs.declared.fault.StoreFault.TheVariants.{Full, Memory}
 use Rattle.qs_store_load.specs.declared.fault.LoadFault.{LoadFault}
 use Rattle.qs_store_load.specs.declared.fault.LoadFault.TheVariants as load
 use Rattle.qs_results.specs.Lines.{fault_line, data_fault_line}
-use Rattle.quads.specs.Due.{line, script_line}
+use Rattle.quads.specs.Due.{line}
+use Rattle.quads.specs.inner.Outcomes.{script_line}
 use Rattle.quads.specs.declared.refusal.Refusal.{Refusal}
 use Rattle.quads.specs.declared.refusal.Refusal.TheVariants.{Data, Script, Fault}
 

@@ -7,8 +7,9 @@ use Rattle.qs_service_connections.specs.Step.{Event}
 use Rattle.qs_service_replay.specs.Replayed.{StopsAt}
 use Rattle.qs_service_replay.specs.Script.{IsScript}
 use Rattle.qs_store.specs.declared.default_graph.DefaultGraph.{DefaultGraph}
-use Rattle.quads.specs.Due.{IsDueOfEvents, IsDueOfScript, IsDueOfMemory, IsDueOfData, IsDueOfReplay}
-use Rattle.quads.specs.Due.{IsBegunOfReplay}
+use Rattle.quads.specs.Due.{IsDueOfEvents, IsDueOfScript, IsDueOfData, IsDueOfReplay}
+use Rattle.quads.specs.inner.Outcomes.{IsDueOfMemory}
+use Rattle.quads.specs.inner.Outcomes.{IsBegunOfReplay}
 use Rattle.quads.specs.inner.Run.{Runs}
 use Rattle.quads.specs.inner.Service.{BecomesService}
 use Rattle.quads.specs.declared.job.Ran.{Ran}

@@ -7,7 +7,7 @@ use Rattle.qs_store.specs.Content.{Content}
 use Rattle.qs_store.specs.Same.{SameSet}
 use Rattle.qs_store.specs.declared.default_graph.DefaultGraph.{DefaultGraph}
 use Rattle.qs_update.specs.Outcome.{IsSameContent}
-use Rattle.quads.specs.Due.{IsUpdateOutcome}
+use Rattle.quads.specs.inner.Outcomes.{IsUpdateOutcome}
 
 -- the store holds what the update of the bytes makes of what it held
 abbrev pub BecomesUpdated : DefaultGraph → List ℕ → Content → Outcome (Unit {0}) → Content → Type 0

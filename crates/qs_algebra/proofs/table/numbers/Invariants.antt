@@ -1,5 +1,5 @@
 use Rattle.std.proofs.Common.{◌≡◌, map, take}
-use Rattle.qs_algebra.specs.Translation.{number_of}
+use Rattle.qs_algebra.specs.inner.Translation.{number_of}
 use Rattle.qs_algebra.proofs.table.numbers.Given as goal
 
 abbrev pub invariant-loop-variable : goal.invariant-loop-variable

@@ -10,7 +10,8 @@ use Rattle.qs_expr_values.specs.inner.Value.{term_of}
 use Rattle.qs_expr_values.specs.Values.{equal}
 use Rattle.qs_expr_meaning.specs.inner.Joined.{tag_seen}
 use Rattle.qs_expr_meaning.specs.Truth.{any, every}
-use Rattle.qs_expr_meaning.specs.Meaning.{meaning, number, truth, among, of_both}
+use Rattle.qs_expr_meaning.specs.Meaning.{meaning, number, truth, among}
+use Rattle.qs_expr_meaning.specs.Calls.{of_both}
 use Rattle.qs_expr_meaning.proofs.Chains.{part_wants, either_false, either_errs, both_true, both_errs, concat_end, concat_more, concat_error}
 use Rattle.qs_expr_meaning.proofs.evaluate.+value.Goals.{is_any-in-Ok-false, is_any-in-Err-TypeError, is_every-in-Ok-true, is_every-in-Err-TypeError, is_among-in-Ok-false, is_among-in-Err-TypeError}
 use Rattle.qs_expr_meaning.proofs.Arms.{in_none, not_in_none, in_error, not_in_error, sum_error_first, product_error_first, as_parts}

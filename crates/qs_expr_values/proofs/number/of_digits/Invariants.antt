@@ -1,7 +1,7 @@
 -- What is still to be read gives the value of them all, and decides whether all are digits.
 use Rattle.std.proofs.Common.{◌≡◌, ◌^◌, ◌<◌, drop}
 use Rattle.std.specs.Str.{all_ascii_digits}
-use Rattle.qs_expr_values.specs.Number.{value_behind}
+use Rattle.qs_expr_values.specs.inner.Number.{value_behind}
 use Rattle.qs_expr_values.proofs.number.of_digits.Given as goal
 
 abbrev pub invariant-loop-byte : goal.invariant-loop-byte

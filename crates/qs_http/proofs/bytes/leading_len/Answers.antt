@@ -1,7 +1,7 @@
 use Rattle.std.proofs.Common.{arith, sym}
 use Rattle.std.proofs.lemmas.List.Sums.{position_or_len_is}
 use Rattle.std.proofs.lemmas.Bool.Decides.{nat_tests}
-use Rattle.qs_http.specs.HeadEnd.{is_in_line}
+use Rattle.qs_http.specs.inner.HeadEnd.{is_in_line}
 use Rattle.qs_http.proofs.bytes.leading_len.Goals as goal
 
 pub returns-then-byte-ne10-clause-count : goal.returns-then-byte-ne10-clause-count

@@ -1,5 +1,5 @@
 use Rattle.std.proofs.Common.{◌≡◌, ℕ, ◌<◌, get_or, false}
-use Rattle.qs_http.specs.HeadEnd.{is_in_line}
+use Rattle.qs_http.specs.inner.HeadEnd.{is_in_line}
 use Rattle.qs_http.proofs.bytes.leading_len.Given as goal
 
 abbrev pub invariant-loop-i : goal.invariant-loop-i

@@ -1,7 +1,7 @@
 use Rattle.std.proofs.Common.{◌∙◌, sym, ap, ℕ, ◌+◌, drop, arith, List}
 use Rattle.std.proofs.lemmas.List.{drop_all}
 use Rattle.qs_http.specs.declared.head_end.HeadState.{HeadState}
-use Rattle.qs_http.specs.HeadEnd.{later}
+use Rattle.qs_http.specs.inner.HeadEnd.{later}
 use Rattle.qs_http.specs.inner.HeadState.{end_from, place_from}
 use Rattle.qs_http.proofs.Ends.{end_found_at, end_on_at, place_on_at, end_from-nil, place_from-nil}
 use Rattle.qs_http.proofs.head_end.find_end.Goals as goal

@@ -1,5 +1,5 @@
 use Rattle.std.proofs.Common.{◌≡◌, drop}
-use Rattle.qs_http.specs.HeadEnd.{later}
+use Rattle.qs_http.specs.inner.HeadEnd.{later}
 use Rattle.qs_http.specs.inner.HeadState.{end_from, place_from}
 use Rattle.qs_http.proofs.head_end.find_end.Given as goal
 

@@ -1,6 +1,7 @@
 use Rattle.std.proofs.Common.{◌≡◌, ◌∙◌, ap, ℕ, List, ◌++◌, codes}
 use Rattle.std.specs.Fmt.{decimal}
-use Rattle.qs_http.specs.Reply.{line, media_text, body_fields}
+use Rattle.qs_http.specs.Reply.{line, media_text}
+use Rattle.qs_http.specs.inner.Reply.{body_fields}
 use Rattle.qs_http.proofs.Parts.{three_parts}
 use Rattle.qs_http.proofs.replies.put_body_fields.Goals as goal
 

@@ -5,11 +5,11 @@ use Rattle.qs_http.proofs.replies.status_text.Goals as goal
 
 pub returns-then-code-eq200 : goal.returns-then-code-eq200
 unfolding status_line digits
-returns-then-code-eq200 c = ap (λ (n : ℕ). status_line n (phrase_of n)) (sym c.if-code-eq200.true ∙ c.as_u16-code.ensures.value)
+returns-then-code-eq200 c = ap (λ (n : ℕ). status_line (n, phrase_of n)) (sym c.if-code-eq200.true ∙ c.as_u16-code.ensures.value)
 
 pub returns-then-code-eq400 : goal.returns-then-code-eq400
 unfolding status_line digits
-returns-then-code-eq400 c = ap (λ (n : ℕ). status_line n (phrase_of n)) (sym c.if-code-eq400.true ∙ c.as_u16-code.ensures.value)
+returns-then-code-eq400 c = ap (λ (n : ℕ). status_line (n, phrase_of n)) (sym c.if-code-eq400.true ∙ c.as_u16-code.ensures.value)
 
 pub returns-else-code-eq400 : goal.returns-else-code-eq400
 unfolding status_line digits
@@ -18,6 +18,6 @@ returns-else-code-eq400 c =
       | inl ok ↦ absurd (c.if-code-eq200.false (c.as_u16-code.ensures.value ∙ ok))
       | inr other ↦ elim other [
         | inl bad ↦ absurd (c.if-code-eq400.false (c.as_u16-code.ensures.value ∙ bad))
-        | inr error ↦ ap (λ (n : ℕ). status_line n (phrase_of n)) (sym error)
+        | inr error ↦ ap (λ (n : ℕ). status_line (n, phrase_of n)) (sym error)
       ]
     ]

@@ -2,7 +2,7 @@
 use Rattle.std.proofs.Common.{rules, ◌≡◌, ◌∙◌, sym, subst, ◌<◌, ◌++◌, length, drop, string_bytes}
 use Rattle.std.specs.List.{position_or_len, before_first, after_first}
 use Rattle.std.specs.Str.{IsUtf8}
-use Rattle.qs_lex_escapes.specs.Decoded.{stands_for, length_of}
+use Rattle.qs_lex_escapes.specs.inner.Decoded.{stands_for, length_of}
 use Rattle.qs_lex_escapes.specs.inner.Escape.{escape}
 use Rattle.qs_lex_escapes.specs.inner.Decoded.{is_backslash}
 use Rattle.qs_lex_escapes.proofs.Backslashes.{turned}

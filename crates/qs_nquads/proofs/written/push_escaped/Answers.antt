@@ -1,5 +1,6 @@
 use Rattle.std.proofs.Common.{◌++◌, ◌∙◌, ap, sym, get_or, take, append_assoc, ◌<◌, length, arith}
-use Rattle.qs_nquads.specs.Written.{escaped_byte, escaped}
+use Rattle.qs_nquads.specs.Written.{escaped_byte}
+use Rattle.qs_nquads.specs.inner.Written.{escaped}
 use Rattle.qs_nquads.proofs.Lines.{escaped_step}
 use Rattle.qs_nquads.proofs.written.push_escaped.Goals as goal
 

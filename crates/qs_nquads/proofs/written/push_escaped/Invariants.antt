@@ -1,5 +1,5 @@
 use Rattle.std.proofs.Common.{◌≡◌, ◌++◌, take}
-use Rattle.qs_nquads.specs.Written.{escaped}
+use Rattle.qs_nquads.specs.inner.Written.{escaped}
 use Rattle.qs_nquads.proofs.written.push_escaped.Given as goal
 
 abbrev pub invariant-loop-byte : goal.invariant-loop-byte

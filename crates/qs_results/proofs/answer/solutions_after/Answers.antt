@@ -5,7 +5,8 @@ use Rattle.serde_json.specs.Written.{compact_text, items_text}
 use Rattle.serde_json.proofs.OnLiterals.{serde_json_on_literals}
 use Rattle.qs_algebra_solutions.specs.Solution.{Solution}
 use Rattle.qs_algebra_solutions.specs.declared.answer.Answer.TheVariants.{Solutions}
-use Rattle.qs_results.specs.Json.{names_data, binding_data, json_of}
+use Rattle.qs_results.specs.Json.{binding_data, json_of}
+use Rattle.qs_results.specs.inner.Json.{names_data}
 use Rattle.qs_results.proofs.Utf8.{utf8_after, literal_after}
 use Rattle.qs_results.proofs.answer.solutions_after.Goals as goal
 

@@ -1,5 +1,5 @@
 use Rattle.std.proofs.Common.{arith, subst, refl, ◌++◌, take}
-use Rattle.qs_service_connections.specs.Serve.{IsAnsweredWith}
+use Rattle.qs_service_connections.specs.inner.Serve.{IsAnsweredWith}
 use Rattle.qs_service_connections.specs.inner.Receive.{bytes_read}
 use Rattle.qs_service_connections.proofs.Listening.{consumes_more, consumes_none, keeps_same, nothing_yet}
 use Rattle.qs_service_connections.proofs.stream.listen.Goals as goal

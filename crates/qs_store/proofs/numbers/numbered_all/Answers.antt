@@ -1,6 +1,7 @@
 use Rattle.std.proofs.Common.{◌+◌, Some, map, length, refl, sym, ap, subst, arith, ◌∙◌}
 use Rattle.std.proofs.lemmas.Result.{err_from_is_err_and}
-use Rattle.qs_store.specs.Change.{with_terms, with_terms_of, terms_of}
+use Rattle.qs_store.specs.Change.{with_terms_of, terms_of}
+use Rattle.qs_store.specs.inner.Change.{with_terms}
 use Rattle.qs_store.specs.inner.Change.{IsFullAt}
 use Rattle.qs_store.proofs.Terms.{numbered_more, terms_more, no_fewer, front_trans, lawful_more}
 use Rattle.qs_store.proofs.Faults.{full_later}

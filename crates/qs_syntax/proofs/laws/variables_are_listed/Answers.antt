@@ -1,7 +1,7 @@
 use Rattle.qs_syntax_ast.specs.declared.query.Query.{Query}
 use Rattle.qs_syntax_ast.specs.declared.update.Update.{Update}
 use Rattle.qs_syntax_scope.specs.inner.Laws.{AreListed}
-use Rattle.qs_syntax_scope.specs.VariablesIn.{in_query, in_update}
+use Rattle.qs_syntax_scope.specs.inner.VariablesIn.{in_query, in_update}
 use Rattle.qs_syntax.specs.Outcome.{query_outcome, update_outcome}
 use Rattle.qs_syntax.proofs.Listed.{of_text}
 use Rattle.qs_syntax.proofs.SettledListed as listed

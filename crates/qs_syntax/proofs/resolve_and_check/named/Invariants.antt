@@ -1,5 +1,5 @@
 use Rattle.std.proofs.Common.{◌≡◌, take}
-use Rattle.qs_syntax.specs.Outcome.{named}
+use Rattle.qs_syntax.specs.inner.Outcome.{named}
 use Rattle.qs_syntax.proofs.resolve_and_check.named.Given as goal
 
 abbrev pub invariant-loop-token : goal.invariant-loop-token

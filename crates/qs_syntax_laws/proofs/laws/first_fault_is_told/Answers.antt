@@ -1,10 +1,12 @@
 use Rattle.qs_syntax_limits.specs.Large as large
 use Rattle.qs_syntax_resolve.specs.Names.{nothing_declared}
 use Rattle.qs_syntax_resolve.specs.Query.{query}
-use Rattle.qs_syntax_resolve.specs.Resolved.{start, if_lawful, resolved_query, resolved_update}
+use Rattle.qs_syntax_resolve.specs.Resolved.{resolved_query, resolved_update}
+use Rattle.qs_syntax_resolve.specs.inner.Resolved.{start, if_lawful}
 use Rattle.qs_syntax_resolve.specs.Update.{update}
 use Rattle.qs_syntax_scope.specs.KeepsScope.{query_keeps_scope, update_keeps_scope}
-use Rattle.qs_syntax.specs.Outcome.{in_scope, variables_of, listed_query, listed_update, query_outcome, update_outcome}
+use Rattle.qs_syntax.specs.Outcome.{in_scope, variables_of, query_outcome, update_outcome}
+use Rattle.qs_syntax.specs.inner.Outcome.{listed_query, listed_update}
 use Rattle.qs_syntax_laws.specs.inner.NameFaults.{at, name_faults}
 use Rattle.qs_syntax_laws.proofs.Ascending.{tokens_ascend}
 use Rattle.qs_syntax_laws.proofs.First.{first_is_least, by_walk, met, scope_is_beyond}

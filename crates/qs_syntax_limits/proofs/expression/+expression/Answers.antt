@@ -2,7 +2,7 @@ use Rattle.std.proofs.Common.{◌≡◌, ◌∷◌, ◌++◌, map, slice_get, ru
 use Rattle.std.specs.List.{flat_map}
 use Rattle.qs_syntax_tree.specs.declared.expression.Expression.{the_lemmas}
 use Rattle.qs_syntax_limits.specs.Large as spec
-use Rattle.qs_syntax_limits.specs.inner.Parts.{operand, addend, call}
+use Rattle.qs_syntax_limits.specs.inner.Parts.{first, operand, addend, call}
 use Rattle.qs_syntax_limits.proofs.Rows.{nothing, both, three, each_at_end, row_at_end, gathered_at_end, of_more}
 use Rattle.qs_syntax_limits.proofs.Trees.{bound_rows, if_rows, binary_rows, compare_rows, var_rows, iri_rows, literal_rows, in_rows, not_in_rows, sum_rows}
 use Rattle.qs_syntax_limits.proofs.expression.+expression.Goals as goal
@@ -61,5 +61,5 @@ in_sum-loop-addend-init t c = rw (← c.excess_behind.ensures c.args.start) c.fi
 
 pub in_sum-returns : goal.in_sum-returns
 in_sum-returns t c =
-    gathered_at_end (λ x. (addend x).rows) (spec.first (slice_get (c.args.start ∷ map (λ x. (addend x).place) c.args.rest.now) spec.limit) c.args.within)
+    gathered_at_end (λ x. (addend x).rows) (first (slice_get (c.args.start ∷ map (λ x. (addend x).place) c.args.rest.now) spec.limit) c.args.within)
     c.loop-addend.found c.args.rest.now c.loop-addend.addend-index c.loop-addend-test.false c.loop-addend.invariant

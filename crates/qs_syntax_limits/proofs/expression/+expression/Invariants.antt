@@ -1,6 +1,6 @@
 use Rattle.std.proofs.Common.{◌≡◌, ◌∷◌, None, map, take, fold, slice_get}
 use Rattle.qs_syntax_limits.specs.Large as spec
-use Rattle.qs_syntax_limits.specs.inner.Parts.{further, addend, operand}
+use Rattle.qs_syntax_limits.specs.inner.Parts.{first, further, addend, operand}
 use Rattle.qs_syntax_limits.proofs.expression.+expression.Given as goal
 
 abbrev pub invariant-in_expressions-loop-tree : goal.invariant-in_expressions-loop-tree
@@ -12,4 +12,4 @@ invariant-in_operands-loop-operand l =
 
 abbrev pub invariant-in_sum-loop-addend : goal.invariant-in_sum-loop-addend
 invariant-in_sum-loop-addend l =
-    l.found ≡ fold (further (λ x. (addend x).rows)) (spec.first (slice_get (l.fn.start ∷ map (λ x. (addend x).place) l.rest) spec.limit) l.fn.within) (take l.addend-index l.rest)
+    l.found ≡ fold (further (λ x. (addend x).rows)) (first (slice_get (l.fn.start ∷ map (λ x. (addend x).place) l.rest) spec.limit) l.fn.within) (take l.addend-index l.rest)

@@ -4,19 +4,19 @@ use Rattle.qs_syntax_grammar.specs.inner.Grammar.{read}
 use Rattle.qs_syntax_grammar.proofs.Loops.{all_read, goes_on}
 use Rattle.qs_syntax_tree.specs.declared.kind.Kind.TheVariants as k
 use Rattle.qs_syntax_tree.specs.Sparql.{sparql}
-use Rattle.qs_syntax_tree.specs.Table.{grammar}
-use Rattle.qs_syntax_tree.specs.Rules.{prefix_declaration, prologue}
+use Rattle.qs_syntax_tree.specs.inner.Table.{guided}
+use Rattle.qs_syntax_tree.specs.inner.Procedures.{prefix_declaration, prologue}
 use Rattle.qs_syntax_parser.proofs.queries.prologue.Goals as goal
 
 pub loop-turn-init : goal.loop-turn-init
 unfolding prologue prefix_declaration
 loop-turn-init c =
-    all_read sparql (k.Prefix ∷ []) (read grammar c.args.parser.depth prefix_declaration) c.new-found.result _ c.args.tokens.now
+    all_read sparql (k.Prefix ∷ []) (read guided c.args.parser.depth prefix_declaration) c.new-found.result _ c.args.tokens.now
     (omega (arith, c.turns-turn-end.ensures)) c.new-found.ensures
 
 pub loop-turn-preserved : goal.loop-turn-preserved
 loop-turn-preserved c =
     let d = c.args.parser.depth in
-    goes_on sparql push (k.Prefix ∷ []) (read grammar d prefix_declaration) (read grammar d prologue c.args.tokens.now) c.turns-turn-end.result c.loop-turn._turn c.loop-turn.found c.loop-turn.tokens
+    goes_on sparql push (k.Prefix ∷ []) (read guided d prefix_declaration) (read guided d prologue c.args.tokens.now) c.turns-turn-end.result c.loop-turn._turn c.loop-turn.found c.loop-turn.tokens
     c.loop-turn-test.true c.loop-turn.invariant (search rules) c.in_ok-next.next c.prefix_declaration.new.tokens c.push.new.self
     c.in_ok-next.ensures c.in_ok-push.ensures.ok

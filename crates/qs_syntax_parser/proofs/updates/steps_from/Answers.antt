@@ -2,14 +2,14 @@ use Rattle.std.proofs.Common.{rules, arith, ◌≡◌, Ok, Err, ◌∙◌, ap, s
 use Rattle.std.proofs.lemmas.Grind.{common_steps}
 use Rattle.qs_syntax_grammar.specs.declared.fault.Fault.{Fault}
 use Rattle.qs_syntax_grammar.specs.inner.Grammar.{read}
-use Rattle.qs_syntax_tree.specs.Rules.{operation, prologue}
-use Rattle.qs_syntax_tree.specs.Table.{grammar}
+use Rattle.qs_syntax_tree.specs.inner.Procedures.{operation, prologue}
+use Rattle.qs_syntax_tree.specs.inner.Table.{guided}
 use Rattle.qs_syntax_parser.proofs.StepsLoop.{no_operation, no_more, no_prologue, last, deep, goes_on}
 use Rattle.qs_syntax_parser.proofs.updates.steps_from.Goals as goal
 
 pub returns-in_err-operation : goal.returns-in_err-operation
 returns-in_err-operation c =
-    let h = λ (e : Fault) (i : read grammar c.steps.inner.depth operation c.steps.tokens ≡ Err e).
+    let h = λ (e : Fault) (i : read guided c.steps.inner.depth operation c.steps.tokens ≡ Err e).
     no_operation _ c.steps.inner.depth c.steps.found c.steps.prologue c.steps.tokens c.steps.invariant e i in
     first_of (search rules, grind (arith, common_steps))
 
@@ -20,7 +20,7 @@ returns-then-not-peek_is c =
 
 pub returns-in_err-prologue : goal.returns-in_err-prologue
 returns-in_err-prologue c =
-    let h = λ (e : Fault) (i : read grammar c.steps.inner.depth prologue c.expect.new.self ≡ Err e).
+    let h = λ (e : Fault) (i : read guided c.steps.inner.depth prologue c.expect.new.self ≡ Err e).
     no_prologue _ c.steps.inner.depth c.steps.found c.steps.prologue c.steps.tokens c.steps.invariant c.in_ok-operation.field-0 c.operation.new.tokens c.in_ok-operation.ensures
     c.in_ok-expect.field-0 c.expect.new.self (search rules) c.in_ok-expect.ensures e i in
     first_of (search rules, grind (arith, common_steps))

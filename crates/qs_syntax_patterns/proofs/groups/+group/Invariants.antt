@@ -5,8 +5,9 @@ use Rattle.qs_syntax_grammar.specs.Notation.{◌>>◌}
 use Rattle.qs_syntax_grammar.specs.inner.Grammar.{read}
 use Rattle.qs_syntax_tree.specs.declared.kind.Kind.TheVariants as k
 use Rattle.qs_syntax_tree.specs.Sparql.{sparql}
-use Rattle.qs_syntax_tree.specs.Table.{grammar}
-use Rattle.qs_syntax_tree.specs.Rules.{group, group_step, group_steps, more_groups, the}
+use Rattle.qs_syntax_tree.specs.inner.Table.{guided}
+use Rattle.qs_syntax_tree.specs.Rules.{group, the}
+use Rattle.qs_syntax_tree.specs.inner.Procedures.{group_step, group_steps, more_groups}
 use Rattle.qs_syntax_patterns.proofs.groups.+group.Given as goal
 
 abbrev pub decreases-group : goal.decreases-group
@@ -37,7 +38,7 @@ abbrev pub decreases-braced_group : goal.decreases-braced_group
 decreases-braced_group l = 9 * l.parser.depth + 8
 
 abbrev pub invariant-more_groups-loop-turn : goal.invariant-more_groups-loop-turn
-invariant-more_groups-loop-turn l = read grammar l.parser.depth more_groups l.fn.tokens ≡ into push l.found (loop sparql (l._turn-end - l._turn) (k.Union ∷ []) (read grammar l.parser.depth (the k.Union >> group)) l.tokens)
+invariant-more_groups-loop-turn l = read guided l.parser.depth more_groups l.fn.tokens ≡ into push l.found (loop sparql (l._turn-end - l._turn) (k.Union ∷ []) (read guided l.parser.depth (the k.Union >> group)) l.tokens)
 
 abbrev pub invariant-group_steps-loop-turn : goal.invariant-group_steps-loop-turn
-invariant-group_steps-loop-turn l = read grammar l.parser.depth group_steps l.fn.tokens ≡ into ◌++◌ l.found (loop sparql (l._turn-end - l._turn) (k.LeftBrace ∷ k.Optional ∷ k.Minus ∷ k.Graph ∷ k.Filter ∷ k.Bind ∷ k.Values ∷ []) (read grammar l.parser.depth group_step) l.tokens)
+invariant-group_steps-loop-turn l = read guided l.parser.depth group_steps l.fn.tokens ≡ into ◌++◌ l.found (loop sparql (l._turn-end - l._turn) (k.LeftBrace ∷ k.Optional ∷ k.Minus ∷ k.Graph ∷ k.Filter ∷ k.Bind ∷ k.Values ∷ []) (read guided l.parser.depth group_step) l.tokens)

@@ -1,6 +1,6 @@
 -- What is still to be read gives the number that is due.
 use Rattle.std.proofs.Common.{◌≡◌, ◌-◌, ◌^◌, ◌<◌, min, drop}
-use Rattle.qs_syntax_resolve.specs.Names.{decimal}
+use Rattle.qs_syntax_resolve.specs.inner.Names.{decimal}
 use Rattle.qs_syntax_resolve.proofs.number.decimal.Given as goal
 
 abbrev pub invariant-loop-byte : goal.invariant-loop-byte

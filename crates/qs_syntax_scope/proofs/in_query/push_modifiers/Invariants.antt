@@ -1,6 +1,6 @@
 use Rattle.std.proofs.Common.{◌≡◌, ◌++◌, take}
 use Rattle.std.specs.List.{flat_map}
-use Rattle.qs_syntax_scope.specs.VariablesIn.{in_condition}
+use Rattle.qs_syntax_scope.specs.inner.VariablesIn.{in_condition}
 use Rattle.qs_syntax_scope.proofs.in_query.push_modifiers.Given as goal
 
 abbrev pub invariant-loop-condition : goal.invariant-loop-condition

@@ -1,5 +1,5 @@
 use Rattle.std.proofs.Common.{◌≡◌, ◌++◌, take}
-use Rattle.qs_syntax_scope.specs.VariablesIn.{in_blocks}
+use Rattle.qs_syntax_scope.specs.inner.VariablesIn.{in_blocks}
 use Rattle.qs_syntax_scope.proofs.in_update.push_blocks.Given as goal
 
 abbrev pub invariant-loop-block : goal.invariant-loop-block

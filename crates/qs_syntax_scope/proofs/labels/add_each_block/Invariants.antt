@@ -1,6 +1,6 @@
 use Rattle.std.proofs.Common.{◌≡◌, take}
 use Rattle.std.specs.List.{fold, flat_map}
-use Rattle.qs_syntax_scope.specs.Labels.{block_labels}
+use Rattle.qs_syntax_scope.specs.inner.Labels.{block_labels}
 use Rattle.qs_syntax_scope.specs.inner.Met.{add_label}
 use Rattle.qs_syntax_scope.proofs.labels.add_each_block.Given as goal
 

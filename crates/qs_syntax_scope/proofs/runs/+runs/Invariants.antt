@@ -1,6 +1,6 @@
 use Rattle.std.proofs.Common.{◌≡◌, take}
 use Rattle.std.specs.List.{fold}
-use Rattle.qs_syntax_scope.specs.Met.{add_run}
+use Rattle.qs_syntax_scope.specs.inner.Met.{add_run}
 use Rattle.qs_syntax_scope.specs.inner.Runs as inner
 use Rattle.qs_syntax_scope.proofs.runs.+runs.Given as goal
 

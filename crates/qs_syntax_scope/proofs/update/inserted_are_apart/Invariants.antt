@@ -1,6 +1,6 @@
 use Rattle.std.proofs.Common.{◌≡◌, [], map, take}
 use Rattle.std.specs.List.{fold}
-use Rattle.qs_syntax_scope.specs.Met.{after, add_run}
+use Rattle.qs_syntax_scope.specs.inner.Met.{after, add_run}
 use Rattle.qs_syntax_scope.specs.KeepsScope as spec
 use Rattle.qs_syntax_scope.proofs.update.inserted_are_apart.Given as goal
 

@@ -1,6 +1,6 @@
 use Rattle.std.proofs.Common.{◌≡◌, [], take}
 use Rattle.std.specs.List.{fold, flat_map}
-use Rattle.qs_syntax_scope.specs.Met.{after, add_run}
+use Rattle.qs_syntax_scope.specs.inner.Met.{after, add_run}
 use Rattle.qs_syntax_scope.specs.KeepsScope as spec
 use Rattle.qs_syntax_scope.proofs.update.runs_are_apart.Given as goal
 

@@ -1,5 +1,5 @@
 use Rattle.std.proofs.Common.{◌≡◌, ◌++◌, length}
-use Rattle.qs_syntax_tree.specs.Trees.{singles}
+use Rattle.qs_syntax_tree.specs.inner.Trees.{singles}
 use Rattle.qs_syntax_tokens.proofs.trees.singles.Given as goal
 
 abbrev pub invariant-loop-values : goal.invariant-loop-values

@@ -4,9 +4,9 @@ use Rattle.qs_syntax_grammar.specs.inner.Repeated.{into, push}
 use Rattle.qs_syntax_grammar.specs.inner.Grammar.{read}
 use Rattle.qs_syntax_tree.specs.declared.kind.Kind.TheVariants as k
 use Rattle.qs_syntax_tree.specs.Sparql.{sparql}
-use Rattle.qs_syntax_tree.specs.Table.{grammar}
-use Rattle.qs_syntax_tree.specs.Rules.{data_row, data_rows}
+use Rattle.qs_syntax_tree.specs.inner.Table.{guided}
+use Rattle.qs_syntax_tree.specs.inner.Procedures.{data_row, data_rows}
 use Rattle.qs_syntax_triples.proofs.data.data_rows.Given as goal
 
 abbrev pub invariant-loop-turn : goal.invariant-loop-turn
-invariant-loop-turn l = read grammar l.parser.depth data_rows l.fn.tokens ≡ into push l.found (loop sparql (l._turn-end - l._turn) (k.LeftParen ∷ []) (read grammar l.parser.depth data_row) l.tokens)
+invariant-loop-turn l = read guided l.parser.depth data_rows l.fn.tokens ≡ into push l.found (loop sparql (l._turn-end - l._turn) (k.LeftParen ∷ []) (read guided l.parser.depth data_row) l.tokens)

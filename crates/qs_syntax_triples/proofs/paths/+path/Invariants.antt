@@ -6,9 +6,10 @@ use Rattle.qs_syntax_grammar.specs.Notation.{◌>>◌, ◌<$>◌}
 use Rattle.qs_syntax_grammar.specs.inner.Grammar.{read}
 use Rattle.qs_syntax_tree.specs.declared.kind.Kind.TheVariants as k
 use Rattle.qs_syntax_tree.specs.Sparql.{sparql}
-use Rattle.qs_syntax_tree.specs.Table.{grammar}
+use Rattle.qs_syntax_tree.specs.inner.Table.{guided}
 use Rattle.qs_syntax_tree.specs.Trees.{path_operand}
-use Rattle.qs_syntax_tree.specs.Rules.{more_elements, more_sequences, path_element, path_sequence, the}
+use Rattle.qs_syntax_tree.specs.Rules.{the}
+use Rattle.qs_syntax_tree.specs.inner.Procedures.{more_elements, more_sequences, path_element, path_sequence}
 use Rattle.qs_syntax_triples.proofs.paths.+path.Given as goal
 
 abbrev pub decreases-path : goal.decreases-path
@@ -33,7 +34,7 @@ abbrev pub decreases-alternatives : goal.decreases-alternatives
 decreases-alternatives l = 7 * l.parser.depth + 6
 
 abbrev pub invariant-more_elements-loop-turn : goal.invariant-more_elements-loop-turn
-invariant-more_elements-loop-turn l = read grammar l.parser.depth more_elements l.fn.tokens ≡ into push l.found (loop sparql (l._turn-end - l._turn) (k.Slash ∷ []) (read grammar l.parser.depth (the k.Slash >> (path_operand <$> placed path_element))) l.tokens)
+invariant-more_elements-loop-turn l = read guided l.parser.depth more_elements l.fn.tokens ≡ into push l.found (loop sparql (l._turn-end - l._turn) (k.Slash ∷ []) (read guided l.parser.depth (the k.Slash >> (path_operand <$> placed path_element))) l.tokens)
 
 abbrev pub invariant-more_sequences-loop-turn : goal.invariant-more_sequences-loop-turn
-invariant-more_sequences-loop-turn l = read grammar l.parser.depth more_sequences l.fn.tokens ≡ into push l.found (loop sparql (l._turn-end - l._turn) (k.Bar ∷ []) (read grammar l.parser.depth (the k.Bar >> (path_operand <$> placed path_sequence))) l.tokens)
+invariant-more_sequences-loop-turn l = read guided l.parser.depth more_sequences l.fn.tokens ≡ into push l.found (loop sparql (l._turn-end - l._turn) (k.Bar ∷ []) (read guided l.parser.depth (the k.Bar >> (path_operand <$> placed path_sequence))) l.tokens)

@@ -5,8 +5,9 @@ use Rattle.qs_syntax_grammar.specs.Notation.{◌>>◌}
 use Rattle.qs_syntax_grammar.specs.inner.Grammar.{read}
 use Rattle.qs_syntax_tree.specs.declared.kind.Kind.TheVariants as k
 use Rattle.qs_syntax_tree.specs.Sparql.{sparql}
-use Rattle.qs_syntax_tree.specs.Table.{grammar}
-use Rattle.qs_syntax_tree.specs.Rules.{more_objects, more_properties, next_property, object, the}
+use Rattle.qs_syntax_tree.specs.inner.Table.{guided}
+use Rattle.qs_syntax_tree.specs.Rules.{object, the}
+use Rattle.qs_syntax_tree.specs.inner.Procedures.{more_objects, more_properties, next_property}
 use Rattle.qs_syntax_triples.proofs.triples.+properties.Given as goal
 
 abbrev pub decreases-properties : goal.decreases-properties
@@ -34,7 +35,7 @@ abbrev pub decreases-property_list : goal.decreases-property_list
 decreases-property_list l = 8 * l.parser.depth + 7
 
 abbrev pub invariant-more_objects-loop-turn : goal.invariant-more_objects-loop-turn
-invariant-more_objects-loop-turn l = read grammar l.parser.depth (more_objects l.form) l.fn.tokens ≡ into push l.found (loop sparql (l._turn-end - l._turn) (k.Comma ∷ []) (read grammar l.parser.depth (the k.Comma >> object l.form)) l.tokens)
+invariant-more_objects-loop-turn l = read guided l.parser.depth (more_objects l.form) l.fn.tokens ≡ into push l.found (loop sparql (l._turn-end - l._turn) (k.Comma ∷ []) (read guided l.parser.depth (the k.Comma >> object l.form)) l.tokens)
 
 abbrev pub invariant-more_properties-loop-turn : goal.invariant-more_properties-loop-turn
-invariant-more_properties-loop-turn l = read grammar l.parser.depth (more_properties l.form) l.fn.tokens ≡ into keep l.found (loop sparql (l._turn-end - l._turn) (k.Semicolon ∷ []) (read grammar l.parser.depth (next_property l.form)) l.tokens)
+invariant-more_properties-loop-turn l = read guided l.parser.depth (more_properties l.form) l.fn.tokens ≡ into keep l.found (loop sparql (l._turn-end - l._turn) (k.Semicolon ∷ []) (read guided l.parser.depth (next_property l.form)) l.tokens)

@@ -3,15 +3,15 @@ use Rattle.std.proofs.lemmas.Grind.{common_steps}
 use Rattle.qs_syntax_grammar.specs.declared.fault.Fault.{Fault}
 use Rattle.qs_syntax_grammar.specs.inner.Grammar.{read, read_at}
 use Rattle.qs_syntax_tree.specs.Sparql.{triples}
-use Rattle.qs_syntax_tree.specs.Rules.{same_subject}
-use Rattle.qs_syntax_tree.specs.Table.{grammar}
+use Rattle.qs_syntax_tree.specs.inner.Procedures.{same_subject}
+use Rattle.qs_syntax_tree.specs.inner.Table.{guided}
 use Rattle.qs_syntax_triples.proofs.TriplesLoop.{fault, no_dot, last_dot, goes_on}
 use Rattle.qs_syntax_triples.proofs.triples.triples.Goals as goal
 
 pub returns-in_err-next : goal.returns-in_err-next
 returns-in_err-next c =
-    let h = λ (e : Fault) (g : read grammar c.deeper-inner.result.depth (same_subject c.args.form) c.loop-inner.tokens ≡ Err e).
-    fault c.args.form (read_at grammar c.args.parser.depth (triples c.args.form) c.args.tokens.now) c.loop-inner.inner.depth c.deeper-inner.result.depth c.loop-inner.found c.loop-inner.tokens
+    let h = λ (e : Fault) (g : read guided c.deeper-inner.result.depth (same_subject c.args.form) c.loop-inner.tokens ≡ Err e).
+    fault c.args.form (read_at guided c.args.parser.depth (triples c.args.form) c.args.tokens.now) c.loop-inner.inner.depth c.deeper-inner.result.depth c.loop-inner.found c.loop-inner.tokens
     (omega arith) (c.deeper-inner.ensures) c.loop-inner.invariant e g in
     first_of (search rules, grind (arith, common_steps))
 

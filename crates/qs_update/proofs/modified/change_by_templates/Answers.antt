@@ -1,7 +1,8 @@
 use Rattle.std.proofs.Common.{◌≡◌, ◌≤◌, ◌∙◌, Ok, ap, length, map, refl, subst, sym}
 use Rattle.std.proofs.lemmas.List.{length-map}
 use Rattle.qs_expr.specs.inner.Cell.{row_solution}
-use Rattle.qs_query_template.specs.Instances.{instances, next_after, within}
+use Rattle.qs_query_template.specs.Instances.{instances, next_after}
+use Rattle.qs_query_template.specs.inner.Instances.{within}
 use Rattle.qs_store.specs.Change.{IsChanged, with_terms_of}
 use Rattle.qs_update.specs.Request.{IsCarriedOut}
 use Rattle.qs_update.proofs.Turns.{applied, known_in_turn}

@@ -1,7 +1,8 @@
 use Rattle.std.proofs.Common.{◌++◌, ◌∙◌, length, map, take, ap, sym, subst}
 use Rattle.std.proofs.lemmas.Result.{err_from_is_err_and}
 use Rattle.qs_expr.specs.inner.Cell.{row_solution, FitsRow}
-use Rattle.qs_query_template.specs.Instances.{instances, instances_under}
+use Rattle.qs_query_template.specs.Instances.{instances}
+use Rattle.qs_query_template.specs.inner.Instances.{instances_under}
 use Rattle.qs_store.specs.Change.{with_terms_of}
 use Rattle.qs_store.specs.inner.Change.{IsFullAt}
 use Rattle.qs_store.proofs.Terms.{front_trans}

@@ -4,7 +4,8 @@ use Rattle.qs_service_replay.specs.Script.{IsScript}
 use Rattle.qs_service_replay.specs.inner.Script.{IsScriptFault}
 use Rattle.qs_service_replay.specs.declared.script.ScriptFault.{ScriptFault}
 use Rattle.qs_service_replay.specs.declared.script_event.ScriptEvent.{ScriptEvent}
-use Rattle.quads.specs.Due.{line, script_line, IsDueOfEvents}
+use Rattle.quads.specs.Due.{line, IsDueOfEvents}
+use Rattle.quads.specs.inner.Outcomes.{script_line}
 use Rattle.quads.specs.inner.Replay.{IsBegunOfEvents, IsScriptDue, IsScriptBegun}
 use Rattle.quads.proofs.Replays.{refused, runs_on, script_due, script_begun, no_script, no_memory, begun_of_due, memory_line}
 use Rattle.quads.proofs.replay.run_script.Goals as goal

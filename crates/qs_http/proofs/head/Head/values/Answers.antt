@@ -1,6 +1,6 @@
 use Rattle.std.proofs.Common.{arith, refl, map, take}
 use Rattle.httparse.specs.Spans.{header_bytes}
-use Rattle.qs_http.specs.Head.{values_in}
+use Rattle.qs_http.specs.inner.HeadView.{values_in}
 use Rattle.qs_http.specs.inner.HeadView.{AreValues}
 use Rattle.qs_http.proofs.Values.{values_yes, values_no}
 use Rattle.qs_http.proofs.head.Head.values.Goals.{then-is_same_word, else-is_same_word}

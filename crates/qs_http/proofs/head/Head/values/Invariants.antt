@@ -1,6 +1,7 @@
 use Rattle.std.proofs.Common.{◌≡◌, ◌≤◌, length, map, take}
 use Rattle.httparse.specs.Spans.{header_bytes}
-use Rattle.qs_http.specs.Head.{values_in, first_of}
+use Rattle.qs_http.specs.Head.{first_of}
+use Rattle.qs_http.specs.inner.HeadView.{values_in}
 use Rattle.qs_http.proofs.head.Head.values.Given as goal
 
 abbrev pub invariant-loop-field : goal.invariant-loop-field

@@ -1,6 +1,7 @@
-use Rattle.std.proofs.Common.{◌≡◌, ◌≤◌, ◌∙◌, ◌-◌, ◌++◌, ap, sym, ℕ, List, length, take, drop, length-drop, arith}
+use Rattle.std.proofs.Common.{◌≡◌, ◌≤◌, ◌∙◌, ◌-◌, ◌++◌, ap, ℕ, List, length, take, drop, length-drop, arith}
 use Rattle.std.proofs.lemmas.List.{take_all, take-append-le}
-use Rattle.qs_http.specs.Reply.{head_of, reply_of}
+use Rattle.qs_http.specs.inner.Reply.{head_of}
+use Rattle.qs_http.proofs.Parts.{head_and_body}
 use Rattle.qs_http.proofs.reply_buffer.ReplyBuffer.new.Goals as goal
 
 -- a slice that was lent comes back with as many bytes
@@ -10,7 +11,6 @@ lent len new rest is =
     take-append-le len new rest within ∙ take_all len new (omega arith)
 
 pub returns : goal.returns
-unfolding reply_of
 returns c =
     let items = c.args.buffer.items in
     let new = c.put_before.new.buffer in
@@ -22,3 +22,4 @@ returns c =
     ∙ c.put_before.ensures
     ∙ ap (λ (l : List ℕ). head ++ drop 160 l) c.as_mut_slice.ensures.value
     ∙ ap (λ (l : List ℕ). l ++ drop 160 items) (c.as_slice.ensures.value ∙ c.in_ok-head.ensures.head ∙ ap (head_of c.args.status c.args.media) size)
+    ∙ head_and_body c.args.status c.args.media (drop 160 items)

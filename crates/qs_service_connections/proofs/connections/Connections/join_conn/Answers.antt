@@ -1,4 +1,5 @@
 use Rattle.std.proofs.Common.{arith, ap, subst, ◌∙◌, refl, List, [], ◌∷◌, ◌++◌}
+use Rattle.std.specs.Option.{is_some}
 use Rattle.qs_service_connections.specs.State.{Joined, Reading}
 use Rattle.qs_service_connections.specs.inner.Table.{IsPlace}
 use Rattle.qs_service_connections.proofs.connections.Connections.join_conn.Goals as goal
@@ -6,7 +7,7 @@ use Rattle.qs_service_connections.proofs.connections.Connections.join_conn.Goals
 pub returns-then-place_of-len : goal.returns-then-place_of-len
 returns-then-place_of-len g c =
     let p = subst (λ (l : List Joined). IsPlace c.args.id l c.place_of.result) c.deref.ensures.value c.place_of.ensures in
-    rw (← c.self.view_is) record { step = ((_, p.there (record { id = 0; exchange = Reading [] }) (omega arith)), refl) }
+    rw (← c.self.view_is) record { step = (ap is_some (p.there (record { id = 0; exchange = Reading [] }) (omega arith)), refl) }
 
 pub returns-then-len-ge-MOST : goal.returns-then-len-ge-MOST
 returns-then-len-ge-MOST g c =

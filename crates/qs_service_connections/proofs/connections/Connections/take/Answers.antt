@@ -1,10 +1,12 @@
 use Rattle.std.proofs.Common.{◌≡◌, ◌-◌, ℕ, arith, sym, ap, subst, ◌∙◌, refl, List, take, drop, Option, Some}
 use Rattle.std.proofs.lemmas.Grind.{get_or-set_at}
-use Rattle.qs_service_connections.specs.State.{Joined, Exchange, Reading, Answered, put_exchange}
+use Rattle.qs_service_connections.specs.State.{Joined, Exchange, Reading, Answered}
+use Rattle.qs_service_connections.specs.inner.State.{put_exchange}
 use Rattle.qs_service_connections.specs.State.{with_taken}
-use Rattle.qs_service_connections.specs.Step.{joined_taken}
+use Rattle.qs_service_connections.specs.inner.State.{joined_taken}
 use Rattle.qs_service_connections.specs.inner.Table.{IsPlace}
 use Rattle.qs_service_connections.specs.inner.Receive.{bytes_in}
+use Rattle.qs_service_connections.proofs.Places.{taken_is}
 use Rattle.qs_service_connections.proofs.connections.Connections.take.Goals as goal
 
 pub returns-then-place-len : goal.returns-then-place-len
@@ -16,7 +18,8 @@ returns-then-place-len g c =
         refl,
         λ _. tt,
         ap (λ (o : Option Exchange). record { stored = c.self.inside.meaning; joined = joined_taken c.args.id c.args.n o c.self.inside.connections.items })
-            (sym absent),
+            (sym absent)
+            ∙ ap (λ (l : List Joined). record { stored = c.self.inside.meaning; joined = l }) (taken_is c.args.id c.args.n c.self.inside.connections.items),
       ),
       record { bytes = absent; counts = tt },
     )
@@ -42,7 +45,8 @@ returns g c =
         refl,
         λ _. tt,
         ap (λ (l : List Joined). record { stored = c.self.inside.meaning; joined = l })
-            (put ∙ ap (λ (l : Exchange). put_exchange c.args.id l cs) new_exchange ∙ ap (λ (o : Option Exchange). joined_taken c.args.id c.args.n o cs) (sym exchange_is)),
+            (put ∙ ap (λ (l : Exchange). put_exchange c.args.id l cs) new_exchange ∙ ap (λ (o : Option Exchange). joined_taken c.args.id c.args.n o cs) (sym exchange_is)
+            ∙ taken_is c.args.id c.args.n cs),
       ),
       record {
         bytes = (e.exchange, exchange_is, ap (λ (l : List ℕ). take (r.1 - r.0) (drop r.0 l)) bytes_are ∙ sym c.count-from.ensures.bytes.is);

@@ -1,6 +1,6 @@
 use Rattle.std.proofs.Common.{◌≤◌, IsTrue, take, ap, arith, sym, subst, ◌∙◌}
 use Rattle.std.specs.Option.{option_copied}
-use Rattle.qs_terms.specs.Dataset.{is_graph_below}
+use Rattle.qs_terms.specs.inner.Dataset.{is_graph_below}
 use Rattle.qs_store.specs.Change.{IsChanged}
 use Rattle.qs_store.specs.inner.Entries.{said}
 use Rattle.qs_store.specs.inner.Store.{IsStore}

@@ -4,9 +4,9 @@ use Rattle.qs_syntax_grammar.specs.inner.Repeated.{into, push}
 use Rattle.qs_syntax_grammar.specs.inner.Grammar.{read}
 use Rattle.qs_syntax_tree.specs.declared.kind.Kind.TheVariants as k
 use Rattle.qs_syntax_tree.specs.Sparql.{sparql}
-use Rattle.qs_syntax_tree.specs.Table.{grammar}
-use Rattle.qs_syntax_tree.specs.Rules.{addend, addends}
+use Rattle.qs_syntax_tree.specs.inner.Table.{guided}
+use Rattle.qs_syntax_tree.specs.inner.Procedures.{addend, addends}
 use Rattle.qs_syntax_expressions.proofs.operators.Operators.addends.Given as goal
 
 abbrev pub invariant-loop-turn : goal.invariant-loop-turn
-invariant-loop-turn g l = read grammar l.self.parser.depth addends l.fn.tokens ≡ into push l.found (loop sparql (l._turn-end - l._turn) (k.Plus ∷ k.Hyphen ∷ k.Signed ∷ []) (read grammar l.self.parser.depth addend) l.tokens)
+invariant-loop-turn g l = read guided l.self.parser.depth addends l.fn.tokens ≡ into push l.found (loop sparql (l._turn-end - l._turn) (k.Plus ∷ k.Hyphen ∷ k.Signed ∷ []) (read guided l.self.parser.depth addend) l.tokens)

@@ -5,9 +5,10 @@ use Rattle.qs_syntax_grammar.specs.Notation.{◌>>◌}
 use Rattle.qs_syntax_grammar.specs.inner.Grammar.{read}
 use Rattle.qs_syntax_tree.specs.declared.kind.Kind.TheVariants as k
 use Rattle.qs_syntax_tree.specs.Sparql.{sparql}
-use Rattle.qs_syntax_tree.specs.Table.{grammar}
-use Rattle.qs_syntax_tree.specs.Rules.{more_factors, operand, the, unary}
+use Rattle.qs_syntax_tree.specs.inner.Table.{guided}
+use Rattle.qs_syntax_tree.specs.Rules.{operand, the}
+use Rattle.qs_syntax_tree.specs.inner.Procedures.{more_factors, unary}
 use Rattle.qs_syntax_expressions.proofs.operators.Operators.more_factors.Given as goal
 
 abbrev pub invariant-loop-turn : goal.invariant-loop-turn
-invariant-loop-turn g l = read grammar l.self.parser.depth more_factors l.fn.tokens ≡ into push l.found (loop sparql (l._turn-end - l._turn) (k.Star ∷ []) (read grammar l.self.parser.depth (the k.Star >> operand unary)) l.tokens)
+invariant-loop-turn g l = read guided l.self.parser.depth more_factors l.fn.tokens ≡ into push l.found (loop sparql (l._turn-end - l._turn) (k.Star ∷ []) (read guided l.self.parser.depth (the k.Star >> operand unary)) l.tokens)

@@ -1,5 +1,6 @@
 use Rattle.std.proofs.Common.{◌≡◌, map, drop}
-use Rattle.qs_syntax_resolve.specs.Pattern.{each_element, group_of}
+use Rattle.qs_syntax_resolve.specs.Pattern.{group_of}
+use Rattle.qs_syntax_resolve.specs.inner.Pattern.{each_element}
 use Rattle.qs_syntax_resolve.specs.inner.Pattern.{element_of, elements, groups}
 use Rattle.qs_syntax_resolve.specs.Resolving.{all_behind}
 use Rattle.qs_syntax_resolve.proofs.resolver.Resolver.+group.Given as goal

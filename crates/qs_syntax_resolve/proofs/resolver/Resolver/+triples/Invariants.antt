@@ -1,5 +1,7 @@
 use Rattle.std.proofs.Common.{◌≡◌, map, drop}
-use Rattle.qs_syntax_resolve.specs.Triples.{each_object, each_property, property_of, properties}
+use Rattle.qs_syntax_resolve.specs.Triples.{property_of, properties}
+use Rattle.qs_syntax_resolve.specs.inner.Triples.{each_property}
+use Rattle.qs_syntax_resolve.specs.inner.Triples.{each_object}
 use Rattle.qs_syntax_resolve.specs.inner.Triples.{object_of, objects}
 use Rattle.qs_syntax_resolve.proofs.resolver.Resolver.+triples.Given as goal
 

@@ -1,6 +1,6 @@
 use Rattle.std.proofs.Common.{◌≡◌, map, length}
 use Rattle.std.specs.Prelude.{reverse}
-use Rattle.qs_syntax_resolve.specs.Update.{block_of}
+use Rattle.qs_syntax_resolve.specs.inner.Update.{block_of}
 use Rattle.qs_syntax_resolve.specs.Resolving.{all, all_behind}
 use Rattle.qs_syntax_resolve.proofs.resolver.Resolver.quads.Given as goal
 

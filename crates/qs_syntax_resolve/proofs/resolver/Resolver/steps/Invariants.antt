@@ -1,6 +1,6 @@
 use Rattle.std.proofs.Common.{◌≡◌, length}
 use Rattle.std.specs.Prelude.{reverse}
-use Rattle.qs_syntax_resolve.specs.Update.{steps}
+use Rattle.qs_syntax_resolve.specs.inner.Update.{steps}
 use Rattle.qs_syntax_resolve.proofs.resolver.Resolver.steps.Given as goal
 
 abbrev pub invariant-loop-step : goal.invariant-loop-step
