@@ -16,7 +16,7 @@ use qs_syntax::{drop_query, drop_update, parse_query, parse_update};
 use qs_syntax_ast::query::Query;
 use qs_syntax_ast::term::Variable;
 use qs_syntax_ast::update::{Modify, Operation, QuadBlock, Update};
-use qs_syntax_scope::operation_variables;
+use qs_syntax_scope::first_variables;
 use qs_terms::{Iri, QFault, Term, Text};
 use std::alloc::{AllocError, Global};
 
@@ -180,12 +180,18 @@ fn put_operation<V: View>(
 {
     put_operation_line(number, operation, text)?;
     match operation {
-        Operation::DeleteWhere(blocks) => {
-            let variables = operation_variables(alloc, operation)?;
-            put_blocks(alloc, variables.as_slice(), blocks.as_slice(), view, text)
+        Operation::DeleteWhere(delete) => {
+            let variables = first_variables(alloc, delete.variables.as_slice())?;
+            put_blocks(
+                alloc,
+                variables.as_slice(),
+                delete.quads.as_slice(),
+                view,
+                text,
+            )
         }
         Operation::Modify(modify) => {
-            let variables = operation_variables(alloc, operation)?;
+            let variables = first_variables(alloc, modify.variables.as_slice())?;
             put_modify(alloc, variables.as_slice(), modify, view, text)
         }
         _ => Ok(()),

@@ -3,9 +3,5 @@ pub mod Remembers
 pub mod SomeOutcome
 pub mod NoTokens
 pub mod Granted
-pub mod Listed
-pub mod SettledListed
 pub mod Places
 pub mod Nothing
-pub mod Within
-pub mod Named

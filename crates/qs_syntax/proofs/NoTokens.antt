@@ -53,7 +53,7 @@ spelt : Spells grammar rules.update [] no_operation
 spelt = rw (grammar_same, update_same) (found_spelt sparql lawful guided passes_each 2 examples _ procedures.update update_starts 0 [] no_operation operations_none)
 
 pub update_without_tokens : (text : List ℕ) (tokens : List Token) (update : Update) → AreTokensOf text tokens → length tokens ≡ 0
-    → update_outcome text [] no_operation ≡ Ok update → IsUpdateOutcome text (Ok update)
+    → update_outcome text no_operation ≡ Ok update → IsUpdateOutcome text (Ok update)
 update_without_tokens text tokens update a z e =
     let none : tokens ≡ [] = nil_from_length tokens z in
     let b : AreTokensOf text [] = subst (AreTokensOf text) none a in

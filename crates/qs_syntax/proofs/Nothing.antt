@@ -6,8 +6,7 @@ use Rattle.qs_syntax_limits.specs.Large as large
 use Rattle.qs_syntax_resolve.specs.Resolved.{resolved_update}
 use Rattle.qs_syntax_resolve.specs.Update.{update, step}
 use Rattle.qs_syntax_scope.specs.KeepsScope.{update_keeps_scope}
-use Rattle.qs_syntax_scope.specs.VariablesIn.{update_variables}
 
-pub nothing : (text : List ℕ) → update_outcome text [] no_operation ≡ Ok (record { operations = []; variables = [] })
-unfolding update_outcome resolved_update update step update_keeps_scope update_variables large.update large.excess
+pub nothing : (text : List ℕ) → update_outcome text no_operation ≡ Ok (record { operations = [] })
+unfolding update_outcome resolved_update update step update_keeps_scope large.update large.excess
 nothing text = refl

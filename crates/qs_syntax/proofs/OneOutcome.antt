@@ -51,7 +51,7 @@ module _ {A : Type 0} (start : Rule A) where
       → ((text : List ℕ) (ts us : List Lexeme) → Lexes text ts → Lexes text us → ts ≡ us)
       → ((text : List ℕ) (ts : List Lexeme) (place : ℕ) → Lexes text ts → StopsAt text place → ⊥)
       → ((text : List ℕ) (place other : ℕ) → StopsAt text place → StopsAt text other → place ≡ other)
-      → (settle : List ℕ → List Token → A → Outcome B) (text : List ℕ) (a b : Outcome B)
+      → (settle : List ℕ → A → Outcome B) (text : List ℕ) (a b : Outcome B)
       → IsParsed start (settle text) text a → IsParsed start (settle text) text b → a ≡ b
   one_outcome unambiguous lists apart places settle text a b (inl h) (inl k) =
       h.2 ∙ ap (λ p. Err (fault.Syntax p)) (places text h.0 k.0 h.1 k.1) ∙ sym k.2
@@ -59,5 +59,5 @@ module _ {A : Type 0} (start : Rule A) where
   one_outcome unambiguous lists apart places settle text a b (inr h) (inl k) = absurd (apart text h.1.0 k.0 h.1.1 k.1)
   one_outcome unambiguous lists apart places settle text a b (inr h) (inr k) =
       let same : k.0 ≡ h.0 = k.1.2 ∙ ap (map token_of) (lists text k.1.0 h.1.0 k.1.1 h.1.1) ∙ sym h.1.2 in
-      after_screen unambiguous text h.0 (settle text h.0) (screened text h.0) a b h.2
-      (subst (λ ts. AfterScreen start (settle text ts) text ts (screened text ts) b) same k.2)
+      after_screen unambiguous text h.0 (settle text) (screened text h.0) a b h.2
+      (subst (λ ts. AfterScreen start (settle text) text ts (screened text ts) b) same k.2)

@@ -53,11 +53,11 @@ module _ {A : Type 0} (start : Rule A) (begin : is_start guided start ≡ true) 
     after_screen (Ok done) = after_tree (tree_or_place (length text) tokens)
 
   pub some_outcome : {B : Type 0} (lexed : (text : List ℕ) → IsUtf8 text → ((ts : List Lexeme) × Lexes text ts) ⊎ ((place : ℕ) × StopsAt text place))
-      (settle : List ℕ → List Token → A → Outcome B) (text : List ℕ) → IsUtf8 text → (outcome : Outcome B) × IsParsed start (settle text) text outcome
+      (settle : List ℕ → A → Outcome B) (text : List ℕ) → IsUtf8 text → (outcome : Outcome B) × IsParsed start (settle text) text outcome
   some_outcome lexed settle text u = elim (lexed text u) [
     | inl l ↦
         (let tokens : List Token = map token_of l.0 in
-        let r = after_screen text tokens (settle text tokens) (screened text tokens) in
+        let r = after_screen text tokens (settle text) (screened text tokens) in
         (r.0, inr (tokens, (l.0, l.1, refl), r.1)))
     | inr s ↦ (Err (fault.Syntax s.0), inl (s.0, s.1, refl))
   ]

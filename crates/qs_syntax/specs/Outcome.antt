@@ -9,16 +9,13 @@
 -- A text has one outcome at most (`laws::one_outcome`); in UTF-8, as all texts of the program are,
 -- it has one (`laws::some_outcome`). The first step takes the steps after it as a parameter, since
 -- a definition can't be used above its place.
-use Rattle.std.specs.Prelude.{◌≡◌, ◌⊎◌, ℕ, Bool, true, false, nat_lt, List, length, map}
+use Rattle.std.specs.Prelude.{◌≡◌, ◌⊎◌, ℕ, Bool, nat_lt, List, length}
 use Rattle.std.specs.Prelude.{Option, Some, None, ok_or, Ok, Err, if◌then◌else◌}
-use Rattle.std.specs.List.{filter}
 use Rattle.qs_syntax_grammar.specs.Grammar.{Spells}
 use Rattle.qs_lex.specs.Lexes.{StopsAt}
 use Rattle.qs_terms.specs.Outcome.{Outcome, and_then}
 use Rattle.qs_terms.specs.declared.fault.QFault.{QFault}
 use Rattle.qs_terms.specs.declared.fault.QFault.TheVariants as fault
-use Rattle.qs_syntax_tree.specs.declared.kind.Kind.{Kind}
-use Rattle.qs_syntax_tree.specs.declared.kind.Kind.TheVariants as kind
 use Rattle.qs_syntax_tree.specs.declared.query.Query.{Query as WrittenQuery}
 use Rattle.qs_syntax_tree.specs.declared.token.Token.{Token}
 use Rattle.qs_syntax_tree.specs.declared.update.Update.{Update as WrittenUpdate}
@@ -26,15 +23,13 @@ use Rattle.qs_syntax_tree.specs.Rules as rules
 use Rattle.qs_syntax_tree.specs.Sparql.{Rule}
 use Rattle.qs_syntax_tree.specs.Table.{grammar}
 use Rattle.qs_syntax_ast.specs.declared.query.Query.{Query}
-use Rattle.qs_syntax_ast.specs.declared.term.Variable.{Variable}
 use Rattle.qs_syntax_ast.specs.declared.update.Update.{Update}
 use Rattle.qs_syntax_limits.specs.Brackets.{brackets}
 use Rattle.qs_syntax_limits.specs.Large as large
 use Rattle.qs_syntax_limits.specs.LeftOut.{left_out}
-use Rattle.qs_syntax_resolve.specs.Names.{variable, nothing_declared}
 use Rattle.qs_syntax_resolve.specs.Resolved.{resolved_query, resolved_update}
+use Rattle.qs_syntax_scope.specs.Firsts.{firsts}
 use Rattle.qs_syntax_scope.specs.KeepsScope.{query_keeps_scope, update_keeps_scope}
-use Rattle.qs_syntax_scope.specs.VariablesIn.{query_variables, update_variables}
 use Rattle.qs_syntax.specs.Text.{AreTokensOf, IsBlamed}
 
 -- ---- 1. no token begins at a place of the text; or its tokens decide
@@ -86,36 +81,24 @@ by_place (Err f) place = Err (earlier f place)
 abbrev pub in_scope : {A : Type 0} → (A → Bool) → A → Outcome A
 in_scope keeps a = if keeps a then Ok a else Err fault.Scope
 
--- ---- the variables of the text (16.1), as often as they stand in it
+-- ---- 4 and 5 of a tree. Last, the variables of a query are listed once each, in the order in
+-- which they first appear (16.1); those of an update's operations stay as the resolver noted them.
 
-abbrev pub is_variable : Kind → Bool
-is_variable kind.Var = true
-is_variable other = false
+unfoldable pub query_outcome : List ℕ → WrittenQuery → Outcome Query
+query_outcome text q =
+    and_then
+    (and_then (by_place (resolved_query text q) (large.query q)) (in_scope query_keeps_scope))
+    (λ kept. Ok (record kept { variables = firsts kept.variables }))
 
-abbrev pub variables_of : List ℕ → List Token → List Variable
-variables_of text tokens = map (λ t. record { name = variable (nothing_declared text) t.span })
-    (filter (λ t. is_variable t.kind) tokens)
-
--- ---- 4 and 5 of a tree: last, those variables and then those of the tree are listed, each once
-
-unfoldable pub query_outcome : List ℕ → List Token → WrittenQuery → Outcome Query
-query_outcome text tokens q =
-    and_then (and_then (by_place (resolved_query text (variables_of text tokens) q) (large.query q))
-    (in_scope query_keeps_scope))
-    (λ kept. Ok (record kept { variables = query_variables kept }))
-
-unfoldable pub update_outcome : List ℕ → List Token → WrittenUpdate → Outcome Update
-update_outcome text tokens u = and_then
-    (and_then (by_place (resolved_update text (variables_of text tokens) u) (large.update u))
-    (in_scope update_keeps_scope))
-    (λ kept. Ok (record kept { variables = update_variables kept }))
+unfoldable pub update_outcome : List ℕ → WrittenUpdate → Outcome Update
+update_outcome text u =
+    and_then (by_place (resolved_update text u) (large.update u)) (in_scope update_keeps_scope)
 
 -- ---- the whole
 
-abbrev pub IsParsed : {A B : Type 0} → Rule A → (List Token → A → Outcome B) → List ℕ → Outcome B
-    → Type 0
-IsParsed start settle text outcome = ByTokens
-    (λ tokens. AfterScreen start (settle tokens) text tokens (screened text tokens)) text outcome
+abbrev pub IsParsed : {A B : Type 0} → Rule A → (A → Outcome B) → List ℕ → Outcome B → Type 0
+IsParsed start settle text outcome =
+    ByTokens (λ tokens. AfterScreen start settle text tokens (screened text tokens)) text outcome
 
 abbrev pub IsQueryOutcome : List ℕ → Outcome Query → Type 0
 IsQueryOutcome text outcome = IsParsed rules.query (query_outcome text) text outcome

@@ -5,8 +5,6 @@ ghost use Rattle.std.specs.List.{AllByRecursion};
 ghost use Rattle.std.specs.Str.{IsUtf8};
 ghost use Rattle.qs_syntax_ast.specs.declared.query.Query.{Query};
 ghost use Rattle.qs_syntax_ast.specs.declared.update.Update.{Update};
-ghost use Rattle.qs_syntax_scope.specs.inner.Laws.{AreListed};
-ghost use Rattle.qs_syntax_scope.specs.inner.VariablesIn.{in_query, in_update};
 ghost use Rattle.qs_lex_escapes.specs.Piece.{piece};
 ghost use Rattle.qs_lex.specs.inner.Fault.{HasToken};
 ghost use Rattle.qs_lex.specs.Lexes.{Lexeme, Lexes};
@@ -19,7 +17,6 @@ ghost use Rattle.qs_syntax.specs.Outcome.{IsQueryOutcome, IsUpdateOutcome};
 ghost use Rattle.qs_syntax.specs.Text.{AreTokensOf};
 
 use qs_lex::laws::{one_token_list, some_token_list, tokens_are_sound};
-use qs_syntax_scope::laws::all_variables_are_listed;
 use qs_syntax_tree::laws::one_tree;
 
 /// A text results in one thing at most: one query, or one fault; and so does it as an update.
@@ -63,14 +60,4 @@ pub fn empty_text_is_no_query()
     ensures no_token { HasToken [] → ⊥ }
 {
     one_token_list();
-}
-
-/// Each variable that stands anywhere in the query of a text is among the variables that the query lists; and so in an update.
-pub fn variables_are_listed()
-    ensures of_query { (text : List ℕ) (query : Query) → IsQueryOutcome text (Ok query)
-        → AreListed query.variables (in_query query) }
-    ensures of_update { (text : List ℕ) (update : Update) → IsUpdateOutcome text (Ok update)
-        → AreListed update.variables (in_update update) }
-{
-    all_variables_are_listed();
 }

@@ -1,6 +1,6 @@
 //! From a text to its query or its update, with the names resolved, or to the one fault that is due. `specs/Outcome.antt` says what a
-//! text results in, fault by fault from top to bottom in their order. What is settled lists all of its variables. Below that stand the
-//! tokens of a text by kind (`specs/Kinds.antt`) and the place of their fault where they spell no tree (`specs/Text.antt`).
+//! text results in, fault by fault from top to bottom in their order. A query lists its variables once each. Below that stand the tokens
+//! of a text by kind (`specs/Kinds.antt`) and the place of their fault where they spell no tree (`specs/Text.antt`).
 #![tactic(auto)]
 
 mod drop_tree;

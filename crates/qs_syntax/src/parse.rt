@@ -24,21 +24,21 @@ use qs_terms::QFault;
 use std::alloc::Global;
 
 fn query_of(alloc: Global, text: &str, tokens: &[Token]) -> Result<Query, QFault>
-    ensures { OneOrOutOfMemory (IsOutcomeOfTokens rules.query (query_outcome text.now tokens.now)
-        text.now tokens.now) result }
+    ensures { OneOrOutOfMemory (IsOutcomeOfTokens rules.query (query_outcome text.now) text.now
+        tokens.now) result }
 {
     check_tokens(alloc, text, tokens)?;
     let tree = query_of_tokens(alloc, text.len(), tokens)?;
-    resolve_and_check_query(alloc, text, tokens, &tree)
+    resolve_and_check_query(alloc, text, &tree)
 }
 
 fn update_of(alloc: Global, text: &str, tokens: &[Token]) -> Result<Update, QFault>
-    ensures { OneOrOutOfMemory (IsOutcomeOfTokens rules.update (update_outcome text.now tokens.now)
-        text.now tokens.now) result }
+    ensures { OneOrOutOfMemory (IsOutcomeOfTokens rules.update (update_outcome text.now) text.now
+        tokens.now) result }
 {
     check_tokens(alloc, text, tokens)?;
     let tree = update_of_tokens(alloc, text.len(), tokens)?;
-    resolve_and_check_update(alloc, text, tokens, tree)
+    resolve_and_check_update(alloc, text, tree)
 }
 
 /// The query of a text, with its names resolved (SPARQL 1.1 Query, 19.8, [1]).

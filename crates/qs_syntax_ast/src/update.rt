@@ -9,15 +9,13 @@ use sqlite_items::Items;
 #[derive(Drop)]
 pub struct Update {
     pub operations: Items<Operation>,
-    /// The variables of the text, in the order in which they first appear in it.
-    pub variables: Items<Variable>,
 }
 
 #[derive(Drop)]
 pub enum Operation {
     InsertData(Items<QuadBlock>),
     DeleteData(Items<QuadBlock>),
-    DeleteWhere(Items<QuadBlock>),
+    DeleteWhere(DeleteWhere),
     Modify(Modify),
     Clear(OnMissing, GraphTarget),
     Drop(OnMissing, GraphTarget),
@@ -34,6 +32,14 @@ pub struct QuadBlock {
     pub triples: Items<Triple>,
 }
 
+/// DELETE WHERE: the quads are the template and the pattern.
+#[derive(Drop)]
+pub struct DeleteWhere {
+    pub quads: Items<QuadBlock>,
+    /// The variables of the operation, as often as they stand in it, in the order of the text.
+    pub variables: Items<Variable>,
+}
+
 /// DELETE and INSERT with a WHERE.
 #[derive(Drop)]
 pub struct Modify {
@@ -41,6 +47,8 @@ pub struct Modify {
     pub delete: Items<QuadBlock>,
     pub insert: Items<QuadBlock>,
     pub pattern: Group,
+    /// The variables of the operation, as often as they stand in it, in the order of the text.
+    pub variables: Items<Variable>,
 }
 
 #[derive(Drop)]

@@ -28,10 +28,10 @@ use Rattle.qs_syntax_tree.specs.declared.token.Token.{Token}
 use Rattle.qs_syntax_resolve.specs.Expression.{expression_of}
 use Rattle.qs_syntax_resolve.specs.inner.Expression.{call_of, operand_of, addend_of, operands, addends, list}
 use Rattle.qs_syntax_resolve.specs.Leaves.{variable, iri, literal}
-use Rattle.qs_syntax_resolve.specs.Resolving.{Resolving, ◌>>=◌, ◌<$>◌, pure, all_behind}
-use Rattle.qs_syntax_laws.proofs.Terms.{iri_meets, literal_meets, number_meets}
-use Rattle.qs_syntax_laws.proofs.Walks.{Meets, mapped, unmapped, paired}
-use Rattle.qs_syntax_laws.proofs.Ways.{Resolves, by_other, by_same, by_weaker, by_mute, by_either, by_made, by_mapped, by_opt, by_or, by_both, by_second, by_placed, by_many, behind_mute, before_mute}
+use Rattle.qs_syntax_resolve.specs.Resolving.{Resolving, ◌>>=◌, ◌<$>◌, pure, all_after}
+use Rattle.qs_syntax_laws.proofs.Terms.{variable_meets, iri_meets, literal_meets, number_meets}
+use Rattle.qs_syntax_laws.proofs.Walks.{Meets, mapped, unmapped, unread, paired}
+use Rattle.qs_syntax_laws.proofs.Ways.{Resolves, by_other, by_same, by_weaker, by_either, by_made, by_mapped, by_opt, by_or, by_both, by_second, by_placed, by_many, behind_mute, before_mute}
 
 -- ---- the equations of the walk
 
@@ -171,7 +171,7 @@ module _ {refs : (n : Name) → List Token → Tree n → Type 0} (expression_me
 
   list_meets : Resolves refs procedures.list list
   unfolding procedures.list procedures.more_expressions
-  list_meets = behind_mute refl (before_mute refl (by_or (by_made (by_both {p = expression_of} expression_meets (λ x a. by_many next_meets))) (λ s. (refl, refl))))
+  list_meets = behind_mute refl (before_mute refl (by_or (by_made (by_both {p = expression_of} expression_meets (λ x a. by_many next_meets))) unread))
 
   if_meets : Resolves refs procedures.three_arguments (λ x. call_of (written_call.If x.0.0 x.0.1 x.1))
   unfolding procedures.three_arguments procedures.three_expressions
@@ -190,7 +190,7 @@ module _ {refs : (n : Name) → List Token → Tree n → Type 0} (expression_me
   call_meets : Resolves refs procedures.call call_of
   unfolding procedures.call procedures.bound_var rule.unary_function rule.binary_function
   call_meets =
-      by_either (by_made (by_other (λ v. expression.Bound <$> variable v) bound_is (by_mute refl (λ v s. (refl, refl)))))
+      by_either (by_made (by_other (λ v. expression.Bound <$> variable v) bound_is (by_mapped (λ _ v. expression.Bound v) (behind_mute refl (behind_mute refl (before_mute refl variable_meets))))))
       (by_either (by_made (behind_mute refl if_meets))
       (by_either (by_made (by_other (λ es. expression.Coalesce <$> list es) coalesce_is (by_mapped (λ _ es. expression.Coalesce es) (behind_mute refl list_meets))))
       (by_either (by_made (by_other (λ es. expression.Concat <$> list es) concat_is (by_mapped (λ _ es. expression.Concat es) (behind_mute refl list_meets))))
@@ -210,7 +210,7 @@ module _ {refs : (n : Name) → List Token → Tree n → Type 0} (expression_me
   operand_term_meets =
       by_either (by_made (by_other (λ i. expression.Iri <$> iri i) iri_is (by_mapped (λ _ x. expression.Iri x) iri_meets)))
       (by_either (by_made (by_other (λ l. expression.Literal <$> literal l) literal_is (by_mapped (λ _ x. expression.Literal x) literal_meets)))
-      (by_made (by_other (λ v. expression.Variable <$> variable v) variable_is (by_mute refl (λ v s. (refl, refl))))))
+      (by_made (by_other (λ v. expression.Variable <$> variable v) variable_is (by_mapped (λ _ v. expression.Variable v) variable_meets))))
 
   atom_meets : Resolves refs procedures.atom expression_of
   unfolding procedures.atom
@@ -230,12 +230,12 @@ module _ {refs : (n : Name) → List Token → Tree n → Type 0} (expression_me
   operand_meets : {r : Rule Expression} → Resolves refs r expression_of → Resolves refs (rule.operand r) of_operand
   operand_meets h = by_made (by_placed (λ place. h))
 
-  module _ {first : Rule Operand} {others : Rule (List Operand)} (h : Resolves refs first of_operand) (k : (found : List resolved.Expression) → Resolves refs others (λ os. all_behind found (map of_operand os))) where
+  module _ {first : Rule Operand} {others : Rule (List Operand)} (h : Resolves refs first of_operand) (k : (found : List resolved.Expression) → Resolves refs others (λ os. all_after found (map of_operand os))) where
     chain_of : (f : List Operand → Expression) (g : List resolved.Expression → resolved.Expression) → ((os : List Operand) → expression_of (f os) ≡ (g <$> operands os))
         → Resolves refs (first & others) (λ x. expression_of (chain f x))
     chain_of f g e = by_weaker {p = λ x. operands (x.0 ∷ x.1)} (λ ts x l. chain_meets ts f g e x.0 x.1 l) (by_both {p = of_operand} h (λ o a. k (a ∷ [])))
 
-  more_factors_meet : (found : List resolved.Expression) → Resolves refs procedures.more_factors (λ os. all_behind found (map of_operand os))
+  more_factors_meet : (found : List resolved.Expression) → Resolves refs procedures.more_factors (λ os. all_after found (map of_operand os))
   unfolding procedures.more_factors
   more_factors_meet found = by_many (behind_mute refl (operand_meets unary_meets))
 
@@ -276,9 +276,9 @@ module _ {refs : (n : Name) → List Token → Tree n → Type 0} (expression_me
   unfolding procedures.relational
   relational_meets =
       by_made (by_weaker {p = λ x. expression_of x.0 >>= (λ a. relate a x.1)} (λ ts x h. related_meets ts x.0 x.1 h)
-      (by_both {p = expression_of} {f = λ x a r. relate a r} additive_meets (λ x a. by_opt (relation_meets a) (λ s. (refl, refl)))))
+      (by_both {p = expression_of} {f = λ x a r. relate a r} additive_meets (λ x a. by_opt (relation_meets a) unread)))
 
-  more_relationals_meet : (found : List resolved.Expression) → Resolves refs procedures.more_relationals (λ os. all_behind found (map of_operand os))
+  more_relationals_meet : (found : List resolved.Expression) → Resolves refs procedures.more_relationals (λ os. all_after found (map of_operand os))
   unfolding procedures.more_relationals
   more_relationals_meet found = by_many (behind_mute refl (operand_meets relational_meets))
 
@@ -286,7 +286,7 @@ module _ {refs : (n : Name) → List Token → Tree n → Type 0} (expression_me
   unfolding procedures.conjunction
   conjunction_meets = by_made (chain_of (operand_meets relational_meets) more_relationals_meet written.And expression.And and_is)
 
-  more_conjunctions_meet : (found : List resolved.Expression) → Resolves refs procedures.more_conjunctions (λ os. all_behind found (map of_operand os))
+  more_conjunctions_meet : (found : List resolved.Expression) → Resolves refs procedures.more_conjunctions (λ os. all_after found (map of_operand os))
   unfolding procedures.more_conjunctions
   more_conjunctions_meet found = by_many (behind_mute refl (operand_meets conjunction_meets))
 

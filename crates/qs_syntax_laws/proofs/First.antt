@@ -113,18 +113,14 @@ scope_tested false a = refl
 pub scope_is_beyond : {A : Type 0} (keeps : A → Bool) (a : A) → IsBeyond (in_scope keeps a)
 scope_is_beyond keeps a = scope_tested (keeps a) a
 
-listed_is_beyond : {B : Type 0} (list : B → B) (o : Outcome B) → IsBeyond o → IsBeyond (and_then o (λ b. Ok (list b)))
-listed_is_beyond list (Ok b) h = tt
-listed_is_beyond list (Err f) h = h
-
-module _ {A B : Type 0} (settle : A → Outcome B) (list : B → B) (beyond : (a : A) → IsBeyond (settle a)) where
-  abbrev pub Told : Outcome (Option A) → Option ℕ → Outcome B
-  Told resolved limit = and_then (and_then (by_place resolved limit) settle) (λ b. Ok (list b))
+module _ {A B : Type 0} (settle : A → Outcome B) (beyond : (a : A) → IsBeyond (settle a)) where
+  abbrev Told : Outcome (Option A) → Option ℕ → Outcome B
+  Told resolved limit = and_then (by_place resolved limit) settle
 
   module _ (faults : List QFault) (limit : Option ℕ) where
     told_beyond : (found : Option A) → IsBeyond (Told (Ok found) None)
     told_beyond None = refl
-    told_beyond (Some a) = listed_is_beyond list (settle a) (beyond a)
+    told_beyond (Some a) = beyond a
 
     -- no name is faulty
     no_fault : (found : Option A) → faults ≡ [] → (l : Option ℕ) → limit ≡ l → TellsFirst faults limit (Told (Ok found) l)
@@ -164,6 +160,17 @@ module _ {A B : Type 0} (settle : A → Outcome B) (list : B → B) (beyond : (a
     by_walk (Ok r) lawful h k = no_fault (lawful r.0 r.1) h limit refl
     by_walk (Err f) lawful h k = let l = subst FirstIsLeast h.1 k in one_fault f h.0 h.1 l.1 limit refl l.0.0 l.0.1
 
-pub met : {A : Type 0} (names : Names) (ts : List Token) (o : Outcome (A × Resolver)) → Comes names ts o → Met (faults_from (at names) ts) o
-met names ts (Ok r) h = h.0
-met names ts (Err f) h = h
+pub met : {A : Type 0} (s : Resolver) (ts : List Token) (o : Outcome (A × Resolver)) → Comes s ts o → Met (faults_from (at s.names) ts) o
+met s ts (Ok r) h = h.0
+met s ts (Err f) h = h
+
+-- ---- what is changed at the end changes no fault
+
+still_beyond : {B : Type 0} (list : B → B) (o : Outcome B) → IsBeyond o → IsBeyond (and_then o (λ b. Ok (list b)))
+still_beyond list (Ok b) h = tt
+still_beyond list (Err f) h = h
+
+pub still_told : {B : Type 0} (list : B → B) (faults : List QFault) (limit : Option ℕ) (o : Outcome B) → TellsFirst faults limit o → TellsFirst faults limit (and_then o (λ b. Ok (list b)))
+still_told list faults limit o (inl h) = inl (h.0, rw h.1 refl, h.2)
+still_told list faults limit o (inr (inl h)) = inr (inl (h.0, rw h.1 refl, h.2))
+still_told list faults limit o (inr (inr h)) = inr (inr (h.0, h.1, still_beyond list o h.2))

@@ -1,5 +1,6 @@
 -- Group graph patterns.
 use Rattle.std.proofs.Common.{◌≡◌, rules, ℕ, List, [], ◌∷◌, ◌++◌, map, Ok, Err, refl, ap}
+use Rattle.qs_syntax_ast.specs.declared.expression.Expression.{Expression as ResolvedExpression}
 use Rattle.qs_syntax_ast.specs.declared.pattern.GraphPattern.TheVariants as pattern
 use Rattle.qs_syntax_ast.specs.declared.pattern.Triple.{Triple}
 use Rattle.qs_syntax_ast.specs.declared.term.Variable.{Variable}
@@ -31,14 +32,14 @@ use Rattle.qs_syntax_resolve.specs.Leaves.{variable, var_or_iri}
 use Rattle.qs_syntax_resolve.specs.Pattern.{Put, group_of, put, finished}
 use Rattle.qs_syntax_resolve.specs.inner.Pattern.{put_filter, put_triples, empty_group}
 use Rattle.qs_syntax_resolve.specs.inner.Pattern.{pattern_of, element_of, groups, elements, triples_pattern, filter_pattern, bind_pattern, values_pattern}
-use Rattle.qs_syntax_resolve.specs.Resolving.{Resolving, ◌>>=◌, pure, all, all_behind}
-use Rattle.qs_syntax_resolve.specs.Triples.{triples_behind}
+use Rattle.qs_syntax_resolve.specs.Resolving.{◌>>=◌, pure, all, all_after}
+use Rattle.qs_syntax_resolve.specs.Triples.{triples_after}
 use Rattle.qs_syntax_resolve.specs.declared.open_group.OpenGroup.{OpenGroup}
 use Rattle.qs_syntax_resolve.specs.declared.resolver.Resolver.{Resolver}
 use Rattle.qs_syntax_laws.proofs.Expressions.{constraint_meets}
-use Rattle.qs_syntax_laws.proofs.Terms.{var_or_iri_meets, value_meets}
-use Rattle.qs_syntax_laws.proofs.Walks.{nothing, still_behind}
-use Rattle.qs_syntax_laws.proofs.Ways.{Resolves, by_other, by_same, by_mute, by_either, by_made, by_mapped, by_or, by_both, by_first, by_second, by_placed, by_many, behind_mute, before_mute, in_turn, behind_still}
+use Rattle.qs_syntax_laws.proofs.Terms.{variable_meets, var_or_iri_meets, value_meets}
+use Rattle.qs_syntax_laws.proofs.Walks.{nothing}
+use Rattle.qs_syntax_laws.proofs.Ways.{Resolves, by_other, by_same, by_either, by_made, by_mapped, by_or, by_both, by_placed, by_many, behind_mute, before_mute, in_turn}
 
 -- ---- the equations of the walk
 
@@ -89,9 +90,9 @@ each_single [] = refl
 each_single (v ∷ vs) = ap (λ more. row_of (v ∷ []) ∷ more) (each_single vs)
 
 module _ {refs : (n : Name) → List Token → Tree n → Type 0} where
-  variables_meet : (found : List Variable) → Resolves refs procedures.variables (λ vs. all_behind found (map variable vs))
+  variables_meet : (found : List Variable) → Resolves refs procedures.variables (λ vs. all_after found (map variable vs))
   unfolding procedures.variables
-  variables_meet found = by_many (by_mute refl (λ v s. (refl, refl)))
+  variables_meet found = by_many variable_meets
 
   row_meets : Resolves refs procedures.data_values row_of
   unfolding procedures.data_values row_of
@@ -112,8 +113,8 @@ module _ {refs : (n : Name) → List Token → Tree n → Type 0} where
   column_meets : Resolves refs procedures.column inline_data
   unfolding procedures.column procedures.value_block inline_data
   column_meets =
-      by_made (by_second refl (λ v. behind_still (variables_of (v ∷ [])) (λ vs ds. rows_of (singles ds) >>= (λ rows. pure (record { variables = vs; rows = rows }))) (λ s. (refl, refl))
-      (λ vs. by_mapped (λ _ rows. record { variables = vs; rows = rows }) (behind_mute refl (before_mute refl singles_meet)))))
+      by_made (by_both {p = λ v. variables_of (v ∷ [])} (by_mapped (λ _ v. v ∷ []) variable_meets)
+      (λ _ vs. by_mapped (λ _ rows. record { variables = vs; rows = rows }) (behind_mute refl (before_mute refl singles_meet))))
 
   table_meets : Resolves refs procedures.table inline_data
   unfolding procedures.table procedures.variable_list procedures.row_block inline_data
@@ -128,9 +129,10 @@ module _ {refs : (n : Name) → List Token → Tree n → Type 0} where
 -- ---- groups
 
 module _ {refs : (n : Name) → List Token → Tree n → Type 0} where
-  pub named_meets : {B : Type 0} (p : Expression → Span → Resolving B) → ((v : Span) → Resolves refs rule.expression (λ e. p e v)) → Resolves refs procedures.named_expression (λ x. p x.0 x.1)
+  pub named_meets : {B : Type 0} (f : ResolvedExpression → Variable → B) → Resolves refs rule.expression expression_of
+      → Resolves refs procedures.named_expression (λ x. expression_of x.0 >>= (λ e. variable x.1 >>= (λ v. pure (f e v))))
   unfolding procedures.named_expression procedures.expression_as_var
-  named_meets p h = behind_mute refl (before_mute refl (by_first refl (λ v. before_mute refl (h v))))
+  named_meets f h = behind_mute refl (before_mute refl (by_both {p = expression_of} (before_mute refl h) (λ _ e. by_mapped (λ _ v. f e v) variable_meets)))
 
 one_behind : (es more : List Element) (o : Outcome (OpenGroup × Resolver)) → ((g : OpenGroup) (s : Resolver) → elements g (es ++ more) s ≡ (elements g es >>= (λ h. elements h more)) s)
     → and_then o (λ r. elements r.0 (es ++ more) r.1) ≡ and_then (and_then o (λ r. elements r.0 es r.1)) (λ q. elements q.0 more q.1)
@@ -142,7 +144,7 @@ elements_behind [] more g s = refl
 elements_behind (e ∷ es) more g s = one_behind es more (element_of e g s) (elements_behind es more)
 
 module _ {refs : (n : Name) → List Token → Tree n → Type 0} (expression_meets : Resolves refs rule.expression expression_of) (group_meets : Resolves refs rule.group group_of)
-    (triples_meet : (f : Form) (found : List Triple) → Resolves refs (rule.triples f) (triples_behind found)) where
+    (triples_meet : (f : Form) (found : List Triple) → Resolves refs (rule.triples f) (triples_after found)) where
   groups_meet : Resolves refs procedures.groups groups
   unfolding procedures.groups procedures.more_groups
   groups_meet = by_made (by_both {p = group_of} group_meets (λ _ x. by_many (behind_mute refl group_meets)))
@@ -162,13 +164,8 @@ module _ {refs : (n : Name) → List Token → Tree n → Type 0} (expression_me
         (by_made (by_put (λ x. written.Graph x.0 x.1) (λ x g. var_or_iri x.0 >>= (λ n. group_of x.1 >>= (λ y. pure (put (pattern.Graph n y) g)))) (λ x. graph_is x.0 x.1)
         (by_both {p = var_or_iri} (behind_mute refl var_or_iri_meets) (λ _ n. by_mapped (λ _ y. put (pattern.Graph n y) g) group_meets))))
         (by_either (by_made (by_put written.Filter filter_pattern filter_is (by_mapped (λ _ x. put_filter x g) (behind_mute refl (constraint_meets expression_meets)))))
-        (by_either (by_made (by_put (λ x. written.Bind x.0 x.1) (λ x. bind_pattern x.0 x.1) (λ x. bind_is x.0 x.1) (behind_mute refl (named_meets (λ e v. bind_pattern e v g) bound_meets))))
+        (by_either (by_made (by_put (λ x. written.Bind x.0 x.1) (λ x. bind_pattern x.0 x.1) (λ x. bind_is x.0 x.1) (behind_mute refl (named_meets (λ e v. put (pattern.Bind e v) g) expression_meets))))
         (by_made (by_put written.Values values_pattern values_is (by_mapped (λ _ x. put (pattern.Values x) g) values_meet))))))))
-      where
-        bound_meets : (v : Span) → Resolves refs rule.expression (λ e. bind_pattern e v g)
-        bound_meets v = record {
-          meets = λ ts e h. still_behind ts (expression_of e) (λ x. variable v >>= (λ y. pure (put (pattern.Bind x y) g))) (expression_meets.meets ts e h) (λ x s. (refl, refl));
-        }
 
     placed_meets : {r : Rule GraphPattern} → Resolves refs r (λ p. pattern_of p g) → Resolves refs (placed r) (λ x. element_of (made_element x) g)
     placed_meets h = by_placed (λ place. by_other (λ p. pattern_of p g) (λ p. ap (λ (f : Put). f g) (element_is (made_element (place, p)))) h)

@@ -2,7 +2,6 @@
 use Rattle.std.proofs.Common.{ℕ, zero, suc, List}
 use Rattle.qs_syntax_ast.specs.declared.pattern.Triple.{Triple}
 use Rattle.qs_syntax_ast.specs.declared.term.TermPattern.{TermPattern}
-use Rattle.qs_syntax_ast.specs.declared.term.Variable.{Variable}
 use Rattle.qs_syntax_ast.specs.declared.update.Operation.{Operation as ResolvedOperation}
 use Rattle.qs_syntax_grammar.specs.Grammar.{Spells, spelt_at}
 use Rattle.qs_syntax_grammar.specs.Rule.{Spelt}
@@ -20,7 +19,7 @@ use Rattle.qs_syntax_resolve.specs.Expression.{expression_of}
 use Rattle.qs_syntax_resolve.specs.Path.{path_of}
 use Rattle.qs_syntax_resolve.specs.Pattern.{group_of}
 use Rattle.qs_syntax_resolve.specs.Query.{query}
-use Rattle.qs_syntax_resolve.specs.Triples.{triples_behind, properties as properties_behind}
+use Rattle.qs_syntax_resolve.specs.Triples.{triples_after, properties as properties_behind}
 use Rattle.qs_syntax_resolve.specs.Update.{update}
 use Rattle.qs_syntax_laws.proofs.Expressions.{expression_rule_meets}
 use Rattle.qs_syntax_laws.proofs.Groups.{group_rule_meets}
@@ -34,7 +33,7 @@ use Rattle.qs_syntax_laws.proofs.Ways.{Resolves}
 -- the tree of a named rule is resolved as its tokens tell
 Holds : (n : Name) → List Token → Tree n → Type 0
 Holds group ts x = Meets (group_of x) ts
-Holds (triples f) ts x = (found : List Triple) → Meets (triples_behind found x) ts
+Holds (triples f) ts x = (found : List Triple) → Meets (triples_after found x) ts
 Holds (properties f) ts x = (subject : TermPattern) (found : List Triple) → Meets (properties_behind subject found x) ts
 Holds path ts x = Meets (path_of x) ts
 Holds expression ts x = Meets (expression_of x) ts
@@ -45,7 +44,7 @@ module _ {refs : (n : Name) → List Token → Tree n → Type 0} (known : (n : 
   unfolding Holds
   group_known = record { meets = λ ts x h. known group ts x h }
 
-  triples_known : (f : Form) (found : List Triple) → Resolves refs (rules.triples f) (triples_behind found)
+  triples_known : (f : Form) (found : List Triple) → Resolves refs (rules.triples f) (triples_after found)
   unfolding Holds
   triples_known f found = record { meets = λ ts x h. known (triples f) ts x h found }
 
@@ -74,22 +73,22 @@ module _ {refs : (n : Name) → List Token → Tree n → Type 0} (known : (n : 
   by_rule expression ts x h = (expression_rule_meets expression_known).meets ts x h
   by_rule operations ts x h = λ found. (operations_rule_meet expression_known group_known triples_known operations_known found).meets ts x h
 
-  whole_query : (variables : List Variable) → Resolves refs procedures.query (query variables)
-  whole_query variables = query_meets expression_known group_known triples_known variables
+  whole_query : Resolves refs procedures.query query
+  whole_query = query_meets expression_known group_known triples_known
 
-  whole_update : (variables : List Variable) → Resolves refs procedures.update (update variables)
-  whole_update variables = update_meets expression_known group_known triples_known operations_known variables
+  whole_update : Resolves refs procedures.update update
+  whole_update = update_meets expression_known group_known triples_known operations_known
 
 each_holds : (d : ℕ) (n : Name) (ts : List Token) (x : Tree n) → spelt_at rule d n ts x → Holds n ts x
 each_holds zero n ts x h = absurd h
 each_holds (suc d) n ts x h = by_rule (each_holds d) n ts x h
 
-pub query_is_met : (variables : List Variable) (tokens : List Token) (tree : Query) → Spells grammar rules.query tokens tree → Meets (query variables tree) tokens
-query_is_met variables tokens tree h =
+pub query_is_met : (tokens : List Token) (tree : Query) → Spells grammar rules.query tokens tree → Meets (query tree) tokens
+query_is_met tokens tree h =
     let by_parts : Spells rule procedures.query tokens tree = rw (grammar_same, query_same) at h in
-    (whole_query (each_holds by_parts.0) variables).meets tokens tree by_parts.1
+    (whole_query (each_holds by_parts.0)).meets tokens tree by_parts.1
 
-pub update_is_met : (variables : List Variable) (tokens : List Token) (tree : Update) → Spells grammar rules.update tokens tree → Meets (update variables tree) tokens
-update_is_met variables tokens tree h =
+pub update_is_met : (tokens : List Token) (tree : Update) → Spells grammar rules.update tokens tree → Meets (update tree) tokens
+update_is_met tokens tree h =
     let by_parts : Spells rule procedures.update tokens tree = rw (grammar_same, update_same) at h in
-    (whole_update (each_holds by_parts.0) variables).meets tokens tree by_parts.1
+    (whole_update (each_holds by_parts.0)).meets tokens tree by_parts.1

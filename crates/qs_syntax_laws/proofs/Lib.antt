@@ -1,3 +1,4 @@
+mod Places
 mod Walks
 mod Quiet
 mod Ways
@@ -9,8 +10,18 @@ mod Groups
 mod Queries
 mod Updates
 mod Knot
+mod QueryVariables
 mod Ascending
 mod First
 mod SpelledKinds
 mod MarkKinds
 mod CharacterTables
+mod NotedSteps
+mod NotedLeaves
+mod NotedPaths
+mod NotedExpressions
+mod NotedTriples
+mod NotedGroups
+mod NotedQueries
+mod NotedUpdates
+mod NotedOutcomes

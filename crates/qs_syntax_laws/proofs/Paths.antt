@@ -3,6 +3,7 @@ use Rattle.std.proofs.Common.{◌≡◌, rules, Bool, true, false, List, [], ◌
 use Rattle.qs_syntax_ast.specs.declared.path.NegatedIri.{NegatedIri}
 use Rattle.qs_syntax_ast.specs.declared.path.Path as resolved
 use Rattle.qs_syntax_ast.specs.declared.path.Path.TheVariants as path
+use Rattle.qs_syntax_ast.specs.declared.pattern.Verb.TheVariants as verb
 use Rattle.qs_syntax_tree.specs.Rules as rule
 use Rattle.qs_syntax_tree.specs.inner.Procedures as procedures
 use Rattle.qs_syntax_tree.specs.Sparql.{Name, Tree}
@@ -19,10 +20,10 @@ use Rattle.qs_syntax_resolve.specs.inner.Path.{operands}
 use Rattle.qs_syntax_resolve.specs.Triples.{verb_of, simplified}
 use Rattle.qs_syntax_tree.specs.declared.triples.Form.{Form}
 use Rattle.qs_syntax_tree.specs.declared.triples.Form.TheVariants as form
-use Rattle.qs_syntax_resolve.specs.Resolving.{Resolving, ◌>>=◌, ◌<$>◌, pure, all, all_behind}
-use Rattle.qs_syntax_laws.proofs.Terms.{predicate_meets}
-use Rattle.qs_syntax_laws.proofs.Walks.{Meets, mapped, unmapped}
-use Rattle.qs_syntax_laws.proofs.Ways.{Resolves, by_other, by_mute, by_either, by_made, by_mapped, by_or, by_both, by_first, by_second, by_placed, by_many, by_weaker, behind_mute, before_mute}
+use Rattle.qs_syntax_resolve.specs.Resolving.{Resolving, ◌>>=◌, ◌<$>◌, pure, all, all_after}
+use Rattle.qs_syntax_laws.proofs.Terms.{variable_meets, predicate_meets}
+use Rattle.qs_syntax_laws.proofs.Walks.{Meets, mapped, unmapped, unread}
+use Rattle.qs_syntax_laws.proofs.Ways.{Resolves, by_other, by_either, by_made, by_mapped, by_or, by_both, by_first, by_second, by_placed, by_many, by_weaker, behind_mute, before_mute}
 
 -- ---- the equations of the walk
 
@@ -75,7 +76,7 @@ module _ {refs : (n : Name) → List Token → Tree n → Type 0} where
   unfolding rule.negated_one
   negated_one_meets = by_made (by_placed (λ place. by_second refl (λ caret. by_mapped (λ p i. record { inverse = is_some caret; iri = i }) predicate_meets)))
 
-  more_negated_meets : (found : List NegatedIri) → Resolves refs procedures.more_negated (λ ps. all_behind found (map negated ps))
+  more_negated_meets : (found : List NegatedIri) → Resolves refs procedures.more_negated (λ ps. all_after found (map negated ps))
   unfolding procedures.more_negated
   more_negated_meets found = by_many (behind_mute refl negated_one_meets)
 
@@ -83,7 +84,7 @@ module _ {refs : (n : Name) → List Token → Tree n → Type 0} where
   unfolding procedures.negated procedures.negated_all
   negated_meets =
       by_either (by_made (by_mapped (λ p i. i ∷ []) negated_one_meets))
-      (behind_mute refl (before_mute refl (by_or (by_made (by_both negated_one_meets (λ p i. more_negated_meets (i ∷ [])))) (λ s. (refl, refl)))))
+      (behind_mute refl (before_mute refl (by_or (by_made (by_both negated_one_meets (λ p i. more_negated_meets (i ∷ [])))) unread)))
 
   module _ (path_meets : Resolves refs rule.path path_of) where
     path_primary_meets : Resolves refs procedures.path_primary path_of
@@ -99,7 +100,7 @@ module _ {refs : (n : Name) → List Token → Tree n → Type 0} where
       meets = λ ts p h. inverted_meets ts (is_some caret) (repeated p r) (repeated_meets ts p r (path_primary_meets.meets ts p h));
     })))
 
-    more_elements_meets : (found : List resolved.Path) → Resolves refs procedures.more_elements (λ os. all_behind found (map (λ (o : PathOperand). path_of o.path) os))
+    more_elements_meets : (found : List resolved.Path) → Resolves refs procedures.more_elements (λ os. all_after found (map (λ (o : PathOperand). path_of o.path) os))
     unfolding procedures.more_elements
     more_elements_meets found = by_many (behind_mute refl (by_made (by_placed (λ place. path_element_meets))))
 
@@ -107,7 +108,7 @@ module _ {refs : (n : Name) → List Token → Tree n → Type 0} where
     unfolding procedures.path_sequence
     path_sequence_meets = by_made (by_weaker (chain_of written.Sequence path.Sequence sequence_is) (by_both {p = λ (o : PathOperand). path_of o.path} (by_made (by_placed (λ place. path_element_meets))) (λ o x. more_elements_meets (x ∷ []))))
 
-    more_sequences_meets : (found : List resolved.Path) → Resolves refs procedures.more_sequences (λ os. all_behind found (map (λ (o : PathOperand). path_of o.path) os))
+    more_sequences_meets : (found : List resolved.Path) → Resolves refs procedures.more_sequences (λ os. all_after found (map (λ (o : PathOperand). path_of o.path) os))
     unfolding procedures.more_sequences
     more_sequences_meets found = by_many (behind_mute refl (by_made (by_placed (λ place. path_sequence_meets))))
 
@@ -117,8 +118,8 @@ module _ {refs : (n : Name) → List Token → Tree n → Type 0} where
 
     pub verb_meets : (f : Form) → Resolves refs (procedures.verb f) verb_of
     unfolding procedures.verb
-    verb_meets form.Pattern = by_either (by_made (by_mute refl (λ v s. (refl, refl)))) (by_made (by_mapped (λ p x. simplified x) path_rule_meets))
+    verb_meets form.Pattern = by_either (by_made (by_mapped (λ _ v. verb.Variable v) variable_meets)) (by_made (by_mapped (λ p x. simplified x) path_rule_meets))
     verb_meets form.Template =
-        by_either (by_made (by_mute refl (λ v s. (refl, refl))))
+        by_either (by_made (by_mapped (λ _ v. verb.Variable v) variable_meets))
         (by_made (by_made (by_other (λ p. (path.Iri <$> predicate p) >>= (λ x. pure (simplified x))) (λ p. ap (λ (q : Resolving resolved.Path). q >>= (λ x. pure (simplified x))) (predicate_is p))
         (by_mapped (λ p x. simplified x) (by_mapped (λ p i. path.Iri i) predicate_meets)))))

@@ -19,12 +19,12 @@ use Rattle.qs_syntax_tree.specs.declared.triples.Property.{Property, the_lemmas 
 use Rattle.qs_syntax_resolve.specs.Leaves.{term_of, anonymous}
 use Rattle.qs_syntax_resolve.specs.Path.{path_of}
 use Rattle.qs_syntax_resolve.specs.Resolving.{Resolving, ◌>>=◌, pure}
-use Rattle.qs_syntax_resolve.specs.Triples.{OfObject, OfSubject, property_of, properties, verb_of, triple, same_subject, triples_behind}
+use Rattle.qs_syntax_resolve.specs.Triples.{OfObject, OfSubject, property_of, properties, verb_of, triple, same_subject, triples_after}
 use Rattle.qs_syntax_resolve.specs.inner.Triples.{object_of, objects, simple_object, bracketed_subject}
 use Rattle.qs_syntax_resolve.specs.declared.resolver.Resolver.{Resolver}
 use Rattle.qs_syntax_laws.proofs.Paths.{verb_meets}
 use Rattle.qs_syntax_laws.proofs.Terms.{term_meets}
-use Rattle.qs_syntax_laws.proofs.Walks.{Meets, mapped, nothing}
+use Rattle.qs_syntax_laws.proofs.Walks.{Meets, mapped, nothing, unread}
 use Rattle.qs_syntax_laws.proofs.Ways.{Resolves, by_other, by_mute, by_either, by_made, by_mapped, by_opt, by_or, by_both, behind_mute, before_mute, in_turn, behind_still}
 
 -- ---- the equations of the walk
@@ -53,15 +53,15 @@ bracketed_subject_is own found ps = search (rules, node_lemmas)
 
 fresh : Meets anonymous []
 unfolding anonymous
-fresh s = (refl, refl)
+fresh = unread
 
 fresh_term : Meets (term_of term.Anonymous) []
 unfolding term_of anonymous
-fresh_term s = (refl, refl)
+fresh_term = unread
 
 module _ {refs : (n : Name) → List Token → Tree n → Type 0} (path_meets : Resolves refs rule.path path_of)
     (properties_meet : (f : Form) (subject : TermPattern) (found : List Triple) → Resolves refs (rule.properties f) (properties subject found))
-    (triples_meet : (f : Form) (found : List Triple) → Resolves refs (rule.triples f) (triples_behind found)) where
+    (triples_meet : (f : Form) (found : List Triple) → Resolves refs (rule.triples f) (triples_after found)) where
   module _ (f : Form) where
     module _ (subject : TermPattern) where
       object_meets : (v : Verb) (found : List Triple) → Resolves refs (rule.object f) (λ o. object_of o subject v found)
@@ -130,7 +130,7 @@ module _ {refs : (n : Name) → List Token → Tree n → Type 0} (path_meets : 
         (by_made (by_other (λ x. term_of x.0 >>= (λ s. properties s found x.1)) (λ x. simple_subject_is x.0 found x.1) (by_both {p = term_of} term_meets (λ t s. properties_meet f s found))))
         (behind_mute refl (by_either (anonymous_subject_meets found) (property_subject_meets found)))
 
-    pub triples_rule_meet : (found : List Triple) → Resolves refs (procedures.triples_rule f) (λ ts. triples_behind found ts)
+    pub triples_rule_meet : (found : List Triple) → Resolves refs (procedures.triples_rule f) (λ ts. triples_after found ts)
     unfolding procedures.triples_rule
     triples_rule_meet found =
         by_made (by_both {p = same_subject found} (same_subject_meets found) (λ t more. by_or (behind_mute refl (by_or (triples_meet f more) (nothing more))) (nothing more)))

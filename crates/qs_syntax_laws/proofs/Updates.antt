@@ -1,7 +1,8 @@
 -- Updates.
 use Rattle.std.proofs.Common.{◌≡◌, ℕ, List, [], ◌∷◌, ◌++◌, map, Option, Some, None, Ok, Err, refl, sym, ◌∙◌}
 use Rattle.qs_syntax_ast.specs.declared.pattern.Triple.{Triple}
-use Rattle.qs_syntax_ast.specs.declared.term.Variable.{Variable}
+use Rattle.qs_syntax_ast.specs.declared.pattern.Group.{Group}
+use Rattle.qs_syntax_ast.specs.declared.update.DeleteWhere.{DeleteWhere}
 use Rattle.qs_syntax_ast.specs.declared.update.GraphOrDefault.TheVariants as end
 use Rattle.qs_syntax_ast.specs.declared.update.GraphTarget.TheVariants as target
 use Rattle.qs_syntax_ast.specs.declared.update.Operation.{Operation as ResolvedOperation}
@@ -22,6 +23,7 @@ use Rattle.qs_syntax_tree.specs.declared.token.Token.{Token}
 use Rattle.qs_syntax_tree.specs.declared.triples.Form.{Form}
 use Rattle.qs_syntax_tree.specs.declared.triples.Form.TheVariants as tree_form
 use Rattle.qs_syntax_tree.specs.declared.update.GraphOrDefault.{GraphOrDefault}
+use Rattle.qs_syntax_tree.specs.declared.update.Modify.{Modify as WrittenModify}
 use Rattle.qs_syntax_tree.specs.declared.update.OnMissing.{OnMissing}
 use Rattle.qs_syntax_tree.specs.declared.update.Operation.{Operation}
 use Rattle.qs_syntax_tree.specs.declared.update.QuadElement.{QuadElement}
@@ -29,36 +31,36 @@ use Rattle.qs_syntax_tree.specs.declared.update.QuadPattern.{QuadPattern}
 use Rattle.qs_syntax_tree.specs.declared.update.Quads.{Quads}
 use Rattle.qs_syntax_tree.specs.declared.update.UpdateStep.{UpdateStep}
 use Rattle.qs_syntax_resolve.specs.Expression.{expression_of}
-use Rattle.qs_syntax_resolve.specs.Leaves.{var_or_iri}
+use Rattle.qs_syntax_resolve.specs.Leaves.{var_or_iri, variables_since}
 use Rattle.qs_syntax_resolve.specs.Pattern.{group_of}
 use Rattle.qs_syntax_resolve.specs.Query.{prologue}
-use Rattle.qs_syntax_resolve.specs.Resolving.{Resolving, ◌>>=◌, pure, all_behind}
-use Rattle.qs_syntax_resolve.specs.Triples.{triples_behind}
-use Rattle.qs_syntax_resolve.specs.Update.{quads, template, target_of, end_of, transfer, modify, operation_of, operation_behind, step, update}
+use Rattle.qs_syntax_resolve.specs.Resolving.{Resolving, ◌>>=◌, pure, all_after}
+use Rattle.qs_syntax_resolve.specs.Triples.{triples_after}
+use Rattle.qs_syntax_resolve.specs.Update.{quads, template, target_of, end_of, transfer, modify, delete_where, operation_of, operation_after, step, update}
 use Rattle.qs_syntax_resolve.specs.inner.Update.{block_of, with_graph, steps}
 use Rattle.qs_syntax_resolve.specs.declared.resolver.Resolver.{Resolver}
 use Rattle.qs_syntax_laws.proofs.Queries.{prologue_meets, template_meets}
 use Rattle.qs_syntax_laws.proofs.Terms.{iri_meets, var_or_iri_meets}
-use Rattle.qs_syntax_laws.proofs.Walks.{nothing, under, associative, paired}
-use Rattle.qs_syntax_laws.proofs.Ways.{Resolves, by_same, by_mute, by_either, by_made, by_mapped, by_opt, by_or, by_both, by_second, by_placed, behind_mute, before_mute, in_turn}
+use Rattle.qs_syntax_laws.proofs.Walks.{nothing, unread, under, associative, paired}
+use Rattle.qs_syntax_laws.proofs.Ways.{Resolves, by_same, by_mute, by_either, by_made, by_mapped, by_opt, by_or, by_both, by_second, by_placed, behind_mute, before_mute, in_turn, before_still, by_count}
 
 -- ---- lists in two parts
 
 module _ {A B : Type 0} (f : A → Resolving B) where
   one_behind : (found : List B) (xs ys : List A) (o : Outcome (B × Resolver))
-      → ((b : B) (s : Resolver) → all_behind (found ++ b ∷ []) (map f (xs ++ ys)) s ≡ (all_behind (found ++ b ∷ []) (map f xs) >>= (λ c. all_behind c (map f ys))) s)
-      → and_then o (λ r. all_behind (found ++ r.0 ∷ []) (map f (xs ++ ys)) r.1) ≡ and_then (and_then o (λ r. all_behind (found ++ r.0 ∷ []) (map f xs) r.1)) (λ q. all_behind q.0 (map f ys) q.1)
+      → ((b : B) (s : Resolver) → all_after (found ++ b ∷ []) (map f (xs ++ ys)) s ≡ (all_after (found ++ b ∷ []) (map f xs) >>= (λ c. all_after c (map f ys))) s)
+      → and_then o (λ r. all_after (found ++ r.0 ∷ []) (map f (xs ++ ys)) r.1) ≡ and_then (and_then o (λ r. all_after (found ++ r.0 ∷ []) (map f xs) r.1)) (λ q. all_after q.0 (map f ys) q.1)
   one_behind found xs ys (Ok r) h = h r.0 r.1
   one_behind found xs ys (Err e) h = refl
 
-  in_two_parts : (xs ys : List A) (found : List B) (s : Resolver) → all_behind found (map f (xs ++ ys)) s ≡ (all_behind found (map f xs) >>= (λ c. all_behind c (map f ys))) s
+  in_two_parts : (xs ys : List A) (found : List B) (s : Resolver) → all_after found (map f (xs ++ ys)) s ≡ (all_after found (map f xs) >>= (λ c. all_after c (map f ys))) s
   in_two_parts [] ys found s = refl
   in_two_parts (x ∷ xs) ys found s = one_behind found xs ys (f x s) (λ b t. in_two_parts xs ys (found ++ b ∷ []) t)
 
 -- ---- steps
 
 abbrev pub operations : List ResolvedOperation → Operation × List UpdateStep → Resolving (List ResolvedOperation)
-operations found x = operation_behind found (Some x.0) >>= (λ more. steps more x.1)
+operations found x = operation_after found (Some x.0) >>= (λ more. steps more x.1)
 
 abbrev others : List ResolvedOperation → Option (Operation × List UpdateStep) → Resolving (List ResolvedOperation)
 others found None = pure found
@@ -71,7 +73,7 @@ nothing_behind (Err e) = refl
 steps_are : (found : List ResolvedOperation) (p : List PrefixDeclaration) (o : Option (Operation × List UpdateStep)) (s : Resolver) → steps found (steps_of (p, o)) s ≡ (prologue p >>= (λ _. others found o)) s
 unfolding step
 steps_are found p None s = nothing_behind ((prologue p >>= (λ _. pure found)) s)
-steps_are found p (Some x) s = sym (associative (prologue p) (λ _. operation_behind found (Some x.0)) (λ more. steps more x.1) s)
+steps_are found p (Some x) s = sym (associative (prologue p) (λ _. operation_after found (Some x.0)) (λ more. steps more x.1) s)
 
 module _ {refs : (n : Name) → List Token → Tree n → Type 0} where
   steps_meet : {r : Rule (Operation × List UpdateStep)} → ((found : List ResolvedOperation) → Resolves refs r (operations found)) → (found : List ResolvedOperation)
@@ -85,11 +87,11 @@ module _ {refs : (n : Name) → List Token → Tree n → Type 0} where
   unfolding rule.target
   target_meets =
       by_either (by_made (by_mapped (λ _ x. target.Graph x) (behind_mute refl iri_meets)))
-      (by_either (by_made (by_mute refl (λ t s. (refl, refl)))) (by_either (by_made (by_mute refl (λ t s. (refl, refl)))) (by_made (by_mute refl (λ t s. (refl, refl))))))
+      (by_either (by_made (by_mute refl (λ _. unread))) (by_either (by_made (by_mute refl (λ _. unread))) (by_made (by_mute refl (λ _. unread)))))
 
   end_meets : Resolves refs rule.graph_or_default end_of
   unfolding rule.graph_or_default
-  end_meets = by_either (by_made (by_mute refl (λ t s. (refl, refl)))) (by_made (by_mapped (λ _ x. end.Graph x) (behind_mute refl iri_meets)))
+  end_meets = by_either (by_made (by_mute refl (λ _. unread))) (by_made (by_mapped (λ _ x. end.Graph x) (behind_mute refl iri_meets)))
 
   transfer_meets : Resolves refs rule.transfer transfer
   unfolding rule.transfer rule.silent transfer
@@ -107,11 +109,11 @@ module _ {refs : (n : Name) → List Token → Tree n → Type 0} where
       (by_either (by_made (by_mapped (λ _ x. operation.Move x) (behind_mute refl transfer_meets))) (by_made (by_mapped (λ _ x. operation.Copy x) (behind_mute refl transfer_meets)))))))
 
   module _ (expression_meets : Resolves refs rule.expression expression_of) (group_meets : Resolves refs rule.group group_of)
-      (triples_meet : (f : Form) (found : List Triple) → Resolves refs (rule.triples f) (triples_behind found)) where
+      (triples_meet : (f : Form) (found : List Triple) → Resolves refs (rule.triples f) (triples_after found)) where
     -- ---- quads
 
     abbrev blocks : List QuadBlock → List QuadElement → Resolving (List QuadBlock)
-    blocks found es = all_behind found (map block_of es)
+    blocks found es = all_after found (map block_of es)
 
     block_meets : (found : List QuadBlock) → Resolves refs procedures.quads_block (blocks found)
     unfolding procedures.quads_block
@@ -147,13 +149,25 @@ module _ {refs : (n : Name) → List Token → Tree n → Type 0} where
 
     insert_clause_meets : Resolves refs procedures.insert_clause template
     unfolding procedures.insert_clause
-    insert_clause_meets = by_opt (behind_mute refl quads_meet) (λ s. (refl, refl))
+    insert_clause_meets = by_opt (behind_mute refl quads_meet) unread
+
+    -- the variables since there were so many, last
+    abbrev listed : ℕ → Option (List ℕ) → List QuadBlock × List QuadBlock → Group → Resolving Modify
+    listed n w c g = variables_since n >>= (λ variables. pure (record { with = w; delete = c.0; insert = c.1; pattern = g; variables = variables }))
+
+    abbrev modify_since : ℕ → WrittenModify → Resolving Modify
+    modify_since n m = with_graph m.with >>= (λ w. template m.delete >>= (λ d. template m.insert >>= (λ i. group_of m.pattern >>= listed n w (d, i))))
+
+    abbrev delete_since : ℕ → QuadPattern → Resolving DeleteWhere
+    delete_since n q = quads q.elements >>= (λ blocks. variables_since n >>= (λ variables. pure (record { quads = blocks; variables = variables })))
 
     insert_meets : Resolves refs procedures.insert operation_of
     unfolding procedures.insert operation_of modify
     insert_meets =
         behind_mute refl (by_either (by_made (by_mapped (λ _ x. operation.InsertData x) (behind_mute refl quads_meet)))
-        (by_made (by_mapped (λ _ m. operation.Modify m) (by_both {p = λ (q : QuadPattern). quads q.elements} quads_meet (λ _ i. by_mapped (λ _ g. record { with = None; delete = []; insert = i; pattern = g }) where_meets)))))
+        (by_made (by_mapped (λ _ m. operation.Modify m)
+        (by_count (λ n x. modify_since n (record { with = None; delete = None; insert = Some x.0; pattern = x.1 })) (λ n.
+        by_both {p = λ (q : QuadPattern). quads q.elements} quads_meet (λ _ i. before_still (λ _ g. listed n None ([], i) g) (λ _ _. unread) where_meets))))))
 
     abbrev templates : Option QuadPattern × Option QuadPattern → Resolving (List QuadBlock × List QuadBlock)
     templates x = template x.0 >>= (λ d. template x.1 >>= (λ i. pure (d, i)))
@@ -161,15 +175,20 @@ module _ {refs : (n : Name) → List Token → Tree n → Type 0} where
     delete_and_insert : Resolves refs (procedures.quads & procedures.insert_clause) (λ x. templates (Some x.0, x.1))
     delete_and_insert = by_both {p = λ (q : QuadPattern). quads q.elements} quads_meet (λ _ d. by_mapped (λ _ i. (d, i)) insert_clause_meets)
 
+    delete_where_meets : Resolves refs procedures.quads delete_where
+    unfolding delete_where
+    delete_where_meets =
+        by_count delete_since (λ n. before_still (λ _ blocks. variables_since n >>= (λ variables. pure (record { quads = blocks; variables = variables }))) (λ _ _. unread) quads_meet)
+
     delete_meets : Resolves refs procedures.delete operation_of
     unfolding procedures.delete operation_of modify
     delete_meets =
         behind_mute refl (by_either (by_made (by_mapped (λ _ x. operation.DeleteData x) (behind_mute refl quads_meet)))
-        (by_either (by_made (by_mapped (λ _ x. operation.DeleteWhere x) (behind_mute refl quads_meet)))
+        (by_either (by_made (by_mapped (λ _ x. operation.DeleteWhere x) (behind_mute refl delete_where_meets)))
         (by_made (by_mapped {p = λ x. modify (record { with = None; delete = Some x.0.0; insert = x.0.1; pattern = x.1 })} (λ _ m. operation.Modify m)
-        (by_same (λ x. templates (Some x.0.0, x.0.1) >>= (λ c. group_of x.1 >>= (λ g. pure (record { with = None; delete = c.0; insert = c.1; pattern = g }))))
-        (λ x s. paired (template (Some x.0.0)) (template x.0.1) (λ c. group_of x.1 >>= (λ g. pure (record { with = None; delete = c.0; insert = c.1; pattern = g }))) s)
-        (by_both {p = λ x. templates (Some x.0, x.1)} delete_and_insert (λ _ c. by_mapped (λ _ g. record { with = None; delete = c.0; insert = c.1; pattern = g }) where_meets)))))))
+        (by_count (λ n x. modify_since n (record { with = None; delete = Some x.0.0; insert = x.0.1; pattern = x.1 })) (λ n.
+        by_same (λ x. templates (Some x.0.0, x.0.1) >>= (λ c. group_of x.1 >>= listed n None c)) (λ x s. paired (template (Some x.0.0)) (template x.0.1) (λ c. group_of x.1 >>= listed n None c) s)
+        (by_both {p = λ x. templates (Some x.0, x.1)} delete_and_insert (λ _ c. before_still (λ _ g. listed n None c g) (λ _ _. unread) where_meets))))))))
 
     changes_meet : Resolves refs procedures.changes templates
     unfolding procedures.changes
@@ -180,18 +199,19 @@ module _ {refs : (n : Name) → List Token → Tree n → Type 0} where
     abbrev graph_and_changes : Iri × (Option QuadPattern × Option QuadPattern) → Resolving (Option (List ℕ) × (List QuadBlock × List QuadBlock))
     graph_and_changes x = with_graph (Some x.0) >>= (λ w. templates x.1 >>= (λ c. pure (w, c)))
 
-    made : WrittenGroup → Option (List ℕ) × (List QuadBlock × List QuadBlock) → Resolving Modify
-    made p c = group_of p >>= (λ g. pure (record { with = c.0; delete = c.1.0; insert = c.1.1; pattern = g }))
+    made : ℕ → WrittenGroup → Option (List ℕ) × (List QuadBlock × List QuadBlock) → Resolving Modify
+    made n p c = group_of p >>= listed n c.0 c.1
 
     with_meets : Resolves refs procedures.with_graph operation_of
     unfolding procedures.with_graph procedures.with_clause operation_of modify made
     with_meets =
         by_made (by_mapped {p = λ x. modify (record { with = Some x.0.0; delete = x.0.1.0; insert = x.0.1.1; pattern = x.1 })} (λ _ m. operation.Modify m)
-        (by_same (λ x. graph_and_changes x.0 >>= made x.1)
-        (λ x s. under (with_graph (Some x.0.0) s) (λ w. template x.0.1.0 >>= (λ d. template x.0.1.1 >>= (λ i. made x.1 (w, (d, i))))) (λ w. templates x.0.1 >>= (λ c. made x.1 (w, c)))
-        (λ w t. paired (template x.0.1.0) (template x.0.1.1) (λ c. made x.1 (w, c)) t) ∙ paired (with_graph (Some x.0.0)) (templates x.0.1) (made x.1) s)
+        (by_count (λ n x. modify_since n (record { with = Some x.0.0; delete = x.0.1.0; insert = x.0.1.1; pattern = x.1 })) (λ n.
+        by_same (λ x. graph_and_changes x.0 >>= made n x.1)
+        (λ x s. under (with_graph (Some x.0.0) s) (λ w. template x.0.1.0 >>= (λ d. template x.0.1.1 >>= (λ i. made n x.1 (w, (d, i))))) (λ w. templates x.0.1 >>= (λ c. made n x.1 (w, c)))
+        (λ w t. paired (template x.0.1.0) (template x.0.1.1) (λ c. made n x.1 (w, c)) t) ∙ paired (with_graph (Some x.0.0)) (templates x.0.1) (made n x.1) s)
         (by_both {p = graph_and_changes} (by_both {p = λ i. with_graph (Some i)} (by_mapped (λ _ i. Some i) (behind_mute refl iri_meets)) (λ _ w. by_mapped (λ _ c. (w, c)) changes_meet))
-        (λ _ c. by_mapped (λ _ g. record { with = c.0; delete = c.1.0; insert = c.1.1; pattern = g }) where_meets))))
+        (λ _ c. before_still (λ _ g. listed n c.0 c.1 g) (λ _ _. unread) where_meets)))))
 
     operation_meets : Resolves refs procedures.operation operation_of
     unfolding procedures.operation
@@ -201,9 +221,9 @@ module _ {refs : (n : Name) → List Token → Tree n → Type 0} where
       pub operations_rule_meet : (found : List ResolvedOperation) → Resolves refs procedures.operations_rule (operations found)
       unfolding procedures.operations_rule
       operations_rule_meet found =
-          by_both {p = λ o. operation_behind found (Some o)} (by_mapped (λ _ x. found ++ x ∷ []) operation_meets)
+          by_both {p = λ o. operation_after found (Some o)} (by_mapped (λ _ x. found ++ x ∷ []) operation_meets)
           (λ _ more. by_or (behind_mute refl (by_made (steps_meet operations_meet more))) (nothing more))
 
-      pub update_meets : (variables : List Variable) → Resolves refs procedures.update (update variables)
+      pub update_meets : Resolves refs procedures.update update
       unfolding procedures.update update
-      update_meets variables = by_made (by_mapped {p = λ x. steps [] (steps_of x)} (λ _ found. record { operations = found; variables = variables }) (steps_meet operations_rule_meet []))
+      update_meets = by_made (by_mapped {p = λ x. steps [] (steps_of x)} (λ _ found. record { operations = found }) (steps_meet operations_rule_meet []))

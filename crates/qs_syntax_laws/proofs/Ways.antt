@@ -1,12 +1,12 @@
 -- Ways in which rules are written, and the steps of the resolver over what they spell.
-use Rattle.std.proofs.Common.{◌≡◌, true, ℕ, List, [], ◌∷◌, ◌++◌, map, Option, Some, None, sym, subst, inl, inr}
+use Rattle.std.proofs.Common.{◌≡◌, true, ℕ, List, [], ◌∷◌, ◌++◌, length, map, Option, Some, None, sym, subst, inl, inr}
 use Rattle.qs_syntax_grammar.specs.Rule.{Each, Spelt, empty, both, either, many, made, placed}
 use Rattle.qs_syntax_grammar.specs.Notation.{◌>>◌, ◌<<◌, or, opt}
 use Rattle.qs_syntax_tree.specs.Sparql.{Name, Tree, Rule}
 use Rattle.qs_syntax_tree.specs.declared.token.Token.{Token}
-use Rattle.qs_syntax_resolve.specs.Resolving.{Resolving, ◌>>=◌, pure, all_behind}
+use Rattle.qs_syntax_resolve.specs.Resolving.{Resolving, ◌>>=◌, pure, all_after}
 use Rattle.qs_syntax_resolve.specs.declared.resolver.Resolver.{Resolver}
-use Rattle.qs_syntax_laws.proofs.Walks.{Comes, Meets, then, mapped, nothing, quiet_before, quiet_behind, quiet}
+use Rattle.qs_syntax_laws.proofs.Walks.{Comes, Meets, then, still_behind, mapped, nothing, quiet_before, quiet_behind, quiet}
 use Rattle.qs_syntax_laws.proofs.Quiet.{is_mute, mute_quiet}
 
 module _ (refs : (n : Name) → List Token → Tree n → Type 0) where
@@ -20,7 +20,7 @@ module _ {refs : (n : Name) → List Token → Tree n → Type 0} where
     by_other {r} {q} p e h = record { meets = λ ts x s. subst (λ (f : Resolving B). Meets f ts) (sym (e x)) (h.meets ts x s) }
 
     pub by_same : {r : Rule A} {q : A → Resolving B} (p : A → Resolving B) → ((x : A) (s : Resolver) → q x s ≡ p x s) → Resolves refs r p → Resolves refs r q
-    by_same {r} {q} p e h = record { meets = λ ts x k s. subst (Comes s.names ts) (sym (e x s)) (h.meets ts x k s) }
+    by_same {r} {q} p e h = record { meets = λ ts x k s. subst (Comes s ts) (sym (e x s)) (h.meets ts x k s) }
 
     pub by_mute : {r : Rule A} {p : A → Resolving B} → is_mute r ≡ true → ((x : A) → Meets (p x) []) → Resolves refs r p
     by_mute {r} {p} m h = record { meets = λ ts x s. quiet ts (p x) (mute_quiet refs r m ts x s) (h x) }
@@ -44,13 +44,13 @@ module _ {refs : (n : Name) → List Token → Tree n → Type 0} where
     pub by_made : {f : A → B} {r : Rule A} {p : B → Resolving C} → Resolves refs r (λ x. p (f x)) → Resolves refs (made f r) p
     by_made {f} {r} {p} h = record { meets = λ ts x s. subst (λ (y : B). Meets (p y) ts) (sym s.2) (h.meets ts s.0 s.1) }
 
-    -- the tokens of the first say nothing of names
+    -- the tokens of the first are quiet
     pub by_second : {r : Rule A} {q : Rule B} {p : A × B → Resolving C} → is_mute r ≡ true → ((x : A) → Resolves refs q (λ y. p (x, y))) → Resolves refs (both r q) p
     by_second {r} {q} {p} m h = record {
       meets = λ ts x s. subst (Meets (p x)) (sym s.2) (quiet_before s.0 s.1 (p x) (mute_quiet refs r m s.0 x.0 s.3) ((h x.0).meets s.1 x.1 s.4));
     }
 
-    -- those of the second say nothing
+    -- those of the second are quiet
     pub by_first : {r : Rule A} {q : Rule B} {p : A × B → Resolving C} → is_mute q ≡ true → ((y : B) → Resolves refs r (λ x. p (x, y))) → Resolves refs (both r q) p
     by_first {r} {q} {p} m h = record {
       meets = λ ts x s. subst (Meets (p x)) (sym s.2) (quiet_behind s.0 s.1 (p x) ((h x.1).meets s.0 x.0 s.3) (mute_quiet refs q m s.1 x.1 s.4));
@@ -78,13 +78,13 @@ module _ {refs : (n : Name) → List Token → Tree n → Type 0} where
     }
 
   module _ {A B : Type 0} {r : Rule A} {p : A → Resolving B} where
-    each : Resolves refs r p → (found : List B) (ts : List Token) (xs : List A) → Each (Spelt refs r) ts xs → Meets (all_behind found (map p xs)) ts
-    each h found ts [] e = subst (Meets (all_behind found (map p []))) (sym e) (nothing found)
+    each : Resolves refs r p → (found : List B) (ts : List Token) (xs : List A) → Each (Spelt refs r) ts xs → Meets (all_after found (map p xs)) ts
+    each h found ts [] e = subst (Meets (all_after found (map p []))) (sym e) (nothing found)
     each h found ts (x ∷ xs) e =
-        subst (Meets (all_behind found (map p (x ∷ xs)))) (sym e.2)
-        (then e.0 e.1 (p x) (λ y. all_behind (found ++ y ∷ []) (map p xs)) (h.meets e.0 x e.3) (λ y. each h (found ++ y ∷ []) e.1 xs e.4))
+        subst (Meets (all_after found (map p (x ∷ xs)))) (sym e.2)
+        (then e.0 e.1 (p x) (λ y. all_after (found ++ y ∷ []) (map p xs)) (h.meets e.0 x e.3) (λ y. each h (found ++ y ∷ []) e.1 xs e.4))
 
-    pub by_many : {found : List B} → Resolves refs r p → Resolves refs (many r) (λ xs. all_behind found (map p xs))
+    pub by_many : {found : List B} → Resolves refs r p → Resolves refs (many r) (λ xs. all_after found (map p xs))
     by_many {found} h = record { meets = λ ts xs s. each h found ts xs s }
 
   module _ {A B : Type 0} {r : Rule A} (run : B → List A → Resolving B) (step : B → A → Resolving B) (none : (b : B) → run b [] ≡ pure b)
@@ -93,7 +93,7 @@ module _ {refs : (n : Name) → List Token → Tree n → Type 0} where
     each_in_turn b ts [] e = subst (λ us. Meets (run b []) us) (sym e) (subst (λ (p : Resolving B). Meets p []) (sym (none b)) (nothing b))
     each_in_turn b ts (x ∷ xs) e =
         subst (λ us. Meets (run b (x ∷ xs)) us) (sym e.2)
-        (λ s. subst (Comes s.names (e.0 ++ e.1)) (sym (more b x xs s)) (then e.0 e.1 (step b x) (λ c. run c xs) ((h b).meets e.0 x e.3) (λ c. each_in_turn c e.1 xs e.4) s))
+        (λ s. subst (Comes s (e.0 ++ e.1)) (sym (more b x xs s)) (then e.0 e.1 (step b x) (λ c. run c xs) ((h b).meets e.0 x e.3) (λ c. each_in_turn c e.1 xs e.4) s))
 
     pub in_turn : (b : B) → Resolves refs (many r) (run b)
     in_turn b = record { meets = λ ts xs s. each_in_turn b ts xs s }
@@ -102,3 +102,12 @@ module _ {refs : (n : Name) → List Token → Tree n → Type 0} where
     -- after a step that reads no token
     pub behind_still : {r : Rule A} (q : Resolving B) (p : B → A → Resolving C) → Meets q [] → ((b : B) → Resolves refs r (p b)) → Resolves refs r (λ x. q >>= (λ b. p b x))
     behind_still q p k h = record { meets = λ ts x s. then [] ts q (λ b. p b x) k (λ b. (h b).meets ts x s) }
+
+    -- before one
+    pub before_still : {r : Rule A} {p : A → Resolving B} (q : A → B → Resolving C) → ((x : A) (b : B) → Meets (q x b) []) → Resolves refs r p → Resolves refs r (λ x. p x >>= q x)
+    before_still {r} {p} q k h = record { meets = λ ts x s. still_behind ts (p x) (q x) (h.meets ts x s) (k x) }
+
+  module _ {A B : Type 0} where
+    -- a step that begins by how many variables were read
+    pub by_count : {r : Rule A} (p : ℕ → A → Resolving B) → ((n : ℕ) → Resolves refs r (p n)) → Resolves refs r (λ x s. p (length s.variables) x s)
+    by_count p h = record { meets = λ ts x k s. (h (length s.variables)).meets ts x k s }

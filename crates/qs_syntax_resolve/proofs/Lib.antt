@@ -2,7 +2,7 @@ mod Either
 pub mod Pieces
 pub mod Decimals
 pub mod Literals
-pub mod Prefixes
+pub mod Declared
 pub mod Equations
 pub mod TripleEquations
 pub mod PatternEquations

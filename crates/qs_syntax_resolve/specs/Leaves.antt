@@ -1,7 +1,7 @@
 -- Terms with their names resolved (SPARQL 1.1 Query, 4.1).
 -- Codepoint escapes are decoded in IRIs and strings, after the tokens, where the token table has
 -- them. So an escaped quotation mark ends no string.
-use Rattle.std.specs.Prelude.{ℕ, ◌+◌, false, List, [], Option, Some, None, Ok}
+use Rattle.std.specs.Prelude.{ℕ, ◌+◌, false, List, [], ◌∷◌, ◌++◌, drop, Option, Some, None, Ok}
 use Rattle.qs_syntax_tree.specs.declared.token.Span.{Span}
 use Rattle.qs_syntax_tree.specs.declared.term.Iri.{Iri}
 use Rattle.qs_syntax_tree.specs.declared.term.Literal.{Literal as WrittenLiteral}
@@ -23,8 +23,14 @@ use Rattle.qs_syntax_resolve.specs.declared.resolver.Resolver.{Resolver}
 use Rattle.qs_terms.specs.Outcome.{Outcome, and_then}
 use Rattle.qs_syntax_resolve.specs.Resolving.{Resolving, ◌<$>◌}
 
+-- a variable, which is noted after those that were read before it
 abbrev pub variable : Span → Resolving Variable
-variable span = λ s. Ok (record { name = of.variable s.names span }, s)
+variable span = λ s. let v : Variable = record { name = of.variable s.names span } in
+    Ok (v, record s { variables = s.variables ++ v ∷ [] })
+
+-- the variables that were read since there were so many of them
+abbrev pub variables_since : ℕ → Resolving (List Variable)
+variables_since count = λ s. Ok (drop count s.variables, s)
 
 abbrev pub iri : Iri → Resolving (List ℕ)
 iri i = λ s. and_then (of.iri s.names i) (λ text. Ok (text, s))

@@ -4,17 +4,15 @@
 -- Each backslash of a local name is dropped: no token has one that denotes itself. Names are in the
 -- crate that resolves trees, the outcomes of tokens and trees in that of texts. Crates of their own
 -- would cost clauses and win no time.
-use Rattle.std.specs.Prelude.{ℕ, ◌+◌, ◌-◌, ◌*◌, ◌^◌, ◌||◌, ◌==◌, nat_eq, min, List, [], ◌++◌, codes}
+use Rattle.std.specs.Prelude.{ℕ, ◌+◌, ◌-◌, ◌*◌, ◌^◌, ◌||◌, ◌==◌, nat_eq, min, List, [], ◌∷◌, ◌++◌}
+use Rattle.std.specs.Prelude.{codes}
 use Rattle.std.specs.Prelude.{Option, Some, None, Ok, Err}
 use Rattle.std.specs.Prelude.{if◌then◌else◌}
 use Rattle.std.specs.List.{starts_with, before_first, after_first, fold}
 use Rattle.std.specs.Option.{option_map_or}
 use Rattle.std.specs.Result.{result_ok, result_map_both}
 use Rattle.std.specs.Str.{bytes_eq}
-use Rattle.std.specs.Ordering.{nat_cmp}
-use Rattle.std.specs.Cmp.Lexicographic.{slice_cmp}
 use Rattle.std.specs.Map.{lookup}
-use Rattle.std.specs.BTreeMap.{insert_entry}
 use Rattle.qs_terms.specs.Iri.{checked_iri}
 use Rattle.qs_terms.specs.Literal as lit
 use Rattle.qs_terms.specs.Literal.{xsd_string, xsd_integer, xsd_boolean}
@@ -34,7 +32,7 @@ use Rattle.qs_lex_escapes.specs.Escape.{uchar, string_escape}
 use Rattle.qs_lex_escapes.specs.Decoded.{decoded, unescaped}
 use Rattle.qs_lex_escapes.specs.Piece.{piece}
 
--- the text, and the declared prefixes with the IRIs that they denote: each once, in ascending order
+-- the text, and the declarations so far, the last one first: a prefix and the IRI that it denotes
 pub record Names : Type 0 where
   pub text : List ℕ
   pub prefixes : List (List ℕ × List ℕ)
@@ -57,8 +55,8 @@ iri_at place text = result_map_both (λ i. i) (λ f. fault.RelativeIri place) (c
 unfoldable pub full : List ℕ → Span → Outcome (List ℕ)
 full text span = iri_at span.start (decoded uchar (piece text (span.start + 1) (span.end - 1)))
 
--- `prefix:local`: the IRI that the prefix denotes, and the local name behind it. The first colon
--- stands between the two.
+-- `prefix:local`: the IRI by the last declaration of the prefix, and the local name after it. The
+-- first colon stands between the two.
 unfoldable pub prefixed : Names → Span → Outcome (List ℕ)
 prefixed names span =
     let name = piece names.text span.start span.end in
@@ -111,7 +109,7 @@ unfoldable pub declare : Names → PrefixDeclaration → Outcome Names
 declare names d =
     let prefix = piece names.text d.prefix.start (d.prefix.end - 1) in
     and_then (full names.text d.iri)
-    (λ i. Ok (record names { prefixes = insert_entry (slice_cmp nat_cmp) names.prefixes prefix i }))
+    (λ i. Ok (record names { prefixes = (prefix, i) ∷ names.prefixes }))
 
 -- ---- numbers (SPARQL 1.1 Query, 15.4 and 15.5)
 

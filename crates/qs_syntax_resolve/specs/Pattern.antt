@@ -15,7 +15,7 @@ use Rattle.qs_syntax_resolve.specs.Data.{inline_data}
 use Rattle.qs_syntax_resolve.specs.Expression.{expression_of}
 use Rattle.qs_syntax_resolve.specs.Leaves.{variable, var_or_iri}
 use Rattle.qs_syntax_resolve.specs.Resolving.{Resolving, ◌>>=◌, ◌<$>◌, pure, all, in_turn}
-use Rattle.qs_syntax_resolve.specs.Triples.{triples_behind}
+use Rattle.qs_syntax_resolve.specs.Triples.{triples_after}
 
 -- the patterns, with the triples that no other pattern follows yet
 abbrev pub closed : List GraphPattern → List Triple → List GraphPattern
@@ -36,7 +36,7 @@ Put = OpenGroup → Resolving OpenGroup
 -- a filter doesn't end the triples before it
 abbrev pub pattern_level : GraphPattern-F Put Put (Resolving Group) → Put
 pattern_level (tree.Triples ts) =
-    λ g. triples_behind g.triples ts >>= (λ more. pure (record g { triples = more }))
+    λ g. triples_after g.triples ts >>= (λ more. pure (record g { triples = more }))
 pattern_level (tree.Union gs) = λ g. all gs >>= (λ xs. pure (put (pattern.Union xs) g))
 pattern_level (tree.Optional inner) = λ g. inner >>= (λ x. pure (put (pattern.Optional x) g))
 pattern_level (tree.Minus inner) = λ g. inner >>= (λ x. pure (put (pattern.Minus x) g))

@@ -26,15 +26,14 @@ use Rattle.qs_syntax_ast.specs.declared.query.Select.{Select}
 use Rattle.qs_syntax_ast.specs.declared.query.SelectItem.{SelectItem}
 use Rattle.qs_syntax_ast.specs.declared.query.SelectItem.TheVariants as item
 use Rattle.qs_syntax_ast.specs.declared.query.SolutionModifiers.{SolutionModifiers}
-use Rattle.qs_syntax_ast.specs.declared.term.Variable.{Variable}
 use Rattle.qs_syntax_resolve.specs.Names as of
 use Rattle.qs_syntax_resolve.specs.Data.{inline_data}
 use Rattle.qs_syntax_resolve.specs.Expression.{expression_of}
-use Rattle.qs_syntax_resolve.specs.Leaves.{variable}
+use Rattle.qs_syntax_resolve.specs.Leaves.{variable, variables_since}
 use Rattle.qs_syntax_resolve.specs.Pattern.{group_of}
 use Rattle.qs_terms.specs.Outcome.{and_then}
 use Rattle.qs_syntax_resolve.specs.Resolving.{Resolving, ◌>>=◌, ◌<$>◌, pure, all, optional}
-use Rattle.qs_syntax_resolve.specs.Triples.{triples_behind}
+use Rattle.qs_syntax_resolve.specs.Triples.{triples_after}
 
 -- ---- prefixes
 
@@ -77,7 +76,7 @@ select q =
 
 unfoldable pub construct : WrittenConstruct → Resolving Construct
 construct q =
-    triples_behind [] q.template >>= (λ t. optional group_of q.pattern >>= (λ g.
+    triples_after [] q.template >>= (λ t. optional group_of q.pattern >>= (λ g.
     modifiers q.modifiers >>= (λ m. pure (record { template = t; pattern = g; modifiers = m }))))
 
 unfoldable pub ask : WrittenAsk → Resolving Ask
@@ -90,8 +89,9 @@ form_of (written_form.Select q) = form.Select <$> select q
 form_of (written_form.Construct q) = form.Construct <$> construct q
 form_of (written_form.Ask q) = form.Ask <$> ask q
 
--- the query, with the variables of its text
-unfoldable pub query : List Variable → WrittenQuery → Resolving Query
-query variables q =
+-- the query, with the variables that were read
+unfoldable pub query : WrittenQuery → Resolving Query
+query q =
     prologue q.prologue >>= (λ _. form_of q.form >>= (λ f. optional inline_data q.values
-    >>= (λ v. pure (record { form = f; values = v; variables = variables }))))
+    >>= (λ v. variables_since 0 >>= (λ variables.
+    pure (record { form = f; values = v; variables = variables })))))

@@ -21,12 +21,12 @@ abbrev pub ◌<$>◌ : {A B : Type 0} → (A → B) → Resolving A → Resolvin
 f <$> p = p >>= (λ x. pure (f x))
 
 -- all of them, in turn, after those that are found already
-abbrev pub all_behind : {A : Type 0} → List A → List (Resolving A) → Resolving (List A)
-all_behind found [] = pure found
-all_behind found (p ∷ ps) = p >>= (λ x. all_behind (found ++ x ∷ []) ps)
+abbrev pub all_after : {A : Type 0} → List A → List (Resolving A) → Resolving (List A)
+all_after found [] = pure found
+all_after found (p ∷ ps) = p >>= (λ x. all_after (found ++ x ∷ []) ps)
 
 abbrev pub all : {A : Type 0} → List (Resolving A) → Resolving (List A)
-all ps = all_behind [] ps
+all ps = all_after [] ps
 
 -- one step after another, each from what those before it gave
 abbrev pub in_turn : {A B : Type 0} → (A → B → Resolving A) → A → List B → Resolving A

@@ -66,5 +66,5 @@ unfoldable pub same_subject : List Triple → TriplesSameSubject → Resolving (
 same_subject found t = subject_level found t.properties (out-GraphNode t.subject)
 
 -- the triples of a block, after those that are found already
-abbrev pub triples_behind : List Triple → List TriplesSameSubject → Resolving (List Triple)
-triples_behind found ts = in_turn same_subject found ts
+abbrev pub triples_after : List Triple → List TriplesSameSubject → Resolving (List Triple)
+triples_after found ts = in_turn same_subject found ts

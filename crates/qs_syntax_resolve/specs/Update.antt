@@ -1,5 +1,5 @@
 -- Updates with their names resolved (SPARQL 1.1 Update, 3).
-use Rattle.std.specs.Prelude.{List, [], ◌∷◌, ◌++◌, Option, Some, None, map}
+use Rattle.std.specs.Prelude.{List, [], ◌∷◌, ◌++◌, length, Option, Some, None, map}
 use Rattle.std.specs.Option.{option_map_or}
 use Rattle.qs_syntax_tree.specs.declared.update.GraphOrDefault.{GraphOrDefault as WrittenEnd}
 use Rattle.qs_syntax_tree.specs.declared.update.GraphOrDefault.TheVariants as written_end
@@ -15,31 +15,31 @@ use Rattle.qs_syntax_tree.specs.declared.update.Quads.TheVariants as written_qua
 use Rattle.qs_syntax_tree.specs.declared.update.Transfer.{Transfer as WrittenTransfer}
 use Rattle.qs_syntax_tree.specs.declared.update.Update.{Update as WrittenUpdate}
 use Rattle.qs_syntax_tree.specs.declared.update.UpdateStep.{UpdateStep}
-use Rattle.qs_syntax_ast.specs.declared.term.Variable.{Variable}
 use Rattle.qs_syntax_ast.specs.declared.update.GraphOrDefault.{GraphOrDefault}
 use Rattle.qs_syntax_ast.specs.declared.update.GraphOrDefault.TheVariants as end
 use Rattle.qs_syntax_ast.specs.declared.update.GraphTarget.{GraphTarget}
 use Rattle.qs_syntax_ast.specs.declared.update.GraphTarget.TheVariants as target
+use Rattle.qs_syntax_ast.specs.declared.update.DeleteWhere.{DeleteWhere}
 use Rattle.qs_syntax_ast.specs.declared.update.Modify.{Modify}
 use Rattle.qs_syntax_ast.specs.declared.update.Operation.{Operation}
 use Rattle.qs_syntax_ast.specs.declared.update.Operation.TheVariants as operation
 use Rattle.qs_syntax_ast.specs.declared.update.QuadBlock.{QuadBlock}
 use Rattle.qs_syntax_ast.specs.declared.update.Transfer.{Transfer}
 use Rattle.qs_syntax_ast.specs.declared.update.Update.{Update}
-use Rattle.qs_syntax_resolve.specs.Leaves.{iri, var_or_iri}
+use Rattle.qs_syntax_resolve.specs.Leaves.{iri, var_or_iri, variables_since}
 use Rattle.qs_syntax_resolve.specs.Pattern.{group_of}
 use Rattle.qs_syntax_resolve.specs.Query.{prologue}
 use Rattle.qs_syntax_resolve.specs.Resolving.{Resolving, ◌>>=◌, ◌<$>◌, pure, all}
 use Rattle.qs_syntax_resolve.specs.Resolving.{in_turn, optional}
-use Rattle.qs_syntax_resolve.specs.Triples.{triples_behind}
+use Rattle.qs_syntax_resolve.specs.Triples.{triples_after}
 
 -- ---- quads
 
 abbrev pub block : Quads → Resolving QuadBlock
 block (written_quads.Triples ts) =
-    triples_behind [] ts >>= (λ triples. pure (record { graph = None; triples = triples }))
+    triples_after [] ts >>= (λ triples. pure (record { graph = None; triples = triples }))
 block (written_quads.Graph n ts) =
-    var_or_iri n >>= (λ x. triples_behind [] ts >>= (λ triples.
+    var_or_iri n >>= (λ x. triples_after [] ts >>= (λ triples.
     pure (record { graph = Some x; triples = triples })))
 
 abbrev pub quads : List QuadElement → Resolving (List QuadBlock)
@@ -68,15 +68,23 @@ transfer t =
 
 -- ---- operations
 
+-- its variables are those that are read from here on
 unfoldable pub modify : WrittenModify → Resolving Modify
-modify m =
-    optional iri m.with >>= (λ w. template m.delete >>= (λ d. template m.insert >>= (λ i.
-    group_of m.pattern >>= (λ g. pure (record { with = w; delete = d; insert = i; pattern = g })))))
+modify m = λ s.
+    (optional iri m.with >>= (λ w. template m.delete >>= (λ d. template m.insert >>= (λ i.
+    group_of m.pattern >>= (λ g. variables_since (length s.variables) >>= (λ variables.
+    pure (record { with = w; delete = d; insert = i; pattern = g; variables = variables })))))))
+    s
+
+unfoldable pub delete_where : QuadPattern → Resolving DeleteWhere
+delete_where q = λ s.
+    (quads q.elements >>= (λ blocks. variables_since (length s.variables) >>= (λ variables.
+    pure (record { quads = blocks; variables = variables })))) s
 
 unfoldable pub operation_of : WrittenOperation → Resolving Operation
 operation_of (written.InsertData q) = operation.InsertData <$> quads q.elements
 operation_of (written.DeleteData q) = operation.DeleteData <$> quads q.elements
-operation_of (written.DeleteWhere q) = operation.DeleteWhere <$> quads q.elements
+operation_of (written.DeleteWhere q) = operation.DeleteWhere <$> delete_where q
 operation_of (written.Modify m) = operation.Modify <$> modify m
 operation_of (written.Clear silent t) = operation.Clear silent <$> target_of t
 operation_of (written.Drop silent t) = operation.Drop silent <$> target_of t
@@ -86,15 +94,13 @@ operation_of (written.Move t) = operation.Move <$> transfer t
 operation_of (written.Copy t) = operation.Copy <$> transfer t
 
 -- an operation, after those that are found already
-abbrev pub operation_behind : List Operation → Option WrittenOperation → Resolving (List Operation)
-operation_behind found None = pure found
-operation_behind found (Some o) = operation_of o >>= (λ x. pure (found ++ x ∷ []))
+abbrev pub operation_after : List Operation → Option WrittenOperation → Resolving (List Operation)
+operation_after found None = pure found
+operation_after found (Some o) = operation_of o >>= (λ x. pure (found ++ x ∷ []))
 
 unfoldable pub step : List Operation → UpdateStep → Resolving (List Operation)
-step found u = prologue u.prologue >>= (λ _. operation_behind found u.operation)
+step found u = prologue u.prologue >>= (λ _. operation_after found u.operation)
 
--- The update, with the variables of its text. Prefixes of a later prologue are added to the earlier
--- ones.
-unfoldable pub update : List Variable → WrittenUpdate → Resolving Update
-update variables u =
-    (λ found. record { operations = found; variables = variables }) <$> in_turn step [] u.steps
+-- Prefixes of a later prologue are added to the earlier ones.
+unfoldable pub update : WrittenUpdate → Resolving Update
+update u = (λ found. record { operations = found }) <$> in_turn step [] u.steps

@@ -8,6 +8,7 @@ pub mod Pattern
 pub mod Resolving
 pub mod Triples
 pub mod Data
+pub mod Declarations
 pub mod Leaves
 pub mod Query
 pub mod Resolved

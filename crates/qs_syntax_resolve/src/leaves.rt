@@ -1,6 +1,6 @@
 //! Terms.
 
-ghost use Rattle.std.specs.Prelude.{Ok};
+ghost use Rattle.std.specs.Prelude.{◌≡◌, drop, Ok, IfOk};
 ghost use Rattle.qs_terms.specs.inner.Outcome.{OrOutOfMemory};
 ghost use Rattle.qs_syntax_resolve.specs.Leaves as spec;
 ghost use Rattle.qs_syntax_resolve.specs.inner.Leaves as inner;
@@ -13,7 +13,8 @@ use qs_syntax_tree::term::{
 };
 use qs_syntax_tree::token::Span;
 use qs_terms::{Iri, Lit, QFault, Text};
-use std::alloc::Global;
+use sqlite_items::Items;
+use std::alloc::{AllocError, Global};
 
 fn empty_string(alloc: Global) -> Result<Lit, QFault>
     ensures { OrOutOfMemory (Ok inner.empty_string) result }
@@ -21,11 +22,52 @@ fn empty_string(alloc: Global) -> Result<Lit, QFault>
     Ok(Lit::string(alloc, Text::new(alloc, "")?)?)
 }
 
+fn copied(alloc: Global, variables: &[Variable]) -> Result<Items<Variable>, AllocError>
+    ensures { IfOk result (λ copies. copies ≡ variables.now) }
+{
+    let mut copies = Items::new(alloc);
+    for variable in variables {
+        let name = variable.name.share()?;
+        copies.push(Variable { name })?;
+    }
+    Ok(copies)
+}
+
+fn copied_after(
+    alloc: Global,
+    variables: &[Variable],
+    count: usize,
+) -> Result<Items<Variable>, AllocError>
+    ensures { IfOk result (λ copies. copies ≡ drop count variables.now) }
+{
+    if variables.len() < count {
+        return Ok(Items::new(alloc));
+    }
+    let (_before, after) = variables.split_at(count);
+    copied(alloc, after)
+}
+
 impl<'a> Resolver<'a> {
     pub fn variable(&mut self, span: Span) -> Result<Variable, QFault>
         ensures { Resolves (spec.variable span self.old) result self.new }
     {
-        Ok(self.names.variable(span)?)
+        let variable = self.names.variable(span)?;
+        let noted = Variable {
+            name: variable.name.share()?,
+        };
+        self.variables.push(noted)?;
+        Ok(variable)
+    }
+
+    /// The variables that were read since there were so many of them.
+    pub fn variables_since(
+        &mut self,
+        alloc: Global,
+        count: usize,
+    ) -> Result<Items<Variable>, QFault>
+        ensures { Resolves (spec.variables_since count self.old) result self.new }
+    {
+        Ok(copied_after(alloc, self.variables.as_slice(), count)?)
     }
 
     pub fn iri(&mut self, iri: WrittenIri) -> Result<Iri, QFault>

@@ -8,6 +8,7 @@
 //! `Resolved.antt` has the whole.
 #![tactic(auto)]
 
+mod declarations;
 mod expression;
 mod iri;
 mod leaves;

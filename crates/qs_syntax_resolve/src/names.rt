@@ -1,18 +1,14 @@
 //! The names of a text.
 //!
-//! Declared prefixes are in std's ordered map by slices of the text: a look-up takes no memory, a declaration copies no prefix. A
-//! later declaration replaces the earlier one.
+//! A prefix denotes what the last declaration before it says.
 
 ghost use Rattle.std.specs.Prelude.{◌≡◌, IfOk, OnErr};
-ghost use Rattle.std.specs.Map.{lookup};
-ghost use Rattle.std.specs.Option.{option_copied};
-ghost use Rattle.std.specs.Str.{bytes_eq};
 ghost use Rattle.qs_terms.specs.inner.OrOutOf.{BecomesOrOutOfMemory};
 ghost use Rattle.qs_terms.specs.inner.Outcome.{OrOutOfMemory};
 ghost use Rattle.qs_terms.specs.declared.fault.QFault.TheVariants.{Memory};
 ghost use Rattle.qs_syntax_resolve.specs.inner.Names.{expanded as expanded_name};
-ghost use Rattle.qs_syntax_resolve.specs.inner.Names.{declared as declared_in};
 
+use crate::declarations::Declarations;
 use crate::iri::{expanded, full_iri, parted, rdf_type};
 use crate::literal::{boolean, integer, plain, string, tagged, with_datatype};
 use crate::name_cache::NameCache;
@@ -26,7 +22,6 @@ use qs_syntax_tree::term::{Annotation, Iri as WrittenIri, Literal};
 use qs_syntax_tree::token::Span;
 use qs_terms::{Iri, IriCache, Lit, QFault, Text};
 use std::alloc::{AllocError, Global};
-use std::collections::BTreeMap;
 use std::marker::Model;
 
 /// A text, and the prefixes that are declared so far with the IRIs that they denote.
@@ -34,41 +29,31 @@ use std::marker::Model;
 pub struct Names<'a> {
     alloc: Global,
     text: &'a str,
-    prefixes: BTreeMap<&'a str, Iri>,
+    prefixes: Declarations<'a>,
     recent: IriCache,
     recent_names: NameCache,
 }
 
 impl<'a> Model for Names<'a> {
     ghost use Rattle.qs_syntax_resolve.specs.Names.{Names};
-    ghost use Rattle.qs_syntax_resolve.specs.inner.Names.{declared};
 
     ghost Value = { Names };
 
-    ghost view = { λ n. record { text = n.text.now; prefixes = declared n.prefixes.entries } };
-}
-
-// The IRI that a prefix denotes.
-fn declared<'m>(prefixes: &'m BTreeMap<&str, Iri>, prefix: &str) -> Option<&'m Iri>
-    ensures { option_copied result ≡ lookup (bytes_eq prefix.now)
-        (declared_in prefixes.now.entries) }
-{
-    prefixes.get(prefix)
+    ghost view = { λ n. record { text = n.text.now; prefixes = n.prefixes } };
 }
 
 // The IRI of a name with a prefix.
 fn with_prefix(
     alloc: Global,
-    prefixes: &BTreeMap<&str, Iri>,
+    prefixes: &Declarations<'_>,
     recent: &mut IriCache,
     place: usize,
     name: &str,
 ) -> Result<Iri, QFault>
-    ensures { OrOutOfMemory (expanded_name (declared_in prefixes.now.entries) place name.now)
-        result }
+    ensures { OrOutOfMemory (expanded_name prefixes.now place name.now) result }
 {
     let (prefix, local) = parted(name);
-    let Some(start) = declared(prefixes, prefix) else {
+    let Some(start) = prefixes.get(prefix) else {
         return Err(QFault::Prefix { place });
     };
     expanded(alloc, recent, place, start, local)
@@ -85,7 +70,7 @@ impl<'a> Names<'a> {
         Names {
             alloc,
             text,
-            prefixes: BTreeMap::new(alloc),
+            prefixes: Declarations::new(alloc),
             recent: IriCache::new(alloc),
             recent_names: NameCache::new(alloc),
         }
@@ -95,7 +80,7 @@ impl<'a> Names<'a> {
     ///
     /// # Errors
     /// `QFault::RelativeIri` with the place of an IRI that has no scheme, and `QFault::Memory`. The names are then as before.
-    #[tactic(auto, using(crate::proofs::Prefixes::put), unfolding(crate::specs::Names::declare))]
+    #[tactic(auto, unfolding(crate::specs::Names::declare))]
     pub fn declare(&mut self, declaration: &PrefixDeclaration) -> Result<(), QFault>
         ensures answer { BecomesOrOutOfMemory Memory (declare self.old declaration.now) result
             self.new }
@@ -103,7 +88,7 @@ impl<'a> Names<'a> {
     {
         let iri = full_iri(self.alloc, &mut self.recent, self.text, declaration.iri)?;
         let prefix = before_end(self.text, declaration.prefix, 1);
-        self.prefixes.insert(prefix, iri)?;
+        self.prefixes.declare(prefix, iri)?;
         Ok(())
     }
 

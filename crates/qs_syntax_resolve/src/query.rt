@@ -7,7 +7,7 @@ ghost use Rattle.std.specs.Prelude.{[]};
 ghost use Rattle.qs_syntax_resolve.specs.Query as spec;
 ghost use Rattle.qs_syntax_resolve.specs.inner.Query as inner;
 ghost use Rattle.qs_syntax_resolve.specs.inner.Resolving.{Resolves};
-ghost use Rattle.qs_syntax_resolve.specs.Triples.{triples_behind};
+ghost use Rattle.qs_syntax_resolve.specs.Triples.{triples_after};
 
 use crate::resolver::Resolver;
 use qs_base::keep_beside;
@@ -16,7 +16,6 @@ use qs_syntax_ast::query::{
     Ask, Construct, OrderCondition, Projection, Query, QueryForm, Select, SelectItem,
     SolutionModifiers,
 };
-use qs_syntax_ast::term::Variable;
 use qs_syntax_tree::pattern::{Group as WrittenGroup, InlineData as WrittenData};
 use qs_syntax_tree::query::{
     Ask as WrittenAsk, Construct as WrittenConstruct, OrderCondition as WrittenOrder,
@@ -162,7 +161,7 @@ impl<'a> Resolver<'a> {
         alloc: Global,
         triples: &[TriplesSameSubject],
     ) -> Result<Items<Triple>, QFault>
-        ensures { Resolves (triples_behind [] triples.now self.old) result self.new }
+        ensures { Resolves (triples_after [] triples.now self.old) result self.new }
     {
         let mut found = Items::from_vec(Vec::with_capacity(alloc, triples.len())?);
         self.triples(alloc, &mut found, triples)?;
@@ -241,19 +240,15 @@ impl<'a> Resolver<'a> {
         }
     }
 
-    /// The query, with the variables of its text.
+    /// The query, with the variables that were read.
     #[tactic(auto, unfolding(crate::specs::Query::query))]
-    pub fn query(
-        &mut self,
-        alloc: Global,
-        variables: Items<Variable>,
-        query: &WrittenQuery,
-    ) -> Result<Query, QFault>
-        ensures { Resolves (spec.query variables query.now self.old) result self.new }
+    pub fn query(&mut self, alloc: Global, query: &WrittenQuery) -> Result<Query, QFault>
+        ensures { Resolves (spec.query query.now self.old) result self.new }
     {
         self.prologue(query.prologue.as_slice())?;
         let form = self.form(alloc, &query.form)?;
-        let (form, values) = keep_beside(form, self.trailing(alloc, &query.values))?;
+        let head = keep_beside(form, self.trailing(alloc, &query.values))?;
+        let ((form, values), variables) = keep_beside(head, self.variables_since(alloc, 0))?;
         Ok(Query {
             form,
             values,

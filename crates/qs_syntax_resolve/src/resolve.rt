@@ -7,12 +7,10 @@ ghost use Rattle.qs_syntax_resolve.specs.Resolved as spec;
 use crate::names::Names;
 use crate::resolver::Resolver;
 use qs_syntax_ast::query::Query;
-use qs_syntax_ast::term::Variable;
 use qs_syntax_ast::update::Update;
 use qs_syntax_tree::query::Query as WrittenQuery;
 use qs_syntax_tree::update::Update as WrittenUpdate;
 use qs_terms::QFault;
-use sqlite_items::Items;
 use std::alloc::Global;
 
 // what was resolved, where its literals are lawful
@@ -27,7 +25,7 @@ fn where_lawful<T: Drop>(resolved: Result<T, QFault>, lawful: bool) -> Result<Op
     }
 }
 
-/// The query of a text with its names resolved, with the variables that are given for it; `None` where a literal of it isn't lawful,
+/// The query of a text with its names resolved, with its variables as often as they stand in it; `None` where a literal of it isn't lawful,
 /// since its datatype is rdf:langString and it has no tag (RDF 1.1 Concepts, 3.3). Anonymous blank nodes are numbered from 0.
 ///
 /// # Errors
@@ -37,13 +35,12 @@ fn where_lawful<T: Drop>(resolved: Result<T, QFault>, lawful: bool) -> Result<Op
 pub fn resolve_query(
     alloc: Global,
     text: &str,
-    variables: Items<Variable>,
     query: &WrittenQuery,
 ) -> Result<Option<Query>, QFault>
-    ensures { OrOutOfMemory (spec.resolved_query text.now variables query.now) result }
+    ensures { OrOutOfMemory (spec.resolved_query text.now query.now) result }
 {
-    let mut resolver = Resolver::new(Names::new(alloc, text));
-    let query = resolver.query(alloc, variables, query);
+    let mut resolver = Resolver::new(alloc, Names::new(alloc, text));
+    let query = resolver.query(alloc, query);
     where_lawful(query, resolver.lawful)
 }
 
@@ -56,12 +53,11 @@ pub fn resolve_query(
 pub fn resolve_update(
     alloc: Global,
     text: &str,
-    variables: Items<Variable>,
     update: WrittenUpdate,
 ) -> Result<Option<Update>, QFault>
-    ensures { OrOutOfMemory (spec.resolved_update text.now variables update) result }
+    ensures { OrOutOfMemory (spec.resolved_update text.now update) result }
 {
-    let mut resolver = Resolver::new(Names::new(alloc, text));
-    let update = resolver.update(alloc, variables, update);
+    let mut resolver = Resolver::new(alloc, Names::new(alloc, text));
+    let update = resolver.update(alloc, update);
     where_lawful(update, resolver.lawful)
 }

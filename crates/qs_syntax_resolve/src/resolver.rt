@@ -6,6 +6,9 @@ ghost use Rattle.std.specs.Prelude.{◌≡◌};
 ghost use Rattle.qs_syntax_resolve.specs.inner.Resolved.{start};
 
 use crate::names::Names;
+use qs_syntax_ast::term::Variable;
+use sqlite_items::Items;
+use std::alloc::Global;
 
 /// The names of the text, and what has been met so far.
 #[derive(Drop)]
@@ -15,16 +18,19 @@ pub struct Resolver<'a> {
     pub anonymous: usize,
     /// Whether all literals are lawful.
     pub lawful: bool,
+    /// The variables that were read, as often as they stand in the text.
+    pub variables: Items<Variable>,
 }
 
 impl<'a> Resolver<'a> {
-    pub fn new(names: Names<'a>) -> Resolver<'a>
+    pub fn new(alloc: Global, names: Names<'a>) -> Resolver<'a>
         ensures { result ≡ start names.entry }
     {
         Resolver {
             names,
             anonymous: 0,
             lawful: true,
+            variables: Items::new(alloc),
         }
     }
 }

@@ -219,7 +219,7 @@ impl<'a> Resolver<'a> {
         found: &mut Items<Triple>,
         all: &[TriplesSameSubject],
     ) -> Result<(), QFault>
-        ensures { Collects (spec.triples_behind found.old all.now self.old) result found.new
+        ensures { Collects (spec.triples_after found.old all.now self.old) result found.new
             self.new }
     {
         for triples in all {
@@ -235,7 +235,7 @@ impl<'a> Resolver<'a> {
         found: &mut Items<Triple>,
         all: &mut Items<TriplesSameSubject>,
     ) -> Result<(), QFault>
-        ensures { Collects (spec.triples_behind found.old all.old self.old) result found.new
+        ensures { Collects (spec.triples_after found.old all.old self.old) result found.new
             self.new }
     {
         for at in 0..all.len() {
@@ -251,7 +251,7 @@ impl<'a> Resolver<'a> {
         alloc: Global,
         mut triples: Items<TriplesSameSubject>,
     ) -> Result<Items<Triple>, QFault>
-        ensures { Resolves (spec.triples_behind [] triples self.old) result self.new }
+        ensures { Resolves (spec.triples_after [] triples self.old) result self.new }
     {
         let mut found = Items::from_vec(Vec::with_capacity(alloc, triples.len())?);
         self.consumed_triples(alloc, &mut found, &mut triples)?;

@@ -10,9 +10,8 @@ use crate::resolver::Resolver;
 use crate::reversed::reversed;
 use qs_base::{drop_value, keep_beside};
 use qs_syntax_ast::pattern::Group;
-use qs_syntax_ast::term::Variable;
 use qs_syntax_ast::update::{
-    GraphOrDefault, GraphTarget, Modify, Operation, QuadBlock, Transfer, Update,
+    DeleteWhere, GraphOrDefault, GraphTarget, Modify, Operation, QuadBlock, Transfer, Update,
 };
 use qs_syntax_tree::pattern::Group as WrittenGroup;
 use qs_syntax_tree::term::Iri as WrittenIri;
@@ -142,6 +141,7 @@ impl<'a> Resolver<'a> {
     fn modify(&mut self, alloc: Global, modify: WrittenModify) -> Result<Modify, QFault>
         ensures { Resolves (spec.modify modify self.old) result self.new }
     {
+        let count = self.variables.len();
         let WrittenModify {
             with,
             delete,
@@ -150,16 +150,26 @@ impl<'a> Resolver<'a> {
         } = modify;
         let templates = self.templates(alloc, with, (delete, insert));
         let (pattern, templates) = keep_beside(pattern, templates)?;
-        let (((with, delete), insert), pattern) = keep_beside(
-            templates,
-            self.consumed_group(alloc, pattern),
-        )?;
+        let parts = keep_beside(templates, self.consumed_group(alloc, pattern))?;
+        let variables = self.variables_since(alloc, count);
+        let ((((with, delete), insert), pattern), variables) = keep_beside(parts, variables)?;
         Ok(Modify {
             with,
             delete,
             insert,
             pattern,
+            variables,
         })
+    }
+
+    #[tactic(auto, unfolding(crate::specs::Update::delete_where))]
+    fn delete_where(&mut self, alloc: Global, quads: QuadPattern) -> Result<DeleteWhere, QFault>
+        ensures { Resolves (spec.delete_where quads self.old) result self.new }
+    {
+        let count = self.variables.len();
+        let quads = self.quads(alloc, quads.elements)?;
+        let (quads, variables) = keep_beside(quads, self.variables_since(alloc, count))?;
+        Ok(DeleteWhere { quads, variables })
     }
 
     #[tactic(auto, unfolding(crate::specs::Update::operation_of))]
@@ -175,7 +185,7 @@ impl<'a> Resolver<'a> {
                 Ok(found) => Ok(Operation::DeleteData(found)),
                 Err(fault) => Err(fault),
             },
-            WrittenOperation::DeleteWhere(quads) => match self.quads(alloc, quads.elements) {
+            WrittenOperation::DeleteWhere(quads) => match self.delete_where(alloc, quads) {
                 Ok(found) => Ok(Operation::DeleteWhere(found)),
                 Err(fault) => Err(fault),
             },
@@ -210,13 +220,13 @@ impl<'a> Resolver<'a> {
         }
     }
 
-    fn operation_behind(
+    fn operation_after(
         &mut self,
         alloc: Global,
         found: &mut Items<Operation>,
         operation: Option<WrittenOperation>,
     ) -> Result<(), QFault>
-        ensures { Collects (spec.operation_behind found.old operation self.old) result found.new
+        ensures { Collects (spec.operation_after found.old operation self.old) result found.new
             self.new }
     {
         match operation {
@@ -242,7 +252,7 @@ impl<'a> Resolver<'a> {
             operation,
         } = step;
         let (operation, _done) = keep_beside(operation, self.prologue(prologue.as_slice()))?;
-        self.operation_behind(alloc, found, operation)
+        self.operation_after(alloc, found, operation)
     }
 
     fn steps(
@@ -260,25 +270,17 @@ impl<'a> Resolver<'a> {
         Ok(())
     }
 
-    /// The operations of an update, with the variables of its text. Each part of the tree is dropped once it is resolved, so that
+    /// The operations of an update. Each part of the tree is dropped once it is resolved, so that
     /// what is resolved next is put into its memory.
     #[tactic(auto, unfolding(crate::specs::Update::update))]
-    pub fn update(
-        &mut self,
-        alloc: Global,
-        variables: Items<Variable>,
-        update: WrittenUpdate,
-    ) -> Result<Update, QFault>
-        ensures { Resolves (spec.update variables update self.old) result self.new }
+    pub fn update(&mut self, alloc: Global, update: WrittenUpdate) -> Result<Update, QFault>
+        ensures { Resolves (spec.update update self.old) result self.new }
     {
         let WrittenUpdate { steps } = update;
         let room = Vec::with_capacity(alloc, steps.len());
         let (steps, room) = keep_beside(steps, room)?;
         let mut operations = Items::from_vec(room);
         self.steps(alloc, &mut operations, steps)?;
-        Ok(Update {
-            operations,
-            variables,
-        })
+        Ok(Update { operations })
     }
 }

@@ -9,8 +9,8 @@ use Rattle.std.specs.Cmp.Lexicographic.{pointwise, bytes_decides, nat_list_eq_eq
 use Rattle.std.specs.List.{fold, list_any}
 use Rattle.qs_terms.proofs.FirstOnes.{once_with}
 use Rattle.qs_terms.specs.Bag.{with_new}
-use Rattle.qs_syntax_scope.specs.Firsts.{names_of, with_names, firsts}
-use Rattle.qs_syntax_scope.specs.inner.Firsts.{with_name, add_first, firsts_of}
+use Rattle.qs_syntax_scope.specs.Firsts.{names_of, firsts}
+use Rattle.qs_syntax_scope.specs.inner.Firsts.{with_name, with_names, add_first, firsts_of}
 use Rattle.qs_syntax_scope.specs.Names.{Name, contains}
 use Rattle.qs_syntax_ast.specs.declared.term.Variable.{Variable}
 
@@ -31,11 +31,6 @@ names_of_with (x ∷ xs) = ap (λ ys. x ∷ ys) (names_of_with xs)
 pub with_own_names : (variables : List Variable) → with_names (names_of variables) ≡ variables
 with_own_names [] = refl
 with_own_names (x ∷ xs) = ap (λ ys. x ∷ ys) (with_own_names xs)
-
--- variables of names after names of variables
-pub with_names_of : (variables : List Variable) (names : List Name) → with_names (names_of variables ++ names) ≡ variables ++ with_names names
-with_names_of [] names = refl
-with_names_of (x ∷ xs) names = ap (λ ys. x ∷ ys) (with_names_of xs names)
 
 -- ---- what is among the first variables
 

@@ -1,44 +1,20 @@
--- What the list of all variables has.
-use Rattle.std.proofs.Common.{◌≡◌, subst, Bool, true, false, ◌||◌, not, if◌then◌else◌, nat_eq, List, [], ◌∷◌, ◌++◌, sym, ap, ◌∙◌, refl, append_assoc}
+-- Each first variable stands once.
+use Rattle.std.proofs.Common.{◌≡◌, subst, Bool, true, false, not, if◌then◌else◌, List, [], ◌∷◌, ◌++◌, sym, ap, ◌∙◌, refl, append_assoc}
 use Rattle.std.proofs.lemmas.Bool.{and_from, not_from_false}
-use Rattle.std.proofs.lemmas.List.{map-append, append-nil}
-use Rattle.std.proofs.lemmas.List.Folds.{list_any-append}
+use Rattle.std.proofs.lemmas.List.{append-nil}
 use Rattle.std.proofs.lemmas.List.Sums.{fold-append}
 use Rattle.std.specs.Bool.{IsTrue}
-use Rattle.std.specs.Cmp.Lexicographic.{pointwise}
 use Rattle.std.specs.List.{fold}
-use Rattle.qs_syntax_ast.specs.declared.query.Query.{Query}
 use Rattle.qs_syntax_ast.specs.declared.term.Variable.{Variable}
-use Rattle.qs_syntax_ast.specs.declared.update.Update.{Update}
-use Rattle.qs_syntax_scope.proofs.FirstsKept.{contains_firsts, firsts_are, names_of_with, names_with}
+use Rattle.qs_syntax_scope.proofs.FirstsKept.{firsts_are, names_with}
 use Rattle.qs_syntax_scope.proofs.Plain.{distinct_kept}
 use Rattle.qs_syntax_scope.proofs.Reading.{distinct}
 use Rattle.qs_syntax_scope.specs.declared.met.Met.{Met}
-use Rattle.qs_syntax_scope.specs.Firsts.{names_of, with_names, firsts}
+use Rattle.qs_syntax_scope.specs.Firsts.{names_of, firsts}
 use Rattle.qs_syntax_scope.specs.inner.Firsts.{add_first, firsts_of}
 use Rattle.qs_syntax_scope.specs.inner.Laws.{EachStandsOnce}
 use Rattle.qs_syntax_scope.specs.inner.Met.{after, add_new}
 use Rattle.qs_syntax_scope.specs.Names.{Name, contains}
-use Rattle.qs_syntax_scope.specs.VariablesIn.{query_variables, update_variables}
-use Rattle.qs_syntax_scope.specs.inner.VariablesIn.{in_query, in_update}
-
--- ---- variables, and names after them
-
-both : (variables : List Variable) (names : List Name) (name : Name) → contains (names_of (firsts (variables ++ with_names names))) name ≡ (contains (names_of variables) name || contains names name)
-both variables names name =
-    contains_firsts (variables ++ with_names names) name
-    ∙ ap (λ all. contains all name) (map-append (λ (v : Variable). v.name) variables (with_names names) ∙ ap (λ more. names_of variables ++ more) (names_of_with names))
-    ∙ list_any-append (λ one. pointwise nat_eq one name) (names_of variables) names
-
-pub of_query : (query : Query) (name : Name) → contains (names_of (query_variables query)) name ≡ (contains (names_of query.variables) name || contains (in_query query) name)
-unfolding query_variables
-of_query query name = both query.variables (in_query query) name
-
-pub of_update : (update : Update) (name : Name) → contains (names_of (update_variables update)) name ≡ (contains (names_of update.variables) name || contains (in_update update) name)
-unfolding update_variables
-of_update update name = both update.variables (in_update update) name
-
--- ---- each once
 
 met_names : (m : Met) (names : List Name) → (fold add_new m names).names ≡ m.names ++ names
 met_names m [] = sym (append-nil m.names)

@@ -9,9 +9,6 @@ use Rattle.qs_syntax_ast.specs.declared.term.Variable.{Variable}
 abbrev pub names_of : List Variable → List Name
 names_of variables = map (λ v. v.name) variables
 
-abbrev pub with_names : List Name → List Variable
-with_names names = map (λ name. record { name = name }) names
-
 -- each once
 abbrev pub firsts : List Variable → List Variable
 firsts variables = once (λ v w. pointwise nat_eq v.name w.name) variables

@@ -57,7 +57,7 @@ have_no_blank blocks =
 abbrev pub operation_keeps : Operation → Bool
 operation_keeps (op.InsertData blocks) = have_no_variable blocks
 operation_keeps (op.DeleteData blocks) = have_no_variable blocks && have_no_blank blocks
-operation_keeps (op.DeleteWhere blocks) = have_no_blank blocks
+operation_keeps (op.DeleteWhere d) = have_no_blank d.quads
 operation_keeps (op.Modify modify) = have_no_blank modify.delete && group_keeps modify.pattern
 operation_keeps _ = true
 

@@ -8,5 +8,4 @@ pub mod Tables
 pub mod Selected
 pub mod KeepsScope
 pub mod Firsts
-pub mod VariablesIn
 pub mod inner

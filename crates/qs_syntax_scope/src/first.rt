@@ -1,8 +1,8 @@
 //! Variables in the order in which they first appear.
 
 ghost use Rattle.std.specs.Prelude.{◌≡◌, ◌∷◌, [], ◌++◌, take, IfOk, OnOk, if◌then◌else◌};
-ghost use Rattle.qs_syntax_scope.specs.Firsts.{names_of, with_names, firsts};
-ghost use Rattle.qs_syntax_scope.specs.inner.Firsts.{with_name};
+ghost use Rattle.qs_syntax_scope.specs.Firsts.{names_of, firsts};
+ghost use Rattle.qs_syntax_scope.specs.inner.Firsts.{with_name, with_names};
 ghost use Rattle.qs_syntax_scope.specs.Names.{contains};
 
 use crate::name::Name;

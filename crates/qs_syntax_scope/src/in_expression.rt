@@ -1,8 +1,7 @@
 //! The variables of expressions.
 
 ghost use Rattle.std.specs.Prelude.{◌≡◌, ◌++◌, OnOk};
-ghost use Rattle.qs_syntax_scope.specs.VariablesIn as spec;
-ghost use Rattle.qs_syntax_scope.specs.inner.VariablesIn as inner;
+ghost use Rattle.qs_syntax_scope.specs.inner.VariablesIn as spec;
 
 use crate::name_list::NameList;
 use crate::scope::push_variable;
@@ -57,7 +56,7 @@ pub fn push_expressions<'a>(
     names: &mut NameList<'a>,
     all: &'a [Expression],
 ) -> Result<(), AllocError>
-    ensures { OnOk result (names.new ≡ names.old ++ inner.in_expressions all.now) }
+    ensures { OnOk result (names.new ≡ names.old ++ spec.in_expressions all.now) }
 {
     for one in all {
         push_expression(names, one)?;
@@ -67,7 +66,7 @@ pub fn push_expressions<'a>(
 
 #[cycle(expression)]
 fn push_addends<'a>(names: &mut NameList<'a>, all: &'a [Addend]) -> Result<(), AllocError>
-    ensures { OnOk result (names.new ≡ names.old ++ inner.in_addends all.now) }
+    ensures { OnOk result (names.new ≡ names.old ++ spec.in_addends all.now) }
 {
     for one in all {
         push_expression(names, &one.operand)?;

@@ -1,8 +1,7 @@
 //! The variables that stand anywhere in a group.
 
 ghost use Rattle.std.specs.Prelude.{◌≡◌, ◌++◌, OnOk, IfOk};
-ghost use Rattle.qs_syntax_scope.specs.VariablesIn as spec;
-ghost use Rattle.qs_syntax_scope.specs.inner.VariablesIn as inner_spec;
+ghost use Rattle.qs_syntax_scope.specs.inner.VariablesIn as spec;
 
 use crate::first::first_of_names;
 use crate::in_expression::{push_expression, push_expressions};
@@ -24,7 +23,7 @@ pub fn push_group<'a>(names: &mut NameList<'a>, group: &'a Group) -> Result<(), 
 
 #[cycle(group)]
 fn push_patterns<'a>(names: &mut NameList<'a>, all: &'a [GraphPattern]) -> Result<(), AllocError>
-    ensures { OnOk result (names.new ≡ names.old ++ inner_spec.in_patterns all.now) }
+    ensures { OnOk result (names.new ≡ names.old ++ spec.in_patterns all.now) }
 {
     for one in all {
         push_pattern(names, one)?;
@@ -34,7 +33,7 @@ fn push_patterns<'a>(names: &mut NameList<'a>, all: &'a [GraphPattern]) -> Resul
 
 #[cycle(group)]
 fn push_pattern<'a>(names: &mut NameList<'a>, pattern: &'a GraphPattern) -> Result<(), AllocError>
-    ensures { OnOk result (names.new ≡ names.old ++ inner_spec.in_pattern pattern.now) }
+    ensures { OnOk result (names.new ≡ names.old ++ spec.in_pattern pattern.now) }
 {
     match pattern {
         GraphPattern::Triples(triples) => push_triples(names, triples.as_slice()),
@@ -54,7 +53,7 @@ fn push_pattern<'a>(names: &mut NameList<'a>, pattern: &'a GraphPattern) -> Resu
 
 #[cycle(group)]
 fn push_groups<'a>(names: &mut NameList<'a>, all: &'a [Group]) -> Result<(), AllocError>
-    ensures { OnOk result (names.new ≡ names.old ++ inner_spec.in_groups all.now) }
+    ensures { OnOk result (names.new ≡ names.old ++ spec.in_groups all.now) }
 {
     for one in all {
         push_group(names, one)?;
@@ -69,7 +68,7 @@ fn push_groups<'a>(names: &mut NameList<'a>, all: &'a [Group]) -> Result<(), All
 /// `AllocError` where memory runs out.
 #[tactic(auto, unfolding(crate::specs::inner::VariablesIn::group_variables))]
 pub fn group_variables(alloc: Global, group: &Group) -> Result<Items<Variable>, AllocError>
-    ensures { IfOk result (λ found. found ≡ inner_spec.group_variables group.now) }
+    ensures { IfOk result (λ found. found ≡ spec.group_variables group.now) }
 {
     let mut names = NameList::new(alloc);
     push_group(&mut names, group)?;

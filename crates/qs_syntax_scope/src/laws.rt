@@ -1,9 +1,6 @@
-//! What the rules say, in words that ask for no order.
-//!
-//! The listed variables are those of the tokens, then those of the resolved tree. The second part adds none, but that would be a
-//! theorem over the whole grammar and all of name resolution. Without it the number of a variable could be that of a hidden one.
+//! What the rules and the lists of variables say, in words that ask for no order.
 
-ghost use Rattle.std.specs.Prelude.{◌↔◌, ◌≡◌, ◌<◌, List, [], ◌∷◌, ◌++◌, ◌||◌, length, map, slice_get, Some, IsTrue, false};
+ghost use Rattle.std.specs.Prelude.{◌↔◌, ◌≡◌, ◌<◌, List, [], ◌∷◌, ◌++◌, length, map, slice_get, Some, IsTrue, false};
 ghost use Rattle.std.specs.List.{flat_map};
 ghost use Rattle.qs_syntax_scope.specs.Names.{Name, contains, are_distinct, are_apart};
 ghost use Rattle.qs_syntax_scope.specs.Firsts.{names_of, firsts};
@@ -11,8 +8,6 @@ ghost use Rattle.qs_syntax_scope.specs.Places.{place_of};
 ghost use Rattle.qs_syntax_scope.specs.Scope.{in_scope, group_keeps, all_keep};
 ghost use Rattle.qs_syntax_scope.specs.inner.Scope.{scope_of_pattern};
 ghost use Rattle.qs_syntax_scope.specs.Variables.{triple_variables, graph_variables, column_names};
-ghost use Rattle.qs_syntax_scope.specs.VariablesIn.{query_variables, update_variables};
-ghost use Rattle.qs_syntax_scope.specs.inner.VariablesIn.{in_query, in_update};
 ghost use Rattle.qs_syntax_scope.specs.inner.Laws.{EachStandsOnce, EachStandsInOne, EachFits};
 ghost use Rattle.qs_syntax_ast.specs.declared.pattern.Group.{Group, out-Group};
 ghost use Rattle.qs_syntax_ast.specs.declared.pattern.GraphPattern.{GraphPattern};
@@ -22,22 +17,16 @@ ghost use Rattle.qs_syntax_ast.specs.declared.pattern.InlineData.{InlineData};
 ghost use Rattle.qs_syntax_ast.specs.declared.term.VarOrIri.{VarOrIri};
 ghost use Rattle.qs_syntax_ast.specs.declared.expression.Expression.{Expression};
 ghost use Rattle.qs_syntax_ast.specs.declared.term.Variable.{Variable};
-ghost use Rattle.qs_syntax_ast.specs.declared.query.Query.{Query};
-ghost use Rattle.qs_syntax_ast.specs.declared.update.Update.{Update};
 
 /// Names are distinct exactly where each stands once.
 pub fn distinct_names_stand_once()
     ensures { (names : List Name) → IsTrue (are_distinct names) ↔ EachStandsOnce names }
 {}
 
-/// The variables that stand anywhere in a query are among `query_variables`, and those that it lists are too; nothing else is, and
-/// each stands there once. The same holds of an update.
-pub fn all_variables_are_listed()
-    ensures of_query { (query : Query) (name : Name) → contains (names_of (query_variables query))
-        name ≡ (contains (names_of query.variables) name || contains (in_query query) name) }
-    ensures of_update { (update : Update) (name : Name)
-        → contains (names_of (update_variables update)) name
-        ≡ (contains (names_of update.variables) name || contains (in_update update) name) }
+/// A name is among the first variables exactly where it is among all, and stands there once.
+pub fn first_variables_are_all()
+    ensures names { (variables : List Variable) (name : Name)
+        → contains (names_of (firsts variables)) name ≡ contains (names_of variables) name }
     ensures once { (variables : List Variable) → EachStandsOnce (names_of (firsts variables)) }
 {}
 

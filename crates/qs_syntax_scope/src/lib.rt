@@ -1,13 +1,12 @@
 //! The rules that a query or an update keeps beyond the grammar (SPARQL 1.1 Query, 18.2.1 and the notes on the grammar in 19.8;
-//! 19.6 for the labels of blank nodes), and the variables that stand anywhere in it.
+//! 19.6 for the labels of blank nodes). Lists of its variables: those in scope of a group, those that stand anywhere in a group, and
+//! each variable once.
 #![tactic(auto)]
 
 mod blocks;
 mod first;
 mod in_expression;
 mod in_group;
-mod in_query;
-mod in_update;
 mod key;
 mod labels;
 pub mod laws;
@@ -23,8 +22,6 @@ mod update;
 
 pub use first::{first_variables, number_names};
 pub use in_group::group_variables;
-pub use in_query::query_variables;
-pub use in_update::{operation_variables, update_variables};
 pub use name_list::NameList;
 pub use query::query_keeps_scope;
 pub use scope::in_scope;

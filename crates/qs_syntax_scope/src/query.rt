@@ -43,7 +43,7 @@ pub fn group_keeps(alloc: Global, group: &Group) -> Result<bool, AllocError>
 }
 
 /// The variables of the trailing VALUES, if there is one.
-pub fn push_trailing<'a>(
+fn push_trailing<'a>(
     names: &mut NameList<'a>,
     values: &'a Option<InlineData>,
 ) -> Result<(), AllocError>

@@ -34,7 +34,7 @@ fn operation_keeps(alloc: Global, operation: &Operation) -> Result<bool, AllocEr
     match operation {
         Operation::InsertData(blocks) => Ok(have_no_variable(blocks.as_slice())),
         Operation::DeleteData(blocks) => Ok(data_can_be_removed(blocks.as_slice())),
-        Operation::DeleteWhere(blocks) => Ok(have_no_blank(blocks.as_slice())),
+        Operation::DeleteWhere(delete) => Ok(have_no_blank(delete.quads.as_slice())),
         Operation::Modify(modify) => modify_keeps(alloc, modify),
         _ => Ok(true),
     }

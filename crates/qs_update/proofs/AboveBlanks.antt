@@ -22,9 +22,8 @@ use Rattle.qs_syntax_ast.specs.declared.update.Operation.{Operation}
 use Rattle.qs_syntax_ast.specs.declared.update.Operation.TheVariants as operation
 use Rattle.qs_syntax_ast.specs.declared.update.QuadBlock.{QuadBlock}
 use Rattle.qs_syntax_ast.specs.declared.update.Transfer.{Transfer}
-use Rattle.qs_syntax_scope.specs.Firsts.{names_of}
+use Rattle.qs_syntax_scope.specs.Firsts.{firsts, names_of}
 use Rattle.qs_syntax_scope.specs.Names.{Name}
-use Rattle.qs_syntax_scope.specs.VariablesIn.{operation_variables}
 use Rattle.qs_algebra_solutions.specs.Solution.{Solution, unbound}
 use Rattle.qs_algebra_patterns.specs.Eval.{eval}
 use Rattle.qs_algebra_patterns.specs.declared.pattern.PatternNode.{PatternNode}
@@ -186,14 +185,14 @@ module _ (bound : Bound) (made : Made) (wheres : Wheres) (blocks : Blocks) (max_
       → IsEffect max_rows default o quads next outcome → IfOk outcome (IsLawful next)
   operation_lawful (operation.InsertData b) quads next outcome above iris values e = due next outcome (of_data [] b next) e (data_lawful made [] b next)
   operation_lawful (operation.DeleteData b) quads next outcome above iris values e = due next outcome (of_data b [] next) e (data_lawful made b [] next)
-  operation_lawful (operation.DeleteWhere b) quads next outcome above iris values e =
-      let variables = operation_variables (operation.DeleteWhere b) in
+  operation_lawful (operation.DeleteWhere d) quads next outcome above iris values e =
+      let variables = firsts d.variables in
       let names = names_of variables in
-      let pattern = translated_blocks variables b in
-      under_lawful next max_rows (template_of_blocks names b) (template_of_blocks names []) (solutions pattern default None quads) outcome
-      (made None names [] next) (rows_below next quads pattern None (blocks variables b) above iris) e
+      let pattern = translated_blocks variables d.quads in
+      under_lawful next max_rows (template_of_blocks names d.quads) (template_of_blocks names []) (solutions pattern default None quads) outcome
+      (made None names [] next) (rows_below next quads pattern None (blocks variables d.quads) above iris) e
   operation_lawful (operation.Modify m) quads next outcome above iris values e =
-      let variables = operation_variables (operation.Modify m) in
+      let variables = firsts m.variables in
       let names = names_of variables in
       let pattern = translated_where variables m.pattern in
       let name = option_map value.Iri m.with in

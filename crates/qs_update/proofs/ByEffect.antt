@@ -6,12 +6,13 @@ use Rattle.qs_terms.specs.declared.fault.QFault.{QFault}
 use Rattle.qs_terms.specs.declared.fault.QFault.TheVariants.{Memory}
 use Rattle.qs_terms.specs.declared.term.Term.{Term}
 use Rattle.qs_syntax_ast.specs.declared.term.Variable.{Variable}
+use Rattle.qs_syntax_ast.specs.declared.update.DeleteWhere.{DeleteWhere}
 use Rattle.qs_syntax_ast.specs.declared.update.Modify.{Modify}
 use Rattle.qs_syntax_ast.specs.declared.update.Operation.{Operation}
 use Rattle.qs_syntax_ast.specs.declared.update.Operation.TheVariants as operation
 use Rattle.qs_syntax_ast.specs.declared.update.QuadBlock.{QuadBlock}
 use Rattle.qs_syntax_ast.specs.declared.update.Transfer.{Transfer}
-use Rattle.qs_syntax_scope.specs.VariablesIn.{operation_variables}
+use Rattle.qs_syntax_scope.specs.Firsts.{firsts}
 use Rattle.qs_store.specs.Content.{Content, Held}
 use Rattle.qs_store.specs.Same.{SameSet}
 use Rattle.qs_store.specs.declared.removal.Removal.{Removal}
@@ -49,11 +50,13 @@ module _ (max_rows : ℕ) (held : Held) where
   done o effect (Err f) new e k = λ n. (held.draft.quads, same, (effect, e, k n))
 
   -- what an operation with a WHERE does with its own variables
-  pub deleted : (variables : List Variable) (blocks : List QuadBlock) (outcome : Outcome Effect) → variables ≡ operation_variables (operation.DeleteWhere blocks)
-      → IsDeletedWhere max_rows variables held.default_graph blocks held.draft.quads held.draft.next outcome → Does (operation.DeleteWhere blocks) outcome
-  deleted variables blocks outcome e h = subst (λ (v : List Variable). IsDeletedWhere max_rows v held.default_graph blocks held.draft.quads held.draft.next outcome) e h
+  pub deleted : (variables : List Variable) (blocks : List QuadBlock) (d : DeleteWhere) (outcome : Outcome Effect) → variables ≡ firsts d.variables → blocks ≡ d.quads
+      → IsDeletedWhere max_rows variables held.default_graph blocks held.draft.quads held.draft.next outcome → Does (operation.DeleteWhere d) outcome
+  deleted variables blocks d outcome e f h =
+      subst (λ (v : List Variable). IsDeletedWhere max_rows v held.default_graph d.quads held.draft.quads held.draft.next outcome) e
+      (subst (λ (b : List QuadBlock). IsDeletedWhere max_rows variables held.default_graph b held.draft.quads held.draft.next outcome) f h)
 
-  pub changed : (variables : List Variable) (m : Modify) (outcome : Outcome Effect) → variables ≡ operation_variables (operation.Modify m)
+  pub changed : (variables : List Variable) (m : Modify) (outcome : Outcome Effect) → variables ≡ firsts m.variables
       → IsModifiedWhere max_rows variables held.default_graph m held.draft.quads held.draft.next outcome → Does (operation.Modify m) outcome
   changed variables m outcome e h = subst (λ (v : List Variable). IsModifiedWhere max_rows v held.default_graph m held.draft.quads held.draft.next outcome) e h
 

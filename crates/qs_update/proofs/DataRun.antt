@@ -352,7 +352,7 @@ module _ (blocks : List QuadBlock) (e : Effect) where
 joined_by : (o : Operation) (e all : Effect) → IsWith e o (Ok all) → (f : Effect) × IsJoined o e f all
 joined_by (operation.InsertData blocks) e all h = insertion_joined blocks e all h
 joined_by (operation.DeleteData blocks) e all h = deletion_joined blocks e all h.0 h.1
-joined_by (operation.DeleteWhere blocks) e all h = absurd h
+joined_by (operation.DeleteWhere d) e all h = absurd h
 joined_by (operation.Modify m) e all h = absurd h
 joined_by (operation.Clear s t) e all h = absurd h
 joined_by (operation.Drop s t) e all h = absurd h
@@ -364,7 +364,7 @@ joined_by (operation.Copy t) e all h = absurd h
 refused_by : (o : Operation) (e : Effect) (f : QFault) → IsWith e o (Err f) → Does o e.next (Err f) × (f ≡ Full)
 refused_by (operation.InsertData blocks) e f h = insertion_refused blocks e f h
 refused_by (operation.DeleteData blocks) e f h = deletion_refused blocks e f h.1
-refused_by (operation.DeleteWhere blocks) e f h = absurd h
+refused_by (operation.DeleteWhere d) e f h = absurd h
 refused_by (operation.Modify m) e f h = absurd h
 refused_by (operation.Clear s t) e f h = absurd h
 refused_by (operation.Drop s t) e f h = absurd h

@@ -32,12 +32,12 @@ module _ {X : Type 0} (test : X → Bool) where
   all_appended [] ys h k = k
   all_appended (x ∷ xs) ys h k = let l = both_hold (test x) (list_all test xs) h in and_both (test x) (list_all test (xs ++ ys)) l.0 (all_appended xs ys l.1 k)
 
-  all_behind : (xs ys : List X) → list_all test (xs ++ ys) ≡ true → list_all test ys ≡ true
-  all_behind [] ys h = h
-  all_behind (x ∷ xs) ys h = all_behind xs ys (both_hold (test x) (list_all test (xs ++ ys)) h).1
+  all_after : (xs ys : List X) → list_all test (xs ++ ys) ≡ true → list_all test ys ≡ true
+  all_after [] ys h = h
+  all_after (x ∷ xs) ys h = all_after xs ys (both_hold (test x) (list_all test (xs ++ ys)) h).1
 
   pub all_dropped : (n : ℕ) (xs : List X) → list_all test xs ≡ true → list_all test (drop n xs) ≡ true
-  all_dropped n xs h = all_behind (take n xs) (drop n xs) (subst (λ (l : List X). list_all test l ≡ true) (sym (take-append-drop n xs)) h)
+  all_dropped n xs h = all_after (take n xs) (drop n xs) (subst (λ (l : List X). list_all test l ≡ true) (sym (take-append-drop n xs)) h)
 
   pub all_mapped : (f : X → X) → ((x : X) → test x ≡ true → test (f x) ≡ true) → (xs : List X) → list_all test xs ≡ true → list_all test (map f xs) ≡ true
   all_mapped f h [] k = refl

@@ -2,8 +2,8 @@
 -- others, and takes numbers for fresh blank nodes; or the fault that is due. COPY, MOVE and ADD of
 -- a graph to itself do nothing once the graph is there. DELETE WHERE has a basic graph pattern for
 -- each block of its quads: an empty GRAPH has a solution only where there is such a graph. The
--- variables of an operation are those that stand in it. Its solutions are those of its own WHERE
--- (3.1.3), whichever variables the other operations of a request name.
+-- variables of an operation are those of its own text, each once. Its solutions are those of its
+-- own WHERE (3.1.3), whichever variables the other operations of a request name.
 use Rattle.std.specs.Prelude.{◌≡◌, ◌⊎◌, ◌<◌, ◌≤◌, ℕ, List, [], ◌∷◌, length, Option, Some, None}
 use Rattle.std.specs.Prelude.{option_map, Ok, Err, if◌then◌else◌}
 use Rattle.std.specs.List.{filter}
@@ -22,8 +22,7 @@ use Rattle.qs_syntax_ast.specs.declared.update.Operation.{Operation}
 use Rattle.qs_syntax_ast.specs.declared.update.Operation.TheVariants as op
 use Rattle.qs_syntax_ast.specs.declared.update.QuadBlock.{QuadBlock}
 use Rattle.qs_syntax_ast.specs.declared.update.Transfer.{Transfer}
-use Rattle.qs_syntax_scope.specs.Firsts.{names_of}
-use Rattle.qs_syntax_scope.specs.VariablesIn.{operation_variables}
+use Rattle.qs_syntax_scope.specs.Firsts.{firsts, names_of}
 use Rattle.qs_algebra_solutions.specs.Solution.{Solution, unbound}
 use Rattle.qs_query_template.specs.Instances.{instances, made, next_after}
 use Rattle.qs_query_template.specs.Template.{template_of_blocks, template_in}
@@ -108,13 +107,13 @@ transferred removal t quads next = let from = graph_name t.from in let to = grap
 abbrev pub IsEffect : ℕ → DefaultGraph → Operation → List Statement → ℕ → Outcome Effect → Type 0
 IsEffect rows default (op.InsertData blocks) quads next out = out ≡ of_data [] blocks next
 IsEffect rows default (op.DeleteData blocks) quads next out = out ≡ of_data blocks [] next
-IsEffect rows default (op.DeleteWhere blocks) quads next out =
-    let variables = operation_variables (op.DeleteWhere blocks) in
+IsEffect rows default (op.DeleteWhere d) quads next out =
+    let variables = firsts d.variables in
     let names = names_of variables in
-    IsModified rows (template_of_blocks names blocks) (template_of_blocks names []) next
-    (solutions (translated_blocks variables blocks) default None quads) out
+    IsModified rows (template_of_blocks names d.quads) (template_of_blocks names []) next
+    (solutions (translated_blocks variables d.quads) default None quads) out
 IsEffect rows default (op.Modify m) quads next out =
-    let variables = operation_variables (op.Modify m) in
+    let variables = firsts m.variables in
     let names = names_of variables in
     IsModified rows (template_in m.with (template_of_blocks names m.delete))
     (template_in m.with (template_of_blocks names m.insert)) next

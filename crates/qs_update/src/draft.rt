@@ -4,7 +4,7 @@ ghost use Rattle.std.specs.Prelude.{◌≡◌, ◌<◌, ◌≤◌, false, length
 ghost use Rattle.std.specs.List.{list_all};
 ghost use Rattle.qs_terms.specs.Dataset.{is_above_blanks};
 ghost use Rattle.qs_syntax_ast.specs.declared.update.Operation.TheVariants as operation;
-ghost use Rattle.qs_syntax_scope.specs.VariablesIn as scope;
+ghost use Rattle.qs_syntax_scope.specs.Firsts.{firsts};
 ghost use Rattle.qs_update_laws.specs.inner.Below.{have_iri_predicates};
 ghost use Rattle.qs_update_laws.specs.inner.Written.{operation_values_have_no_blank, update_values_have_no_blank, values_have_no_blank};
 ghost use Rattle.qs_update.specs.inner.Carried.{BecomesOne, BecomesFirst};
@@ -18,8 +18,8 @@ use crate::modified::{change_by, deleted_rows, where_rows};
 use crate::whole_graphs::{clear, create, transfer};
 use qs_store::{Draft, Removal};
 use qs_syntax_ast::term::Variable;
-use qs_syntax_ast::update::{Modify, Operation, QuadBlock, Update};
-use qs_syntax_scope::operation_variables;
+use qs_syntax_ast::update::{DeleteWhere, Modify, Operation, Update};
+use qs_syntax_scope::first_variables;
 use qs_terms::QFault;
 use qs_update_laws::laws::quads_are_told_one_by_one;
 use std::alloc::Global;
@@ -36,30 +36,31 @@ fn next_blank(draft: &Draft<'_>) -> u64
     draft.next_blank()
 }
 
-// DELETE WHERE, with its variables.
+// DELETE WHERE, with its variables, each once.
 fn delete_where(
     alloc: Global,
     variables: &[Variable],
-    blocks: &[QuadBlock],
+    delete: &DeleteWhere,
     draft: &mut Draft<'_>,
     max_rows: u64,
 ) -> Result<(), QFault>
-    requires { variables.now ≡ scope.operation_variables (operation.DeleteWhere blocks.now) }
+    requires { variables.now ≡ firsts delete.now.variables }
     ensures same_reference { draft.new.store.ghost_name ≡ draft.old.store.ghost_name }
     ensures base { draft.new.store.now.base ≡ draft.old.store.now.base }
     ensures limit { draft.new.store.now.limit ≡ draft.old.store.now.limit }
     ensures default_graph { draft.new.store.now.default_graph ≡ draft.old.store.now.default_graph }
     ensures outcome { BecomesOne (IsOperation (bounds_of max_rows draft.old.store.now)
-        (operation.DeleteWhere blocks.now) draft.old.store.now.draft) result
+        (operation.DeleteWhere delete.now) draft.old.store.now.draft) result
         draft.new.store.now.draft }
 {
     effects_are_lawful();
     next_blank(draft);
+    let blocks = delete.quads.as_slice();
     let found = deleted_rows(alloc, variables, blocks, draft, max_rows)?;
     change_by(alloc, variables, &None, blocks, &[], draft, &found)
 }
 
-// DELETE and INSERT with a WHERE, and their variables.
+// DELETE and INSERT with a WHERE, and their variables, each once.
 fn modify_where(
     alloc: Global,
     variables: &[Variable],
@@ -67,7 +68,7 @@ fn modify_where(
     draft: &mut Draft<'_>,
     max_rows: u64,
 ) -> Result<(), QFault>
-    requires variables { variables.now ≡ scope.operation_variables (operation.Modify modify.now) }
+    requires variables { variables.now ≡ firsts modify.now.variables }
     requires values { IsTrue (values_have_no_blank modify.now.pattern) }
     ensures same_reference { draft.new.store.ghost_name ≡ draft.old.store.ghost_name }
     ensures base { draft.new.store.now.base ≡ draft.old.store.now.base }
@@ -110,18 +111,12 @@ fn operate(
     match operation {
         Operation::InsertData(_) => unreachable!(),
         Operation::DeleteData(_) => unreachable!(),
-        Operation::DeleteWhere(blocks) => {
-            let variables = operation_variables(alloc, operation)?;
-            delete_where(
-                alloc,
-                variables.as_slice(),
-                blocks.as_slice(),
-                draft,
-                max_rows,
-            )
+        Operation::DeleteWhere(delete) => {
+            let variables = first_variables(alloc, delete.variables.as_slice())?;
+            delete_where(alloc, variables.as_slice(), delete, draft, max_rows)
         }
         Operation::Modify(modify) => {
-            let variables = operation_variables(alloc, operation)?;
+            let variables = first_variables(alloc, modify.variables.as_slice())?;
             modify_where(alloc, variables.as_slice(), modify, draft, max_rows)
         }
         Operation::Clear(_, target) => clear(target, draft),

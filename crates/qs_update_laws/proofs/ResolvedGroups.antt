@@ -30,7 +30,7 @@ use Rattle.qs_syntax_resolve.specs.Leaves.{iri, literal, variable, var_or_iri}
 use Rattle.qs_syntax_resolve.specs.Pattern.{closed, put, finished, Put, pattern_level, group_level, group_of}
 use Rattle.qs_syntax_resolve.specs.inner.Pattern.{put_filter, put_triples, empty_group, each_element, element_level}
 use Rattle.qs_syntax_resolve.specs.Resolving.{Resolving, ◌>>=◌, pure, all}
-use Rattle.qs_syntax_resolve.specs.Triples.{triples_behind}
+use Rattle.qs_syntax_resolve.specs.Triples.{triples_after}
 use Rattle.qs_update_laws.specs.inner.NoBlank.{all as all_hold, cell_has_no_blank, row_has_no_blank}
 use Rattle.qs_update_laws.specs.inner.Written.{data_have_no_blank, values_level, group_level as values_group_level, values_have_no_blank, pattern_values_have_no_blank}
 use Rattle.qs_update_laws.proofs.Lists.{each_append, all_pass}
@@ -167,7 +167,7 @@ each_group [] = tt
 each_group (e ∷ es) = (e.1, each_group es)
 
 level_free : (y : tree.GraphPattern-F KnownPattern KnownElement KnownGroup) → Puts (pattern_level (map-GraphPattern WrittenPattern Element WrittenGroup Put Put (Resolving Group) of_pattern of_element of_group (inner y)))
-level_free (tree.Triples ts) = λ g h. behind Any FreeSoFar (triples_behind g.triples ts) (λ more. pure (put_triples more g)) (any (triples_behind g.triples ts)) (λ more k s. h)
+level_free (tree.Triples ts) = λ g h. behind Any FreeSoFar (triples_after g.triples ts) (λ more. pure (put_triples more g)) (any (triples_after g.triples ts)) (λ more k s. h)
 level_free (tree.Union es) = λ g h.
     behind (AllByRecursion FreeGroup) FreeSoFar (all (map of_group (map (λ e. e.0) es))) (λ xs. pure (put (made.Union xs) g))
     (finds_all FreeGroup [] (map of_group (map (λ e. e.0) es)) tt (each_group es)) (λ xs k s. put_free (made.Union xs) g (union_free xs k) h)

@@ -3,7 +3,7 @@ use Rattle.std.proofs.Common.{List, [], ◌∷◌, ◌++◌, Ok, Err}
 use Rattle.std.specs.List.{AllByRecursion}
 use Rattle.qs_terms.specs.Outcome.{Outcome, and_then}
 use Rattle.qs_syntax_resolve.specs.declared.resolver.Resolver.{Resolver}
-use Rattle.qs_syntax_resolve.specs.Resolving.{Resolving, ◌>>=◌, all_behind}
+use Rattle.qs_syntax_resolve.specs.Resolving.{Resolving, ◌>>=◌, all_after}
 use Rattle.qs_update_laws.proofs.Lists.{each_append}
 
 -- of the value, where there is one
@@ -42,7 +42,7 @@ module _ {A : Type 0} (Q P : A → Type 0) (weaker : (a : A) → Q a → P a) wh
   finds_too p h s = found_too (p s) (h s)
 
 module _ {A : Type 0} (Q : A → Type 0) where
-  pub finds_all : (found : List A) (ps : List (Resolving A)) → AllByRecursion Q found → AllByRecursion (Finds Q) ps → Finds (AllByRecursion Q) (all_behind found ps)
+  pub finds_all : (found : List A) (ps : List (Resolving A)) → AllByRecursion Q found → AllByRecursion (Finds Q) ps → Finds (AllByRecursion Q) (all_after found ps)
   finds_all found [] h k = λ s. h
   finds_all found (p ∷ ps) h k =
-      behind Q (AllByRecursion Q) p (λ x. all_behind (found ++ x ∷ []) ps) k.0 (λ x l. finds_all (found ++ x ∷ []) ps (each_append Q found (x ∷ []) h (l, tt)) k.1)
+      behind Q (AllByRecursion Q) p (λ x. all_after (found ++ x ∷ []) ps) k.0 (λ x l. finds_all (found ++ x ∷ []) ps (each_append Q found (x ∷ []) h (l, tt)) k.1)

@@ -66,7 +66,7 @@ fn is_of_triples(number: usize, operation: &Operation) -> bool {
             &[("", 1), ("http://e/g", 2), ("", 1)],
         ),
         (1, Operation::DeleteData(blocks)) => are_blocks(blocks.as_slice(), &[("http://e/g", 0)]),
-        (2, Operation::DeleteWhere(blocks)) => are_blocks(blocks.as_slice(), &[("g", 1)]),
+        (2, Operation::DeleteWhere(delete)) => are_blocks(delete.quads.as_slice(), &[("g", 1)]),
         (3, Operation::Modify(modify)) => is_with(modify),
         (4, Operation::Modify(modify)) => is_without(modify),
         _ => false,

@@ -1,15 +1,11 @@
 -- Definitions over those of `Names`, for proofs and the layers between.
-use Rattle.std.specs.Prelude.{ℕ, Bool, ◌+◌, ◌-◌, ◌*◌, ◌==◌, if◌then◌else◌, map, List, ◌++◌, codes}
-use Rattle.std.specs.Prelude.{Option, Result, Ok, Err}
+use Rattle.std.specs.Prelude.{ℕ, Bool, ◌+◌, ◌-◌, ◌*◌, ◌==◌, if◌then◌else◌, List, ◌++◌, codes}
+use Rattle.std.specs.Prelude.{◌∷◌, Option, Result, Ok, Err}
 use Rattle.std.specs.List.{before_first, after_first, fold}
 use Rattle.std.specs.Option.{option_map_or}
 use Rattle.std.specs.Result.{result_ok, result_map_both}
 use Rattle.std.specs.Str.{bytes_eq}
-use Rattle.std.specs.Ordering.{nat_cmp}
-use Rattle.std.specs.Cmp.Lexicographic.{slice_cmp}
 use Rattle.std.specs.Map.{lookup}
-use Rattle.std.specs.BTreeMap.{insert_entry}
-use denote.Ref.{Bor}
 use Rattle.qs_terms.specs.Iri.{checked_iri}
 use Rattle.qs_terms.specs.Literal as lit
 use Rattle.qs_terms.specs.Outcome.{Outcome, and_then}
@@ -19,10 +15,6 @@ use Rattle.qs_syntax_tree.specs.declared.token.Span.{Span}
 use Rattle.qs_lex_escapes.specs.Decoded.{unescaped}
 use Rattle.qs_lex_escapes.specs.Piece.{piece}
 use Rattle.qs_syntax_resolve.specs.Names.{Names}
-
--- what contracts see of the entries of a map, whose keys are pieces of the text
-abbrev pub declared : List (Bor (List ℕ) × List ℕ) → List (List ℕ × List ℕ)
-declared entries = map (λ e. (e.0.now, e.1)) entries
 
 -- a label without the `_:`
 abbrev pub label : Names → Span → List ℕ
@@ -56,8 +48,7 @@ boolean b = if b then codes "true" else codes "false"
 
 abbrev pub with_prefix : Names → List ℕ → Outcome (List ℕ) → Outcome Names
 with_prefix names prefix found =
-    and_then found
-    (λ i. Ok (record names { prefixes = insert_entry (slice_cmp nat_cmp) names.prefixes prefix i }))
+    and_then found (λ i. Ok (record names { prefixes = (prefix, i) ∷ names.prefixes }))
 
 -- decimal digits after digits of this value: the value of them all
 abbrev pub decimal : ℕ → List ℕ → ℕ

@@ -18,7 +18,7 @@ use Rattle.qs_syntax_resolve.specs.Data.{inline_data}
 use Rattle.qs_syntax_resolve.specs.Expression.{expression_of}
 use Rattle.qs_syntax_resolve.specs.Leaves.{variable}
 use Rattle.qs_syntax_resolve.specs.Resolving.{Resolving, ◌>>=◌, pure, all, in_turn}
-use Rattle.qs_syntax_resolve.specs.Triples.{triples_behind}
+use Rattle.qs_syntax_resolve.specs.Triples.{triples_after}
 use Rattle.qs_syntax_resolve.specs.Pattern.{put, Put}
 use Rattle.qs_syntax_resolve.specs.Pattern.{pattern_level, group_level, group_of}
 
@@ -51,7 +51,7 @@ abbrev pub groups : List WrittenGroup → Resolving (List Group)
 groups gs = all (map group_of gs)
 
 abbrev pub triples_pattern : List TriplesSameSubject → Put
-triples_pattern ts = λ g. triples_behind g.triples ts >>= (λ more. pure (put_triples more g))
+triples_pattern ts = λ g. triples_after g.triples ts >>= (λ more. pure (put_triples more g))
 
 abbrev pub filter_pattern : WrittenExpression → Put
 filter_pattern e = λ g. expression_of e >>= (λ x. pure (put_filter x g))

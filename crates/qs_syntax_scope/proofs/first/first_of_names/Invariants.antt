@@ -1,5 +1,6 @@
 use Rattle.std.proofs.Common.{◌≡◌, take}
-use Rattle.qs_syntax_scope.specs.Firsts.{firsts, with_names}
+use Rattle.qs_syntax_scope.specs.Firsts.{firsts}
+use Rattle.qs_syntax_scope.specs.inner.Firsts.{with_names}
 use Rattle.qs_syntax_scope.proofs.first.first_of_names.Given as goal
 
 abbrev pub invariant-loop-place : goal.invariant-loop-place

@@ -1,4 +1,4 @@
-use Rattle.std.proofs.Common.{◌∙◌, Ok, refl, sym, ap}
+use Rattle.std.proofs.Common.{Ok, refl}
 use Rattle.qs_syntax_ast.specs.declared.update.Operation.TheVariants as operation
 use Rattle.qs_store.specs.declared.removal.Removal.TheVariants as removal
 use Rattle.qs_update.specs.Effect.{cleared, created, transferred}
@@ -8,8 +8,7 @@ use Rattle.qs_update.proofs.draft.operate.Goals as goal
 pub returns-in_ok-variables-in-DeleteWhere-clause-outcome : goal.returns-in_ok-variables-in-DeleteWhere-clause-outcome
 returns-in_ok-variables-in-DeleteWhere-clause-outcome c =
     let held = c.args.draft.now.store.now in
-    operated c.args.max_rows held c.args.operation.now (operation.DeleteWhere c.as_slice-in-DeleteWhere.result.now) c.delete_where.result c.delete_where.new.draft.store.now.draft
-    (c.in-DeleteWhere.is ∙ ap operation.DeleteWhere (sym c.as_slice-in-DeleteWhere.ensures)) c.delete_where.ensures.outcome
+    operated c.args.max_rows held c.args.operation.now (operation.DeleteWhere c.in-DeleteWhere.delete) c.delete_where.result c.delete_where.new.draft.store.now.draft c.in-DeleteWhere.is c.delete_where.ensures.outcome
 
 pub returns-in_ok-variables-in-Modify-clause-outcome : goal.returns-in_ok-variables-in-Modify-clause-outcome
 returns-in_ok-variables-in-Modify-clause-outcome c =
