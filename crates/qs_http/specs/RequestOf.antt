@@ -37,16 +37,16 @@ of_get h = if at_data h then Ready Dump else of_pairs (codes "query") Query (par
 -- what a head that passed the checks asks with these bytes after it: a GET ends with its head, a
 -- POST with the last byte of its body
 abbrev pub of_sound_head : Head → List ℕ → Outcome
-of_sound_head h behind =
+of_sound_head h rest =
     if is_get h then of_get h
-    else (if nat_lt (length behind) (body_length h) then More
-    else of_body h (take (body_length h) behind))
+    else (if nat_lt (length rest) (body_length h) then More
+    else of_body h (take (body_length h) rest))
 
 -- the second check is the reading itself, and the first of `head_checks`
 abbrev pub of_reading : Option Head → List ℕ → Outcome
-of_reading None behind = Refused BadRequest
-of_reading (Some h) behind =
-    unwrap_or (option_map Refused (first_due (head_checks h))) (of_sound_head h behind)
+of_reading None rest = Refused BadRequest
+of_reading (Some h) rest =
+    unwrap_or (option_map Refused (first_due (head_checks h))) (of_sound_head h rest)
 
 -- the bytes result in this: the first check is that the head ends within its limit
 unfoldable pub IsRequestOf : List ℕ → Outcome → Type 0

@@ -10,7 +10,7 @@ use Rattle.qs_lex_regular.specs.Character.{is_iri_char, is_iri_scalar, is_escape
 use Rattle.qs_lex_regular.specs.Form as form
 use Rattle.qs_lex_regular.specs.Form.{Form, Spells, Pieces, AreHexes, none, more, one, many, char, ◌⨾◌, ◌∣◌}
 use Rattle.qs_terms.specs.Iri.{is_excluded}
-use Rattle.qs_lex_escapes.specs.Decoded.{decoded, decoded_behind}
+use Rattle.qs_lex_escapes.specs.Decoded.{decoded, decoded_after}
 use Rattle.qs_lex_escapes.specs.Escape.{uchar, string_escape, hex_number, escape_of, echar_of}
 use Rattle.qs_lex_escapes.specs.inner.Escape.{echar_or}
 use Rattle.qs_lex_escapes.specs.declared.escape.Escape.{Escape}
@@ -60,8 +60,8 @@ module _ (escape : List ℕ → Option Escape) where
   passed [] r = refl
   passed (x ∷ xs) r = passed xs r
 
-  passed_over : (xs r : List ℕ) → decoded_behind escape (length xs) (xs ++ r) ≡ decoded_behind escape 0 r
-  unfolding decoded_behind
+  passed_over : (xs r : List ℕ) → decoded_after escape (length xs) (xs ++ r) ≡ decoded_after escape 0 r
+  unfolding decoded_after
   passed_over [] r = refl
   passed_over (x ∷ xs) r = passed_over xs r
 
@@ -69,8 +69,8 @@ module _ (escape : List ℕ → Option Escape) where
   unfolding begins_behind
   took bs e h = rw h refl
 
-  gave : (bs : List ℕ) (e : Escape) → escape bs ≡ Some e → decoded_behind escape 0 (92 ∷ bs) ≡ encode e.character ++ decoded_behind escape e.length bs
-  unfolding decoded_behind
+  gave : (bs : List ℕ) (e : Escape) → escape bs ≡ Some e → decoded_after escape 0 (92 ∷ bs) ≡ encode e.character ++ decoded_after escape e.length bs
+  unfolding decoded_after
   gave bs e h = rw h refl
 
   plain : (xs r : List ℕ) → list_all (λ c. not (c == 92)) xs ≡ true → begins_behind escape 0 (xs ++ r) ≡ begins_behind escape 0 r
@@ -80,8 +80,8 @@ module _ (escape : List ℕ → Option Escape) where
       let q : (not (x == 92) ≡ true) × (list_all (λ c. not (c == 92)) xs ≡ true) = and_parts _ _ h in
       let n : (x == 92) ≡ false = not-true (x == 92) q.0 in rw n (plain xs r q.1)
 
-  kept : (xs r : List ℕ) → list_all (λ c. not (c == 92)) xs ≡ true → decoded_behind escape 0 (xs ++ r) ≡ xs ++ decoded_behind escape 0 r
-  unfolding decoded_behind
+  kept : (xs r : List ℕ) → list_all (λ c. not (c == 92)) xs ≡ true → decoded_after escape 0 (xs ++ r) ≡ xs ++ decoded_after escape 0 r
+  unfolding decoded_after
   kept [] r h = refl
   kept (x ∷ xs) r h =
       let q : (not (x == 92) ≡ true) × (list_all (λ c. not (c == 92)) xs ≡ true) = and_parts _ _ h in
@@ -97,15 +97,15 @@ module _ (escape : List ℕ → Option Escape) where
   character_stands c n =
       let bytes : encodes (c ∷ []) ≡ encode c = append-nil (encode c) in record {
         begins = λ r. ap (λ z. begins_behind escape 0 (z ++ r)) bytes ∙ plain (encode c) r (no_slash c n);
-        decodes = λ r. ap (λ z. decoded_behind escape 0 (z ++ r)) bytes ∙ (kept (encode c) r (no_slash c n) ∙ ap (λ z. z ++ decoded_behind escape 0 r) (sym bytes));
+        decodes = λ r. ap (λ z. decoded_after escape 0 (z ++ r)) bytes ∙ (kept (encode c) r (no_slash c n) ∙ ap (λ z. z ++ decoded_after escape 0 r) (sym bytes));
       }
 
   pub joined_stand : (x y u v : List ℕ) → StandsFor escape x y → StandsFor escape u v → StandsFor escape (x ++ u) (y ++ v)
   joined_stand x y u v a b = record {
     begins = λ r. ap (λ z. begins_behind escape 0 z) (ap (λ z. z ++ r) (encodes-append x u) ∙ append_assoc (encodes x) (encodes u) r) ∙ (a.begins (encodes u ++ r) ∙ b.begins r);
-    decodes = λ r. ap (λ z. decoded_behind escape 0 z) (ap (λ z. z ++ r) (encodes-append x u) ∙ append_assoc (encodes x) (encodes u) r)
+    decodes = λ r. ap (λ z. decoded_after escape 0 z) (ap (λ z. z ++ r) (encodes-append x u) ∙ append_assoc (encodes x) (encodes u) r)
         ∙ (a.decodes (encodes u ++ r) ∙ (ap (λ z. encodes y ++ z) (b.decodes r)
-        ∙ sym (ap (λ z. z ++ decoded_behind escape 0 r) (encodes-append y v) ∙ append_assoc (encodes y) (encodes v) (decoded_behind escape 0 r))));
+        ∙ sym (ap (λ z. z ++ decoded_after escape 0 r) (encodes-append y v) ∙ append_assoc (encodes y) (encodes v) (decoded_after escape 0 r))));
   }
 
   -- characters that pass a test
@@ -128,7 +128,7 @@ module _ (escape : List ℕ → Option Escape) where
   -- a codepoint escape of so many digits, after its letter
   hexes_stand : (q p : ℕ → Bool) (c n : ℕ) (ds : List ℕ) → ((v : ℕ) → p v ≡ true → is_scalar v ≡ true) → ((v : ℕ) → p v ≡ true → q v ≡ true) → c < 128 → AreHexes n 0 p ds
       → ((r : List ℕ) → escape (c ∷ (ds ++ r)) ≡ escape_of (suc n) (hex_number n 0 (ds ++ r))) → Stands q (92 ∷ c ∷ ds)
-  unfolding begins_behind decoded_behind
+  unfolding begins_behind decoded_after
   hexes_stand q p c n ds scalar w small h is =
       let d : Names n 0 p ds = names n 0 p ds h in
       let ok : is_scalar d.value ≡ true = scalar d.value d.passes in
@@ -143,9 +143,9 @@ module _ (escape : List ℕ → Option Escape) where
         pass = rw passes refl;
         stand = record {
           begins = λ r. ap (λ z. begins_behind escape 0 (z ++ r)) bytes ∙ (took (c ∷ (ds ++ r)) e (found r) ∙ (ap (λ m. begins_behind escape m (ds ++ r)) (sym d.count) ∙ passed ds r));
-          decodes = λ r. ap (λ z. decoded_behind escape 0 (z ++ r)) bytes
-              ∙ (gave (c ∷ (ds ++ r)) e (found r) ∙ (ap (λ m. encode d.value ++ decoded_behind escape m (ds ++ r)) (sym d.count)
-              ∙ (ap (λ z. encode d.value ++ z) (passed_over ds r) ∙ ap (λ z. z ++ decoded_behind escape 0 r) (sym (append-nil (encode d.value))))));
+          decodes = λ r. ap (λ z. decoded_after escape 0 (z ++ r)) bytes
+              ∙ (gave (c ∷ (ds ++ r)) e (found r) ∙ (ap (λ m. encode d.value ++ decoded_after escape m (ds ++ r)) (sym d.count)
+              ∙ (ap (λ z. encode d.value ++ z) (passed_over ds r) ∙ ap (λ z. z ++ decoded_after escape 0 r) (sym (append-nil (encode d.value))))));
         };
       }
 
@@ -170,8 +170,8 @@ module _ (escape : List ℕ → Option Escape) where
   escapes_stand x y s = ap (λ z. begins_behind escape 0 z) (sym (append-nil (encodes x))) ∙ s.begins []
 
   pub decoded_stands : (x y : List ℕ) → StandsFor escape x y → decoded escape (encodes x) ≡ encodes y
-  unfolding decoded_behind
-  decoded_stands x y s = ap (λ z. decoded_behind escape 0 z) (sym (append-nil (encodes x))) ∙ (s.decodes [] ∙ append-nil (encodes y))
+  unfolding decoded_after
+  decoded_stands x y s = ap (λ z. decoded_after escape 0 z) (sym (append-nil (encodes x))) ∙ (s.decodes [] ∙ append-nil (encodes y))
 
 -- ---- escapes of strings
 
@@ -200,7 +200,7 @@ echar_value None other h = absurd (true≢false (sym h))
 echar_value (Some v) other h = refl
 
 pub echar_stands : (x : List ℕ) → Spells form.echar x → Stands string_escape any x
-unfolding begins_behind decoded_behind any
+unfolding begins_behind decoded_after any
 echar_stands x s =
     let c : ℕ = s.3.0 in let h : is_escaped c ≡ true = s.3.1 in
     let is : x ≡ 92 ∷ c ∷ [] = s.4 ∙ ap₂ (λ (u v : List ℕ). u ++ v) (this_char 92 s.0 s.2) s.3.2 in
@@ -214,8 +214,8 @@ echar_stands x s =
       pass = refl;
       stand = record {
         begins = λ r. ap (λ z. begins_behind string_escape 0 (z ++ r)) bytes ∙ took string_escape (c ∷ r) e (found r);
-        decodes = λ r. ap (λ z. decoded_behind string_escape 0 (z ++ r)) bytes
-            ∙ (gave string_escape (c ∷ r) e (found r) ∙ ap (λ z. z ++ decoded_behind string_escape 0 r) (sym (append-nil (encode v))));
+        decodes = λ r. ap (λ z. decoded_after string_escape 0 (z ++ r)) bytes
+            ∙ (gave string_escape (c ∷ r) e (found r) ∙ ap (λ z. z ++ decoded_after string_escape 0 r) (sym (append-nil (encode v))));
       };
     })
 

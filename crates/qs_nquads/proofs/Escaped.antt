@@ -4,7 +4,7 @@ use Rattle.std.proofs.lemmas.Bool.{and_parts, cases_lt, cases_eq, ne_eqb}
 use Rattle.std.proofs.lemmas.Str.{encode_ascii, inside_one, encodes-append}
 use lib.Utf8.{scalar, scalars, encode, encodes, low_scalar}
 use Rattle.qs_lex_escapes.specs.Escape.{string_escape}
-use Rattle.qs_lex_escapes.specs.Decoded.{decoded_behind, decoded}
+use Rattle.qs_lex_escapes.specs.Decoded.{decoded_after, decoded}
 use Rattle.qs_nquads.specs.Written.{escaped_byte}
 use Rattle.qs_nquads.specs.inner.Written.{escaped}
 
@@ -35,14 +35,14 @@ escape_cases P quote slash lf cr plain c =
 -- ---- decoded
 
 abbrev Decodes : ℕ → List ℕ → Type 0
-Decodes c e = (r : List ℕ) → decoded_behind string_escape 0 (e ++ r) ≡ c ∷ decoded_behind string_escape 0 r
+Decodes c e = (r : List ℕ) → decoded_after string_escape 0 (e ++ r) ≡ c ∷ decoded_after string_escape 0 r
 
 one_decodes : (c : ℕ) → Decodes c (escaped_byte c)
-unfolding decoded_behind encode
+unfolding decoded_after encode
 one_decodes = escape_cases Decodes (λ r. refl) (λ r. refl) (λ r. refl) (λ r. refl) (λ c a b d e r. rw b refl)
 
 pub decodes : (form : List ℕ) → decoded string_escape (escaped form) ≡ form
-unfolding decoded_behind
+unfolding decoded_after
 decodes [] = refl
 decodes (c ∷ cs) = one_decodes c (escaped cs) ∙ ap (λ z. c ∷ z) (decodes cs)
 

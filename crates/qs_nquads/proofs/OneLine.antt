@@ -29,7 +29,7 @@ use Rattle.qs_nquads.specs.declared.statement_state.StatementState.{StatementSta
 use Rattle.qs_nquads.specs.declared.statement_state.StatementState.TheVariants as place
 use Rattle.qs_nquads.specs.inner.Next as next
 use Rattle.qs_nquads.proofs.Steps as steps
-use Rattle.qs_nquads.specs.Written.{label, iri_text, quoted, suffix, term_text, behind_space, with_graph, line}
+use Rattle.qs_nquads.specs.Written.{label, iri_text, quoted, suffix, term_text, after_space, with_graph, line}
 use Rattle.qs_nquads.specs.inner.Renumbered.{blanks_in, blanks_of, before, renumbered_term, renumbered, IsTerm, IsName, IsQuad}
 use Rattle.qs_nquads.proofs.WrittenTokens.{Says, token_utf8, longest_of, no_gap, one_space, ascii_text, iri_says, string_says, carets_say, dot_says, end_says, tag_says, label_says, label_utf8, not-false}
 use Rattle.qs_nquads.proofs.Renumbering.{same, Agrees, Numbered, numbered, keeps, is_there, once_longer}
@@ -92,7 +92,7 @@ term_utf8 (term.Literal l) h =
     let s = string_says place.Start (record { numbers = []; next = 0 }) l.form [] h.0 in
     IsUtf8-append (quoted l.form) (suffix l.datatype l.tag) (token_utf8 (quoted l.form) [] s.kind s.front) (literal_suffix l.datatype l.tag h.1 h.2)
 
-pub space_utf8 : (t : Term) (rest : List ℕ) → IsTerm t → IsUtf8 rest → IsUtf8 (behind_space t rest)
+pub space_utf8 : (t : Term) (rest : List ℕ) → IsTerm t → IsUtf8 rest → IsUtf8 (after_space t rest)
 space_utf8 t rest h u = ascii_text 32 (omega arith) (term_text t ++ rest) (IsUtf8-append (term_text t) rest (term_utf8 t h) u)
 
 pub graph_utf8 : (g : Option Term) (rest : List ℕ) → IsName g → IsUtf8 rest → IsUtf8 (with_graph g rest)
@@ -115,7 +115,7 @@ all_three xs a b c = simp append_assoc
 
 -- a line before a text
 pub line_then : Statement → List ℕ → List ℕ
-line_then q rest = term_text q.subject ++ behind_space q.predicate (behind_space q.object (with_graph q.graph (32 ∷ 46 ∷ 10 ∷ rest)))
+line_then q rest = term_text q.subject ++ after_space q.predicate (after_space q.object (with_graph q.graph (32 ∷ 46 ∷ 10 ∷ rest)))
 
 pub line_before : (g : Option Term) (s p o : Term) (rest : List ℕ) → let q : Statement = record { graph = g; subject = s; predicate = p; object = o } in line q ++ rest ≡ line_then q rest
 unfolding line_then
@@ -255,7 +255,7 @@ module _ (first : ℕ) (all : List ℕ) (suffice : first + length (once same all
   suffixed n qs s p form d (Some t) tail ud h u = tagged_suffix n qs s p form d t tail h u
 
   object_read : (n : Numbering) (xs more : List ℕ) (qs : List Statement) (s : Node) (p : List ℕ) (t : Term) (tail : List ℕ) → IsTerm t → IsUtf8 (32 ∷ tail) → all ≡ (xs ++ blanks_in t) ++ more → Agrees first xs n
-      → Object n qs s p (renumbered_term given t) xs (behind_space t (32 ∷ tail)) (32 ∷ tail) t
+      → Object n qs s p (renumbered_term given t) xs (after_space t (32 ∷ tail)) (32 ∷ tail) t
   unfolding Suffixed
   object_read n xs more qs s p (term.Iri i) tail h u e a = record {
     reached = place.Object s p (term.Iri i);
@@ -282,7 +282,7 @@ module _ (first : ℕ) (all : List ℕ) (suffice : first + length (once same all
       record {
         reached = r.0;
         numbers = n;
-        comes = joined (at (place.Predicate s p) n qs (behind_space (term.Literal l) (32 ∷ tail))) (at (place.Form s p l.form) n qs (suffix l.datatype l.tag ++ 32 ∷ tail)) (at r.0 n qs (32 ∷ tail))
+        comes = joined (at (place.Predicate s p) n qs (after_space (term.Literal l) (32 ∷ tail))) (at (place.Form s p l.form) n qs (suffix l.datatype l.tag ++ 32 ∷ tail)) (at r.0 n qs (32 ∷ tail))
             (subst (λ z. Comes (at (place.Predicate s p) n qs (32 ∷ z)) (at (place.Form s p l.form) n qs (suffix l.datatype l.tag ++ 32 ∷ tail)))
             (sym (append_assoc (quoted l.form) (suffix l.datatype l.tag) (32 ∷ tail))) string) r.1;
         behind = r.2;
@@ -300,15 +300,15 @@ module _ (first : ℕ) (all : List ℕ) (suffice : first + length (once same all
   record Head (n : Numbering) (qs : List Statement) (xs : List ℕ) (s : Term) (i : List ℕ) (o : Term) (tail : List ℕ) : Type 0 where
     reached : StatementState
     numbers : Numbering
-    comes : Comes (at place.Start n qs (term_text s ++ behind_space (term.Iri i) (behind_space o (32 ∷ tail)))) (at reached numbers qs (32 ∷ tail))
+    comes : Comes (at place.Start n qs (term_text s ++ after_space (term.Iri i) (after_space o (32 ∷ tail)))) (at reached numbers qs (32 ∷ tail))
     behind : Behind (node_of given s) i (renumbered_term given o) reached
     agrees : Agrees first ((xs ++ blanks_in s) ++ blanks_in o) numbers
 
   head_read : (n : Numbering) (qs : List Statement) (xs more : List ℕ) (s : Term) (i : List ℕ) (o : Term) (tail : List ℕ) → IsTerm s → is_node s ≡ true → IsTerm (term.Iri i) → IsTerm o → IsUtf8 (32 ∷ tail)
       → all ≡ (xs ++ blanks_in s) ++ (blanks_in o ++ more) → Agrees first xs n → Head n qs xs s i o tail
   head_read n qs xs more s i o tail hs ns hi ho u e a =
-      let after_predicate : List ℕ = behind_space o (32 ∷ tail) in
-      let after_subject : List ℕ = behind_space (term.Iri i) after_predicate in
+      let after_predicate : List ℕ = after_space o (32 ∷ tail) in
+      let after_subject : List ℕ = after_space (term.Iri i) after_predicate in
       let u_predicate : IsUtf8 after_predicate = space_utf8 o (32 ∷ tail) ho u in
       let u_subject : IsUtf8 after_subject = space_utf8 (term.Iri i) after_predicate hi u_predicate in
       let r : NodeSays place.Start n xs s (iri_text i ++ after_predicate) = node_says place.Start n xs (blanks_in o ++ more) s (iri_text i ++ after_predicate) hs ns refl e a in
@@ -407,5 +407,5 @@ pub line_utf8 : (q : Statement) (rest : List ℕ) → IsQuad q → IsUtf8 rest �
 unfolding line_then
 line_utf8 q rest h u =
     let dot : IsUtf8 (32 ∷ 46 ∷ 10 ∷ rest) = ascii_text 32 (omega arith) (46 ∷ 10 ∷ rest) (ascii_text 46 (omega arith) (10 ∷ rest) (ascii_text 10 (omega arith) rest u)) in
-    IsUtf8-append (term_text q.subject) (behind_space q.predicate (behind_space q.object (with_graph q.graph (32 ∷ 46 ∷ 10 ∷ rest)))) (term_utf8 q.subject h.subject)
-    (space_utf8 q.predicate (behind_space q.object (with_graph q.graph (32 ∷ 46 ∷ 10 ∷ rest))) h.predicate (space_utf8 q.object (with_graph q.graph (32 ∷ 46 ∷ 10 ∷ rest)) h.object (graph_utf8 q.graph (32 ∷ 46 ∷ 10 ∷ rest) h.graph dot)))
+    IsUtf8-append (term_text q.subject) (after_space q.predicate (after_space q.object (with_graph q.graph (32 ∷ 46 ∷ 10 ∷ rest)))) (term_utf8 q.subject h.subject)
+    (space_utf8 q.predicate (after_space q.object (with_graph q.graph (32 ∷ 46 ∷ 10 ∷ rest))) h.predicate (space_utf8 q.object (with_graph q.graph (32 ∷ 46 ∷ 10 ∷ rest)) h.object (graph_utf8 q.graph (32 ∷ 46 ∷ 10 ∷ rest) h.graph dot)))

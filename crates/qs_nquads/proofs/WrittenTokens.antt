@@ -13,7 +13,7 @@ use lib.Utf8.{scalar, scalars, encode, encodes, low_scalar}
 use Rattle.qs_lex_regular.specs.Character.{is_iri_char}
 use Rattle.qs_lex_regular.specs.inner.Best.{best}
 use Rattle.qs_lex_escapes.specs.Escape.{uchar, string_escape}
-use Rattle.qs_lex_escapes.specs.Decoded.{decoded, decoded_behind}
+use Rattle.qs_lex_escapes.specs.Decoded.{decoded, decoded_after}
 use Rattle.qs_lex_escapes.proofs.Pieces as pieces
 use Rattle.qs_terms.specs.Iri.{is_excluded, has_scheme, checked_iri}
 use Rattle.qs_terms.specs.inner.Iri.{is_iri_text}
@@ -155,7 +155,7 @@ slash_free c e = slash_by (c == 92) refl where
   slash_by false h = h
 
 plain_decodes : (i : List ℕ) → list_any is_excluded i ≡ false → decoded uchar i ≡ i
-unfolding decoded_behind
+unfolding decoded_after
 plain_decodes [] e = refl
 plain_decodes (c ∷ i) e =
     let q : (is_excluded c ≡ false) × (list_any is_excluded i ≡ false) = or-parts (is_excluded c) (list_any is_excluded i) e in

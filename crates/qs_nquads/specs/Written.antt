@@ -41,16 +41,16 @@ term_text (term.Blank n) = 95 ∷ 58 ∷ label n
 term_text (term.Literal l) = quoted l.form ++ suffix l.datatype l.tag
 
 -- a space, a term and what follows
-abbrev pub behind_space : Term → List ℕ → List ℕ
-behind_space t rest = 32 ∷ (term_text t ++ rest)
+abbrev pub after_space : Term → List ℕ → List ℕ
+after_space t rest = 32 ∷ (term_text t ++ rest)
 
 abbrev pub with_graph : Option Term → List ℕ → List ℕ
-with_graph graph rest = option_map_or (λ name. behind_space name rest) graph rest
+with_graph graph rest = option_map_or (λ name. after_space name rest) graph rest
 
 -- a statement: its terms with one space between, ` .` and LF
 abbrev pub line : Statement → List ℕ
-line q = term_text q.subject ++ behind_space q.predicate
-    (behind_space q.object (with_graph q.graph (32 ∷ 46 ∷ 10 ∷ [])))
+line q = term_text q.subject ++ after_space q.predicate
+    (after_space q.object (with_graph q.graph (32 ∷ 46 ∷ 10 ∷ [])))
 
 -- the statement among statements whose lines ascend, unless its line is there
 unfoldable pub put_in : Statement → List Statement → List Statement

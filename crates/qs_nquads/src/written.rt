@@ -5,7 +5,7 @@ ghost use Rattle.std.specs.Option.{option_copied};
 ghost use Rattle.std.specs.Str.{bytes_eq};
 ghost use Rattle.qs_terms.specs.declared.term.Term.TheVariants.{Blank};
 ghost use Rattle.qs_terms.specs.Literal.{xsd_string};
-ghost use Rattle.qs_nquads.specs.Written.{escaped_byte, iri_text, quoted, suffix, term_text, behind_space, with_graph, line};
+ghost use Rattle.qs_nquads.specs.Written.{escaped_byte, iri_text, quoted, suffix, term_text, after_space, with_graph, line};
 ghost use Rattle.qs_nquads.specs.inner.Written.{escaped};
 
 use qs_terms::{Lit, Quad, Term, datatype};
@@ -102,8 +102,8 @@ fn push_term(alloc: Global, out: &mut Vec<u8>, term: &Term) -> Result<(), AllocE
 }
 
 /// A space and a term.
-fn push_behind_space(alloc: Global, out: &mut Vec<u8>, term: &Term) -> Result<(), AllocError>
-    ensures { OnOk result (out.new.items ≡ out.old.items ++ behind_space term.now []) }
+fn push_after_space(alloc: Global, out: &mut Vec<u8>, term: &Term) -> Result<(), AllocError>
+    ensures { OnOk result (out.new.items ≡ out.old.items ++ after_space term.now []) }
 {
     out.push(b' ')?;
     push_term(alloc, out, term)
@@ -114,10 +114,10 @@ pub(crate) fn push_line(alloc: Global, out: &mut Vec<u8>, quad: &Quad) -> Result
     ensures { OnOk result (out.new.items ≡ out.old.items ++ line quad.now) }
 {
     push_term(alloc, out, quad.subject())?;
-    push_behind_space(alloc, out, quad.predicate())?;
-    push_behind_space(alloc, out, quad.object())?;
+    push_after_space(alloc, out, quad.predicate())?;
+    push_after_space(alloc, out, quad.object())?;
     if let Some(name) = quad.graph() {
-        push_behind_space(alloc, out, name)?;
+        push_after_space(alloc, out, name)?;
     }
     out.extend_from_slice(b" .\n")
 }

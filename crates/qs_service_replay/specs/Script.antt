@@ -39,6 +39,6 @@ IsScript text events = (lines : List (List ℕ)) × AreLines text lines × AllZi
 -- the text is no script: the nth of its lines, from 1, is the first that tells no event
 abbrev pub IsOtherLine : List ℕ → ℕ → Type 0
 IsOtherLine text n =
-    (front behind : List (List ℕ)) × (line : List ℕ) × (events : List Event)
-    × AreLines text (front ++ line ∷ behind) × AllZip IsLine front events
+    (front after : List (List ℕ)) × (line : List ℕ) × (events : List Event)
+    × AreLines text (front ++ line ∷ after) × AllZip IsLine front events
     × (¬ ((event : Event) × IsLine line event)) × (n ≡ length front + 1)

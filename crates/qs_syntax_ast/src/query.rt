@@ -11,7 +11,7 @@ pub struct Query {
     pub form: QueryForm,
     /// The trailing VALUES.
     pub values: Option<InlineData>,
-    /// The variables of the text, in the order in which they first appear in it.
+    /// The variables of the text, in its order. In a parsed query each stands once, where it first appears.
     pub variables: Items<Variable>,
 }
 

@@ -13,22 +13,22 @@ limit = 64
 
 -- how many are open after a token, by how many were before it: one that closes takes one away, of
 -- whatever sort it is, or none where none is open
-abbrev pub open_behind : Kind → ℕ → ℕ
-open_behind LeftBrace count = count + 1
-open_behind LeftParen count = count + 1
-open_behind LeftBracket count = count + 1
-open_behind RightBrace count = count - 1
-open_behind RightParen count = count - 1
-open_behind RightBracket count = count - 1
-open_behind other count = count
+abbrev pub open_after : Kind → ℕ → ℕ
+open_after LeftBrace count = count + 1
+open_after LeftParen count = count + 1
+open_after LeftBracket count = count + 1
+open_after RightBrace count = count - 1
+open_after RightParen count = count - 1
+open_after RightBracket count = count - 1
+open_after other count = count
 
 -- of the tokens after some with which so many are open, the first with which there are too many
-abbrev pub brackets_behind : ℕ → List Token → Option ℕ
-brackets_behind count [] = None
-brackets_behind count (t ∷ ts) =
-    if nat_lt limit (open_behind t.kind count) then Some t.span.start
-    else brackets_behind (open_behind t.kind count) ts
+abbrev pub brackets_after : ℕ → List Token → Option ℕ
+brackets_after count [] = None
+brackets_after count (t ∷ ts) =
+    if nat_lt limit (open_after t.kind count) then Some t.span.start
+    else brackets_after (open_after t.kind count) ts
 
 -- the place of the first token with which more brackets are open than may be
 abbrev pub brackets : List Token → Option ℕ
-brackets tokens = brackets_behind 0 tokens
+brackets tokens = brackets_after 0 tokens

@@ -11,9 +11,9 @@ use qs_syntax_tree::token::Token;
 /// The most brackets that may be open at once.
 pub const LIMIT: usize = 64;
 
-fn open_behind(kind: Kind, count: usize) -> usize
+fn open_after(kind: Kind, count: usize) -> usize
     requires { count ≤ LIMIT }
-    ensures { result ≡ spec.open_behind kind count }
+    ensures { result ≡ spec.open_after kind count }
 {
     match kind {
         Kind::LeftBrace | Kind::LeftParen | Kind::LeftBracket => count + 1,
@@ -30,7 +30,7 @@ pub fn brackets(tokens: &[Token]) -> Option<usize>
     let mut count = 0;
     let mut left = tokens;
     while let [token, rest @ ..] = left {
-        count = open_behind(token.kind, count);
+        count = open_after(token.kind, count);
         if count > LIMIT {
             return Some(token.span.start);
         }

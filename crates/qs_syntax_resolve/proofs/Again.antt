@@ -7,7 +7,7 @@ use Rattle.std.proofs.lemmas.Bool.{and_parts}
 use Rattle.qs_terms.specs.Iri.{has_scheme, is_excluded, checked_iri}
 use Rattle.qs_terms.specs.inner.Iri.{is_iri_text}
 use Rattle.qs_lex_escapes.specs.Escape.{uchar}
-use Rattle.qs_lex_escapes.specs.Decoded.{decoded, decoded_behind, unescaped}
+use Rattle.qs_lex_escapes.specs.Decoded.{decoded, decoded_after, unescaped}
 use Rattle.qs_syntax_resolve.specs.inner.Names.{absolute, joined}
 
 or-parts : (a b : Bool) → (a || b) ≡ false → (a ≡ false) × (b ≡ false)
@@ -31,7 +31,7 @@ no_backslash c e = by_test (c == 92) refl where
   by_test false h = h
 
 plain_decodes : (i : List ℕ) → list_any is_excluded i ≡ false → decoded uchar i ≡ i
-unfolding decoded_behind
+unfolding decoded_after
 plain_decodes [] e = refl
 plain_decodes (c ∷ i) e =
     let q : (is_excluded c ≡ false) × (list_any is_excluded i ≡ false) = or-parts (is_excluded c) (list_any is_excluded i) e in

@@ -28,5 +28,4 @@ mod table;
 mod triples;
 mod update;
 
-pub use names::Names;
 pub use resolve::{resolve_query, resolve_update};
