@@ -7,7 +7,7 @@ use Rattle.qs_syntax_ast.specs.declared.query.SelectItem.TheVariants as item
 use Rattle.qs_syntax_ast.specs.declared.query.Projection.{Projection}
 use Rattle.qs_syntax_ast.specs.declared.query.Projection.TheVariants.{All, Items}
 
--- a variable may denote the second time, but the one after AS is new
+-- a variable may be listed a second time, but the one after AS is new
 abbrev pub item_scope : SelectItem → Scope
 item_scope (item.Variable v) = brings (v.name ∷ []) true
 item_scope (item.As value v) = binds v

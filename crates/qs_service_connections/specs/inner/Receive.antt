@@ -1,4 +1,4 @@
--- What a connection denotes.
+-- How far a connection has come, by what is kept of it.
 use Rattle.std.specs.Prelude.{◌≡◌, ◌≤◌, ◌-◌, ℕ, List, [], ◌++◌, length, take, drop, Option, None}
 use Rattle.std.specs.Prelude.{Some}
 use Rattle.qs_http.specs.inner.Feeding.{Seen, Reading, Done}

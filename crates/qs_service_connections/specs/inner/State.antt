@@ -2,7 +2,7 @@
 use Rattle.std.specs.Prelude.{ℕ, List, Option, None, Some}
 use Rattle.qs_service_connections.specs.State.{Exchange, Joined, with_exchange, with_taken}
 
--- that in place of what denoted that id
+-- the connections, where that one has come as far as the exchange says
 abbrev pub put_exchange : ℕ → Exchange → List Joined → List Joined
 put_exchange id exchange joined = with_exchange id (λ _. exchange) joined
 

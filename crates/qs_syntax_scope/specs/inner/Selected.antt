@@ -5,7 +5,7 @@ use Rattle.qs_syntax_scope.specs.declared.met.Met.{Met}
 use Rattle.qs_syntax_ast.specs.declared.query.SelectItem.{SelectItem}
 use Rattle.qs_syntax_ast.specs.declared.query.SelectItem.TheVariants as item
 
--- one more item: a variable may denote the second time, but the one after AS is new
+-- one more item: a variable may be listed a second time, but the one after AS is new
 abbrev pub add_item : Met → SelectItem → Met
 add_item before (item.Variable variable) =
     record { names = before.names ++ variable.name ∷ []; keeps = before.keeps }
