@@ -402,6 +402,42 @@ fn remove_graph(
     Ok(())
 }
 
+/// Makes room for so many more removed and so many more added entries, and for the commit of both.
+fn make_room(
+    index: &mut Index,
+    removed: &mut Index,
+    added: &mut Index,
+    batch: &mut Vec<[u32; 4]>,
+    outs: Counts,
+    ins: Counts,
+) -> Result<(), AllocError>
+    ensures index { index.new.entries ≡ index.old.entries }
+    ensures removed { removed.new.entries ≡ removed.old.entries }
+    ensures added { added.new.entries ≡ added.old.entries }
+    ensures spare { index.old.spare ≤ index.new.spare }
+    ensures named_spare { index.old.named_spare ≤ index.new.named_spare }
+    ensures batch { length batch.old.items ≤ length batch.new.items }
+    ensures for_index { OnOk result (length added.old.entries + ins.all ≤ index.new.spare) }
+    ensures for_named { OnOk result
+        (length (named_entries added.old.entries) + ins.named ≤ index.new.named_spare) }
+    ensures for_removed { OnOk result (outs.all ≤ removed.new.spare) }
+    ensures for_removed_named { OnOk result (outs.named ≤ removed.new.named_spare) }
+    ensures for_added { OnOk result (ins.all ≤ added.new.spare) }
+    ensures for_added_named { OnOk result (ins.named ≤ added.new.named_spare) }
+    ensures removed_batch { OnOk result
+        (length removed.old.entries + outs.all ≤ length batch.new.items) }
+    ensures added_batch { OnOk result
+        (length added.old.entries + ins.all ≤ length batch.new.items) }
+{
+    let most_removed = with_more(removed, outs)?;
+    let most_added = with_more(added, ins)?;
+    lengthen(batch, most_removed.all)?;
+    lengthen(batch, most_added.all)?;
+    reserve(removed, outs)?;
+    reserve(added, ins)?;
+    reserve(index, most_added)
+}
+
 impl Layers {
     /// No entries. It takes no memory.
     pub fn new(alloc: Global) -> Layers
@@ -647,10 +683,10 @@ impl Layers {
         ensures base { self.new.base ≡ self.old.base }
         ensures draft { self.new.draft ≡ self.old.base }
     {
-        self.removed = Index::new(self.alloc);
-        self.added = Index::new(self.alloc);
-        self.emptied = Emptied::new(self.alloc);
-        self.batch = Vec::new(self.alloc);
+        set(&mut self.removed, Index::new(self.alloc));
+        set(&mut self.added, Index::new(self.alloc));
+        set(&mut self.emptied, Emptied::new(self.alloc));
+        set(&mut self.batch, Vec::new(self.alloc));
     }
 
     /// Makes the draft's entries those of the store. It takes no memory.
@@ -660,10 +696,10 @@ impl Layers {
     {
         take_all(&mut self.index, &self.removed, self.batch.as_mut_slice());
         put_all(&mut self.index, &self.added, self.batch.as_mut_slice());
-        self.removed = Index::new(self.alloc);
-        self.added = Index::new(self.alloc);
-        self.emptied = Emptied::new(self.alloc);
-        self.batch = Vec::new(self.alloc);
+        set(&mut self.removed, Index::new(self.alloc));
+        set(&mut self.added, Index::new(self.alloc));
+        set(&mut self.emptied, Emptied::new(self.alloc));
+        set(&mut self.batch, Vec::new(self.alloc));
     }
 
     /// Makes the draft's entries those of the store, and puts these in, too, which it leaves in some order. No room is left set aside in
@@ -717,13 +753,14 @@ impl Layers {
         let mut put = missing(self.alloc, &self.index, &self.removed, &taken, ins)?;
         let more_removed = count(&taken);
         let more_added = count(&put);
-        let most_removed = with_more(&self.removed, more_removed)?;
-        let most_added = with_more(&self.added, more_added)?;
-        lengthen(&mut self.batch, most_removed.all)?;
-        lengthen(&mut self.batch, most_added.all)?;
-        reserve(&mut self.removed, more_removed)?;
-        reserve(&mut self.added, more_added)?;
-        reserve(&mut self.index, most_added)?;
+        make_room(
+            &mut self.index,
+            &mut self.removed,
+            &mut self.added,
+            &mut self.batch,
+            more_removed,
+            more_added,
+        )?;
         self.added.remove_all(outs);
         self.removed.insert_all(taken.as_mut_slice());
         put_missing(

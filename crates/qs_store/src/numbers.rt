@@ -89,6 +89,31 @@ pub fn put_graph(dict: &mut Dict, graph: Option<&Term>) -> Result<u32, StoreFaul
     }
 }
 
+/// The graph's name, by itself.
+fn graph_ref(graph: Option<&Term>) -> Option<TermRef<'_>>
+    ensures same { (known : List Term) → referred_graph known result ≡ option_copied graph.entry }
+    ensures fine { (known : List Term) → IsReferredGraph known result }
+{
+    match graph {
+        None => None,
+        Some(name) => Some(TermRef::Term(name)),
+    }
+}
+
+/// The quad, by its terms.
+fn quad_ref(quad: &Quad) -> QuadRef<'_>
+    ensures same { (known : List Term) → referred_quad known result ≡ quad.now }
+    ensures fine { (known : List Term) → IsReferredQuad known result }
+    ensures fits { IsTrue (fits_places quad.now.graph quad.now.subject quad.now.predicate) }
+{
+    QuadRef {
+        graph: graph_ref(quad.graph()),
+        subject: TermRef::Term(quad.subject()),
+        predicate: TermRef::Term(quad.predicate()),
+        object: TermRef::Term(quad.object()),
+    }
+}
+
 /// The entry of the quad, whose new terms are put after the others in the dictionary.
 pub fn numbered(dict: &mut Dict, quad: &Quad) -> Result<[u32; 4], StoreFault>
     ensures entry { IfOk result (λ entry. entry_of dict.new.terms quad.now ≡ Some entry) }
@@ -101,11 +126,7 @@ pub fn numbered(dict: &mut Dict, quad: &Quad) -> Result<[u32; 4], StoreFault>
     ensures lawful { OnOk result (IsDictionary dict.new) }
     ensures fits { IsTrue (fits_places quad.now.graph quad.now.subject quad.now.predicate) }
 {
-    let g = put_graph(dict, quad.graph())?;
-    let s = put(dict, quad.subject())?;
-    let p = put(dict, quad.predicate())?;
-    let o = put(dict, quad.object())?;
-    Ok([g, s, p, o])
+    numbered_ref(dict, quad_ref(quad))
 }
 
 /// The number of the term that is meant, where it has one.

@@ -17,8 +17,8 @@ put_missing-requires-clause-missing c h =
     let part = subst (λ z. IsPartOf c.args.ins.now put (MayBeMissing s.index.entries s.removed.entries z)) c.deref.ensures.value c.in_ok-put.ensures in
     let empty : c.count-more_removed.result.all ≡ 0 = eqb-true _ _ h in
     let none : length taken ≡ 0 = omega (arith, empty, c.count-more_removed.ensures.all, ap length c.deref-2.ensures.value) in
-    λ x m. none_taken s.index.entries s.removed.entries c.reserve.new.index.entries c.as_mut_slice.result.now c.insert_all.new.self.entries c.reserve-3.new.index.entries taken put c.as_mut_slice-3.result.now x
-    c.reserve-3.ensures.entries c.reserve.ensures.entries c.as_mut_slice-3.ensures.value c.insert_all.ensures.union (λ y k. (part.only y k).1) none m
+    λ x m. none_taken s.index.entries s.removed.entries c.make_room.new.removed.entries c.as_mut_slice.result.now c.insert_all.new.self.entries c.make_room.new.index.entries taken put c.as_mut_slice-3.result.now x
+    c.make_room.ensures.index c.make_room.ensures.removed c.as_mut_slice-3.ensures.value c.insert_all.ensures.union (λ y k. (part.only y k).1) none m
 
 pub invariant_of-self-2 : goal.invariant_of-self-2
 invariant_of-self-2 c =
@@ -34,8 +34,8 @@ invariant_of-self-2 c =
     let a2 = c.put_missing.new.added.entries in
     let part = subst (λ z. IsPartOf ins put (MayBeMissing base s.removed.entries z)) c.deref.ensures.value c.in_ok-put.ensures in
     let t = steps_of base s.removed.entries s.added.entries outs ins taken put
-    c.reserve-3.new.index.entries c.reserve.new.index.entries c.reserve-2.new.index.entries c.as_mut_slice.result.now c.as_mut_slice-3.result.now r1 a1 a2
-    c.in_ok-taken.ensures part c.reserve-3.ensures.entries c.reserve.ensures.entries c.reserve-2.ensures.entries c.as_mut_slice.ensures.value c.as_mut_slice-3.ensures.value c.remove_all.ensures.difference c.insert_all.ensures.union c.put_missing.ensures.union in
+    c.make_room.new.index.entries c.make_room.new.removed.entries c.make_room.new.added.entries c.as_mut_slice.result.now c.as_mut_slice-3.result.now r1 a1 a2
+    c.in_ok-taken.ensures part c.make_room.ensures.index c.make_room.ensures.removed c.make_room.ensures.added c.as_mut_slice.ensures.value c.as_mut_slice-3.ensures.value c.remove_all.ensures.difference c.insert_all.ensures.union c.put_missing.ensures.union in
     let p = parted_after base s.removed.entries s.added.entries outs ins taken put r1 a1 a2 i.parted t in
     let l1 = difference_fits s.added.entries outs a1 t.a_less in
     let l2 = union_with_fits a1 put a2 (IsMissing base r1) t.a_more in
@@ -47,14 +47,14 @@ invariant_of-self-2 c =
     let named_put = ap (λ l. length (named_entries l)) c.deref-3.ensures.value in
     let slice_len = ap length c.as_mut_slice-2.ensures.value in
     let batch = c.put_missing.new.batch in
-    let whole = written c.lengthen-2.new.batch.len batch (drop (length batch) c.lengthen-2.new.batch.items) (omega (arith, c.put_missing.auto.batch, slice_len, c.as_mut_slice-2.ensures.len)) in
+    let whole = written c.make_room.new.batch.len batch (drop (length batch) c.make_room.new.batch.items) (omega (arith, c.put_missing.auto.batch, slice_len, c.as_mut_slice-2.ensures.len)) in
     record {
-      parted = subst (λ z. IsDraft z r1 a2) (sym c.reserve-3.ensures.entries) p;
-      out = subst (λ z. AreEmptied z r1 s.emptied) (sym c.reserve-3.ensures.entries) (still_out base s.removed.entries r1 s.emptied t.r_more.has_old i.out);
-      spare = omega (arith, l1, l2, put_len, c.in_ok-most_added.ensures.all, c.count-more_added.ensures.all, c.in_ok-reserve-3.ensures.ok);
-      named_spare = omega (arith, n1, n2, named_put, c.in_ok-most_added.ensures.named, c.count-more_added.ensures.named, c.in_ok-reserve-3.ensures.named_ok);
-      removed_room = subst (λ l. length r1 ≤ length l) (sym whole) (omega (arith, c.put_missing.auto.batch, slice_len, l3, taken_len, c.in_ok-most_removed.ensures.all, c.count-more_removed.ensures.all, c.in_ok-lengthen.ensures.ok, c.lengthen-2.ensures.kept));
-      added_room = subst (λ l. length a2 ≤ length l) (sym whole) (omega (arith, c.put_missing.auto.batch, slice_len, l1, l2, put_len, c.in_ok-most_added.ensures.all, c.count-more_added.ensures.all, c.in_ok-lengthen-2.ensures.ok));
+      parted = subst (λ z. IsDraft z r1 a2) (sym c.make_room.ensures.index) p;
+      out = subst (λ z. AreEmptied z r1 s.emptied) (sym c.make_room.ensures.index) (still_out base s.removed.entries r1 s.emptied t.r_more.has_old i.out);
+      spare = omega (arith, l1, l2, put_len, c.count-more_added.ensures.all, c.in_ok-make_room.ensures.for_index);
+      named_spare = omega (arith, n1, n2, named_put, c.count-more_added.ensures.named, c.in_ok-make_room.ensures.for_named);
+      removed_room = subst (λ l. length r1 ≤ length l) (sym whole) (omega (arith, c.put_missing.auto.batch, slice_len, l3, taken_len, c.count-more_removed.ensures.all, c.in_ok-make_room.ensures.removed_batch));
+      added_room = subst (λ l. length a2 ≤ length l) (sym whole) (omega (arith, c.put_missing.auto.batch, slice_len, l1, l2, put_len, c.count-more_added.ensures.all, c.in_ok-make_room.ensures.added_batch));
     }
 
 pub returns-clause-draft : goal.returns-clause-draft
@@ -71,8 +71,8 @@ returns-clause-draft c =
     let a2 = c.put_missing.new.added.entries in
     let part = subst (λ z. IsPartOf ins put (MayBeMissing base s.removed.entries z)) c.deref.ensures.value c.in_ok-put.ensures in
     let t = steps_of base s.removed.entries s.added.entries outs ins taken put
-    c.reserve-3.new.index.entries c.reserve.new.index.entries c.reserve-2.new.index.entries c.as_mut_slice.result.now c.as_mut_slice-3.result.now r1 a1 a2
-    c.in_ok-taken.ensures part c.reserve-3.ensures.entries c.reserve.ensures.entries c.reserve-2.ensures.entries c.as_mut_slice.ensures.value c.as_mut_slice-3.ensures.value c.remove_all.ensures.difference c.insert_all.ensures.union c.put_missing.ensures.union in
+    c.make_room.new.index.entries c.make_room.new.removed.entries c.make_room.new.added.entries c.as_mut_slice.result.now c.as_mut_slice-3.result.now r1 a1 a2
+    c.in_ok-taken.ensures part c.make_room.ensures.index c.make_room.ensures.removed c.make_room.ensures.added c.as_mut_slice.ensures.value c.as_mut_slice-3.ensures.value c.remove_all.ensures.difference c.insert_all.ensures.union c.put_missing.ensures.union in
     let m = members_after base s.removed.entries s.added.entries outs ins taken put r1 a1 a2 i.parted t in
-    subst (λ v. IsChanged v.draft outs ins (drafted c.reserve-3.new.index.entries r1 a2)) c.self.view_is
-    (subst (λ z. IsChanged (drafted base s.removed.entries s.added.entries) outs ins (drafted z r1 a2)) (sym c.reserve-3.ensures.entries) m)
+    subst (λ v. IsChanged v.draft outs ins (drafted c.make_room.new.index.entries r1 a2)) c.self.view_is
+    (subst (λ z. IsChanged (drafted base s.removed.entries s.added.entries) outs ins (drafted z r1 a2)) (sym c.make_room.ensures.index) m)

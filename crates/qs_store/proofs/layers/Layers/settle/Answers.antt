@@ -5,7 +5,7 @@ use Rattle.qs_store.proofs.Drafted.{nothing_drafted, settled, drafted_none}
 use Rattle.qs_store.proofs.layers.Layers.settle.Goals as goal
 
 pub invariant_of-self : goal.invariant_of-self
-invariant_of-self c = nothing_drafted _ _ _ _ _ c.put_all.ensures.union.ascending c.new.ensures.entries c.new-2.ensures.entries c.new-3.ensures
+invariant_of-self c = nothing_drafted _ _ _ _ _ c.put_all.ensures.union.ascending (ap (λ i. i.entries) c.set.ensures ∙ c.new.ensures.entries) (ap (λ i. i.entries) c.set-2.ensures ∙ c.new-2.ensures.entries) (c.set-3.ensures ∙ c.new-3.ensures)
 
 pub returns-clause-base : goal.returns-clause-base
 returns-clause-base c =
@@ -16,4 +16,4 @@ returns-clause-base c =
 pub returns-clause-draft : goal.returns-clause-draft
 returns-clause-draft c =
     let base = c.put_all.new.index.entries in
-    ap (λ r. drafted base r c.new-2.result.entries) c.new.ensures.entries ∙ ap (λ a. drafted base [] a) c.new-2.ensures.entries ∙ drafted_none base
+    ap (λ r. drafted base r c.set-2.new.slot.entries) (ap (λ i. i.entries) c.set.ensures ∙ c.new.ensures.entries) ∙ (ap (λ a. drafted base [] a) (ap (λ i. i.entries) c.set-2.ensures ∙ c.new-2.ensures.entries) ∙ drafted_none base)
