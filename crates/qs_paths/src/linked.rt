@@ -4,7 +4,8 @@
 //! The pairs are links between numbers, so nothing is looked up or hashed while a walk is followed. They are all in memory, and may be more
 //! than the pairs of the closure. From an end that is given a walk asks the graph instead (`walk.rt`).
 
-ghost use Rattle.std.specs.Prelude.{◌≡◌, ◌≢◌, [], length, None, true, slice_index_or, IfOk, IfSome, OnOk};
+ghost use Rattle.std.specs.Prelude.{◌≡◌, ◌≢◌, ◌<◌, ℕ, [], length, map, get_or, None, true, slice_index_or, IfOk, IfSome, OnOk};
+ghost use Rattle.qs_paths.specs.declared.links.Placed.{Placed as PlacedValue};
 ghost use Rattle.std.specs.List.{list_any};
 ghost use Rattle.qs_paths_meaning.specs.Closure.{closure};
 ghost use Rattle.qs_paths_meaning.specs.inner.Links.{IsMarked, rows_of, same_number};
@@ -49,6 +50,47 @@ fn starts_of<E: Source>(
     }
 }
 
+/// The pairs of a closure that begin at these places.
+fn rows_from<E: Source>(
+    alloc: Global,
+    edges: &E,
+    path: &Path,
+    repetition: Repetition,
+    links: &Links,
+    starts: &[Placed],
+) -> Result<Vec<NodePair>, AllocError>
+    requires web { IsWeb links.now.nodes.keys (rows_of links.now.next.items) }
+    requires links { LinkSteps (E.known edges.now) links.now.nodes.keys
+        (rows_of links.now.next.items) (pairs (E.graph edges.now) path.now) }
+    requires at { (i : ℕ) → (s : PlacedValue) → i < length starts.now → s ≡ get_or starts.now i s
+        → StandsAt links.now.nodes.keys s.place s.node }
+    requires node { (i : ℕ) → (s : PlacedValue) → i < length starts.now
+        → s ≡ get_or starts.now i s → NamesNode (E.known edges.now) (E.graph edges.now) s.node }
+    requires starts { AreStarts (E.known edges.now) (E.graph edges.now)
+        (pairs (E.graph edges.now) path.now) repetition (map (λ s. s.node) starts.now) }
+    ensures { IfOk result
+        (λ ps. ArePairs (E.known edges.now)
+        (closure repetition (is_step (pairs (E.graph edges.now) path.now)) (E.graph edges.now))
+        None None ps.items) }
+{
+    let count = links.nodes.as_slice().len();
+    let mut found = Reached::new(alloc, count)?;
+    let mut alike = Reached::new(alloc, count)?;
+    let mut rows = Vec::new(alloc);
+    for start in starts {
+        reach(
+            edges, path, repetition, links, *start, &mut found, &mut alike,
+        )?;
+        put_reached(
+            &mut rows,
+            links.nodes.as_slice(),
+            start.node,
+            found.numbers.as_slice(),
+        )?;
+    }
+    Ok(rows)
+}
+
 /// The pairs of a closure, both ends of which are open, by the pairs of its path.
 pub fn linked_from_all<E: Source>(
     alloc: Global,
@@ -68,22 +110,7 @@ pub fn linked_from_all<E: Source>(
     let ends = starts_of(alloc, edges, path, repetition, steps)?;
     let mut starts = links.placed(alloc, ends.nodes.as_slice())?;
     put_in_order(alloc, &links, &mut starts)?;
-    let count = links.nodes.as_slice().len();
-    let mut found = Reached::new(alloc, count)?;
-    let mut alike = Reached::new(alloc, count)?;
-    let mut rows = Vec::new(alloc);
-    for start in starts.as_slice() {
-        reach(
-            edges, path, repetition, &links, *start, &mut found, &mut alike,
-        )?;
-        put_reached(
-            &mut rows,
-            links.nodes.as_slice(),
-            start.node,
-            found.numbers.as_slice(),
-        )?;
-    }
-    Ok(rows)
+    rows_from(alloc, edges, path, repetition, &links, starts.as_slice())
 }
 
 /// A place that leads to what was found, and that a link leads to from the start, which was found too: then the start leads to just that.

@@ -31,10 +31,12 @@ fn inserted(
     requires { place ≤ length stages.now }
     ensures { IfOk result (λ ss. ss ≡ take place stages.now ++ one ∷ drop place stages.now) }
 {
-    let mut done = copied_stages(alloc, &stages[..place])?;
-    done.push(one)?;
+    let mut behind = Items::new(alloc);
+    behind.push(one)?;
     let rest = copied_stages(alloc, &stages[place..])?;
-    done.append(rest)?;
+    behind.append(rest)?;
+    let mut done = copied_stages(alloc, &stages[..place])?;
+    done.append(behind)?;
     Ok(done)
 }
 
@@ -48,10 +50,12 @@ fn replaced(
     requires { place + 1 ≤ length stages.now }
     ensures { IfOk result (λ ss. ss ≡ take place stages.now ++ one ∷ drop (place + 1) stages.now) }
 {
-    let mut done = copied_stages(alloc, &stages[..place])?;
-    done.push(one)?;
+    let mut behind = Items::new(alloc);
+    behind.push(one)?;
     let rest = copied_stages(alloc, &stages[place + 1..])?;
-    done.append(rest)?;
+    behind.append(rest)?;
+    let mut done = copied_stages(alloc, &stages[..place])?;
+    done.append(behind)?;
     Ok(done)
 }
 

@@ -401,8 +401,8 @@ fn ordered_stages<C: Counts>(
     for place in places.as_slice() {
         if let Some(stage) = stages.get(*place) {
             let one = ordered_stage(alloc, counts, stage, known)?;
-            known.add_stage(alloc, stage)?;
             done.push(one)?;
+            known.add_stage(alloc, stage)?;
         }
     }
     known.cut(count);

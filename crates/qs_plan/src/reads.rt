@@ -27,69 +27,41 @@ pub fn settle(alloc: Global, expr: &Expr, variables: &mut Vec<usize>) -> Result<
             Ok(())
         }
         Expr::Term(_) => Ok(()),
-        Expr::Not(inner) => {
-            settle(alloc, inner.get(), variables)?;
-            Ok(())
-        }
-        Expr::Signed(_, inner) => {
-            settle(alloc, inner.get(), variables)?;
-            Ok(())
-        }
-        Expr::Unary(_, inner) => {
-            settle(alloc, inner.get(), variables)?;
-            Ok(())
-        }
+        Expr::Not(inner) => { settle(alloc, inner.get(), variables) }
+        Expr::Signed(_, inner) => { settle(alloc, inner.get(), variables) }
+        Expr::Unary(_, inner) => { settle(alloc, inner.get(), variables) }
         Expr::Compare(_, left, right) => {
             settle(alloc, left.get(), variables)?;
-            settle(alloc, right.get(), variables)?;
-            Ok(())
+            settle(alloc, right.get(), variables)
         }
         Expr::Binary(_, left, right) => {
             settle(alloc, left.get(), variables)?;
-            settle(alloc, right.get(), variables)?;
-            Ok(())
+            settle(alloc, right.get(), variables)
         }
         Expr::If(test, yes, no) => {
             settle(alloc, test.get(), variables)?;
             settle(alloc, yes.get(), variables)?;
-            settle(alloc, no.get(), variables)?;
-            Ok(())
+            settle(alloc, no.get(), variables)
         }
-        Expr::Or(parts) => {
-            settle_all(alloc, parts.as_slice(), variables)?;
-            Ok(())
-        }
-        Expr::And(parts) => {
-            settle_all(alloc, parts.as_slice(), variables)?;
-            Ok(())
-        }
-        Expr::Coalesce(parts) => {
-            settle_all(alloc, parts.as_slice(), variables)?;
-            Ok(())
-        }
-        Expr::Concat(parts) => {
-            settle_all(alloc, parts.as_slice(), variables)?;
-            Ok(())
-        }
+        Expr::Or(parts) => { settle_all(alloc, parts.as_slice(), variables) }
+        Expr::And(parts) => { settle_all(alloc, parts.as_slice(), variables) }
+        Expr::Coalesce(parts) => { settle_all(alloc, parts.as_slice(), variables) }
+        Expr::Concat(parts) => { settle_all(alloc, parts.as_slice(), variables) }
         Expr::In(inner, parts) => {
             settle(alloc, inner.get(), variables)?;
-            settle_all(alloc, parts.as_slice(), variables)?;
-            Ok(())
+            settle_all(alloc, parts.as_slice(), variables)
         }
         Expr::NotIn(inner, parts) => {
             settle(alloc, inner.get(), variables)?;
-            settle_all(alloc, parts.as_slice(), variables)?;
-            Ok(())
+            settle_all(alloc, parts.as_slice(), variables)
         }
         Expr::Product(inner, parts) => {
             settle(alloc, inner.get(), variables)?;
-            settle_all(alloc, parts.as_slice(), variables)?;
-            Ok(())
+            settle_all(alloc, parts.as_slice(), variables)
         }
         Expr::Sum(inner, addends) => {
             settle(alloc, inner.get(), variables)?;
-            settle_addends(alloc, addends.as_slice(), variables)?;
-            Ok(())
+            settle_addends(alloc, addends.as_slice(), variables)
         }
     }
 }

@@ -1,10 +1,13 @@
 //! A store of four quads: `e:a e:p e:b`, `e:a e:q 01`, `e:b e:q 2` and `e:b e:p e:a`.
 
+ghost use Rattle.qs_expr.specs.inner.Cell.{FitsRow};
+ghost use Rattle.qs_expr.specs.inner.Scratch.{IsTable};
+
 use crate::outcome::Outcome;
 use crate::sample::{WIDTH, bind_all};
 use crate::{cells, conditions, values};
 use qs_expr::{Row, Scratch};
-use qs_store::Store;
+use qs_store::{Store, View};
 use qs_terms::dataset::is_above_blanks;
 use qs_terms::{Quad, Term, TermFault};
 use std::alloc::Global;
@@ -67,16 +70,40 @@ fn quads(alloc: Global) -> Result<Vec<Quad>, TermFault> {
     Ok(quads)
 }
 
+/// Whether all is right of the row.
+fn are_right_of<V: View>(
+    alloc: Global,
+    row: &Row,
+    view: &V,
+    scratch: &mut Scratch,
+) -> Result<bool, TermFault>
+    requires table { IsTable (V.content view.now).known scratch.old }
+    requires fits { FitsRow (V.content view.now).known scratch.old row.now }
+{
+    let are_read = values::are_read(alloc, row, view, scratch)?;
+    let are_conditions = conditions::are_right(alloc, row, view, scratch)?;
+    let are_values = values::are_values(alloc, row, view, scratch)?;
+    let are_rows = cells::are_rows(alloc)?;
+    Ok(are_read && are_conditions && are_values && are_rows)
+}
+
+/// Whether all is right over the view.
+fn are_right_over<V: View>(
+    alloc: Global,
+    view: &V,
+    scratch: &mut Scratch,
+) -> Result<bool, TermFault>
+    requires { IsTable (V.content view.now).known scratch.old }
+{
+    let mut row = Row::unbound(alloc, WIDTH)?;
+    bind_all(alloc, &mut row, view, scratch)?;
+    are_right_of(alloc, &row, view, scratch)
+}
+
 /// Whether all is right over the store.
 fn are_right(alloc: Global, store: &Store) -> Result<bool, TermFault> {
     let mut scratch = Scratch::new(alloc, store);
-    let mut row = Row::unbound(alloc, WIDTH)?;
-    bind_all(alloc, &mut row, store, &mut scratch)?;
-    let are_read = values::are_read(alloc, &row, store, &scratch)?;
-    let are_conditions = conditions::are_right(alloc, &row, store, &scratch)?;
-    let are_values = values::are_values(alloc, &row, store, &mut scratch)?;
-    let are_rows = cells::are_rows(alloc)?;
-    Ok(are_read && are_conditions && are_values && are_rows)
+    are_right_over(alloc, store, &mut scratch)
 }
 
 fn over(alloc: Global, store: &mut Store, quads: &[Quad]) -> Result<bool, TermFault> {

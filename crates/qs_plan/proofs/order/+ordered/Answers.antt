@@ -1,6 +1,6 @@
 use Rattle.std.proofs.Common.{get_or, refl, ◌∙◌}
 use Rattle.qs_plan.proofs.Cutting.{place_put, place_none, places_end}
-use Rattle.qs_plan.proofs.order.+ordered.Goals.{ordered_stages-in-Some+in_ok-one+in_ok-add_stage+in_ok-push, ordered_stages-in_default}
+use Rattle.qs_plan.proofs.order.+ordered.Goals.{ordered_stages-in-Some+in_ok-one+in_ok-push+in_ok-add_stage, ordered_stages-in_default}
 use Rattle.qs_plan.proofs.Sames.{branch_more, optional_arm, fed_arm, minus_arm, apart_arm}
 use Rattle.qs_plan.proofs.order.+ordered.Goals as goal
 
@@ -29,7 +29,7 @@ ordered_stages-loop-place-preserved g t c =
     let items = c.as_slice-place-items.result.now in
     let i = c.loop-place.place-index in
     elim c.match-get.branch [
-      | ordered_stages-in-Some+in_ok-one+in_ok-add_stage+in_ok-push w ↦
+      | ordered_stages-in-Some+in_ok-one+in_ok-push+in_ok-add_stage w ↦
           place_put c.loop-place.done c.match-get.done c.args.stages.now items i (get_or items i 0) c.loop-place-test.true refl c.loop-place.invariant w.in-Some.stage.now w.in_ok-one.one w.in-Some.ensures.lookup.3.0 w.in-Some.ensures.lookup.1 w.in_ok-one.ensures (w.done-is ∙ w.in_ok-push.ensures.ok)
       | ordered_stages-in_default w ↦ place_none c.loop-place.done c.match-get.done c.args.stages.now items i (get_or items i 0) c.loop-place-test.true refl c.loop-place.invariant w.in_default.ensures.lookup.3 w.done-is
     ]
