@@ -1,6 +1,6 @@
 //! The commands of the program, with their arguments.
 
-use crate::held::add_command;
+use crate::held::keep_beside;
 use clap::{Arg, ArgAction, Command};
 use std::alloc::{AllocError, Global};
 
@@ -43,134 +43,239 @@ pub const IS_UPDATE: &str = "update";
 /// The flag of a union default graph.
 pub const UNION_DEFAULT: &str = "union-default";
 
-// A file that the command line names.
-fn file_argument<'a>(alloc: Global, name: &'a str, what: &'a str) -> Arg<'a> {
-    Arg::new(alloc, name).required(true).help(what)
+/// What an argument takes.
+#[derive(Clone, Copy)]
+enum Kind {
+    /// A text, which is required.
+    Text,
+    /// Nothing.
+    Flag,
+    /// A number from 1 to 65535, which is required.
+    Port,
+    /// A number from 0 to 4294967295.
+    Count,
+    /// A number from 1 to 64.
+    Few,
+    /// A number from 1 to 4294967295.
+    Seconds,
 }
 
-// The choice of the default graph.
-fn union_default<'a>(alloc: Global) -> Arg<'a> {
-    Arg::new(alloc, UNION_DEFAULT)
-        .long(UNION_DEFAULT)
-        .action(ArgAction::SetTrue)
-        .help("queries see the union of all named graphs as the default graph")
+/// An argument of a command.
+#[derive(Clone, Copy)]
+struct Argument<'a> {
+    name: &'a str,
+    long: Option<&'a str>,
+    kind: Kind,
+    help: &'a str,
 }
 
-fn check_command<'a>(alloc: Global) -> Result<Command<'a>, AllocError> {
-    Command::new(alloc, "check")
-        .about("Prints the data of a file as N-Quads, each quad once, in the order of the lines")
-        .after_help("Example: quads check examples/data.nq")
-        .arg(file_argument(alloc, DATA, "the data, as N-Quads"))
+/// A command with its arguments.
+#[derive(Clone, Copy)]
+struct Entry<'a> {
+    name: &'a str,
+    about: &'a str,
+    example: &'a str,
+    arguments: &'a [Argument<'a>],
 }
 
-fn query_command<'a>(alloc: Global) -> Result<Command<'a>, AllocError> {
-    Command::new(alloc, "query")
-        .about(
-            "Prints the answer of a query over the data of a file: as JSON, or for CONSTRUCT as N-Triples",
-        )
-        .after_help("Example: quads query examples/data.nq examples/authors.rq")
-        .arg(file_argument(alloc, DATA, "the data, as N-Quads"))?
-        .arg(file_argument(alloc, QUERY, "the text of the query"))?
-        .arg(union_default(alloc))
+const DATA_FILE: Argument<'static> = Argument {
+    name: DATA,
+    long: None,
+    kind: Kind::Text,
+    help: "the data, as N-Quads",
+};
+
+const UNION: Argument<'static> = Argument {
+    name: UNION_DEFAULT,
+    long: Some(UNION_DEFAULT),
+    kind: Kind::Flag,
+    help: "queries see the union of all named graphs as the default graph",
+};
+
+const ENTRIES: &[Entry<'static>] = &[
+    Entry {
+        name: "check",
+        about: "Prints the data of a file as N-Quads, each quad once, in the order of the lines",
+        example: "Example: quads check examples/data.nq",
+        arguments: &[DATA_FILE],
+    },
+    Entry {
+        name: "query",
+        about: "Prints the answer of a query over the data of a file: as JSON, or for CONSTRUCT as N-Triples",
+        example: "Example: quads query examples/data.nq examples/authors.rq",
+        arguments: &[
+            DATA_FILE,
+            Argument {
+                name: QUERY,
+                long: None,
+                kind: Kind::Text,
+                help: "the text of the query",
+            },
+            UNION,
+        ],
+    },
+    Entry {
+        name: "update",
+        about: "Prints the data of a file after an update, as N-Quads; the file stays as it is",
+        example: "Example: quads update examples/data.nq examples/lend.ru",
+        arguments: &[
+            DATA_FILE,
+            Argument {
+                name: UPDATE,
+                long: None,
+                kind: Kind::Text,
+                help: "the text of the update",
+            },
+            UNION,
+        ],
+    },
+    Entry {
+        name: "explain",
+        about: "Prints the plan of a query or an update over the data of a file, a line a stage; nothing is carried out",
+        example: "Example: quads explain examples/data.nq examples/loans.rq",
+        arguments: &[
+            DATA_FILE,
+            Argument {
+                name: TEXT,
+                long: None,
+                kind: Kind::Text,
+                help: "the text of the query, or of the update",
+            },
+            Argument {
+                name: IS_UPDATE,
+                long: Some(IS_UPDATE),
+                kind: Kind::Flag,
+                help: "the text is an update; the plan of each operation's WHERE is printed",
+            },
+            UNION,
+        ],
+    },
+    Entry {
+        name: "replay",
+        about: "Carries out the connection events of a script over the data of a file, and prints each reply in hex",
+        example: "Example: quads replay examples/data.nq examples/talk.script",
+        arguments: &[
+            DATA_FILE,
+            Argument {
+                name: SCRIPT,
+                long: None,
+                kind: Kind::Text,
+                help: "lines `join <id>`, `piece <id> <hex>` and `end <id>`",
+            },
+            UNION,
+        ],
+    },
+    Entry {
+        name: "serve",
+        about: "Serves the data of a file by the SPARQL protocol, at /query, /update and /data",
+        example: "Example: quads serve --port 7878 --data examples/data.nq",
+        arguments: &[
+            Argument {
+                name: PORT,
+                long: Some("port"),
+                kind: Kind::Port,
+                help: "the port, on 127.0.0.1",
+            },
+            Argument {
+                name: DATA,
+                long: Some("data"),
+                kind: Kind::Text,
+                help: "the data, as N-Quads",
+            },
+            Argument {
+                name: REQUESTS,
+                long: Some("requests"),
+                kind: Kind::Count,
+                help: "how many connections are served; without it, until the program is stopped",
+            },
+            Argument {
+                name: AT_ONCE,
+                long: Some("at-once"),
+                kind: Kind::Few,
+                help: "how many connections are open at once, from 1 to 64; 64 unless said",
+            },
+            Argument {
+                name: IDLE,
+                long: Some("idle"),
+                kind: Kind::Seconds,
+                help: "a connection is dropped when no byte comes or goes for so long; 30 unless said",
+            },
+            Argument {
+                name: REQUEST,
+                long: Some("request"),
+                kind: Kind::Seconds,
+                help: "a connection is dropped when its request isn't whole by then; 120 unless said",
+            },
+            UNION,
+        ],
+    },
+];
+
+// The argument with what its kind asks for.
+fn of_kind<'a>(argument: Arg<'a>, kind: Kind) -> Arg<'a> {
+    match kind {
+        Kind::Text => argument.required(true),
+        Kind::Flag => argument.action(ArgAction::SetTrue),
+        Kind::Port => argument
+            .required(true)
+            .value_parser(clap::value_parser!(u16).range(1..)),
+        Kind::Count => argument.value_parser(clap::value_parser!(u32)),
+        Kind::Few => argument.value_parser(clap::value_parser!(u16).range(1..=64)),
+        Kind::Seconds => argument
+            .value_name("SECONDS")
+            .value_parser(clap::value_parser!(u32).range(1..)),
+    }
 }
 
-fn update_command<'a>(alloc: Global) -> Result<Command<'a>, AllocError> {
-    Command::new(alloc, "update")
-        .about("Prints the data of a file after an update, as N-Quads; the file stays as it is")
-        .after_help("Example: quads update examples/data.nq examples/lend.ru")
-        .arg(file_argument(alloc, DATA, "the data, as N-Quads"))?
-        .arg(file_argument(alloc, UPDATE, "the text of the update"))?
-        .arg(union_default(alloc))
+fn argument_of<'a>(alloc: Global, entry: &Argument<'a>) -> Arg<'a> {
+    let argument = Arg::new(alloc, entry.name).help(entry.help);
+    let argument = match entry.long {
+        Some(long) => argument.long(long),
+        None => argument,
+    };
+    of_kind(argument, entry.kind)
 }
 
-fn explain_command<'a>(alloc: Global) -> Result<Command<'a>, AllocError> {
-    Command::new(alloc, "explain")
-        .about(
-            "Prints the plan of a query or an update over the data of a file, a line a stage; nothing is carried out",
-        )
-        .after_help("Example: quads explain examples/data.nq examples/loans.rq")
-        .arg(file_argument(alloc, DATA, "the data, as N-Quads"))?
-        .arg(file_argument(alloc, TEXT, "the text of the query, or of the update"))?
-        .arg(
-            Arg::new(alloc, IS_UPDATE)
-                .long(IS_UPDATE)
-                .action(ArgAction::SetTrue)
-                .help("the text is an update; the plan of each operation's WHERE is printed"),
-        )?
-        .arg(union_default(alloc))
+// The command with the arguments.
+fn with_arguments<'a>(
+    alloc: Global,
+    command: Command<'a>,
+    arguments: &[Argument<'a>],
+) -> Result<Command<'a>, AllocError> {
+    let mut command = command;
+    for argument in arguments {
+        command = command.arg(argument_of(alloc, argument))?;
+    }
+    Ok(command)
 }
 
-fn replay_command<'a>(alloc: Global) -> Result<Command<'a>, AllocError> {
-    Command::new(alloc, "replay")
-        .about(
-            "Carries out the connection events of a script over the data of a file, and prints each reply in hex",
-        )
-        .after_help("Example: quads replay examples/data.nq examples/talk.script")
-        .arg(file_argument(alloc, DATA, "the data, as N-Quads"))?
-        .arg(file_argument(
-            alloc,
-            SCRIPT,
-            "lines `join <id>`, `piece <id> <hex>` and `end <id>`",
-        ))?
-        .arg(union_default(alloc))
+fn command_of<'a>(alloc: Global, entry: &Entry<'a>) -> Result<Command<'a>, AllocError> {
+    let command = Command::new(alloc, entry.name)
+        .about(entry.about)
+        .after_help(entry.example);
+    with_arguments(alloc, command, entry.arguments)
 }
 
-fn port_argument<'a>(alloc: Global) -> Arg<'a> {
-    Arg::new(alloc, PORT)
-        .long("port")
-        .required(true)
-        .value_parser(clap::value_parser!(u16).range(1..))
-        .help("the port, on 127.0.0.1")
+// The command with one more below it.
+fn with_entry<'a>(
+    alloc: Global,
+    command: Command<'a>,
+    entry: &Entry<'a>,
+) -> Result<Command<'a>, AllocError> {
+    let (command, added) = keep_beside(command, command_of(alloc, entry))?;
+    command.subcommand(added)
 }
 
-fn served_argument<'a>(alloc: Global) -> Arg<'a> {
-    Arg::new(alloc, DATA)
-        .long("data")
-        .required(true)
-        .help("the data, as N-Quads")
-}
-
-fn requests_argument<'a>(alloc: Global) -> Arg<'a> {
-    Arg::new(alloc, REQUESTS)
-        .long("requests")
-        .value_parser(clap::value_parser!(u32))
-        .help("how many connections are served; without it, until the program is stopped")
-}
-
-fn at_once_argument<'a>(alloc: Global) -> Arg<'a> {
-    Arg::new(alloc, AT_ONCE)
-        .long("at-once")
-        .value_parser(clap::value_parser!(u16).range(1..=64))
-        .help("how many connections are open at once, from 1 to 64; 64 unless said")
-}
-
-fn idle_argument<'a>(alloc: Global) -> Arg<'a> {
-    Arg::new(alloc, IDLE)
-        .long("idle")
-        .value_name("SECONDS")
-        .value_parser(clap::value_parser!(u32).range(1..))
-        .help("a connection is dropped when no byte comes or goes for so long; 30 unless said")
-}
-
-fn request_argument<'a>(alloc: Global) -> Arg<'a> {
-    Arg::new(alloc, REQUEST)
-        .long("request")
-        .value_name("SECONDS")
-        .value_parser(clap::value_parser!(u32).range(1..))
-        .help("a connection is dropped when its request isn't whole by then; 120 unless said")
-}
-
-fn serve_command<'a>(alloc: Global) -> Result<Command<'a>, AllocError> {
-    Command::new(alloc, "serve")
-        .about("Serves the data of a file by the SPARQL protocol, at /query, /update and /data")
-        .after_help("Example: quads serve --port 7878 --data examples/data.nq")
-        .arg(port_argument(alloc))?
-        .arg(served_argument(alloc))?
-        .arg(requests_argument(alloc))?
-        .arg(at_once_argument(alloc))?
-        .arg(idle_argument(alloc))?
-        .arg(request_argument(alloc))?
-        .arg(union_default(alloc))
+fn with_entries<'a>(
+    alloc: Global,
+    command: Command<'a>,
+    entries: &[Entry<'a>],
+) -> Result<Command<'a>, AllocError> {
+    let mut command = command;
+    for entry in entries {
+        command = with_entry(alloc, command, entry)?;
+    }
+    Ok(command)
 }
 
 /// Returns the commands of the program.
@@ -184,10 +289,5 @@ pub fn command<'a>(alloc: Global) -> Result<Command<'a>, AllocError> {
         .after_help("Example: quads query examples/data.nq examples/authors.rq")
         .version(VERSION)
         .subcommand_required(true);
-    let command = add_command(command, check_command(alloc))?;
-    let command = add_command(command, query_command(alloc))?;
-    let command = add_command(command, update_command(alloc))?;
-    let command = add_command(command, explain_command(alloc))?;
-    let command = add_command(command, replay_command(alloc))?;
-    add_command(command, serve_command(alloc))
+    with_entries(alloc, command, ENTRIES)
 }
