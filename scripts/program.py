@@ -32,7 +32,8 @@ def read(path):
 
 
 def release_of(root):
-    """Returns what release/ says of its program: the sums `sources` and `program`, and the line `kit`. Without a release it is empty."""
+    """Returns what release/ says of its program: the sums `sources`, `code` (which leaves out comments and layout) and `program`, and the line `kit`.
+    Without a release it is empty."""
     try:
         lines = read(f"{root}/release/sources").decode().splitlines()
     except (OSError, UnicodeDecodeError):
@@ -46,9 +47,10 @@ def lag_of(root):
     release = release_of(root)
     if not release or not os.path.isfile(f"{root}/release/quads.xz"):
         return "release/ holds no program"
-    if release["sources"] != sources_sum(root, below(root, PROGRAM)):
-        return "release/ is of other sources"
-    return None
+    crates = below(root, PROGRAM)
+    if release["sources"] == sources_sum(root, crates) or release.get("code") == sources_sum(root, crates, is_bare=True):
+        return None
+    return "release/ is of other sources"
 
 
 def unpacked(root):

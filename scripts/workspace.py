@@ -2,6 +2,7 @@
 import filecmp
 import hashlib
 import os
+import re
 import shutil
 import subprocess
 import tempfile
@@ -60,14 +61,44 @@ def texts_of(root, crate):
     return found
 
 
-def sources_sum(root, crates):
-    """Returns a sum of the sources of these crates and of their lines in crates.txt. It is the same wherever the checkout stands."""
+LITERAL = re.compile(
+    r"""(?P<literal> b?r(?P<marks>\#*)".*?"(?P=marks) | b?"(?:[^"\\]|\\.)*" | (?<!\w)b?'(?:[^'\\\n]|\\(?:u\{\w+\}|x\w\w|.))' )
+    | //[^\n]* | /\*.*?\*/""",
+    re.VERBOSE | re.DOTALL,
+)
+"""A literal of Rattle code, or a comment."""
+LAYOUT = re.compile(r"\s+(?=[,;.(){}\[\]])|(?<=[(){}\[\],;])\s+")
+"""White space that depends on how lines are broken."""
+LAST_COMMA = re.compile(r",(?=[)\]}])")
+"""A comma after the last of a list, which stands where the list has lines of its own."""
+
+
+def bare(code):
+    """Returns the parts of Rattle code without comments and without what depends on how its lines are broken: the text before the first literal, the
+    literal, and so on. Where two files have the same parts they build the same program."""
+    parts, plain, at = [], "", 0
+    for found in LITERAL.finditer(code):
+        plain += code[at : found.start()] + " "
+        at = found.end()
+        if found["literal"]:
+            parts += [plain, found["literal"]]
+            plain = ""
+    parts.append(plain + code[at:])
+    return [LAST_COMMA.sub("", LAYOUT.sub("", " ".join(part.split()))) if number % 2 == 0 else part for number, part in enumerate(parts)]
+
+
+def sources_sum(root, crates, is_bare=False):
+    """Returns a sum of the sources of these crates and of their lines in crates.txt. It is the same wherever the checkout stands. A bare one leaves out the
+    comments, blank lines and layout of `.rt` files, which change no program."""
     total, lines = hashlib.sha256(), lines_of(root)
     for crate in sorted(crates):
         total.update(repr(lines[crate].partition("#")[0].split()).encode())
         for file in texts_of(root, crate):
             with open(file, "rb") as stream:
-                total.update(repr((os.path.relpath(file, root), hashlib.sha256(stream.read()).hexdigest())).encode())
+                data = stream.read()
+            if is_bare and file.endswith(".rt"):
+                data = repr(bare(data.decode(errors="surrogateescape"))).encode()
+            total.update(repr((os.path.relpath(file, root), hashlib.sha256(data).hexdigest())).encode())
     return total.hexdigest()
 
 
