@@ -34,9 +34,3 @@ literal_after before text out e is_text = utf8_after before text out e (IsUtf8-f
 -- a text that a writer gives back, which began with what was written before
 pub taken_after : (before start text out : List ℕ) → start ≡ before → out ≡ start ++ text → IsUtf8 text → IsUtf8 before → IsUtf8 out
 taken_after before start text out e t = utf8_after before text out (t ∙ ap (λ (l : List ℕ). l ++ text) e)
-
-pub comma_after : (before out : List ℕ) → out ≡ before ++ 44 ∷ [] → IsUtf8 before → IsUtf8 out
-comma_after before out e = literal_after before (44 ∷ []) out e refl
-
-pub bracket_after : (before out : List ℕ) → out ≡ before ++ 93 ∷ [] → IsUtf8 before → IsUtf8 out
-bracket_after before out e = literal_after before (93 ∷ []) out e refl

@@ -1,15 +1,15 @@
-//! Solutions as texts of JSON (SPARQL 1.1 Query Results JSON Format, 3.2). The tokens of a row are written one
+//! Solutions as texts of JSON (SPARQL 1.1 Query Results JSON Format, 3.2). The tokens of the rows are written one
 //! by one; the rest is text.
 //!
-//! A solution is written a token at a time, by the writer of the kit's `json`. A value of the whole answer would take several
+//! One writer of the kit's `json` writes all rows, a token at a time. A value of the whole answer would take several
 //! times the memory of its text, and one of each row several times the time.
 
-ghost use Rattle.std.specs.Prelude.{◌≡◌, ◌++◌, false, map, IfOk, IsTrue, IsUtf8, string_bytes};
+ghost use Rattle.std.specs.Prelude.{◌≡◌, ◌++◌, false, map, IfOk, IsUtf8, OnOk, string_bytes};
 ghost use Rattle.std.specs.Option.{ForSome};
 ghost use Rattle.serde_json.specs.Data.{object};
 ghost use Rattle.serde_json.specs.View.{view, items_of};
 ghost use Rattle.serde_json.specs.Written.{compact_text, items_text};
-ghost use Rattle.qs_results.specs.inner.Columns.{members_of, AreColumns};
+ghost use Rattle.qs_results.specs.inner.Columns.{members_of, tokens_of, AreColumns};
 ghost use Rattle.qs_results.specs.Json.{binding_data};
 ghost use Rattle.qs_results.specs.inner.Json.{names_data};
 
@@ -42,50 +42,49 @@ pub(crate) fn names_text(alloc: Global, vars: &[Text]) -> Result<String, AllocEr
     names.to_string(alloc)
 }
 
-/// The row's text after what was written before.
-fn with_row(
+/// Appends the row as an object.
+fn put_row(
     alloc: Global,
+    out: &mut Writer,
     columns: &[(Text, usize)],
     row: &Row,
-    before: Vec<u8>,
-) -> Result<Vec<u8>, AllocError>
-    ensures text { IfOk result
-        (λ out. out.items ≡ before.items ++ compact_text
-        (object (members_of columns.now row.now))) }
-    ensures utf8 { IfOk result (λ out. IsUtf8 before.items → IsUtf8 out.items) }
+) -> Result<(), AllocError>
+    ensures tokens { OnOk result (out.new.tokens
+        ≡ out.old.tokens ++ tokens_of (object (members_of columns.now row.now))) }
+    ensures before { out.new.before ≡ out.old.before }
 {
-    let mut out = Writer::new(before);
     out.begin_object()?;
     for column in columns {
-        put_cell(alloc, &mut out, column.0.as_str(), row.term(column.1))?;
+        put_cell(alloc, out, column.0.as_str(), row.term(column.1))?;
     }
     out.end_object()?;
-    Ok(out.into_inner())
+    Ok(())
 }
 
-/// Writes a row as an object, by the columns of all rows, or where there are none by those of the row.
-fn with_next(
+/// Appends the row as an object, by the columns of all rows, or by those of the row where there are none.
+fn put_next(
     alloc: Global,
+    out: &mut Writer,
     vars: &[Text],
     columns: &Option<Vec<(Text, usize)>>,
     row: &Row,
-    before: Vec<u8>,
-) -> Result<Vec<u8>, AllocError>
+) -> Result<(), AllocError>
     requires { ForSome columns.now (λ all. AreColumns vars.now all.items) }
-    ensures text { IfOk result
-        (λ out. out.items ≡ before.items ++ compact_text (binding_data vars.now row.now)) }
-    ensures utf8 { IfOk result (λ out. IsUtf8 before.items → IsUtf8 out.items) }
+    ensures tokens { OnOk result (out.new.tokens
+        ≡ out.old.tokens ++ tokens_of (binding_data vars.now row.now)) }
+    ensures before { out.new.before ≡ out.old.before }
 {
     match columns {
-        Some(columns) => with_row(alloc, columns.as_slice(), row, before),
+        Some(columns) => put_row(alloc, out, columns.as_slice(), row),
         None => {
             let columns = bound_columns(alloc, vars, row)?;
-            with_row(alloc, columns.as_slice(), row, before)
+            put_row(alloc, out, columns.as_slice(), row)
         }
     }
 }
 
-// The texts of the rows, by the columns of all of them where there are such.
+/// Writes the rows after `before`, by the columns of all of them if there are such. One writer serves all rows: a new
+/// one makes some kilobytes ready first, which is more work than a row.
 fn with_each(
     alloc: Global,
     vars: &[Text],
@@ -98,20 +97,15 @@ fn with_each(
         ≡ before.items ++ items_text false (items_of (map (binding_data vars.now) rows.now))) }
     ensures utf8 { IfOk result (λ out. IsUtf8 before.items → IsUtf8 out.items) }
 {
-    let mut out = before;
-    let mut later = false;
+    let mut out = Writer::new(before);
     for row in rows {
-        if later {
-            out.push(b',')?;
-        }
-        out = with_next(alloc, vars, columns, row, out)?;
-        later = true;
+        put_next(alloc, &mut out, vars, columns, row)?;
     }
-    out.push(b']')?;
-    Ok(out)
+    out.end_array()?;
+    Ok(out.into_inner())
 }
 
-/// The rows' texts after what was written before, with commas between them and a closing bracket after them.
+/// Writes the rows after `before`, with commas between them and a closing bracket after them.
 pub(crate) fn with_rows(
     alloc: Global,
     vars: &[Text],

@@ -1,18 +1,11 @@
-use Rattle.std.proofs.Common.{arith, IsUtf8, ap, sym, ◌∙◌, subst}
-use Rattle.std.proofs.lemmas.Grind.{common_steps}
-use Rattle.qs_results.proofs.Utf8.{comma_after, bracket_after}
+use Rattle.std.proofs.Common.{◌∙◌}
+use Rattle.qs_results.proofs.Tokens.{rows_written}
+use Rattle.qs_results.proofs.Utf8.{taken_after}
 use Rattle.qs_results.proofs.solution.with_each.Goals as goal
-use Rattle.qs_results.proofs.solution.with_each.Goals.{then-later+in_ok-push, else-later}
 
-pub loop-row-preserved : goal.loop-row-preserved
-loop-row-preserved c = (
-  grind (arith, common_steps),
-  λ front. c.in_ok-out.ensures.utf8 (elim c.if-later.branch [
-    | then-later+in_ok-push w ↦
-        comma_after c.loop-row.out.items c.if-later.out.items (ap (λ v. v.items) w.out-is ∙ w.in_ok-push.ensures.items) (c.loop-row.invariant.1 front)
-    | else-later w ↦ subst IsUtf8 (sym (ap (λ v. v.items) w.out-is)) (c.loop-row.invariant.1 front)
-  ]),
-)
+pub returns-clause-text : goal.returns-clause-text
+returns-clause-text c =
+    rows_written _ _ _ _ _ _ _ _ c.loop-row-test.false c.loop-row.invariant.1 c.in_ok-end_array.ensures.ok (c.end_array.ensures.room.0 ∙ c.loop-row.invariant.0) c.into_inner.ensures.items
 
 pub returns-clause-utf8 : goal.returns-clause-utf8
-returns-clause-utf8 c = λ front. bracket_after _ _ c.in_ok-push-2.ensures.items (c.loop-row.invariant.1 front)
+returns-clause-utf8 c = taken_after _ _ _ _ (c.end_array.ensures.room.0 ∙ c.loop-row.invariant.0) c.into_inner.ensures.items c.into_inner.ensures.utf8
