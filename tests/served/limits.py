@@ -5,6 +5,7 @@ so the bounds above are wide: a second in which the program may look at its conn
 """
 import multiprocessing
 import os
+import re
 import resource
 import signal
 import socket
@@ -160,7 +161,16 @@ def writing_round():
 def descriptors_round():
     """There are fewer descriptors than connections: those that wait are accepted as others end."""
     crowd = [Client([("send", ASK[:CUT]), ("all", None), ("wait", 0.1), ("send", ASK[CUT:]), ("read", Read())]) for _ in range(40)]
-    return [], SMALL, [(item, lambda value: check_answered(value), "one of 40") for item in crowd], 0
+    # (one that has its reply may be dropped before it has closed the connection)
+    return [], SMALL, [(item, lambda value: check_answered(value), "one of 40") for item in crowd], None
+
+
+def silent_descriptors_round(count):
+    """Silent ones have all descriptors, of which there are fewer than places, and many more of them come before a sound one."""
+    last = sound(delay=0.1)
+    crowd = [Client([("after", last), ("look", None), ("close", None)]) for _ in range(count)]
+    checks = [(item, lambda value: check(not value.found and value.end != "late", "a silent one is answered"), "a silent one") for item in crowd]
+    return [], SMALL, [*checks, (last, lambda value: check_answered(value, 3), f"a sound one after {count} silent ones")], None
 
 
 ROUNDS = {
@@ -171,8 +181,12 @@ ROUNDS = {
     "silent and stalled ones": mixed_round,
     "slow ones in all places": lively_round,
     "unread replies in all places": writing_round,
-    "few descriptors": descriptors_round,
+    "16 descriptors": descriptors_round,
+    "silent ones that have 32 descriptors": lambda: silent_descriptors_round(80),
+    "silent ones that have 8 descriptors": lambda: silent_descriptors_round(20),
 }
+DESCRIPTORS = {name: int(number) for name in ROUNDS for number in re.findall(r"([0-9]+) descriptors", name)}
+"""How many descriptors the program of a round may have, where its name says so. Six aren't for connections."""
 
 
 class Tried:
@@ -194,7 +208,8 @@ def try_round(tally, made, program, room, seconds_left):
     words, quads, checks, dropped = made()
     tally.tried += len(checks)
     put_data(room, quads)
-    how = {"preexec_fn": lambda: resource.setrlimit(resource.RLIMIT_NOFILE, (16, 16))} if made is descriptors_round else {}
+    most = DESCRIPTORS.get(tally.name)
+    how = {"preexec_fn": lambda: resource.setrlimit(resource.RLIMIT_NOFILE, (most, most))} if most else {}
     with serving(program, room, ["--requests", len(checks), *words], seconds_left(EACH), **how) as server:
         talk([client for client, _, _ in checks], server.port, seconds_left(EACH))
         for client, look, what in checks:

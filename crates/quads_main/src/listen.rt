@@ -2,6 +2,7 @@
 
 use crate::dropped::Dropped;
 use crate::files::{file, hasher, refuse_for_memory};
+use crate::places::places_for;
 use qs_base::drop_value;
 use qs_service::Service;
 use qs_service_endpoint::ConnectionsEndpoint;
@@ -44,10 +45,10 @@ fn put_port<S: Sink>(alloc: Global, out: &mut S, text: &str, port: u16) -> bool 
     }
 }
 
-// The limits that the command line chose.
-fn limits_of(options: &ServeOptions) -> Limits {
+// The limits that the command line chose, with no more places than descriptors for them.
+fn limits_of(rt: &HostRuntime, options: &ServeOptions) -> Limits {
     Limits {
-        at_once: (options.at_once as usize).clamp(1, 64),
+        at_once: places_for(rt, (options.at_once as usize).clamp(1, 64)),
         idle: Duration::from_secs(options.idle as u64),
         request: Duration::from_secs(options.request as u64),
         linger: Duration::from_secs(LINGER),
@@ -61,7 +62,7 @@ fn serve_listener(
     options: &ServeOptions,
     endpoint: &mut ServiceEndpoint,
 ) -> io::Result<()> {
-    let limits = limits_of(options);
+    let limits = limits_of(rt, options);
     let mut sockets = Sockets::new(rt, rt, rt.alloc(), listener)?;
     let mut dropped = Dropped::new(rt, limits.at_once);
     let served = serve_events(

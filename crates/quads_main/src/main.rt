@@ -9,6 +9,7 @@ mod dropped;
 mod files;
 mod jobs;
 mod listen;
+mod places;
 
 use crate::files::refuse_for_memory;
 use crate::jobs::do_line;

@@ -1,0 +1,2 @@
+-- For proofs and the layers between: no clause of the headline cites a definition of these files.
+pub mod Descriptors
