@@ -7,3 +7,5 @@ pub mod Numbered
 pub mod Said
 pub mod Taken
 pub mod Compacts
+pub mod Hits
+pub mod Amongst

@@ -15,7 +15,7 @@ use Rattle.qs_expr_meaning.proofs.Equations.{and_is, and_makes}
 use Rattle.qs_expr_meaning.proofs.Truths.{truth_of}
 use Rattle.qs_expr.specs.inner.Condition.{AreNumbersOf}
 use Rattle.qs_expr.specs.declared.part.Part.{Part}
-use Rattle.qs_expr.specs.declared.part.Part.TheVariants.{Has, Alike, Against, Other}
+use Rattle.qs_expr.specs.declared.part.Part.TheVariants.{Has, Alike, Against, Among, Other}
 use Rattle.qs_expr.specs.inner.Parts.{all_hold, asked, number_in, numbers_of, some_make, IsNumbered}
 
 and_true : (a : Bool) → (a && true) ≡ a
@@ -26,11 +26,11 @@ or_false : (a : Bool) → (a || false) ≡ a
 or_false true = refl
 or_false false = refl
 
-and_assoc : (a b c : Bool) → ((a && b) && c) ≡ (a && (b && c))
+pub and_assoc : (a b c : Bool) → ((a && b) && c) ≡ (a && (b && c))
 and_assoc true b c = refl
 and_assoc false b c = refl
 
-or_assoc : (a b c : Bool) → ((a || b) || c) ≡ (a || (b || c))
+pub or_assoc : (a b c : Bool) → ((a || b) || c) ≡ (a || (b || c))
 or_assoc true b c = refl
 or_assoc false b c = refl
 
@@ -75,18 +75,21 @@ module _ (known : List Term) where
   numbers_one (Has p) rest h k = (h.0, k)
   numbers_one (Alike p) rest h k = k
   numbers_one (Against p) rest h k = k
+  numbers_one (Among p) rest h k = k
   numbers_one (Other e) rest h k = k
 
   numbers_rest : (p : Part) (rest : List (Term × Option ℕ)) → AreNumbersOf known (number_in p rest) → AreNumbersOf known rest
   numbers_rest (Has p) rest h = h.1
   numbers_rest (Alike p) rest h = h
   numbers_rest (Against p) rest h = h
+  numbers_rest (Among p) rest h = h
   numbers_rest (Other e) rest h = h
 
   numbers_first : (p : Part) (rest : List (Term × Option ℕ)) → AreNumbersOf known (number_in p rest) → IsNumbered known p
   numbers_first (Has p) rest h = (h.0, tt)
   numbers_first (Alike p) rest h = tt
   numbers_first (Against p) rest h = tt
+  numbers_first (Among p) rest h = tt
   numbers_first (Other e) rest h = tt
 
   pub numbers_more : (ps ps' : List Part) (p : Part) → ps' ≡ ps ++ p ∷ [] → IsNumbered known p → AreNumbersOf known (numbers_of ps) → AreNumbersOf known (numbers_of ps')
@@ -103,12 +106,12 @@ module _ (known : List Term) where
 
 -- ---- one condition more
 
-all_at : (f : Expr → Bool) (es : List Expr) (i : ℕ) (e : Expr) → i < length es → e ≡ get_or es i e → list_all f (take (i + 1) es) ≡ (list_all f (take i es) && f e)
+pub all_at : (f : Expr → Bool) (es : List Expr) (i : ℕ) (e : Expr) → i < length es → e ≡ get_or es i e → list_all f (take (i + 1) es) ≡ (list_all f (take i es) && f e)
 all_at f es i e l is =
     ap (list_all f) (take_more es i e l ∙ ap (λ x. take i es ++ x ∷ []) (sym is))
     ∙ (list_all-append f (take i es) (e ∷ []) ∙ ap (λ b. list_all f (take i es) && b) (and_true (f e)))
 
-any_at : (f : Expr → Bool) (es : List Expr) (i : ℕ) (e : Expr) → i < length es → e ≡ get_or es i e → list_any f (take (i + 1) es) ≡ (list_any f (take i es) || f e)
+pub any_at : (f : Expr → Bool) (es : List Expr) (i : ℕ) (e : Expr) → i < length es → e ≡ get_or es i e → list_any f (take (i + 1) es) ≡ (list_any f (take i es) || f e)
 any_at f es i e l is =
     ap (list_any f) (take_more es i e l ∙ ap (λ x. take i es ++ x ∷ []) (sym is))
     ∙ (list_any-append f (take i es) (e ∷ []) ∙ ap (λ b. list_any f (take i es) || b) (or_false (f e)))

@@ -7,3 +7,4 @@ pub mod Scratch
 pub mod Against
 pub mod Parts
 pub mod Compact
+pub mod Members

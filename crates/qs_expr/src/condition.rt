@@ -80,7 +80,7 @@ impl<'e> Condition<'e> {
         ensures prepared { IfOk result (λ c. IsPreparedFor (V.content view.now).known c) }
     {
         let mut parts = Vec::new(alloc);
-        put_parts(expr, view, &mut parts)?;
+        put_parts(alloc, expr, view, &mut parts)?;
         Ok(Condition { expr, parts })
     }
 

@@ -26,6 +26,17 @@ pub(crate) struct AgainstConstant<'e> {
     ghost sound: { (m : Solution) (x : TermValue) (o : OrderingValue) → term_at m variable ≡ Some x → ordered first (seen worth) (of_terms.worth x) ≡ Some o → spec.holds m expr.now ≡ satisfies comparison o },
 }
 
+/// Whether the term is a literal.
+pub(crate) fn is_literal(term: &Term) -> bool
+    ensures { result ≡ of_terms.is_literal term.now }
+{
+    match term {
+        Term::Iri(_) => false,
+        Term::Blank(_) => false,
+        Term::Literal(_) => true,
+    }
+}
+
 /// The form of a literal, as what it is worth.
 #[tactic(auto, using(crate::proofs::Said::text_is_form))]
 fn form_of(term: &Term) -> Worth<'_>
@@ -40,7 +51,7 @@ fn form_of(term: &Term) -> Worth<'_>
 }
 
 /// What the term is worth.
-fn worth_of_constant(term: &Term) -> Worth<'_>
+pub(crate) fn worth_of_constant(term: &Term) -> Worth<'_>
     ensures { seen result ≡ of_terms.worth term.now }
 {
     let value = Value::Term(term);

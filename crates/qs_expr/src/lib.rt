@@ -9,12 +9,14 @@
 //! in `Scratch.antt`, what `eval` answers in `Evaluated.antt`, prepared conditions in `Condition.antt`.
 #![tactic(auto)]
 
+mod among;
 mod cell;
 mod compact;
 mod condition;
 mod constant;
 mod evaluate;
 pub mod laws;
+mod members;
 mod part;
 mod parts;
 mod reading;

@@ -13,11 +13,12 @@ ghost use Rattle.qs_expr.specs.inner.Scratch.{IsTable};
 ghost use Rattle.qs_expr.specs.declared.cell.Cell.TheVariants as cells;
 ghost use Rattle.qs_expr.specs.inner.Against.{has_term};
 
+use crate::among::AmongConstants;
 use crate::cell::{Cell, is_same};
 use crate::constant::AgainstConstant;
 use crate::evaluate::holds;
 use crate::row::Row;
-use crate::scratch::{Scratch, value};
+use crate::scratch::{Scratch, term, value};
 use qs_expr_meaning::Expr;
 use qs_store::View;
 use qs_terms::Term;
@@ -55,6 +56,7 @@ pub(crate) enum Part<'e> {
     Has(HasTerm<'e>),
     Alike(AreAlike<'e>),
     Against(AgainstConstant<'e>),
+    Among(AmongConstants<'e>),
     Other(&'e Expr),
 }
 
@@ -170,6 +172,28 @@ fn is_against<V: View>(
     holds(alloc, against.expr, row, view, scratch)
 }
 
+// Whether the IN or NOT IN of constants is true of the row.
+fn is_among<V: View>(
+    alloc: Global,
+    among: &AmongConstants<'_>,
+    row: &Row,
+    view: &V,
+    scratch: &Scratch,
+) -> Result<bool, AllocError>
+    requires row { FitsRow (V.content view.now).known scratch.now row.now }
+    ensures value { IfOk result (λ b. b ≡ holds_at (V.content view.now).known scratch.now row.now
+        among.now.expr.now) }
+    ensures memory { OnErr result (makes among.now.expr.now ≡ true) }
+{
+    match row.cell(among.variable) {
+        Some(cell) => {
+            let own = value(cell, view, scratch);
+            Ok(among.is_true(term(cell, view, scratch), &own))
+        }
+        None => holds(alloc, among.expr, row, view, scratch),
+    }
+}
+
 impl<'e> Part<'e> {
     ghost use Rattle.std.specs.Prelude.{◌≡◌, true, IfOk, OnErr};
     ghost use Rattle.qs_expr_meaning.specs.inner.Makes.{makes};
@@ -197,6 +221,7 @@ impl<'e> Part<'e> {
             Part::Has(part) => Ok(part.holds(row, view, scratch)),
             Part::Alike(part) => part.holds(alloc, row, view, scratch),
             Part::Against(part) => is_against(alloc, part, row, view, scratch),
+            Part::Among(part) => is_among(alloc, part, row, view, scratch),
             Part::Other(expr) => holds(alloc, expr, row, view, scratch),
         }
     }

@@ -1,6 +1,6 @@
 //! How a condition is taken into parts.
 
-ghost use Rattle.std.specs.Prelude.{◌≡◌, ◌&&◌, ◌||◌, [], ◌∷◌, OnOk};
+ghost use Rattle.std.specs.Prelude.{◌≡◌, ◌&&◌, ◌||◌, [], ◌∷◌, IfOk, IfSome, OnOk};
 ghost use Rattle.std.specs.List.{list_all, list_any};
 ghost use Rattle.qs_dict.specs.inner.Dict.{number_of};
 ghost use Rattle.qs_algebra_solutions.specs.Solution.{Solution, term_at};
@@ -11,14 +11,19 @@ ghost use Rattle.qs_syntax_tree.specs.declared.expression.BinaryFunction.TheVari
 ghost use Rattle.qs_expr_values.specs.Values as of_terms;
 ghost use Rattle.qs_expr.specs.inner.Condition.{AreNumbersOf};
 ghost use Rattle.qs_expr.specs.inner.Against.{has_term, with_constant};
+ghost use Rattle.qs_expr.specs.inner.Members.{among_by};
 ghost use Rattle.qs_expr.specs.inner.Parts.{all_hold, asked, numbers_of, some_make, IsNumbered};
 
-use crate::constant::AgainstConstant;
+use crate::among::AmongConstants;
+use crate::constant::{AgainstConstant, is_literal};
 use crate::part::{AreAlike, HasTerm, Part};
 use qs_expr_meaning::{BinaryFunction, Comparison, Expr};
 use qs_store::View;
 use qs_terms::Term;
-use std::alloc::AllocError;
+use std::alloc::{AllocError, Global};
+
+/// The most constants that are compared one by one.
+const FEW: usize = 8;
 
 // Whether the variable has the term, or another one; the term's number is looked up.
 fn has_part<'e, V: View>(
@@ -40,16 +45,6 @@ fn has_part<'e, V: View>(
         number: view.find(term),
         apart,
     })
-}
-
-fn is_literal(term: &Term) -> bool
-    ensures { result ≡ of_terms.is_literal term.now }
-{
-    match term {
-        Term::Iri(_) => false,
-        Term::Blank(_) => false,
-        Term::Literal(_) => true,
-    }
 }
 
 // The comparison of a variable with a constant, which comes `first` or second. One with an IRI asks for the term, in whichever order.
@@ -179,9 +174,86 @@ fn part_of<'e, V: View>(expr: &'e Expr, view: &V) -> Part<'e>
     }
 }
 
+// The look-up that an IN or NOT IN is, where it is of a variable and of more than a few constants.
+fn among_part<'e, V: View>(
+    alloc: Global,
+    expr: &'e Expr,
+    denied: bool,
+    operand: &Expr,
+    exprs: &[Expr],
+    view: &V,
+) -> Result<Option<AmongConstants<'e>>, AllocError>
+    requires { (m : Solution) → spec.holds m expr.now ≡ among_by denied m
+        (spec.meaning m operand.now) exprs.now }
+    ensures { IfOk result (λ o. IfSome o (λ among. among.expr.now ≡ expr.now)) }
+{
+    if exprs.len() <= FEW {
+        return Ok(None);
+    }
+    match operand {
+        Expr::Variable(variable) => {
+            AmongConstants::new(alloc, expr, denied, *variable, exprs, view)
+        }
+        _ => Ok(None),
+    }
+}
+
+// The look-up that the denial of an IN or NOT IN is.
+fn denied_part<'e, V: View>(
+    alloc: Global,
+    expr: &'e Expr,
+    inner: &Expr,
+    view: &V,
+) -> Result<Option<AmongConstants<'e>>, AllocError>
+    requires { expr.now ≡ expr_of.Not inner.now }
+    ensures { IfOk result (λ o. IfSome o (λ among. among.expr.now ≡ expr.now)) }
+{
+    match inner {
+        Expr::In(operand, exprs) => {
+            among_part(alloc, expr, true, operand.get(), exprs.as_slice(), view)
+        }
+        Expr::NotIn(operand, exprs) => {
+            among_part(alloc, expr, false, operand.get(), exprs.as_slice(), view)
+        }
+        _ => Ok(None),
+    }
+}
+
+// The look-up that the condition is, if it is one.
+fn lookup_of<'e, V: View>(
+    alloc: Global,
+    expr: &'e Expr,
+    view: &V,
+) -> Result<Option<AmongConstants<'e>>, AllocError>
+    ensures { IfOk result (λ o. IfSome o (λ among. among.expr.now ≡ expr.now)) }
+{
+    match expr {
+        Expr::In(operand, exprs) => {
+            among_part(alloc, expr, false, operand.get(), exprs.as_slice(), view)
+        }
+        Expr::NotIn(operand, exprs) => {
+            among_part(alloc, expr, true, operand.get(), exprs.as_slice(), view)
+        }
+        Expr::Not(inner) => denied_part(alloc, expr, inner.get(), view),
+        _ => Ok(None),
+    }
+}
+
+// The part of a condition that is no conjunction: a look-up, if it is one.
+fn any_part_of<'e, V: View>(alloc: Global, expr: &'e Expr, view: &V) -> Result<Part<'e>, AllocError>
+    ensures asked { IfOk result (λ part. asked part ≡ expr.now) }
+    ensures number { IfOk result (IsNumbered (V.content view.now).known) }
+{
+    match lookup_of(alloc, expr, view)? {
+        Some(among) => Ok(Part::Among(among)),
+        None => Ok(part_of(expr, view)),
+    }
+}
+
 /// Puts the parts of the condition after the others: those of each operand, where it is a conjunction.
 #[cycle(parts)]
 pub(crate) fn put_parts<'e, V: View>(
+    alloc: Global,
     expr: &'e Expr,
     view: &V,
     parts: &mut Vec<Part<'e>>,
@@ -195,9 +267,10 @@ pub(crate) fn put_parts<'e, V: View>(
         → AreNumbersOf (V.content view.now).known (numbers_of parts.new.items)) }
 {
     match expr {
-        Expr::And(conjuncts) => put_all(conjuncts.as_slice(), view, parts),
+        Expr::And(conjuncts) => put_all(alloc, conjuncts.as_slice(), view, parts),
         _ => {
-            parts.push(part_of(expr, view))?;
+            let part = any_part_of(alloc, expr, view)?;
+            parts.push(part)?;
             Ok(())
         }
     }
@@ -206,6 +279,7 @@ pub(crate) fn put_parts<'e, V: View>(
 /// Puts the parts of each of the conditions after the others.
 #[cycle(parts)]
 fn put_all<'e, V: View>(
+    alloc: Global,
     exprs: &'e [Expr],
     view: &V,
     parts: &mut Vec<Part<'e>>,
@@ -219,7 +293,7 @@ fn put_all<'e, V: View>(
         → AreNumbersOf (V.content view.now).known (numbers_of parts.new.items)) }
 {
     for expr in exprs {
-        put_parts(expr, view, parts)?;
+        put_parts(alloc, expr, view, parts)?;
     }
     Ok(())
 }

@@ -8,13 +8,14 @@ use Rattle.qs_expr_meaning.specs.Meaning.{holds}
 use Rattle.qs_expr_meaning.specs.declared.expr.Expr.{Expr}
 use Rattle.qs_expr.specs.inner.Condition.{AreNumbersOf}
 use Rattle.qs_expr.specs.declared.part.Part.{Part}
-use Rattle.qs_expr.specs.declared.part.Part.TheVariants.{Has, Alike, Against, Other}
+use Rattle.qs_expr.specs.declared.part.Part.TheVariants.{Has, Alike, Against, Among, Other}
 
 -- what the part asks
 abbrev pub asked : Part → Expr
 asked (Has p) = p.expr.now
 asked (Alike p) = p.expr.now
 asked (Against p) = p.expr.now
+asked (Among p) = p.expr.now
 asked (Other e) = e.now
 
 -- all parts are true in the solution
@@ -29,6 +30,7 @@ abbrev pub number_in : Part → List (Term × Option ℕ) → List (Term × Opti
 number_in (Has p) rest = (p.term.now, p.number) ∷ rest
 number_in (Alike p) rest = rest
 number_in (Against p) rest = rest
+number_in (Among p) rest = rest
 number_in (Other e) rest = rest
 
 -- the terms of the parts, with their numbers

@@ -23,9 +23,9 @@ pub put_parts-returns-in_ok-push-in_default : goal.put_parts-returns-in_ok-push-
 put_parts-returns-in_ok-push-in_default g t c =
     let items = c.in_ok-push-in_default.ensures.items in
     record {
-      hold = λ m. hold_more m c.args.parts.now.items c.push.new.self.items c.part_of.result c.args.expr.now items c.part_of.ensures.asked;
-      make = make_more c.args.parts.now.items c.push.new.self.items c.part_of.result c.args.expr.now items c.part_of.ensures.asked;
-      numbers = numbers_more (g.V.View.content c.args.view.now).known c.args.parts.now.items c.push.new.self.items c.part_of.result items c.part_of.ensures.number;
+      hold = λ m. hold_more m c.args.parts.now.items c.push.new.self.items c.in_ok-part-in_default.part c.args.expr.now items c.in_ok-part-in_default.ensures.asked;
+      make = make_more c.args.parts.now.items c.push.new.self.items c.in_ok-part-in_default.part c.args.expr.now items c.in_ok-part-in_default.ensures.asked;
+      numbers = numbers_more (g.V.View.content c.args.view.now).known c.args.parts.now.items c.push.new.self.items c.in_ok-part-in_default.part items c.in_ok-part-in_default.ensures.number;
     }
 
 pub put_all-loop-expr-preserved : goal.put_all-loop-expr-preserved
