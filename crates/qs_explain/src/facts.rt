@@ -6,11 +6,11 @@ use crate::lines::Place;
 use crate::words::put_variable;
 use qs_algebra_patterns::{PathPattern, Slot, TriplePattern};
 use qs_index::permutation::{Lead, Lookup, Permutation};
-use qs_plan::{Counts, Look, Stage};
+use qs_plan::{Counts, Look, Stage, path_count};
 use qs_query_solutions::ViewCounts;
 use qs_store::{Active, DefaultGraph, View};
 use qs_terms::Text;
-use std::alloc::AllocError;
+use std::alloc::{AllocError, Global};
 
 /// A count above this one is printed as an estimate.
 const EXACT: u64 = 4096;
@@ -255,15 +255,31 @@ pub(crate) fn put_names_facts(
     }
 }
 
-/// Writes what is told of a path after what is known to be bound. Paths aren't counted.
-pub(crate) fn put_path_facts(
-    names: &[Text],
+/// Whether one end of the path is a term, and the other a variable.
+fn has_one_term(pattern: &PathPattern) -> bool {
+    match (&pattern.subject, &pattern.object) {
+        (Slot::Term(_), Slot::Variable(_)) => true,
+        (Slot::Variable(_), Slot::Term(_)) => true,
+        _ => false,
+    }
+}
+
+/// Writes what is told of a path after what is known to be bound: about how many pairs it has from an end that is a term, as the planner counts them.
+pub(crate) fn put_path_facts<V: View>(
+    alloc: Global,
+    place: &Place<'_, V>,
+    look: &Look,
     pattern: &PathPattern,
     known: &[Bound],
     text: &mut String,
 ) -> Result<(), AllocError> {
     let subject = other_variable(&pattern.subject, None, None);
     let object = other_variable(&pattern.object, subject, None);
-    put_bindings(names, known, [subject, None, object], text)?;
-    text.push_str(", not counted")
+    put_bindings(place.names, known, [subject, None, object], text)?;
+    if !has_one_term(pattern) {
+        return text.push_str(", not counted");
+    }
+    let count = path_count(alloc, &place.counts, look, pattern)?;
+    write!(text, ", count: about {count}")?;
+    Ok(())
 }

@@ -41,7 +41,7 @@ fn put_facts<V: View>(
             put_triple_facts(place, open, look, pattern, known, text)
         }
         Stage::Names(register) => put_names_facts(place.names, *register, next, known, text),
-        Stage::Path(_, pattern) => put_path_facts(place.names, pattern, known, text),
+        Stage::Path(look, pattern) => put_path_facts(alloc, place, look, pattern, known, text),
         Stage::Optional(_, group, _) => {
             let reason = optional_reason(alloc, group, known)?;
             put_reason(place.names, reason, text)

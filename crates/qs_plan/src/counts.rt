@@ -1,5 +1,6 @@
 //! About how many triples of a store agree with a triple pattern: what the order of a run goes by.
 
+use crate::path_counts::path_count;
 use qs_algebra_patterns::TriplePattern;
 use qs_plan_meaning::{Group, Look, Stage};
 use std::alloc::{AllocError, Global};
@@ -22,39 +23,40 @@ impl Counts for NoCounts {
     }
 }
 
-/// About how many rows the stage has by itself. A table has as many as its rows, and a union as many as its branches together. Of paths
-/// nothing is counted.
+/// About how many rows the stage has by itself. A table has as many as its rows, a path as many as pairs (`path_count`), and a union as many as
+/// its branches together.
 #[cycle(counted)]
-fn count_of<C: Counts>(counts: &C, stage: &Stage) -> u64 {
+fn count_of<C: Counts>(alloc: Global, counts: &C, stage: &Stage) -> Result<u64, AllocError> {
     match stage {
-        Stage::Triple(look, pattern) => counts.about(look, pattern),
-        Stage::Values(table) => table.get().rows.len() as u64,
-        Stage::Union(branches) => sum_of(counts, branches.as_slice()),
-        _ => MANY,
+        Stage::Triple(look, pattern) => Ok(counts.about(look, pattern)),
+        Stage::Path(look, pattern) => path_count(alloc, counts, look, pattern),
+        Stage::Values(table) => Ok(table.get().rows.len() as u64),
+        Stage::Union(branches) => sum_of(alloc, counts, branches.as_slice()),
+        _ => Ok(MANY),
     }
 }
 
 /// The least count of the stages, or one where there is none.
 #[cycle(counted)]
-fn least_of<C: Counts>(counts: &C, stages: &[Stage]) -> u64 {
+fn least_of<C: Counts>(alloc: Global, counts: &C, stages: &[Stage]) -> Result<u64, AllocError> {
     if stages.is_empty() {
-        return 1;
+        return Ok(1);
     }
     let mut least = MANY;
     for stage in stages {
-        least = count_of(counts, stage).min(least);
+        least = count_of(alloc, counts, stage)?.min(least);
     }
-    least
+    Ok(least)
 }
 
 /// The sum of the least counts of the branches.
 #[cycle(counted)]
-fn sum_of<C: Counts>(counts: &C, branches: &[Group]) -> u64 {
+fn sum_of<C: Counts>(alloc: Global, counts: &C, branches: &[Group]) -> Result<u64, AllocError> {
     let mut sum: u64 = 0;
     for branch in branches {
-        sum = sum.saturating_add(least_of(counts, branch.stages.as_slice()));
+        sum = sum.saturating_add(least_of(alloc, counts, branch.stages.as_slice())?);
     }
-    sum
+    Ok(sum)
 }
 
 /// The count of each stage of a run.
@@ -65,7 +67,7 @@ pub(crate) fn counts_of<C: Counts>(
 ) -> Result<Vec<u64>, AllocError> {
     let mut found = Vec::with_capacity(alloc, stages.len())?;
     for stage in stages {
-        found.push(count_of(counts, stage))?;
+        found.push(count_of(alloc, counts, stage)?)?;
     }
     Ok(found)
 }

@@ -29,7 +29,8 @@ fn is_type(slot: &Slot) -> bool {
     }
 }
 
-fn is_term(slot: &Slot) -> bool {
+/// Whether the place holds a term.
+pub(crate) fn is_term(slot: &Slot) -> bool {
     match slot {
         Slot::Term(_) => true,
         Slot::Variable(_) => false,
@@ -54,10 +55,11 @@ fn is_selective(pattern: &TriplePattern) -> bool {
     is_term(&pattern.object)
 }
 
-/// Whether the stage lets few rows through.
+/// Whether the stage lets few rows through: of a path with an end that is a term, what is reached from there.
 fn makes_few(stage: &Stage) -> bool {
     match stage {
         Stage::Triple(_, pattern) => is_selective(pattern),
+        Stage::Path(_, pattern) => is_term(&pattern.subject) || is_term(&pattern.object),
         Stage::Values(table) => is_short(table.get()),
         _ => false,
     }

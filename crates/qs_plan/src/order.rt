@@ -513,7 +513,7 @@ pub(crate) fn counted_order<C: Counts>(
 }
 
 /// The plan with the triples, paths, tables and unions of each run in the order that `plan_for` tells, for a store of which nothing is known: of each
-/// triple and path there are as many as may be. Both plans have the same solutions.
+/// triple, and of each path that isn't between two terms, there are as many as may be. Both plans have the same solutions.
 ///
 /// # Errors
 /// `AllocError` where memory runs out.

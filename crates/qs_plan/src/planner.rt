@@ -72,8 +72,9 @@ pub fn plan(alloc: Global, pattern: &Pattern) -> Result<Plan, QFault>
 ///
 /// A place is free if it holds neither a term nor a variable bound before. The places of a table are its columns, and those of a union hold the
 /// variables that each branch binds. A union has as many rows as its branches together, and a branch as many as the one of its stages with the
-/// fewest. What has no row comes before all others. Paths aren't counted: there are as many pairs as may be. The groups in a union are ordered
-/// when it has its place.
+/// fewest. What has no row comes before all others. A path with one end that is a term has about as many rows as there are triples next to that end; if
+/// it is a closure or a sequence, more, as it may lead on (`path_count`). Between two terms it is one row, and with no term there are as many as may
+/// be. The groups in a union are ordered when it has its place.
 ///
 /// A triple that shares no variable with the stages before it is evaluated by itself, once, if a filter reads variables of it alone, and if the
 /// store has few triples for it: fewer than 262,144 for all such triples of a plan.
