@@ -35,6 +35,7 @@ pub mod Entering
 pub mod Pairing
 pub mod Joining
 pub mod Fixing
+pub mod Members
 pub mod Fixed
 pub mod Nested
 pub mod Needs

@@ -2,11 +2,10 @@
 //! some terms. Stages may then begin with a table of these terms, so that their triples are looked up by them.
 //!
 //! `?x = <iri>`, `sameTerm(?x, term)` and `?x IN (<iri>, ..)` become a table in front of a group whose first joined parts are
-//! certain to bind `?x`. An equality with a literal stays a filter, as a literal may equal others, and so does a list of more
-//! than 256 members.
+//! certain to bind `?x`. An equality with a literal stays a filter, as a literal may equal others.
 
 ghost use Rattle.std.specs.Prelude.{◌≡◌, true, [], ◌∷◌, map, Some, IfOk, IfSome, OnOk};
-ghost use Rattle.std.specs.List.{AllByRecursion, list_any};
+ghost use Rattle.std.specs.List.{AllByRecursion};
 ghost use Rattle.qs_terms.specs.Bag.{Distinct, with_new};
 ghost use Rattle.qs_terms.specs.Term.{same_term};
 ghost use Rattle.qs_expr_meaning.specs.Calls as calls;
@@ -16,7 +15,7 @@ ghost use Rattle.qs_expr_meaning.specs.declared.expr.Expr.TheVariants as exprs;
 ghost use Rattle.qs_syntax_tree.specs.declared.expression.Comparison.TheVariants.{Equal};
 ghost use Rattle.qs_syntax_tree.specs.declared.expression.BinaryFunction.TheVariants.{SameTerm};
 ghost use Rattle.qs_plan_meaning.specs.declared.stage.Stage.TheVariants as stage;
-ghost use Rattle.qs_plan.specs.inner.Fixes.{Admits, Fixes, HasNew, Instead, IsIri, IsOnly, SettledBy, StepKeeps};
+ghost use Rattle.qs_plan.specs.inner.Fixes.{Admits, Fixes, HasNew, HaveSame, Instead, IsIri, IsOnly, SettledBy, StepKeeps};
 
 use crate::certain::{Size, are_bound, is_bound};
 use crate::reads::settle;
@@ -27,10 +26,8 @@ use qs_plan_meaning::Stage;
 use qs_terms::Term;
 use sqlite_items::Items;
 use std::alloc::{AllocError, Global};
+use std::collections::BTreeSet;
 use std::mem;
-
-/// The most members of an IN that become a table: each of them is compared with those before it.
-const MOST_MEMBERS: usize = 256;
 
 /// A variable, and the terms one of which it is where a condition holds.
 #[derive(Drop)]
@@ -130,17 +127,19 @@ fn fixed_by_same_term(alloc: Global, left: &Expr, right: &Expr) -> Result<Option
     Ok(None)
 }
 
-fn has_term(terms: &[Term], term: &Term) -> bool
-    ensures { result ≡ list_any (same_term term.now) terms.now }
+/// Puts the term after the others, if it is new. The set holds the terms of the list.
+#[tactic(auto, using(crate::proofs::Members::put_new, crate::proofs::Members::put_known, crate::proofs::Members::set_more, crate::proofs::Members::set_still))]
+fn add_new(
+    seen: &mut BTreeSet<Term>,
+    terms: &mut Items<Term>,
+    term: &Term,
+) -> Result<(), AllocError>
+    requires { HaveSame seen.old.keys terms.old }
+    ensures list { OnOk result (terms.new ≡ with_new same_term terms.old term.now) }
+    ensures set { OnOk result (HaveSame seen.new.keys terms.new) }
 {
-    terms.iter().any(|one| term.is_same(one))
-}
-
-/// Puts the term after the others, if it is new.
-fn add_new(terms: &mut Items<Term>, term: &Term) -> Result<(), AllocError>
-    ensures { OnOk result (terms.new ≡ with_new same_term terms.old term.now) }
-{
-    if has_term(terms.as_slice(), term) {
+    let key = term.try_clone()?;
+    if !seen.insert(key)? {
         return Ok(());
     }
     let term = term.try_clone()?;
@@ -149,32 +148,36 @@ fn add_new(terms: &mut Items<Term>, term: &Term) -> Result<(), AllocError>
 }
 
 /// Puts the term after the others, if it is new and the expression an IRI. Tells whether it is one.
-fn add_iri(terms: &mut Items<Term>, expr: &Expr) -> Result<bool, AllocError>
-    ensures { IfOk result (λ is_one. is_one ≡ true → HasNew terms.old expr.now terms.new) }
+fn add_iri(
+    seen: &mut BTreeSet<Term>,
+    terms: &mut Items<Term>,
+    expr: &Expr,
+) -> Result<bool, AllocError>
+    requires { HaveSame seen.old.keys terms.old }
+    ensures list { IfOk result (λ is_one. is_one ≡ true → HasNew terms.old expr.now terms.new) }
+    ensures set { IfOk result (λ is_one. is_one ≡ true → HaveSame seen.new.keys terms.new) }
 {
     if !is_iri(expr) {
         return Ok(false);
     }
     match expr {
         Expr::Term(term) => {
-            add_new(terms, term)?;
+            add_new(seen, terms, term)?;
             Ok(true)
         }
         _ => Ok(false),
     }
 }
 
-/// The terms of the members, each once, if all are IRIs.
+/// The terms of the members, each once, if all are IRIs. They are found in an ordered set, as strangers choose the texts of queries.
 fn members(alloc: Global, parts: &[Expr]) -> Result<Option<Items<Term>>, AllocError>
     ensures { IfOk result
         (λ o. IfSome o (λ ts. Distinct same_term ts × AllByRecursion (Admits ts) parts.now)) }
 {
-    if parts.len() > MOST_MEMBERS {
-        return Ok(None);
-    }
+    let mut seen = BTreeSet::new(alloc);
     let mut terms = Items::new(alloc);
     for part in parts {
-        if !add_iri(&mut terms, part)? {
+        if !add_iri(&mut seen, &mut terms, part)? {
             return Ok(None);
         }
     }

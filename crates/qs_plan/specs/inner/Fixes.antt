@@ -60,6 +60,10 @@ pub record HasNew (old : List Term) (e : Expr) (new : List Term) : Type 0 where
   pub more : (x : Term) → list_any (same_term x) old ≡ true → list_any (same_term x) new ≡ true
   pub admits : Admits new e
 
+-- the same terms are in both
+abbrev pub HaveSame : List Term → List Term → Type 0
+HaveSame ts us = (x : Term) → list_any (same_term x) ts ≡ list_any (same_term x) us
+
 -- variables that the stages are certain to bind settle the expression
 pub record SettledBy (size : Size) (ss : List Stage) (e : Expr) : Type 0 where
   pub variables : List ℕ
