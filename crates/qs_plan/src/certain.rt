@@ -271,7 +271,7 @@ pub(crate) fn all_steady_from(
 }
 
 /// Whether the rows before this place bind the variable.
-fn is_known_before(
+pub(crate) fn is_known_before(
     stages: &[Stage],
     place: usize,
     variable: usize,

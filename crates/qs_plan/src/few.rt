@@ -45,7 +45,7 @@ fn is_iri(slot: &Slot) -> bool {
 }
 
 /// Whether few triples agree with the pattern: its subject is a term, or its object is one that is no type.
-fn is_selective(pattern: &TriplePattern) -> bool {
+pub(crate) fn is_selective(pattern: &TriplePattern) -> bool {
     if is_term(&pattern.subject) {
         return true;
     }

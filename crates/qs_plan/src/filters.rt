@@ -9,13 +9,16 @@ ghost use Rattle.qs_plan.specs.inner.Plans.{SamePlan};
 ghost use Rattle.qs_plan.specs.inner.Certain.{SameFrom};
 ghost use Rattle.qs_plan.specs.inner.Reads.{Settles};
 
-use crate::certain::{Size, all_steady_from, are_bound, known_before};
+use crate::certain::{Size, all_steady_from, are_bound, is_known_before, known_before};
 use crate::copies::{copied_stage, copied_stages, shared_expr};
+use crate::few::is_selective;
+use crate::order::triple_misses;
 use crate::plan_type::Plan;
 use crate::reads::settle;
+use qs_algebra_patterns::Slot;
 use qs_base::Shared;
 use qs_expr_meaning::Expr;
-use qs_plan_meaning::{Group, Stage};
+use qs_plan_meaning::{Group, Look, Stage};
 use sqlite_items::Items;
 use std::alloc::{AllocError, Global};
 
@@ -31,12 +34,12 @@ fn inserted(
     requires { place ≤ length stages.now }
     ensures { IfOk result (λ ss. ss ≡ take place stages.now ++ one ∷ drop place stages.now) }
 {
-    let mut behind = Items::new(alloc);
-    behind.push(one)?;
+    let mut tail = Items::new(alloc);
+    tail.push(one)?;
     let rest = copied_stages(alloc, &stages[place..])?;
-    behind.append(rest)?;
+    tail.append(rest)?;
     let mut done = copied_stages(alloc, &stages[..place])?;
-    done.append(behind)?;
+    done.append(tail)?;
     Ok(done)
 }
 
@@ -50,12 +53,12 @@ fn replaced(
     requires { place + 1 ≤ length stages.now }
     ensures { IfOk result (λ ss. ss ≡ take place stages.now ++ one ∷ drop (place + 1) stages.now) }
 {
-    let mut behind = Items::new(alloc);
-    behind.push(one)?;
+    let mut tail = Items::new(alloc);
+    tail.push(one)?;
     let rest = copied_stages(alloc, &stages[place + 1..])?;
-    behind.append(rest)?;
+    tail.append(rest)?;
     let mut done = copied_stages(alloc, &stages[..place])?;
-    done.append(behind)?;
+    done.append(tail)?;
     Ok(done)
 }
 
@@ -72,6 +75,53 @@ fn past_filters(stages: &[Stage], place: usize) -> usize
         }
     }
     stages.len()
+}
+
+/// Whether the slot is a variable that the rows before the place bind.
+fn is_known_slot(stages: &[Stage], place: usize, slot: &Slot, size: Size, given: &[usize]) -> bool
+    requires { place ≤ length stages.now }
+{
+    match slot {
+        Slot::Term(_) => false,
+        Slot::Variable(variable) => is_known_before(stages, place, *variable, size, given),
+    }
+}
+
+/// Whether the stage at the place is the first triple in each named graph, right after the name, and few triples agree with it for each row. One scan of
+/// all graphs finds them. A filter before it would have the graphs looked at one by one.
+fn is_first_in_each(stages: &[Stage], place: usize, size: Size, given: &[usize]) -> bool
+    requires { place < length stages.now }
+{
+    if place < 2 {
+        return false;
+    }
+    match (&stages[place - 2], &stages[place - 1], &stages[place]) {
+        (
+            Stage::Names(named),
+            Stage::Name(variable, joined),
+            Stage::Triple(Look::Register(register), pattern),
+        ) => {
+            *named == *register
+                && *joined == *register
+                && triple_misses(pattern, Some(*variable))
+                && (is_selective(pattern)
+                    || is_known_slot(stages, place - 2, &pattern.subject, size, given)
+                    || is_known_slot(stages, place - 2, &pattern.object, size, given))
+        }
+        _ => false,
+    }
+}
+
+/// The place after the first triple in each graph, if that stands at this place (`is_first_in_each`); else this place.
+fn past_first(stages: &[Stage], place: usize, size: Size, given: &[usize]) -> usize
+    requires { place ≤ length stages.now }
+    ensures up { place ≤ result }
+    ensures within { result ≤ length stages.now }
+{
+    if place < stages.len() && is_first_in_each(stages, place, size, given) {
+        return place + 1;
+    }
+    place
 }
 
 // ---- where a filter goes
@@ -114,6 +164,7 @@ fn filtered(
             }
         }
     }
+    let place = past_first(stages, place, size, given);
     let place = past_filters(stages, place);
     let condition = condition.share()?;
     let found = inserted(alloc, stages, place, Stage::Filter(condition))?;

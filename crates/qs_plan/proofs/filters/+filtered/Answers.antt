@@ -21,7 +21,7 @@ filtered-returns-then-are_bound t c =
 pub filtered-returns : goal.filtered-returns
 filtered-returns t c =
     filter_in c.args.size c.args.given.now c.args.variables.now c.args.condition.now c.in_ok-condition.condition c.args.stages.now c.in_ok-found-3.found c.all_steady_from-place.result c.past_filters-place.result c.requires c.in_ok-condition.ensures c.in_ok-found-3.ensures
-    c.past_filters-place.ensures.up c.all_steady_from-place.ensures.steady
+    (omega (arith, c.past_first-place.ensures.up, c.past_filters-place.ensures.up)) c.all_steady_from-place.ensures.steady
 
 pub filtered_branches-loop-branch-init : goal.filtered_branches-loop-branch-init
 filtered_branches-loop-branch-init t c = branches_begun c.args.size c.args.given.now c.args.condition.now c.new-done.result c.args.branches.now c.new-done.ensures
