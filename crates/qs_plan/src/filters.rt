@@ -218,11 +218,44 @@ fn filtered_branches(
     Ok(done)
 }
 
-/// Puts the filter where it goes.
+fn is_filter(stage: &Stage) -> bool {
+    match stage {
+        Stage::Filter(_) => true,
+        _ => false,
+    }
+}
+
+/// How many stages there are before the filters at the end.
+fn count_before_filters(stages: &[Stage]) -> usize {
+    for passed in 0..stages.len() {
+        let at = stages.len() - 1 - passed;
+        if !is_filter(&stages[at]) {
+            return at + 1;
+        }
+    }
+    0
+}
+
+/// Whether a filter that reads these variables goes after all stages, of which those from `count` on are filters.
+fn goes_last(stages: &[Stage], count: usize, variables: &[usize], size: Size) -> bool {
+    let count = count.min(stages.len());
+    let front = &stages[..count];
+    if all_steady_from(front, variables, size, &[]) < count {
+        return false;
+    }
+    match front.last() {
+        Some(Stage::Union(_)) => false,
+        Some(Stage::Apart(_, group)) => !are_bound(group.stages.as_slice(), variables, size),
+        _ => true,
+    }
+}
+
+/// Puts the filter where it goes. There are `count` stages before the filters at the end: all that are looked at, if the filter goes last.
 fn put_filter(
     alloc: Global,
     condition: &Shared<Expr>,
     size: Size,
+    count: &mut usize,
     done: &mut Items<Stage>,
 ) -> Result<(), AllocError>
     ensures { OnOk result
@@ -230,6 +263,11 @@ fn put_filter(
 {
     let mut variables = Vec::new(alloc);
     settle(alloc, condition.get(), &mut variables)?;
+    if goes_last(done.as_slice(), *count, variables.as_slice(), size) {
+        let condition = condition.share()?;
+        done.push(Stage::Filter(condition))?;
+        return Ok(());
+    }
     let stages = filtered(
         alloc,
         done.as_slice(),
@@ -238,6 +276,7 @@ fn put_filter(
         size,
         &[],
     )?;
+    *count = count_before_filters(stages.as_slice());
     *done = stages;
     Ok(())
 }
@@ -248,12 +287,13 @@ fn put_parts(
     alloc: Global,
     parts: &[Expr],
     size: Size,
+    count: &mut usize,
     done: &mut Items<Stage>,
 ) -> Result<(), AllocError>
     ensures { OnOk result (SameFrom size [] done.new (done.old ++ map stage.Filter parts.now)) }
 {
     for part in parts {
-        put_part(alloc, part, size, done)?;
+        put_part(alloc, part, size, count, done)?;
     }
     Ok(())
 }
@@ -263,18 +303,19 @@ fn put_part(
     alloc: Global,
     part: &Expr,
     size: Size,
+    count: &mut usize,
     done: &mut Items<Stage>,
 ) -> Result<(), AllocError>
     ensures { OnOk result (SameFrom size [] done.new (done.old ++ stage.Filter part.now ∷ [])) }
 {
     match part {
         Expr::And(parts) => {
-            put_parts(alloc, parts.as_slice(), size, done)?;
+            put_parts(alloc, parts.as_slice(), size, count, done)?;
             Ok(())
         }
         part => {
             let condition = shared_expr(alloc, part)?;
-            put_filter(alloc, &condition, size, done)
+            put_filter(alloc, &condition, size, count, done)
         }
     }
 }
@@ -284,6 +325,7 @@ fn put_condition(
     alloc: Global,
     condition: &Shared<Expr>,
     size: Size,
+    count: &mut usize,
     done: &mut Items<Stage>,
 ) -> Result<(), AllocError>
     ensures { OnOk result
@@ -291,27 +333,32 @@ fn put_condition(
 {
     match condition.get() {
         Expr::And(parts) => {
-            put_parts(alloc, parts.as_slice(), size, done)?;
+            put_parts(alloc, parts.as_slice(), size, count, done)?;
             Ok(())
         }
-        _ => put_filter(alloc, condition, size, done),
+        _ => put_filter(alloc, condition, size, count, done),
     }
 }
 
 // ---- groups
 
-/// Puts the stage after those that are done, or where it goes if it is a filter.
+/// Puts the stage after those that are done, or where it goes if it is a filter. There are `count` stages before the filters at the end.
 fn put_placed(
     alloc: Global,
     one: Stage,
     size: Size,
+    count: &mut usize,
     done: &mut Items<Stage>,
 ) -> Result<(), AllocError>
     ensures { OnOk result (SameFrom size [] done.new (done.old ++ one ∷ [])) }
 {
     match one {
-        Stage::Filter(condition) => put_condition(alloc, &condition, size, done),
-        other => done.push(other),
+        Stage::Filter(condition) => put_condition(alloc, &condition, size, count, done),
+        other => {
+            done.push(other)?;
+            *count = done.len();
+            Ok(())
+        }
     }
 }
 
@@ -321,9 +368,10 @@ fn placed_stages(alloc: Global, stages: &[Stage], size: Size) -> Result<Items<St
     ensures { IfOk result (λ ss. SameFrom size [] ss stages.now) }
 {
     let mut done = Items::new(alloc);
+    let mut count = 0;
     for stage in stages {
         let one = placed_stage(alloc, stage, size)?;
-        put_placed(alloc, one, size, &mut done)?;
+        put_placed(alloc, one, size, &mut count, &mut done)?;
     }
     Ok(done)
 }
