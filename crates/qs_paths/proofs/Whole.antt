@@ -2,7 +2,9 @@
 use Rattle.std.proofs.Common.{◌≡◌, ◌≢◌, ℕ, ◌+◌, ◌<◌, ◌≤◌, ◌==◌, Bool, true, false, if◌then◌else◌, inl, inr, List, [], ◌∷◌, ◌++◌, length, map, take, drop, get_or, Option, Some, None, refl, sym, ◌∙◌, ap, subst, arith}
 use Rattle.std.specs.List.{filter, flat_map, list_any}
 use Rattle.std.proofs.Math.ListN.{get_or-map}
-use Rattle.std.proofs.lemmas.List.{take_all}
+use Rattle.std.proofs.lemmas.Bool.{eqb-true}
+use Rattle.std.proofs.lemmas.List.{append-nil, take_all}
+use Rattle.std.proofs.lemmas.Option.{none-some, same_Some}
 use Rattle.std.proofs.lemmas.List.Sorted.{IsPermutation-append, IsPermutation-map, IsPermutation-trans}
 use Rattle.qs_terms.specs.declared.term.Term.{Term}
 use Rattle.qs_terms.specs.declared.term.Term.TheVariants as term
@@ -29,7 +31,8 @@ use Rattle.qs_paths_meaning.proofs.Near.{Tied, tied}
 use Rattle.qs_paths_meaning.proofs.Search.{Searching, begun_both, begun_steps, optional_at, search_begins, search_on, search_result}
 use Rattle.qs_paths_meaning.proofs.Turned.{found_from, left_arm, right_arm, tied_turned, turned_arm}
 use Rattle.qs_paths.specs.declared.node.NodePair.{NodePair}
-use Rattle.qs_paths.specs.inner.Nodes.{AreBefore, AreBegun, AreBehind, AreEnds, AreFrom, ArePairs, IsNaming, IsNodeOrOpen, agrees_node, any_of, end_at, forward_pairs, from_nodes, into_nodes, inverse_pairs, named_end, named_pair, named_pairs, names, node_pair, swapped_nodes}
+use Rattle.qs_paths.specs.inner.Nodes.{AreApart, AreBefore, AreBegun, AreBehind, AreEnds, AreFrom, ArePairs, IsApartFrom, IsNaming, IsNodeOrOpen, agrees_node, any_of, end_at, forward_pairs, from_nodes, into_nodes, inverse_pairs, named_end, named_pair, named_pairs, names, node_pair, swapped_nodes}
+use Rattle.qs_paths.proofs.Apart.{none_from, none_into}
 use Rattle.qs_paths.proofs.Names.{ends_named, from_named, into_named, map_long, map_take, names_all, names_new, rights_named, swapped_named}
 
 same_named : (name : ℕ → Term) (es fs gs : List NodePair) → gs ≡ es ++ fs → named_pairs name gs ≡ named_pairs name es ++ named_pairs name fs
@@ -40,6 +43,12 @@ get_named name es i e is = ap (named_pair name) is ∙ sym (get_or-map (named_pa
 
 long_named : (name : ℕ → Term) (es : List NodePair) (i : ℕ) → i < length es → i < length (named_pairs name es)
 long_named name es i lt = let k : length (named_pairs name es) ≡ length es = map_long (named_pair name) es in omega (arith, lt, k)
+
+-- a number that isn't an end doesn't name the end's term
+other_named : (name : ℕ → Term) → AreApart name → (end : Option ℕ) (n : ℕ) → end ≢ Some n → named_end name end ≢ Some (name n)
+other_named name apart None n other e = none-some (name n) e
+other_named name apart (Some m) n other e =
+    other (ap Some (eqb-true m n (sym (apart m n) ∙ (same_term-Decides (name m) (name n)).1 (same_Some (name m) (name n) e))))
 
 module _ (known : List Term) (graph : Graph) where
   abbrev Ps : Path → AtEnds
@@ -109,6 +118,15 @@ module _ (known : List Term) (graph : Graph) where
       (seconds_same graph p (named_end name right) (named_pair name row) (named_end name middle) (named_pairs name seconds) (m name n) (h name n))
       (same_named name longer (from_nodes slice row) longer' e ∙ ap (λ l. named_pairs name longer ++ l) (ap (λ l. named_pairs name (from_nodes l row)) s ∙ from_named name n.apart seconds row)))
 
+  -- a row that isn't led on
+  pub behind_apart : (p : Path) (right : Option ℕ) (rows : List NodePair) (i : ℕ) (row : NodePair) (longer longer' : List NodePair) → i < length rows → row ≡ get_or rows i row → IsApartFrom known graph row.right right → longer' ≡ longer
+      → AreBehind known (pairs graph p) right (take i rows) longer → AreBehind known (pairs graph p) right (take (i + 1) rows) longer'
+  behind_apart p right rows i row longer longer' lt is a e was name n =
+      subst (λ l. SameBag (named_pairs name longer') (composed l (pairs graph p None (named_end name right)))) (sym (map_take (named_pair name) (i + 1) rows))
+      (behind_more (pairs graph p None (named_end name right)) (named_pairs name rows) i (named_pair name row) (named_pairs name longer) (named_pairs name longer') [] (long_named name rows i lt) (get_named name rows i row is)
+      (subst (λ l. SameBag (named_pairs name longer) (composed l (pairs graph p None (named_end name right)))) (map_take (named_pair name) i rows) (was name n))
+      (same_as [] _ (sym (none_from graph p (named_end name right) (named_pair name row) (sym (a.0 name n)) (other_named name n.apart right row.right a.1)))) (ap (named_pairs name) e ∙ sym (append-nil (named_pairs name longer))))
+
   pub behind_all : (f : AtEnds) (right : Option ℕ) (rows longer : List NodePair) (i : ℕ) → length rows ≤ i → AreBehind known f right (take i rows) longer → AreBehind known f right rows longer
   behind_all f right rows longer i le h = subst (λ l. AreBehind known f right l longer) (take_all i rows le) h
 
@@ -139,6 +157,15 @@ module _ (known : List Term) (graph : Graph) where
       (subst (λ l. SameBag (named_pairs name longer) (flat_map (into_pair (pairs graph p None None)) l)) (map_take (named_pair name) i rows) (was name n))
       (firsts_same graph p None (named_pair name row) (named_end name middle) (named_pairs name firsts) (m name n) (h name n))
       (same_named name longer (into_nodes slice row) longer' e ∙ ap (λ l. named_pairs name longer ++ l) (ap (λ l. named_pairs name (into_nodes l row)) s ∙ into_named name n.apart firsts row)))
+
+  -- a row that isn't led to
+  pub before_apart : (p : Path) (rows : List NodePair) (i : ℕ) (row : NodePair) (longer longer' : List NodePair) → i < length rows → row ≡ get_or rows i row → IsApartFrom known graph row.left None → longer' ≡ longer → AreLedTo (pairs graph p) (take i rows) longer
+      → AreLedTo (pairs graph p) (take (i + 1) rows) longer'
+  before_apart p rows i row longer longer' lt is a e was name n =
+      subst (λ l. SameBag (named_pairs name longer') (flat_map (into_pair (pairs graph p None None)) l)) (sym (map_take (named_pair name) (i + 1) rows))
+      (before_more (pairs graph p None None) (named_pairs name rows) i (named_pair name row) (named_pairs name longer) (named_pairs name longer') [] (long_named name rows i lt) (get_named name rows i row is)
+      (subst (λ l. SameBag (named_pairs name longer) (flat_map (into_pair (pairs graph p None None)) l)) (map_take (named_pair name) i rows) (was name n))
+      (same_as [] _ (sym (none_into graph p (named_pair name row) (sym (a.0 name n))))) (ap (named_pairs name) e ∙ sym (append-nil (named_pairs name longer))))
 
   pub before_all : (f : AtEnds) (rows longer : List NodePair) (i : ℕ) → length rows ≤ i → AreLedTo f (take i rows) longer → AreBefore known f rows longer
   before_all f rows longer i le h name n =

@@ -1,12 +1,12 @@
 //! Where the edges of a graph come from, by numbers.
 
-ghost use Rattle.std.specs.Prelude.{List, IfOk};
+ghost use Rattle.std.specs.Prelude.{List, IfNone, IfOk, IfSome};
 ghost use Rattle.qs_terms.specs.Dataset.{Triple};
 ghost use Rattle.qs_terms.specs.Term.{same_term};
 ghost use Rattle.qs_terms.specs.declared.term.Term.{Term};
 ghost use Rattle.qs_terms.specs.declared.term.Term.TheVariants as term_is;
 ghost use Rattle.qs_paths_meaning.specs.Steps.{along, is_outside};
-ghost use Rattle.qs_paths.specs.inner.Nodes.{ArePairs, IsNodeOrOpen, TellsNode};
+ghost use Rattle.qs_paths.specs.inner.Nodes.{ArePairs, IsApartFrom, IsNodeOrOpen, TellsNode};
 
 use crate::node::NodePair;
 use qs_syntax_ast::path::NegatedIri;
@@ -50,12 +50,20 @@ pub trait Source {
         ensures { TellsNode (known self.now) (graph self.now) node result };
 }
 
-/// The number, where it names a node of the graph.
-pub fn node<E: Source>(edges: &E, number: u64) -> Option<u64>
-    ensures { IsNodeOrOpen (E.known edges.now) (E.graph edges.now) number result }
+/// Returns the left end that a path to `end` is read with where it follows a pair that ends at `number`: the number, where it names a
+/// node of the graph, else an open end. Returns none where no pair of the path begins at `number`: what isn't a node is led to itself
+/// alone, by no step, and only where it is given as the end.
+pub fn middle<E: Source>(edges: &E, number: u64, end: Option<u64>) -> Option<Option<u64>>
+    ensures some { IfSome result
+        (λ o. IsNodeOrOpen (E.known edges.now) (E.graph edges.now) number o) }
+    ensures none { IfNone result
+        (IsApartFrom (E.known edges.now) (E.graph edges.now) number end) }
 {
     if edges.has_node(number) {
-        Some(number)
+        return Some(Some(number));
+    }
+    if end == Some(number) {
+        Some(None)
     } else {
         None
     }

@@ -1,6 +1,6 @@
 -- Nodes by numbers, and the terms that the numbers name.
-use Rattle.std.specs.Prelude.{◌≡◌, ℕ, ◌+◌, ◌-◌, ◌^◌, ◌≤◌, ◌==◌, Bool, true, false, ◌||◌, List, []}
-use Rattle.std.specs.Prelude.{◌∷◌, map, Option, None, Some, nat_lt, if◌then◌else◌}
+use Rattle.std.specs.Prelude.{◌≡◌, ◌≢◌, ℕ, ◌+◌, ◌-◌, ◌^◌, ◌≤◌, ◌==◌, Bool, true, false, ◌||◌, List}
+use Rattle.std.specs.Prelude.{[], ◌∷◌, map, Option, None, Some, nat_lt, if◌then◌else◌}
 use Rattle.std.specs.List.{filter, flat_map, list_any}
 use Rattle.qs_terms.specs.declared.term.Term.{Term}
 use Rattle.qs_terms.specs.Bag.{SameBag}
@@ -160,3 +160,7 @@ abbrev pub IsNodeOrOpen : List Term → Graph → ℕ → Option ℕ → Type 0
 IsNodeOrOpen known graph n o = (name : ℕ → Term) → IsNaming known name
     → named_end name o ≡ (if list_any (same_term (name n)) (nodes_of graph) then Some (name n)
     else None)
+
+-- the number names no node of the graph, and isn't this end
+abbrev pub IsApartFrom : List Term → Graph → ℕ → Option ℕ → Type 0
+IsApartFrom known graph n end = TellsNode known graph n false × (end ≢ Some n)

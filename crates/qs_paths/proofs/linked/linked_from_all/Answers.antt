@@ -1,16 +1,11 @@
-use Rattle.std.proofs.Common.{◌++◌, ◌∙◌, [], ap, get_or, length, map, subst, sym}
-use Rattle.std.proofs.lemmas.List.Sorted.{IsPermutation-refl}
+use Rattle.std.proofs.Common.{◌∙◌, map, subst, sym}
 use Rattle.qs_paths_meaning.specs.Pairs.{pairs}
 use Rattle.qs_paths_meaning.specs.inner.Links.{rows_of}
 use Rattle.qs_paths_meaning.proofs.AlongLinks.{start_at}
 use Rattle.qs_paths.specs.declared.links.Placed.{Placed as PlacedValue}
-use Rattle.qs_paths.specs.inner.Links.{StandsAt, nodes_at}
-use Rattle.qs_paths_meaning.specs.Pair.{Pair}
-use Rattle.qs_terms.specs.Bag.{SameBag}
-use Rattle.qs_paths.specs.inner.Nodes.{AreStarts, named_pairs, node_pair}
-use Rattle.qs_paths.proofs.Alike.{none_alike}
-use Rattle.qs_paths.proofs.Along.{from_all, from_next, links_alike, start_names_node, starts_named, steps_linked}
-use Rattle.qs_paths.proofs.Names.{item}
+use Rattle.qs_paths.specs.inner.Links.{StandsAt}
+use Rattle.qs_paths.specs.inner.Nodes.{AreStarts}
+use Rattle.qs_paths.proofs.Along.{links_alike, start_names_node, starts_named, steps_linked}
 use Rattle.qs_paths.proofs.linked.linked_from_all.Goals as goal
 
 pub rows_from-requires-clause-links : goal.rows_from-requires-clause-links

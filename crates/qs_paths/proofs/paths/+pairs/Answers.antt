@@ -1,9 +1,10 @@
-use Rattle.std.proofs.Common.{rules, subst, refl, arith, ◌≡◌, ◌<◌, ◌≤◌, ◌+◌, ◌-◌, ◌==◌, length, map, drop, get_or, None}
+use Rattle.std.proofs.Common.{rules, ap, ◌∙◌, subst, refl, arith, ◌≡◌, ◌<◌, ◌≤◌, ◌+◌, ◌-◌, ◌==◌, length, map, drop, get_or, None}
 use Rattle.qs_syntax_ast.specs.declared.path.Path.{the_lemmas}
 use Rattle.qs_paths_meaning.specs.Pairs.{in_sequence, pairs}
 use Rattle.qs_paths.specs.inner.Nodes.{ArePairs}
 use Rattle.qs_paths.proofs.Names.{item, zero_pair}
-use Rattle.qs_paths.proofs.Whole.{any_named, any_next, before_all, before_next, begun_either, begun_next, behind_all, behind_next, closure_right, ends_from, inverse_named, iri_named, optional_named, part_after, part_ahead, searched_all, searched_next, searched_none, stepped_back}
+use Rattle.qs_paths.proofs.Whole.{any_named, any_next, before_all, before_apart, before_next, begun_either, begun_next, behind_all, behind_apart, behind_next, closure_right, ends_from, inverse_named, iri_named, optional_named, part_after, part_ahead, searched_all, searched_next, searched_none, stepped_back}
+use Rattle.qs_paths.proofs.paths.+pairs.Goals.{before-in-Some+in_ok-firsts+in_ok-put_into, before-in_default, behind-in-Some+in_ok-seconds+in_ok-put_from, behind-in_default}
 use Rattle.qs_paths.proofs.paths.+pairs.Goals as goal
 
 pub pairs_of_nodes-returns-in_ok-rows-in-Iri : goal.pairs_of_nodes-returns-in_ok-rows-in-Iri
@@ -27,14 +28,30 @@ pairs_of_any-loop-part-preserved g t c =
 
 pub before-loop-row-preserved : goal.before-loop-row-preserved
 before-loop-row-preserved g t c =
-    before_next (g.E.Source.known c.args.edges.now) (g.E.Source.graph c.args.edges.now) c.args.part.now c.args.rows.now c.loop-row.row-index (get_or c.args.rows.now c.loop-row.row-index zero_pair) c.node-middle.result c.loop-row.longer.items c.put_into.new.pairs.items c.in_ok-firsts.firsts.items c.as_slice.result.now c.loop-row-test.true (item c.args.rows.now c.loop-row.row-index zero_pair c.loop-row-test.true) c.node-middle.ensures c.in_ok-firsts.ensures c.as_slice.ensures.value c.in_ok-put_into.ensures c.loop-row.invariant
+    let known = g.E.Source.known c.args.edges.now in
+    let graph = g.E.Source.graph c.args.edges.now in
+    let row = get_or c.args.rows.now c.loop-row.row-index zero_pair in
+    let at = item c.args.rows.now c.loop-row.row-index zero_pair c.loop-row-test.true in
+    elim c.match-middle.branch [
+      | before-in-Some+in_ok-firsts+in_ok-put_into w ↦
+          before_next known graph c.args.part.now c.args.rows.now c.loop-row.row-index row w.in-Some.middle c.loop-row.longer.items c.match-middle.longer.items w.in_ok-firsts.firsts.items w.as_slice.result.now c.loop-row-test.true at w.in-Some.ensures.some w.in_ok-firsts.ensures w.as_slice.ensures.value (ap (λ v. v.items) w.longer-is ∙ w.in_ok-put_into.ensures) c.loop-row.invariant
+      | before-in_default w ↦ before_apart known graph c.args.part.now c.args.rows.now c.loop-row.row-index row c.loop-row.longer.items c.match-middle.longer.items c.loop-row-test.true at w.in_default.ensures.none (ap (λ v. v.items) w.longer-is) c.loop-row.invariant
+    ]
 
 pub before-returns : goal.before-returns
 before-returns g t c = before_all (g.E.Source.known c.args.edges.now) (g.E.Source.graph c.args.edges.now) (pairs (g.E.Source.graph c.args.edges.now) c.args.part.now) c.args.rows.now c.loop-row.longer.items c.loop-row.row-index c.loop-row-test.false c.loop-row.invariant
 
 pub behind-loop-row-preserved : goal.behind-loop-row-preserved
 behind-loop-row-preserved g t c =
-    behind_next (g.E.Source.known c.args.edges.now) (g.E.Source.graph c.args.edges.now) c.args.part.now c.args.right c.args.rows.now c.loop-row.row-index (get_or c.args.rows.now c.loop-row.row-index zero_pair) c.node-middle.result c.loop-row.longer.items c.put_from.new.pairs.items c.in_ok-seconds.seconds.items c.as_slice.result.now c.loop-row-test.true (item c.args.rows.now c.loop-row.row-index zero_pair c.loop-row-test.true) c.node-middle.ensures c.in_ok-seconds.ensures c.as_slice.ensures.value c.in_ok-put_from.ensures c.loop-row.invariant
+    let known = g.E.Source.known c.args.edges.now in
+    let graph = g.E.Source.graph c.args.edges.now in
+    let row = get_or c.args.rows.now c.loop-row.row-index zero_pair in
+    let at = item c.args.rows.now c.loop-row.row-index zero_pair c.loop-row-test.true in
+    elim c.match-middle.branch [
+      | behind-in-Some+in_ok-seconds+in_ok-put_from w ↦
+          behind_next known graph c.args.part.now c.args.right c.args.rows.now c.loop-row.row-index row w.in-Some.middle c.loop-row.longer.items c.match-middle.longer.items w.in_ok-seconds.seconds.items w.as_slice.result.now c.loop-row-test.true at w.in-Some.ensures.some w.in_ok-seconds.ensures w.as_slice.ensures.value (ap (λ v. v.items) w.longer-is ∙ w.in_ok-put_from.ensures) c.loop-row.invariant
+      | behind-in_default w ↦ behind_apart known graph c.args.part.now c.args.right c.args.rows.now c.loop-row.row-index row c.loop-row.longer.items c.match-middle.longer.items c.loop-row-test.true at w.in_default.ensures.none (ap (λ v. v.items) w.longer-is) c.loop-row.invariant
+    ]
 
 pub behind-returns : goal.behind-returns
 behind-returns g t c = behind_all (g.E.Source.known c.args.edges.now) (g.E.Source.graph c.args.edges.now) (pairs (g.E.Source.graph c.args.edges.now) c.args.part.now) c.args.right c.args.rows.now c.loop-row.longer.items c.loop-row.row-index c.loop-row-test.false c.loop-row.invariant
