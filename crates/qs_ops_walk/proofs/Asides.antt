@@ -1,5 +1,6 @@
 -- What is kept of right sides, and what is opened over it.
 use Rattle.std.proofs.Common.{◌≡◌, ℕ, Bool, true, false, List, map, take, Option, Some, None, slice_set, refl, sym, ◌∙◌, ap, subst}
+use Rattle.std.specs.List.{AllByRecursion}
 use Rattle.qs_terms.specs.Bag.{SameBag}
 use Rattle.qs_terms.specs.declared.term.Term.{Term}
 use Rattle.qs_algebra_solutions.specs.Solution.{Solution}
@@ -16,13 +17,15 @@ use Rattle.qs_ops_tables.specs.inner.Tables.{KeptRows, FitRows, TellsExcluded, r
 use Rattle.qs_ops_walk.specs.declared.source.Source.TheVariants as source
 use Rattle.qs_ops_walk.specs.declared.work.Choice.{Choice}
 use Rattle.qs_ops_walk.specs.declared.work.Conditions.{Conditions}
-use Rattle.qs_ops_walk.specs.declared.work.Right.{Right}
+use Rattle.qs_ops_walk.specs.declared.right.Aside.{Aside}
+use Rattle.qs_ops_walk.specs.declared.right.Right.{Right}
 use Rattle.qs_ops_walk.specs.declared.source.Attempt.{Attempt}
 use Rattle.qs_ops_walk.specs.inner.Setting.{Setting, known_of, through_in}
-use Rattle.qs_ops_walk.specs.inner.Works.{name_at, only_at, only_cells, IsAside, IsOptional, IsRight, Serves}
+use Rattle.qs_ops_walk.specs.inner.Works.{name_at, only_at, only_cells, IsAside, IsOptional, IsPut, IsRight, Serves}
 use Rattle.qs_ops_walk.specs.inner.Moves.{Attempts, Opens, given_unless}
 use Rattle.qs_ops_walk.proofs.Opens.{opens_optional, opens_minus}
 use Rattle.qs_ops_walk.proofs.Still.{right_still}
+use Rattle.qs_ops_walk.proofs.Keeping.{put_all}
 
 module _ (known table : List Term) where
   pub name_fits : (register : Option ℕ) (m : Cells) → FitsRow known table m → FitsIf known table (name_at register m)
@@ -48,14 +51,22 @@ module _ (known table : List Term) where
 pub aside_made : (s : Setting) (t0 t1 : List Term) (g : Grows (known_of s) t0 t1) (register : Option ℕ) (stages : List Stage) (x : Option Cell) (n : ℕ) (alone : Cells) (rows : List Cells) (k : KeptRows)
     → FitsIf (known_of s) t0 x → alone ≡ only_cells register n x → k.rows ≡ rows
     → SameBag (row_solutions (known_of s) t1 rows) (map (take s.width) (through_in s stages (row_solution (known_of s) t0 alone))) → FitRows (known_of s) t1 rows
-    → IsAside s t1 register stages (record { cells = n; name = x; kept = k })
-aside_made s t0 t1 g register stages x n alone rows k h e f bag fit =
+    → (count : ℕ) → IsAside s t1 register stages (record { cells = n; name = x; row_count = count; kept = k })
+aside_made s t0 t1 g register stages x n alone rows k h e f bag fit count =
     let a : row_solution (known_of s) t0 alone ≡ only_at register n (denoted_if (known_of s) t1 x) =
     ap (row_solution (known_of s) t0) e ∙ (only_terms (known_of s) t0 register n x ∙ ap (only_at register n) (sym (name_same (known_of s) t0 t1 g x h))) in record {
       rows = rw f (subst (λ (y : Solution). SameBag (row_solutions (known_of s) t1 rows) (map (take s.width) (through_in s stages y))) a bag);
       fit = rw f fit;
       name = name_still (known_of s) t0 t1 g x h;
     }
+
+-- one more is kept, by a table that grew since
+pub right_more : (s : Setting) (old new : List Term) → Grows (known_of s) old new → (before after : Right) (a : Aside) → IsRight s old before → after.register ≡ before.register → after.group.now ≡ before.group.now
+    → IsPut before.kept.list.items a after.kept.list.items → IsAside s new before.register before.group.now.stages a → IsRight s new after
+right_more s old new g before after a h r f put is =
+    let all : AllByRecursion (IsAside s new before.register before.group.now.stages) after.kept.list.items =
+    put_all (IsAside s new before.register before.group.now.stages) before.kept.list.items a after.kept.list.items put (right_still s old new g before h) is in
+    rw (r, f) all
 
 module _ (s : Setting) (i : Instruction) (old new : List Term) (m : Cells) (t : IsTable (known_of s) new) (g : Grows (known_of s) old new) (h : FitsRow (known_of s) old m) (right : Right) (k : KeptRows) (z : Serves right m k) (r : IsRight s new right) where
   pub opens_attempt : (before : Right) (is_alike : Bool) (conditions : Conditions) → right.register ≡ before.register → right.group.now ≡ before.group.now → IsOptional s old i.stage before is_alike conditions.list.items

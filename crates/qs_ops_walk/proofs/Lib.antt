@@ -1,5 +1,6 @@
 mod Bags
 mod Gathering
+mod Keeping
 mod NoUnions
 mod Names
 mod Opens

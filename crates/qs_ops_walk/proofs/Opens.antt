@@ -26,7 +26,7 @@ use Rattle.qs_ops_walk.specs.declared.source.Source.{Source}
 use Rattle.qs_ops_walk.specs.declared.source.Source.TheVariants as source
 use Rattle.qs_ops_walk.specs.declared.work.Conditions.{Conditions}
 use Rattle.qs_ops_walk.specs.declared.work.Feed.{Feed}
-use Rattle.qs_ops_walk.specs.declared.work.Right.{Right}
+use Rattle.qs_ops_walk.specs.declared.right.Right.{Right}
 use Rattle.qs_ops_walk.specs.inner.Setting.{Setting, known_of, gives_in, graph_in, through_in}
 use Rattle.qs_ops_walk.specs.inner.Works.{ArePairsFor, expr_of, IsAlike, IsTriple, AreValues, IsFed, IsFork, IsOptional, IsRight, Serves}
 use Rattle.qs_ops_walk.specs.inner.Coming.{Going, going, row_if, or_else, attempted, source_items, flows, FitsOption, FitsSource}

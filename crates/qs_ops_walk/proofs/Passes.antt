@@ -26,12 +26,13 @@ use Rattle.std.proofs.lemmas.List.Sorted.{list_any-IsPermutation}
 use Rattle.qs_terms.specs.Dataset.{names_of}
 use Rattle.qs_terms.specs.Term.{same_term}
 use Rattle.qs_ops_tables.specs.inner.Tables.{KeptRows, FitRows, row_solutions}
-use Rattle.qs_ops_walk.specs.declared.work.Aside.{Aside}
-use Rattle.qs_ops_walk.specs.declared.work.Right.{Right}
-use Rattle.qs_ops_walk.specs.inner.Works.{name_at, only_at, IsAside, IfAside, IsRight, Serves, IsExists}
+use Rattle.qs_ops_walk.specs.declared.right.Aside.{Aside}
+use Rattle.qs_ops_walk.specs.declared.right.Right.{Right}
+use Rattle.qs_ops_walk.specs.inner.Works.{name_at, only_at, IsAside, IsRight, Serves, IsExists}
 use Rattle.qs_ops_walk.specs.declared.settle.Passes.TheVariants.{One}
 use Rattle.qs_ops_walk.specs.inner.Setting.{Setting, known_of, gives_in, graph_in, through_in}
 use Rattle.qs_ops_walk.specs.inner.Moves.{IsPassed, bound_if, one_if}
+use Rattle.qs_ops_walk.proofs.Keeping.{kept_has}
 
 -- a condition
 kept_passes : (s : Setting) (i : Stage) (table : List Term) (m : Cells) (b : Bool) → FitsRow (known_of s) table m → gives_in s i (row_solution (known_of s) table m) ≡ kept_if b (row_solution (known_of s) table m) → IsPassed s i table m table m (one_if b)
@@ -140,7 +141,7 @@ module _ (s : Setting) (table : List Term) (right : Right) (m : Cells) (k : Kept
   x = row_solution (known_of s) table m
 
   kept_aside : IsAside s table right.register right.group.now.stages z.a
-  kept_aside = subst (λ (o : Option Aside). IfAside s table right.register right.group.now.stages o) z.is r
+  kept_aside = kept_has (IsAside s table right.register right.group.now.stages) right.kept.list.items (length m) (name_at right.register m) k z r
 
   -- the kept rows denote what the group makes of this row
   pub serves : SameBag (row_solutions (known_of s) table k.rows) (aside s.width right.register (through_in s right.group.now.stages) x)

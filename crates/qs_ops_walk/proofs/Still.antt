@@ -1,6 +1,6 @@
 -- What a walk keeps, and what it is still to give, stays as it is while the scratch table grows.
 use Rattle.std.proofs.Common.{◌≡◌, ℕ, List, [], ◌∷◌, ◌++◌, map, drop, take, Option, Some, None, refl, sym, ◌∙◌, ap, subst, arith}
-use Rattle.std.specs.List.{filter}
+use Rattle.std.specs.List.{filter, AllByRecursion}
 use Rattle.qs_terms.specs.declared.term.Term.{Term}
 use Rattle.qs_algebra_solutions.specs.Solution.{Solution}
 use Rattle.qs_algebra_patterns.specs.Eval.{all_hold}
@@ -27,13 +27,13 @@ use Rattle.qs_ops_walk.specs.declared.source.Attempt.{Attempt}
 use Rattle.qs_ops_walk.specs.declared.source.Level.{Level}
 use Rattle.qs_ops_walk.specs.declared.source.Source.{Source}
 use Rattle.qs_ops_walk.specs.declared.source.Source.TheVariants as source
-use Rattle.qs_ops_walk.specs.declared.work.Aside.{Aside}
-use Rattle.qs_ops_walk.specs.declared.work.Right.{Right}
+use Rattle.qs_ops_walk.specs.declared.right.Aside.{Aside}
+use Rattle.qs_ops_walk.specs.declared.right.Right.{Right}
 use Rattle.qs_ops_walk.specs.declared.work.Work.{Work}
 use Rattle.qs_ops_walk.specs.declared.work.Work.TheVariants as work
 use Rattle.qs_ops_walk.specs.declared.work.Place.{Place}
 use Rattle.qs_ops_walk.specs.inner.Setting.{Setting, known_of}
-use Rattle.qs_ops_walk.specs.inner.Works.{AreEndPairs, IfEndPairs, IfPairs, expr_of, IsAside, IfAside, IsRight, IfValues, IsWork, AreReady}
+use Rattle.qs_ops_walk.specs.inner.Works.{AreEndPairs, IfEndPairs, IfPairs, expr_of, IsAside, IsRight, IfValues, IsWork, AreReady}
 use Rattle.qs_ops_walk.specs.inner.Coming.{going, row_if, or_else, attempted, source_items, level_items, flows, coming, FitsOption, FitsAttempt, FitsSource, FitLevels}
 use Rattle.qs_ops_walk.specs.inner.Moves.{item_moves, moves}
 
@@ -128,12 +128,12 @@ module _ (s : Setting) (old new : List Term) (g : Grows (known_of s) old new) wh
     name = name_still a.name h.name;
   }
 
-  if_aside_still : (register : Option ℕ) (stages : List Stage) (o : Option Aside) → IfAside s old register stages o → IfAside s new register stages o
-  if_aside_still register stages None h = tt
-  if_aside_still register stages (Some a) h = aside_still register stages a h
+  asides_still : (register : Option ℕ) (stages : List Stage) (list : List Aside) → AllByRecursion (IsAside s old register stages) list → AllByRecursion (IsAside s new register stages) list
+  asides_still register stages [] h = tt
+  asides_still register stages (a ∷ list) h = (aside_still register stages a h.0, asides_still register stages list h.1)
 
   pub right_still : (r : Right) → IsRight s old r → IsRight s new r
-  right_still r h = if_aside_still r.register r.group.now.stages r.kept h
+  right_still r h = asides_still r.register r.group.now.stages r.kept.list.items h
 
   values_still : (values : Table) (o : Option KeptRows) → IfValues s old values o → IfValues s new values o
   values_still values None h = tt

@@ -13,6 +13,7 @@ mod cursor;
 mod kept;
 mod levels;
 mod reader;
+mod right;
 mod settle;
 mod source;
 mod spare;

@@ -11,7 +11,8 @@ ghost use Rattle.qs_ops_walk.specs.inner.Moves.{IsPassed, IsSettled, PassesAlone
 ghost use Rattle.qs_plan_meaning.specs.declared.stage.Stage.TheVariants as stage;
 
 use crate::reader::Reader;
-use crate::work::{Place, Right, Work};
+use crate::right::Right;
+use crate::work::{Place, Work};
 use qs_expr::{Cell, Row, Scratch, is_same};
 use qs_expr_meaning::Expr;
 use qs_store::View;

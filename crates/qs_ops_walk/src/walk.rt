@@ -21,10 +21,11 @@ use crate::after_names::{AfterNames, after_names};
 use crate::kept::{numbers_of, pairs_of_trail, rows_of_values};
 use crate::levels::{open_given_level, open_joined_level, open_quads_level, open_triple_level};
 use crate::reader::Reader;
+use crate::right::{Aside, KEPT, Right, name_at};
 use crate::settle::settle;
 use crate::source::{Attempt, Fork, Item, Level, Source, drop_source, next_of};
 use crate::spare::{LIMIT, keep};
-use crate::work::{Aside, Choice, Conditions, Place, Right, Work, name_at, places_of};
+use crate::work::{Choice, Conditions, Place, Work, places_of};
 use qs_base::Shared;
 use qs_expr::{Cell, Row, Scratch};
 use qs_ops_program::compile;
@@ -96,9 +97,6 @@ fn only(
     Ok(row)
 }
 
-/// So many rows of a group are kept at most, where rows may be fed to it as well.
-const KEPT: usize = 1_048_576;
-
 /// Whether there are as many rows as may be.
 fn is_full(most: Option<usize>, count: usize) -> bool
     ensures { most ≡ None → result ≡ false }
@@ -168,11 +166,13 @@ fn aside_of<'a, V: View>(
     let Some(rows) = found else {
         return Ok(None);
     };
+    let row_count = rows.len();
     let kept = KeptTable::new(reader.alloc, rows, row)?;
     let kept = Shared::new(reader.alloc, kept)?;
     Ok(Some(Aside {
         cells: row.width(),
         name,
+        row_count,
         kept,
     }))
 }
@@ -202,7 +202,7 @@ fn keep_few<'a, V: View>(
     let Some(aside) = found else {
         return Ok(false);
     };
-    right.kept = Some(aside);
+    right.kept.keep(aside)?;
     Ok(true)
 }
 
@@ -230,8 +230,7 @@ fn rows_of_right<'a, V: View>(
     }
     let found = aside_of(reader, scratch, right, row, None)?;
     let Some(aside) = found else { unreachable!() };
-    let own = aside.kept.share()?;
-    right.kept = Some(aside);
+    let own = right.kept.keep_shared(aside)?;
     Ok(own)
 }
 

@@ -1,16 +1,17 @@
 //! Places: the instructions of a program, each with what is prepared and kept for it.
 
-ghost use Rattle.std.specs.Prelude.{◌≡◌, ◌↔◌, ◌<◌, ◌≤◌, true, IsTrue, IfOk, IfSome, List, length, map, None};
+ghost use Rattle.std.specs.Prelude.{◌≡◌, ◌<◌, ◌≤◌, true, IfOk, List, length, map, None};
 ghost use Rattle.qs_terms.specs.declared.term.Term.{Term as TermValue};
 ghost use Rattle.std.specs.List.{AllByRecursion};
 ghost use Rattle.qs_expr.specs.inner.Condition.{IsPreparedFor};
 ghost use Rattle.qs_ops_walk.specs.inner.Setting.{known_of};
-ghost use Rattle.qs_ops_walk.specs.inner.Works.{AreReady, IsAlike, IsWork, Serves, code_of, expr_of, name_at};
+ghost use Rattle.qs_ops_walk.specs.inner.Works.{AreReady, IsAlike, IsWork, code_of, expr_of};
 
 use crate::reader::Reader;
+use crate::right::Right;
 use qs_algebra_patterns::{PathPattern, Table};
 use qs_base::Shared;
-use qs_expr::{Cell, Condition, Row, is_same};
+use qs_expr::{Condition, Row};
 use qs_expr_meaning::Expr;
 use qs_ops_program::Instr;
 use qs_ops_scans::{
@@ -21,22 +22,6 @@ use qs_plan::is_fed_alike;
 use qs_plan_meaning::{Group, Stage};
 use qs_store::{Active, View};
 use std::alloc::{AllocError, Global};
-
-/// The rows of a right side that was evaluated by itself: for rows of so many cells, whose register has this cell.
-#[derive(Drop)]
-pub(crate) struct Aside {
-    pub(crate) cells: usize,
-    pub(crate) name: Option<Cell>,
-    pub(crate) kept: Shared<KeptTable>,
-}
-
-/// A right side that is evaluated by itself.
-#[derive(Drop)]
-pub(crate) struct Right<'a> {
-    pub(crate) register: Option<usize>,
-    pub(crate) group: &'a Group,
-    pub(crate) kept: Option<Aside>,
-}
 
 /// The conditions of an OPTIONAL.
 #[derive(Drop)]
@@ -129,53 +114,6 @@ pub(crate) struct Place<'a> {
     pub(crate) work: Work<'a>,
 }
 
-/// The cell of the register in which a right side looks.
-pub(crate) fn name_at(register: Option<usize>, row: &Row) -> Option<Cell>
-    ensures { result ≡ name_at register row.now }
-{
-    match register {
-        Some(register) => row.cell(register),
-        None => None,
-    }
-}
-
-fn is_same_name(a: Option<Cell>, b: Option<Cell>) -> bool
-    ensures { IsTrue result ↔ (a ≡ b) }
-{
-    match (a, b) {
-        (Some(a), Some(b)) => is_same(a, b),
-        (None, None) => true,
-        _ => false,
-    }
-}
-
-impl<'a> Right<'a> {
-    fn new(register: Option<usize>, group: &'a Group) -> Right<'a>
-        ensures register { result.register ≡ register }
-        ensures group { result.group.now ≡ group.now }
-        ensures kept { result.kept ≡ None }
-    {
-        Right {
-            register,
-            group,
-            kept: None,
-        }
-    }
-
-    /// The kept rows, if there are any for rows like this one.
-    pub(crate) fn kept_for(&self, row: &Row) -> Option<&Shared<KeptTable>>
-        ensures { IfSome result (λ k. Serves self.now row.now k.now) }
-    {
-        let Some(aside) = &self.kept else {
-            return None;
-        };
-        if aside.cells != row.width() || !is_same_name(aside.name, name_at(self.register, row)) {
-            return None;
-        }
-        Some(&aside.kept)
-    }
-}
-
 /// So many rows are fed to the group of an OPTIONAL before it is evaluated by itself.
 const FED: usize = 64;
 
@@ -252,7 +190,7 @@ fn work_of<'a, V: View>(reader: &Reader<'a, V>, instr: &Instr<'a>) -> Result<Wor
         Stage::Optional(register, group, conditions) => {
             let conditions = conditions_of(reader, conditions.get().as_slice())?;
             Ok(Work::Optional(Choice {
-                right: Right::new(*register, group),
+                right: Right::new(reader.alloc, *register, group),
                 conditions,
                 is_alike: is_alike(*register, group, reader.width),
                 left: FED,
@@ -262,8 +200,16 @@ fn work_of<'a, V: View>(reader: &Reader<'a, V>, instr: &Instr<'a>) -> Result<Wor
             let conditions = conditions_of(reader, conditions.get().as_slice())?;
             Ok(Work::Fed(Feed { group, conditions }))
         }
-        Stage::Minus(register, group) => Ok(Work::Minus(Right::new(*register, group))),
-        Stage::Apart(register, group) => Ok(Work::Apart(Right::new(*register, group))),
+        Stage::Minus(register, group) => Ok(Work::Minus(Right::new(
+            reader.alloc,
+            *register,
+            group,
+        ))),
+        Stage::Apart(register, group) => Ok(Work::Apart(Right::new(
+            reader.alloc,
+            *register,
+            group,
+        ))),
     }
 }
 

@@ -24,7 +24,7 @@ use Rattle.qs_ops_walk.specs.declared.after_names.Each.{Each}
 use Rattle.qs_ops_walk.specs.declared.work.Place.{Place}
 use Rattle.qs_ops_walk.specs.declared.work.Work.{Work}
 use Rattle.qs_ops_walk.specs.declared.work.Work.TheVariants as work
-use Rattle.qs_ops_walk.specs.declared.work.Right.{Right}
+use Rattle.qs_ops_walk.specs.declared.right.Right.{Right}
 use Rattle.qs_ops_walk.specs.declared.walk.Step.{Step}
 use Rattle.qs_ops_walk.specs.declared.walk.Step.TheVariants.{Done, Moved, Gave}
 use Rattle.qs_algebra_patterns.specs.declared.pattern.TriplePattern.{TriplePattern}

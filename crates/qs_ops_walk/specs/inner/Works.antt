@@ -1,6 +1,6 @@
 -- What the places of a walk have prepared and keep.
-use Rattle.std.specs.Prelude.{◌≡◌, ℕ, Bool, true, List, Option, None, Some, map, take, length}
-use Rattle.std.specs.Prelude.{slice_set, Vec}
+use Rattle.std.specs.Prelude.{◌≡◌, ◌⊎◌, ◌<◌, ◌++◌, ◌∷◌, [], ℕ, Bool, true, List, Option, None, Some}
+use Rattle.std.specs.Prelude.{map, take, length, get_or, slice_set, Vec}
 use Rattle.std.specs.List.{AllByRecursion, list_any}
 use Rattle.qs_terms.specs.Bag.{SameBag}
 use Rattle.qs_terms.specs.Dataset.{names_of}
@@ -35,9 +35,9 @@ use Rattle.qs_ops_scans.specs.inner.Prepared.{IsGraphOf, prepared_look, prepared
 use Rattle.qs_ops_scans.specs.declared.look.PreparedLook.{PreparedLook}
 use Rattle.qs_ops_scans.specs.declared.pattern.PreparedTriple.{PreparedTriple}
 use Rattle.qs_ops_tables.specs.inner.Tables.{KeptRows, FitRows, row_solutions}
-use Rattle.qs_ops_walk.specs.declared.work.Aside.{Aside}
+use Rattle.qs_ops_walk.specs.declared.right.Aside.{Aside}
 use Rattle.qs_ops_walk.specs.declared.work.Feed.{Feed}
-use Rattle.qs_ops_walk.specs.declared.work.Right.{Right}
+use Rattle.qs_ops_walk.specs.declared.right.Right.{Right}
 use Rattle.qs_ops_walk.specs.declared.work.Work.{Work}
 use Rattle.qs_ops_walk.specs.declared.work.Work.TheVariants.{Triple, Path, Names, Exists, Name}
 use Rattle.qs_ops_walk.specs.declared.work.Work.TheVariants.{Filter, Bind, Values, Union, Optional}
@@ -71,20 +71,27 @@ pub record IsAside (s : Setting) (table : List Term) (register : Option ℕ) (st
   pub fit : FitRows (known_of s) table a.kept.rows
   pub name : FitsIf (known_of s) table a.name
 
-abbrev pub IfAside : Setting → List Term → Option ℕ → List Stage → Option Aside → Type 0
-IfAside s table register stages None = Unit {0}
-IfAside s table register stages (Some a) = IsAside s table register stages a
-
 abbrev pub IsRight : Setting → List Term → Right → Type 0
-IsRight s table right = IfAside s table right.register right.group.now.stages right.kept
+IsRight s table right =
+    AllByRecursion (IsAside s table right.register right.group.now.stages) right.kept.list.items
+
+-- these rows are kept in the list, for rows of n cells whose register has the cell x
+pub record Keeps (list : List Aside) (n : ℕ) (x : Option Cell) (k : KeptRows) : Type 0 where
+  pub a : Aside
+  pub at : ℕ
+  pub inside : at < length list
+  pub is : a ≡ get_or list at a
+  pub cells : a.cells ≡ n
+  pub name : a.name ≡ x
+  pub kept : k ≡ a.kept
 
 -- these rows are kept, for rows like m
-pub record Serves (right : Right) (m : Cells) (k : KeptRows) : Type 0 where
-  pub a : Aside
-  pub is : right.kept ≡ Some a
-  pub cells : a.cells ≡ length m
-  pub name : a.name ≡ name_at right.register m
-  pub kept : k ≡ a.kept
+abbrev pub Serves : Right → Cells → KeptRows → Type 0
+Serves right m k = Keeps right.kept.list.items (length m) (name_at right.register m) k
+
+-- the list with one more at its end, or that one alone
+abbrev pub IsPut : List Aside → Aside → List Aside → Type 0
+IsPut old a new = (new ≡ old ++ a ∷ []) ⊎ (new ≡ a ∷ [])
 
 -- ---- works
 

@@ -25,7 +25,8 @@ use Rattle.qs_ops_walk.proofs.Steps.{whole, changed, mid_fit, settled_walk, open
 use Rattle.qs_ops_walk.proofs.FusedSteps.{quads_opened, quads_walk}
 use Rattle.qs_ops_walk.proofs.JoinedSteps.{given_opened, given_walk, joined_opened, joined_walk}
 use Rattle.qs_ops_walk.proofs.Opens.{opens_alike, opens_fed, opens_path, opens_names, opens_values, opens_union, opens_apart}
-use Rattle.qs_ops_walk.proofs.Asides.{name_fits, only_fits, aside_made, opens_attempt, opens_unless, optional_still}
+use Rattle.qs_ops_walk.proofs.Asides.{name_fits, only_fits, aside_made, right_more, opens_attempt, opens_unless, optional_still}
+use Rattle.qs_ops_walk.proofs.Keeping.{put_keeps}
 use Rattle.qs_ops_walk.proofs.Still.{right_still}
 use Rattle.qs_ops_walk.proofs.Gathering.{named_some, gathers_more, gathers_fewer, gathers_all, gathers_fit}
 use Rattle.qs_ops_walk.proofs.walk.+next.Goals as goal
@@ -189,6 +190,20 @@ open-returns-in_ok-starts-in-Union-clause-opens g t c =
 
 pub keep_few-returns-in_default-clause-right : goal.keep_few-returns-in_default-clause-right
 keep_few-returns-in_default-clause-right g t c = right_still c.args.reader.now c.args.scratch.now c.aside_of.new.scratch c.aside_of.ensures.grows c.args.right.now c.requires.right
+
+pub keep_few-returns-clause-right : goal.keep_few-returns-clause-right
+keep_few-returns-clause-right g t c =
+    right_more c.args.reader.now c.args.scratch.now c.aside_of.new.scratch c.aside_of.ensures.grows c.args.right.now (record { register = c.args.right.now.register; group = c.args.right.now.group; kept = c.keep.new.self }) c.in-Some.aside c.requires.right refl refl
+    c.in_ok-keep.ensures (rw c.in-Some.is at c.in_ok-found.ensures.aside)
+
+pub rows_of_right-returns-clause-right : goal.rows_of_right-returns-clause-right
+rows_of_right-returns-clause-right g t c =
+    right_more c.args.reader.now c.args.scratch.now c.aside_of.new.scratch c.aside_of.ensures.grows c.args.right.now (record { register = c.args.right.now.register; group = c.args.right.now.group; kept = c.keep_shared.new.self }) c.in-Some-found.aside c.requires.right refl refl
+    c.in_ok-own.ensures.put (rw c.in-Some-found.is at c.in_ok-found.ensures.aside)
+
+pub rows_of_right-returns-clause-kept : goal.rows_of_right-returns-clause-kept
+rows_of_right-returns-clause-kept g t c =
+    put_keeps c.args.right.now.kept.list.items c.in-Some-found.aside c.keep_shared.new.self.list.items (length c.args.row.now) _ c.in_ok-own.own c.in_ok-own.ensures.put (rw c.in-Some-found.is at c.in_ok-found.ensures.cells) (rw c.in-Some-found.is at c.in_ok-found.ensures.name) c.in_ok-own.ensures.kept
 
 pub open_optional-rows_of_feed-requires : goal.open_optional-rows_of_feed-requires
 open_optional-rows_of_feed-requires g t c =
@@ -371,7 +386,7 @@ aside_of-returns-clause-aside g t c =
     let known = known_of c.args.reader.now in
     let f = name_fits known c.args.scratch.now c.args.right.now.register c.args.row.now c.requires.row in
     aside_made c.args.reader.now c.args.scratch.now c.rows_of_group.new.scratch c.rows_of_group.ensures.grows c.args.right.now.register c.args.right.now.group.now.stages c.name_at-name.result c.width-2.result c.in_ok-alone.alone c.in-Some.rows.items c.in_ok-kept-2.kept
-    (rw c.name_at-name.ensures f) (search rules) (search rules) (rw c.as_slice.ensures at (rw c.in-Some.is at c.in_ok-found.ensures.rows)) (rw c.in-Some.is at c.in_ok-found.ensures.fit)
+    (rw c.name_at-name.ensures f) (search rules) (search rules) (rw c.as_slice.ensures at (rw c.in-Some.is at c.in_ok-found.ensures.rows)) (rw c.in-Some.is at c.in_ok-found.ensures.fit) c.len-row_count.result
 
 pub open_level-returns-in-Some-clause-walk : goal.open_level-returns-in-Some-clause-walk
 open_level-returns-in-Some-clause-walk g t c =
