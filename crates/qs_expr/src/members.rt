@@ -107,9 +107,11 @@ impl Members {
     }
 
     fn put_integer(&mut self, number: i128) -> Result<(), AllocError>
-        ensures hits { OnOk result ((x : TermValue) (w : of_terms.Worth) (s : Bool) → is_in_by self.new x w
+        ensures hits { OnOk result ((x : TermValue) (w : of_terms.Worth) (s : Bool)
+            → is_in_by self.new x w
             ≡ (is_in_by self.old x w || hit_by s w (of_terms.integer number))) }
-        ensures errs { OnOk result ((l : Bool) (m : Bool) (w : of_terms.Worth) → errs_by self.new l w
+        ensures errs { OnOk result ((l : Bool) (m : Bool) (w : of_terms.Worth)
+            → errs_by self.new l w
             ≡ (errs_by self.old l w || clash_by l w m (of_terms.integer number))) }
     {
         self.integers.insert(number)?;
@@ -133,9 +135,11 @@ impl Members {
 
     // Puts the term that is worth a text or nothing into the set of terms.
     fn put_term(&mut self, term: &Term) -> Result<(), AllocError>
-        ensures hits { OnOk result ((x : TermValue) (w : of_terms.Worth) (v : of_terms.Worth) → IsTextOrOther v → is_in_by self.new x w
+        ensures hits { OnOk result ((x : TermValue) (w : of_terms.Worth) (v : of_terms.Worth)
+            → IsTextOrOther v → is_in_by self.new x w
             ≡ (is_in_by self.old x w || hit_by (same_term x term.now) w v)) }
-        ensures errs { OnOk result ((l : Bool) (w : of_terms.Worth) → errs_by self.new l w ≡ errs_by self.old l w) }
+        ensures errs { OnOk result ((l : Bool) (w : of_terms.Worth)
+            → errs_by self.new l w ≡ errs_by self.old l w) }
     {
         let own = term.try_clone()?;
         self.terms.insert(own)?;
@@ -146,7 +150,8 @@ impl Members {
         ensures hits { OnOk result ((x : TermValue) (w : of_terms.Worth) → is_in_by self.new x w
             ≡ (is_in_by self.old x w || hit_by (same_term x term.now) w of_terms.other)) }
         ensures errs { OnOk result ((l : Bool) (w : of_terms.Worth) → errs_by self.new l w
-            ≡ (errs_by self.old l w || clash_by l w (of_terms.is_literal term.now) of_terms.other)) }
+            ≡ (errs_by self.old l w
+            || clash_by l w (of_terms.is_literal term.now) of_terms.other)) }
     {
         self.put_term(term)?;
         if is_literal(term) {
@@ -156,9 +161,11 @@ impl Members {
     }
 
     fn put_text(&mut self, term: &Term) -> Result<(), AllocError>
-        ensures hits { OnOk result ((x : TermValue) (w : of_terms.Worth) (s : List ℕ) → is_in_by self.new x w
+        ensures hits { OnOk result ((x : TermValue) (w : of_terms.Worth) (s : List ℕ)
+            → is_in_by self.new x w
             ≡ (is_in_by self.old x w || hit_by (same_term x term.now) w (of_terms.text s))) }
-        ensures errs { OnOk result ((l : Bool) (m : Bool) (w : of_terms.Worth) (s : List ℕ) → errs_by self.new l w
+        ensures errs { OnOk result ((l : Bool) (m : Bool) (w : of_terms.Worth) (s : List ℕ)
+            → errs_by self.new l w
             ≡ (errs_by self.old l w || clash_by l w m (of_terms.text s))) }
     {
         self.put_term(term)?;
