@@ -1,6 +1,6 @@
 -- A filter goes into the branches of a union before it and into the group of a join before it, and a conjunction is filters of its parts.
-use Rattle.std.proofs.Common.{not, ◌≡◌, ℕ, zero, suc, ◌+◌, ◌≤◌, ◌<◌, Bool, true, false, ◌&&◌, cond, if◌then◌else◌, List, [], ◌∷◌, ◌++◌, map, take, drop, length, get_or, Option, Some, None, IsSome, refl, sym, ◌∙◌, ap, subst, arith, append-nil, append_assoc}
-use Rattle.std.specs.List.{AllByRecursion, filter, flat_map, list_all}
+use Rattle.std.proofs.Common.{not, ◌≡◌, ℕ, zero, suc, ◌+◌, ◌≤◌, ◌<◌, Bool, true, false, ◌&&◌, cond, List, [], ◌∷◌, ◌++◌, map, take, length, get_or, Option, Some, None, IsSome, refl, sym, ◌∙◌, ap, subst, arith, append-nil}
+use Rattle.std.specs.List.{AllByRecursion, flat_map, list_all}
 use Rattle.std.proofs.lemmas.Grind.{flat_map-append}
 use Rattle.std.proofs.lemmas.List.{get_or-take, length-set, take_more, take_all, map-append}
 use Rattle.std.proofs.lemmas.List.Sorted.{IsPermutation-append, IsPermutation-map, list_any-IsPermutation}
@@ -27,12 +27,12 @@ use Rattle.qs_plan_meaning.specs.declared.stage.Stage.{Stage}
 use Rattle.qs_plan_meaning.specs.declared.stage.Stage.TheVariants as stage
 use Rattle.qs_plan.specs.inner.Plans.{plan_list, SamePlan}
 use Rattle.qs_plan_meaning.specs.inner.Stages.{Made, kept_if, only, aside, fed_rows, through}
-use Rattle.qs_plan.specs.inner.Certain.{Bound, Begun, Binds, Steady, SameFrom}
+use Rattle.qs_plan.specs.inner.Certain.{Bound, Begun, Binds, SameFrom}
 use Rattle.qs_plan.specs.inner.Reads.{Agree, Settles}
 use Rattle.qs_plan.proofs.Laying.{between, same}
 use Rattle.qs_plan.proofs.Commutes.{all_map}
 use Rattle.qs_plan.proofs.Levels.{gives_filter, gives_union, gives_optional, gives_fed, gives_minus, gives_apart, through_append, through_one, flat_ap}
-use Rattle.qs_plan.proofs.Moving.{from_trans, from_before, from_after, from_append, from_same, begun_after, filter_moved}
+use Rattle.qs_plan.proofs.Moving.{from_trans, from_append, begun_after}
 use Rattle.qs_plan.proofs.Swaps.{pair, merges_pairs}
 use Rattle.qs_plan.proofs.Operators.{filter_same, merges_same, alone_same}
 use Rattle.qs_plan.proofs.Widths.{length_unbound, merge_at}
@@ -55,7 +55,7 @@ pub holds_each : (m : Solution) (es : List Expr) → holds m (And es) ≡ list_a
 holds_each m es = ap (λ x. is_true (truth x)) (and_is m es) ∙ (ap is_true (truth_of (every (map truth (map (meaning m) es)))) ∙ true_every m es)
 
 module _ (width : ℕ) (quads : List Statement) (active : Graph) where
-  filters_give : (es : List Expr) (m : Solution) → through width quads active (map stage.Filter es) m ≡ kept_if (list_all (holds (take width m)) es) m
+  pub filters_give : (es : List Expr) (m : Solution) → through width quads active (map stage.Filter es) m ≡ kept_if (list_all (holds (take width m)) es) m
   filters_give [] m = refl
   filters_give (e ∷ es) m = ap (flat_map (through width quads active (map stage.Filter es))) (gives_filter width quads active m e) ∙ at (holds (take width m) e) (filters_give es m)
     where
@@ -63,33 +63,7 @@ module _ (width : ℕ) (quads : List Statement) (active : Graph) where
       at true h = append-nil (through width quads active (map stage.Filter es) m) ∙ h
       at false h = refl
 
-pub parts_same : (es : List Expr) (width : ℕ) (quads : List Statement) (active : Graph) (m : Solution) → SameBag (through width quads active (map stage.Filter es) m) (through width quads active (stage.Filter (And es) ∷ []) m)
-parts_same es width quads active m =
-    same _ _
-    (filters_give width quads active es m
-    ∙ (ap (λ b. kept_if b m) (sym (holds_each (take width m) es)) ∙ sym (through_one width quads active (stage.Filter (And es)) m ∙ gives_filter width quads active m (And es))))
-
 module _ (size : Size) where
-  -- a filter for each part
-  pub parts_put : (part : Expr) (es slice : List Expr) (done new : List Stage) → part ≡ And es → slice ≡ es → SameFrom size [] new (done ++ map stage.Filter slice) → SameFrom size [] new (done ++ stage.Filter part ∷ [])
-  parts_put part es slice done new is e h =
-      from_trans size [] new (done ++ map stage.Filter slice) (done ++ stage.Filter part ∷ []) h
-      (from_after size [] [] done (map stage.Filter slice) (stage.Filter part ∷ []) tt
-      (subst (λ (l : List Expr). SameFrom size [] (map stage.Filter l) (stage.Filter part ∷ [])) (sym e)
-      (subst (λ (x : Expr). SameFrom size [] (map stage.Filter es) (stage.Filter x ∷ [])) (sym is) (from_same size [] (map stage.Filter es) (stage.Filter (And es) ∷ []) (parts_same es)))))
-
-  map_push : (es : List Expr) (e : Expr) → map stage.Filter (es ++ e ∷ []) ≡ map stage.Filter es ++ stage.Filter e ∷ []
-  map_push [] e = refl
-  map_push (d ∷ es) e = ap (λ (l : List Stage). stage.Filter d ∷ l) (map_push es e)
-
-  pub part_more : (parts : List Expr) (i : ℕ) (part : Expr) (first done new : List Stage) → i < length parts → part ≡ get_or parts i part → SameFrom size [] done (first ++ map stage.Filter (take i parts)) → SameFrom size [] new (done ++ stage.Filter part ∷ [])
-      → SameFrom size [] new (first ++ map stage.Filter (take (i + 1) parts))
-  part_more parts i part first done new lt is h k =
-      subst (SameFrom size [] new)
-      (append_assoc first (map stage.Filter (take i parts)) (stage.Filter part ∷ [])
-      ∙ ap (λ l. first ++ l) (sym (ap (map stage.Filter) (take_more parts i part lt ∙ ap (λ x. take i parts ++ x ∷ []) (sym is)) ∙ map_push (take i parts) part)))
-      (from_trans size [] new (done ++ stage.Filter part ∷ []) ((first ++ map stage.Filter (take i parts)) ++ stage.Filter part ∷ []) k (from_before size [] done (first ++ map stage.Filter (take i parts)) (stage.Filter part ∷ []) h))
-
   -- ---- unions
 
   united : (quads : List Statement) (active : Graph) (gs : List Group) (m : Solution) → through size.width quads active (stage.Union gs ∷ []) m ≡ flat_map (λ (b : Group). through size.width quads active b.stages m) gs
@@ -102,36 +76,33 @@ module _ (size : Size) where
       ∙ (ap (λ l. flat_map (λ (b : Group). through size.width quads active b.stages m) gs ++ l) (append-nil (through size.width quads active g.stages m))
       ∙ ap (λ l. l ++ through size.width quads active g.stages m) (sym (united quads active gs m))))
 
-  module _ (given : List ℕ) (e : Expr) where
-    filter_flat : (quads : List Statement) (active : Graph) (ss : List Stage) (m : Solution) → through size.width quads active (ss ++ stage.Filter e ∷ []) m ≡ flat_map (through size.width quads active (stage.Filter e ∷ [])) (through size.width quads active ss m)
-    filter_flat quads active ss m = through_append size.width quads active ss (stage.Filter e ∷ []) m
+  module _ (given : List ℕ) (ts : List Stage) where
+    filter_flat : (quads : List Statement) (active : Graph) (ss : List Stage) (m : Solution) → through size.width quads active (ss ++ ts) m ≡ flat_map (through size.width quads active ts) (through size.width quads active ss m)
+    filter_flat quads active ss m = through_append size.width quads active ss ts m
 
     filtered_push : (quads : List Statement) (active : Graph) (gs : List Group) (g : Group) (m : Solution)
-        → through size.width quads active (stage.Union (gs ++ g ∷ []) ∷ stage.Filter e ∷ []) m ≡ through size.width quads active (stage.Union gs ∷ stage.Filter e ∷ []) m ++ through size.width quads active (g.stages ++ stage.Filter e ∷ []) m
+        → through size.width quads active (stage.Union (gs ++ g ∷ []) ∷ ts) m ≡ through size.width quads active (stage.Union gs ∷ ts) m ++ through size.width quads active (g.stages ++ ts) m
     filtered_push quads active gs g m =
         filter_flat quads active (stage.Union (gs ++ g ∷ []) ∷ []) m
-        ∙ (ap (flat_map (through size.width quads active (stage.Filter e ∷ []))) (united_push quads active gs g m)
-        ∙ (flat_map-append (through size.width quads active (stage.Filter e ∷ [])) (through size.width quads active (stage.Union gs ∷ []) m) (through size.width quads active g.stages m)
-        ∙ (ap (λ l. l ++ flat_map (through size.width quads active (stage.Filter e ∷ [])) (through size.width quads active g.stages m)) (sym (filter_flat quads active (stage.Union gs ∷ []) m))
-        ∙ ap (λ l. through size.width quads active (stage.Union gs ∷ stage.Filter e ∷ []) m ++ l) (sym (filter_flat quads active g.stages m)))))
+        ∙ (ap (flat_map (through size.width quads active ts)) (united_push quads active gs g m)
+        ∙ (flat_map-append (through size.width quads active ts) (through size.width quads active (stage.Union gs ∷ []) m) (through size.width quads active g.stages m)
+        ∙ (ap (λ l. l ++ flat_map (through size.width quads active ts) (through size.width quads active g.stages m)) (sym (filter_flat quads active (stage.Union gs ∷ []) m))
+        ∙ ap (λ l. through size.width quads active (stage.Union gs ∷ ts) m ++ l) (sym (filter_flat quads active g.stages m)))))
 
-    pub branch_filtered : (done new branches : List Group) (i : ℕ) (b own : Group) → i < length branches → b ≡ get_or branches i b → new ≡ done ++ own ∷ [] → SameFrom size given (stage.Union done ∷ []) (stage.Union (take i branches) ∷ stage.Filter e ∷ []) → SameFrom size given own.stages (b.stages ++ stage.Filter e ∷ [])
-        → SameFrom size given (stage.Union new ∷ []) (stage.Union (take (i + 1) branches) ∷ stage.Filter e ∷ [])
+    pub branch_filtered : (done new branches : List Group) (i : ℕ) (b own : Group) → i < length branches → b ≡ get_or branches i b → new ≡ done ++ own ∷ [] → SameFrom size given (stage.Union done ∷ []) (stage.Union (take i branches) ∷ ts) → SameFrom size given own.stages (b.stages ++ ts)
+        → SameFrom size given (stage.Union new ∷ []) (stage.Union (take (i + 1) branches) ∷ ts)
     branch_filtered done new branches i b own lt is n h k =
-        subst (λ (l : List Group). SameFrom size given (stage.Union l ∷ []) (stage.Union (take (i + 1) branches) ∷ stage.Filter e ∷ [])) (sym n)
-        (subst (λ (l : List Group). SameFrom size given (stage.Union (done ++ own ∷ []) ∷ []) (stage.Union l ∷ stage.Filter e ∷ [])) (sym (take_more branches i b lt ∙ ap (λ x. take i branches ++ x ∷ []) (sym is)))
+        subst (λ (l : List Group). SameFrom size given (stage.Union l ∷ []) (stage.Union (take (i + 1) branches) ∷ ts)) (sym n)
+        (subst (λ (l : List Group). SameFrom size given (stage.Union (done ++ own ∷ []) ∷ []) (stage.Union l ∷ ts)) (sym (take_more branches i b lt ∙ ap (λ x. take i branches ++ x ∷ []) (sym is)))
         (record {
           same = λ quads active m w.
               between _ _ _ _ (united_push quads active done own m) (IsPermutation-append _ _ _ _ (h.same quads active m w) (k.same quads active m w)) (sym (filtered_push quads active (take i branches) b m));
         }))
 
-    pub branches_begun : (done branches : List Group) → done ≡ [] → SameFrom size given (stage.Union done ∷ []) (stage.Union (take 0 branches) ∷ stage.Filter e ∷ [])
-    branches_begun done branches d = subst (λ (l : List Group). SameFrom size given (stage.Union l ∷ []) (stage.Union [] ∷ stage.Filter e ∷ [])) (sym d) (record {
-      same = λ quads active m w. same _ _ (united quads active [] m ∙ sym (filter_flat quads active (stage.Union [] ∷ []) m ∙ ap (flat_map (through size.width quads active (stage.Filter e ∷ []))) (united quads active [] m)));
+    pub branches_begun : (done branches : List Group) → done ≡ [] → SameFrom size given (stage.Union done ∷ []) (stage.Union (take 0 branches) ∷ ts)
+    branches_begun done branches d = subst (λ (l : List Group). SameFrom size given (stage.Union l ∷ []) (stage.Union [] ∷ ts)) (sym d) (record {
+      same = λ quads active m w. same _ _ (united quads active [] m ∙ sym (filter_flat quads active (stage.Union [] ∷ []) m ∙ ap (flat_map (through size.width quads active ts)) (united quads active [] m)));
     })
-
-    pub branches_ended : (done branches : List Group) (i : ℕ) → length branches ≤ i → SameFrom size given (stage.Union done ∷ []) (stage.Union (take i branches) ∷ stage.Filter e ∷ []) → SameFrom size given (stage.Union done ∷ []) (stage.Union branches ∷ stage.Filter e ∷ [])
-    branches_ended done branches i le h = subst (λ (l : List Group). SameFrom size given (stage.Union done ∷ []) (stage.Union l ∷ stage.Filter e ∷ [])) (take_all i branches le) h
 
   -- ---- joins
 
@@ -249,32 +220,6 @@ module _ (size : Size) where
         ∙ sym (through_append size.width quads active (stage.Apart r g ∷ []) (stage.Filter e ∷ []) m
         ∙ ap (flat_map (through size.width quads active (stage.Filter e ∷ []))) (through_one size.width quads active (stage.Apart r g) m ∙ gives_apart size.width quads active m r g))));
   }
-
-  -- ---- the stage before the filter's place
-
-  pub entered : (given known : List ℕ) (e : Expr) (ss done : List Stage) (i : ℕ) (s own : Stage) → i < length ss → s ≡ get_or ss i s → done ≡ take i ss ++ own ∷ drop (i + 1) ss → AllByRecursion (λ v. Binds size given v (take i ss)) known
-      → SameFrom size known (own ∷ []) (s ∷ stage.Filter e ∷ []) → SameFrom size given (take (i + 1) ss ++ stage.Filter e ∷ drop (i + 1) ss) (ss ++ stage.Filter e ∷ []) → SameFrom size given done (ss ++ stage.Filter e ∷ [])
-  entered given known e ss done i s own lt is d k h moved =
-      subst (λ (l : List Stage). SameFrom size given l (ss ++ stage.Filter e ∷ [])) (sym d)
-      (from_trans size given (take i ss ++ own ∷ drop (i + 1) ss) (take i ss ++ s ∷ stage.Filter e ∷ drop (i + 1) ss) (ss ++ stage.Filter e ∷ [])
-      (from_after size given known (take i ss) (own ∷ drop (i + 1) ss) (s ∷ stage.Filter e ∷ drop (i + 1) ss) k (from_before size known (own ∷ []) (s ∷ stage.Filter e ∷ []) (drop (i + 1) ss) h))
-      (subst (λ (l : List Stage). SameFrom size given l (ss ++ stage.Filter e ∷ [])) (ap (λ (l : List Stage). l ++ stage.Filter e ∷ drop (i + 1) ss) (take_more ss i s lt ∙ ap (λ x. take i ss ++ x ∷ []) (sym is)) ∙ append_assoc (take i ss) (s ∷ []) (stage.Filter e ∷ drop (i + 1) ss)) moved))
-
-  pub union_entered : (known own : List ℕ) (e : Expr) (s : Stage) (bs branches slice : List Group) → own ≡ known → s ≡ stage.Union branches → slice ≡ branches → SameFrom size own (stage.Union bs ∷ []) (stage.Union slice ∷ stage.Filter e ∷ []) → SameFrom size known (stage.Union bs ∷ []) (s ∷ stage.Filter e ∷ [])
-  union_entered known own e s bs branches slice k is j h =
-      subst (λ (l : List ℕ). SameFrom size l (stage.Union bs ∷ []) (s ∷ stage.Filter e ∷ [])) k
-      (subst (λ (x : Stage). SameFrom size own (stage.Union bs ∷ []) (x ∷ stage.Filter e ∷ [])) (sym is)
-      (subst (λ (l : List Group). SameFrom size own (stage.Union bs ∷ []) (stage.Union l ∷ stage.Filter e ∷ [])) j h))
-
-  pub apart_entered : (vs : List ℕ) (e : Expr) (r : Option ℕ) (g own : Group) (s : Stage) (slice : List Stage) → Settles vs e → s ≡ stage.Apart r g → slice ≡ g.stages → AllByRecursion (λ v. (v < size.width) × Binds size [] v slice) vs → SameFrom size [] own.stages (g.stages ++ stage.Filter e ∷ [])
-      → SameFrom size [] (stage.Apart r own ∷ []) (s ∷ stage.Filter e ∷ [])
-  apart_entered vs e r g own s slice settled is j full h =
-      subst (λ (x : Stage). SameFrom size [] (stage.Apart r own ∷ []) (x ∷ stage.Filter e ∷ [])) (sym is)
-      (apart_filtered [] vs e r g own settled (subst (λ (l : List Stage). AllByRecursion (λ v. (v < size.width) × Binds size [] v l) vs) j full) h)
-
-  pub filter_in : (given vs : List ℕ) (e own : Expr) (ss done : List Stage) (place later : ℕ) → Settles vs e → own ≡ e → done ≡ take later ss ++ stage.Filter own ∷ drop later ss → place ≤ later → AllByRecursion (λ v. Steady size given v place ss) vs → SameFrom size given done (ss ++ stage.Filter e ∷ [])
-  filter_in given vs e own ss done place later settled same d le h =
-      subst (λ (l : List Stage). SameFrom size given l (ss ++ stage.Filter e ∷ [])) (sym (d ∙ ap (λ (x : Expr). take later ss ++ stage.Filter x ∷ drop later ss) same)) (filter_moved size given vs e settled ss place later le h)
 
   -- ---- groups
 

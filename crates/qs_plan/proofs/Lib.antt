@@ -32,6 +32,7 @@ pub mod Keeping
 pub mod Getting
 pub mod Moving
 pub mod Entering
+pub mod Placing
 pub mod Pairing
 pub mod Joining
 pub mod Fixing

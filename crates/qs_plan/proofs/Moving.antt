@@ -1,5 +1,5 @@
--- A filter goes back to the place from which on no stage changes what is bound to its variables.
-use Rattle.std.proofs.Common.{◌≡◌, ◌⊎◌, inl, inr, ℕ, ◌+◌, ◌≤◌, ◌<◌, Bool, true, false, if◌then◌else◌, List, [], ◌∷◌, ◌++◌, take, drop, length, get_or, refl, sym, ◌∙◌, ap, subst, arith, append-nil, append_assoc}
+-- The place from which on no stage changes what is bound to the variables of a filter.
+use Rattle.std.proofs.Common.{◌≡◌, ◌⊎◌, inl, inr, ℕ, ◌+◌, ◌≤◌, ◌<◌, Bool, true, List, [], ◌∷◌, ◌++◌, take, drop, length, get_or, refl, sym, ◌∙◌, ap, subst, arith}
 use Rattle.std.specs.List.{AllByRecursion, flat_map}
 use Rattle.std.proofs.lemmas.Bool.{cases_lt}
 use Rattle.std.proofs.lemmas.List.{take_more, take_all, take-append-le, drop-append-le, drop_all, take-append-drop, length-append, length-take-le}
@@ -12,19 +12,17 @@ use Rattle.qs_algebra_solutions.specs.Solution.{Solution, term_at}
 use Rattle.qs_algebra_patterns.specs.Basic.{Graph}
 use Rattle.qs_plan.specs.declared.certain.Size.{Size}
 use Rattle.qs_plan_meaning.specs.declared.stage.Stage.{Stage}
-use Rattle.qs_plan_meaning.specs.declared.stage.Stage.TheVariants as stage
-use Rattle.qs_plan_meaning.specs.inner.Stages.{Made, kept_if, through}
+use Rattle.qs_plan_meaning.specs.inner.Stages.{Made, through}
 use Rattle.qs_plan.specs.inner.Certain.{Bound, Alike, Begun, Keeps, Binds, Steady, SameFrom}
 use Rattle.qs_plan.specs.inner.Reads.{Agree, Settles, Leaves}
 use Rattle.qs_plan.proofs.Commutes.{all_map}
 use Rattle.qs_plan.proofs.Getting.{binds_to, given_none}
 use Rattle.qs_plan.proofs.Keeping.{all_more}
-use Rattle.qs_plan.proofs.Laying.{same, flat_each}
+use Rattle.qs_plan.proofs.Laying.{flat_each}
 use Rattle.qs_plan.proofs.Leaving.{taken_agree, all_agree}
-use Rattle.qs_plan.proofs.Levels.{gives_filter, through_append, through_one}
+use Rattle.qs_plan.proofs.Levels.{through_append, through_one}
 use Rattle.qs_plan.proofs.Onward.{Onward, stages_onward}
 use Rattle.qs_plan.proofs.Operators.{flat_map_same}
-use Rattle.qs_plan.proofs.Swaps.{flat_on}
 use Rattle.qs_plan.proofs.Widths.{all_append}
 
 -- ---- lists
@@ -37,7 +35,7 @@ all_of_flat {Y = Y} P f (x ∷ xs) h = let k = split (f x) (flat_map f xs) h in 
     split [] zs h = (tt, h)
     split (y ∷ ys) zs h = let k = split ys zs h.1 in ((h.0, k.0), k.1)
 
-all_both : {X : Type 0} (P Q : X → Type 0) (xs : List X) → AllByRecursion P xs → AllByRecursion Q xs → AllByRecursion (λ x. P x × Q x) xs
+pub all_both : {X : Type 0} (P Q : X → Type 0) (xs : List X) → AllByRecursion P xs → AllByRecursion Q xs → AllByRecursion (λ x. P x × Q x) xs
 all_both P Q [] h k = tt
 all_both P Q (x ∷ xs) h k = ((h.0, k.0), all_both P Q xs h.1 k.1)
 
@@ -188,7 +186,7 @@ module _ (size : Size) where
       pub steady_all : (ss : List Stage) (i place : ℕ) → length ss ≤ i → Steady size given v place (take i ss) → Steady size given v place ss
       steady_all ss i place le h = subst (Steady size given v place) (take_all i ss le) h
 
-    all_later : (ss : List Stage) (place later : ℕ) → place ≤ later → (us : List ℕ) → AllByRecursion (λ v. Steady size given v place ss) us → AllByRecursion (λ v. Steady size given v later ss) us
+    pub all_later : (ss : List Stage) (place later : ℕ) → place ≤ later → (us : List ℕ) → AllByRecursion (λ v. Steady size given v place ss) us → AllByRecursion (λ v. Steady size given v later ss) us
     all_later ss place later le [] h = tt
     all_later ss place later le (u ∷ us) h = (steady_later u ss place later le h.0, all_later ss place later le us h.1)
 
@@ -207,31 +205,11 @@ module _ (size : Size) where
     -- ---- the filter
 
     module _ (vs : List ℕ) (e : Expr) (settled : Settles vs e) where
-      holds_alike : (width : ℕ) (m q : Solution) → Agree vs m q → holds (take width q) e ≡ holds (take width m) e
+      pub holds_alike : (width : ℕ) (m q : Solution) → Agree vs m q → holds (take width q) e ≡ holds (take width m) e
       holds_alike width m q h = let k : meaning (take width q) e ≡ meaning (take width m) e = settled.same (take width m) (take width q) (taken_agree width vs m q h) in cc
 
-      module _ (quads : List Statement) (active : Graph) (q : Solution) where
-        filter_one : (rest : List Stage) (x : Solution) (b : Bool) → holds (take size.width x) e ≡ b → through size.width quads active (stage.Filter e ∷ rest) x ≡ (if b then through size.width quads active rest x else [])
-        filter_one rest x true h = ap (flat_map (through size.width quads active rest)) (gives_filter size.width quads active x e ∙ ap (λ c. kept_if c x) h) ∙ append-nil (through size.width quads active rest x)
-        filter_one rest x false h = ap (flat_map (through size.width quads active rest)) (gives_filter size.width quads active x e ∙ ap (λ c. kept_if c x) h)
-
-        filter_each : (xs : List Solution) (b : Bool) → holds (take size.width q) e ≡ b → AllByRecursion (Agree vs q) xs → flat_map (through size.width quads active (stage.Filter e ∷ [])) xs ≡ (if b then xs else [])
-        filter_each [] true h k = refl
-        filter_each [] false h k = refl
-        filter_each (x ∷ xs) true h k =
-            ap (λ l. l ++ flat_map (through size.width quads active (stage.Filter e ∷ [])) xs) (filter_one [] x true (holds_alike size.width q x k.0 ∙ h)) ∙ ap (λ l. x ∷ l) (filter_each xs true h k.1)
-        filter_each (x ∷ xs) false h k =
-            ap (λ l. l ++ flat_map (through size.width quads active (stage.Filter e ∷ [])) xs) (filter_one [] x false (holds_alike size.width q x k.0 ∙ h)) ∙ filter_each xs false h k.1
-
-        filter_past : (ts : List Stage) → AllByRecursion (Agree vs q) (through size.width quads active ts q) → through size.width quads active (stage.Filter e ∷ ts) q ≡ through size.width quads active (ts ++ stage.Filter e ∷ []) q
-        filter_past ts h = at (holds (take size.width q) e) refl
-          where
-            at : (b : Bool) → holds (take size.width q) e ≡ b → through size.width quads active (stage.Filter e ∷ ts) q ≡ through size.width quads active (ts ++ stage.Filter e ∷ []) q
-            at true k = filter_one ts q true k ∙ sym (through_append size.width quads active ts (stage.Filter e ∷ []) q ∙ filter_each (through size.width quads active ts q) true k h)
-            at false k = filter_one ts q false k ∙ sym (through_append size.width quads active ts (stage.Filter e ∷ []) q ∙ filter_each (through size.width quads active ts q) false k h)
-
       -- the rows past the place agree with those at it
-      agree_each : (f : Made) (us : List ℕ) (xs : List Solution) → AllByRecursion (λ v. AllByRecursion (λ q. AllByRecursion (Alike v q) (f q)) xs) us → AllByRecursion (λ q. AllByRecursion (Agree us q) (f q)) xs
+      pub agree_each : (f : Made) (us : List ℕ) (xs : List Solution) → AllByRecursion (λ v. AllByRecursion (λ q. AllByRecursion (Alike v q) (f q)) xs) us → AllByRecursion (λ q. AllByRecursion (Agree us q) (f q)) xs
       agree_each f us [] h = tt
       agree_each f us (x ∷ xs) h = (all_agree us x (f x) (firsts us h), agree_each f us xs (rests us h))
         where
@@ -242,20 +220,3 @@ module _ (size : Size) where
           rests : (ws : List ℕ) → AllByRecursion (λ v. AllByRecursion (λ q. AllByRecursion (Alike v q) (f q)) (x ∷ xs)) ws → AllByRecursion (λ v. AllByRecursion (λ q. AllByRecursion (Alike v q) (f q)) xs) ws
           rests [] k = tt
           rests (w ∷ ws) k = (k.0.1, rests ws k.1)
-
-      pub filter_moved : (ss : List Stage) (place later : ℕ) → place ≤ later → AllByRecursion (λ v. Steady size given v place ss) vs → SameFrom size given (take later ss ++ stage.Filter e ∷ drop later ss) (ss ++ stage.Filter e ∷ [])
-      filter_moved ss place later le h = record {
-        same = λ quads active m b.
-            same _ _
-            (through_append size.width quads active (take later ss) (stage.Filter e ∷ drop later ss) m
-            ∙ (flat_on (λ q. AllByRecursion (Agree vs q) (through size.width quads active (drop later ss) q)) (through size.width quads active (stage.Filter e ∷ drop later ss)) (through size.width quads active (drop later ss ++ stage.Filter e ∷ []))
-            (λ q k. filter_past quads active q (drop later ss) k) (through size.width quads active (take later ss) m)
-            (agree_each (through size.width quads active (drop later ss)) vs (through size.width quads active (take later ss) m) (all quads active m b vs h))
-            ∙ (sym (through_append size.width quads active (take later ss) (drop later ss ++ stage.Filter e ∷ []) m)
-            ∙ ap (λ (l : List Stage). through size.width quads active l m) (sym (append_assoc (take later ss) (drop later ss) (stage.Filter e ∷ [])) ∙ ap (λ (l : List Stage). l ++ stage.Filter e ∷ []) (take-append-drop later ss)))));
-      }
-        where
-          all : (quads : List Statement) (active : Graph) (m : Solution) → Begun size given m → (us : List ℕ) → AllByRecursion (λ v. Steady size given v place ss) us
-              → AllByRecursion (λ v. AllByRecursion (λ q. AllByRecursion (Alike v q) (through size.width quads active (drop later ss) q)) (through size.width quads active (take later ss) m)) us
-          all quads active m b [] k = tt
-          all quads active m b (u ∷ us) k = (k.0.alike later le quads active m b, all quads active m b us k.1)

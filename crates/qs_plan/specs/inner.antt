@@ -10,4 +10,5 @@ pub mod Joins
 pub mod Fixes
 pub mod Feeds
 pub mod Parts
+pub mod Places
 pub mod Plans

@@ -227,7 +227,7 @@ fn stays(stage: &Stage, variable: usize, is_known: bool) -> bool
     is_known && keeps(stage, variable)
 }
 
-fn is_among(variable: usize, given: &[usize]) -> bool
+pub(crate) fn is_among(variable: usize, given: &[usize]) -> bool
     ensures { result ≡ true → list_any (λ w. w == variable) given.now ≡ true }
 {
     given.iter().any(|one| *one == variable)

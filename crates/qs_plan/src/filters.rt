@@ -2,15 +2,15 @@
 //! conjunction in its parts. A filter after a UNION goes into each branch, and one after a join into the group that is joined, where the group
 //! is certain to bind each variable of it; none goes into the right side of an OPTIONAL or a MINUS.
 
-ghost use Rattle.std.specs.Prelude.{◌≡◌, ◌≤◌, ◌<◌, ◌+◌, true, [], ◌∷◌, ◌++◌, map, length, take, drop, IfOk, OnOk};
+ghost use Rattle.std.specs.Prelude.{◌≡◌, ◌≤◌, ◌<◌, ◌+◌, true, false, [], ◌∷◌, ◌++◌, map, length, IfOk, OnOk};
 ghost use Rattle.std.specs.List.{AllByRecursion};
 ghost use Rattle.qs_plan_meaning.specs.declared.stage.Stage.TheVariants as stage;
 ghost use Rattle.qs_plan.specs.inner.Plans.{SamePlan};
-ghost use Rattle.qs_plan.specs.inner.Certain.{SameFrom};
-ghost use Rattle.qs_plan.specs.inner.Reads.{Settles};
+ghost use Rattle.qs_plan.specs.inner.Certain.{Binds, SameFrom};
+ghost use Rattle.qs_plan.specs.inner.Places.{Firm, FirmAt, Inside, SameFilters, placed_at};
 
-use crate::certain::{Size, all_steady_from, are_bound, is_known_before, known_before};
-use crate::copies::{copied_stage, copied_stages, shared_expr};
+use crate::certain::{Size, all_steady_from, are_bound, is_among, is_known_before, known_before};
+use crate::copies::{copied_stage, shared_expr};
 use crate::few::is_selective;
 use crate::order::triple_misses;
 use crate::plan_type::Plan;
@@ -21,46 +21,9 @@ use qs_expr_meaning::Expr;
 use qs_plan_meaning::{Group, Look, Stage};
 use sqlite_items::Items;
 use std::alloc::{AllocError, Global};
+use std::mem;
 
-// ---- stages with one more among them
-
-/// Copies of the stages, with one more at this place.
-fn inserted(
-    alloc: Global,
-    stages: &[Stage],
-    place: usize,
-    one: Stage,
-) -> Result<Items<Stage>, AllocError>
-    requires { place ≤ length stages.now }
-    ensures { IfOk result (λ ss. ss ≡ take place stages.now ++ one ∷ drop place stages.now) }
-{
-    let mut tail = Items::new(alloc);
-    tail.push(one)?;
-    let rest = copied_stages(alloc, &stages[place..])?;
-    tail.append(rest)?;
-    let mut done = copied_stages(alloc, &stages[..place])?;
-    done.append(tail)?;
-    Ok(done)
-}
-
-/// Copies of the stages, with this one in place of the one before the place.
-fn replaced(
-    alloc: Global,
-    stages: &[Stage],
-    place: usize,
-    one: Stage,
-) -> Result<Items<Stage>, AllocError>
-    requires { place + 1 ≤ length stages.now }
-    ensures { IfOk result (λ ss. ss ≡ take place stages.now ++ one ∷ drop (place + 1) stages.now) }
-{
-    let mut tail = Items::new(alloc);
-    tail.push(one)?;
-    let rest = copied_stages(alloc, &stages[place + 1..])?;
-    tail.append(rest)?;
-    let mut done = copied_stages(alloc, &stages[..place])?;
-    done.append(tail)?;
-    Ok(done)
-}
+// ---- the place of a filter
 
 /// The place after the filters that stand at this place.
 fn past_filters(stages: &[Stage], place: usize) -> usize
@@ -124,239 +87,402 @@ fn past_first(stages: &[Stage], place: usize, size: Size, given: &[usize]) -> us
     place
 }
 
-// ---- where a filter goes
+/// Whether the stage before the place may take filters in.
+fn takes_in(stages: &[Stage], place: usize) -> bool {
+    if place == 0 || place > stages.len() {
+        return false;
+    }
+    match &stages[place - 1] {
+        Stage::Union(_) => true,
+        Stage::Apart(_, _) => true,
+        _ => false,
+    }
+}
 
-/// The stages with the filter where it goes, for rows that bind the variables that are given.
-#[cycle(filtered)]
-fn filtered(
+/// The place among the stages where the filter of the condition goes. The first row binds the variables that are given.
+fn place_of(
     alloc: Global,
     stages: &[Stage],
-    condition: &Shared<Expr>,
-    variables: &[usize],
+    condition: &Expr,
     size: Size,
     given: &[usize],
-) -> Result<Items<Stage>, AllocError>
-    requires { Settles variables.now condition.now }
-    ensures { IfOk result
-        (λ ss. SameFrom size given.now ss (stages.now ++ stage.Filter condition.now ∷ [])) }
+) -> Result<usize, AllocError>
+    ensures within { IfOk result (λ place. place ≤ length stages.now) }
+    ensures firm { IfOk result (λ place. Firm size given.now condition.now place stages.now) }
 {
-    let place = all_steady_from(stages, variables, size, given);
-    if place > 0 {
-        let before = place - 1;
-        if let Stage::Union(branches) = &stages[before] {
-            let known = known_before(alloc, stages, before, variables, size, given)?;
-            let branches = filtered_branches(
-                alloc,
-                branches.as_slice(),
-                condition,
-                variables,
-                size,
-                known.as_slice(),
-            )?;
-            let found = replaced(alloc, stages, before, Stage::Union(branches))?;
-            return Ok(found);
-        }
-        if let Stage::Apart(register, group) = &stages[before] {
-            if are_bound(group.stages.as_slice(), variables, size) {
-                let group = filtered_group(alloc, group, condition, variables, size, &[])?;
-                let found = replaced(alloc, stages, before, Stage::Apart(*register, group))?;
-                return Ok(found);
-            }
+    let mut variables = Vec::new(alloc);
+    settle(alloc, condition, &mut variables)?;
+    let place = all_steady_from(stages, variables.as_slice(), size, given);
+    if takes_in(stages, place) {
+        return Ok(place);
+    }
+    let first = past_first(stages, place, size, given);
+    let last = past_filters(stages, first);
+    Ok(last)
+}
+
+/// A condition, and the place among the stages of a group where its filter goes.
+#[derive(Drop)]
+struct Going {
+    condition: Shared<Expr>,
+    place: usize,
+}
+
+/// The conditions, each with the place where its filter goes.
+fn all_going(
+    alloc: Global,
+    stages: &[Stage],
+    conditions: &[Shared<Expr>],
+    size: Size,
+    given: &[usize],
+) -> Result<Items<Going>, AllocError>
+    ensures all { IfOk result (λ gs. map (λ g. g.condition) gs ≡ conditions.now) }
+    ensures firm { IfOk result
+        (λ gs. AllByRecursion (FirmAt size given.now stages.now) gs) }
+{
+    let mut all = Items::new(alloc);
+    for condition in conditions {
+        let place = place_of(alloc, stages, condition.get(), size, given)?;
+        let condition = condition.share()?;
+        all.push(Going { condition, place })?;
+    }
+    Ok(all)
+}
+
+/// The conditions whose filters go to this place.
+fn going_to(alloc: Global, all: &[Going], place: usize) -> Result<Items<Shared<Expr>>, AllocError>
+    ensures { IfOk result (λ es. es ≡ placed_at place all.now) }
+{
+    let mut found = Items::new(alloc);
+    for going in all {
+        if going.place == place {
+            let condition = going.condition.share()?;
+            found.push(condition)?;
         }
     }
-    let place = past_first(stages, place, size, given);
-    let place = past_filters(stages, place);
-    let condition = condition.share()?;
-    let found = inserted(alloc, stages, place, Stage::Filter(condition))?;
     Ok(found)
 }
 
+/// Puts a filter for each condition after the stages.
+fn put_filters(conditions: &[Shared<Expr>], done: &mut Items<Stage>) -> Result<(), AllocError>
+    ensures { OnOk result (done.new ≡ done.old ++ map stage.Filter conditions.now) }
+{
+    for condition in conditions {
+        let condition = condition.share()?;
+        done.push(Stage::Filter(condition))?;
+    }
+    Ok(())
+}
+
+// ---- filters that a union or a group takes in
+
+/// Puts the variables of the condition among the others.
+fn add_variables(
+    alloc: Global,
+    condition: &Expr,
+    variables: &mut Vec<usize>,
+) -> Result<(), AllocError> {
+    let mut own = Vec::new(alloc);
+    settle(alloc, condition, &mut own)?;
+    for at in 0..own.len() {
+        let variable = own[at];
+        if !is_among(variable, variables.as_slice()) {
+            variables.push(variable)?;
+        }
+    }
+    Ok(())
+}
+
+/// Those variables of the conditions that the rows after the stages bind.
+fn known_after(
+    alloc: Global,
+    stages: &[Stage],
+    conditions: &[Shared<Expr>],
+    size: Size,
+    given: &[usize],
+) -> Result<Vec<usize>, AllocError>
+    ensures { IfOk result
+        (λ known. AllByRecursion (λ v. Binds size given.now v stages.now) known.items) }
+{
+    let mut variables = Vec::new(alloc);
+    for condition in conditions {
+        add_variables(alloc, condition.get(), &mut variables)?;
+    }
+    let known = known_before(
+        alloc,
+        stages,
+        stages.len(),
+        variables.as_slice(),
+        size,
+        given,
+    )?;
+    Ok(known)
+}
+
+/// Whether the rows after the stages bind each variable of the condition, and all of them are named.
+fn is_inside(
+    alloc: Global,
+    stages: &[Stage],
+    condition: &Expr,
+    size: Size,
+) -> Result<bool, AllocError>
+    ensures { IfOk result (λ b. b ≡ true → Inside size stages.now condition.now) }
+{
+    let mut variables = Vec::new(alloc);
+    settle(alloc, condition, &mut variables)?;
+    let found = are_bound(stages, variables.as_slice(), size);
+    Ok(found)
+}
+
+/// Conditions that a group takes in, and others that it doesn't.
+#[derive(Drop)]
+struct Parting {
+    inside: Items<Shared<Expr>>,
+    after: Items<Shared<Expr>>,
+}
+
+fn put_parted(
+    is_in: bool,
+    condition: Shared<Expr>,
+    inside: &mut Items<Shared<Expr>>,
+    after: &mut Items<Shared<Expr>>,
+) -> Result<(), AllocError>
+    ensures inside { OnOk result (is_in ≡ true
+        → (inside.new ≡ inside.old ++ condition ∷ []) × (after.new ≡ after.old)) }
+    ensures after { OnOk result (is_in ≡ false
+        → (inside.new ≡ inside.old) × (after.new ≡ after.old ++ condition ∷ [])) }
+{
+    if is_in {
+        inside.push(condition)
+    } else {
+        after.push(condition)
+    }
+}
+
+/// The conditions, parted by whether the group of these stages takes them in.
+fn parted(
+    alloc: Global,
+    stages: &[Stage],
+    conditions: &[Shared<Expr>],
+    size: Size,
+) -> Result<Parting, AllocError>
+    ensures same { IfOk result (λ p. SameFilters (p.inside ++ p.after) conditions.now) }
+    ensures inside { IfOk result (λ p. AllByRecursion (Inside size stages.now) p.inside) }
+{
+    let mut inside = Items::new(alloc);
+    let mut after = Items::new(alloc);
+    for condition in conditions {
+        let is_in = is_inside(alloc, stages, condition.get(), size)?;
+        let condition = condition.share()?;
+        put_parted(is_in, condition, &mut inside, &mut after)?;
+    }
+    Ok(Parting { inside, after })
+}
+
+/// The group with the filters of the conditions where they go, for rows that bind the variables that are given.
 #[cycle(filtered)]
 fn filtered_group(
     alloc: Global,
     group: &Group,
-    condition: &Shared<Expr>,
-    variables: &[usize],
+    conditions: &[Shared<Expr>],
     size: Size,
     given: &[usize],
 ) -> Result<Group, AllocError>
-    requires { Settles variables.now condition.now }
-    ensures { IfOk result
-        (λ g. SameFrom size given.now g.stages (group.now.stages ++ stage.Filter condition.now
-        ∷ [])) }
+    ensures { IfOk result (λ g. SameFrom size given.now g.stages
+        (group.now.stages ++ map stage.Filter conditions.now)) }
 {
-    let stages = filtered(
-        alloc,
-        group.stages.as_slice(),
-        condition,
-        variables,
-        size,
-        given,
-    )?;
+    let stages = filtered(alloc, group.stages.as_slice(), conditions, size, given)?;
     Ok(Group { stages })
 }
 
-/// The branches, each with the filter where it goes in it.
+/// The branches, each with the filters of the conditions where they go in it.
 #[cycle(filtered)]
 fn filtered_branches(
     alloc: Global,
     branches: &[Group],
-    condition: &Shared<Expr>,
-    variables: &[usize],
+    conditions: &[Shared<Expr>],
     size: Size,
     given: &[usize],
 ) -> Result<Items<Group>, AllocError>
-    requires { Settles variables.now condition.now }
     ensures { IfOk result (λ bs. SameFrom size given.now (stage.Union bs ∷ [])
-        (stage.Union branches.now ∷ stage.Filter condition.now ∷ [])) }
+        (stage.Union branches.now ∷ map stage.Filter conditions.now)) }
 {
     let mut done = Items::new(alloc);
     for branch in branches {
-        let group = filtered_group(alloc, branch, condition, variables, size, given)?;
+        let group = filtered_group(alloc, branch, conditions, size, given)?;
         done.push(group)?;
     }
     Ok(done)
 }
 
-fn is_filter(stage: &Stage) -> bool {
-    match stage {
-        Stage::Filter(_) => true,
-        _ => false,
-    }
-}
-
-/// How many stages there are before the filters at the end.
-fn count_before_filters(stages: &[Stage]) -> usize {
-    for passed in 0..stages.len() {
-        let at = stages.len() - 1 - passed;
-        if !is_filter(&stages[at]) {
-            return at + 1;
-        }
-    }
-    0
-}
-
-/// Whether a filter that reads these variables goes after all stages, of which those from `count` on are filters.
-fn goes_last(stages: &[Stage], count: usize, variables: &[usize], size: Size) -> bool {
-    let count = count.min(stages.len());
-    let front = &stages[..count];
-    if all_steady_from(front, variables, size, &[]) < count {
-        return false;
-    }
-    match front.last() {
-        Some(Stage::Union(_)) => false,
-        Some(Stage::Apart(_, group)) => !are_bound(group.stages.as_slice(), variables, size),
-        _ => true,
-    }
-}
-
-/// Puts the filter where it goes. There are `count` stages before the filters at the end: all that are looked at, if the filter goes last.
-fn put_filter(
+/// Puts the stage after those that are done, and the filters of the conditions into it or after it.
+#[cycle(filtered)]
+fn put_stage(
     alloc: Global,
-    condition: &Shared<Expr>,
+    one: &Stage,
+    conditions: &[Shared<Expr>],
     size: Size,
-    count: &mut usize,
+    given: &[usize],
     done: &mut Items<Stage>,
 ) -> Result<(), AllocError>
-    ensures { OnOk result
-        (SameFrom size [] done.new (done.old ++ stage.Filter condition.now ∷ [])) }
+    ensures { OnOk result (SameFrom size given.now done.new
+        (done.old ++ one.now ∷ map stage.Filter conditions.now)) }
 {
-    let mut variables = Vec::new(alloc);
-    settle(alloc, condition.get(), &mut variables)?;
-    if goes_last(done.as_slice(), *count, variables.as_slice(), size) {
-        let condition = condition.share()?;
-        done.push(Stage::Filter(condition))?;
+    if conditions.is_empty() {
+        let one = copied_stage(alloc, one)?;
+        done.push(one)?;
         return Ok(());
     }
-    let stages = filtered(
-        alloc,
-        done.as_slice(),
-        condition,
-        variables.as_slice(),
-        size,
-        &[],
-    )?;
-    *count = count_before_filters(stages.as_slice());
-    *done = stages;
-    Ok(())
+    match one {
+        Stage::Union(branches) => {
+            let known = known_after(alloc, done.as_slice(), conditions, size, given)?;
+            let branches = filtered_branches(
+                alloc,
+                branches.as_slice(),
+                conditions,
+                size,
+                known.as_slice(),
+            )?;
+            done.push(Stage::Union(branches))?;
+            Ok(())
+        }
+        Stage::Apart(register, group) => {
+            let two = parted(alloc, group.stages.as_slice(), conditions, size)?;
+            let group = filtered_group(alloc, group, two.inside.as_slice(), size, &[])?;
+            done.push(Stage::Apart(*register, group))?;
+            put_filters(two.after.as_slice(), done)?;
+            Ok(())
+        }
+        other => {
+            let one = copied_stage(alloc, other)?;
+            done.push(one)?;
+            put_filters(conditions, done)?;
+            Ok(())
+        }
+    }
 }
 
-/// Puts a filter for each of the parts of a conjunction where it goes.
+/// The stages with the filter of each condition where it goes, for rows that bind the variables that are given. All filters are put in one pass
+/// over the stages.
+#[cycle(filtered)]
+fn filtered(
+    alloc: Global,
+    stages: &[Stage],
+    conditions: &[Shared<Expr>],
+    size: Size,
+    given: &[usize],
+) -> Result<Items<Stage>, AllocError>
+    ensures { IfOk result (λ ss. SameFrom size given.now ss
+        (stages.now ++ map stage.Filter conditions.now)) }
+{
+    let found = all_going(alloc, stages, conditions, size, given)?;
+    let all = found.as_slice();
+    let mut done = Items::new(alloc);
+    let here = going_to(alloc, all, 0)?;
+    put_filters(here.as_slice(), &mut done)?;
+    for at in 0..stages.len() {
+        let here = going_to(alloc, all, at + 1)?;
+        put_stage(alloc, &stages[at], here.as_slice(), size, given, &mut done)?;
+    }
+    Ok(done)
+}
+
+// ---- conjunctions
+
+/// Puts the parts of a conjunction after the conditions.
 #[cycle(parts)]
 fn put_parts(
     alloc: Global,
     parts: &[Expr],
-    size: Size,
-    count: &mut usize,
-    done: &mut Items<Stage>,
+    waiting: &mut Items<Shared<Expr>>,
 ) -> Result<(), AllocError>
-    ensures { OnOk result (SameFrom size [] done.new (done.old ++ map stage.Filter parts.now)) }
+    ensures { OnOk result (SameFilters waiting.new (waiting.old ++ parts.now)) }
 {
     for part in parts {
-        put_part(alloc, part, size, count, done)?;
+        put_part(alloc, part, waiting)?;
     }
     Ok(())
 }
 
 #[cycle(parts)]
-fn put_part(
-    alloc: Global,
-    part: &Expr,
-    size: Size,
-    count: &mut usize,
-    done: &mut Items<Stage>,
-) -> Result<(), AllocError>
-    ensures { OnOk result (SameFrom size [] done.new (done.old ++ stage.Filter part.now ∷ [])) }
+fn put_part(alloc: Global, part: &Expr, waiting: &mut Items<Shared<Expr>>) -> Result<(), AllocError>
+    ensures { OnOk result (SameFilters waiting.new (waiting.old ++ part.now ∷ [])) }
 {
     match part {
         Expr::And(parts) => {
-            put_parts(alloc, parts.as_slice(), size, count, done)?;
+            put_parts(alloc, parts.as_slice(), waiting)?;
             Ok(())
         }
         part => {
             let condition = shared_expr(alloc, part)?;
-            put_filter(alloc, &condition, size, count, done)
+            waiting.push(condition)?;
+            Ok(())
         }
     }
 }
 
-/// Puts the condition, or each part of it if it is a conjunction, where it goes.
+/// Puts the condition, or each part of it if it is a conjunction, after the conditions.
 fn put_condition(
     alloc: Global,
     condition: &Shared<Expr>,
-    size: Size,
-    count: &mut usize,
-    done: &mut Items<Stage>,
+    waiting: &mut Items<Shared<Expr>>,
 ) -> Result<(), AllocError>
-    ensures { OnOk result
-        (SameFrom size [] done.new (done.old ++ stage.Filter condition.now ∷ [])) }
+    ensures { OnOk result (SameFilters waiting.new (waiting.old ++ condition.now ∷ [])) }
 {
     match condition.get() {
         Expr::And(parts) => {
-            put_parts(alloc, parts.as_slice(), size, count, done)?;
+            put_parts(alloc, parts.as_slice(), waiting)?;
             Ok(())
         }
-        _ => put_filter(alloc, condition, size, count, done),
+        _ => {
+            let condition = condition.share()?;
+            waiting.push(condition)?;
+            Ok(())
+        }
     }
 }
 
 // ---- groups
 
-/// Puts the stage after those that are done, or where it goes if it is a filter. There are `count` stages before the filters at the end.
+/// Puts the filters that wait where they go among the stages that are done.
+fn put_waiting(
+    alloc: Global,
+    size: Size,
+    waiting: &mut Items<Shared<Expr>>,
+    done: &mut Items<Stage>,
+) -> Result<(), AllocError>
+    ensures none { OnOk result (waiting.new ≡ []) }
+    ensures same { OnOk result
+        (SameFrom size [] done.new (done.old ++ map stage.Filter waiting.old)) }
+{
+    if waiting.is_empty() {
+        return Ok(());
+    }
+    let conditions = mem::replace(waiting, Items::new(alloc));
+    let stages = filtered(alloc, done.as_slice(), conditions.as_slice(), size, &[])?;
+    *done = stages;
+    Ok(())
+}
+
+/// Puts the stage after those that are done. A filter waits until no filter follows: those that stand together are put where they go in one pass.
 fn put_placed(
     alloc: Global,
     one: Stage,
     size: Size,
-    count: &mut usize,
+    waiting: &mut Items<Shared<Expr>>,
     done: &mut Items<Stage>,
 ) -> Result<(), AllocError>
-    ensures { OnOk result (SameFrom size [] done.new (done.old ++ one ∷ [])) }
+    ensures { OnOk result (SameFrom size [] (done.new ++ map stage.Filter waiting.new)
+        ((done.old ++ map stage.Filter waiting.old) ++ one ∷ [])) }
 {
     match one {
-        Stage::Filter(condition) => put_condition(alloc, &condition, size, count, done),
+        Stage::Filter(condition) => {
+            put_condition(alloc, &condition, waiting)?;
+            Ok(())
+        }
         other => {
+            put_waiting(alloc, size, waiting, done)?;
             done.push(other)?;
-            *count = done.len();
             Ok(())
         }
     }
@@ -368,11 +494,12 @@ fn placed_stages(alloc: Global, stages: &[Stage], size: Size) -> Result<Items<St
     ensures { IfOk result (λ ss. SameFrom size [] ss stages.now) }
 {
     let mut done = Items::new(alloc);
-    let mut count = 0;
+    let mut waiting = Items::new(alloc);
     for stage in stages {
         let one = placed_stage(alloc, stage, size)?;
-        put_placed(alloc, one, size, &mut count, &mut done)?;
+        put_placed(alloc, one, size, &mut waiting, &mut done)?;
     }
+    put_waiting(alloc, size, &mut waiting, &mut done)?;
     Ok(done)
 }
 

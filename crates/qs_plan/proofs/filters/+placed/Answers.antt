@@ -1,4 +1,7 @@
+use Rattle.std.proofs.Common.{◌++◌, map, arith}
+use Rattle.qs_plan_meaning.specs.declared.stage.Stage.TheVariants as stage
 use Rattle.qs_plan.proofs.Entering.{placed_more, branch_placed, optional_placed, fed_placed, minus_placed, apart_placed}
+use Rattle.qs_plan.proofs.Placing.{all_waited, none_placed}
 use Rattle.qs_plan.proofs.filters.+placed.Goals as goal
 
 pub placed_branches-loop-branch-preserved : goal.placed_branches-loop-branch-preserved
@@ -21,6 +24,13 @@ pub placed_stage-returns-in_ok-group-in-Apart : goal.placed_stage-returns-in_ok-
 placed_stage-returns-in_ok-group-in-Apart t c =
     apart_placed c.args.size c.in-Apart.register c.in_ok-group-in-Apart.group c.in-Apart.group c.in_ok-group-in-Apart.ensures c.args.stage.now c.in-Apart.is
 
+pub placed_stages-loop-stage-init : goal.placed_stages-loop-stage-init
+placed_stages-loop-stage-init t c = none_placed c.args.size c.new-done.result c.args.stages.now c.new-waiting.result c.new-done.ensures c.new-waiting.ensures
+
 pub placed_stages-loop-stage-preserved : goal.placed_stages-loop-stage-preserved
 placed_stages-loop-stage-preserved t c =
-    placed_more c.args.size c.loop-stage.done _ c.args.stages.now c.loop-stage.stage-index c.stage-item.result c.in_ok-one.one c.loop-stage-test.true c.stage-item.is c.loop-stage.invariant c.in_ok-one.ensures c.in_ok-put_placed.ensures
+    placed_more c.args.size (c.loop-stage.done ++ map stage.Filter c.loop-stage.waiting) _ c.args.stages.now c.loop-stage.stage-index c.stage-item.result c.in_ok-one.one c.loop-stage-test.true c.stage-item.is c.loop-stage.invariant c.in_ok-one.ensures c.in_ok-put_placed.ensures
+
+pub placed_stages-returns : goal.placed_stages-returns
+placed_stages-returns t c =
+    all_waited c.args.size c.args.stages.now c.loop-stage.done c.put_waiting.new.done c.loop-stage.waiting c.loop-stage.stage-index (omega (arith, c.loop-stage-test.false)) c.loop-stage.invariant c.in_ok-put_waiting.ensures.same
