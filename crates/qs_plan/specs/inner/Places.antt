@@ -18,10 +18,10 @@ pub record SameFilters (es fs : List Expr) : Type 0 where
   pub same : (m : Solution) → list_all (holds m) es ≡ list_all (holds m) fs
 
 -- from this place on no stage changes what is bound to the variables that settle the condition
-pub record Firm (size : Size) (given : List ℕ) (e : Expr) (place : ℕ) (ss : List Stage) : Type 0 where
+pub record Firm (size : Size) (given : List ℕ) (e : Expr) (n : ℕ) (ss : List Stage) : Type 0 where
   pub variables : List ℕ
   pub settled : Settles variables e
-  pub steady : AllByRecursion (λ v. Steady size given v place ss) variables
+  pub steady : AllByRecursion (λ v. Steady size given v n ss) variables
 
 -- a condition may go to its place among the stages
 pub record FirmAt (size : Size) (given : List ℕ) (ss : List Stage) (g : Going) : Type 0 where
